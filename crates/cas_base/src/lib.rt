@@ -1,0 +1,33 @@
+//! What several crates say in the same words: what it means that a count of faults rose.
+//!
+//! No type of the store and no rule of the protocol lives here.
+#![tactic(auto)]
+
+ghost use Rattle.std.specs.Prelude.{◌+◌, ◌≤◌};
+ghost use Rattle.cas_base.specs.Faults.{Rose};
+
+/// The count of faults after one more fault. It stands still at the greatest `u64`.
+pub fn raised(faults: u64) -> u64
+    ensures rose { Rose faults result }
+    ensures never_falls { faults ≤ result }
+    ensures by_one { result ≤ faults + 1 }
+{
+    faults.saturating_add(1)
+}
+
+#[cfg(test)]
+mod tests {
+    use super::*;
+
+    #[test]
+    fn rises_by_one_up_to_the_end(rt: HostRuntime) {
+        for (faults, want) in [
+            (0, 1),
+            (41, 42),
+            (u64::MAX - 1, u64::MAX),
+            (u64::MAX, u64::MAX),
+        ] {
+            assert_eq!(rt; raised(faults), want, "after {faults}");
+        }
+    }
+}
