@@ -1,0 +1,2 @@
+pub mod BallotLemmas
+pub mod MemberLemmas

@@ -1,0 +1,153 @@
+-- What a set of acceptors has, and what its bits say.
+use Rattle.std.proofs.Common.{◌≡◌, ℕ, ◌+◌, ◌*◌, ◌-◌, ◌/◌, ◌%◌, ◌^◌, suc, zero, ◌<◌, ◌≤◌, Bool, true, false, not, List, ◌∷◌, length, arith, sym, ◌∙◌, ap, subst, refl, nat_eq, add-zero, add-one, zero-add, zero-mul, eqb-true, eq-eqb, bit_and, bit_or, w64}
+use Rattle.std.specs.Prelude.{cond, ◌==◌, ◌&&◌, ◌||◌, ◌⊎◌, filter, max}
+use Rattle.std.specs.Int.{bit_at}
+use Rattle.std.specs.List.{range_with_len}
+use Rattle.std.proofs.lemmas.Bool.Decides.{nat_tests, eqb_tells}
+use Rattle.std.proofs.lemmas.Nat.{pow_below, pow_pos}
+use Rattle.std.proofs.lemmas.Nat.Bits.{and_pow, bit_at-lt, bit_at_or, bit_at_set_same, bit_at_set_other, bit_at_clear_same, bit_at_clear_other}
+use Rattle.std.proofs.Math.Nat.{div-div-eq-div-mul, pow-suc, div-eq_of_lt, mod-eq_of_lt, one-mul, div-one, zero-max}
+use mathlib.Core.Logic.{inl, inr}
+use lib.Pointwise.{pointwise, bytes_decides}
+use lib.Count.{ones, ones_in, ones_step}
+use Rattle.cas_ballot.specs.Members.{members_where, has_member, with_member, without_member, union_of, members_of_bits, bits_of_members}
+use Rattle.cas_ballot.specs.MemberBits.{bits_of_members_of_bits}
+
+-- one more number in front, where a test passes it
+has-cond : (b : Bool) (x n : ℕ) (xs : List ℕ) → has_member (cond b (x ∷ xs) xs) n ≡ ((b && (x == n)) || has_member xs n)
+has-cond true x n xs = refl
+has-cond false x n xs = refl
+
+neither : (b e f : Bool) → e ≡ false → f ≡ false → ((b && e) || f) ≡ false
+neither true e f p q = rw (p, q) refl
+neither false e f p q = q
+
+first_alone : (b e f : Bool) → e ≡ true → f ≡ false → ((b && e) || f) ≡ b
+first_alone true e f p q = rw p refl
+first_alone false e f p q = q
+
+second_alone : (b e f : Bool) → e ≡ false → ((b && e) || f) ≡ f
+second_alone true e f p = rw p refl
+second_alone false e f p = refl
+
+absent_below : (p : ℕ → Bool) (w a n : ℕ) → n < a → has_member (filter p (range_with_len a w)) n ≡ false
+absent_below p zero a n h = refl
+absent_below p (suc w) a n h =
+    let other : (a == n) ≡ false = grind (arith, nat_tests) in
+    has-cond (p a) a n (filter p (range_with_len (a + 1) w)) ∙ neither _ _ _ other (absent_below p w (a + 1) n (omega arith))
+
+has-filter : (p : ℕ → Bool) (w a n : ℕ) → a ≤ n → n < a + w → has_member (filter p (range_with_len a w)) n ≡ p n
+has-filter p zero a n from to = absurd (omega arith)
+has-filter p (suc w) a n from to =
+    has-cond (p a) a n (filter p (range_with_len (a + 1) w)) ∙ elim (eqb_tells a n) [
+      | inl here ↦ first_alone _ _ _ here.0 (absent_below p w (a + 1) n (omega (arith, here.1))) ∙ ap p here.1
+      | inr later ↦ second_alone (p a) _ _ later.0 ∙ has-filter p w (a + 1) n (omega (arith, later.1)) (omega arith)
+    ]
+
+filter_same : (p q : ℕ → Bool) (w a : ℕ) → ((n : ℕ) → a ≤ n → n < a + w → p n ≡ q n) → filter p (range_with_len a w) ≡ filter q (range_with_len a w)
+filter_same p q zero a same = refl
+filter_same p q (suc w) a same =
+    let rest : filter p (range_with_len (a + 1) w) ≡ filter q (range_with_len (a + 1) w) = filter_same p q w (a + 1) (λ n from to. same n (omega arith) (omega arith)) in
+    let here : p a ≡ q a = same a (omega arith) (omega arith) in
+    rw (rest, here) refl
+
+-- a set has just the identities that pass its test
+pub has-members_where : (p : ℕ → Bool) (n : ℕ) → n < 64 → has_member (members_where p) n ≡ p n
+unfolding members_where
+has-members_where p n h = has-filter p 64 0 n (omega arith) (omega arith)
+
+-- tests that agree make one set
+pub members_where_same : (p q : ℕ → Bool) → ((n : ℕ) → n < 64 → p n ≡ q n) → members_where p ≡ members_where q
+unfolding members_where
+members_where_same p q same = filter_same p q 64 0 (λ n from to. same n (omega arith))
+
+-- the bit that stands for an identity
+one_bit : (k : ℕ) → k < 64 → 1 * 2 ^ k % 2 ^ 64 ≡ 2 ^ k
+one_bit k h = ap (λ (x : ℕ). x % 2 ^ 64) (one-mul (2 ^ k)) ∙ mod-eq_of_lt (pow_below k 64 h)
+
+pub one_bit_fits : (k : ℕ) → k < 64 → 1 * 2 ^ k % 2 ^ 64 < 2 ^ 64
+one_bit_fits k h = rw (one_bit k h) (pow_below k 64 h)
+
+two_values : (b : ℕ) → b < 2 → (b ≡ 0) ⊎ (b ≡ 1)
+two_values b h = elim (eqb_tells b 0) [ inl none ↦ inl none.1 | inr some ↦ inr (omega (arith, some.1)) ]
+
+not_zero : (n : ℕ) → 0 < n → not (n == 0) ≡ true
+not_zero n h = grind (arith, nat_tests)
+
+bit_by_value : (b p : ℕ) → b < 2 → 0 < p → not ((b * p) == 0) ≡ (b == 1)
+bit_by_value b p h q = elim (two_values b h) [
+  | inl none ↦ rw (none, zero-mul p) refl
+  | inr one ↦ rw (one, one-mul p) (not_zero p q)
+]
+
+pub bit_test : (bits k : ℕ) → k < 64 → not (bit_and bits (1 * 2 ^ k % 2 ^ 64) == 0) ≡ has_member (members_of_bits bits) k
+bit_test bits k h =
+    rw (one_bit k h, and_pow bits k, has-members_where (λ n. bit_at bits n == 1) k h) (bit_by_value (bit_at bits k) (2 ^ k) (bit_at-lt bits k) (pow_pos k))
+
+pub set_bit : (bits k : ℕ) → k < 64 → members_of_bits (bit_or bits (1 * 2 ^ k % 2 ^ 64)) ≡ with_member (members_of_bits bits) k
+set_bit bits k h =
+    members_where_same _ _ (λ n below. rw (has-members_where (λ n. bit_at bits n == 1) n below) (elim (eqb_tells n k) [
+      | inl same ↦ rw (same.0, same.1, bit_at_set_same w64 bits k h) refl
+      | inr other ↦ rw (other.0, bit_at_set_other w64 bits k h n other.1) refl
+    ]))
+
+pub clear_bit : (bits k : ℕ) → k < 64 → members_of_bits (bit_and bits (2 ^ 64 - 1 - 1 * 2 ^ k % 2 ^ 64)) ≡ without_member (members_of_bits bits) k
+clear_bit bits k h =
+    members_where_same _ _ (λ n below. rw (has-members_where (λ n. bit_at bits n == 1) n below) (elim (eqb_tells n k) [
+      | inl same ↦ rw (same.0, same.1, bit_at_clear_same w64 bits k h) refl
+      | inr other ↦ rw (other.0, bit_at_clear_other w64 bits k h n below other.1) refl
+    ]))
+
+either : (a b : ℕ) → a < 2 → b < 2 → (max a b == 1) ≡ ((a == 1) || (b == 1))
+either a b p q = elim (two_values a p) [
+  | inl none ↦ rw (none, zero-max b) refl
+  | inr one ↦ elim (two_values b q) [
+    | inl none ↦ rw (one, none) refl
+    | inr both ↦ rw (one, both) refl
+  ]
+]
+
+pub either_bits : (a b : ℕ) → members_of_bits (bit_or a b) ≡ union_of (members_of_bits a) (members_of_bits b)
+either_bits a b =
+    members_where_same _ _ (λ n below.
+    rw (has-members_where (λ n. bit_at a n == 1) n below, has-members_where (λ n. bit_at b n == 1) n below, bit_at_or a b n)
+    (either (bit_at a n) (bit_at b n) (bit_at-lt a n) (bit_at-lt b n)))
+
+-- the ones of a number below 2 ^ (a + w), from place a on
+length-cond : (b x : ℕ) (xs : List ℕ) → b < 2 → length (cond (b == 1) (x ∷ xs) xs) ≡ b + length xs
+length-cond b x xs h = elim (two_values b h) [
+  | inl none ↦ rw none (sym (zero-add (length xs)))
+  | inr one ↦ rw one (omega arith)
+]
+
+ones_of_zero : ones 0 ≡ 0
+unfolding ones ones_in
+ones_of_zero = refl
+
+ones_from : (w a bits : ℕ) → bits < 2 ^ (a + w) → length (filter (λ n. bit_at bits n == 1) (range_with_len a w)) ≡ ones (bits / 2 ^ a)
+ones_from zero a bits h =
+    let small : bits < 2 ^ a = subst (λ (x : ℕ). bits < 2 ^ x) (add-zero a) h in
+    let none : bits / 2 ^ a ≡ 0 = div-eq_of_lt small in
+    rw (none, ones_of_zero) refl
+ones_from (suc w) a bits h =
+    let within : bits < 2 ^ (a + 1 + w) = subst (λ (x : ℕ). bits < 2 ^ x) (omega arith) h in
+    let next : bits / 2 ^ (a + 1) ≡ bits / 2 ^ a / 2 = sym (div-div-eq-div-mul bits (2 ^ a) 2 ∙ ap (λ (x : ℕ). bits / x) (sym (ap (λ (x : ℕ). 2 ^ x) (add-one a) ∙ pow-suc 2 a))) in
+    length-cond (bit_at bits a) a _ (bit_at-lt bits a) ∙ ap (λ x. bit_at bits a + x) (ones_from w (a + 1) bits within ∙ ap ones next) ∙ sym (ones_step (bits / 2 ^ a))
+
+pub length-members_of_bits : (bits : ℕ) → bits < 2 ^ 64 → length (members_of_bits bits) ≡ ones bits
+unfolding members_where
+length-members_of_bits bits h = ones_from 64 0 bits h ∙ ap ones (div-one bits)
+
+-- two sets are equal where their bits are
+differ : (a b : ℕ) (r : Bool) → pointwise nat_eq (members_of_bits a) (members_of_bits b) ≡ r → (a == b) ≡ false → a < 2 ^ 64 → b < 2 ^ 64 → false ≡ r
+differ a b true t e p q =
+    let same : a ≡ b = sym (bits_of_members_of_bits a p) ∙ ap bits_of_members ((bytes_decides (members_of_bits a) (members_of_bits b)).0 t) ∙ bits_of_members_of_bits b q in
+    sym e ∙ eq-eqb a b same
+differ a b false t e p q = refl
+
+by_bits : (a b : ℕ) (r : Bool) → (a == b) ≡ r → a < 2 ^ 64 → b < 2 ^ 64 → r ≡ pointwise nat_eq (members_of_bits a) (members_of_bits b)
+by_bits a b true e p q = sym ((bytes_decides (members_of_bits a) (members_of_bits b)).1 (ap members_of_bits (eqb-true a b e)))
+by_bits a b false e p q = differ a b _ refl e p q
+
+pub same_bits : (a b : ℕ) → a < 2 ^ 64 → b < 2 ^ 64 → (a == b) ≡ pointwise nat_eq (members_of_bits a) (members_of_bits b)
+same_bits a b p q = by_bits a b (a == b) refl p q

@@ -1,0 +1,3 @@
+pub mod Ballot
+pub mod MemberBits
+pub mod Members

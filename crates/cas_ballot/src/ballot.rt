@@ -1,0 +1,111 @@
+ghost use Rattle.std.specs.Prelude.{Some};
+ghost use Rattle.std.proofs.Common.{rules};
+ghost use Rattle.std.specs.Cmp.{partial_order_from_own_ties};
+ghost use Rattle.std.specs.Cmp.Rules.{comparing};
+ghost use Rattle.std.specs.Ordering.{as_partial_cmp};
+ghost use Rattle.cas_ballot.specs.Ballot.{ballot_cmp, ballot_text};
+
+use std::cmp::Ordering;
+use std::fmt;
+
+/// The name of a round: a counter that its proposer drew, and that proposer's number (Rystsov 2018, section 2.1).
+///
+/// Ballots are ordered by counter, and by proposer where the counters are equal. They are printed `counter.proposer`.
+#[derive(Clone, Copy, Debug, PartialEq, Eq, Hash)]
+pub struct Ballot {
+    /// From 1 on for a ballot that was drawn.
+    pub counter: u64,
+    /// The number of the proposer that drew it.
+    pub proposer: u8,
+}
+
+impl Ballot {
+    /// Below every ballot that is ever drawn, and no proposer's.
+    pub const ZERO: Ballot = Ballot {
+        counter: 0,
+        proposer: 0,
+    };
+}
+
+impl Ord for Ballot {
+    ghost cmp = { ballot_cmp };
+
+    ghost total = { Prim.search (comparing, rules) };
+
+    ghost matches_partial_cmp = { Prim.search (comparing, rules) };
+
+    ghost matches_eq = { Prim.search (comparing, rules) };
+
+    fn cmp(&self, other: &Ballot) -> Ordering {
+        self.counter
+            .cmp(&other.counter)
+            .then(self.proposer.cmp(&other.proposer))
+    }
+}
+
+impl PartialOrd for Ballot {
+    ghost partial_cmp = { as_partial_cmp (ballot_cmp) };
+
+    ghost laws = { partial_order_from_own_ties (Prim.search (comparing, rules)) (Prim.search (comparing, rules)) };
+
+    fn partial_cmp(&self, other: &Ballot) -> Option<Ordering> {
+        Some(self.cmp(other))
+    }
+}
+
+impl fmt::Display for Ballot {
+    ghost output = { λ ballot. Some (ballot_text ballot) };
+
+    fn fmt<W: fmt::Write>(&self, f: &mut fmt::Formatter<W>) -> fmt::Result {
+        let counter = self.counter;
+        let proposer = self.proposer;
+        write!(f, "{counter}.{proposer}")
+    }
+}
+
+#[cfg(test)]
+mod tests {
+    use super::*;
+    use std::test::Fail;
+
+    #[test]
+    fn are_ordered_by_counter_and_then_by_proposer(rt: HostRuntime) {
+        let rising = [
+            Ballot::ZERO,
+            Ballot {
+                counter: 0,
+                proposer: 2,
+            },
+            Ballot {
+                counter: 1,
+                proposer: 1,
+            },
+            Ballot {
+                counter: 1,
+                proposer: 2,
+            },
+            Ballot {
+                counter: 2,
+                proposer: 0,
+            },
+        ];
+        for (i, a) in rising.iter().enumerate() {
+            for (j, b) in rising.iter().enumerate() {
+                assert_eq!(rt; a.cmp(b), i.cmp(&j), "{a} and {b}");
+            }
+        }
+    }
+
+    #[test]
+    fn are_printed_with_a_point(rt: HostRuntime) -> Result<(), Fail> {
+        let ballot = Ballot {
+            counter: 281474976710656,
+            proposer: 16,
+        };
+        assert_eq!(rt;
+            ballot.to_string(rt.alloc())?.as_str(),
+            "281474976710656.16"
+        );
+        Ok(())
+    }
+}
