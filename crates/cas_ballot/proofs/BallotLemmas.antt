@@ -1,9 +1,9 @@
 -- The laws of the order of ballots, so that no proof above compares counters.
-use Rattle.std.proofs.Common.{◌≡◌, cond, arith, subst, refl, ◌<◌}
+use Rattle.std.proofs.Common.{false, ◌≡◌, cond, arith, subst, refl, ◌<◌}
 use Rattle.std.specs.Prelude.{◌⊎◌}
 use Rattle.std.specs.declared.cmp.Ordering.{Ordering}
 use Rattle.std.specs.declared.cmp.Ordering.TheVariants.{Less, Equal, Greater}
-use Rattle.std.specs.Ordering.{is_lt, MatchOrdering, nat_cmp, ordering_then}
+use Rattle.std.specs.Ordering.{is_lt, is_eq, MatchOrdering, nat_cmp, ordering_then}
 use Rattle.std.proofs.lemmas.Cmp.{ranked}
 use mathlib.Core.Logic.{inl, inr}
 use Rattle.cas_ballot.specs.declared.ballot.Ballot.{Ballot}
@@ -101,3 +101,36 @@ greater_at_most {a} {b} {c} p q = elim (greater_cases a b) as (λ _. BallotAtMos
   | inl same ↦ rw same.0 p
   | inr other ↦ rw other.0 q
 ]
+
+-- ---- the answers of the comparison
+less_is : (r : Ordering) (a b : Ballot) → MatchOrdering r (BallotLess a b) (a ≡ b) (BallotLess b a) → BallotLess a b → r ≡ Less
+less_is Less a b p q = refl
+less_is Equal a b p q = absurd (less_irreflexive (subst (λ x. BallotLess x b) p q))
+less_is Greater a b p q = absurd (less_irreflexive (less_trans p q))
+
+pub cmp_of_less : {a b : Ballot} → BallotLess a b → ballot_cmp a b ≡ Less
+cmp_of_less {a} {b} p = less_is (ballot_cmp a b) a b (compared a b) p
+
+not_lt : (r : Ordering) (a b : Ballot) → MatchOrdering r (BallotLess a b) (a ≡ b) (BallotLess b a) → BallotAtMost b a → is_lt r ≡ false
+not_lt Less a b p q = absurd (less_not_at_most p q)
+not_lt Equal a b p q = refl
+not_lt Greater a b p q = refl
+
+pub not_lt_of_at_most : {a b : Ballot} → BallotAtMost b a → is_lt (ballot_cmp a b) ≡ false
+not_lt_of_at_most {a} {b} p = not_lt (ballot_cmp a b) a b (compared a b) p
+
+not_eq : (r : Ordering) (a b : Ballot) → MatchOrdering r (BallotLess a b) (a ≡ b) (BallotLess b a) → BallotLess a b → is_eq r ≡ false
+not_eq Less a b p q = refl
+not_eq Equal a b p q = absurd (less_irreflexive (subst (λ x. BallotLess x b) p q))
+not_eq Greater a b p q = refl
+
+pub not_eq_of_less : {a b : Ballot} → BallotLess a b → is_eq (ballot_cmp a b) ≡ false
+not_eq_of_less {a} {b} p = not_eq (ballot_cmp a b) a b (compared a b) p
+
+same_is : (r : Ordering) (a : Ballot) → MatchOrdering r (BallotLess a a) (a ≡ a) (BallotLess a a) → r ≡ Equal
+same_is Less a p = absurd (less_irreflexive p)
+same_is Equal a p = refl
+same_is Greater a p = absurd (less_irreflexive p)
+
+pub cmp_refl : (a : Ballot) → ballot_cmp a a ≡ Equal
+cmp_refl a = same_is (ballot_cmp a a) a (compared a a)

@@ -1,5 +1,5 @@
 -- What a set of acceptors has, and what its bits say.
-use Rattle.std.proofs.Common.{◌≡◌, ℕ, ◌+◌, ◌*◌, ◌-◌, ◌/◌, ◌%◌, ◌^◌, suc, zero, ◌<◌, ◌≤◌, Bool, true, false, not, List, ◌∷◌, length, arith, sym, ◌∙◌, ap, subst, refl, nat_eq, add-zero, add-one, zero-add, zero-mul, eqb-true, eq-eqb, bit_and, bit_or, w64}
+use Rattle.std.proofs.Common.{◌≡◌, ℕ, ◌+◌, ◌*◌, ◌-◌, ◌/◌, ◌%◌, ◌^◌, suc, zero, ◌<◌, ◌≤◌, Bool, true, false, not, List, [], ◌∷◌, length, arith, sym, ◌∙◌, ap, subst, refl, nat_eq, add-zero, add-one, zero-add, zero-mul, eqb-true, eq-eqb, bit_and, bit_or, w64}
 use Rattle.std.specs.Prelude.{cond, ◌==◌, ◌&&◌, ◌||◌, ◌⊎◌, filter, max}
 use Rattle.std.specs.Int.{bit_at}
 use Rattle.std.specs.List.{range_with_len}
@@ -151,3 +151,8 @@ by_bits a b false e p q = differ a b _ refl e p q
 
 pub same_bits : (a b : ℕ) → a < 2 ^ 64 → b < 2 ^ 64 → (a == b) ≡ pointwise nat_eq (members_of_bits a) (members_of_bits b)
 same_bits a b p q = by_bits a b (a == b) refl p q
+
+-- no bit is no acceptor
+pub members_of_bits-zero : members_of_bits 0 ≡ []
+unfolding members_where
+members_of_bits-zero = refl

@@ -1,4 +1,4 @@
-ghost use Rattle.std.specs.Prelude.{◌≡◌, ◌≤◌, length, nat_eq};
+ghost use Rattle.std.specs.Prelude.{◌≡◌, ◌≤◌, [], length, nat_eq};
 ghost use Rattle.std.specs.Cmp.Rules.{comparing};
 ghost use Rattle.std.proofs.Common.{rules};
 ghost use lib.Pointwise.{pointwise};
@@ -47,6 +47,13 @@ impl Members {
     /// No acceptor.
     pub const EMPTY: Members = Members { bits: 0 };
 
+    /// The set with no acceptor, as [`Members::EMPTY`].
+    pub fn new() -> Members
+        ensures { result ≡ [] }
+    {
+        Members::EMPTY
+    }
+
     /// Adds the acceptor. A set that has it stays as it is.
     pub fn insert(&mut self, id: AcceptorId)
         ensures { self.new ≡ with_member self.old id }
@@ -91,7 +98,7 @@ mod tests {
     use super::*;
 
     fn set_of(numbers: &[u8]) -> Members {
-        let mut members = Members::EMPTY;
+        let mut members = Members::new();
         for &number in numbers {
             if let Some(id) = AcceptorId::new(number) {
                 members.insert(id);
