@@ -1,0 +1,6 @@
+pub mod Key
+pub mod Text
+pub mod State
+pub mod Program
+pub mod Outcome
+pub mod Same
