@@ -1,0 +1,73 @@
+-- The slots of a `BTreeMap`, as a finite map.
+use Rattle.std.proofs.Common.{◌≡◌, ℕ, Bool, true, false, cond, List, [], ◌∷◌, sym, ◌∙◌, ap, refl, Some}
+use Rattle.std.specs.Prelude.{Option, ◌⊎◌}
+use Rattle.std.specs.Ordering.{nat_cmp, is_eq, eq_by_cmp}
+use Rattle.std.specs.Cmp.{eq_by_cmp_equiv}
+use Rattle.std.specs.Cmp.Lexicographic.{slice_cmp, nat_list_cmp_total}
+use Rattle.std.proofs.lemmas.Cmp.{tied_itself}
+use Rattle.std.specs.declared.cmp.Ordering.{Ordering}
+use Rattle.std.specs.declared.cmp.Ordering.TheVariants.{Less, Equal, Greater}
+use mathlib.Core.Logic.{inl, inr}
+use Rattle.std.specs.Map.{lookup}
+use Rattle.std.specs.BTreeMap.{is_at}
+use Rattle.std.specs.FinMap as map
+use Rattle.cas_slot.specs.declared.slot.Slot.{Slot}
+use Rattle.cas_slot.specs.Slots.{Slots, slot_at, with_slot}
+
+-- the map of these entries
+abbrev slots_of : List (List ℕ × Slot) → Slots
+slots_of entries = map.from_entries entries
+
+found : (key : List ℕ) (entries : List (List ℕ × Slot)) → lookup (is_at (slice_cmp nat_cmp key)) entries ≡ map.find (slice_cmp nat_cmp) key entries
+found key [] = refl
+found key (e ∷ es) = ap (cond (is_eq (slice_cmp nat_cmp key e.0)) (Some e.1)) (found key es)
+
+-- what a look-up finds is the slot at the key
+pub lookup-slots : (key : List ℕ) (entries : List (List ℕ × Slot)) → lookup (is_at (slice_cmp nat_cmp key)) entries ≡ slot_at (map.from_entries entries) key
+lookup-slots key entries = found key entries ∙ sym (map.get-from_entries nat_list_cmp_total entries key)
+
+-- entries that answer every look-up as after a put are the map after it
+pub put-slots : (key : List ℕ) (slot : Slot) (old new : List (List ℕ × Slot))
+    → ((q : List ℕ) → lookup (is_at (slice_cmp nat_cmp q)) new ≡ cond (is_at (slice_cmp nat_cmp key) q) (Some slot) (lookup (is_at (slice_cmp nat_cmp q)) old))
+    → map.from_entries {R = slice_cmp nat_cmp} new ≡ with_slot (map.from_entries old) key slot
+put-slots key slot old new answers =
+    map.same_map nat_list_cmp_total (map.slice_cmp-IsAntisymmetric map.nat_cmp-IsAntisymmetric) _ _ (λ q.
+    sym (lookup-slots q new) ∙ answers q ∙ ap (cond (is_at (slice_cmp nat_cmp key) q) (Some slot)) (lookup-slots q old)
+    ∙ ap (λ (b : Bool). cond b (Some slot) (slot_at (map.from_entries old) q)) ((eq_by_cmp_equiv nat_list_cmp_total).symm key q)
+    ∙ sym (map.get-insert nat_list_cmp_total (map.from_entries old) key slot q))
+
+-- what stands at a key after a put
+pub slot_at-with_slot : (slots : Slots) (key : List ℕ) (slot : Slot) (q : List ℕ)
+    → slot_at (with_slot slots key slot) q ≡ cond (eq_by_cmp (slice_cmp nat_cmp) q key) (Some slot) (slot_at slots q)
+slot_at-with_slot slots key slot q = map.get-insert nat_list_cmp_total slots key slot q
+
+pub slot_at-with_slot_same : (slots : Slots) (key : List ℕ) (slot : Slot) → slot_at (with_slot slots key slot) key ≡ Some slot
+slot_at-with_slot_same slots key slot =
+    slot_at-with_slot slots key slot key ∙ ap (λ o. cond (is_eq o) (Some slot) (slot_at slots key)) (tied_itself nat_list_cmp_total key)
+
+by_test : {A : Type 0} (b : Bool) (x y : A) → (cond b x y ≡ x) ⊎ (cond b x y ≡ y)
+by_test true x y = inl refl
+by_test false x y = inr refl
+
+-- it is the slot that was put, or the one that stood there
+pub slot_cases : (slots : Slots) (key : List ℕ) (slot : Slot) (q : List ℕ)
+    → (slot_at (with_slot slots key slot) q ≡ Some slot) ⊎ (slot_at (with_slot slots key slot) q ≡ slot_at slots q)
+slot_cases slots key slot q = elim (by_test (eq_by_cmp (slice_cmp nat_cmp) q key) (Some slot) (slot_at slots q)) [
+  | inl put ↦ inl (slot_at-with_slot slots key slot q ∙ put)
+  | inr kept ↦ inr (slot_at-with_slot slots key slot q ∙ kept)
+]
+
+tied : (o : Ordering) → is_eq o ≡ true → o ≡ Equal
+tied Less e = cc
+tied Equal e = refl
+tied Greater e = cc
+
+same_at : (slots : Slots) (key : List ℕ) (slot : Slot) (q : List ℕ) (b : Bool) → eq_by_cmp (slice_cmp nat_cmp) q key ≡ b → slot_at slots key ≡ Some slot
+    → cond b (Some slot) (slot_at slots q) ≡ slot_at slots q
+same_at slots key slot q true e at = sym at ∙ ap (slot_at slots) (sym (map.slice_cmp-IsAntisymmetric map.nat_cmp-IsAntisymmetric q key (tied (slice_cmp nat_cmp q key) e)))
+same_at slots key slot q false e at = refl
+
+-- to put a slot in its own place changes nothing
+pub with_slot-same : (slots : Slots) (key : List ℕ) (slot : Slot) → slot_at slots key ≡ Some slot → with_slot slots key slot ≡ slots
+with_slot-same slots key slot at = map.same_map nat_list_cmp_total (map.slice_cmp-IsAntisymmetric map.nat_cmp-IsAntisymmetric) _ _ (λ q.
+    slot_at-with_slot slots key slot q ∙ same_at slots key slot q _ refl at)

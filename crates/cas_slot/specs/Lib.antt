@@ -1,0 +1,4 @@
+pub mod Rules
+pub mod Slot
+pub mod Slots
+pub mod SlotsCode

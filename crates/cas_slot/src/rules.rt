@@ -1,0 +1,182 @@
+//! The rules by which an acceptor answers, as functions of the slot alone.
+
+ghost use Rattle.std.specs.Prelude.{◌≡◌};
+ghost use Rattle.std.specs.Option.{option_copied};
+ghost use Rattle.cas_slot.specs.Slot.{seen_of, accepted_of};
+ghost use Rattle.cas_slot.specs.Rules.{prepare_rule, accept_rule, is_accepted_at};
+
+use crate::slot::Slot;
+use cas_ballot::Ballot;
+use std::cmp::Ordering;
+
+/// What an acceptor does with a prepare.
+#[derive(Clone, Copy, Debug, PartialEq, Eq)]
+pub enum PrepareRule {
+    /// It promises the ballot, which is above all that its slot has seen.
+    Promise,
+    /// It has seen just this ballot, and answers as it did then.
+    Again,
+    /// It has seen this greater ballot, and refuses.
+    Met(Ballot),
+}
+
+/// What an acceptor does with an accept.
+#[derive(Clone, Copy, Debug, PartialEq, Eq)]
+pub enum AcceptRule {
+    /// It takes the state.
+    Take,
+    /// It has accepted at just this ballot, confirms again and changes nothing.
+    Repeat,
+    /// It has seen this greater ballot, and refuses.
+    Met(Ballot),
+}
+
+/// What becomes of a prepare at this ballot, where the key has that slot or none.
+pub fn on_prepare(slot: Option<&Slot>, ballot: Ballot) -> PrepareRule
+    ensures { result ≡ prepare_rule (option_copied slot.entry) ballot }
+{
+    let seen = seen_at(slot);
+    match seen.cmp(&ballot) {
+        Ordering::Less => PrepareRule::Promise,
+        Ordering::Equal => PrepareRule::Again,
+        Ordering::Greater => PrepareRule::Met(seen),
+    }
+}
+
+/// What becomes of an accept at this ballot, where the key has that slot or none.
+pub fn on_accept(slot: Option<&Slot>, ballot: Ballot) -> AcceptRule
+    ensures { result ≡ accept_rule (option_copied slot.entry) ballot }
+{
+    if is_accepted_at(slot, ballot) {
+        return AcceptRule::Repeat;
+    }
+    let seen = seen_at(slot);
+    if ballot < seen {
+        AcceptRule::Met(seen)
+    } else {
+        AcceptRule::Take
+    }
+}
+
+/// The greatest ballot that the slot has seen; zero where there is no slot.
+fn seen_at(slot: Option<&Slot>) -> Ballot
+    ensures { result ≡ seen_of (option_copied slot.entry) }
+{
+    match slot {
+        Some(slot) => slot.seen(),
+        None => Ballot::ZERO,
+    }
+}
+
+/// Whether the slot's state was accepted at just this ballot.
+fn is_accepted_at(slot: Option<&Slot>, ballot: Ballot) -> bool
+    ensures { result ≡ is_accepted_at (accepted_of (option_copied slot.entry)) ballot }
+{
+    match slot {
+        Some(slot) => match &slot.accepted {
+            Some(accepted) => accepted.ballot == ballot,
+            None => false,
+        },
+        None => false,
+    }
+}
+
+#[cfg(test)]
+mod tests {
+    use super::*;
+    use crate::slot::Accepted;
+    use cas_change::State;
+
+    const fn at(counter: u64, proposer: u8) -> Ballot {
+        Ballot { counter, proposer }
+    }
+
+    fn slot_of(promise: Ballot, accepted: Option<Ballot>) -> Slot {
+        Slot {
+            promise,
+            accepted: accepted.map(|ballot| Accepted {
+                ballot,
+                era: 0,
+                state: State::Empty,
+            }),
+        }
+    }
+
+    #[test]
+    fn follow_the_acceptors_table(rt: HostRuntime) {
+        assert_eq!(rt; on_prepare(None, at(1, 1)), PrepareRule::Promise);
+        assert_eq!(rt; on_accept(None, at(1, 1)), AcceptRule::Take);
+        // The promise, the accepted ballot, the request's ballot, and what becomes of a prepare and of an accept.
+        let rows = [
+            (
+                at(2, 1),
+                None,
+                at(1, 2),
+                PrepareRule::Met(at(2, 1)),
+                AcceptRule::Met(at(2, 1)),
+            ),
+            (
+                at(2, 1),
+                None,
+                at(2, 1),
+                PrepareRule::Again,
+                AcceptRule::Take,
+            ),
+            (
+                at(2, 1),
+                None,
+                at(2, 2),
+                PrepareRule::Promise,
+                AcceptRule::Take,
+            ),
+            (
+                at(0, 0),
+                Some(at(2, 1)),
+                at(2, 1),
+                PrepareRule::Again,
+                AcceptRule::Repeat,
+            ),
+            (
+                at(3, 1),
+                Some(at(2, 1)),
+                at(2, 1),
+                PrepareRule::Met(at(3, 1)),
+                AcceptRule::Repeat,
+            ),
+            (
+                at(3, 1),
+                Some(at(2, 1)),
+                at(2, 2),
+                PrepareRule::Met(at(3, 1)),
+                AcceptRule::Met(at(3, 1)),
+            ),
+            (
+                at(0, 0),
+                Some(at(2, 2)),
+                at(2, 1),
+                PrepareRule::Met(at(2, 2)),
+                AcceptRule::Met(at(2, 2)),
+            ),
+            (
+                at(0, 0),
+                Some(at(2, 2)),
+                at(3, 0),
+                PrepareRule::Promise,
+                AcceptRule::Take,
+            ),
+        ];
+        for (promise, accepted, ballot, prepared, taken) in rows {
+            let slot = slot_of(promise, accepted);
+            assert_eq!(rt;
+                on_prepare(Some(&slot), ballot),
+                prepared,
+                "prepare {ballot} at {slot:?}"
+            );
+            assert_eq!(rt;
+                on_accept(Some(&slot), ballot),
+                taken,
+                "accept {ballot} at {slot:?}"
+            );
+        }
+    }
+}
