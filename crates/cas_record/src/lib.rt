@@ -1,0 +1,12 @@
+//! What happened in the store: the record of marks that is kept for audit, and the answers that it bears.
+//!
+//! No proposer and no acceptor reads the record, and nothing here decides anything.
+#![tactic(auto)]
+
+mod answer;
+mod mark;
+mod record;
+
+pub use answer::Answer;
+pub use mark::{Acknowledgment, Mark, Proposal};
+pub use record::{MOST_MARKS, Record};

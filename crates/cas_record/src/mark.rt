@@ -1,0 +1,60 @@
+//! The marks, each of which tells one thing that happened.
+
+use crate::answer::Answer;
+use cas_ballot::{AcceptorId, Ballot, Members};
+use cas_change::{Key, Program};
+
+/// One thing that happened in the store.
+#[derive(Debug, PartialEq, Eq, Drop)]
+pub enum Mark {
+    /// A caller began a call. The calls of a caller are numbered from 1.
+    Begun {
+        caller: u8,
+        call: u32,
+        key: Key,
+        program: Program,
+    },
+    /// A proposer proposed a state.
+    Proposed(Proposal),
+    /// An acceptor answered that it accepted the key's proposal at this ballot, be it for the first time or again.
+    Voted {
+        acceptor: AcceptorId,
+        key: Key,
+        ballot: Ballot,
+    },
+    /// A proposer counted an accept quorum.
+    Acked(Acknowledgment),
+    /// A call was answered after that many rounds.
+    Ended {
+        caller: u8,
+        call: u32,
+        rounds: u32,
+        answer: Answer,
+    },
+}
+
+/// What is told of a proposal.
+#[derive(Debug, PartialEq, Eq, Drop)]
+pub struct Proposal {
+    pub caller: u8,
+    pub call: u32,
+    pub key: Key,
+    /// The ballot of the proposal.
+    pub ballot: Ballot,
+    /// The ballot at which the state was accepted that the proposal changes; zero where none was.
+    pub read: Ballot,
+    /// The era in which it was proposed.
+    pub era: u32,
+    /// The acceptors that promised the ballot.
+    pub prepared_by: Members,
+}
+
+/// What is told of an accept quorum.
+#[derive(Debug, PartialEq, Eq, Drop)]
+pub struct Acknowledgment {
+    pub key: Key,
+    pub ballot: Ballot,
+    pub era: u32,
+    /// The acceptors that confirmed the proposal.
+    pub by: Members,
+}
