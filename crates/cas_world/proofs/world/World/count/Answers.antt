@@ -1,0 +1,15 @@
+use Rattle.std.proofs.Common.{◌≡◌, ◌∙◌, ap, refl, subst, ◌<◌, ◌*◌, length}
+use Rattle.cas_world.specs.Desk.{is_accepting}
+use Rattle.cas_world.specs.Step.{confirmers}
+use Rattle.cas_world.specs.View.{View}
+use Rattle.cas_world.proofs.SoundLemmas.{majority_of, open_if_accepting}
+use Rattle.cas_world.proofs.world.World.count.Goals as goal
+
+pub returns-clause-quorum : goal.returns-clause-quorum
+returns-clause-quorum g c =
+    let world : View = record { acceptors = c.self.inside.acceptors.items; desk = c.self.inside.desk; frames = c.self.inside.frames.items; marks = c.self.inside.record.marks } in
+    let same : world ≡ c.args.self.now = c.self.view_is in
+    let none = ap (λ (w : View). w.frames) same ∙ c.requires.none_waits in
+    let accepting = ap (λ (w : View). is_accepting w.desk.round) same ∙ c.requires.accepting in
+    subst (λ (w : View). 3 < 2 * length (confirmers w.desk.round)) same
+    (majority_of world c.self.inside.record.room world.desk.round c.self.invariant.0 none refl (open_if_accepting world.desk.round accepting))

@@ -1,0 +1,64 @@
+use Rattle.std.proofs.Common.{◌≡◌, ◌∷◌, ◌-◌, ◌<◌, length, arith, sym, ◌∙◌, ap, refl}
+use Rattle.std.proofs.lemmas.Option.{slice_get_within}
+use Rattle.cas_record.specs.Book.{Book}
+use Rattle.cas_world.specs.declared.message.Message.TheVariants as message
+use Rattle.cas_world.specs.Step.{after_turn}
+use Rattle.cas_world.specs.View.{View}
+use Rattle.cas_world.proofs.SoundLemmas.{sound_request, served, served_turn, served_turns, unserved, room_with_message, replied_turn}
+use Rattle.cas_world.proofs.world.World.turn.Goals as goal
+
+pub serve-requires-clause-asked : goal.serve-requires-clause-asked
+serve-requires-clause-asked g c =
+    let first : c.self.inside.frames.items ≡ message.Request c.in-Some-Request.request ∷ c.pop_front.new.self.items =
+    rw c.in-Some-Request.field-0-is at c.in-Some-Request.ensures.items in
+    let s = sound_request (record { acceptors = c.self.inside.acceptors.items; desk = c.self.inside.desk; frames = c.self.inside.frames.items; marks = c.self.inside.record.marks }) c.self.inside.record.room c.in-Some-Request.request c.pop_front.new.self.items c.self.invariant.0 first in
+    let within : c.in-Some-Request.request.to - 1 < length c.self.inside.acceptors.items = slice_get_within _ _ _ s.found in
+    omega (arith, within, c.self.inside.acceptors.ok)
+
+pub serve-requires-clause-vote : goal.serve-requires-clause-vote
+serve-requires-clause-vote g c =
+    let first : c.self.inside.frames.items ≡ message.Request c.in-Some-Request.request ∷ c.pop_front.new.self.items =
+    rw c.in-Some-Request.field-0-is at c.in-Some-Request.ensures.items in
+    let s = sound_request (record { acceptors = c.self.inside.acceptors.items; desk = c.self.inside.desk; frames = c.self.inside.frames.items; marks = c.self.inside.record.marks }) c.self.inside.record.room c.in-Some-Request.request c.pop_front.new.self.items c.self.invariant.0 first in
+    rw s.found s.vote_fits
+
+pub invariant_of-self : goal.invariant_of-self
+invariant_of-self g c =
+    let first : c.self.inside.frames.items ≡ message.Request c.in-Some-Request.request ∷ c.pop_front.new.self.items =
+    rw c.in-Some-Request.field-0-is at c.in-Some-Request.ensures.items in
+    let e = c.in_err-serve-in-Some-Request.ensures in (
+      unserved _ _ _ _ _ c.self.invariant.0 (room_with_message _ _ _ _ c.self.invariant.0 first)
+          e.err_acceptors (e.err_frames ∙ sym first) (ap (λ (b : Book). b.marks) e.err_record) (ap (λ (b : Book). b.room) e.err_record) e.err_desk,
+      c.self.invariant.1,
+      c.self.invariant.2,
+    )
+
+pub invariant_of-self-in-Some-Request : goal.invariant_of-self-in-Some-Request
+invariant_of-self-in-Some-Request g c =
+    let first : c.self.inside.frames.items ≡ message.Request c.in-Some-Request.request ∷ c.pop_front.new.self.items =
+    rw c.in-Some-Request.field-0-is at c.in-Some-Request.ensures.items in
+    let s = sound_request (record { acceptors = c.self.inside.acceptors.items; desk = c.self.inside.desk; frames = c.self.inside.frames.items; marks = c.self.inside.record.marks }) c.self.inside.record.room c.in-Some-Request.request c.pop_front.new.self.items c.self.invariant.0 first in
+    let e = c.in_ok-serve-in-Some-Request.ensures in
+    ((served _ _ _ _ s _ _ e.acceptors e.frames e.marks e.room e.desk).sound, c.self.invariant.1, c.self.invariant.2)
+
+pub invariant_of-self-in-Some-Reply : goal.invariant_of-self-in-Some-Reply
+invariant_of-self-in-Some-Reply g c =
+    let first : c.self.inside.frames.items ≡ message.Reply c.in-Some-Reply.reply ∷ c.pop_front.new.self.items =
+    rw c.in-Some-Reply.field-0-is at c.in-Some-Reply.ensures.items in
+    (replied_turn _ _ _ _ _ c.self.invariant.0 first refl refl refl c.arrive.ensures, c.self.invariant.1, c.self.invariant.2)
+
+pub returns-in_ok-serve-in-Some-Request-clause-ok : goal.returns-in_ok-serve-in-Some-Request-clause-ok
+returns-in_ok-serve-in-Some-Request-clause-ok g c =
+    let first : c.self.inside.frames.items ≡ message.Request c.in-Some-Request.request ∷ c.pop_front.new.self.items =
+    rw c.in-Some-Request.field-0-is at c.in-Some-Request.ensures.items in
+    let s = sound_request (record { acceptors = c.self.inside.acceptors.items; desk = c.self.inside.desk; frames = c.self.inside.frames.items; marks = c.self.inside.record.marks }) c.self.inside.record.room c.in-Some-Request.request c.pop_front.new.self.items c.self.invariant.0 first in
+    let e = c.in_ok-serve-in-Some-Request.ensures in
+    let world : View = record { acceptors = c.self.inside.acceptors.items; desk = c.self.inside.desk; frames = c.self.inside.frames.items; marks = c.self.inside.record.marks } in
+    served_turn world _ _ _ _ first s.found (served world _ _ _ s _ _ e.acceptors e.frames e.marks e.room e.desk).is ∙ ap after_turn c.self.view_is
+
+pub returns-in_ok-serve-in-Some-Request-clause-turns : goal.returns-in_ok-serve-in-Some-Request-clause-turns
+returns-in_ok-serve-in-Some-Request-clause-turns g c =
+    let first : c.self.inside.frames.items ≡ message.Request c.in-Some-Request.request ∷ c.pop_front.new.self.items =
+    rw c.in-Some-Request.field-0-is at c.in-Some-Request.ensures.items in
+    let s = sound_request (record { acceptors = c.self.inside.acceptors.items; desk = c.self.inside.desk; frames = c.self.inside.frames.items; marks = c.self.inside.record.marks }) c.self.inside.record.room c.in-Some-Request.request c.pop_front.new.self.items c.self.invariant.0 first in
+    rw (← c.self.view_is) (served_turns _ _ _ _ _ first (rw s.found at c.in_ok-serve-in-Some-Request.ensures.frames))

@@ -1,0 +1,6 @@
+pub mod Acceptor
+pub mod AcceptorCode
+pub mod Desk
+pub mod Sound
+pub mod Step
+pub mod View
