@@ -1,0 +1,6 @@
+pub mod Decimals
+pub mod FirstLines
+pub mod HandingOut
+pub mod Newlines
+pub mod Pieces
+pub mod WholeRuns

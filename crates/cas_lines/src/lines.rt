@@ -1,0 +1,345 @@
+//! The lines of an input, one by one, as soon as each is there.
+//!
+//! The whole input may have 65,536 bytes. What a line says is no matter of its reader.
+
+ghost use Rattle.std.specs.Prelude.{◌≡◌, ◌≢◌, ℕ, ◌+◌, ◌-◌, ◌<◌, ◌≤◌, ◌++◌, ◌∷◌, [], length, take, drop, max, true, false, vec_len, IsTrue, IfOk, IfErr, IfSome, map, IfNone, OnSome, OnOk, OnErr, IsErrOf};
+ghost use Rattle.std.specs.List.{range_with_len};
+ghost use Rattle.std.specs.Io.{StartsWith};
+ghost use Rattle.std.specs.Io.KnownBytes.{Keeps, IsAtEnd, prepend_known};
+ghost use Rattle.std.specs.Io.BufRead.{take_through, drop_through};
+ghost use Rattle.cas_base.specs.Faults.{Rose};
+ghost use Rattle.cas_lines.specs.Lines.{has_newline, text_of, lines_of, line_at, ahead, HandsOut, IsEndless};
+ghost use Rattle.cas_lines.specs.declared.lines.LineFault.TheVariants.{ReadFault, NoMemory};
+
+use crate::source::{Failed, Source};
+use std::alloc::{AllocError, AllocFailed, Global};
+use std::marker::Model;
+use thiserror::Error;
+
+/// How many bytes a whole input may have.
+pub const INPUT_LIMIT: usize = 65_536;
+
+/// How many bytes are asked of a source at once.
+const PIECE: usize = 4_096;
+
+/// Why a line could not be read.
+#[derive(Clone, Copy, Debug, PartialEq, Eq, Error)]
+pub enum LineFault {
+    /// The source failed.
+    #[error("the input could not be read")]
+    ReadFault,
+    /// The input has more than 65,536 bytes, and the first byte beyond them stands in the line of this number.
+    #[error("the input is too long at line {line}")]
+    Endless { line: u32 },
+    /// There was no memory.
+    #[error("there is no memory")]
+    NoMemory,
+}
+
+impl From<Failed> for LineFault {
+    ghost from_gives = { λ _ fault. fault ≡ ReadFault };
+
+    fn from(_failed: Failed) -> LineFault {
+        LineFault::ReadFault
+    }
+}
+
+impl From<AllocError> for LineFault {
+    ghost from_gives = { λ _ fault. fault ≡ NoMemory };
+
+    fn from(_error: AllocError) -> LineFault {
+        LineFault::NoMemory
+    }
+}
+
+impl<T: Drop> From<AllocFailed<T>> for LineFault {
+    ghost from_gives = { λ _ fault. fault ≡ NoMemory };
+
+    fn from(_failed: AllocFailed<T>) -> LineFault {
+        LineFault::NoMemory
+    }
+}
+
+/// One line of an input.
+#[derive(Debug, Drop)]
+pub struct Line {
+    number: u32,
+    bytes: Vec<u8>,
+}
+
+impl Model for Line {
+    ghost use Rattle.cas_lines.specs.Lines.{LineState};
+
+    ghost Value = { LineState };
+
+    ghost view = { λ l. record { number = l.number; bytes = l.bytes.items } };
+}
+
+impl Line {
+    /// Which line of the input it is, counted from 1.
+    pub fn number(&self) -> u32
+        ensures { result ≡ self.now.number }
+    {
+        self.number
+    }
+
+    /// Its text, without the newline and without one carriage return right before that.
+    pub fn bytes(&self) -> &[u8]
+        ensures { result.now ≡ self.now.bytes }
+    {
+        self.bytes.as_slice()
+    }
+}
+
+/// Whether some byte is a newline.
+fn contains_newline(bytes: &[u8]) -> bool
+    ensures { result ≡ has_newline bytes.now }
+{
+    bytes.contains(&b'\n')
+}
+
+/// Whether some byte from this index on is a newline.
+fn has_newline_from(bytes: &[u8], from: usize) -> bool
+    requires { from ≤ length bytes.now }
+    ensures { result ≡ has_newline (drop from bytes.now) }
+{
+    contains_newline(&bytes[from..])
+}
+
+/// Where the first line ends.
+#[derive(Clone, Copy, Debug, PartialEq, Eq)]
+struct Cut {
+    /// How many bytes its text has.
+    text: usize,
+    /// How many bytes it has with its ending.
+    spelled: usize,
+}
+
+/// Where the first line of these bytes ends, or its last where no newline comes.
+fn first_cut(bytes: &[u8]) -> Cut
+    ensures text { take result.text bytes.now ≡ text_of bytes.now }
+    ensures spelled { result.spelled ≡ length (take_through 10 bytes.now) }
+    ensures order { (result.text ≤ result.spelled) × (result.spelled ≤ length bytes.now) }
+    ensures some { 0 < length bytes.now → 0 < result.spelled }
+{
+    for (at, byte) in bytes.iter().enumerate() {
+        if *byte == b'\n' {
+            return Cut {
+                text: at,
+                spelled: at + 1,
+            };
+        }
+        if *byte == b'\r' && at + 1 < bytes.len() && bytes[at + 1] == b'\n' {
+            return Cut {
+                text: at,
+                spelled: at + 2,
+            };
+        }
+    }
+    Cut {
+        text: bytes.len(),
+        spelled: bytes.len(),
+    }
+}
+
+/// Drops the first bytes.
+fn drop_front(bytes: &mut Vec<u8>, count: usize)
+    requires { count ≤ vec_len bytes.old }
+    ensures items { bytes.new.items ≡ drop count bytes.old.items }
+    ensures len { vec_len bytes.new + count ≡ vec_len bytes.old }
+{
+    bytes.rotate_left(count);
+    let left = bytes.len() - count;
+    bytes.truncate(left);
+}
+
+/// Takes one piece of the source behind the bytes that are held, and answers how many bytes it has. It goes at most
+/// up to the room, or one byte beyond where the room is full. After an `Err` no byte was taken.
+fn take_piece<S: Source>(
+    source: &mut S,
+    held: &mut Vec<u8>,
+    room: usize,
+) -> Result<usize, LineFault>
+    requires { vec_len held.old ≤ room }
+    ensures ahead { Keeps (prepend_known held.old.items (S.remaining source.old)) (prepend_known held.new.items (S.remaining source.new)) }
+    ensures front { StartsWith held.new.items held.old.items }
+    ensures count { IfOk result (λ count. vec_len held.new ≡ vec_len held.old + count) }
+    ensures end { IfOk result (λ count. count ≡ 0 → IsAtEnd (S.remaining source.new)) }
+    ensures bound { vec_len held.new ≤ max room (vec_len held.old + 1) }
+    ensures err { OnErr result (held.new.items ≡ held.old.items) }
+    ensures read_fault { IsErrOf result LineFault.ReadFault → Rose (S.faults_of source.old) (S.faults_of source.new) }
+    ensures not_endless { (line : ℕ) → result ≢ Err (LineFault.Endless line) }
+    ensures never_falls { S.faults_of source.old ≤ S.faults_of source.new }
+{
+    let wanted = (room - held.len()).min(PIECE).max(1);
+    let mut piece = [0; PIECE];
+    held.reserve(wanted)?;
+    let count = source.take(&mut piece[..wanted])?;
+    held.extend_from_slice(&piece[..count]).unwrap();
+    Ok(count)
+}
+
+/// What came of filling up what is held.
+#[derive(Clone, Copy, Debug, PartialEq, Eq)]
+enum Supply {
+    /// A newline stands within the room.
+    Line,
+    /// No newline stands there, and the source has ended.
+    End,
+    /// No newline stands there, and a byte stands beyond it.
+    Beyond,
+}
+
+/// Takes from the source until a newline stands within the room, and leaves it alone where one stands there already.
+fn fill<S: Source>(source: &mut S, held: &mut Vec<u8>, room: usize) -> Result<Supply, LineFault>
+    ensures ahead { Keeps (prepend_known held.old.items (S.remaining source.old)) (prepend_known held.new.items (S.remaining source.new)) }
+    ensures front { StartsWith held.new.items held.old.items }
+    ensures line { result ≡ Ok Supply.Line → has_newline (take room held.new.items) ≡ true }
+    ensures end { result ≡ Ok Supply.End → (has_newline held.new.items ≡ false) × (vec_len held.new ≤ room) × IsAtEnd (S.remaining source.new) }
+    ensures beyond { result ≡ Ok Supply.Beyond → (has_newline (take room held.new.items) ≡ false) × (room < vec_len held.new) }
+    ensures bound { vec_len held.new ≤ max (vec_len held.old) (room + 1) }
+    ensures ready { has_newline (take room held.old.items) ≡ true → source.new ≡ source.old }
+    ensures read_fault { IsErrOf result LineFault.ReadFault → Rose (S.faults_of source.old) (S.faults_of source.new) }
+    ensures not_endless { (line : ℕ) → result ≢ Err (LineFault.Endless line) }
+    ensures never_falls { S.faults_of source.old ≤ S.faults_of source.new }
+{
+    if contains_newline(&held[..room.min(held.len())]) {
+        return Ok(Supply::Line);
+    }
+    while held.len() <= room {
+        let before = held.len();
+        let count = take_piece(source, held, room)?;
+        if count == 0 {
+            return Ok(Supply::End);
+        }
+        if held.len() <= room && has_newline_from(held, before) {
+            return Ok(Supply::Line);
+        }
+    }
+    Ok(Supply::Beyond)
+}
+
+/// A reader of the lines of one source, which each call of `next` is passed.
+#[derive(Debug, Drop)]
+pub struct Lines {
+    alloc: Global,
+    held: Vec<u8>,
+    handed: u32,
+    room: usize,
+}
+
+impl Model for Lines {
+    ghost use Rattle.std.specs.Prelude.{◌+◌, ◌≤◌, vec_len};
+    ghost use Rattle.cas_lines.specs.Lines.{LinesState};
+    ghost use Rattle.cas_lines.specs.declared.lines.TheConstants.{INPUT_LIMIT};
+
+    ghost Value = { LinesState };
+
+    ghost view = { λ l. record { held = l.held.items; handed = l.handed; room = l.room } };
+
+    ghost invariant = { λ l. (vec_len l.held ≤ l.room + 1) × (l.handed + l.room ≤ INPUT_LIMIT) };
+}
+
+impl Lines {
+    /// A reader that has taken nothing so far.
+    pub fn new(alloc: Global) -> Lines
+        ensures held { result.held ≡ [] }
+        ensures handed { result.handed ≡ 0 }
+        ensures room { result.room ≡ INPUT_LIMIT }
+    {
+        Lines {
+            alloc,
+            held: Vec::new(alloc),
+            handed: 0,
+            room: INPUT_LIMIT,
+        }
+    }
+
+    /// Hands out the first line of what is held. After an `Err` all is as before.
+    fn hand_out(&mut self) -> Result<Line, AllocError>
+        requires some { 0 < length self.old.held }
+        requires within { length (take_through 10 self.old.held) ≤ self.old.room }
+        ensures number { IfOk result (λ line. line.number ≡ self.old.handed + 1) }
+        ensures text { IfOk result (λ line. line.bytes ≡ text_of self.old.held) }
+        ensures held { OnOk result (self.new.held ≡ drop (length (take_through 10 self.old.held)) self.old.held) }
+        ensures handed { OnOk result (self.new.handed ≡ self.old.handed + 1) }
+        ensures room { OnOk result (self.new.room ≡ self.old.room - length (take_through 10 self.old.held)) }
+        ensures less { OnOk result (self.new.room < self.old.room) }
+        ensures err { OnErr result (self.new ≡ self.old) }
+    {
+        let cut = first_cut(&self.held);
+        let bytes = Vec::from_slice(self.alloc, &self.held[..cut.text])?;
+        drop_front(&mut self.held, cut.spelled);
+        self.handed += 1;
+        self.room -= cut.spelled;
+        Ok(Line {
+            number: self.handed,
+            bytes,
+        })
+    }
+
+    /// Hands out the next line, or `None` where the input has ended and all its lines were handed out. It takes from
+    /// `source`, of which each call is passed the same, only until the line is there.
+    ///
+    /// `ReadFault` comes only where the source's count of faults rose, and `Endless` exactly where more bytes are ahead
+    /// than there is room for and all lines that end within it were handed out. After an `Err` the same lines and bytes
+    /// are ahead as before, so `Endless` comes again.
+    pub fn next<S: Source>(&mut self, source: &mut S) -> Result<Option<Line>, LineFault>
+        // A line is the first of what was ahead.
+        ensures line { IfOk result (λ next. IfSome next (λ line.
+            HandsOut self.old self.new (S.remaining source.old) (S.remaining source.new) line.bytes)) }
+        ensures number { IfOk result (λ next. IfSome next (λ line. line.number ≡ self.old.handed + 1)) }
+        ensures handed { IfOk result (λ next. IfSome next (λ line. self.new.handed ≡ line.number)) }
+        ensures progress { IfOk result (λ next. OnSome next (self.new.room < self.old.room)) }
+
+        // No line comes at the end of the input alone.
+        ensures end { IfOk result (λ next. IfNone next (IsAtEnd (ahead self.old (S.remaining source.old)))) }
+        ensures read { IfOk result (λ next. IfNone next (IsAtEnd (S.remaining source.new))) }
+        ensures ended { IfOk result (λ next. IfNone next (self.new ≡ self.old)) }
+
+        // A line whose newline was taken before is handed out with no call of the source.
+        ensures ready { has_newline (take self.old.room self.old.held) ≡ true → source.new ≡ source.old }
+
+        ensures read_fault { IsErrOf result LineFault.ReadFault → Rose (S.faults_of source.old) (S.faults_of source.new) }
+        ensures endless { (line : ℕ) → IsErrOf result (LineFault.Endless line) →
+            (line ≡ self.old.handed + 1) × IsEndless self.old (S.remaining source.old) }
+        ensures err { OnErr result (Keeps (ahead self.old (S.remaining source.old)) (ahead self.new (S.remaining source.new))) }
+        ensures err_kept { OnErr result ((self.new.handed ≡ self.old.handed) × (self.new.room ≡ self.old.room)) }
+        ensures never_falls { S.faults_of source.old ≤ S.faults_of source.new }
+    {
+        match fill(source, &mut self.held, self.room)? {
+            Supply::Line => Ok(Some(self.hand_out()?)),
+            Supply::End if self.held.is_empty() => Ok(None),
+            Supply::End => Ok(Some(self.hand_out()?)),
+            Supply::Beyond => Err(LineFault::Endless {
+                line: self.handed + 1,
+            }),
+        }
+    }
+}
+
+/// All lines of the input of a source, in their order and numbered from 1.
+///
+/// `ReadFault` comes only where the source's count of faults rose, and `Endless` exactly where the input has more than
+/// 65,536 bytes, with the number of the line in which the first byte beyond them stands. After an `Err` it is not known
+/// which bytes the source has left.
+pub fn read_lines<S: Source>(alloc: Global, source: &mut S) -> Result<Vec<Line>, LineFault>
+    ensures lines { IfOk result (λ lines. IfSome (S.remaining source.old) (λ input.
+        (length input ≤ INPUT_LIMIT) × (map (λ line. line.bytes) lines.items ≡ lines_of input))) }
+    ensures numbers { IfOk result (λ lines. map (λ line. line.number) lines.items ≡ range_with_len 1 (vec_len lines)) }
+    ensures read { OnOk result (IsAtEnd (S.remaining source.new)) }
+    ensures endless { (line : ℕ) → IsErrOf result (LineFault.Endless line) → IfSome (S.remaining source.old) (λ input.
+        (INPUT_LIMIT < length input) × (line ≡ line_at INPUT_LIMIT input)) }
+    ensures read_fault { IsErrOf result LineFault.ReadFault → Rose (S.faults_of source.old) (S.faults_of source.new) }
+    ensures never_falls { S.faults_of source.old ≤ S.faults_of source.new }
+{
+    let mut reader = Lines::new(alloc);
+    let mut lines = Vec::new(alloc);
+    while let Some(line) = reader.next(source)? {
+        lines.push(line)?;
+    }
+    Ok(lines)
+}
+
+#[cfg(test)]
+mod tests;
