@@ -1,0 +1,2 @@
+pub mod AddLines
+pub mod Runs

@@ -1,0 +1,18 @@
+use Rattle.std.proofs.Common.{◌≡◌, ◌≤◌}
+use Rattle.std.specs.Prelude.{None}
+use Rattle.cas_lines.specs.declared.lines.TheConstants.{INPUT_LIMIT}
+use Rattle.casreg.proofs.Runs.{IsMidway}
+use Rattle.casreg.proofs.cluster.answer_lines.Given as goal
+
+abbrev pub invariant-loop-lines : goal.invariant-loop-lines
+invariant-loop-lines g l = record {
+  midway : IsMidway INPUT_LIMIT (g.S.Source.remaining l.initial.source) l.lines (g.S.Source.remaining l.source);
+  counted : l.calls ≡ l.world.desk.calls;
+  few : l.calls ≤ l.lines.handed;
+  no_round : l.world.desk.round ≡ None;
+  source_faults : g.S.Source.faults_of l.initial.source ≤ g.S.Source.faults_of l.source;
+  sink_faults : g.K.Sink.faults_of l.initial.sink ≤ g.K.Sink.faults_of l.sink;
+}
+
+abbrev pub decreases-loop-lines : goal.decreases-loop-lines
+decreases-loop-lines g l = l.lines.room

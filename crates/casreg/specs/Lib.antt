@@ -1,0 +1,4 @@
+pub mod Adds
+pub mod Answers
+pub mod Status
+pub mod Words

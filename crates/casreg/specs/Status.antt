@@ -1,0 +1,21 @@
+-- How a run of the program ends.
+use Rattle.std.specs.Prelude.{ℕ}
+use Rattle.cas_lines.specs.declared.lines.LineFault.{LineFault}
+use Rattle.cas_lines.specs.declared.lines.LineFault.TheVariants as fault
+use Rattle.casreg.specs.declared.status.Status.{Status}
+use Rattle.casreg.specs.declared.status.Status.TheVariants as status
+
+-- the exit status of the program
+abbrev pub number_of : Status → ℕ
+number_of status.Ok = 0
+number_of status.Usage = 2
+number_of status.ReadFault = 3
+number_of status.WriteFault = 4
+number_of status.NoMemory = 8
+number_of (status.Endless line) = 9
+
+-- how a run ends whose next line could not be read
+abbrev pub status_of_fault : LineFault → Status
+status_of_fault fault.ReadFault = status.ReadFault
+status_of_fault (fault.Endless line) = status.Endless line
+status_of_fault fault.NoMemory = status.NoMemory
