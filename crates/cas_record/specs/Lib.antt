@@ -1,1 +1,11 @@
 pub mod Book
+pub mod Places
+pub mod Chain
+pub mod Replay
+pub mod Legal
+pub mod Happening
+pub mod Lawful
+pub mod Laws
+pub mod Scan
+pub mod Quorum
+pub mod Witness

@@ -4,9 +4,13 @@
 #![tactic(auto)]
 
 mod answer;
+mod entry;
+mod history;
+pub mod laws;
 mod mark;
 mod record;
 
-pub use answer::Answer;
+pub use answer::{Answer, Cause};
+pub use entry::Entry;
 pub use mark::{Acknowledgment, Mark, Proposal};
 pub use record::{MOST_MARKS, Record};

@@ -2,7 +2,7 @@
 
 use crate::answer::Answer;
 use cas_ballot::{AcceptorId, Ballot, Members};
-use cas_change::{Key, Program};
+use cas_change::{Key, Program, State};
 
 /// One thing that happened in the store.
 #[derive(Debug, PartialEq, Eq, Drop)]
@@ -24,12 +24,30 @@ pub enum Mark {
     },
     /// A proposer counted an accept quorum.
     Acked(Acknowledgment),
+    /// The proposals of the key up to this ballot were collected, and left this state: the slots that held them may be
+    /// removed. One that is made before any call begins tells where the key's history starts.
+    Floor {
+        key: Key,
+        ballot: Ballot,
+        state: State,
+    },
+    /// A proposer entered the era of that number.
+    EraEntered {
+        proposer: u8,
+        number: u32,
+    },
     /// A call was answered after that many rounds.
     Ended {
         caller: u8,
         call: u32,
         rounds: u32,
         answer: Answer,
+    },
+    /// A frame of the call was lost or made late or, where `down` is true, found its acceptor down or brought it down.
+    Harmed {
+        caller: u8,
+        call: u32,
+        down: bool,
     },
 }
 

@@ -1,10 +1,14 @@
 //! The record: the list of all marks.
 
-ghost use Rattle.std.specs.Prelude.{◌≡◌, ◌+◌, ◌<◌, ◌≤◌, [], ◌∷◌, ◌++◌, OnOk, OnErr};
+ghost use Rattle.std.specs.Prelude.{◌≡◌, ◌+◌, ◌<◌, ◌≤◌, [], ◌∷◌, ◌++◌, reverse, IfOk, OnOk, OnErr};
 ghost use Rattle.cas_record.specs.Book.{Book};
+ghost use Rattle.cas_record.specs.Chain.{settled_of};
+ghost use Rattle.cas_record.specs.Replay.{replay};
 
+use crate::entry::Entry;
+use crate::history;
 use crate::mark::Mark;
-use cas_change::Key;
+use cas_change::{Key, State};
 use std::alloc::{AllocError, Global};
 use std::marker::Model;
 
@@ -64,49 +68,22 @@ impl Record {
     {
         &self.marks
     }
+
+    /// The history of the key that stands, the oldest entry first: what the greatest ballot that was acknowledged or
+    /// made a floor goes on from, and its entry. In memory from the record's allocator.
+    pub fn settled(&self, key: &Key) -> Result<Vec<Entry>, AllocError>
+        ensures { IfOk result (λ entries. entries.items ≡ settled_of key.now (reverse self.now.marks)) }
+    {
+        history::settled_of(*self.marks.allocator(), &self.marks, key)
+    }
+
+    /// The state after the programs of the entries have acted in turn, from the empty state on.
+    pub fn replay(entries: &[Entry]) -> Result<State, AllocError>
+        ensures { IfOk result (λ state. state ≡ replay entries.now) }
+    {
+        history::replay(entries)
+    }
 }
 
 #[cfg(test)]
-mod tests {
-    use super::*;
-    use crate::answer::Answer;
-    use cas_ballot::{AcceptorId, Ballot};
-    use std::test::Fail;
-
-    fn vote(key: &Key, counter: u64) -> Result<Mark, AllocError> {
-        Ok(Mark::Voted {
-            acceptor: AcceptorId::new(1).unwrap(),
-            key: key.copy()?,
-            ballot: Ballot {
-                counter,
-                proposer: 1,
-            },
-        })
-    }
-
-    fn refusal() -> Mark {
-        Mark::Ended {
-            caller: 1,
-            call: 1,
-            rounds: 1,
-            answer: Answer::RecordFull,
-        }
-    }
-
-    #[test]
-    fn keeps_the_marks_in_their_order(rt: HostRuntime) -> Result<(), Fail> {
-        let key = Key::read(rt.alloc(), b"a")?;
-        let mut record = Record::new(rt.alloc());
-        assert_eq!(rt; record.marks().len(), 0);
-        record.reserve(Some(&key), 2)?;
-        record.push(vote(&key, 1)?);
-        record.push(refusal());
-        record.reserve(None, 1)?;
-        record.push(vote(&key, 2)?);
-        assert_eq!(rt; record.marks().len(), 3);
-        assert_eq!(rt; record.marks()[0], vote(&key, 1)?);
-        assert_eq!(rt; record.marks()[1], refusal());
-        assert_eq!(rt; record.marks()[2], vote(&key, 2)?);
-        Ok(())
-    }
-}
+mod tests;

@@ -11,6 +11,8 @@ use Rattle.cas_change.specs.declared.outcome.Took.{Took}
 use Rattle.cas_change.specs.declared.outcome.Took.TheVariants as took
 use Rattle.cas_record.specs.declared.answer.Answer.{Answer}
 use Rattle.cas_record.specs.declared.answer.Answer.TheVariants as answer
+use Rattle.cas_record.specs.declared.answer.Cause.{Cause}
+use Rattle.cas_record.specs.declared.answer.Cause.TheVariants as cause
 
 -- the byte of an upper-case hexadecimal digit
 abbrev pub hex_digit : ℕ → ℕ
@@ -43,8 +45,27 @@ took_text (took.Clause i) = []
 took_text took.Nothing = codes " no clause"
 took_text (took.Unfit i) = codes " unfit"
 
+-- why a proposed change is not known to stand
+abbrev pub cause_text : Cause → List ℕ
+cause_text (cause.Met ballot) = codes "met " ++ ballot_text ballot
+cause_text (cause.Aged least) = codes "aged " ++ decimal least
+cause_text (cause.Full acceptor) = codes "full " ++ decimal acceptor
+cause_text (cause.Short got need) = codes "short " ++ decimal got ++ codes " " ++ decimal need
+cause_text (cause.Moved era) = codes "moved " ++ decimal era
+cause_text cause.Crashed = codes "crashed"
+
 abbrev pub answer_text : Answer → List ℕ
 answer_text (answer.Done state took ballot) = codes "done " ++ state_text state ++ codes " at " ++ ballot_text ballot ++ took_text took
+answer_text (answer.Conflict met) = codes "conflict " ++ ballot_text met
+answer_text (answer.Aged least) = codes "aged " ++ decimal least
+answer_text (answer.Full acceptor) = codes "full " ++ decimal acceptor
+answer_text (answer.Short got need) = codes "short " ++ decimal got ++ codes " " ++ decimal need
+answer_text (answer.Moved era) = codes "moved " ++ decimal era
+answer_text answer.Crashed = codes "crashed"
+answer_text (answer.Unsettled why) = codes "unsettled " ++ cause_text why
+answer_text answer.Down = codes "down"
+answer_text answer.VaultFault = codes "vault fault"
+answer_text answer.Spent = codes "spent"
 answer_text answer.RecordFull = codes "record full"
 answer_text (answer.NoMemory false) = codes "no memory"
 answer_text (answer.NoMemory true) = codes "no memory proposed"

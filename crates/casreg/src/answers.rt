@@ -1,10 +1,10 @@
 //! The texts of answers.
 
 ghost use Rattle.std.specs.Prelude.{◌≡◌, ◌+◌, ◌-◌, ◌<◌, ◌++◌, [], string_bytes, OnOk, IfOk};
-ghost use Rattle.casreg.specs.Answers.{state_text, body_text, took_text, answer_text, change_line, bad_line, hex_digit, escaped_byte, escaped, is_plain};
+ghost use Rattle.casreg.specs.Answers.{state_text, body_text, took_text, cause_text, answer_text, change_line, bad_line, hex_digit, escaped_byte, escaped, is_plain};
 
 use cas_change::{Body, State, Text, Took};
-use cas_record::Answer;
+use cas_record::{Answer, Cause};
 use std::alloc::{AllocError, Global};
 
 /// The line that answers a change of this caller, with its newline.
@@ -40,9 +40,42 @@ fn push_answer(line: &mut String, answer: &Answer) -> Result<(), AllocError>
             write!(line, " at {ballot}")?;
             line.push_str(took_note(*took))
         }
+        Answer::Conflict { met } => write!(line, "conflict {met}"),
+        Answer::Aged { least } => write!(line, "aged {least}"),
+        Answer::Full { acceptor } => {
+            let acceptor = acceptor.number();
+            write!(line, "full {acceptor}")
+        }
+        Answer::Short { got, need } => write!(line, "short {got} {need}"),
+        Answer::Moved { era } => write!(line, "moved {era}"),
+        Answer::Crashed => line.push_str("crashed"),
+        Answer::Unsettled { why } => {
+            line.push_str("unsettled ")?;
+            push_cause(line, why)
+        }
+        Answer::Down => line.push_str("down"),
+        Answer::VaultFault => line.push_str("vault fault"),
+        Answer::Spent => line.push_str("spent"),
         Answer::RecordFull => line.push_str("record full"),
         Answer::NoMemory { proposed: false } => line.push_str("no memory"),
         Answer::NoMemory { proposed: true } => line.push_str("no memory proposed"),
+    }
+}
+
+/// Why a proposed change is not known to stand.
+fn push_cause(line: &mut String, why: &Cause) -> Result<(), AllocError>
+    ensures { OnOk result (string_bytes line.new ≡ string_bytes line.old ++ cause_text why.now) }
+{
+    match why {
+        Cause::Met(ballot) => write!(line, "met {ballot}"),
+        Cause::Aged(least) => write!(line, "aged {least}"),
+        Cause::Full(acceptor) => {
+            let acceptor = acceptor.number();
+            write!(line, "full {acceptor}")
+        }
+        Cause::Short { got, need } => write!(line, "short {got} {need}"),
+        Cause::Moved(era) => write!(line, "moved {era}"),
+        Cause::Crashed => line.push_str("crashed"),
     }
 }
 

@@ -14,6 +14,12 @@ use std::test::Fail;
 
 const SCRIPT: &str = "script --acceptors 3 --proposers 1";
 
+/// The ballot of the first change.
+const FIRST: Ballot = Ballot {
+    counter: 1,
+    proposer: 1,
+};
+
 /// A run over memory that has finished: how it ended, and what was written.
 #[derive(Drop)]
 struct Finished {
@@ -144,28 +150,12 @@ fn add_one(alloc: Global) -> Result<Program, Fail> {
     }
 }
 
-#[test]
-fn marks_what_happens(rt: HostRuntime) -> Result<(), Fail> {
-    let alloc = rt.alloc();
-    let key = Key::read(alloc, b"a")?;
-    let program = add_one(alloc)?;
-    let mut world = open_world(alloc)?;
-    let mut calls = 0;
-    let ballot = Ballot {
-        counter: 1,
-        proposer: 1,
-    };
-    let answer = change(&mut world, &mut calls, &key, &program);
-    assert_eq!(rt; answer, done(0, 1, ballot));
-    assert_eq!(rt; calls, 1);
-    let mut all = Members::new();
-    let mut marks = Vec::new(alloc);
-    marks.push(Mark::Begun {
-        caller: 1,
-        call: 1,
-        key: key.copy()?,
-        program: program.copy()?,
-    })?;
+/// The votes of all three acceptors for the first change, which join the set.
+fn votes_of_the_first(
+    alloc: Global,
+    key: &Key,
+    all: &mut Members,
+) -> Result<Vec<Mark>, AllocError> {
     let mut votes = Vec::new(alloc);
     for number in 1..4 {
         if let Some(acceptor) = AcceptorId::new(number) {
@@ -173,15 +163,33 @@ fn marks_what_happens(rt: HostRuntime) -> Result<(), Fail> {
             votes.push(Mark::Voted {
                 acceptor,
                 key: key.copy()?,
-                ballot,
+                ballot: FIRST,
             })?;
         }
     }
+    Ok(votes)
+}
+
+/// The marks of the first change, of this key by this program.
+fn marks_of_the_first(
+    alloc: Global,
+    key: &Key,
+    program: &Program,
+) -> Result<Vec<Mark>, AllocError> {
+    let mut all = Members::new();
+    let votes = votes_of_the_first(alloc, key, &mut all)?;
+    let mut marks = Vec::new(alloc);
+    marks.push(Mark::Begun {
+        caller: 1,
+        call: 1,
+        key: key.copy()?,
+        program: program.copy()?,
+    })?;
     marks.push(Mark::Proposed(Proposal {
         caller: 1,
         call: 1,
         key: key.copy()?,
-        ballot,
+        ballot: FIRST,
         read: Ballot::ZERO,
         era: 0,
         prepared_by: all,
@@ -191,7 +199,7 @@ fn marks_what_happens(rt: HostRuntime) -> Result<(), Fail> {
     }
     marks.push(Mark::Acked(Acknowledgment {
         key: key.copy()?,
-        ballot,
+        ballot: FIRST,
         era: 0,
         by: all,
     }))?;
@@ -199,8 +207,22 @@ fn marks_what_happens(rt: HostRuntime) -> Result<(), Fail> {
         caller: 1,
         call: 1,
         rounds: 1,
-        answer: done(0, 1, ballot),
+        answer: done(0, 1, FIRST),
     })?;
+    Ok(marks)
+}
+
+#[test]
+fn marks_what_happens(rt: HostRuntime) -> Result<(), Fail> {
+    let alloc = rt.alloc();
+    let key = Key::read(alloc, b"a")?;
+    let program = add_one(alloc)?;
+    let mut world = open_world(alloc)?;
+    let mut calls = 0;
+    let answer = change(&mut world, &mut calls, &key, &program);
+    assert_eq!(rt; answer, done(0, 1, FIRST));
+    assert_eq!(rt; calls, 1);
+    let marks = marks_of_the_first(alloc, &key, &program)?;
     assert_eq!(rt; world.record().marks(), marks.as_slice());
     let (record, shelves) = world.parts();
     assert_eq!(rt; record.marks().len(), 7);
@@ -208,7 +230,7 @@ fn marks_what_happens(rt: HostRuntime) -> Result<(), Fail> {
     for shelf in &shelves {
         let slot = shelf.get(&key)?;
         let accepted = slot.and_then(|slot| slot.accepted);
-        assert_eq!(rt; accepted.map(|accepted| accepted.ballot), Some(ballot));
+        assert_eq!(rt; accepted.map(|accepted| accepted.ballot), Some(FIRST));
     }
     Ok(())
 }

@@ -1,0 +1,16 @@
+pub mod PlaceLemmas
+pub mod Tests
+pub mod ChainLemmas
+pub mod LogLemmas
+pub mod Agreement
+pub mod CallLemmas
+pub mod LegalLemmas
+pub mod Eras
+pub mod LawLemmas
+pub mod ScanLemmas
+pub mod Checks
+pub mod Quorums
+pub mod WitnessLemmas
+pub mod Broken
+pub mod Slots
+pub mod Replays

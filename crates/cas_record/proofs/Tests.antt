@@ -1,0 +1,157 @@
+-- What the tests of the definitions tell.
+use Rattle.std.proofs.Common.{◌≡◌, ℕ, Bool, true, false, not, List, cond, refl, ap, subst}
+use Rattle.std.specs.Prelude.{◌⊎◌, ◌&&◌, ◌||◌, ◌==◌}
+use Rattle.std.specs.declared.cmp.Ordering.{Ordering}
+use Rattle.std.specs.declared.cmp.Ordering.TheVariants.{Less, Equal, Greater}
+use Rattle.std.specs.Ordering.{is_lt, is_eq, MatchOrdering}
+use Rattle.std.proofs.lemmas.Bool.Decides.{eqb_tells}
+use mathlib.Core.Logic.{inl, inr}
+use lib.Pointwise.{bytes_decides}
+use Rattle.cas_ballot.specs.declared.ballot.Ballot.{Ballot}
+use Rattle.cas_ballot.specs.Ballot.{ballot_cmp, zero_ballot, greater_of, BallotAtMost, BallotLess}
+use Rattle.cas_ballot.proofs.BallotLemmas.{compared, cmp_refl, at_most_refl, at_most_greater_left, at_most_greater_right, greater_cases, cmp_of_less}
+use Rattle.cas_record.specs.declared.mark.Proposal.{Proposal}
+use Rattle.cas_record.specs.Chain.{is_key, is_ballot, is_proposal, is_call}
+
+-- ---- choices
+pub if_true : {A : Type 0} (b : Bool) (x y : A) → b ≡ true → cond b x y ≡ x
+if_true true x y e = refl
+if_true false x y e = absurd cc
+
+pub if_false : {A : Type 0} (b : Bool) (x y : A) → b ≡ false → cond b x y ≡ y
+if_false true x y e = absurd cc
+if_false false x y e = refl
+
+pub true_or_false : (b : Bool) → (b ≡ true) ⊎ (b ≡ false)
+true_or_false true = inl refl
+true_or_false false = inr refl
+
+pub and_left : (a b : Bool) → (a && b) ≡ true → a ≡ true
+and_left true b e = refl
+and_left false b e = e
+
+pub and_right : (a b : Bool) → (a && b) ≡ true → b ≡ true
+and_right true b e = e
+and_right false b e = absurd cc
+
+pub both_true : (a b : Bool) → a ≡ true → b ≡ true → (a && b) ≡ true
+both_true true b p q = q
+both_true false b p q = p
+
+pub left_false : (a b : Bool) → a ≡ false → (a && b) ≡ false
+left_false true b p = absurd cc
+left_false false b p = refl
+
+pub right_false : (a b : Bool) → b ≡ false → (a && b) ≡ false
+right_false true b p = p
+right_false false b p = refl
+
+pub or_cases : (a b : Bool) → (a || b) ≡ true → (a ≡ true) ⊎ (b ≡ true)
+or_cases true b e = inl refl
+or_cases false b e = inr e
+
+pub or_left : (a b : Bool) → a ≡ true → (a || b) ≡ true
+or_left true b e = refl
+or_left false b e = absurd cc
+
+pub or_right : (a b : Bool) → b ≡ true → (a || b) ≡ true
+or_right true b e = refl
+or_right false b e = e
+
+pub not_of_true : (a : Bool) → a ≡ true → not a ≡ false
+not_of_true true e = refl
+not_of_true false e = absurd cc
+
+pub not_of_false : (a : Bool) → a ≡ false → not a ≡ true
+not_of_false true e = absurd cc
+not_of_false false e = refl
+
+pub not_tells : (a : Bool) → not a ≡ true → a ≡ false
+not_tells true e = absurd cc
+not_tells false e = refl
+
+pub not_both : (a : Bool) → a ≡ true → a ≡ false → ⊥
+not_both true p q = cc
+not_both false p q = cc
+
+pub false_of_not : (a : Bool) → (a ≡ true → ⊥) → a ≡ false
+false_of_not true n = absurd (n refl)
+false_of_not false n = refl
+
+-- ---- keys, ballots and calls
+pub key_same : {a b : List ℕ} → is_key a b ≡ true → a ≡ b
+key_same {a} {b} e = (bytes_decides a b).0 e
+
+pub key_is : {a b : List ℕ} → a ≡ b → is_key a b ≡ true
+key_is {a} {b} e = (bytes_decides a b).1 e
+
+pub key_refl : (key : List ℕ) → is_key key key ≡ true
+key_refl key = (bytes_decides key key).1 refl
+
+same_by : (r : Ordering) (a b : Ballot) → MatchOrdering r (BallotLess a b) (a ≡ b) (BallotLess b a) → is_eq r ≡ true → a ≡ b
+same_by Less a b p e = absurd cc
+same_by Equal a b p e = p
+same_by Greater a b p e = absurd cc
+
+pub ballot_same : {a b : Ballot} → is_ballot a b ≡ true → a ≡ b
+ballot_same {a} {b} e = same_by (ballot_cmp a b) a b (compared a b) e
+
+pub ballot_is : {a b : Ballot} → a ≡ b → is_ballot a b ≡ true
+ballot_is {a} {b} e = subst (λ x. is_ballot a x ≡ true) e (ap is_eq (cmp_refl a))
+
+lt_by : (r : Ordering) (a b : Ballot) → MatchOrdering r (BallotLess a b) (a ≡ b) (BallotLess b a) → is_lt r ≡ true → BallotLess a b
+lt_by Less a b p e = p
+lt_by Equal a b p e = absurd cc
+lt_by Greater a b p e = absurd cc
+
+pub less_tells : {a b : Ballot} → is_lt (ballot_cmp a b) ≡ true → BallotLess a b
+less_tells {a} {b} e = lt_by (ballot_cmp a b) a b (compared a b) e
+
+pub less_is : {a b : Ballot} → BallotLess a b → is_lt (ballot_cmp a b) ≡ true
+less_is p = ap is_lt (cmp_of_less p)
+
+pub nat_same : {a b : ℕ} → (a == b) ≡ true → a ≡ b
+nat_same {a} {b} e = elim (eqb_tells a b) [ inl same ↦ same.1 | inr other ↦ absurd (not_both (a == b) e other.0) ]
+
+pub nat_is : {a b : ℕ} → a ≡ b → (a == b) ≡ true
+nat_is {a} {b} e = elim (eqb_tells a b) [ inl same ↦ same.0 | inr other ↦ absurd (other.1 e) ]
+
+pub call_same : {caller call c n : ℕ} → is_call caller call c n ≡ true → (c ≡ caller) × (n ≡ call)
+call_same {caller} {call} {c} {n} e = (nat_same (and_left (c == caller) (n == call) e), nat_same (and_right (c == caller) (n == call) e))
+
+pub call_is : {caller call c n : ℕ} → c ≡ caller → n ≡ call → is_call caller call c n ≡ true
+call_is {caller} {call} {c} {n} p q = both_true (c == caller) (n == call) (nat_is p) (nat_is q)
+
+-- ---- proposals of a ballot
+pub record IsProposalOf (key : List ℕ) (ballot : Ballot) (p : Proposal) : Type 0 where
+  pub same_key : p.key ≡ key
+  pub same_ballot : p.ballot ≡ ballot
+  pub not_zero : ballot ≡ zero_ballot → ⊥
+
+pub proposal_tells : (key : List ℕ) (ballot : Ballot) (p : Proposal) → is_proposal key ballot p ≡ true → IsProposalOf key ballot p
+proposal_tells key ballot p e =
+    let rest : (is_ballot p.ballot ballot && not (is_ballot ballot zero_ballot)) ≡ true = and_right (is_key p.key key) _ e in
+    record {
+      same_key = key_same (and_left (is_key p.key key) _ e);
+      same_ballot = ballot_same (and_left (is_ballot p.ballot ballot) _ rest);
+      not_zero = λ z. not_both (is_ballot ballot zero_ballot) (ballot_is z) (not_tells (is_ballot ballot zero_ballot) (and_right (is_ballot p.ballot ballot) _ rest));
+    }
+
+pub proposal_is : {key : List ℕ} {ballot : Ballot} {p : Proposal} → IsProposalOf key ballot p → is_proposal key ballot p ≡ true
+proposal_is {key} {ballot} {p} of =
+    both_true (is_key p.key key) _ (key_is of.same_key)
+    (both_true (is_ballot p.ballot ballot) _ (ballot_is of.same_ballot)
+    (not_of_false (is_ballot ballot zero_ballot) (false_of_not _ (λ e. of.not_zero (ballot_same e)))))
+
+-- ---- the greater of what is met so far and one more, where a test lets it
+pub step_right : (t : Bool) (x y : Ballot) → BallotAtMost y (cond t (greater_of x y) y)
+step_right true x y = at_most_greater_right x y
+step_right false x y = at_most_refl y
+
+pub step_left : (t : Bool) (x y : Ballot) → t ≡ true → BallotAtMost x (cond t (greater_of x y) y)
+step_left true x y e = at_most_greater_left x y
+step_left false x y e = absurd cc
+
+pub step_cases : (t : Bool) (x y : Ballot) → (cond t (greater_of x y) y ≡ y) ⊎ ((t ≡ true) × (cond t (greater_of x y) y ≡ x))
+step_cases true x y = elim (greater_cases x y) [ inl left ↦ inr (refl, left.0) | inr right ↦ inl right.0 ]
+step_cases false x y = inl refl

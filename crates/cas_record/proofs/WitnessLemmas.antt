@@ -1,0 +1,13 @@
+-- The witness stands.
+use Rattle.std.proofs.Common.{refl, reverse}
+use Rattle.cas_record.specs.Witness.{small_cluster, happened, WitnessStands}
+use Rattle.cas_record.proofs.Checks.{lawful_checked}
+use Rattle.cas_record.proofs.Quorums.{small_meet}
+
+pub witness_stands : WitnessStands
+witness_stands = record {
+  meet = small_meet;
+  lawful = lawful_checked small_cluster (reverse happened) refl;
+  settled = refl;
+  state = refl;
+}

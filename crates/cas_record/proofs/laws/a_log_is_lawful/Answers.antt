@@ -1,0 +1,5 @@
+use Rattle.cas_record.proofs.WitnessLemmas.{witness_stands}
+use Rattle.cas_record.proofs.laws.a_log_is_lawful.Goals as goal
+
+pub returns : goal.returns
+returns c = witness_stands
