@@ -1,0 +1,3 @@
+mod Epochs
+pub mod Moments
+mod Tearing

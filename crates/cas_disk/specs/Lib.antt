@@ -1,0 +1,5 @@
+pub mod Disk
+pub mod File
+pub mod Medium
+pub mod MediumLaws
+pub mod Memory
