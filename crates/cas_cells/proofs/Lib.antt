@@ -1,0 +1,10 @@
+mod Frames
+mod Growing
+mod Leaving
+mod Recovering
+mod Rows
+mod Sound
+pub mod Survival
+mod Tearing
+mod Turning
+mod Using

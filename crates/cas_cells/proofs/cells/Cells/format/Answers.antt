@@ -1,0 +1,26 @@
+use Rattle.std.proofs.Common.{◌≡◌, [], ◌∷◌, Some, Option, map, sym, ◌∙◌, ap, subst, arith, ℕ, List}
+use Rattle.std.proofs.lemmas.Grind.{common_steps}
+use Rattle.cas_cells.specs.Held.{IsRow, OnDisk, payload_held}
+use Rattle.cas_cells.specs.declared.cell.Cell.{Cell}
+use Rattle.cas_cells.proofs.Using.{blank_stands, only_cell}
+use Rattle.cas_cells.proofs.cells.Cells.format.Goals as goal
+
+pub change_cell-requires-clause-held : goal.change_cell-requires-clause-held
+change_cell-requires-clause-held g c tells =
+    let shut = c.in_ok-write_blank.ensures.blank tells in
+    blank_stands (g.D.Disk.seen c.write_blank.new.disk) 0 c.blank-cell.result c.blank-cell.ensures.blank c.blank-cell.ensures.none shut.0 shut.1
+
+pub returns-clause-stands : goal.returns-clause-stands
+returns-clause-stands g c =
+    let cells : c.push_cell.new.cells.items ≡ c.change_cell.new.cell ∷ [] = grind (arith, common_steps) in
+    let copied : c.in_ok-payload.payload.items ≡ c.args.payload.now = grind (arith, common_steps) in
+    let held : payload_held c.change_cell.new.cell ≡ Some c.args.payload.now = c.in_ok-change_cell.ensures.changed ∙ ap (λ (l : List ℕ). Some l) copied in
+    let row : IsRow (Some c.args.payload.now ∷ []) = sym c.requires.no_cells in
+    let row_held : IsRow (map payload_held (c.change_cell.new.cell ∷ [])) = subst (λ (o : Option (List ℕ)). IsRow (o ∷ [])) (sym held) row in
+    record {
+      row = subst (λ (l : List Cell). IsRow (map payload_held l)) (sym cells) row_held;
+      agrees = tt;
+      on_disk = λ tells. subst (λ (l : List Cell). OnDisk (g.D.Disk.seen c.change_cell.new.disk) l) (sym cells) (only_cell (g.D.Disk.seen c.change_cell.new.disk) c.change_cell.new.cell (c.in_ok-change_cell.ensures.held tells));
+      under_way = λ tells. tt;
+      durable = λ tells. c.in_ok-change_cell.ensures.durable tells;
+    }

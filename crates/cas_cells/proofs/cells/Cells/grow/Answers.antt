@@ -1,0 +1,208 @@
+use Rattle.std.specs.Prelude.{slice_get, IsTrue}
+use Rattle.std.proofs.Common.{◌≡◌, inl, ◌+◌, ◌*◌, ◌<◌, ◌≤◌, ◌++◌, ◌∷◌, [], Some, Err, Option, map, length, get_or, refl, sym, ◌∙◌, ap, subst, arith, ℕ, List}
+use Rattle.std.proofs.Math.ListN.{set, length-set}
+use Rattle.std.proofs.lemmas.List.{length-map, map-append}
+use Rattle.cas_disk.specs.declared.disk.DiskFault.{DiskFault}
+use Rattle.cas_disk.proofs.Moments.{at_rest, weaker, then_on}
+use Rattle.cas_cells.specs.Format.{frame_at, count_in, is_head, head_in, with_count, grown, IsBeforeOrAfter}
+use Rattle.cas_cells.specs.Torn.{SameBelow}
+use Rattle.cas_cells.specs.UnderWay.{change_held}
+use Rattle.cas_cells.specs.Held.{MayOpen, IsShut, IsRow, OnDisk, CellHeld, payload_held, frame_of, other}
+use Rattle.cas_cells.specs.Cells.{cells_of, Agrees, IsUnderWay}
+use Rattle.cas_cells.specs.declared.cell.Cell.{Cell}
+use Rattle.cas_cells.proofs.Rows.{disk_set, map_set, frame_of_apart}
+use Rattle.cas_cells.proofs.Using.{told_no_memory, row_length, at_index, view_same, stands_kept, stands_now, blank_stands}
+use Rattle.cas_cells.proofs.Growing.{room_behind, on_below, below_stands, disk_push, grown_is, grown_row, growing_stands, blank_behind, frame_below, still_under_way}
+use Rattle.cas_cells.proofs.cells.Cells.grow.Goals as goal
+
+pub returns-in_err-head-clause-any_moment : goal.returns-in_err-head-clause-any_moment
+returns-in_err-head-clause-any_moment g c tells =
+    let s = c.requires.stands in
+    let disk = c.args.self.now.disk in
+    at_rest g.D.Disk.moment g.D.Disk.left_since disk (g.D.Disk.seen disk) (g.D.Disk.may_leave disk) (IsBeforeOrAfter (cells_of c.args.self.now) (grown (cells_of c.args.self.now)))
+    (λ image left. g.met.D.Disk.only_now disk image tells left) (s.durable tells) (inl (stands_now g.D.Disk.tells g.D.Disk.seen g.D.Disk.may_leave c.args.self.now s tells))
+
+pub returns-in_err-reserve-clause-any_moment : goal.returns-in_err-reserve-clause-any_moment
+returns-in_err-reserve-clause-any_moment g c tells =
+    let s = c.requires.stands in
+    let disk = c.args.self.now.disk in
+    at_rest g.D.Disk.moment g.D.Disk.left_since disk (g.D.Disk.seen disk) (g.D.Disk.may_leave disk) (IsBeforeOrAfter (cells_of c.args.self.now) (grown (cells_of c.args.self.now)))
+    (λ image left. g.met.D.Disk.only_now disk image tells left) (s.durable tells) (inl (stands_now g.D.Disk.tells g.D.Disk.seen g.D.Disk.may_leave c.args.self.now s tells))
+
+pub returns-in_err-reserve-clause-after_no_memory : goal.returns-in_err-reserve-clause-after_no_memory
+returns-in_err-reserve-clause-after_no_memory g c no_memory =
+    stands_kept g.D.Disk.tells g.D.Disk.seen g.D.Disk.may_leave c.args.self.now _ c.requires.stands c.reserve.ensures.items refl
+    (λ tells. record { content = refl; outcomes = λ image left. left })
+
+pub write_blank-requires-clause-room : goal.write_blank-requires-clause-room
+write_blank-requires-clause-room g c tells =
+    let s = c.requires.stands in
+    let cells = c.args.self.now.cells.items in
+    let view = map payload_held cells in
+    let old = g.D.Disk.seen c.args.self.now.disk in
+    let count_is : c.count_of-count.result ≡ count_in view = c.count_of-count.ensures ∙ ap (λ (l : List Cell). count_in (map payload_held l)) c.deref.ensures.value in
+    let index : c.count_of-count.result + 1 ≡ length cells = omega (arith, count_is, row_length view s.row, length-map cells payload_held) in
+    subst (λ (n : ℕ). 1024 * (n + 1) ≤ length old) (sym count_is) (room_behind old cells (s.on_disk tells) s.row)
+
+pub returns-in_err-write_blank-clause-after_no_memory : goal.returns-in_err-write_blank-clause-after_no_memory
+returns-in_err-write_blank-clause-after_no_memory g c no_memory =
+    let fault = told_no_memory c.from_residual-in_err-write_blank.result c.in_err-write_blank.field-0.0 c.from_residual-in_err-write_blank.ensures.1 no_memory in
+    stands_kept g.D.Disk.tells g.D.Disk.seen g.D.Disk.may_leave c.args.self.now _ c.requires.stands c.reserve.ensures.items refl
+    (λ tells. c.write_blank.ensures.unchanged tells (c.in_err-write_blank.was ∙ ap (λ (e : DiskFault). Err e) fault))
+
+pub returns-in_err-write_blank-clause-any_moment : goal.returns-in_err-write_blank-clause-any_moment
+returns-in_err-write_blank-clause-any_moment g c tells =
+    let s = c.requires.stands in
+    let cells = c.args.self.now.cells.items in
+    let view = map payload_held cells in
+    let old = g.D.Disk.seen c.args.self.now.disk in
+    let count_is : c.count_of-count.result ≡ count_in view = c.count_of-count.ensures ∙ ap (λ (l : List Cell). count_in (map payload_held l)) c.deref.ensures.value in
+    let index : c.count_of-count.result + 1 ≡ length cells = omega (arith, count_is, row_length view s.row, length-map cells payload_held) in
+    weaker g.D.Disk.moment g.D.Disk.left_since c.args.self.now.disk c.write_blank.new.disk (SameBelow (2 * (c.count_of-count.result + 1)) old) (IsBeforeOrAfter view (grown view))
+    (λ image below. inl (below_stands cells old image (c.count_of-count.result + 1) (omega (arith, index)) (s.on_disk tells) s.row below)) (c.write_blank.ensures.any_moment tells (s.durable tells))
+
+pub change_cell-requires-clause-held : goal.change_cell-requires-clause-held
+change_cell-requires-clause-held g c tells =
+    let s = c.requires.stands in
+    let cells = c.args.self.now.cells.items in
+    let view = map payload_held cells in
+    let old = g.D.Disk.seen c.args.self.now.disk in
+    let count_is : c.count_of-count.result ≡ count_in view = c.count_of-count.ensures ∙ ap (λ (l : List Cell). count_in (map payload_held l)) c.deref.ensures.value in
+    let index : c.count_of-count.result + 1 ≡ length cells = omega (arith, count_is, row_length view s.row, length-map cells payload_held) in
+    let mid = g.D.Disk.seen c.write_blank.new.disk in
+    let cell = c.index_mut.result.now in
+    let is : slice_get cells 0 ≡ Some cell = at_index cells 0 cell s.row (omega arith) (subst (λ (l : List Cell). cell ≡ get_or l 0 cell) c.reserve.ensures.items c.index_mut.ensures.value) in
+    on_below cells old mid (c.count_of-count.result + 1) (omega (arith, index)) (s.on_disk tells) (c.in_ok-write_blank.ensures.below tells) 0 cell is
+
+pub returns-in_err-change_cell-clause-after_no_memory : goal.returns-in_err-change_cell-clause-after_no_memory
+returns-in_err-change_cell-clause-after_no_memory g c no_memory =
+    let s = c.requires.stands in
+    let cells = c.args.self.now.cells.items in
+    let view = map payload_held cells in
+    let old = g.D.Disk.seen c.args.self.now.disk in
+    let count_is : c.count_of-count.result ≡ count_in view = c.count_of-count.ensures ∙ ap (λ (l : List Cell). count_in (map payload_held l)) c.deref.ensures.value in
+    let index : c.count_of-count.result + 1 ≡ length cells = omega (arith, count_is, row_length view s.row, length-map cells payload_held) in
+    let mid = g.D.Disk.seen c.write_blank.new.disk in
+    let cell = c.index_mut.result.now in
+    let is : slice_get cells 0 ≡ Some cell = at_index cells 0 cell s.row (omega arith) (subst (λ (l : List Cell). cell ≡ get_or l 0 cell) c.reserve.ensures.items c.index_mut.ensures.value) in
+    let new = g.D.Disk.seen c.change_cell.new.disk in
+    let m1 = c.change_cell.new.cell in
+    let fault = told_no_memory c.from_residual-in_err-change_cell.result c.in_err-change_cell.field-0.0 c.from_residual-in_err-change_cell.ensures.1 no_memory in
+    let answer = c.in_err-change_cell.was ∙ ap (λ (e : DiskFault). Err e) fault in
+    let items = sym c.reserve.ensures.items in
+    let view_is = view_same cells 0 cell m1 is c.in_err-change_cell.ensures.same in
+    let within : 0 < length cells = omega (arith, index) in
+    record {
+      row = subst (λ (l : List Cell). IsRow (map payload_held (set l 0 m1))) items (subst IsRow (sym view_is) s.row);
+      agrees = subst (λ (l : List Cell). Agrees (change_held c.write_over.new.change) (map payload_held (set l 0 m1))) items
+          (subst (λ (v : List (Option (List ℕ))). Agrees (change_held c.write_over.new.change) v) (sym view_is)
+          (subst (λ (h : Option (ℕ × Option (List ℕ))). Agrees h view) (sym c.write_over.ensures.held) s.agrees));
+      on_disk = λ tells.
+          let still = c.change_cell.ensures.still tells answer in
+          let on_mid = on_below cells old mid (c.count_of-count.result + 1) (omega (arith, index)) (s.on_disk tells) (c.in_ok-write_blank.ensures.below tells) in
+          subst (λ (l : List Cell). OnDisk new (set l 0 m1)) items (disk_set cells mid new 0 (other cell.side) m1 on_mid still.others within still.held);
+      under_way = λ tells.
+          let still = c.change_cell.ensures.still tells answer in
+          subst (λ (l : List Cell). IsUnderWay new (set l 0 m1) c.write_over.new.change) items
+          (still_under_way old new cells cell m1 c.args.self.now.change c.write_over.new.change (s.under_way tells) c.write_over.ensures.over c.write_over.ensures.others c.write_over.ensures.held is c.in_err-change_cell.ensures.shut
+          (λ j side less apart. still.others (frame_of j side) (frame_of_apart 0 j (other cell.side) side apart) ∙ c.in_ok-write_blank.ensures.below tells (frame_of j side) (frame_below j (c.count_of-count.result + 1) side (omega (arith, less, index)))));
+      durable = λ tells. (c.change_cell.ensures.still tells answer).durable;
+    }
+
+pub returns-in_err-change_cell-clause-any_moment : goal.returns-in_err-change_cell-clause-any_moment
+returns-in_err-change_cell-clause-any_moment g c tells =
+    let s = c.requires.stands in
+    let cells = c.args.self.now.cells.items in
+    let view = map payload_held cells in
+    let old = g.D.Disk.seen c.args.self.now.disk in
+    let count_is : c.count_of-count.result ≡ count_in view = c.count_of-count.ensures ∙ ap (λ (l : List Cell). count_in (map payload_held l)) c.deref.ensures.value in
+    let index : c.count_of-count.result + 1 ≡ length cells = omega (arith, count_is, row_length view s.row, length-map cells payload_held) in
+    let mid = g.D.Disk.seen c.write_blank.new.disk in
+    let cell = c.index_mut.result.now in
+    let is : slice_get cells 0 ≡ Some cell = at_index cells 0 cell s.row (omega arith) (subst (λ (l : List Cell). cell ≡ get_or l 0 cell) c.reserve.ensures.items c.index_mut.ensures.value) in
+    let head = with_count (head_in view) (count_in view + 1) in
+    let head_is : c.in_ok-head.head.items ≡ head =
+    c.in_ok-head.ensures.head
+    ∙ ap (λ (l : List Cell). with_count (head_in (map payload_held l)) (c.count_of-count.result + 1)) c.deref-2.ensures.value
+    ∙ ap (λ (n : ℕ). with_count (head_in view) (n + 1)) count_is in
+    let is_head_old : IsTrue (is_head (head_in view)) = c.requires.head in
+    let on_mid = on_below cells old mid (c.count_of-count.result + 1) (omega (arith, index)) (s.on_disk tells) (c.in_ok-write_blank.ensures.below tells) in
+    let blanks = subst (λ (n : ℕ). IsShut (frame_at mid (2 * n)) × IsShut (frame_at mid (2 * n + 1))) index (c.in_ok-write_blank.ensures.blank tells) in
+    then_on g.D.Disk.moment g.D.Disk.left_since c.args.self.now.disk c.write_blank.new.disk c.change_cell.new.disk (IsBeforeOrAfter view (grown view))
+    (weaker g.D.Disk.moment g.D.Disk.left_since c.args.self.now.disk c.write_blank.new.disk (SameBelow (2 * (c.count_of-count.result + 1)) old) (IsBeforeOrAfter view (grown view))
+    (λ image below. inl (below_stands cells old image (c.count_of-count.result + 1) (omega (arith, index)) (s.on_disk tells) s.row below)) (c.write_blank.ensures.any_moment tells (s.durable tells)))
+    (weaker g.D.Disk.moment g.D.Disk.left_since c.write_blank.new.disk c.change_cell.new.disk (MayOpen (frame_of 0 (other cell.side)) mid 0 (payload_held cell) c.in_ok-head.head.items) (IsBeforeOrAfter view (grown view))
+    (λ image opens. growing_stands cells mid image cell on_mid s.row is_head_old c.requires.room is blanks.0 blanks.1
+    (subst (λ (p : List ℕ). MayOpen (frame_of 0 (other cell.side)) mid 0 (payload_held cell) p image) head_is opens)) (c.change_cell.ensures.any_moment tells))
+
+pub returns-clause-any_moment : goal.returns-clause-any_moment
+returns-clause-any_moment g c tells =
+    let s = c.requires.stands in
+    let cells = c.args.self.now.cells.items in
+    let view = map payload_held cells in
+    let old = g.D.Disk.seen c.args.self.now.disk in
+    let count_is : c.count_of-count.result ≡ count_in view = c.count_of-count.ensures ∙ ap (λ (l : List Cell). count_in (map payload_held l)) c.deref.ensures.value in
+    let index : c.count_of-count.result + 1 ≡ length cells = omega (arith, count_is, row_length view s.row, length-map cells payload_held) in
+    let mid = g.D.Disk.seen c.write_blank.new.disk in
+    let cell = c.index_mut.result.now in
+    let is : slice_get cells 0 ≡ Some cell = at_index cells 0 cell s.row (omega arith) (subst (λ (l : List Cell). cell ≡ get_or l 0 cell) c.reserve.ensures.items c.index_mut.ensures.value) in
+    let head = with_count (head_in view) (count_in view + 1) in
+    let head_is : c.in_ok-head.head.items ≡ head =
+    c.in_ok-head.ensures.head
+    ∙ ap (λ (l : List Cell). with_count (head_in (map payload_held l)) (c.count_of-count.result + 1)) c.deref-2.ensures.value
+    ∙ ap (λ (n : ℕ). with_count (head_in view) (n + 1)) count_is in
+    let is_head_old : IsTrue (is_head (head_in view)) = c.requires.head in
+    let on_mid = on_below cells old mid (c.count_of-count.result + 1) (omega (arith, index)) (s.on_disk tells) (c.in_ok-write_blank.ensures.below tells) in
+    let blanks = subst (λ (n : ℕ). IsShut (frame_at mid (2 * n)) × IsShut (frame_at mid (2 * n + 1))) index (c.in_ok-write_blank.ensures.blank tells) in
+    then_on g.D.Disk.moment g.D.Disk.left_since c.args.self.now.disk c.write_blank.new.disk c.change_cell.new.disk (IsBeforeOrAfter view (grown view))
+    (weaker g.D.Disk.moment g.D.Disk.left_since c.args.self.now.disk c.write_blank.new.disk (SameBelow (2 * (c.count_of-count.result + 1)) old) (IsBeforeOrAfter view (grown view))
+    (λ image below. inl (below_stands cells old image (c.count_of-count.result + 1) (omega (arith, index)) (s.on_disk tells) s.row below)) (c.write_blank.ensures.any_moment tells (s.durable tells)))
+    (weaker g.D.Disk.moment g.D.Disk.left_since c.write_blank.new.disk c.change_cell.new.disk (MayOpen (frame_of 0 (other cell.side)) mid 0 (payload_held cell) c.in_ok-head.head.items) (IsBeforeOrAfter view (grown view))
+    (λ image opens. growing_stands cells mid image cell on_mid s.row is_head_old c.requires.room is blanks.0 blanks.1
+    (subst (λ (p : List ℕ). MayOpen (frame_of 0 (other cell.side)) mid 0 (payload_held cell) p image) head_is opens)) (c.change_cell.ensures.any_moment tells))
+
+pub returns-clause-stands : goal.returns-clause-stands
+returns-clause-stands g c =
+    let s = c.requires.stands in
+    let cells = c.args.self.now.cells.items in
+    let view = map payload_held cells in
+    let old = g.D.Disk.seen c.args.self.now.disk in
+    let count_is : c.count_of-count.result ≡ count_in view = c.count_of-count.ensures ∙ ap (λ (l : List Cell). count_in (map payload_held l)) c.deref.ensures.value in
+    let index : c.count_of-count.result + 1 ≡ length cells = omega (arith, count_is, row_length view s.row, length-map cells payload_held) in
+    let mid = g.D.Disk.seen c.write_blank.new.disk in
+    let cell = c.index_mut.result.now in
+    let is : slice_get cells 0 ≡ Some cell = at_index cells 0 cell s.row (omega arith) (subst (λ (l : List Cell). cell ≡ get_or l 0 cell) c.reserve.ensures.items c.index_mut.ensures.value) in
+    let head = with_count (head_in view) (count_in view + 1) in
+    let head_is : c.in_ok-head.head.items ≡ head =
+    c.in_ok-head.ensures.head
+    ∙ ap (λ (l : List Cell). with_count (head_in (map payload_held l)) (c.count_of-count.result + 1)) c.deref-2.ensures.value
+    ∙ ap (λ (n : ℕ). with_count (head_in view) (n + 1)) count_is in
+    let is_head_old : IsTrue (is_head (head_in view)) = c.requires.head in
+    let new = g.D.Disk.seen c.change_cell.new.disk in
+    let m1 = c.change_cell.new.cell in
+    let items = c.reserve.ensures.items in
+    let pushed = c.push_blank.ensures in
+    let blank = pushed.0 in
+    let within : 0 < length cells = omega (arith, index) in
+    let changed : payload_held m1 ≡ Some head = c.in_ok-change_cell.ensures.changed ∙ ap (λ (l : List ℕ). Some l) head_is in
+    let cells_is : c.push_blank.new.cells.items ≡ set cells 0 m1 ++ blank ∷ [] = pushed.1 ∙ ap (λ (l : List Cell). set l 0 m1 ++ blank ∷ []) items in
+    let view_is : map payload_held (set cells 0 m1 ++ blank ∷ []) ≡ grown view =
+    map-append payload_held (set cells 0 m1) (blank ∷ [])
+    ∙ ap (λ (v : List (Option (List ℕ))). v ++ payload_held blank ∷ []) (map_set payload_held cells 0 m1 ∙ ap (λ (o : Option (List ℕ)). set view 0 o) changed)
+    ∙ ap (λ (o : Option (List ℕ)). set view 0 (Some head) ++ o ∷ []) pushed.3
+    ∙ sym (grown_is view s.row) in
+    record {
+      row = subst (λ (l : List Cell). IsRow (map payload_held l)) (sym cells_is) (subst IsRow (sym view_is) (grown_row view s.row is_head_old c.requires.room));
+      agrees = tt;
+      on_disk = λ tells.
+          let on_mid = on_below cells old mid (c.count_of-count.result + 1) (omega (arith, index)) (s.on_disk tells) (c.in_ok-write_blank.ensures.below tells) in
+          let blanks = subst (λ (n : ℕ). IsShut (frame_at mid (2 * n)) × IsShut (frame_at mid (2 * n + 1))) index (c.in_ok-write_blank.ensures.blank tells) in
+          let others = c.in_ok-change_cell.ensures.others tells in
+          let still_blank = blank_behind cells mid new (other cell.side) within others blanks in
+          let held_blank = blank_stands new (length cells) blank pushed.2 pushed.3 still_blank.0 still_blank.1 in
+          subst (λ (l : List Cell). OnDisk new l) (sym cells_is)
+          (disk_push (set cells 0 m1) new blank (disk_set cells mid new 0 (other cell.side) m1 on_mid others within (c.in_ok-change_cell.ensures.held tells))
+          (subst (λ (n : ℕ). CellHeld new n blank) (sym (length-set cells 0 m1)) held_blank));
+      under_way = λ tells. tt;
+      durable = λ tells. c.in_ok-change_cell.ensures.durable tells;
+    }

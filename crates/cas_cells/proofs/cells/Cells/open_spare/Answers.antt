@@ -1,0 +1,135 @@
+use Rattle.std.proofs.Common.{◌≡◌, ◌⊎◌, ◌<◌, Some, Err, Option, false, true, map, length, sym, ◌∙◌, ap, subst, ℕ, List}
+use Rattle.std.proofs.Math.ListN.{set}
+use Rattle.cas_disk.specs.declared.disk.DiskFault.{DiskFault}
+use Rattle.cas_disk.specs.declared.disk.DiskFault.TheVariants.{NoMemory as NoMemoryOfDisk}
+use Rattle.cas_disk.proofs.Moments.{weaker}
+use Rattle.cas_cells.specs.Format.{StandsFor, IsBeforeOrAfter}
+use Rattle.cas_cells.specs.UnderWay.{change_held, staged_in}
+use Rattle.cas_cells.specs.Held.{MayOpen, HoldsTail, Opens, IsRow, payload_held, frame_of, other}
+use Rattle.cas_cells.specs.Cells.{staged_of, Agrees, IsUnderWay}
+use Rattle.cas_cells.specs.declared.cell.Cell.{Cell}
+use Rattle.cas_cells.specs.declared.change.Change.{Change}
+use Rattle.cas_cells.specs.declared.fault.CellFault.TheVariants.{NoMemory}
+use Rattle.cas_cells.proofs.Rows.{disk_set, disk_kept, map_set}
+use Rattle.cas_cells.proofs.Using.{no_memory_of_disk, within_row, at_index, may_open_stands, row_changed, same_cell}
+use Rattle.cas_cells.proofs.cells.Cells.open_spare.Goals as goal
+
+pub open_spare-answer-requires-clause-held : goal.open_spare-answer-requires-clause-held
+open_spare-answer-requires-clause-held g c tells =
+    let s = c.requires.stands in
+    let is = at_index c.args.self.now.cells.items c.args.cell c.index-held.result.now s.row c.requires.within c.index-held.ensures in
+    s.on_disk tells c.args.cell c.index-held.result.now is
+
+pub open_spare-answer-requires-clause-shut : goal.open_spare-answer-requires-clause-shut
+open_spare-answer-requires-clause-shut g c tells =
+    let s = c.requires.stands in
+    let cells = c.args.self.now.cells.items in
+    let is = at_index cells c.args.cell c.index-held.result.now s.row c.requires.within c.index-held.ensures in
+    let way = subst (λ (ch : Option Change). IsUnderWay (g.D.Disk.seen c.args.self.now.disk) cells ch) c.take_staged-staged.ensures.taken (s.under_way tells) in
+    (way c.index-held.result.now is).0
+
+pub open_spare-answer-requires-clause-staged : goal.open_spare-answer-requires-clause-staged
+open_spare-answer-requires-clause-staged g c tells kept =
+    let s = c.requires.stands in
+    let cells = c.args.self.now.cells.items in
+    let old = g.D.Disk.seen c.args.self.now.disk in
+    let cell = c.index-held.result.now in
+    let is = at_index cells c.args.cell cell s.row c.requires.within c.index-held.ensures in
+    let way = subst (λ (ch : Option Change). IsUnderWay old cells ch) c.take_staged-staged.ensures.taken (s.under_way tells) in
+    subst (λ (l : List ℕ). HoldsTail old c.args.cell cell l) (sym c.deref.ensures.value) ((way cell is).1 kept)
+
+pub returns-in-Err-clause-after_no_memory : goal.returns-in-Err-clause-after_no_memory
+returns-in-Err-clause-after_no_memory g c no_memory =
+    let s = c.requires.stands in
+    let cells = c.args.self.now.cells.items in
+    let old = g.D.Disk.seen c.args.self.now.disk in
+    let new = g.D.Disk.seen c.open_spare-answer.new.disk in
+    let cell = c.index-held.result.now in
+    let is = at_index cells c.args.cell cell s.row c.requires.within c.index-held.ensures in
+    let told : c.from.result ≡ NoMemory = cc in
+    let fault : c.in-Err.fault ≡ NoMemoryOfDisk = no_memory_of_disk c.in-Err.fault (sym c.from.ensures ∙ told) in
+    let answer = c.in-Err.is ∙ ap (λ (e : DiskFault). Err e) fault in
+    let agrees = subst (λ (ch : Option Change). Agrees (change_held ch) (map payload_held cells)) c.take_staged-staged.ensures.taken s.agrees in
+    record {
+      row = s.row;
+      agrees = agrees;
+      on_disk = λ tells. let still = c.open_spare-answer.ensures.still tells answer in disk_kept cells old new c.args.cell (other cell.side) cell (s.on_disk tells) still.others is still.held;
+      under_way = λ tells cell'' is''.
+          let same : cell ≡ cell'' = same_cell cells c.args.cell cell cell'' is is'' in
+          let way = subst (λ (ch : Option Change). IsUnderWay old cells ch) c.take_staged-staged.ensures.taken (s.under_way tells) in
+          let shut : cell.spare_open ≡ false = (way cell is).0 in
+          let staged : (c.open_spare-answer.new.kept ≡ true) → HoldsTail new c.args.cell cell c.take_staged-staged.result.payload.items =
+          λ (kept : c.open_spare-answer.new.kept ≡ true). subst (λ (l : List ℕ). HoldsTail new c.args.cell cell l) c.deref.ensures.value (c.open_spare-answer.ensures.staged tells answer kept) in
+          subst (λ (m : Cell). (m.spare_open ≡ false) × (c.open_spare-answer.new.kept ≡ true → HoldsTail new c.args.cell m c.take_staged-staged.result.payload.items)) same (shut, staged);
+      durable = λ tells. (c.open_spare-answer.ensures.still tells answer).durable;
+    }
+
+pub returns-in-Err-clause-any_moment : goal.returns-in-Err-clause-any_moment
+returns-in-Err-clause-any_moment g c tells =
+    let s = c.requires.stands in
+    let i = c.args.cell in
+    let cells = c.args.self.now.cells.items in
+    let view = map payload_held cells in
+    let old = g.D.Disk.seen c.args.self.now.disk in
+    let cell = c.index-held.result.now in
+    let p = c.take_staged-staged.result.payload.items in
+    let is = at_index cells i cell s.row c.requires.within c.index-held.ensures in
+    let agrees = subst (λ (ch : Option Change). Agrees (change_held ch) view) c.take_staged-staged.ensures.taken s.agrees in
+    let named : staged_of c.args.self.now ≡ p = ap (λ (ch : Option Change). staged_in (change_held ch)) c.take_staged-staged.ensures.taken in
+    weaker g.D.Disk.moment g.D.Disk.left_since c.args.self.now.disk c.open_spare-answer.new.disk (MayOpen (frame_of i (other cell.side)) old i (payload_held cell) c.deref.result.now) (IsBeforeOrAfter view (set view i (Some (staged_of c.args.self.now))))
+    (λ image opens. subst (λ (q : List ℕ). StandsFor view image ⊎ StandsFor (set view i (Some q)) image) (sym named)
+    (may_open_stands cells old image i cell p (s.on_disk tells) s.row is (within_row cells i s.row c.requires.within) (row_changed view i p s.row agrees.1)
+    (subst (λ (q : List ℕ). MayOpen (frame_of i (other cell.side)) old i (payload_held cell) q image) c.deref.ensures.value opens)))
+    (c.open_spare-answer.ensures.any_moment tells)
+
+pub returns-clause-any_moment : goal.returns-clause-any_moment
+returns-clause-any_moment g c tells =
+    let s = c.requires.stands in
+    let i = c.args.cell in
+    let cells = c.args.self.now.cells.items in
+    let view = map payload_held cells in
+    let old = g.D.Disk.seen c.args.self.now.disk in
+    let cell = c.index-held.result.now in
+    let p = c.take_staged-staged.result.payload.items in
+    let is = at_index cells i cell s.row c.requires.within c.index-held.ensures in
+    let agrees = subst (λ (ch : Option Change). Agrees (change_held ch) view) c.take_staged-staged.ensures.taken s.agrees in
+    let named : staged_of c.args.self.now ≡ p = ap (λ (ch : Option Change). staged_in (change_held ch)) c.take_staged-staged.ensures.taken in
+    weaker g.D.Disk.moment g.D.Disk.left_since c.args.self.now.disk c.open_spare-answer.new.disk (MayOpen (frame_of i (other cell.side)) old i (payload_held cell) c.deref.result.now) (IsBeforeOrAfter view (set view i (Some (staged_of c.args.self.now))))
+    (λ image opens. subst (λ (q : List ℕ). StandsFor view image ⊎ StandsFor (set view i (Some q)) image) (sym named)
+    (may_open_stands cells old image i cell p (s.on_disk tells) s.row is (within_row cells i s.row c.requires.within) (row_changed view i p s.row agrees.1)
+    (subst (λ (q : List ℕ). MayOpen (frame_of i (other cell.side)) old i (payload_held cell) q image) c.deref.ensures.value opens)))
+    (c.open_spare-answer.ensures.any_moment tells)
+
+pub returns-clause-changed : goal.returns-clause-changed
+returns-clause-changed g c =
+    let cells = c.args.self.now.cells.items in
+    let named : staged_of c.args.self.now ≡ c.take_staged-staged.result.payload.items = ap (λ (ch : Option Change). staged_in (change_held ch)) c.take_staged-staged.ensures.taken in
+    map_set payload_held cells c.args.cell c.turn.new.cell
+    ∙ ap (λ (o : Option (List ℕ)). set (map payload_held cells) c.args.cell o) (c.turn.ensures.held ∙ ap (λ (l : List ℕ). Some l) (sym named))
+
+pub returns-clause-stands : goal.returns-clause-stands
+returns-clause-stands g c =
+    let s = c.requires.stands in
+    let i = c.args.cell in
+    let cells = c.args.self.now.cells.items in
+    let view = map payload_held cells in
+    let old = g.D.Disk.seen c.args.self.now.disk in
+    let new = g.D.Disk.seen c.open_spare-answer.new.disk in
+    let cell = c.index-held.result.now in
+    let p = c.take_staged-staged.result.payload.items in
+    let is = at_index cells i cell s.row c.requires.within c.index-held.ensures in
+    let within : i < length cells = within_row cells i s.row c.requires.within in
+    let is_mut = at_index cells i c.index_mut.result.now s.row c.requires.within c.index_mut.ensures.value in
+    let same : c.index_mut.result.now ≡ cell = same_cell cells i c.index_mut.result.now cell is_mut is in
+    let agrees = subst (λ (ch : Option Change). Agrees (change_held ch) view) c.take_staged-staged.ensures.taken s.agrees in
+    let view_is : map payload_held (set cells i c.turn.new.cell) ≡ set view i (Some p) =
+    map_set payload_held cells i c.turn.new.cell ∙ ap (λ (o : Option (List ℕ)). set view i o) c.turn.ensures.held in
+    let opens : Opens c.deref.result.now cell c.turn.new.cell =
+    subst (λ (m : Cell). Opens c.deref.result.now m c.turn.new.cell) same (subst (λ (l : List ℕ). Opens l c.index_mut.result.now c.turn.new.cell) (sym c.deref.ensures.value) c.turn.ensures) in
+    record {
+      row = subst IsRow (sym view_is) (row_changed view i p s.row agrees.1);
+      agrees = subst (λ (ch : Option Change). Agrees (change_held ch) (map payload_held (set cells i c.turn.new.cell))) (sym c.take_staged-staged.ensures.gone) tt;
+      on_disk = λ tells. disk_set cells old new i (other cell.side) c.turn.new.cell (s.on_disk tells) (c.in_default.ensures.others tells) within (c.in_default.ensures.opened tells c.turn.new.cell opens);
+      under_way = λ tells. subst (λ (ch : Option Change). IsUnderWay new (set cells i c.turn.new.cell) ch) (sym c.take_staged-staged.ensures.gone) tt;
+      durable = λ tells. c.in_default.ensures.durable tells;
+    }

@@ -1,0 +1,19 @@
+use Rattle.std.proofs.Common.{map, sym, subst, ℕ, List}
+use Rattle.cas_cells.specs.Held.{OnDisk, payload_held}
+use Rattle.cas_cells.proofs.Rows.{all_sound, stands}
+use Rattle.cas_cells.proofs.cells.Cells.recover.Goals as goal
+
+pub returns-clause-recovered : goal.returns-clause-recovered
+returns-clause-recovered g c tells =
+    let seen = g.D.Disk.seen c.args.self.now.disk in
+    let cells = c.in_ok-cells.cells.items in
+    stands seen (map payload_held cells) (all_sound seen cells (c.in_ok-cells.ensures.held tells)) c.in_ok-cells.ensures.row
+
+pub returns-clause-stands : goal.returns-clause-stands
+returns-clause-stands g c = record {
+  row = c.in_ok-cells.ensures.row;
+  agrees = tt;
+  on_disk = λ tells. subst (λ (d : List ℕ). OnDisk d c.in_ok-cells.cells.items) (sym (c.read_row.ensures.read tells).content) (c.in_ok-cells.ensures.held tells);
+  under_way = λ tells. tt;
+  durable = λ tells. (c.read_row.ensures.read tells).durable;
+}

@@ -1,0 +1,84 @@
+use Rattle.std.proofs.Common.{◌≡◌, Err, false, true, refl, sym, ◌∙◌, ap, subst, arith, ℕ, List}
+use Rattle.std.proofs.lemmas.Grind.{common_steps}
+use Rattle.cas_disk.specs.declared.disk.DiskFault.{DiskFault}
+use Rattle.cas_disk.proofs.Moments.{at_rest, weaker}
+use Rattle.cas_cells.specs.Format.{StandsFor, IsPayload, count_told, next}
+use Rattle.cas_cells.specs.Held.{Leaves, HoldsTail, payload_held, frame_of, other, tail_of}
+use Rattle.cas_cells.specs.Cells.{cells_of}
+use Rattle.cas_cells.specs.declared.cell.Cell.{Cell}
+use Rattle.cas_cells.proofs.Rows.{disk_kept}
+use Rattle.cas_cells.proofs.Using.{told_no_memory, at_index, leaves_stand, stands_kept, stands_now, shut_under_way, same_cell}
+use Rattle.cas_cells.proofs.cells.Cells.write_spare.Goals as goal
+
+pub returns-in_err-tail-clause-any_moment : goal.returns-in_err-tail-clause-any_moment
+returns-in_err-tail-clause-any_moment g c tells =
+    let s = c.requires.stands in
+    let disk = c.args.self.now.disk in
+    at_rest g.D.Disk.moment g.D.Disk.left_since disk (g.D.Disk.seen disk) (g.D.Disk.may_leave disk) (StandsFor (cells_of c.args.self.now))
+    (λ image left. g.met.D.Disk.only_now disk image tells left) (s.durable tells) (stands_now g.D.Disk.tells g.D.Disk.seen g.D.Disk.may_leave c.args.self.now s tells)
+
+pub returns-in_err-payload-clause-any_moment : goal.returns-in_err-payload-clause-any_moment
+returns-in_err-payload-clause-any_moment g c tells =
+    let s = c.requires.stands in
+    let disk = c.args.self.now.disk in
+    at_rest g.D.Disk.moment g.D.Disk.left_since disk (g.D.Disk.seen disk) (g.D.Disk.may_leave disk) (StandsFor (cells_of c.args.self.now))
+    (λ image left. g.met.D.Disk.only_now disk image tells left) (s.durable tells) (stands_now g.D.Disk.tells g.D.Disk.seen g.D.Disk.may_leave c.args.self.now s tells)
+
+pub write_spare-requires-clause-held : goal.write_spare-requires-clause-held
+write_spare-requires-clause-held g c tells =
+    let s = c.requires.stands in
+    let is = at_index c.args.self.now.cells.items c.args.cell c.index-held.result.now s.row c.requires.within c.index-held.ensures in
+    s.on_disk tells c.args.cell c.index-held.result.now is
+
+pub write_spare-requires-clause-shut : goal.write_spare-requires-clause-shut
+write_spare-requires-clause-shut g c tells =
+    let s = c.requires.stands in
+    let is = at_index c.args.self.now.cells.items c.args.cell c.index-held.result.now s.row c.requires.within c.index-held.ensures in
+    shut_under_way _ c.args.self.now.cells.items c.args.self.now.change c.args.cell _ c.index-held.result.now (s.under_way tells) c.requires.closed is
+
+pub returns-in_err-write_spare-clause-after_no_memory : goal.returns-in_err-write_spare-clause-after_no_memory
+returns-in_err-write_spare-clause-after_no_memory g c no_memory =
+    let fault = told_no_memory c.from_residual-in_err-write_spare.result c.in_err-write_spare.field-0.0 c.from_residual-in_err-write_spare.ensures.1 no_memory in
+    stands_kept g.D.Disk.tells g.D.Disk.seen g.D.Disk.may_leave c.args.self.now _ c.requires.stands refl refl
+    (λ tells. c.write_spare.ensures.unchanged tells (c.in_err-write_spare.was ∙ ap (λ (e : DiskFault). Err e) fault))
+
+pub returns-in_err-write_spare-clause-any_moment : goal.returns-in_err-write_spare-clause-any_moment
+returns-in_err-write_spare-clause-any_moment g c tells =
+    let s = c.requires.stands in
+    let cell = c.index-held.result.now in
+    let old = g.D.Disk.seen c.args.self.now.disk in
+    let is = at_index c.args.self.now.cells.items c.args.cell cell s.row c.requires.within c.index-held.ensures in
+    weaker g.D.Disk.moment g.D.Disk.left_since c.args.self.now.disk c.write_spare.new.disk (Leaves (frame_of c.args.cell (other cell.side)) old c.args.cell (payload_held cell)) (StandsFor (cells_of c.args.self.now))
+    (λ image leaves. leaves_stand c.args.self.now.cells.items old image c.args.cell cell (s.on_disk tells) s.row is leaves) (c.write_spare.ensures.any_moment tells)
+
+pub returns-clause-any_moment : goal.returns-clause-any_moment
+returns-clause-any_moment g c tells =
+    let s = c.requires.stands in
+    let cell = c.index-held.result.now in
+    let old = g.D.Disk.seen c.args.self.now.disk in
+    let is = at_index c.args.self.now.cells.items c.args.cell cell s.row c.requires.within c.index-held.ensures in
+    weaker g.D.Disk.moment g.D.Disk.left_since c.args.self.now.disk c.write_spare.new.disk (Leaves (frame_of c.args.cell (other cell.side)) old c.args.cell (payload_held cell)) (StandsFor (cells_of c.args.self.now))
+    (λ image leaves. leaves_stand c.args.self.now.cells.items old image c.args.cell cell (s.on_disk tells) s.row is leaves) (c.write_spare.ensures.any_moment tells)
+
+pub returns-clause-stands : goal.returns-clause-stands
+returns-clause-stands g c =
+    let s = c.requires.stands in
+    let cells = c.args.self.now.cells.items in
+    let cell = c.index-held.result.now in
+    let old = g.D.Disk.seen c.args.self.now.disk in
+    let new = g.D.Disk.seen c.write_spare.new.disk in
+    let is = at_index cells c.args.cell cell s.row c.requires.within c.index-held.ensures in
+    let copied : c.in_ok-payload.payload.items ≡ c.args.payload.now = grind (arith, common_steps) in
+    record {
+      row = s.row;
+      agrees = (subst IsPayload (sym copied) c.requires.fits, λ first. ap count_told copied ∙ c.requires.same_count first);
+      on_disk = λ tells. disk_kept cells old new c.args.cell (other cell.side) cell (s.on_disk tells) (c.in_ok-write_spare.ensures.others tells) is (c.in_ok-write_spare.ensures.held tells);
+      under_way = λ tells cell'' is''.
+          let same : cell ≡ cell'' = same_cell cells c.args.cell cell cell'' is is'' in
+          let staged : HoldsTail new c.args.cell cell c.in_ok-payload.payload.items =
+          c.in_ok-write_spare.ensures.tail tells ∙ c.deref.ensures.value ∙ c.in_ok-tail.ensures
+          ∙ ap (λ (n : ℕ). tail_of n c.args.payload.now) c.next.ensures.value ∙ ap (λ (l : List ℕ). tail_of (next cell.number) l) (sym copied) in
+          let shut : cell.spare_open ≡ false = shut_under_way _ cells c.args.self.now.change c.args.cell _ cell (s.under_way tells) c.requires.closed is in
+          subst (λ (m : Cell). (m.spare_open ≡ false) × (true ≡ true → HoldsTail new c.args.cell m c.in_ok-payload.payload.items)) same (shut, λ _. staged);
+      durable = λ tells. c.in_ok-write_spare.ensures.durable tells;
+    }

@@ -1,0 +1,297 @@
+//! A row of cells on a disk.
+ghost use Rattle.std.specs.Prelude.{◌≡◌, ◌≢◌, ◌<◌, ◌≤◌, ◌+◌, ◌∷◌, ◌++◌, [], ℕ, List, IsTrue, IfOk, vec_len, vec_capacity, map, length, slice_get, slice_set, Some, None, OnOk, OnErr, IsErrOf};
+ghost use Rattle.std.specs.Option.{option_copied};
+ghost use Rattle.cas_disk.specs.Disk.{LeavesOnly, Only, Elapses};
+ghost use Rattle.cas_cells.specs.Fault.{HasCellCause, IsFaultOfDisk};
+ghost use Rattle.cas_cells.specs.Format.{count_in, count_told, is_head, head_in, with_count, grown, foreign_at, IsPayload, StandsFor, IsBeforeOrAfter};
+ghost use Rattle.cas_cells.specs.Reading.{OnlyRead};
+ghost use Rattle.cas_cells.specs.Held.{payload_held, IsBlank};
+ghost use Rattle.cas_cells.specs.declared.cell.Cell.{Cell};
+
+use crate::cell::Cell;
+use crate::change::{Change, Staged, Step, take_staged, write_over};
+use crate::reading::read_row;
+use crate::settled::write_blank;
+use crate::steps::{self, blank};
+use crate::{CellFault, frame};
+use cas_disk::Disk;
+use std::alloc::{AllocError, Global};
+
+/// A row of cells on a disk, each of which is blank or holds a payload of 1 to 508 bytes, and the change of a cell that is under
+/// way.
+///
+/// A cell is changed in three steps, `close_spare`, `write_spare` and `open_spare`. Until the third a crash leaves the old
+/// payload, within it the old or the new, and after its `Ok` the new. The cells are formatted or recovered before they are used,
+/// and again after `DiskFault`.
+#[derive(Drop)]
+pub struct Cells<D: Disk> {
+    disk: D,
+    alloc: Global,
+    cells: Vec<Cell>,
+    change: Option<Change>,
+}
+
+impl<D: Disk> Cells<D> {
+    ghost use Rattle.cas_cells.specs.Cells.{disk_of, cells_of, change_of, staged_of, Stands};
+
+    /// Cells on this disk, none of them known. It touches nothing.
+    pub fn over(alloc: Global, disk: D) -> Cells<D>
+        ensures disk { disk_of result ≡ disk }
+        ensures cells { cells_of result ≡ [] }
+        ensures change { change_of result ≡ None }
+    {
+        Cells {
+            disk,
+            alloc,
+            cells: Vec::new(alloc),
+            change: None,
+        }
+    }
+
+    /// The payload of a cell. A blank cell, and one that is not there, has none.
+    pub fn payload(&self, cell: u32) -> Option<&[u8]>
+        ensures blank { (slice_get (cells_of self.now) cell ≡ Some None) → option_copied result ≡ None }
+        ensures held { (payload : List ℕ) → slice_get (cells_of self.now) cell ≡ Some (Some payload) → option_copied result ≡ Some payload }
+        ensures absent { length (cells_of self.now) ≤ cell → option_copied result ≡ None }
+    {
+        let cell = self.cells.get(cell as usize)?;
+        let payload = cell.payload.as_ref()?;
+        Some(payload.as_slice())
+    }
+
+    /// How many cells stand after cell 0: as many as a head in cell 0 tells, and none under any other payload.
+    pub fn count(&self) -> u32
+        ensures { result ≡ count_in (cells_of self.now) }
+    {
+        count_of(&self.cells)
+    }
+
+    /// Begins a change of a cell anew: closes the spare of the cell. Where it is closed already nothing is written. After
+    /// `NoMemory` all that is seen is as before.
+    pub fn close_spare(&mut self, cell: u32) -> Result<(), CellFault>
+        requires stands { Stands D.tells D.seen D.may_leave self.old }
+        requires within { cell ≤ count_in (cells_of self.old) }
+        ensures closed { OnOk result (change_of self.new ≡ Some (cell, None)) }
+        ensures same { OnErr result (change_of self.new ≡ change_of self.old) }
+        ensures cells { cells_of self.new ≡ cells_of self.old }
+        ensures stands { OnOk result (Stands D.tells D.seen D.may_leave self.new) }
+        ensures after_no_memory { IsErrOf result CellFault.NoMemory → Stands D.tells D.seen D.may_leave self.new }
+        ensures any_moment { D.tells → LeavesOnly D.moment D.left_since (disk_of self.old) (disk_of self.new) (StandsFor (cells_of self.old)) }
+        ensures cause { IsFaultOfDisk result (D.fault_count (disk_of self.old)) (D.fault_count (disk_of self.new)) }
+    {
+        let held = &mut self.cells[cell as usize];
+        steps::shut_spare(&mut self.disk, held, cell)?;
+        self.change = Some(Change {
+            cell,
+            step: Step::Closed,
+        });
+        Ok(())
+    }
+
+    /// Writes a payload of 1 to 508 bytes into the closed spare of the cell under change. One for cell 0 tells the same count. After
+    /// `NoMemory` all that is seen is as before.
+    pub fn write_spare(&mut self, cell: u32, payload: &[u8]) -> Result<(), CellFault>
+        requires stands { Stands D.tells D.seen D.may_leave self.old }
+        requires within { cell ≤ count_in (cells_of self.old) }
+        requires closed { change_of self.old ≡ Some (cell, None) }
+        requires fits { IsPayload payload.now }
+        requires same_count { (cell ≡ 0) → count_told payload.now ≡ count_in (cells_of self.old) }
+        ensures written { OnOk result (change_of self.new ≡ Some (cell, Some payload.now)) }
+        ensures same { OnErr result (change_of self.new ≡ change_of self.old) }
+        ensures cells { cells_of self.new ≡ cells_of self.old }
+        ensures stands { OnOk result (Stands D.tells D.seen D.may_leave self.new) }
+        ensures after_no_memory { IsErrOf result CellFault.NoMemory → Stands D.tells D.seen D.may_leave self.new }
+        ensures any_moment { D.tells → LeavesOnly D.moment D.left_since (disk_of self.old) (disk_of self.new) (StandsFor (cells_of self.old)) }
+        ensures cause { IsFaultOfDisk result (D.fault_count (disk_of self.old)) (D.fault_count (disk_of self.new)) }
+    {
+        let held = &self.cells[cell as usize];
+        let tail = frame::tail_of(self.alloc, frame::next(held.number), payload)?;
+        let payload = payload.to_vec(self.alloc)?;
+        steps::write_spare(&mut self.disk, held, cell, &tail)?;
+        let step = Step::Written(Staged {
+            payload,
+            kept: true,
+        });
+        self.change = Some(Change { cell, step });
+        Ok(())
+    }
+
+    /// Opens the written spare of the cell under change, which then holds the payload that was written. After `NoMemory` all that is
+    /// seen is as before.
+    pub fn open_spare(&mut self, cell: u32) -> Result<(), CellFault>
+        requires stands { Stands D.tells D.seen D.may_leave self.old }
+        requires within { cell ≤ count_in (cells_of self.old) }
+        requires written { change_of self.old ≡ Some (cell, Some (staged_of self.old)) }
+        ensures changed { OnOk result (cells_of self.new ≡ slice_set (cells_of self.old) cell (Some (staged_of self.old))) }
+        ensures done { OnOk result (change_of self.new ≡ None) }
+        ensures same { OnErr result (change_of self.new ≡ change_of self.old) }
+        ensures cells { OnErr result (cells_of self.new ≡ cells_of self.old) }
+        ensures stands { OnOk result (Stands D.tells D.seen D.may_leave self.new) }
+        ensures after_no_memory { IsErrOf result CellFault.NoMemory → Stands D.tells D.seen D.may_leave self.new }
+        ensures any_moment { D.tells → LeavesOnly D.moment D.left_since (disk_of self.old) (disk_of self.new) (IsBeforeOrAfter (cells_of self.old) (slice_set (cells_of self.old) cell (Some (staged_of self.old)))) }
+        ensures cause { IsFaultOfDisk result (D.fault_count (disk_of self.old)) (D.fault_count (disk_of self.new)) }
+    {
+        let mut staged = take_staged(&mut self.change, cell);
+        let held = &self.cells[cell as usize];
+        let answer = steps::open_spare(
+            &mut self.disk,
+            self.alloc,
+            held,
+            cell,
+            &staged.payload,
+            &mut staged.kept,
+        );
+        if let Err(fault) = answer {
+            let step = Step::Written(staged);
+            self.change = Some(Change { cell, step });
+            return Err(CellFault::from(fault));
+        }
+        steps::turn(&mut self.cells[cell as usize], staged.payload);
+        Ok(())
+    }
+
+    /// Appends a blank cell and raises the count that the head in cell 0 tells by one. No change is then under way. After `NoMemory`
+    /// all that is seen is as before.
+    pub fn grow(&mut self) -> Result<(), CellFault>
+        requires stands { Stands D.tells D.seen D.may_leave self.old }
+        requires head { IsTrue (is_head (head_in (cells_of self.old))) }
+        requires room { count_in (cells_of self.old) < 4096 }
+        ensures grown { OnOk result (cells_of self.new ≡ grown (cells_of self.old)) }
+        ensures done { OnOk result (change_of self.new ≡ None) }
+        ensures same { OnErr result (change_of self.new ≡ change_of self.old) }
+        ensures cells { OnErr result (cells_of self.new ≡ cells_of self.old) }
+        ensures stands { OnOk result (Stands D.tells D.seen D.may_leave self.new) }
+        ensures after_no_memory { IsErrOf result CellFault.NoMemory → Stands D.tells D.seen D.may_leave self.new }
+        ensures any_moment { D.tells → LeavesOnly D.moment D.left_since (disk_of self.old) (disk_of self.new) (IsBeforeOrAfter (cells_of self.old) (grown (cells_of self.old))) }
+        ensures cause { IsFaultOfDisk result (D.fault_count (disk_of self.old)) (D.fault_count (disk_of self.new)) }
+    {
+        let count = count_of(&self.cells) + 1;
+        let head = head_with(self.alloc, &self.cells, count)?;
+        self.cells.reserve(1)?;
+        write_blank(&mut self.disk, count)?;
+        write_over(&mut self.change, 0);
+        steps::change_cell(&mut self.disk, self.alloc, &mut self.cells[0], 0, head)?;
+        push_blank(&mut self.cells);
+        self.change = None;
+        Ok(())
+    }
+
+    /// Reads the cells of the disk, on which nothing is pending, as after a crash. No change is then under way. `Foreign` tells the
+    /// first byte that is not as the format demands: first the frames of all cells that cell 0 tells, in rising order, then cell 0,
+    /// which may not be blank. After an `Err` what is seen is as before. The disk is only read.
+    pub fn recover(&mut self) -> Result<(), CellFault>
+        requires { D.tells → Only (D.seen (disk_of self.old)) (D.may_leave (disk_of self.old)) }
+        ensures recovered { D.tells → OnOk result (StandsFor (cells_of self.new) (D.seen (disk_of self.old))) }
+        ensures foreign { D.tells → (at : ℕ) → IsErrOf result (CellFault.Foreign at) → foreign_at (D.seen (disk_of self.old)) ≡ Some at }
+        ensures done { OnOk result (change_of self.new ≡ None) }
+        ensures same { OnErr result (change_of self.new ≡ change_of self.old) }
+        ensures cells { OnErr result (cells_of self.new ≡ cells_of self.old) }
+        ensures stands { OnOk result (Stands D.tells D.seen D.may_leave self.new) }
+        ensures read { D.tells → OnlyRead D.moment D.left_since D.seen D.may_leave (disk_of self.old) (disk_of self.new) }
+        ensures cause { HasCellCause result (D.fault_count (disk_of self.old)) (D.fault_count (disk_of self.new)) }
+    {
+        let cells = read_row(&mut self.disk, self.alloc)?;
+        self.cells = cells;
+        self.change = None;
+        Ok(())
+    }
+
+    /// Makes cell 0 the only cell, with this payload of 1 to 508 bytes; one that is a head tells no cells. No change is then under
+    /// way. After an `Err` what is seen is as before, but the disk may no longer hold it: format or recover again.
+    pub fn format(&mut self, payload: &[u8]) -> Result<(), CellFault>
+        requires fits { IsPayload payload.now }
+        requires no_cells { count_told payload.now ≡ 0 }
+        ensures formatted { OnOk result (cells_of self.new ≡ Some payload.now ∷ []) }
+        ensures done { OnOk result (change_of self.new ≡ None) }
+        ensures same { OnErr result (change_of self.new ≡ change_of self.old) }
+        ensures cells { OnErr result (cells_of self.new ≡ cells_of self.old) }
+        ensures stands { OnOk result (Stands D.tells D.seen D.may_leave self.new) }
+        ensures cause { IsFaultOfDisk result (D.fault_count (disk_of self.old)) (D.fault_count (disk_of self.new)) }
+    {
+        let payload = payload.to_vec(self.alloc)?;
+        let mut cells = Vec::with_capacity(self.alloc, 1)?;
+        let mut cell = blank();
+        write_blank(&mut self.disk, 0)?;
+        steps::change_cell(&mut self.disk, self.alloc, &mut cell, 0, payload)?;
+        push_cell(&mut cells, cell);
+        self.cells = cells;
+        self.change = None;
+        Ok(())
+    }
+
+    /// Crashes the disk. The cells are recovered before they are used again.
+    pub fn crash(&mut self)
+        ensures image { D.tells → D.may_leave (disk_of self.old) (D.seen (disk_of self.new)) }
+        ensures settled { D.tells → Only (D.seen (disk_of self.new)) (D.may_leave (disk_of self.new)) }
+        ensures time { D.tells → Elapses (D.moment (disk_of self.old)) (D.moment (disk_of self.new)) (D.left_since (disk_of self.old)) (D.left_since (disk_of self.new)) (D.may_leave (disk_of self.new)) }
+        ensures cells { cells_of self.new ≡ cells_of self.old }
+        ensures change { change_of self.new ≡ change_of self.old }
+        ensures never_falls { D.fault_count (disk_of self.old) ≤ D.fault_count (disk_of self.new) }
+    {
+        self.disk.crash();
+    }
+
+    /// How often the disk has failed.
+    pub fn faults(&self) -> u64
+        ensures { result ≡ D.fault_count (disk_of self.now) }
+    {
+        self.disk.faults()
+    }
+
+    /// The disk, without its cells.
+    pub fn into_disk(self) -> D
+        ensures { result ≡ disk_of self }
+    {
+        self.disk
+    }
+}
+
+/// How many cells stand after cell 0.
+fn count_of(cells: &[Cell]) -> u32
+    ensures { result ≡ count_in (map payload_held cells.now) }
+{
+    match cells.first() {
+        Some(
+            Cell {
+                payload: Some(payload),
+                ..
+            },
+        ) => frame::count_told(payload),
+        _ => 0,
+    }
+}
+
+/// The head in cell 0, telling this count.
+fn head_with(alloc: Global, cells: &[Cell], count: u32) -> Result<Vec<u8>, AllocError>
+    requires head { IsTrue (is_head (head_in (map payload_held cells.now))) }
+    requires small { count ≤ 4096 }
+    ensures head { IfOk result (λ head. head.items ≡ with_count (head_in (map payload_held cells.now)) count) }
+    ensures fits { IfOk result (λ head. IsPayload head.items) }
+{
+    match cells.first() {
+        Some(
+            Cell {
+                payload: Some(payload),
+                ..
+            },
+        ) => frame::with_count(alloc, payload, count),
+        _ => unreachable!(),
+    }
+}
+
+/// Appends a blank cell, for which there is room.
+fn push_blank(cells: &mut Vec<Cell>)
+    requires { vec_len cells.old < vec_capacity cells.old }
+    ensures { (cell : Cell) × (cells.new.items ≡ cells.old.items ++ cell ∷ []) × IsBlank cell × (payload_held cell ≡ None) }
+{
+    push_cell(cells, blank());
+}
+
+/// Appends a cell, for which there is room.
+fn push_cell(cells: &mut Vec<Cell>, cell: Cell)
+    requires { vec_len cells.old < vec_capacity cells.old }
+    ensures { cells.new.items ≡ cells.old.items ++ cell ∷ [] }
+{
+    let pushed = cells.push(cell).is_ok();
+    prove!(pushed);
+}
