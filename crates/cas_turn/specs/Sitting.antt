@@ -1,0 +1,33 @@
+-- A seat as its user sees it.
+use Rattle.std.specs.Prelude.{ℕ, List, [], Option, None, map}
+use Rattle.std.specs.List.{range_with_len}
+use Rattle.atomic_table.specs.Seated.{TableId}
+
+-- which turn it is
+abbrev pub TurnId : Type 0
+TurnId = TableId
+
+-- a seat between two calls
+pub record Sitting (V I : Type 0) : Type 0 where
+  -- the turn that the seat belongs to
+  pub turn : TurnId
+  pub number : ℕ
+  -- while the seat holds, the value as the hold gave it
+  pub holds : Option V
+  -- what it has seen of the value's list
+  pub seen : List I
+  -- the part of the value that is its number's own, as it left it
+  pub own : List ℕ
+
+-- a seat of a new turn
+abbrev pub fresh_seat : {V I : Type 0} → TurnId → ℕ → Sitting V I
+fresh_seat turn n = record { turn = turn; number = n; holds = None; seen = []; own = [] }
+
+-- the seats of a new turn, in order
+abbrev pub fresh_seats : {V I : Type 0} → TurnId → ℕ → List (Sitting V I)
+fresh_seats turn count = map (fresh_seat turn) (range_with_len 0 count)
+
+-- a turn as its user sees it: which one it is, and how many seats it gave out
+pub record Turning : Type 0 where
+  pub id : TurnId
+  pub seats : ℕ
