@@ -9,7 +9,7 @@ use Rattle.cas_record.specs.Places.{At, Stands, IsOlderPart, here, past}
 use Rattle.cas_record.specs.Chain.{is_call, has_begun, program_of}
 use Rattle.cas_record.specs.Legal.{calls_of}
 use Rattle.cas_record.proofs.PlaceLemmas.{at_part, older_than, newer_than, at_one, order}
-use Rattle.cas_record.proofs.Tests.{if_true, if_false, both_true, right_false, or_cases, or_left, or_right, not_of_true, not_of_false, false_of_not, nat_is, call_same, call_is}
+use Rattle.cas_record.proofs.Tests.{if_true, if_false, both_true, right_false, or_cases, or_left, or_right, not_of_true, not_of_false, false_of_not, nat_is, call_same, call_is, step_up}
 
 -- the calls of each caller are numbered as they begin
 pub record IsCounted (marks : List Mark) : Type 0 where
@@ -17,10 +17,6 @@ pub record IsCounted (marks : List Mark) : Type 0 where
 
 pub counted_part : {part marks : List Mark} → IsCounted marks → IsOlderPart part marks → IsCounted part
 counted_part counted part = record { begun = λ at. counted.begun (at_part at part) }
-
-step_up : (b : Bool) (n : ℕ) → n ≤ cond b (suc n) n
-step_up true n = omega arith
-step_up false n = omega arith
 
 calls_more : (caller : ℕ) (mark : Mark) (older : List Mark) → calls_of caller older ≤ calls_of caller (mark ∷ older)
 calls_more caller (Begun c n k p) older = step_up (c == caller) (calls_of caller older)
@@ -33,6 +29,10 @@ calls_of_begun : {caller call : ℕ} {key : List ℕ} {program : List Clause} {o
     → suc (calls_of caller older) ≤ calls_of caller marks
 calls_of_begun {caller} {call} {key} {program} {older} here = omega (arith, calls_here caller call key program older)
 calls_of_begun {caller} (past {y = mark} {rest = rest} at) = omega (arith, calls_of_begun at, calls_more caller mark rest)
+
+-- a call that was begun is one of those counted
+pub begun_low : {caller call : ℕ} {key : List ℕ} {program : List Clause} {marks : List Mark} → IsCounted marks → Stands (Begun caller call key program) marks → call ≤ calls_of caller marks
+begun_low counted s = omega (arith, counted.begun s.at, calls_of_begun s.at)
 
 -- a call is begun once
 pub record OneBegun (key other : List ℕ) (program : List Clause) (second : List Clause) (xs ys : List Mark) : Type 0 where

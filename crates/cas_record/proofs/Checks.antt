@@ -28,7 +28,7 @@ use Rattle.cas_record.specs.Legal.{HasFloor, calls_of, IsBegun, IsProposed, IsEn
 use Rattle.cas_record.specs.Happening.{Happening, Marked, Asked, Promised, Took, Dropped, Entered, marks_of}
 use Rattle.cas_record.specs.Lawful.{Cluster, IsMade, in_promise, in_take, in_ride, HasSeenAtMost, IsFloored, MayPromise, MayTake, slot_told, is_slot, MayDrop, IsIn, AllEntered, IsRescanned, IsCollected, MayLeave, MayEnter, Granted, by_promise, by_ride, MayPropose, MayVote, MayAck, MayBeDone, MayAnswer, MayEnd, MayMarkEra, MayMark, May, Lawful}
 use Rattle.cas_record.proofs.PlaceLemmas.{stands_at}
-use Rattle.cas_record.proofs.Tests.{and_left, and_right, or_cases, or_left, or_right, both_true, not_tells, not_both, key_same, key_is, key_refl, ballot_same, ballot_is, less_tells, less_is, nat_same, nat_is, call_same, call_is}
+use Rattle.cas_record.proofs.Tests.{and_left, and_right, or_cases, or_left, or_right, both_true, not_tells, not_both, key_same, key_is, key_refl, ballot_same, ballot_is, less_tells, less_is, nat_same, nat_is, call_same, call_is, slot_same}
 use Rattle.cas_record.proofs.ChainLemmas.{has_proposal_tells, has_proposal_is}
 
 -- ---- tests of what stands in a list
@@ -96,9 +96,6 @@ le_is : {a b : ℕ} → a ≤ b → nat_le a b ≡ true
 le_is {a} {b} h = elim (leb_tells a b) [ inl low ↦ low.0 | inr high ↦ absurd (omega (arith, high.1)) ]
 
 -- ---- acceptors
-slot_same : {acceptor a : ℕ} {key k : List ℕ} → is_slot acceptor key a k ≡ true → (a ≡ acceptor) × (k ≡ key)
-slot_same {acceptor} {a} {key} {k} e = (nat_same {a = a} {b = acceptor} (and_left (a == acceptor) (is_key k key) e), key_same (and_right (a == acceptor) (is_key k key) e))
-
 slot_refl : (acceptor : ℕ) (key : List ℕ) → is_slot acceptor key acceptor key ≡ true
 slot_refl acceptor key = ap (λ b. b && is_key key key) (nat_is {a = acceptor} refl) ∙ key_refl key
 

@@ -1,5 +1,5 @@
 -- The marks of a lawful log are a legal record.
-use Rattle.std.proofs.Common.{◌≡◌, ℕ, suc, ◌≤◌, false, List, [], ◌∷◌, ◌++◌, length, arith, refl, sym, ap, ◌∙◌, subst}
+use Rattle.std.proofs.Common.{◌≡◌, ℕ, suc, ◌≤◌, false, List, [], ◌∷◌, ◌++◌, length, arith, refl, sym, ap, ◌∙◌, subst, append_assoc}
 use mathlib.Core.Logic.{inl, inr}
 use Rattle.cas_ballot.specs.declared.ballot.Ballot.{Ballot}
 use Rattle.cas_ballot.specs.Ballot.{BallotAtMost}
@@ -18,7 +18,7 @@ use Rattle.cas_record.specs.Chain.{has_proposal, link_of, entry_of, program_of, 
 use Rattle.cas_record.specs.Legal.{calls_of, IsBegun, IsProposed, IsEnded, IsFirstProposal, IsFirstEnd, IsNumbered, DoesStand, RefusedNever, harms_due, harms_of, WasBegun, HasVotes, IsAcked, IsFloor, IsLegal}
 use Rattle.cas_record.specs.Happening.{Happening, Marked, Asked, Promised, Took, Dropped, Entered, marks_of}
 use Rattle.cas_record.specs.Lawful.{Cluster, Lawful, MayEnd, MayBeDone}
-use Rattle.cas_record.proofs.PlaceLemmas.{deeper, stands_at, at_part, part_at, older_than, newer_than, at_one, order, append-assoc, prefix_same, length-prefix}
+use Rattle.cas_record.proofs.PlaceLemmas.{deeper, stands_at, at_part, part_at, older_than, newer_than, at_one, order, prefix_same, length-prefix}
 use Rattle.cas_record.proofs.Tests.{false_of_not}
 use Rattle.cas_record.proofs.ChainLemmas.{chain-none, chain-at, has_proposal_tells, entry_place, acked_at_most_top}
 use Rattle.cas_record.proofs.LogLemmas.{law, lawful_older, mark_at, in_log, InLog, part_of, proposal_law, ack_law, floor_law, not_zero, AckedAt, acked_at, proposal_of_acked, above_opening, opening_deeper, has_none_zero, chain_whole, link_begins}
@@ -149,7 +149,7 @@ stands_behind cluster log {p} {older} lawful seam at acked =
     let begins = settled_begins cluster lawful seam (by_ack acked) (acked_low acked) in
     record {
       after = begins.rest;
-      place = begins.joins ∙ ap (λ front. front ++ begins.rest) own ∙ append-assoc (chain_of p.key (link_of older p) older) (entry_of older p ∷ []) begins.rest;
+      place = begins.joins ∙ ap (λ front. front ++ begins.rest) own ∙ append_assoc (chain_of p.key (link_of older p) older) (entry_of older p ∷ []) begins.rest;
     }
 
 does_stand : (cluster : Cluster) (log : List Happening) {caller call : ℕ} {state : State} {took : Who} {ballot : Ballot} → Lawful cluster log → Seam log

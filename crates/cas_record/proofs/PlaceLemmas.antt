@@ -1,5 +1,6 @@
 -- Places in lists that are read newest first.
-use Rattle.std.proofs.Common.{◌≡◌, suc, ◌≤◌, List, [], ◌∷◌, ◌++◌, length, arith, refl, sym, ap, ◌∙◌, subst}
+use Rattle.std.proofs.Common.{◌≡◌, suc, ◌≤◌, List, [], ◌∷◌, ◌++◌, length, arith, refl, sym, ap, ◌∙◌, subst, append_assoc}
+use Rattle.std.proofs.lemmas.List.{append-nil}
 use Rattle.std.specs.Prelude.{◌⊎◌}
 use mathlib.Core.Logic.{inl, inr}
 use Rattle.cas_record.specs.Places.{At, Stands, IsOlderPart, IsPrefix, here, past, whole, later}
@@ -52,14 +53,6 @@ part_part p whole = p
 part_part p (later q) = later (part_part p q)
 
 -- ---- prefixes
-pub append-nil : {A : Type 0} (xs : List A) → xs ++ [] ≡ xs
-append-nil [] = refl
-append-nil (x ∷ xs) = ap (λ rest. x ∷ rest) (append-nil xs)
-
-pub append-assoc : {A : Type 0} (xs ys zs : List A) → (xs ++ ys) ++ zs ≡ xs ++ (ys ++ zs)
-append-assoc [] ys zs = refl
-append-assoc (x ∷ xs) ys zs = ap (λ rest. x ∷ rest) (append-assoc xs ys zs)
-
 pub prefix_refl : {A : Type 0} (xs : List A) → IsPrefix xs xs
 prefix_refl xs = record { rest = []; joins = sym (append-nil xs) }
 
@@ -72,7 +65,7 @@ nil_prefix xs = record { rest = xs; joins = refl }
 pub prefix_trans : {A : Type 0} {xs ys zs : List A} → IsPrefix xs ys → IsPrefix ys zs → IsPrefix xs zs
 prefix_trans {xs = xs} p q = record {
   rest = p.rest ++ q.rest;
-  joins = q.joins ∙ ap (λ front. front ++ q.rest) p.joins ∙ append-assoc xs p.rest q.rest;
+  joins = q.joins ∙ ap (λ front. front ++ q.rest) p.joins ∙ append_assoc xs p.rest q.rest;
 }
 
 pub prefix_append : {A : Type 0} {xs ys : List A} (zs : List A) → IsPrefix xs ys → IsPrefix xs (ys ++ zs)

@@ -8,7 +8,7 @@ use Rattle.cas_ballot.specs.Members.{has_member, members_where, union_of}
 use Rattle.cas_record.specs.Lawful.{Shared, NeighboursMeet}
 use Rattle.cas_record.specs.Quorum.{count_in, has_quorum, Meet}
 use Rattle.cas_record.specs.Witness.{three, four, small_cluster}
-use Rattle.cas_record.proofs.Tests.{not_both, or_left, or_right}
+use Rattle.cas_record.proofs.Tests.{not_both, or_left, or_right, step_up}
 
 -- one more of the set is counted by neither, by one, or is shared
 counts : (p a : Bool) (m n k : ℕ) → suc k < cond p (suc m) m + cond a (suc n) n → ((p ≡ true) × (a ≡ true)) ⊎ (k < m + n)
@@ -23,10 +23,6 @@ share (x ∷ all) prepared accepted h = elim (counts (has_member prepared x) (ha
   | inl both ↦ record { acceptor = x; left = both.0; right = both.1 }
   | inr rest ↦ share all prepared accepted rest
 ]
-
-step_up : (b : Bool) (n : ℕ) → n ≤ cond b (suc n) n
-step_up true n = omega arith
-step_up false n = omega arith
 
 keep : (b : Bool) (m n : ℕ) → m ≤ n → cond b (suc m) m ≤ cond b (suc n) n
 keep true m n h = omega arith
@@ -98,7 +94,7 @@ union_four : length (union_of four four) ≡ 4
 unfolding members_where
 union_four = refl
 
-two_two : (p a : List ℕ) → has_quorum 2 three p ≡ true → has_quorum 2 three a ≡ true → Shared p a
+pub two_two : (p a : List ℕ) → has_quorum 2 three p ≡ true → has_quorum 2 three a ≡ true → Shared p a
 two_two p a e f = quorums_share three three 2 2 three_set three_set (omega (arith, union_three)) p a e f
 
 two_three : (p a : List ℕ) → has_quorum 2 three p ≡ true → has_quorum 3 four a ≡ true → Shared p a

@@ -12,7 +12,7 @@ use Rattle.cas_record.specs.Chain.{is_key}
 use Rattle.cas_record.specs.Happening.{Happening, Marked, Asked, Promised, Took, Dropped, Entered, marks_of}
 use Rattle.cas_record.specs.Lawful.{Cluster, IsMade, Lawful, HasSeen, in_promise, in_take, in_ride, MayPromise, MayTake, MayDrop, SlotTold, promised_slot, slot_told, is_slot}
 use Rattle.cas_record.proofs.PlaceLemmas.{none_at_nil, stands_part}
-use Rattle.cas_record.proofs.Tests.{less_is, and_left, and_right, both_true, not_both, key_same, key_is, nat_same, nat_is}
+use Rattle.cas_record.proofs.Tests.{less_is, and_left, and_right, both_true, not_both, key_same, key_is, nat_same, nat_is, slot_same}
 use Rattle.cas_record.proofs.LogLemmas.{law, part_of}
 
 -- the acceptor removed the key's slot at a tombstone that is at or above the ballot
@@ -188,9 +188,6 @@ bounds_drop {slot} {acceptor} {a} {key} {k} {t} {log} p q holds promise bounds =
     }
 
 -- ---- the slot of a lawful log
-slot_tells : {acceptor a : ℕ} {key k : List ℕ} → is_slot acceptor key a k ≡ true → (a ≡ acceptor) × (k ≡ key)
-slot_tells {acceptor} {a} {key} {k} e = (nat_same {a = a} {b = acceptor} (and_left (a == acceptor) (is_key k key) e), key_same (and_right (a == acceptor) (is_key k key) e))
-
 none_seen : {acceptor : ℕ} {key : List ℕ} {ballot : Ballot} → HasSeen [] acceptor key ballot → ⊥
 none_seen (in_promise told s) = none_at_nil s.at
 none_seen (in_take ride s) = none_at_nil s.at
@@ -201,19 +198,19 @@ slot_bounds cluster [] acceptor key lawful = record { seen = λ ballot s. absurd
 slot_bounds cluster (Promised a k b told ∷ older) acceptor key lawful =
     let before = slot_bounds cluster older acceptor key lawful.0 in
     bounds_when (is_slot acceptor key a k) (promised_slot (slot_told older acceptor key) b) (slot_told older acceptor key)
-    (λ e. let same = slot_tells {acceptor = acceptor} {a = a} {key = key} {k = k} e in bounds_promised {slot = slot_told older acceptor key} same.0 same.1 lawful.1 before)
+    (λ e. let same = slot_same {acceptor = acceptor} {a = a} {key = key} {k = k} e in bounds_promised {slot = slot_told older acceptor key} same.0 same.1 lawful.1 before)
     (λ e. bounds_elsewhere (promise_elsewhere e) before)
 slot_bounds cluster (Took a k b ride ∷ older) acceptor key lawful =
     let before = slot_bounds cluster older acceptor key lawful.0 in
     bounds_when (is_slot acceptor key a k) (record { promise = ride; accepted = b }) (slot_told older acceptor key)
-    (λ e. let same = slot_tells {acceptor = acceptor} {a = a} {key = key} {k = k} e in bounds_take same.0 same.1 lawful.1)
+    (λ e. let same = slot_same {acceptor = acceptor} {a = a} {key = key} {k = k} e in bounds_take same.0 same.1 lawful.1)
     (λ e. bounds_elsewhere (take_elsewhere e) before)
 slot_bounds cluster (Dropped a k t ∷ older) acceptor key lawful =
     let before = slot_bounds cluster older acceptor key lawful.0 in
     let may : MayDrop older a k t = lawful.1 in
     bounds_when (is_slot acceptor key a k) (record { promise = zero_ballot; accepted = zero_ballot }) (slot_told older acceptor key)
     (λ e.
-    let same = slot_tells {acceptor = acceptor} {a = a} {key = key} {k = k} e in
+    let same = slot_same {acceptor = acceptor} {a = a} {key = key} {k = k} e in
     let holds : (slot_told older acceptor key).accepted ≡ t = subst (λ x. (slot_told older x key).accepted ≡ t) same.0 (subst (λ x. (slot_told older a x).accepted ≡ t) same.1 may.holds) in
     let promise : BallotAtMost (slot_told older acceptor key).promise t = subst (λ x. BallotAtMost (slot_told older x key).promise t) same.0 (subst (λ x. BallotAtMost (slot_told older a x).promise t) same.1 may.promise) in
     bounds_drop {slot = slot_told older acceptor key} same.0 same.1 holds promise before)

@@ -1,5 +1,5 @@
 -- What the tests of the definitions tell.
-use Rattle.std.proofs.Common.{◌≡◌, ℕ, Bool, true, false, not, List, cond, refl, ap, subst}
+use Rattle.std.proofs.Common.{◌≡◌, ℕ, suc, ◌≤◌, Bool, true, false, not, List, cond, arith, refl, ap, subst}
 use Rattle.std.specs.Prelude.{◌⊎◌, ◌&&◌, ◌||◌, ◌==◌}
 use Rattle.std.specs.declared.cmp.Ordering.{Ordering}
 use Rattle.std.specs.declared.cmp.Ordering.TheVariants.{Less, Equal, Greater}
@@ -12,6 +12,7 @@ use Rattle.cas_ballot.specs.Ballot.{ballot_cmp, zero_ballot, greater_of, BallotA
 use Rattle.cas_ballot.proofs.BallotLemmas.{compared, cmp_refl, at_most_refl, at_most_greater_left, at_most_greater_right, greater_cases, cmp_of_less}
 use Rattle.cas_record.specs.declared.mark.Proposal.{Proposal}
 use Rattle.cas_record.specs.Chain.{is_key, is_ballot, is_proposal, is_call}
+use Rattle.cas_record.specs.Lawful.{is_slot}
 
 -- ---- choices
 pub if_true : {A : Type 0} (b : Bool) (x y : A) → b ≡ true → cond b x y ≡ x
@@ -155,3 +156,11 @@ step_left false x y e = absurd cc
 pub step_cases : (t : Bool) (x y : Ballot) → (cond t (greater_of x y) y ≡ y) ⊎ ((t ≡ true) × (cond t (greater_of x y) y ≡ x))
 step_cases true x y = elim (greater_cases x y) [ inl left ↦ inr (refl, left.0) | inr right ↦ inl right.0 ]
 step_cases false x y = inl refl
+
+pub step_up : (b : Bool) (n : ℕ) → n ≤ cond b (suc n) n
+step_up true n = omega arith
+step_up false n = omega arith
+
+-- ---- slots
+pub slot_same : {acceptor a : ℕ} {key k : List ℕ} → is_slot acceptor key a k ≡ true → (a ≡ acceptor) × (k ≡ key)
+slot_same {acceptor} {a} {key} {k} e = (nat_same {a = a} {b = acceptor} (and_left (a == acceptor) (is_key k key) e), key_same (and_right (a == acceptor) (is_key k key) e))

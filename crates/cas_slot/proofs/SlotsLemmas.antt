@@ -71,3 +71,12 @@ same_at slots key slot q false e at = refl
 pub with_slot-same : (slots : Slots) (key : List ℕ) (slot : Slot) → slot_at slots key ≡ Some slot → with_slot slots key slot ≡ slots
 with_slot-same slots key slot at = map.same_map nat_list_cmp_total (map.slice_cmp-IsAntisymmetric map.nat_cmp-IsAntisymmetric) _ _ (λ q.
     slot_at-with_slot slots key slot q ∙ same_at slots key slot q _ refl at)
+
+other_at : (slots : Slots) (key : List ℕ) (slot : Slot) (q : List ℕ) (b : Bool) → eq_by_cmp (slice_cmp nat_cmp) q key ≡ b → (q ≡ key → ⊥)
+    → cond b (Some slot) (slot_at slots q) ≡ slot_at slots q
+other_at slots key slot q true e differs = absurd (differs (map.slice_cmp-IsAntisymmetric map.nat_cmp-IsAntisymmetric q key (tied (slice_cmp nat_cmp q key) e)))
+other_at slots key slot q false e differs = refl
+
+-- at every other key the slot that stood there stays
+pub slot_at-with_slot_other : (slots : Slots) (key : List ℕ) (slot : Slot) (q : List ℕ) → (q ≡ key → ⊥) → slot_at (with_slot slots key slot) q ≡ slot_at slots q
+slot_at-with_slot_other slots key slot q differs = slot_at-with_slot slots key slot q ∙ other_at slots key slot q _ refl differs

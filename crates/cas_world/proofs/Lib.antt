@@ -1,6 +1,14 @@
+pub mod Asking
+pub mod Beginnings
 pub mod Calls
+pub mod Growth
+pub mod Handling
 pub mod Handled
+pub mod Kept
+pub mod Legality
 pub mod Lists
 pub mod Phases
+pub mod Proposals
 pub mod Rounds
 pub mod SoundLemmas
+pub mod Turns

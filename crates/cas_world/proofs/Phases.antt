@@ -1,5 +1,6 @@
 -- How a phase goes on by one turn.
 use Rattle.std.proofs.Common.{◌≡◌, ℕ, ◌+◌, ◌-◌, List, [], ◌∷◌, ◌++◌, length, arith, sym, ◌∙◌, ap, subst, refl, append_assoc}
+use Rattle.std.proofs.lemmas.List.{append-nil, map_push}
 use Rattle.std.specs.Prelude.{Some, map, slice_get, slice_set}
 use Rattle.cas_ballot.specs.Members.{members_where, with_member}
 use Rattle.cas_slot.specs.declared.message.Request.{Request}
@@ -52,14 +53,6 @@ none_waits : (ask : AcceptorView → Request) (reply : AcceptorView → Reply) (
 none_waits ask reply [] [] e = record { none_asked = refl; none_told = refl }
 none_waits ask reply [] (x ∷ told) e = absurd cc
 none_waits ask reply (x ∷ asked) told e = absurd cc
-
-map-push : {A B : Type 0} (f : A → B) (xs : List A) (x : A) → map f (xs ++ x ∷ []) ≡ map f xs ++ f x ∷ []
-map-push f [] x = refl
-map-push f (y ∷ xs) x = ap (λ rest. f y ∷ rest) (map-push f xs x)
-
-pub append-nil : {A : Type 0} (xs : List A) → xs ++ [] ≡ xs
-append-nil [] = refl
-append-nil (x ∷ xs) = ap (λ rest. x ∷ rest) (append-nil xs)
 
 -- what a turn on a request does to a phase
 pub record RequestTurn (acceptors : List AcceptorView) (by : List ℕ) (ask : AcceptorView → Request) (reply : AcceptorView → Reply) (Before After : AcceptorView → Type 0)
@@ -117,7 +110,7 @@ phase_request acceptors frames by ask reply Before After p request rest e number
         waits = ap (λ (q : List Message). q ++ message.Reply (replied x request) ∷ []) f.rest_is
             ∙ append_assoc (map (λ a. message.Request (ask a)) f.later) (map (λ a. message.Reply (reply a)) p.told) (message.Reply (replied x request) ∷ [])
             ∙ ap (λ (r : Reply). map (λ a. message.Request (ask a)) f.later ++ (map (λ a. message.Reply (reply a)) p.told ++ message.Reply r ∷ [])) answered
-            ∙ ap (λ (q : List Message). map (λ a. message.Request (ask a)) f.later ++ q) (sym (map-push (λ a. message.Reply (reply a)) p.told x'));
+            ∙ ap (λ (q : List Message). map (λ a. message.Request (ask a)) f.later ++ q) (sym (map_push (λ a. message.Reply (reply a)) p.told x'));
         confirmed = p.confirmed;
         before = waiting.1;
         after = subst (Each After) (append_assoc p.arrived p.told (x' ∷ [])) (Each-append After before (x' ∷ []) p.after (handled, tt));

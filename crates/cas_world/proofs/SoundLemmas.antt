@@ -82,7 +82,11 @@ sound_begun world room left caller call key program s fits =
 
 -- ---- turn, on a request
 pub record RequestSound (world : View) (room : ℕ) (request : Request) (rest : List Message) : Type 0 where
+  pub before : List AcceptorView
   pub acceptor : AcceptorView
+  pub after : List AcceptorView
+  pub at : world.acceptors ≡ before ++ acceptor ∷ after
+  pub put : slice_set world.acceptors (request.to - 1) (acceptor_after acceptor request) ≡ before ++ acceptor_after acceptor request ∷ after
   pub found : slice_get world.acceptors (request.to - 1) ≡ Some acceptor
   pub vote_fits : length (vote_of (key_of request.ask) acceptor.id (replied acceptor request).tag (replied acceptor request).tell) ≤ room
   pub sound : (left : ℕ) → left + length (vote_of (key_of request.ask) acceptor.id (replied acceptor request).tag (replied acceptor request).tell) ≡ room
@@ -115,7 +119,11 @@ request_sound : (world : View) (room : ℕ) (request : Request) (rest : List Mes
     → IsRoundSound (after_request world request rest (Some x)) left world.desk.round)
     → RequestSound world room request rest
 request_sound world room request rest before x after s at found put bounded fits stage = record {
+  before = before;
   acceptor = x;
+  after = after;
+  at = at;
+  put = put;
   found = found;
   vote_fits = fits;
   sound = λ left e. record {

@@ -116,6 +116,11 @@ telling desk answer = record desk { told = Some answer }
 abbrev pub done_of : Round → Outcome → Answer
 done_of round outcome = answer.Done outcome.state outcome.took round.ballot
 
+-- the answer tells that the change stands
+abbrev pub IsDone : Answer → Type 0
+IsDone (answer.Done state took ballot) = ⊤
+IsDone other = ⊥
+
 -- the acknowledgment of a round by these acceptors
 abbrev pub acknowledgment_of : Round → List ℕ → Acknowledgment
 acknowledgment_of round by = record { key = round.key; ballot = round.ballot; era = 0; by = by }

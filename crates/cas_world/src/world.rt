@@ -1,14 +1,15 @@
 //! The world: the acceptors, the proposer, the messages between them, and the record of what happened.
 
-ghost use Rattle.std.specs.Prelude.{◌≡◌, ◌≢◌, ◌+◌, ◌-◌, ◌*◌, ◌<◌, ◌≤◌, ◌⊎◌, ◌↔◌, false, Some, None, [], ◌∷◌, ◌++◌, map, length, vec_len, vec_capacity, option_to_list, slice_get, slice_set, IsTrue, IfSome, IfOk, IfErr, OnOk, OnErr, IsErrOf};
+ghost use Rattle.std.specs.Prelude.{◌≡◌, ◌≢◌, ◌+◌, ◌-◌, ◌*◌, ◌<◌, ◌≤◌, ◌⊎◌, ◌↔◌, false, Some, None, [], ◌∷◌, ◌++◌, map, length, reverse, vec_len, vec_capacity, option_to_list, slice_get, slice_set, IsTrue, IfSome, IfOk, IfErr, OnOk, OnErr, IsErrOf};
 ghost use Rattle.cas_slot.specs.Slots.{no_slots};
 ghost use Rattle.cas_record.specs.declared.answer.Answer.TheVariants as answer;
+ghost use Rattle.cas_record.specs.Legal.{IsLegal};
 ghost use Rattle.std.specs.VecDeque.{deque_len, deque_capacity};
 ghost use Rattle.cas_change.specs.Outcome.{outcome_of};
 ghost use Rattle.cas_slot.specs.Rules.{key_of};
 ghost use Rattle.cas_world.specs.declared.message.Message.TheVariants as message;
 ghost use Rattle.cas_world.specs.Acceptor.{acceptor_after, replied};
-ghost use Rattle.cas_world.specs.Desk.{closed, telling, is_preparing, is_accepting, state_of};
+ghost use Rattle.cas_world.specs.Desk.{IsDone, closed, telling, is_preparing, is_accepting, state_of};
 ghost use Rattle.cas_world.specs.Sound.{Each};
 ghost use Rattle.cas_world.specs.Step.{Step, Begin, Turn, Propose, Count, End, turns_left, confirmers, to_each, prepare_request, accept_request, vote_of, IsProposal};
 ghost use Rattle.cas_world.specs.View.{View, opened, acceptors_from};
@@ -51,6 +52,7 @@ impl<S: Shelf> Model for World<S> {
     ghost use Rattle.cas_world.specs.AcceptorCode.{acceptor_code};
     ghost use Rattle.cas_world.specs.View.{View};
     ghost use Rattle.cas_world.specs.Sound.{IsSound};
+    ghost use Rattle.cas_world.specs.History.{HasHistory};
 
     ghost Value = { View };
 
@@ -68,7 +70,12 @@ impl<S: Shelf> Model for World<S> {
       desk = world.desk;
       frames = world.frames.items;
       marks = world.record.marks;
-    }) world.record.room × (vec_len world.shelves ≡ 0) × (3 ≤ vec_capacity world.shelves) };
+    }) world.record.room × (vec_len world.shelves ≡ 0) × (3 ≤ vec_capacity world.shelves) × HasHistory (record {
+      acceptors = world.acceptors.items;
+      desk = world.desk;
+      frames = world.frames.items;
+      marks = world.record.marks;
+    }) };
 }
 
 /// What takes memory when a call begins.
@@ -232,13 +239,15 @@ impl<S: Shelf> World<S> {
         }
     }
 
-    /// Counts the confirmations of the accept phase: marks the acknowledgment, and answers that the change is done.
+    /// Counts the confirmations of the accept phase, which are a quorum: marks the acknowledgment, and answers that the
+    /// change is done.
     pub fn count(&mut self, proposer: u8) -> Answer
         requires own { proposer ≡ PROPOSER }
         requires accepting { IsTrue (is_accepting self.old.desk.round) }
         requires none_waits { self.old.frames ≡ [] }
         ensures step { Step self.old (Count proposer) self.new }
         ensures told { self.new.desk.told ≡ Some result }
+        ensures done { IsDone result }
         // Those that accepted are a majority.
         ensures quorum { ACCEPTORS < 2 * length (confirmers self.old.desk.round) }
     {
@@ -271,16 +280,20 @@ impl<S: Shelf> World<S> {
         }
     }
 
-    /// The record of all that has happened.
+    /// The record of all that has happened. It is legal: each register has one history, in which every change answered
+    /// done stands once, after all that was settled when its call began, an unsettled one at most once, and a refused
+    /// one never.
     pub fn record(&self) -> &Record
-        ensures { result.now.marks ≡ self.now.marks }
+        ensures record_ { result.now.marks ≡ self.now.marks }
+        ensures legal { IsLegal (reverse result.now.marks) }
     {
         &self.record
     }
 
-    /// Hands back the record, and the shelves in the order of their acceptors.
+    /// Hands back the record, which is legal, and the shelves in the order of their acceptors.
     pub fn parts(self) -> (Record, Vec<S>)
         ensures record_ { result.0.marks ≡ self.marks }
+        ensures legal { IsLegal (reverse result.0.marks) }
         ensures shelves { map (λ shelf. S.contents shelf) result.1.items ≡ map (λ acceptor. acceptor.slots) self.acceptors }
     {
         let World {

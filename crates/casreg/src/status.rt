@@ -2,10 +2,8 @@
 
 ghost use Rattle.std.specs.Prelude.{◌≡◌};
 ghost use Rattle.casreg.specs.Status.{number_of};
-ghost use Rattle.casreg.specs.declared.status.Status.TheVariants.{ReadFault, Endless, NoMemory};
 
 use cas_lines::lines::LineFault;
-use std::alloc::{AllocError, AllocFailed};
 
 /// How a run ends. Its number is the exit status of the program.
 #[derive(Clone, Copy, Debug, PartialEq, Eq)]
@@ -53,13 +51,5 @@ impl From<LineFault> for Status {
             LineFault::Endless { line } => Status::Endless { line },
             LineFault::NoMemory => Status::NoMemory,
         }
-    }
-}
-
-impl From<AllocError> for Status {
-    ghost from_gives = { λ _ status. status ≡ NoMemory };
-
-    fn from(_error: AllocError) -> Status {
-        Status::NoMemory
     }
 }

@@ -1,4 +1,4 @@
-use Rattle.std.proofs.Common.{◌≡◌, ◌+◌, ◌≤◌, ℕ, List, ◌∷◌, [], ◌++◌, arith, ◌∙◌, ap, refl}
+use Rattle.std.proofs.Common.{◌≡◌, ◌+◌, ◌≤◌, ℕ, List, ◌∷◌, [], ◌++◌, arith, ◌∙◌, ap, refl, sym, subst}
 use Rattle.cas_ballot.specs.declared.ballot.Ballot.{Ballot}
 use Rattle.cas_change.specs.declared.program.Clause.{Clause}
 use Rattle.cas_record.specs.declared.mark.Mark.{Mark}
@@ -6,6 +6,8 @@ use Rattle.cas_record.specs.declared.mark.Mark.TheVariants.{Begun}
 use Rattle.cas_world.specs.Desk.{begun, ballot_at}
 use Rattle.cas_world.specs.Step.{to_each, prepare_request, turns_left}
 use Rattle.cas_world.specs.View.{View}
+use Rattle.cas_world.specs.History.{HasHistory}
+use Rattle.cas_world.proofs.Beginnings.{history_begun}
 use Rattle.cas_world.proofs.SoundLemmas.{began, six_turns}
 use Rattle.cas_world.proofs.world.World.begin.Goals as goal
 
@@ -25,7 +27,14 @@ invariant_of-self-2 g c =
     let marks : after.marks ≡ world.marks ++ Begun c.args.caller c.args.call c.args.key.now c.args.program.now ∷ [] =
     c.push.ensures.marks ∙ ap (λ (m : List Mark). m ++ c.in-Ok.opening.mark ∷ []) e.marks ∙ ap (λ (m : Mark). world.marks ++ m ∷ []) e.mark in
     let b = began world c.self.inside.record.room c.args.caller c.args.call c.args.key.now c.args.program.now after c.push.new.self.room c.self.invariant.0 fits refl desk frames marks in
-    (b.sound, c.self.invariant.1, c.self.invariant.2)
+    (
+      b.sound,
+      c.self.invariant.1,
+      c.self.invariant.2,
+      subst HasHistory (sym b.is)
+          (history_begun world c.args.caller c.args.call c.args.key.now c.args.program.now c.self.invariant.3 c.requires.own
+          (c.requires.next ∙ ap (λ (w : View). w.desk.calls + 1) (sym c.self.view_is))),
+    )
 
 pub returns-clause-turns : goal.returns-clause-turns
 returns-clause-turns g c =

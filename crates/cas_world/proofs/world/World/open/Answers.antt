@@ -1,5 +1,7 @@
 use Rattle.std.proofs.Common.{◌≡◌, arith, sym, ◌∙◌, ap, subst, length}
 use Rattle.cas_world.specs.Sound.{IsSound}
+use Rattle.cas_world.specs.History.{HasHistory}
+use Rattle.cas_world.proofs.Beginnings.{history_opened}
 use Rattle.cas_world.specs.View.{View, opened}
 use Rattle.cas_world.proofs.SoundLemmas.{sound_opened, opened_acceptors}
 use Rattle.cas_world.proofs.world.World.open.Goals as goal
@@ -13,6 +15,7 @@ invariant_of-result g c =
       subst (λ (w : View). IsSound w c.new-3.result.room) (sym opened_is) (sound_opened c.new-3.result.room),
       omega (arith, ap length c.take_shelves.ensures.taken, c.take_shelves.new.shelves.ok),
       omega (arith, c.take_shelves.ensures.kept, c.args.shelves.ok, c.requires.three),
+      subst HasHistory (sym opened_is) history_opened,
     )
 
 pub returns-clause-ok : goal.returns-clause-ok
