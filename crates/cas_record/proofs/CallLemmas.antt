@@ -1,5 +1,5 @@
 -- The bookkeeping of calls: a call is begun once, and its entry bears the program with which it began.
-use Rattle.std.proofs.Common.{◌≡◌, ℕ, suc, ◌≤◌, Bool, true, false, not, List, [], ◌∷◌, cond, arith, refl, ◌∙◌, subst}
+use Rattle.std.proofs.Common.{◌≡◌, ℕ, suc, ◌≤◌, true, false, not, List, [], ◌∷◌, arith, refl, ◌∙◌, subst}
 use Rattle.std.specs.Prelude.{◌&&◌, ◌==◌}
 use mathlib.Core.Logic.{inl, inr}
 use Rattle.cas_change.specs.declared.program.Clause.{Clause}

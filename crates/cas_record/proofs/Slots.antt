@@ -12,7 +12,7 @@ use Rattle.cas_record.specs.Chain.{is_key}
 use Rattle.cas_record.specs.Happening.{Happening, Marked, Asked, Promised, Took, Dropped, Entered, marks_of}
 use Rattle.cas_record.specs.Lawful.{Cluster, IsMade, Lawful, HasSeen, in_promise, in_take, in_ride, MayPromise, MayTake, MayDrop, SlotTold, promised_slot, slot_told, is_slot}
 use Rattle.cas_record.proofs.PlaceLemmas.{none_at_nil, stands_part}
-use Rattle.cas_record.proofs.Tests.{less_is, and_left, and_right, both_true, not_both, key_same, key_is, nat_same, nat_is, slot_same}
+use Rattle.cas_record.proofs.Tests.{less_is, both_true, not_both, key_is, nat_is, slot_same}
 use Rattle.cas_record.proofs.LogLemmas.{law, part_of}
 
 -- the acceptor removed the key's slot at a tombstone that is at or above the ballot

@@ -1,7 +1,7 @@
 -- Requests that are made leave the log and the acceptors in agreement.
-use Rattle.std.proofs.Common.{◌≡◌, ℕ, List, [], ◌∷◌, ap, refl, ◌∙◌}
-use Rattle.cas_record.specs.Places.{Stands, here}
-use Rattle.cas_record.specs.Happening.{Happening, Marked, Asked, marks_of}
+use Rattle.std.proofs.Common.{◌≡◌, ℕ, List, [], ◌∷◌, refl, ◌∙◌}
+use Rattle.cas_record.specs.Places.{here}
+use Rattle.cas_record.specs.Happening.{Happening, Asked, marks_of}
 use Rattle.cas_record.specs.Lawful.{Lawful, slot_told}
 use Rattle.cas_slot.specs.declared.message.Request.{Request}
 use Rattle.cas_slot.specs.Slot.{accepted_of}
@@ -63,8 +63,7 @@ asks_messages request [] log lawful plain = tt
 asks_messages request (x ∷ rest) log lawful plain =
     let plain_rest : Each IsPlain (asks request rest log) = asks_each IsPlain request rest log (λ id. tt) plain in
     let lawful_rest : Lawful cluster (asks request rest log) = asks_lawful request rest log lawful in
-    let one : Grows (asks request rest log) (Asked (request x.id) ∷ asks request rest log) = grows_one (Asked (request x.id)) (asks request rest log) (lawful_rest, tt) (tt, plain_rest) in
-    (
+    let one : Grows (asks request rest log) (Asked (request x.id) ∷ asks request rest log) = grows_one (Asked (request x.id)) (asks request rest log) (lawful_rest, tt) (tt, plain_rest) in (
       record { older = asks request rest log; at = here },
       Each-map (IsMessageTrue (asks request rest log)) (IsMessageTrue (Asked (request x.id) ∷ asks request rest log)) (to_each request rest) (message_grows one) (asks_messages request rest log lawful plain),
     )

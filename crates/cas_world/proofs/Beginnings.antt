@@ -1,18 +1,18 @@
 -- A history goes on when the world opens and when a call begins.
-use Rattle.std.proofs.Common.{◌≡◌, ℕ, suc, ◌+◌, ◌<◌, ◌≤◌, true, List, [], ◌∷◌, ◌++◌, arith, refl, sym, ap, ◌∙◌, subst}
-use Rattle.std.specs.Prelude.{Option, None, Some, IfSome, reverse, ◌==◌}
+use Rattle.std.proofs.Common.{◌≡◌, ℕ, ◌+◌, ◌<◌, ◌≤◌, List, [], ◌∷◌, arith, refl, sym, ap, ◌∙◌, subst}
+use Rattle.std.specs.Prelude.{Option, ◌==◌}
 use Rattle.std.specs.FinMap.{get-empty}
 use Rattle.std.specs.Ordering.{nat_cmp}
 use Rattle.std.specs.Cmp.Lexicographic.{slice_cmp}
 use Rattle.std.proofs.lemmas.List.{reverse-append}
 use Rattle.cas_ballot.specs.declared.ballot.Ballot.{Ballot}
-use Rattle.cas_ballot.specs.Ballot.{BallotAtMost, BallotLess}
+use Rattle.cas_ballot.specs.Ballot.{BallotLess}
 use Rattle.cas_ballot.proofs.BallotLemmas.{at_most_refl, at_most_of_less, at_most_less, less_irreflexive}
 use Rattle.cas_change.specs.declared.program.Clause.{Clause}
 use Rattle.cas_record.specs.declared.mark.Mark.{Mark}
 use Rattle.cas_record.specs.declared.mark.Mark.TheVariants.{Begun, Proposed, Ended}
 use Rattle.cas_record.specs.Places.{Stands, here}
-use Rattle.cas_record.specs.Legal.{calls_of, IsFirstProposal, IsFirstEnd}
+use Rattle.cas_record.specs.Legal.{calls_of}
 use Rattle.cas_record.specs.Happening.{Happening, Marked, Asked, marks_of}
 use Rattle.cas_record.specs.Lawful.{Lawful, MayPropose, MayEnd}
 use Rattle.cas_record.proofs.CallLemmas.{begun_low}
@@ -20,15 +20,13 @@ use Rattle.cas_record.proofs.LegalLemmas.{counted}
 use Rattle.cas_record.proofs.Tests.{step_up}
 use Rattle.cas_slot.specs.declared.slot.Slot.{Slot}
 use Rattle.cas_slot.specs.declared.message.Request.{Request}
-use Rattle.cas_slot.specs.Rules.{key_of, tag_of}
 use Rattle.cas_slot.specs.Slot.{accepted_of}
 use Rattle.cas_slot.specs.Slots.{no_slots}
-use Rattle.cas_world.specs.Acceptor.{AcceptorView}
 use Rattle.cas_world.specs.Desk.{ballot_at}
 use Rattle.cas_world.specs.Sound.{Each}
-use Rattle.cas_world.specs.Step.{prepare_request, to_each, after_begin}
+use Rattle.cas_world.specs.Step.{prepare_request, after_begin}
 use Rattle.cas_world.specs.View.{View, opened}
-use Rattle.cas_world.specs.History.{cluster, IsAcceptedState, IsAcceptorTold, IsMessageTrue, IsPlain, IsWithin, IsNoEnd, IsBefore, IsOwnAsk, IsPrepareTrue, IsRoundTrue, HasHistory, told_of}
+use Rattle.cas_world.specs.History.{cluster, IsAcceptedState, IsAcceptorTold, IsPlain, IsWithin, IsNoEnd, IsBefore, IsOwnAsk, HasHistory, told_of}
 use Rattle.cas_world.proofs.Lists.{Each-map}
 use Rattle.cas_world.proofs.Growth.{Grows, grows_trans, grows_one, within_grows}
 use Rattle.cas_world.proofs.Asking.{asks, asks_each, asks_marks, asks_lawful, asks_grows, asks_told, asks_messages, told_more}
@@ -59,8 +57,7 @@ pub no_end_new : (log : List Happening) (call : ℕ) → Lawful cluster log → 
 no_end_new [] call lawful few = tt
 no_end_new (Marked (Ended caller n rounds answer) ∷ older) call lawful few =
     let may : MayEnd (marks_of older) caller n answer = lawful.1 in
-    let low : n ≤ calls_of caller (marks_of older) = begun_low (counted cluster older lawful.0) may.first.begun.stands in
-    (
+    let low : n ≤ calls_of caller (marks_of older) = begun_low (counted cluster older lawful.0) may.first.begun.stands in (
       λ c e. let own : n ≤ calls_of 1 (marks_of older) = subst (λ x. n ≤ calls_of x (marks_of older)) c low in omega (arith, own, few, e),
       no_end_new older call lawful.0 few,
     )
@@ -74,8 +71,7 @@ pub before_new : (log : List Happening) (call : ℕ) (top ballot : Ballot) (mark
 before_new [] call top ballot marks lawful few less within = tt
 before_new (Marked (Proposed p) ∷ older) call top ballot marks lawful few less within =
     let may : MayPropose cluster older p = lawful.1 in
-    let low : p.call ≤ calls_of p.caller (marks_of older) = begun_low (counted cluster older lawful.0) may.first.begun.stands in
-    (
+    let low : p.call ≤ calls_of p.caller (marks_of older) = begun_low (counted cluster older lawful.0) may.first.begun.stands in (
       (
         at_most_less within.0 less,
         λ c e. let own : p.call ≤ calls_of 1 (marks_of older) = subst (λ x. p.call ≤ calls_of x (marks_of older)) c low in omega (arith, own, few, e),

@@ -1,5 +1,5 @@
 -- As the log of the world grows, what it told stays told.
-use Rattle.std.proofs.Common.{◌≡◌, ℕ, true, List, [], ◌∷◌, refl, sym, ap, ◌∙◌, subst}
+use Rattle.std.proofs.Common.{◌≡◌, ℕ, List, [], ◌∷◌, refl, sym, ap, ◌∙◌}
 use Rattle.std.specs.Prelude.{Option, None, Some}
 use Rattle.cas_ballot.specs.declared.ballot.Ballot.{Ballot}
 use Rattle.cas_ballot.specs.Ballot.{BallotAtMost}
@@ -9,11 +9,11 @@ use Rattle.cas_change.specs.declared.state.State.TheVariants.{Empty}
 use Rattle.cas_change.specs.declared.outcome.Outcome.{Outcome}
 use Rattle.cas_change.specs.Outcome.{outcome_of}
 use Rattle.cas_record.specs.declared.mark.Mark.{Mark}
-use Rattle.cas_record.specs.declared.mark.Mark.TheVariants.{Begun, Proposed, Voted, Floor, EraEntered, Ended}
+use Rattle.cas_record.specs.declared.mark.Mark.TheVariants.{Proposed, Floor}
 use Rattle.cas_record.specs.Places.{At, Stands, here, past}
 use Rattle.cas_record.specs.Chain.{link_of, entry_of, chain_of}
 use Rattle.cas_record.specs.Replay.{replay_from, opening_state}
-use Rattle.cas_record.specs.Happening.{Happening, Marked, Asked, Promised, Took, Dropped, Entered, marks_of}
+use Rattle.cas_record.specs.Happening.{Happening, Marked, Asked, marks_of}
 use Rattle.cas_record.specs.Lawful.{Lawful}
 use Rattle.cas_record.proofs.PlaceLemmas.{stands_at}
 use Rattle.cas_record.proofs.LogLemmas.{ProposedAt, proposed_at, at_proposal, chain_whole, in_log}
@@ -24,14 +24,11 @@ use Rattle.cas_slot.specs.declared.message.Reply.{Reply}
 use Rattle.cas_slot.specs.declared.message.Tell.{Tell}
 use Rattle.cas_slot.specs.declared.message.Tell.TheVariants as tell
 use Rattle.cas_slot.specs.Rules.{key_of}
-use Rattle.cas_slot.specs.Slot.{accepted_of}
-use Rattle.cas_slot.specs.Slots.{slot_at}
 use Rattle.cas_world.specs.declared.desk.Round.{Round}
 use Rattle.cas_world.specs.declared.message.Message.{Message}
 use Rattle.cas_world.specs.declared.message.Message.TheVariants as message
-use Rattle.cas_world.specs.Acceptor.{AcceptorView}
 use Rattle.cas_world.specs.Sound.{Each}
-use Rattle.cas_world.specs.History.{cluster, IsProposedState, IsAcceptedState, IsAcceptorTold, IsAskTrue, IsTellTrue, IsReplyTrue, IsMessageTrue, IsPlain, IsWithin, IsGranted, IsAcceptTrue}
+use Rattle.cas_world.specs.History.{cluster, IsProposedState, IsAcceptedState, IsAskTrue, IsTellTrue, IsReplyTrue, IsMessageTrue, IsPlain, IsWithin, IsGranted, IsAcceptTrue}
 
 -- ---- each of a list
 each_at : {A : Type 0} (P : A → Type 0) {x : A} {older log : List A} → At x older log → Each P log → P x

@@ -1,42 +1,39 @@
 -- What an acceptor does with a request that was made is allowed, and leaves the log and its slots in agreement.
 use Rattle.std.proofs.Common.{◌≡◌, ℕ, Bool, true, false, cond, List, [], ◌∷◌, ◌++◌, refl, sym, ap, ◌∙◌, subst}
-use Rattle.std.specs.Prelude.{⊤, Option, None, Some, unwrap_or, if◌then◌else◌, ◌&&◌, ◌==◌}
+use Rattle.std.specs.Prelude.{Option, None, Some, unwrap_or, ◌==◌}
 use Rattle.std.specs.declared.cmp.Ordering.{Ordering}
 use Rattle.std.specs.declared.cmp.Ordering.TheVariants.{Less, Equal, Greater}
 use Rattle.std.specs.Ordering.{is_lt, is_eq, match_ordering, MatchOrdering}
 use mathlib.Core.Logic.{inl, inr}
 use Rattle.cas_ballot.specs.declared.ballot.Ballot.{Ballot}
 use Rattle.cas_ballot.specs.Ballot.{ballot_cmp, zero_ballot, greater_of, BallotAtMost, BallotLess}
-use Rattle.cas_ballot.proofs.BallotLemmas.{compared, at_most_refl, at_most_trans, at_most_of_less, at_most_or_less, at_most_greater_left, at_most_greater_right, not_lt_of_at_most, cmp_refl}
+use Rattle.cas_ballot.proofs.BallotLemmas.{compared, at_most_refl, at_most_trans, at_most_of_less, at_most_or_less, at_most_greater_left, at_most_greater_right, not_lt_of_at_most}
 use Rattle.cas_change.specs.declared.state.State.{State}
-use Rattle.cas_record.specs.declared.mark.Mark.{Mark}
 use Rattle.cas_record.specs.declared.mark.Mark.TheVariants.{Voted}
-use Rattle.cas_record.specs.Places.{At, Stands, here, past}
+use Rattle.cas_record.specs.Places.{Stands, here, past}
 use Rattle.cas_record.specs.Chain.{is_key}
 use Rattle.cas_record.specs.Happening.{Happening, Marked, Asked, Promised, Took, Dropped, Entered, marks_of}
-use Rattle.cas_record.specs.Lawful.{Lawful, SlotTold, slot_told, promised_slot, is_slot, MayPromise, MayTake, MayVote}
-use Rattle.cas_record.proofs.Tests.{if_true, if_false, true_or_false, both_true, left_false, right_false, false_of_not, less_is, less_tells, key_is, key_same, key_refl, nat_is, nat_same, slot_same, and_left}
+use Rattle.cas_record.specs.Lawful.{Lawful, SlotTold, slot_told, promised_slot, is_slot, MayPromise, MayTake}
+use Rattle.cas_record.proofs.Tests.{if_true, if_false, true_or_false, both_true, false_of_not, less_is, key_is, key_same, key_refl, nat_is, slot_same}
 use Rattle.cas_record.proofs.Slots.{IsAboveDropped, may_promise, may_take}
 use Rattle.cas_record.proofs.LogLemmas.{proposed_at, not_zero}
 use Rattle.cas_slot.specs.declared.slot.Slot.{Slot}
 use Rattle.cas_slot.specs.declared.slot.Accepted.{Accepted}
-use Rattle.cas_slot.specs.declared.rules.PrepareRule.{PrepareRule}
 use Rattle.cas_slot.specs.declared.rules.PrepareRule.TheVariants as prepare
-use Rattle.cas_slot.specs.declared.rules.AcceptRule.{AcceptRule}
 use Rattle.cas_slot.specs.declared.rules.AcceptRule.TheVariants as accept
 use Rattle.cas_slot.specs.declared.message.Ask.{Ask}
 use Rattle.cas_slot.specs.declared.message.Ask.TheVariants.{Prepare, Accept}
 use Rattle.cas_slot.specs.declared.message.Request.{Request}
 use Rattle.cas_slot.specs.declared.message.Tell.{Tell}
 use Rattle.cas_slot.specs.declared.message.Tell.TheVariants as tell
-use Rattle.cas_slot.specs.Rules.{prepare_rule, accept_rule, is_accepted_at, slot_by_prepare, slot_by_accept, tell_by_prepare, tell_by_accept, tell_of, slot_after, slots_after, with_slot_after, key_of, tag_of}
+use Rattle.cas_slot.specs.Rules.{prepare_rule, accept_rule, is_accepted_at, slot_by_prepare, slot_by_accept, tell_by_prepare, tell_by_accept, tell_of, slots_after, with_slot_after, key_of, tag_of}
 use Rattle.cas_slot.specs.Slot.{seen_of, accepted_of, accepted_ballot}
-use Rattle.cas_slot.specs.Slots.{Slots, slot_at, with_slot}
+use Rattle.cas_slot.specs.Slots.{Slots, slot_at}
 use Rattle.cas_slot.proofs.SlotsLemmas.{slot_at-with_slot_same, slot_at-with_slot_other}
 use Rattle.cas_world.specs.Acceptor.{AcceptorView, acceptor_after, replied}
 use Rattle.cas_world.specs.Sound.{Each}
 use Rattle.cas_world.specs.Step.{vote_of}
-use Rattle.cas_world.specs.History.{cluster, IsProposedState, IsAcceptedState, IsAcceptorTold, told_of, IsAskTrue, IsTellTrue, IsReplyTrue, IsPlain}
+use Rattle.cas_world.specs.History.{cluster, IsProposedState, IsAcceptedState, IsAcceptorTold, told_of, IsAskTrue, IsTellTrue, IsPlain}
 use Rattle.cas_world.proofs.Growth.{each_stands, Grows, grows_refl, grows_trans, grows_one, accepted_grows}
 
 -- ---- slots
@@ -279,10 +276,12 @@ took_tells (Promised a k b told ∷ older) acceptor key ballot e some =
 took_tells (Took a k b ride ∷ older) acceptor key ballot e some = elim (true_or_false (is_slot acceptor key a k)) [
   | inl own ↦
       let at = slot_same {acceptor = acceptor} {a = a} {key = key} {k = k} own in
-      let b_is : b ≡ ballot = ap (λ (s : SlotTold). s.accepted) (sym (if_true (is_slot acceptor key a k) _ _ own)) ∙ e in
-      (ride, subst (λ x. Stands (Took x key ballot ride) (Took a k b ride ∷ older)) at.0
-      (subst (λ x. Stands (Took a x ballot ride) (Took a k b ride ∷ older)) at.1
-      (subst (λ x. Stands (Took a k x ride) (Took a k b ride ∷ older)) b_is (record { older = older; at = here }))))
+      let b_is : b ≡ ballot = ap (λ (s : SlotTold). s.accepted) (sym (if_true (is_slot acceptor key a k) _ _ own)) ∙ e in (
+        ride,
+        subst (λ x. Stands (Took x key ballot ride) (Took a k b ride ∷ older)) at.0
+            (subst (λ x. Stands (Took a x ballot ride) (Took a k b ride ∷ older)) at.1
+            (subst (λ x. Stands (Took a k x ride) (Took a k b ride ∷ older)) b_is (record { older = older; at = here }))),
+      )
   | inr other ↦
       let rest = took_tells older acceptor key ballot (ap (λ (s : SlotTold). s.accepted) (sym (if_false (is_slot acceptor key a k) _ _ other)) ∙ e) some in
       (rest.0, record { older = rest.1.older; at = past rest.1.at })

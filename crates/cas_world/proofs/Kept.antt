@@ -1,7 +1,6 @@
 -- Each call keeps the history of the world, as it keeps the world sound.
-use Rattle.std.proofs.Common.{◌≡◌, ℕ, ◌+◌, Bool, true, false, List, [], ◌∷◌, ◌++◌, arith, refl, sym, ap, ◌∙◌, subst}
+use Rattle.std.proofs.Common.{◌≡◌, ℕ, ◌+◌, true, false, List, [], ◌∷◌, ◌++◌, arith, refl, sym, ap, ◌∙◌, subst}
 use Rattle.std.specs.Prelude.{Option, None, Some}
-use Rattle.cas_ballot.specs.declared.ballot.Ballot.{Ballot}
 use Rattle.cas_ballot.specs.Ballot.{zero_ballot, BallotLess}
 use Rattle.cas_change.specs.declared.outcome.Outcome.{Outcome}
 use Rattle.cas_record.specs.declared.answer.Answer.{Answer}
@@ -13,10 +12,9 @@ use Rattle.cas_world.specs.declared.desk.Round.{Round}
 use Rattle.cas_world.specs.declared.desk.Stage.{Stage}
 use Rattle.cas_world.specs.declared.desk.Stage.TheVariants.{Preparing, Accepting}
 use Rattle.cas_world.specs.declared.message.Message.{Message}
-use Rattle.cas_world.specs.Acceptor.{AcceptorView}
 use Rattle.cas_world.specs.Desk.{ballot_at, closed, telling, is_accepting, is_preparing, IsCount, IsCountOf}
 use Rattle.cas_world.specs.Sound.{IsSound, IsRoundSound}
-use Rattle.cas_world.specs.Step.{IsProposal, after_proposal, after_accepting, after_count}
+use Rattle.cas_world.specs.Step.{IsProposal, after_proposal, after_accepting}
 use Rattle.cas_world.specs.View.{View}
 use Rattle.cas_world.specs.History.{HasHistory}
 use Rattle.cas_world.proofs.SoundLemmas.{prepared, all_confirmed, sound_counted}

@@ -1,7 +1,6 @@
 -- The record of a world with a history is legal.
-use Rattle.std.proofs.Common.{List, subst}
+use Rattle.std.proofs.Common.{subst}
 use Rattle.std.specs.Prelude.{reverse}
-use Rattle.cas_record.specs.declared.mark.Mark.{Mark}
 use Rattle.cas_record.specs.Legal.{IsLegal}
 use Rattle.cas_record.specs.Lawful.{NeighboursMeet}
 use Rattle.cas_record.proofs.Quorums.{two_two}

@@ -1,27 +1,24 @@
 -- A history goes on when a round proposes, is counted and is answered.
-use Rattle.std.proofs.Common.{◌≡◌, ℕ, ◌+◌, ◌<◌, ◌≤◌, Bool, true, false, List, [], ◌∷◌, ◌++◌, arith, refl, sym, ap, ◌∙◌, subst}
-use Rattle.std.specs.Prelude.{Option, None, Some, IfSome, reverse, ◌⊎◌}
+use Rattle.std.proofs.Common.{◌≡◌, ℕ, ◌≤◌, true, List, [], ◌∷◌, arith, refl, sym, ap, ◌∙◌, subst}
+use Rattle.std.specs.Prelude.{Option, None, Some, IfSome, ◌⊎◌}
 use Rattle.std.proofs.lemmas.List.{reverse-append}
 use mathlib.Core.Logic.{inl, inr}
 use Rattle.cas_ballot.specs.declared.ballot.Ballot.{Ballot}
 use Rattle.cas_ballot.specs.Ballot.{zero_ballot, greater_of, BallotAtMost, BallotLess}
-use Rattle.cas_ballot.specs.Members.{has_member}
-use Rattle.cas_ballot.proofs.BallotLemmas.{at_most_refl, at_most_less, greater_cases, none_below_zero, less_irreflexive}
-use Rattle.cas_change.specs.declared.program.Clause.{Clause}
+use Rattle.cas_ballot.proofs.BallotLemmas.{at_most_refl, greater_cases, none_below_zero, less_irreflexive}
 use Rattle.cas_change.specs.declared.state.State.{State}
 use Rattle.cas_change.specs.declared.outcome.Outcome.{Outcome}
 use Rattle.cas_change.specs.Outcome.{outcome_of}
 use Rattle.cas_record.specs.declared.answer.Answer.{Answer}
 use Rattle.cas_record.specs.declared.answer.Answer.TheVariants as answer
 use Rattle.cas_record.specs.declared.mark.Mark.{Mark}
-use Rattle.cas_record.specs.declared.mark.Mark.TheVariants.{Proposed, Voted, Acked, Floor, Ended}
+use Rattle.cas_record.specs.declared.mark.Mark.TheVariants.{Proposed, Acked, Ended}
 use Rattle.cas_record.specs.declared.mark.Proposal.{Proposal}
-use Rattle.cas_record.specs.declared.mark.Acknowledgment.{Acknowledgment}
-use Rattle.cas_record.specs.Places.{At, Stands, here, past}
+use Rattle.cas_record.specs.Places.{here, past}
 use Rattle.cas_record.specs.Chain.{floor_below, link_of, entry_of, program_of, chain_of}
 use Rattle.cas_record.specs.Replay.{replay_from, opening_state}
-use Rattle.cas_record.specs.Legal.{calls_of, IsBegun, IsProposed, IsEnded, HasProposal}
-use Rattle.cas_record.specs.Happening.{Happening, Marked, Asked, Entered, marks_of}
+use Rattle.cas_record.specs.Legal.{calls_of, IsBegun, IsProposed, IsEnded}
+use Rattle.cas_record.specs.Happening.{Happening, Marked, Asked, marks_of}
 use Rattle.cas_record.specs.Lawful.{Lawful, MayPropose, MayAck, MayEnd, by_promise, IsMade}
 use Rattle.cas_record.proofs.PlaceLemmas.{stands_at}
 use Rattle.cas_record.proofs.ChainLemmas.{chain-none, floor_below_cases}
@@ -36,9 +33,9 @@ use Rattle.cas_world.specs.declared.desk.Round.{Round}
 use Rattle.cas_world.specs.declared.desk.Stage.{Stage}
 use Rattle.cas_world.specs.declared.desk.Stage.TheVariants.{Preparing, Accepting}
 use Rattle.cas_world.specs.Acceptor.{AcceptorView}
-use Rattle.cas_world.specs.Desk.{ballot_at, state_of, is_accepting, is_preparing, closed, telling, done_of, acknowledgment_of}
+use Rattle.cas_world.specs.Desk.{ballot_at, state_of, is_accepting, closed, telling, done_of, acknowledgment_of}
 use Rattle.cas_world.specs.Sound.{Each}
-use Rattle.cas_world.specs.Step.{accept_request, after_proposal, after_accepting, after_end, proposal_mark}
+use Rattle.cas_world.specs.Step.{accept_request, after_proposal, after_accepting, after_end}
 use Rattle.cas_world.specs.View.{View}
 use Rattle.cas_world.specs.History.{cluster, three, IsProposedState, IsAcceptedState, IsAcceptorTold, IsMessageTrue, IsPlain, IsWithin, IsNoEnd, IsBefore, IsOwnAsk, IsPrepareTrue, IsAcceptTrue, IsStageTrue, IsRoundTrue, HasHistory}
 use Rattle.cas_world.proofs.Lists.{Each-map}
@@ -155,10 +152,10 @@ proposed_state log calls round by read lawful plain t s =
       same_ballot = refl;
       same_era = refl;
       state_is = sym (
-        replay_of_proposal cluster opening lawful here
-            ∙ ap (λ xs. (outcome_of (entry_of (marks_of log) p).program (replay_from opening xs)).state) (sym chain)
-            ∙ ap (λ (o : Outcome). o.state) (proposed_outcome log calls round by read opening lawful.0 plain t s same)
-      );
+          replay_of_proposal cluster opening lawful here
+          ∙ ap (λ xs. (outcome_of (entry_of (marks_of log) p).program (replay_from opening xs)).state) (sym chain)
+          ∙ ap (λ (o : Outcome). o.state) (proposed_outcome log calls round by read opening lawful.0 plain t s same)
+          );
     }
 
 pub history_proposed : (world : View) (round : Round) (by : List ℕ) (read : Option Accepted) → HasHistory world → world.desk.round ≡ Some round → round.stage ≡ Preparing by read

@@ -1,6 +1,6 @@
 -- A history goes on by a turn: an acceptor handles a request, or a reply arrives.
-use Rattle.std.proofs.Common.{◌≡◌, ℕ, suc, ◌+◌, ◌-◌, ◌<◌, ◌≤◌, Bool, true, false, cond, List, [], ◌∷◌, ◌++◌, length, arith, refl, sym, ap, ◌∙◌, subst}
-use Rattle.std.specs.Prelude.{Option, None, Some, IfSome, reverse, ◌==◌, ◌||◌, ◌&&◌, slice_set}
+use Rattle.std.proofs.Common.{◌≡◌, ℕ, suc, ◌+◌, ◌-◌, ◌≤◌, Bool, true, false, cond, List, [], ◌∷◌, ◌++◌, length, arith, refl, sym, ap, ◌∙◌, subst}
+use Rattle.std.specs.Prelude.{Option, None, Some, IfSome, reverse, ◌==◌, ◌||◌, slice_set}
 use Rattle.std.specs.Ordering.{is_lt, is_eq}
 use Rattle.std.proofs.lemmas.List.{append-nil, reverse-append}
 use mathlib.Core.Logic.{inl, inr}
@@ -9,19 +9,18 @@ use Rattle.cas_ballot.specs.Ballot.{ballot_cmp, BallotAtMost}
 use Rattle.cas_ballot.specs.Members.{has_member, with_member}
 use Rattle.cas_ballot.proofs.BallotLemmas.{at_most_refl, at_most_trans, at_most_of_less, at_most_or_less}
 use Rattle.cas_ballot.proofs.MemberLemmas.{members_where_tells}
-use Rattle.cas_change.specs.declared.outcome.Outcome.{Outcome}
 use Rattle.cas_record.specs.declared.mark.Mark.{Mark}
 use Rattle.cas_record.specs.declared.mark.Mark.TheVariants.{Voted}
-use Rattle.cas_record.specs.Places.{Stands, here}
+use Rattle.cas_record.specs.Places.{Stands}
 use Rattle.cas_record.specs.Legal.{calls_of}
-use Rattle.cas_record.specs.Happening.{Happening, Marked, Asked, Promised, Took, marks_of}
+use Rattle.cas_record.specs.Happening.{Happening, Asked, marks_of}
 use Rattle.cas_record.proofs.Tests.{true_or_false, or_cases, and_left, ballot_same, nat_same, less_is, less_tells, if_true, if_false}
 use Rattle.cas_slot.specs.declared.slot.Accepted.{Accepted}
 use Rattle.cas_slot.specs.declared.message.Request.{Request}
 use Rattle.cas_slot.specs.declared.message.Reply.{Reply}
 use Rattle.cas_slot.specs.declared.message.Tell.{Tell}
 use Rattle.cas_slot.specs.declared.message.Tell.TheVariants as tell
-use Rattle.cas_slot.specs.Rules.{key_of, tag_of}
+use Rattle.cas_slot.specs.Rules.{key_of}
 use Rattle.cas_slot.specs.Slot.{accepted_ballot}
 use Rattle.cas_world.specs.declared.desk.Round.{Round}
 use Rattle.cas_world.specs.declared.desk.Stage.{Stage}
@@ -33,10 +32,10 @@ use Rattle.cas_world.specs.Desk.{ballot_at, arrived, round_after, confirmed, lat
 use Rattle.cas_world.specs.Sound.{Each, IsNumberedFrom}
 use Rattle.cas_world.specs.Step.{vote_of, after_request}
 use Rattle.cas_world.specs.View.{View}
-use Rattle.cas_world.specs.History.{IsAcceptedState, IsAcceptorTold, IsAskTrue, IsTellTrue, IsReplyTrue, IsMessageTrue, IsPlain, IsWithin, IsNoEnd, IsBefore, IsOwnAsk, IsGranted, IsPrepareTrue, IsAcceptTrue, IsStageTrue, IsRoundTrue, HasHistory}
+use Rattle.cas_world.specs.History.{IsAcceptedState, IsAcceptorTold, IsTellTrue, IsReplyTrue, IsMessageTrue, IsPlain, IsWithin, IsNoEnd, IsBefore, IsOwnAsk, IsGranted, IsStageTrue, IsRoundTrue, HasHistory}
 use Rattle.cas_world.proofs.Lists.{Each-map, Each-append, Each-at, id_at}
-use Rattle.cas_world.proofs.Growth.{Grows, each_stands, mark_grows, accepted_grows, message_grows, granted_grows, accept_grows, within_grows}
-use Rattle.cas_world.proofs.Handling.{Handled, Handles, request_handled}
+use Rattle.cas_world.proofs.Growth.{each_stands, mark_grows, accepted_grows, message_grows, granted_grows, accept_grows, within_grows}
+use Rattle.cas_world.proofs.Handling.{Handled, request_handled}
 
 -- ---- acceptors by their numbers
 -- what holds of each acceptor but one, and of the one that takes its place

@@ -1,2 +1,4 @@
 pub mod AddLines
+pub mod Rounds
 pub mod Runs
+pub mod Written

@@ -1,33 +1,107 @@
 -- A script's run, up to some line.
-use Rattle.std.proofs.Common.{◌≡◌, ℕ, ◌+◌, ◌<◌, ◌≤◌, List, [], ◌∷◌, ◌++◌, length, arith, length-append}
+use Rattle.std.proofs.Common.{◌≡◌, ℕ, suc, ◌+◌, ◌<◌, ◌≤◌, List, [], ◌∷◌, ◌++◌, length, arith, length-append, append_assoc, refl, sym, ap, ◌∙◌, subst}
 use Rattle.std.specs.Prelude.{Option, Some, None, IfSome}
-use Rattle.std.specs.Io.KnownBytes.{IsAtEnd}
+use Rattle.std.specs.Io.KnownBytes.{IsAtEnd, Appends}
+use Rattle.std.proofs.lemmas.List.{append-nil}
 use Rattle.cas_lines.specs.Lines.{LinesState, ahead, line_at, HandsOut, IsEndless, HasHandedOut}
 use Rattle.cas_lines.proofs.WholeRuns.{HasHandedOut-nothing, HasHandedOut-line, HasHandedOut-end, HasHandedOut-endless}
+use Rattle.cas_world.specs.View.{View, opened}
+use Rattle.casreg.specs.Script.{LineAnswer, IsAnswered, ScriptRun, none, one_more, text_of, transcript_of}
 
--- some lines of the input were handed out, and as many were counted
-pub record IsMidway (limit : ℕ) (input : Option (List ℕ)) (reader : LinesState) (left : Option (List ℕ)) : Type 0 where
+-- some lines of the input were handed out, and as many were counted, run and answered
+pub record IsMidway (limit : ℕ) (input : Option (List ℕ)) (reader : LinesState) (left old new : Option (List ℕ)) (world : View) : Type 0 where
   pub lines : List (List ℕ)
   pub handed_out : HasHandedOut limit input lines reader left
   pub counted : reader.handed ≡ length lines
+  pub answers : List LineAnswer
+  pub run : ScriptRun opened lines answers world
+  pub written : Appends old new (transcript_of 1 answers)
 
-pub midway-nothing : (limit : ℕ) (input : Option (List ℕ)) (reader : LinesState) → reader.held ≡ [] → reader.room ≡ limit → reader.handed ≡ 0 → IsMidway limit input reader input
-midway-nothing limit input reader held room handed = record { lines = []; handed_out = HasHandedOut-nothing limit input reader held room; counted = handed }
+-- ---- transcripts
+-- each line has one answer
+as_many : {old new : View} {lines : List (List ℕ)} {answers : List LineAnswer} → ScriptRun old lines answers new → length answers ≡ length lines
+as_many none = refl
+as_many (one_more {lines = lines} {answers = answers} line answer run is) = omega (arith, as_many run, length-append lines (line ∷ []), length-append answers (answer ∷ []))
 
-pub midway-line : (limit : ℕ) (input left new_left : Option (List ℕ)) (old new : LinesState) (line : List ℕ) → IsMidway limit input old left
-    → HandsOut old new left new_left line → new.handed ≡ old.handed + 1 → IsMidway limit input new new_left
-midway-line limit input left new_left old new line m out next = record {
-  lines = m.lines ++ line ∷ [];
-  handed_out = HasHandedOut-line limit input left new_left m.lines old new line m.handed_out out;
-  counted = omega (arith, next, m.counted, length-append m.lines (line ∷ []));
+-- one answer more
+transcript_push : (number : ℕ) (answers : List LineAnswer) (answer : LineAnswer)
+    → transcript_of number (answers ++ answer ∷ []) ≡ transcript_of number answers ++ text_of (number + length answers) answer
+transcript_push number [] answer = append-nil (text_of number answer) ∙ ap (λ n. text_of n answer) (omega arith)
+transcript_push number (first ∷ later) answer =
+    let rest : transcript_of (suc number) (later ++ answer ∷ []) ≡ transcript_of (suc number) later ++ text_of (suc number + length later) answer = transcript_push (suc number) later answer in
+    let place : suc number + length later ≡ number + length (first ∷ later) = omega arith in
+    ap (λ text. text_of number first ++ text) (rest ∙ ap (λ n. transcript_of (suc number) later ++ text_of n answer) place)
+    ∙ sym (append_assoc (text_of number first) (transcript_of (suc number) later) (text_of (number + length (first ∷ later)) answer))
+
+pub transcript_more : {old new : View} {lines : List (List ℕ)} {answers : List LineAnswer} (answer : LineAnswer) (number : ℕ) → ScriptRun old lines answers new → number ≡ length lines + 1
+    → transcript_of 1 (answers ++ answer ∷ []) ≡ transcript_of 1 answers ++ text_of number answer
+transcript_more {answers = answers} answer number run e =
+    transcript_push 1 answers answer ∙ ap (λ n. transcript_of 1 answers ++ text_of n answer) (omega (arith, e, as_many run))
+
+-- ---- what a sink holds
+pub appends_nothing : (held : Option (List ℕ)) → Appends held held []
+appends_nothing None = tt
+appends_nothing (Some xs) = sym (append-nil xs)
+
+pub appends_both : (a b c : Option (List ℕ)) (first second : List ℕ) → Appends a b first → Appends b c second → Appends a c (first ++ second)
+appends_both None b c first second p q = tt
+appends_both (Some xs) None c first second p q = absurd p
+appends_both (Some xs) (Some ys) None first second p q = absurd q
+appends_both (Some xs) (Some ys) (Some zs) first second p q = q ∙ ap (λ front. front ++ second) p ∙ append_assoc xs first second
+
+-- ---- midway
+pub midway-nothing : (limit : ℕ) (input : Option (List ℕ)) (reader : LinesState) (held : Option (List ℕ)) (world : View) → reader.held ≡ [] → reader.room ≡ limit → reader.handed ≡ 0 → world ≡ opened
+    → IsMidway limit input reader input held held world
+midway-nothing limit input reader held world empty room handed new = record {
+  lines = [];
+  handed_out = HasHandedOut-nothing limit input reader empty room;
+  counted = handed;
+  answers = [];
+  run = subst (ScriptRun opened [] []) (sym new) none;
+  written = appends_nothing held;
 }
 
-pub midway-end : (limit : ℕ) (input left : Option (List ℕ)) (reader : LinesState) → IsMidway limit input reader left → IsAtEnd (ahead reader left)
-    → IfSome input (λ bytes. length bytes ≤ limit)
-midway-end limit None left reader m end = tt
-midway-end limit (Some bytes) left reader m end = (HasHandedOut-end limit (Some bytes) left m.lines reader m.handed_out end).0
+-- the next line, which is still to be run
+pub record IsNextLine (limit : ℕ) (input : Option (List ℕ)) (reader : LinesState) (left old held : Option (List ℕ)) (world : View) (line : List ℕ) (number : ℕ) : Type 0 where
+  pub lines : List (List ℕ)
+  pub handed_out : HasHandedOut limit input (lines ++ line ∷ []) reader left
+  pub counted : number ≡ length lines + 1
+  pub handed : reader.handed ≡ number
+  pub answers : List LineAnswer
+  pub run : ScriptRun opened lines answers world
+  pub written : Appends old held (transcript_of 1 answers)
 
-pub midway-endless : (limit : ℕ) (input left : Option (List ℕ)) (reader : LinesState) (number : ℕ) → IsMidway limit input reader left → IsEndless reader left
+pub midway-next : (limit : ℕ) (input left new_left held_old held : Option (List ℕ)) (old new : LinesState) (world : View) (line : List ℕ) (number : ℕ) → IsMidway limit input old left held_old held world
+    → HandsOut old new left new_left line → number ≡ old.handed + 1 → new.handed ≡ number → IsNextLine limit input new new_left held_old held world line number
+midway-next limit input left new_left held_old held old new world line number m out number_is handed = record {
+  lines = m.lines;
+  handed_out = HasHandedOut-line limit input left new_left m.lines old new line m.handed_out out;
+  counted = omega (arith, number_is, m.counted);
+  handed = handed;
+  answers = m.answers;
+  run = m.run;
+  written = m.written;
+}
+
+pub midway-line : (limit : ℕ) (input left old held new : Option (List ℕ)) (reader : LinesState) (world after : View) (line : List ℕ) (number : ℕ) (answer : LineAnswer) (text : List ℕ)
+    → IsNextLine limit input reader left old held world line number → IsAnswered world line answer after → text ≡ text_of number answer → Appends held new text
+    → IsMidway limit input reader left old new after
+midway-line limit input left old held new reader world after line number answer text n is text_is appended = record {
+  lines = n.lines ++ line ∷ [];
+  handed_out = n.handed_out;
+  counted = omega (arith, n.handed, n.counted, length-append n.lines (line ∷ []));
+  answers = n.answers ++ answer ∷ [];
+  run = one_more line answer n.run is;
+  written = subst (Appends old new) (ap (λ t. transcript_of 1 n.answers ++ t) text_is ∙ sym (transcript_more answer number n.run n.counted))
+      (appends_both old held new (transcript_of 1 n.answers) text n.written appended);
+}
+
+pub midway-end : (limit : ℕ) (input left old new : Option (List ℕ)) (reader : LinesState) (world : View) → IsMidway limit input reader left old new world → IsAtEnd (ahead reader left)
+    → IfSome input (λ bytes. length bytes ≤ limit)
+midway-end limit None left old new reader world m end = tt
+midway-end limit (Some bytes) left old new reader world m end = (HasHandedOut-end limit (Some bytes) left m.lines reader m.handed_out end).0
+
+pub midway-endless : (limit : ℕ) (input left old new : Option (List ℕ)) (reader : LinesState) (world : View) (number : ℕ) → IsMidway limit input reader left old new world → IsEndless reader left
     → number ≡ reader.handed + 1 → IfSome input (λ bytes. (limit < length bytes) × (number ≡ line_at limit bytes))
-midway-endless limit input left reader number m endless next =
+midway-endless limit input left old new reader world number m endless next =
     HasHandedOut-endless limit input left m.lines reader number m.handed_out endless (omega (arith, next, m.counted))

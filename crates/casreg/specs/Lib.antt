@@ -1,4 +1,7 @@
 pub mod Adds
 pub mod Answers
+pub mod Causes
+pub mod Changes
+pub mod Script
 pub mod Status
 pub mod Words

@@ -1,10 +1,11 @@
 //! One change, from its call to its answer.
 
-ghost use Rattle.std.specs.Prelude.{◌≡◌, ◌+◌, ◌-◌, ◌^◌, ◌<◌, ◌≤◌, Some, None, [], IsTrue, OnOk, OnErr};
+ghost use Rattle.std.specs.Prelude.{◌≡◌, ◌+◌, ◌-◌, ◌^◌, ◌<◌, ◌≤◌, Some, None, IsTrue, OnOk, OnErr};
 ghost use Rattle.cas_record.specs.declared.answer.Answer.TheVariants as answer;
 ghost use Rattle.cas_world.specs.Desk.{is_preparing, is_accepting};
 ghost use Rattle.cas_world.specs.Step.{turns_left};
 ghost use Rattle.cas_world.specs.declared.world.TheConstants.{PHASE_TURNS};
+ghost use Rattle.casreg.specs.Changes.{AllTurned, FailsToTurn, IsRound, IsChange};
 
 use cas_change::{Key, Program};
 use cas_record::Answer;
@@ -24,6 +25,7 @@ pub fn change<S: Shelf>(
     requires counted { calls.old ≡ world.old.desk.calls }
     requires fits { calls.old < 2 ^ 32 - 1 }
     requires no_round { world.old.desk.round ≡ None }
+    ensures change { IsChange world.old key.now program.now result world.new }
     ensures counts { calls.new ≡ world.new.desk.calls }
     ensures one_more { calls.new ≤ calls.old + 1 }
     ensures no_round { world.new.desk.round ≡ None }
@@ -41,6 +43,7 @@ pub fn change<S: Shelf>(
 fn round<S: Shelf>(world: &mut World<S>) -> Answer
     requires preparing { IsTrue (is_preparing world.old.desk.round) }
     requires all { turns_left world.old.frames ≡ PHASE_TURNS }
+    ensures round { IsRound world.old world.new }
     ensures told { world.new.desk.told ≡ Some result }
     ensures calls { world.new.desk.calls ≡ world.old.desk.calls }
 {
@@ -59,7 +62,8 @@ fn round<S: Shelf>(world: &mut World<S>) -> Answer
 /// Makes all turns of a phase that has just begun.
 fn all_turns<S: Shelf>(world: &mut World<S>) -> Result<(), AllocError>
     requires { turns_left world.old.frames ≡ PHASE_TURNS }
-    ensures through { OnOk result (world.new.frames ≡ []) }
+    ensures through { OnOk result (AllTurned world.old world.new) }
+    ensures fails { OnErr result (FailsToTurn world.old world.new) }
     ensures preparing { is_preparing world.new.desk.round ≡ is_preparing world.old.desk.round }
     ensures accepting { is_accepting world.new.desk.round ≡ is_accepting world.old.desk.round }
     ensures calls { world.new.desk.calls ≡ world.old.desk.calls }

@@ -1,22 +1,22 @@
 //! The top call: a script over the store, from the bytes in to the bytes out.
 
-ghost use Rattle.std.specs.Prelude.{◌≡◌, ◌≢◌, ℕ, ◌+◌, ◌<◌, ◌≤◌, ◌↔◌, Some, None, map, length, vec_len, string_bytes, IfSome, IfOk, OnOk, IsErrOf};
+ghost use Rattle.std.specs.Prelude.{◌≡◌, ◌≢◌, ℕ, ◌+◌, ◌<◌, ◌≤◌, ◌↔◌, Some, None, map, length, reverse, vec_len, string_bytes, IfSome, IfOk, IfErr, OnOk, OnErr, IsErrOf};
 ghost use Rattle.std.specs.Io.KnownBytes.{IsAtEnd};
 ghost use Rattle.cas_base.specs.Faults.{Rose};
 ghost use Rattle.cas_lines.specs.Lines.{line_at};
 ghost use Rattle.cas_lines.specs.declared.lines.TheConstants.{INPUT_LIMIT};
 ghost use Rattle.cas_world.specs.View.{opened};
-ghost use Rattle.casreg.specs.Words.{script_words};
-ghost use Rattle.casreg.specs.declared.cluster.Fault.TheVariants.{Read, Write, NoMemory};
+ghost use Rattle.casreg.specs.Causes.{Causes, Wrote, WroteIn, AnswersAll};
+ghost use Rattle.casreg.specs.Script.{AnswersLine, RanOrNot};
 
 use crate::adds::read_add;
 use crate::answers::{print_answer, print_bad};
 use crate::changes::change;
 use crate::status::Status;
 use crate::words::is_script;
-use cas_lines::lines::{Line, LineFault, Lines};
+use cas_lines::lines::{Line, Lines};
 use cas_lines::sink::{Sink, put_all};
-use cas_lines::source::{Failed, Source};
+use cas_lines::source::Source;
 use cas_slot::MapShelf;
 use cas_world::{ACCEPTORS, PROPOSER, World};
 use std::alloc::{AllocError, Global};
@@ -32,13 +32,12 @@ pub fn cluster<R, S: Source, K: Sink>(
     source: &mut S,
     sink: &mut K,
 ) -> Status
-    ensures usage { (result ≡ Status.Usage) ↔ (map string_bytes words.now ≢ script_words) }
+    // What was written is the transcript of a script run over the lines of the input, and the record of that run is legal.
+    ensures wrote { Wrote (S.remaining source.old) (K.contents sink.old) (K.contents sink.new) result }
+    ensures causes { Causes (map string_bytes words.now) (S.remaining source.old)
+        (S.faults_of source.old) (S.faults_of source.new) (K.faults_of sink.old) (K.faults_of sink.new) result }
+    ensures read { result ≡ Status.Ok → IsAtEnd (S.remaining source.new) }
     ensures untouched { result ≡ Status.Usage → (source.new ≡ source.old) × (sink.new ≡ sink.old) }
-    ensures ok { result ≡ Status.Ok → IsAtEnd (S.remaining source.new) × IfSome (S.remaining source.old) (λ input. length input ≤ INPUT_LIMIT) }
-    ensures read_fault { result ≡ Status.ReadFault → Rose (S.faults_of source.old) (S.faults_of source.new) }
-    ensures write_fault { result ≡ Status.WriteFault → Rose (K.faults_of sink.old) (K.faults_of sink.new) }
-    ensures endless { (line : ℕ) → result ≡ Status.Endless line → IfSome (S.remaining source.old) (λ input.
-        (INPUT_LIMIT < length input) × (line ≡ line_at INPUT_LIMIT input)) }
 {
     if !is_script(words) {
         return Status::Usage;
@@ -63,7 +62,7 @@ pub fn open_world(alloc: Global) -> Result<World<MapShelf>, AllocError>
     }
 }
 
-/// Runs the script in a new world, and tells how it ended.
+/// Runs the script in a new world, and tells how it ended. The world is taken apart then.
 fn run_script<S: Source, K: Sink>(
     alloc: Global,
     mut world: World<MapShelf>,
@@ -71,6 +70,7 @@ fn run_script<S: Source, K: Sink>(
     sink: &mut K,
 ) -> Status
     requires { world ≡ opened }
+    ensures wrote { Wrote (S.remaining source.old) (K.contents sink.old) (K.contents sink.new) result }
     ensures ok { result ≡ Status.Ok → IsAtEnd (S.remaining source.new) × IfSome (S.remaining source.old) (λ input. length input ≤ INPUT_LIMIT) }
     ensures usage { result ≢ Status.Usage }
     ensures read_fault { result ≡ Status.ReadFault → Rose (S.faults_of source.old) (S.faults_of source.new) }
@@ -78,61 +78,29 @@ fn run_script<S: Source, K: Sink>(
     ensures endless { (line : ℕ) → result ≡ Status.Endless line → IfSome (S.remaining source.old) (λ input.
         (INPUT_LIMIT < length input) × (line ≡ line_at INPUT_LIMIT input)) }
 {
-    match answer_lines(alloc, &mut world, source, sink) {
+    let answered = answer_lines(alloc, &mut world, source, sink);
+    let (_record, _shelves) = world.parts();
+    match answered {
         Ok(()) => Status::Ok,
-        Err(Fault::Read(fault)) => Status::from(fault),
-        Err(Fault::Write) => Status::WriteFault,
-        Err(Fault::NoMemory) => Status::NoMemory,
+        Err(status) => status,
     }
 }
 
-/// Why not all lines were answered.
-#[derive(Clone, Copy, Debug, PartialEq, Eq)]
-enum Fault {
-    /// The next line could not be read.
-    Read(LineFault),
-    /// An answer could not be written.
-    Write,
-    /// There was no memory for an answer.
-    NoMemory,
-}
-
-impl From<LineFault> for Fault {
-    ghost from_gives = { λ fault out. out ≡ Read fault };
-
-    fn from(fault: LineFault) -> Fault {
-        Fault::Read(fault)
-    }
-}
-
-impl From<AllocError> for Fault {
-    ghost from_gives = { λ _ fault. fault ≡ NoMemory };
-
-    fn from(_error: AllocError) -> Fault {
-        Fault::NoMemory
-    }
-}
-
-impl From<Failed> for Fault {
-    ghost from_gives = { λ _ fault. fault ≡ Write };
-
-    fn from(_failed: Failed) -> Fault {
-        Fault::Write
-    }
-}
-
-/// Answers each line of the source before it reads the next one.
+/// Answers each line of the source before it reads the next one. An `Err` has the status of the run.
 fn answer_lines<S: Source, K: Sink>(
     alloc: Global,
     world: &mut World<MapShelf>,
     source: &mut S,
     sink: &mut K,
-) -> Result<(), Fault>
+) -> Result<(), Status>
     requires { world.old ≡ opened }
+    ensures all { OnOk result (AnswersAll (S.remaining source.old) (K.contents sink.old) (K.contents sink.new) world.new) }
+    ensures wrote { IfErr result (λ status. WroteIn (S.remaining source.old) (K.contents sink.old) (K.contents sink.new) world.new status) }
     ensures ok { OnOk result (IsAtEnd (S.remaining source.new) × IfSome (S.remaining source.old) (λ input. length input ≤ INPUT_LIMIT)) }
-    ensures read_fault { IsErrOf result (Fault.Read LineFault.ReadFault) → Rose (S.faults_of source.old) (S.faults_of source.new) }
-    ensures write_fault { IsErrOf result Fault.Write → Rose (K.faults_of sink.old) (K.faults_of sink.new) }
-    ensures endless { (line : ℕ) → IsErrOf result (Fault.Read (LineFault.Endless line)) → IfSome (S.remaining source.old) (λ input.
+    ensures fails { IfErr result (λ status. (status ≢ Status.Ok) × (status ≢ Status.Usage)) }
+    ensures read_fault { IsErrOf result Status.ReadFault → Rose (S.faults_of source.old) (S.faults_of source.new) }
+    ensures write_fault { IsErrOf result Status.WriteFault → Rose (K.faults_of sink.old) (K.faults_of sink.new) }
+    ensures endless { (line : ℕ) → IsErrOf result (Status.Endless line) → IfSome (S.remaining source.old) (λ input.
         (INPUT_LIMIT < length input) × (line ≡ line_at INPUT_LIMIT input)) }
 {
     let mut lines = Lines::new(alloc);
@@ -144,7 +112,7 @@ fn answer_lines<S: Source, K: Sink>(
     Ok(())
 }
 
-/// Runs the line, and gives the text of its answer.
+/// Runs the line, and gives the text of its answer. After an `Err` it may have been run.
 fn answer_to(
     alloc: Global,
     world: &mut World<MapShelf>,
@@ -154,6 +122,8 @@ fn answer_to(
     requires counted { calls.old ≡ world.old.desk.calls }
     requires before { calls.old < line.now.number }
     requires no_round { world.old.desk.round ≡ None }
+    ensures answers { IfOk result (λ text. AnswersLine world.old line.now.bytes line.now.number (string_bytes text) world.new) }
+    ensures err { OnErr result (RanOrNot world.old line.now.bytes world.new) }
     ensures counts { calls.new ≡ world.new.desk.calls }
     ensures up_to { calls.new ≤ line.now.number }
     ensures no_round { world.new.desk.round ≡ None }

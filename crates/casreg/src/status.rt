@@ -2,8 +2,11 @@
 
 ghost use Rattle.std.specs.Prelude.{◌≡◌};
 ghost use Rattle.casreg.specs.Status.{number_of};
+ghost use Rattle.casreg.specs.declared.status.Status.TheVariants.{WriteFault, NoMemory};
 
 use cas_lines::lines::LineFault;
+use cas_lines::source::Failed;
+use std::alloc::AllocError;
 
 /// How a run ends. Its number is the exit status of the program.
 #[derive(Clone, Copy, Debug, PartialEq, Eq)]
@@ -51,5 +54,22 @@ impl From<LineFault> for Status {
             LineFault::Endless { line } => Status::Endless { line },
             LineFault::NoMemory => Status::NoMemory,
         }
+    }
+}
+
+/// The failure of a sink.
+impl From<Failed> for Status {
+    ghost from_gives = { λ _ status. status ≡ WriteFault };
+
+    fn from(_failed: Failed) -> Status {
+        Status::WriteFault
+    }
+}
+
+impl From<AllocError> for Status {
+    ghost from_gives = { λ _ status. status ≡ NoMemory };
+
+    fn from(_error: AllocError) -> Status {
+        Status::NoMemory
     }
 }

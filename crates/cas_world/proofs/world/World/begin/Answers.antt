@@ -26,8 +26,7 @@ invariant_of-self-2 g c =
     ∙ ap (to_each (prepare_request c.args.key.now (ballot_at (world.desk.counter + 1)))) c.deref.ensures.value in
     let marks : after.marks ≡ world.marks ++ Begun c.args.caller c.args.call c.args.key.now c.args.program.now ∷ [] =
     c.push.ensures.marks ∙ ap (λ (m : List Mark). m ++ c.in-Ok.opening.mark ∷ []) e.marks ∙ ap (λ (m : Mark). world.marks ++ m ∷ []) e.mark in
-    let b = began world c.self.inside.record.room c.args.caller c.args.call c.args.key.now c.args.program.now after c.push.new.self.room c.self.invariant.0 fits refl desk frames marks in
-    (
+    let b = began world c.self.inside.record.room c.args.caller c.args.call c.args.key.now c.args.program.now after c.push.new.self.room c.self.invariant.0 fits refl desk frames marks in (
       b.sound,
       c.self.invariant.1,
       c.self.invariant.2,

@@ -22,8 +22,7 @@ invariant_of-self g c =
       desk = c.end.ensures.closed i;
       frames = c.clear.ensures.items i;
       marks = (c.push.ensures.marks ∙ ap (λ (a : Answer). world.marks ++ Ended c.args.caller c.args.call 1 a ∷ []) same) i;
-    } in
-    (
+    } in (
       subst (λ (w : View). IsSound w c.push.new.self.room) (sym is) (sound_ended world c.self.inside.record.room c.push.new.self.room c.args.caller c.args.call c.args.answer c.self.invariant.0),
       c.self.invariant.1,
       c.self.invariant.2,

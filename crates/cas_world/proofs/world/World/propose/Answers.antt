@@ -19,8 +19,7 @@ invariant_of-self g c =
     subst (λ (acceptors : List AcceptorView). IsProposal c.args.proposer acceptors c.in-Some.round.now c.in-Some.round.now.stage c.in-Ok.field-0.outcome c.in-Ok.field-0.spare c.in-Ok.field-0.frames.items c.in-Ok.field-0.mark)
     c.deref.ensures.value c.in-Ok.ensures in
     let p = proposed world c.self.inside.record.room c.args.proposer c.in-Some.round.now c.in-Ok.field-0.outcome c.in-Ok.field-0.spare c.in-Ok.field-0.frames.items c.in-Ok.field-0.mark
-    after c.push.new.self.room c.self.invariant.0 none (sym c.in-Some.ensures) made refl c.propose.ensures (ap (λ q. q.items) c.replace.ensures.after) c.push.ensures.marks c.push.ensures.room in
-    (
+    after c.push.new.self.room c.self.invariant.0 none (sym c.in-Some.ensures) made refl c.propose.ensures (ap (λ q. q.items) c.replace.ensures.after) c.push.ensures.marks c.push.ensures.room in (
       p.sound,
       c.self.invariant.1,
       c.self.invariant.2,
@@ -36,8 +35,7 @@ invariant_of-self-in-Err g c =
     let preparing : is_preparing world.desk.round ≡ true = ap (λ (w : View). is_preparing w.desk.round) c.self.view_is ∙ c.requires.preparing in
     let is : record { acceptors = c.self.inside.acceptors.items; desk = c.close.new.self; frames = c.self.inside.frames.items; marks = c.self.inside.record.marks }
     ≡ record world { desk = closed world.desk (NoMemory false) } = λ i. record { acceptors = world.acceptors; desk = c.close.ensures i; frames = world.frames; marks = world.marks } in
-    let fits = room_left world c.self.inside.record.room c.in-Some.round.now c.self.invariant.0 (sym c.in-Some.ensures) in
-    (
+    let fits = room_left world c.self.inside.record.room c.in-Some.round.now c.self.invariant.0 (sym c.in-Some.ensures) in (
       subst (λ (w : View). IsSound w c.self.inside.record.room) (sym is) (sound_closed world c.self.inside.record.room (NoMemory false) c.self.invariant.0 none fits),
       c.self.invariant.1,
       c.self.invariant.2,

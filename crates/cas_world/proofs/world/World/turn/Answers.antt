@@ -46,8 +46,7 @@ invariant_of-self-in-Some-Request g c =
     let s = sound_request (record { acceptors = c.self.inside.acceptors.items; desk = c.self.inside.desk; frames = c.self.inside.frames.items; marks = c.self.inside.record.marks }) c.self.inside.record.room c.in-Some-Request.request c.pop_front.new.self.items c.self.invariant.0 first in
     let e = c.in_ok-serve-in-Some-Request.ensures in
     let world : View = record { acceptors = c.self.inside.acceptors.items; desk = c.self.inside.desk; frames = c.self.inside.frames.items; marks = c.self.inside.record.marks } in
-    let after = served world _ _ _ s (record { acceptors = c.serve.new.acceptors.items; desk = c.serve.new.desk; frames = c.serve.new.frames.items; marks = c.serve.new.record.marks }) _ e.acceptors e.frames e.marks e.room e.desk in
-    (
+    let after = served world _ _ _ s (record { acceptors = c.serve.new.acceptors.items; desk = c.serve.new.desk; frames = c.serve.new.frames.items; marks = c.serve.new.record.marks }) _ e.acceptors e.frames e.marks e.room e.desk in (
       after.sound,
       c.self.invariant.1,
       c.self.invariant.2,
@@ -60,8 +59,7 @@ invariant_of-self-in-Some-Reply g c =
     rw c.in-Some-Reply.field-0-is at c.in-Some-Reply.ensures.items in
     let world : View = record { acceptors = c.self.inside.acceptors.items; desk = c.self.inside.desk; frames = c.self.inside.frames.items; marks = c.self.inside.record.marks } in
     let is : record { acceptors = c.self.inside.acceptors.items; desk = c.arrive.new.self; frames = c.pop_front.new.self.items; marks = c.self.inside.record.marks }
-    ≡ record world { desk = arrived world.desk c.in-Some-Reply.reply; frames = c.pop_front.new.self.items } = λ i. record { acceptors = world.acceptors; desk = c.arrive.ensures i; frames = c.pop_front.new.self.items; marks = world.marks } in
-    (
+    ≡ record world { desk = arrived world.desk c.in-Some-Reply.reply; frames = c.pop_front.new.self.items } = λ i. record { acceptors = world.acceptors; desk = c.arrive.ensures i; frames = c.pop_front.new.self.items; marks = world.marks } in (
       replied_turn _ _ _ _ _ c.self.invariant.0 first refl refl refl c.arrive.ensures,
       c.self.invariant.1,
       c.self.invariant.2,
