@@ -1,11 +1,11 @@
 -- How many acceptors sets have.
 use Rattle.std.proofs.Common.{◌≡◌, ℕ, ◌+◌, suc, zero, ◌<◌, ◌≤◌, Bool, true, false, not, List, [], ◌∷◌, length, arith, sym, ◌∙◌, ap, refl, eqb-true}
-use Rattle.std.specs.Prelude.{cond, ◌==◌, ◌&&◌, ◌||◌, ◌⊎◌, filter}
+use Rattle.std.specs.Prelude.{cond, ◌==◌, ◌&&◌, ◌||◌, filter}
 use Rattle.std.specs.List.{range_with_len}
 use Rattle.std.proofs.lemmas.Bool.Decides.{nat_tests, eqb_tells}
 use mathlib.Core.Logic.{inl, inr}
-use Rattle.cas_ballot.specs.Members.{members_where, has_member, with_member, without_member, union_of, intersection_of, IsMemberSet}
-use Rattle.cas_ballot.proofs.MemberLemmas.{has-members_where, members_where_same, IsMemberSet-members_where}
+use Rattle.cas_ballot.specs.Members.{members_where, has_member, with_member, without_member, union_of, IsMemberSet}
+use Rattle.cas_ballot.proofs.MemberLemmas.{has-members_where, members_where_same}
 
 -- ---- counting what passes a test
 length-cond : (b : Bool) (x : ℕ) (xs : List ℕ) → length (cond b (x ∷ xs) xs) ≡ cond b 1 0 + length xs
@@ -184,3 +184,30 @@ IsWithin-without_member ids id = record {
   all = λ n small h.
       and_right (not (n == id)) (has_member ids n) (sym (has-members_where (λ n. not (n == id) && has_member ids n) n small) ∙ h);
 }
+
+-- ---- one more, for any identity
+one_at_most : (id w a : ℕ) → length (filter (λ n. n == id) (range_with_len a w)) ≤ 1
+one_at_most id zero a = omega arith
+one_at_most id (suc w) a = elim (eqb_tells a id) [
+  | inl here ↦ rw here.0 (omega (arith, nobody_from (λ n. n == id) w (a + 1) (λ n later below. later_one n id a here.1 later)))
+  | inr later ↦ rw later.0 (one_at_most id w (a + 1))
+]
+
+length-single-le : (id : ℕ) → length (members_where (λ n. n == id)) ≤ 1
+unfolding members_where
+length-single-le id = one_at_most id 64 0
+
+-- a set with one more has at most one more
+pub length-with_member-le : (ids : List ℕ) (id : ℕ) → IsMemberSet ids → length (with_member ids id) ≤ suc (length ids)
+length-with_member-le ids id set = omega (arith, length-apart (λ n. n == id) (has_member ids), length-single-le id, as_set ids set)
+
+back : (e h : Bool) → h ≡ true → (e || (not e && h)) ≡ true
+back true h f = refl
+back false h f = f
+
+-- a set without one has at most one less
+pub le-length-without_member : (ids : List ℕ) (id : ℕ) → IsMemberSet ids → length ids ≤ suc (length (without_member ids id))
+le-length-without_member ids id set =
+    let all : length (members_where (has_member ids)) ≤ length (members_where (λ n. (n == id) || (not (n == id) && has_member ids n)))
+    = length-within (has_member ids) (λ n. (n == id) || (not (n == id) && has_member ids n)) (λ n small h. back (n == id) (has_member ids n) h) in
+    omega (arith, length-apart (λ n. n == id) (λ n. not (n == id) && has_member ids n), length-single-le id, as_set ids set, all)

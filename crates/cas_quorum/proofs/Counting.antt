@@ -1,14 +1,13 @@
 -- Quorums that are together larger than their sets share an acceptor, and majorities are.
-use Rattle.std.proofs.Common.{◌≡◌, ℕ, ◌+◌, ◌/◌, suc, ◌<◌, ◌≤◌, Bool, true, false, List, length, arith, refl, sym, ◌∙◌, ap}
-use Rattle.std.specs.Prelude.{◌⊎◌, ◌&&◌, ◌||◌, nat_le}
+use Rattle.std.proofs.Common.{◌≡◌, ℕ, ◌+◌, suc, ◌<◌, ◌≤◌, Bool, true, false, List, length, arith, refl, ap}
+use Rattle.std.specs.Prelude.{◌&&◌, ◌||◌}
 use Rattle.std.proofs.lemmas.Bool.Decides.{leb_tells}
 use mathlib.Core.Logic.{inl, inr}
-use Rattle.cas_ballot.specs.Members.{has_member, members_where, union_of, intersection_of, IsMemberSet}
-use Rattle.cas_ballot.proofs.MemberLemmas.{has-members_where}
+use Rattle.cas_ballot.specs.Members.{has_member, members_where, union_of, IsMemberSet}
 use Rattle.cas_ballot.proofs.CountLemmas.{length-apart, length-within, someone, Passes, IsWithin, IsWithin-same, union_within, union_around}
 use Rattle.cas_quorum.specs.declared.era.Era.{Era}
 use Rattle.cas_quorum.specs.Quorum.{count_in, has_quorum, majority_of, SizesMeet, Shared}
-use Rattle.cas_quorum.specs.Era.{era_of_majorities, holds_prep, holds_acc, Meet}
+use Rattle.cas_quorum.specs.Era.{holds_prep, holds_acc, Meet}
 
 -- an acceptor that is in either set's part is in the sets together
 within_either : (p a q b : Bool) → ((p && a) || (q && b)) ≡ true → (p || q) ≡ true

@@ -1,4 +1,4 @@
-use Rattle.std.proofs.Common.{sym, ◌≡◌}
+use Rattle.std.proofs.Common.{sym}
 use Rattle.std.specs.Prelude.{◌==◌}
 use Rattle.std.specs.Int.{bit_at}
 use Rattle.cas_ballot.proofs.MemberLemmas.{length-members_of_bits, IsMemberSet-members_where}

@@ -1,4 +1,3 @@
-use Rattle.std.specs.Int.Bits.{and_lt}
 use Rattle.cas_ballot.proofs.MemberLemmas.{both_bits}
 use Rattle.cas_ballot.proofs.members.Members.intersection.Goals as goal
 
