@@ -1,3 +1,5 @@
+pub mod Ages
+pub mod Message
 pub mod Rules
 pub mod Slot
 pub mod Slots

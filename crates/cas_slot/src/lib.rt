@@ -4,14 +4,18 @@
 //! The rules are those of Rystsov 2018, section 2.2. Nothing here sends a message, and no proposer lives here.
 #![tactic(auto)]
 
+mod ages;
 mod map_shelf;
 mod message;
+mod page;
 mod rules;
 mod shelf;
 mod slot;
 
+pub use ages::{Ages, PROPOSERS};
 pub use map_shelf::MapShelf;
 pub use message::{Ask, Phase, Reply, Request, Tell};
-pub use rules::{AcceptRule, PrepareRule, on_accept, on_prepare};
+pub use page::{MOST_KEYS, Page};
+pub use rules::{AcceptRule, PrepareRule, RemoveRule, on_accept, on_prepare, on_remove};
 pub use shelf::Shelf;
 pub use slot::{Accepted, Slot};
