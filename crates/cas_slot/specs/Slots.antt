@@ -1,9 +1,10 @@
 -- The slots of one acceptor, as a finite map from the bytes of keys.
-use Rattle.std.specs.Prelude.{ℕ, Bool, true, List, filter, Option, None, Some}
+use Rattle.std.specs.Prelude.{◌≡◌, ℕ, ◌≤◌, Bool, true, List, filter, Option, None, Some}
 use Rattle.std.specs.Ordering.{nat_cmp, is_lt}
 use Rattle.std.specs.Cmp.Lexicographic.{slice_cmp}
 use Rattle.std.specs.FinMap as map
 use Rattle.cas_slot.specs.declared.slot.Slot.{Slot}
+use Rattle.cas_slot.specs.declared.slots.TheConstants.{MOST_SLOTS}
 
 -- a map from keys, in the order of their bytes, to slots
 abbrev pub Slots : Type 0
@@ -28,6 +29,11 @@ without_slot slots key = map.remove slots key
 -- how many keys have a slot
 abbrev pub slot_count : Slots → ℕ
 slot_count slots = map.len slots
+
+-- the key has no slot, and there is no room for one more
+pub record IsFullFor (slots : Slots) (key : List ℕ) : Type 0 where
+  pub new_key : slot_at slots key ≡ None
+  pub no_room : MOST_SLOTS ≤ slot_count slots
 
 -- whether a key comes after this one in the order of their bytes; each comes after none
 abbrev pub is_above : Option (List ℕ) → List ℕ → Bool

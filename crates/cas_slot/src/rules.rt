@@ -5,7 +5,7 @@ ghost use Rattle.std.specs.Option.{option_copied};
 ghost use Rattle.cas_slot.specs.Slot.{seen_of, accepted_of};
 ghost use Rattle.cas_slot.specs.Rules.{prepare_rule, accept_rule, remove_rule, is_accepted_at, is_tombstone};
 
-use crate::slot::{Accepted, Slot};
+use crate::slot::Slot;
 use cas_ballot::Ballot;
 use cas_change::State;
 use std::cmp::Ordering;
@@ -91,14 +91,12 @@ fn is_tombstone(slot: &Slot, tomb: Ballot) -> bool
     ensures { result ≡ is_tombstone slot.now tomb }
 {
     match &slot.accepted {
-        Some(
-            Accepted {
-                ballot,
-                state: State::Empty,
-                ..
-            },
-        ) => *ballot == tomb && slot.promise <= tomb,
-        _ => false,
+        Some(accepted) => {
+            matches!(&accepted.state, State::Empty)
+                && accepted.ballot == tomb
+                && slot.promise <= tomb
+        }
+        None => false,
     }
 }
 
@@ -128,6 +126,7 @@ fn is_accepted_at(slot: Option<&Slot>, ballot: Ballot) -> bool
 #[cfg(test)]
 mod tests {
     use super::*;
+    use crate::slot::Accepted;
     use cas_change::Body;
 
     const fn at(counter: u64, proposer: u8) -> Ballot {

@@ -1,7 +1,6 @@
-use Rattle.std.proofs.Common.{◌≡◌, ℕ, ◌<◌, get_or, arith, ap, sym, ◌∙◌}
+use Rattle.std.proofs.Common.{ℕ, arith, ap}
 use Rattle.std.specs.Prelude.{max, List}
 use Rattle.std.proofs.lemmas.List.FromFn.{fill_by_all}
-use Rattle.cas_slot.specs.declared.ages.Ages.{Ages}
 use Rattle.cas_slot.specs.Ages.{least_age, raised}
 use Rattle.cas_slot.proofs.ages.Ages.raise.Goals as goal
 
