@@ -86,6 +86,7 @@ pub trait Shelf {
         ensures up_still { IsErrOf result ShelfFault.NoMemory → is_up self.new }
         ensures full { IsErrOf result ShelfFault.Full ↔ IsFullFor (contents self.old).slots key.now }
         ensures up_when_full { IsErrOf result ShelfFault.Full → is_up self.new }
+        ensures untouched_when_full { tells → IsErrOf result ShelfFault.Full → LeavesOnly moment left_since self.old self.new (λ left. left ≡ Ok (contents self.old)) }
         ensures not_foreign { (at : ℕ) → IsErrOf result (ShelfFault.Foreign at) → ⊥ }
         ensures any_moment { tells → LeavesOnly moment left_since self.old self.new (IsOldOrNew (contents self.old) (with_kept (contents self.old) key.now slot)) }
         ensures cause { HasShelfCause result (fault_count self.old) (fault_count self.new) };
