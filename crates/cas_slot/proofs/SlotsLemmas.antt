@@ -1,6 +1,6 @@
 -- The slots of a `BTreeMap`, as a finite map.
-use Rattle.std.proofs.Common.{◌≡◌, ℕ, Bool, true, false, cond, List, [], ◌∷◌, sym, ◌∙◌, ap, refl, Some}
-use Rattle.std.specs.Prelude.{Option, ◌⊎◌}
+use Rattle.std.proofs.Common.{◌≡◌, ℕ, Bool, true, false, cond, List, [], ◌∷◌, sym, ◌∙◌, ap, refl, Some, None}
+use Rattle.std.specs.Prelude.{◌⊎◌}
 use Rattle.std.specs.Ordering.{nat_cmp, is_eq, eq_by_cmp}
 use Rattle.std.specs.Cmp.{eq_by_cmp_equiv}
 use Rattle.std.specs.Cmp.Lexicographic.{slice_cmp, nat_list_cmp_total}
@@ -12,7 +12,7 @@ use Rattle.std.specs.Map.{lookup}
 use Rattle.std.specs.BTreeMap.{is_at}
 use Rattle.std.specs.FinMap as map
 use Rattle.cas_slot.specs.declared.slot.Slot.{Slot}
-use Rattle.cas_slot.specs.Slots.{Slots, slot_at, with_slot}
+use Rattle.cas_slot.specs.Slots.{Slots, slot_at, with_slot, without_slot}
 
 -- the map of these entries
 abbrev slots_of : List (List ℕ × Slot) → Slots
@@ -71,3 +71,17 @@ same_at slots key slot q false e at = refl
 pub with_slot-same : (slots : Slots) (key : List ℕ) (slot : Slot) → slot_at slots key ≡ Some slot → with_slot slots key slot ≡ slots
 with_slot-same slots key slot at = map.same_map nat_list_cmp_total (map.slice_cmp-IsAntisymmetric map.nat_cmp-IsAntisymmetric) _ _ (λ q.
     slot_at-with_slot slots key slot q ∙ same_at slots key slot q _ refl at)
+
+-- entries that answer every look-up as after a removal are the map after it
+pub drop-slots : (key : List ℕ) (old new : List (List ℕ × Slot))
+    → ((q : List ℕ) → lookup (is_at (slice_cmp nat_cmp q)) new ≡ cond (is_at (slice_cmp nat_cmp key) q) None (lookup (is_at (slice_cmp nat_cmp q)) old))
+    → map.from_entries {R = slice_cmp nat_cmp} new ≡ without_slot (map.from_entries old) key
+drop-slots key old new answers =
+    map.same_map nat_list_cmp_total (map.slice_cmp-IsAntisymmetric map.nat_cmp-IsAntisymmetric) _ _ (λ q.
+    sym (lookup-slots q new) ∙ answers q ∙ ap (cond (is_at (slice_cmp nat_cmp key) q) None) (lookup-slots q old)
+    ∙ ap (λ (b : Bool). cond b None (slot_at (map.from_entries old) q)) ((eq_by_cmp_equiv nat_list_cmp_total).symm key q)
+    ∙ sym (map.get-remove nat_list_cmp_total (map.from_entries old) key q))
+
+-- what stands at a key after a removal
+pub slot_at-without_slot : (slots : Slots) (key q : List ℕ) → slot_at (without_slot slots key) q ≡ cond (eq_by_cmp (slice_cmp nat_cmp) q key) None (slot_at slots q)
+slot_at-without_slot slots key q = map.get-remove nat_list_cmp_total slots key q
