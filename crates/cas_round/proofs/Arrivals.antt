@@ -18,7 +18,7 @@ use Rattle.cas_slot.specs.contracts.message.Phase.{the_type}
 use Rattle.cas_round.specs.declared.tally.Tally.{Tally}
 use Rattle.cas_round.specs.declared.phase.PrepareRound.{PrepareRound}
 use Rattle.cas_round.specs.declared.phase.AcceptRound.{AcceptRound}
-use Rattle.cas_round.specs.Replies.{heard, is_prepare, is_accept, is_promise, is_acceptance, accepted_by, accepteds_of}
+use Rattle.cas_round.specs.Replies.{is_heard, heard, is_prepare, is_accept, is_promise, is_acceptance, accepted_by, accepteds_of}
 use Rattle.cas_round.specs.Round.{IsTallyOf, GreatestOf, AcceptedAtMost, IsPrepareAfter, IsAcceptAfter, latest_of}
 use Rattle.cas_round.proofs.Greatest.{read_more}
 use Rattle.cas_round.proofs.TallyLemmas.{one_confirmer}
@@ -52,6 +52,13 @@ same_tag a b e =
 heard_more : (is_phase : Phase → Bool) (ballot : Ballot) (reply : Reply) (replies : List Reply) → is_phase reply.phase ≡ true → reply.tag ≡ ballot
     → heard is_phase ballot (reply ∷ replies) ≡ reply ∷ heard is_phase ballot replies
 heard_more is_phase ballot reply replies p e = rw (p, e, cmp_refl ballot) refl
+
+-- a reply of the phase and the ballot is no other
+pub no_other : (is_phase : Phase → Bool) (ballot : Ballot) (reply : Reply) (own : Ballot) → is_phase reply.phase ≡ true → reply.tag ≡ own → own ≡ ballot
+    → is_heard is_phase ballot reply ≡ false → ⊥
+no_other is_phase ballot reply own p e same not_heard =
+    let yes : is_heard is_phase ballot reply ≡ true = rw (p, e, same, cmp_refl ballot) refl in
+    cc (yes, not_heard)
 
 -- ---- the tally
 pub acceptance : (from to : ℕ) (p : Phase) (tag : Ballot) (t : Tell) (replies : List Reply) (tally : Tally)

@@ -22,9 +22,13 @@ abbrev pub is_accept : Phase → Bool
 is_accept phase.Accept = true
 is_accept other = false
 
--- the replies of that phase and that ballot
+-- whether a reply is one of that phase and that ballot
+abbrev pub is_heard : (Phase → Bool) → Ballot → Reply → Bool
+is_heard is_phase ballot reply = is_phase reply.phase && is_eq (ballot_cmp reply.tag ballot)
+
+-- those that are
 abbrev pub heard : (Phase → Bool) → Ballot → List Reply → List Reply
-heard is_phase ballot replies = filter (λ reply. is_phase reply.phase && is_eq (ballot_cmp reply.tag ballot)) replies
+heard is_phase ballot replies = filter (is_heard is_phase ballot) replies
 
 -- ---- confirmations
 abbrev pub is_promise : Tell → Bool

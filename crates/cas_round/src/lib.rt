@@ -4,6 +4,7 @@
 //! becomes of the state that was read, lives above.
 #![tactic(auto)]
 
+pub mod laws;
 mod phase;
 mod tally;
 mod verdict;

@@ -1,10 +1,10 @@
 //! The prepare phase and the accept phase of a round (Rystsov 2018, section 2.2).
 
-ghost use Rattle.std.specs.Prelude.{◌≡◌, List, [], ◌∷◌};
+ghost use Rattle.std.specs.Prelude.{◌≡◌, false, List, [], ◌∷◌};
 ghost use Rattle.cas_quorum.specs.declared.era.Era.{Era as AnEra};
 ghost use Rattle.cas_ballot.specs.declared.ballot.Ballot.{Ballot as ABallot};
 ghost use Rattle.cas_slot.specs.declared.message.Reply.{Reply as AReply};
-ghost use Rattle.cas_round.specs.Replies.{promisers_of, accepters_of, is_promise, is_acceptance, accepted_by};
+ghost use Rattle.cas_round.specs.Replies.{is_prepare, is_accept, is_heard, promisers_of, accepters_of, is_promise, is_acceptance, accepted_by};
 ghost use Rattle.cas_round.specs.Round.{IsPrepareAfter, IsAcceptAfter, IsPrepareVerdict, IsAcceptVerdict, IsRead, latest_of};
 
 use crate::tally::Tally;
@@ -40,8 +40,11 @@ impl PrepareRound {
 
     /// One more reply arrived.
     pub fn arrive(&mut self, reply: Reply)
-        ensures { (era : AnEra) (ballot : ABallot) (replies : List AReply) → IsPrepareAfter era ballot replies self.old
+        ensures after { (era : AnEra) (ballot : ABallot) (replies : List AReply) → IsPrepareAfter era ballot replies self.old
             → IsPrepareAfter era ballot (reply ∷ replies) self.new }
+        // A reply of another phase or another ballot changes nothing.
+        ensures other { (era : AnEra) (ballot : ABallot) (replies : List AReply) → IsPrepareAfter era ballot replies self.old
+            → is_heard is_prepare ballot reply ≡ false → self.new ≡ self.old }
     {
         if reply.phase != Phase::Prepare || reply.tag != self.ballot {
             return;
@@ -107,8 +110,11 @@ impl AcceptRound {
 
     /// One more reply arrived.
     pub fn arrive(&mut self, reply: Reply)
-        ensures { (era : AnEra) (ballot : ABallot) (replies : List AReply) → IsAcceptAfter era ballot replies self.old
+        ensures after { (era : AnEra) (ballot : ABallot) (replies : List AReply) → IsAcceptAfter era ballot replies self.old
             → IsAcceptAfter era ballot (reply ∷ replies) self.new }
+        // A reply of another phase or another ballot changes nothing.
+        ensures other { (era : AnEra) (ballot : ABallot) (replies : List AReply) → IsAcceptAfter era ballot replies self.old
+            → is_heard is_accept ballot reply ≡ false → self.new ≡ self.old }
     {
         if reply.phase != Phase::Accept || reply.tag != self.ballot {
             return;
