@@ -1,2 +1,3 @@
 pub mod BallotLemmas
+pub mod CountLemmas
 pub mod MemberLemmas

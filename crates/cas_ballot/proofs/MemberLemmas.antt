@@ -1,16 +1,16 @@
 -- What a set of acceptors has, and what its bits say.
 use Rattle.std.proofs.Common.{◌≡◌, ℕ, ◌+◌, ◌*◌, ◌-◌, ◌/◌, ◌%◌, ◌^◌, suc, zero, ◌<◌, ◌≤◌, Bool, true, false, not, List, [], ◌∷◌, length, arith, sym, ◌∙◌, ap, subst, refl, nat_eq, add-zero, add-one, zero-add, zero-mul, eqb-true, eq-eqb, bit_and, bit_or, w64}
-use Rattle.std.specs.Prelude.{cond, ◌==◌, ◌&&◌, ◌||◌, ◌⊎◌, filter, max}
+use Rattle.std.specs.Prelude.{cond, ◌==◌, ◌&&◌, ◌||◌, ◌⊎◌, filter, max, min}
 use Rattle.std.specs.Int.{bit_at}
 use Rattle.std.specs.List.{range_with_len}
 use Rattle.std.proofs.lemmas.Bool.Decides.{nat_tests, eqb_tells}
 use Rattle.std.proofs.lemmas.Nat.{pow_below, pow_pos}
-use Rattle.std.proofs.lemmas.Nat.Bits.{and_pow, bit_at-lt, bit_at_or, bit_at_set_same, bit_at_set_other, bit_at_clear_same, bit_at_clear_other}
-use Rattle.std.proofs.Math.Nat.{div-div-eq-div-mul, pow-suc, div-eq_of_lt, mod-eq_of_lt, one-mul, div-one, zero-max}
+use Rattle.std.proofs.lemmas.Nat.Bits.{and_pow, bit_at-lt, bit_at_or, bit_at_and, bit_at_set_same, bit_at_set_other, bit_at_clear_same, bit_at_clear_other}
+use Rattle.std.proofs.Math.Nat.{div-div-eq-div-mul, pow-suc, div-eq_of_lt, mod-eq_of_lt, one-mul, div-one, zero-max, zero-min}
 use mathlib.Core.Logic.{inl, inr}
 use lib.Pointwise.{pointwise, bytes_decides}
 use lib.Count.{ones, ones_in, ones_step}
-use Rattle.cas_ballot.specs.Members.{members_where, has_member, with_member, without_member, union_of, members_of_bits, bits_of_members}
+use Rattle.cas_ballot.specs.Members.{members_where, has_member, with_member, without_member, union_of, intersection_of, IsMemberSet, members_of_bits, bits_of_members}
 use Rattle.cas_ballot.specs.MemberBits.{bits_of_members_of_bits}
 
 -- one more number in front, where a test passes it
@@ -130,6 +130,21 @@ either_bits a b =
     rw (has-members_where (λ n. bit_at a n == 1) n below, has-members_where (λ n. bit_at b n == 1) n below, bit_at_or a b n)
     (either (bit_at a n) (bit_at b n) (bit_at-lt a n) (bit_at-lt b n)))
 
+both : (a b : ℕ) → a < 2 → b < 2 → (min a b == 1) ≡ ((a == 1) && (b == 1))
+both a b p q = elim (two_values a p) [
+  | inl none ↦ rw (none, zero-min b) refl
+  | inr one ↦ elim (two_values b q) [
+    | inl none ↦ rw (one, none) refl
+    | inr ones ↦ rw (one, ones) refl
+  ]
+]
+
+pub both_bits : (a b : ℕ) → members_of_bits (bit_and a b) ≡ intersection_of (members_of_bits a) (members_of_bits b)
+both_bits a b =
+    members_where_same _ _ (λ n below.
+    rw (has-members_where (λ n. bit_at a n == 1) n below, has-members_where (λ n. bit_at b n == 1) n below, bit_at_and a b n)
+    (both (bit_at a n) (bit_at b n) (bit_at-lt a n) (bit_at-lt b n)))
+
 -- the ones of a number below 2 ^ (a + w), from place a on
 length-cond : (b x : ℕ) (xs : List ℕ) → b < 2 → length (cond (b == 1) (x ∷ xs) xs) ≡ b + length xs
 length-cond b x xs h = elim (two_values b h) [
@@ -173,3 +188,7 @@ same_bits a b p q = by_bits a b (a == b) refl p q
 pub members_of_bits-zero : members_of_bits 0 ≡ []
 unfolding members_where
 members_of_bits-zero = refl
+
+-- what passes a test is a set of acceptors
+pub IsMemberSet-members_where : (p : ℕ → Bool) → IsMemberSet (members_where p)
+IsMemberSet-members_where p = record { lists = members_where_same p (has_member (members_where p)) (λ n below. sym (has-members_where p n below)) }

@@ -1,5 +1,5 @@
 -- Sets of acceptors, as the rising list of their numbers, all below 64.
-use Rattle.std.specs.Prelude.{ℕ, ◌^◌, Bool, ◌==◌, ◌&&◌, ◌||◌, not, List, filter, sum_by}
+use Rattle.std.specs.Prelude.{◌≡◌, ℕ, ◌^◌, Bool, ◌==◌, ◌&&◌, ◌||◌, not, List, filter, sum_by}
 use Rattle.std.specs.Int.{bit_at}
 use Rattle.std.specs.List.{range_with_len, list_any}
 
@@ -22,6 +22,14 @@ without_member ids id = members_where (λ n. not (n == id) && has_member ids n)
 -- those of either set
 abbrev pub union_of : List ℕ → List ℕ → List ℕ
 union_of a b = members_where (λ n. has_member a n || has_member b n)
+
+-- those of both sets
+abbrev pub intersection_of : List ℕ → List ℕ → List ℕ
+intersection_of a b = members_where (λ n. has_member a n && has_member b n)
+
+-- the list is a set of acceptors: it lists just its members, in rising order
+pub record IsMemberSet (ids : List ℕ) : Type 0 where
+  pub lists : ids ≡ members_where (has_member ids)
 
 -- the set whose identities are the places of the ones
 abbrev pub members_of_bits : ℕ → List ℕ

@@ -2,7 +2,7 @@ ghost use Rattle.std.specs.Prelude.{◌≡◌, ◌≤◌, [], length, nat_eq};
 ghost use Rattle.std.specs.Cmp.Rules.{comparing};
 ghost use Rattle.std.proofs.Common.{rules};
 ghost use lib.Pointwise.{pointwise};
-ghost use Rattle.cas_ballot.specs.Members.{has_member, with_member, without_member, union_of};
+ghost use Rattle.cas_ballot.specs.Members.{IsMemberSet, has_member, with_member, without_member, union_of, intersection_of};
 
 use crate::identity::AcceptorId;
 use std::marker::Model;
@@ -79,6 +79,7 @@ impl Members {
     pub fn count(&self) -> u32
         ensures value { result ≡ length self.now }
         ensures within { result ≤ 64 }
+        ensures set { IsMemberSet self.now }
     {
         self.bits.count_ones()
     }
@@ -89,6 +90,15 @@ impl Members {
     {
         Members {
             bits: self.bits | other.bits,
+        }
+    }
+
+    /// The acceptors of both sets.
+    pub fn intersection(&self, other: &Members) -> Members
+        ensures { result ≡ intersection_of self.now other.now }
+    {
+        Members {
+            bits: self.bits & other.bits,
         }
     }
 }
@@ -117,6 +127,7 @@ mod tests {
             }
         }
         assert!(rt; members.union(&set_of(&[5, 7])) == set_of(&[0, 5, 7, 63]));
+        assert!(rt; members.intersection(&set_of(&[5, 7, 63])) == set_of(&[5, 63]));
         for number in [5, 6] {
             if let Some(id) = AcceptorId::new(number) {
                 members.remove(id);

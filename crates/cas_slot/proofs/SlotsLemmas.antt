@@ -1,6 +1,6 @@
 -- The slots of a `BTreeMap`, as a finite map.
-use Rattle.std.proofs.Common.{◌≡◌, ℕ, Bool, true, false, cond, List, [], ◌∷◌, sym, ◌∙◌, ap, refl, Some}
-use Rattle.std.specs.Prelude.{◌⊎◌}
+use Rattle.std.proofs.Common.{◌≡◌, ℕ, Bool, true, false, cond, List, [], ◌∷◌, sym, ◌∙◌, ap, refl, Some, None}
+use Rattle.std.specs.Prelude.{◌⊎◌, Option}
 use Rattle.std.specs.Ordering.{nat_cmp, is_eq, eq_by_cmp}
 use Rattle.std.specs.Cmp.{eq_by_cmp_equiv}
 use Rattle.std.specs.Cmp.Lexicographic.{slice_cmp, nat_list_cmp_total}
@@ -12,7 +12,7 @@ use Rattle.std.specs.Map.{lookup}
 use Rattle.std.specs.BTreeMap.{is_at}
 use Rattle.std.specs.FinMap as map
 use Rattle.cas_slot.specs.declared.slot.Slot.{Slot}
-use Rattle.cas_slot.specs.Slots.{Slots, slot_at, with_slot}
+use Rattle.cas_slot.specs.Slots.{Slots, slot_at, with_slot, without_slot}
 
 -- the map of these entries
 abbrev slots_of : List (List ℕ × Slot) → Slots
@@ -72,11 +72,40 @@ pub with_slot-same : (slots : Slots) (key : List ℕ) (slot : Slot) → slot_at 
 with_slot-same slots key slot at = map.same_map nat_list_cmp_total (map.slice_cmp-IsAntisymmetric map.nat_cmp-IsAntisymmetric) _ _ (λ q.
     slot_at-with_slot slots key slot q ∙ same_at slots key slot q _ refl at)
 
-other_at : (slots : Slots) (key : List ℕ) (slot : Slot) (q : List ℕ) (b : Bool) → eq_by_cmp (slice_cmp nat_cmp) q key ≡ b → (q ≡ key → ⊥)
-    → cond b (Some slot) (slot_at slots q) ≡ slot_at slots q
-other_at slots key slot q true e differs = absurd (differs (map.slice_cmp-IsAntisymmetric map.nat_cmp-IsAntisymmetric q key (tied (slice_cmp nat_cmp q key) e)))
-other_at slots key slot q false e differs = refl
+other_at : (slots : Slots) (key : List ℕ) (put : Option Slot) (q : List ℕ) (b : Bool) → eq_by_cmp (slice_cmp nat_cmp) q key ≡ b → (q ≡ key → ⊥)
+    → cond b put (slot_at slots q) ≡ slot_at slots q
+other_at slots key put q true e differs = absurd (differs (map.slice_cmp-IsAntisymmetric map.nat_cmp-IsAntisymmetric q key (tied (slice_cmp nat_cmp q key) e)))
+other_at slots key put q false e differs = refl
 
 -- at every other key the slot that stood there stays
 pub slot_at-with_slot_other : (slots : Slots) (key : List ℕ) (slot : Slot) (q : List ℕ) → (q ≡ key → ⊥) → slot_at (with_slot slots key slot) q ≡ slot_at slots q
-slot_at-with_slot_other slots key slot q differs = slot_at-with_slot slots key slot q ∙ other_at slots key slot q _ refl differs
+slot_at-with_slot_other slots key slot q differs = slot_at-with_slot slots key slot q ∙ other_at slots key (Some slot) q _ refl differs
+
+-- entries that answer every look-up as after a removal are the map after it
+pub drop-slots : (key : List ℕ) (old new : List (List ℕ × Slot))
+    → ((q : List ℕ) → lookup (is_at (slice_cmp nat_cmp q)) new ≡ cond (is_at (slice_cmp nat_cmp key) q) None (lookup (is_at (slice_cmp nat_cmp q)) old))
+    → map.from_entries {R = slice_cmp nat_cmp} new ≡ without_slot (map.from_entries old) key
+drop-slots key old new answers =
+    map.same_map nat_list_cmp_total (map.slice_cmp-IsAntisymmetric map.nat_cmp-IsAntisymmetric) _ _ (λ q.
+    sym (lookup-slots q new) ∙ answers q ∙ ap (cond (is_at (slice_cmp nat_cmp key) q) None) (lookup-slots q old)
+    ∙ ap (λ (b : Bool). cond b None (slot_at (map.from_entries old) q)) ((eq_by_cmp_equiv nat_list_cmp_total).symm key q)
+    ∙ sym (map.get-remove nat_list_cmp_total (map.from_entries old) key q))
+
+-- what stands at a key after a removal
+pub slot_at-without_slot : (slots : Slots) (key q : List ℕ) → slot_at (without_slot slots key) q ≡ cond (eq_by_cmp (slice_cmp nat_cmp) q key) None (slot_at slots q)
+slot_at-without_slot slots key q = map.get-remove nat_list_cmp_total slots key q
+
+pub slot_at-without_slot_same : (slots : Slots) (key : List ℕ) → slot_at (without_slot slots key) key ≡ None
+slot_at-without_slot_same slots key = slot_at-without_slot slots key key ∙ ap (λ o. cond (is_eq o) None (slot_at slots key)) (tied_itself nat_list_cmp_total key)
+
+pub slot_at-without_slot_other : (slots : Slots) (key q : List ℕ) → (q ≡ key → ⊥) → slot_at (without_slot slots key) q ≡ slot_at slots q
+slot_at-without_slot_other slots key q differs = slot_at-without_slot slots key q ∙ other_at slots key None q _ refl differs
+
+none_at : (slots : Slots) (key q : List ℕ) (b : Bool) → eq_by_cmp (slice_cmp nat_cmp) q key ≡ b → slot_at slots key ≡ None → cond b None (slot_at slots q) ≡ slot_at slots q
+none_at slots key q true e at = sym at ∙ ap (slot_at slots) (sym (map.slice_cmp-IsAntisymmetric map.nat_cmp-IsAntisymmetric q key (tied (slice_cmp nat_cmp q key) e)))
+none_at slots key q false e at = refl
+
+-- to remove what is not there changes nothing
+pub without_slot-same : (slots : Slots) (key : List ℕ) → slot_at slots key ≡ None → without_slot slots key ≡ slots
+without_slot-same slots key at = map.same_map nat_list_cmp_total (map.slice_cmp-IsAntisymmetric map.nat_cmp-IsAntisymmetric) _ _ (λ q.
+    slot_at-without_slot slots key q ∙ none_at slots key q _ refl at)

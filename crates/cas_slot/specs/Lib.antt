@@ -1,4 +1,10 @@
+pub mod Ages
+pub mod Contents
+pub mod ContentsCode
+pub mod Message
 pub mod Rules
+pub mod Shelf
 pub mod Slot
 pub mod Slots
 pub mod SlotsCode
+pub mod Table

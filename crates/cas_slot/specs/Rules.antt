@@ -1,6 +1,8 @@
--- The acceptor's table: what a request does to the slot of its key, and what is answered.
-use Rattle.std.specs.Prelude.{ℕ, List, Bool, false, if◌then◌else◌, Option, None, Some, unwrap_or}
-use Rattle.std.specs.Ordering.{match_ordering, is_eq, is_lt}
+-- What a request does to the slot of its key, and what is answered, where it is refused neither for its age nor for want of room.
+use Rattle.std.specs.Prelude.{ℕ, List, [], Bool, true, false, ◌&&◌, nat_lt, take, length, if◌then◌else◌, Option, None, Some, unwrap_or}
+use Rattle.std.specs.Ordering.{match_ordering, is_eq, is_lt, is_le}
+use Rattle.cas_change.specs.declared.state.State.{State}
+use Rattle.cas_change.specs.declared.state.State.TheVariants.{Empty, Held}
 use Rattle.cas_ballot.specs.declared.ballot.Ballot.{Ballot}
 use Rattle.cas_ballot.specs.Ballot.{ballot_cmp, zero_ballot}
 use Rattle.cas_slot.specs.declared.slot.Accepted.{Accepted}
@@ -9,16 +11,17 @@ use Rattle.cas_slot.specs.declared.rules.PrepareRule.{PrepareRule}
 use Rattle.cas_slot.specs.declared.rules.PrepareRule.TheVariants as prepare
 use Rattle.cas_slot.specs.declared.rules.AcceptRule.{AcceptRule}
 use Rattle.cas_slot.specs.declared.rules.AcceptRule.TheVariants as accept
+use Rattle.cas_slot.specs.declared.rules.RemoveRule.{RemoveRule}
+use Rattle.cas_slot.specs.declared.rules.RemoveRule.TheVariants as remove
 use Rattle.cas_slot.specs.declared.message.Ask.{Ask}
-use Rattle.cas_slot.specs.declared.message.Ask.TheVariants.{Prepare, Accept}
-use Rattle.cas_slot.specs.declared.message.Phase.{Phase}
-use Rattle.cas_slot.specs.declared.message.Phase.TheVariants as phase
+use Rattle.cas_slot.specs.declared.message.Ask.TheVariants.{Prepare, Accept, Ages, Remove, List as Listing, Probe}
 use Rattle.cas_slot.specs.declared.message.Request.{Request}
 use Rattle.cas_slot.specs.declared.message.Reply.{Reply}
 use Rattle.cas_slot.specs.declared.message.Tell.{Tell}
 use Rattle.cas_slot.specs.declared.message.Tell.TheVariants as tell
-use Rattle.cas_slot.specs.Slot.{accepted_of, seen_of}
-use Rattle.cas_slot.specs.Slots.{Slots, slot_at, with_slot}
+use Rattle.cas_slot.specs.Message.{phase_of, tag_of}
+use Rattle.cas_slot.specs.Slot.{accepted_of, promise_of, seen_of}
+use Rattle.cas_slot.specs.Slots.{Slots, slot_at, with_slot, without_slot, keys_above}
 
 -- a ballot above all that the slot has seen is promised, and one that it has just seen is promised again
 abbrev pub prepare_rule : Option Slot → Ballot → PrepareRule
@@ -36,6 +39,24 @@ accept_rule slot ballot =
     then accept.Repeat
     else (if is_lt (ballot_cmp ballot (seen_of slot)) then accept.Met (seen_of slot) else accept.Take)
 
+abbrev pub is_empty : State → Bool
+is_empty Empty = true
+is_empty (Held version body) = false
+
+-- whether it is the empty state, accepted at this ballot
+abbrev pub is_empty_at : Option Accepted → Ballot → Bool
+is_empty_at None ballot = false
+is_empty_at (Some accepted) ballot = is_empty accepted.state && is_eq (ballot_cmp accepted.ballot ballot)
+
+-- whether a slot holds the tombstone of this ballot, and has promised nothing greater
+abbrev pub is_tombstone : Slot → Ballot → Bool
+is_tombstone slot tomb = is_empty_at slot.accepted tomb && is_le (ballot_cmp slot.promise tomb)
+
+-- a tombstone is removed, and any other slot is kept
+abbrev pub remove_rule : Option Slot → Ballot → RemoveRule
+remove_rule None tomb = remove.Absent
+remove_rule (Some slot) tomb = if is_tombstone slot tomb then remove.Remove else remove.Keep
+
 -- the slot after a prepare: a new promise keeps what was accepted
 abbrev pub slot_by_prepare : PrepareRule → Option Slot → Ballot → Option Slot
 slot_by_prepare prepare.Promise slot ballot = Some (record { promise = ballot; accepted = accepted_of slot })
@@ -48,11 +69,21 @@ slot_by_accept accept.Take slot accepted ride = Some (record { promise = unwrap_
 slot_by_accept accept.Repeat slot accepted ride = slot
 slot_by_accept (accept.Met seen) slot accepted ride = slot
 
+-- the slot after a removal
+abbrev pub slot_by_remove : RemoveRule → Option Slot → Option Slot
+slot_by_remove remove.Remove slot = None
+slot_by_remove remove.Absent slot = slot
+slot_by_remove remove.Keep slot = slot
+
 -- the slot of its key after a request
 abbrev pub slot_after : Option Slot → Ask → Option Slot
 slot_after slot (Prepare key ballot) = slot_by_prepare (prepare_rule slot ballot) slot ballot
 slot_after slot (Accept key ballot era ride state) =
     slot_by_accept (accept_rule slot ballot) slot (record { ballot = ballot; era = era; state = state }) ride
+slot_after slot (Ages tag least) = slot
+slot_after slot (Remove key tomb) = slot_by_remove (remove_rule slot tomb) slot
+slot_after slot (Listing tag after) = slot
+slot_after slot (Probe tag key) = slot
 
 abbrev pub tell_by_prepare : PrepareRule → Option Slot → Tell
 tell_by_prepare prepare.Promise slot = tell.Promised (accepted_of slot)
@@ -64,28 +95,32 @@ tell_by_accept accept.Take = tell.Accepted
 tell_by_accept accept.Repeat = tell.Accepted
 tell_by_accept (accept.Met seen) = tell.Met seen
 
--- what a request is answered
-abbrev pub tell_of : Option Slot → Ask → Tell
-tell_of slot (Prepare key ballot) = tell_by_prepare (prepare_rule slot ballot) slot
-tell_of slot (Accept key ballot era ride state) = tell_by_accept (accept_rule slot ballot)
+abbrev pub tell_by_remove : RemoveRule → Tell
+tell_by_remove remove.Remove = tell.Removed
+tell_by_remove remove.Absent = tell.Removed
+tell_by_remove remove.Keep = tell.Kept
 
--- the key of a request
+-- what a request is answered
+abbrev pub tell_of : Slots → Ask → Tell
+tell_of slots (Prepare key ballot) = tell_by_prepare (prepare_rule (slot_at slots key) ballot) (slot_at slots key)
+tell_of slots (Accept key ballot era ride state) = tell_by_accept (accept_rule (slot_at slots key) ballot)
+tell_of slots (Ages tag least) = tell.AgesSet
+tell_of slots (Remove key tomb) = tell_by_remove (remove_rule (slot_at slots key) tomb)
+tell_of slots (Listing tag after) = tell.Listed after (take 4 (keys_above slots after)) (nat_lt 4 (length (keys_above slots after)))
+tell_of slots (Probe tag key) = tell.Probed (promise_of (slot_at slots key)) (accepted_of (slot_at slots key))
+
+-- the key of a request; no byte, which is no key, where it asks for none
 abbrev pub key_of : Ask → List ℕ
 key_of (Prepare key ballot) = key
 key_of (Accept key ballot era ride state) = key
-
--- the kind of a request, and its ballot: a reply bears both
-abbrev pub phase_of : Ask → Phase
-phase_of (Prepare key ballot) = phase.Prepare
-phase_of (Accept key ballot era ride state) = phase.Accept
-
-abbrev pub tag_of : Ask → Ballot
-tag_of (Prepare key ballot) = ballot
-tag_of (Accept key ballot era ride state) = ballot
+key_of (Ages tag least) = []
+key_of (Remove key tomb) = key
+key_of (Listing tag after) = []
+key_of (Probe tag key) = key
 
 -- the slots with what the table leaves at the key
 abbrev pub with_slot_after : Slots → List ℕ → Option Slot → Slots
-with_slot_after slots key None = slots
+with_slot_after slots key None = without_slot slots key
 with_slot_after slots key (Some slot) = with_slot slots key slot
 
 -- all slots of an acceptor after a request
@@ -99,5 +134,5 @@ reply_of acceptor slots request = record {
   to = request.from;
   phase = phase_of request.ask;
   tag = tag_of request.ask;
-  tell = tell_of (slot_at slots (key_of request.ask)) request.ask;
+  tell = tell_of slots request.ask;
 }

@@ -15,6 +15,11 @@ abbrev pub accepted_of : Option Slot → Option Accepted
 accepted_of None = None
 accepted_of (Some slot) = slot.accepted
 
+-- what a slot promised; zero where there is no slot
+abbrev pub promise_of : Option Slot → Ballot
+promise_of None = zero_ballot
+promise_of (Some slot) = slot.promise
+
 -- the greater of what a slot promised and accepted; zero where there is no slot
 abbrev pub seen_of : Option Slot → Ballot
 seen_of None = zero_ballot

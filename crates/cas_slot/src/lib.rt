@@ -4,14 +4,22 @@
 //! The rules are those of Rystsov 2018, section 2.2. Nothing here sends a message, and no proposer lives here.
 #![tactic(auto)]
 
+mod ages;
+mod fault;
 mod map_shelf;
 mod message;
+mod page;
 mod rules;
 mod shelf;
 mod slot;
+mod slots;
 
+pub use ages::{Ages, PROPOSERS};
+pub use fault::ShelfFault;
 pub use map_shelf::MapShelf;
 pub use message::{Ask, Phase, Reply, Request, Tell};
-pub use rules::{AcceptRule, PrepareRule, on_accept, on_prepare};
+pub use page::{MOST_KEYS, Page};
+pub use rules::{AcceptRule, PrepareRule, RemoveRule, on_accept, on_prepare, on_remove};
 pub use shelf::Shelf;
 pub use slot::{Accepted, Slot};
+pub use slots::MOST_SLOTS;

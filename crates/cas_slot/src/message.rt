@@ -1,8 +1,10 @@
-//! The messages of a round, as values.
+//! The messages between a proposer and an acceptor, as values.
 
 ghost use Rattle.std.specs.Prelude.{◌≡◌};
-ghost use Rattle.cas_slot.specs.Rules.{key_of, phase_of, tag_of};
+ghost use Rattle.cas_slot.specs.Message.{phase_of, tag_of};
 
+use crate::ages::Ages;
+use crate::page::Page;
 use crate::slot::Accepted;
 use cas_ballot::{AcceptorId, Ballot};
 use cas_change::{Key, State};
@@ -14,7 +16,7 @@ pub struct Request {
     pub to: AcceptorId,
     /// The number of the proposer that asks.
     pub from: u8,
-    /// The proposer's age.
+    /// The proposer's age. An acceptor refuses one below the least that it still answers.
     pub age: u64,
     pub ask: Ask,
 }
@@ -35,18 +37,29 @@ pub enum Ask {
         ride: Option<Ballot>,
         state: State,
     },
+    /// To raise the least ages to these, where they are greater.
+    Ages {
+        tag: Ballot,
+        least: Ages,
+    },
+    /// To remove the key's slot, where it holds the tombstone of that ballot and has promised nothing greater.
+    Remove {
+        key: Key,
+        tomb: Ballot,
+    },
+    /// To tell the next keys above this one, or the first ones.
+    List {
+        tag: Ballot,
+        after: Option<Key>,
+    },
+    /// To tell what is kept for the key.
+    Probe {
+        tag: Ballot,
+        key: Key,
+    },
 }
 
 impl Ask {
-    /// The key that is asked for.
-    pub fn key(&self) -> &Key
-        ensures { result.now ≡ key_of self.now }
-    {
-        match self {
-            Ask::Prepare { key, .. } | Ask::Accept { key, .. } => key,
-        }
-    }
-
     /// The kind of the question.
     pub fn phase(&self) -> Phase
         ensures { result ≡ phase_of self.now }
@@ -54,15 +67,21 @@ impl Ask {
         match self {
             Ask::Prepare { .. } => Phase::Prepare,
             Ask::Accept { .. } => Phase::Accept,
+            Ask::Ages { .. } => Phase::Ages,
+            Ask::Remove { .. } => Phase::Remove,
+            Ask::List { .. } => Phase::List,
+            Ask::Probe { .. } => Phase::Probe,
         }
     }
 
-    /// The ballot of the question, which tags its reply.
+    /// The ballot of the question, which tags its reply: that of its round, of its tombstone, or the tag that it was given.
     pub fn tag(&self) -> Ballot
         ensures { result ≡ tag_of self.now }
     {
         match self {
             Ask::Prepare { ballot, .. } | Ask::Accept { ballot, .. } => *ballot,
+            Ask::Ages { tag, .. } | Ask::List { tag, .. } | Ask::Probe { tag, .. } => *tag,
+            Ask::Remove { tomb, .. } => *tomb,
         }
     }
 }
@@ -72,6 +91,10 @@ impl Ask {
 pub enum Phase {
     Prepare,
     Accept,
+    Ages,
+    Remove,
+    List,
+    Probe,
 }
 
 /// What an acceptor answers.
@@ -92,9 +115,32 @@ pub struct Reply {
 #[derive(Debug, PartialEq, Eq, Drop)]
 pub enum Tell {
     /// The ballot is promised, and this was accepted before.
-    Promised { accepted: Option<Accepted> },
+    Promised {
+        accepted: Option<Accepted>,
+    },
     /// The state is accepted.
     Accepted,
     /// This greater ballot was seen, and nothing was done.
     Met(Ballot),
+    /// The age is below this one, the least that is still answered, and nothing was done.
+    Aged(u64),
+    /// There is no room for a slot of one more key, and nothing was done.
+    Full,
+    /// The least ages are no lower than those that were asked for.
+    AgesSet,
+    /// The key has no slot.
+    Removed,
+    /// The key's slot holds something else than the tombstone, or has promised a greater ballot, and stays.
+    Kept,
+    /// The next keys above `after`, in the order of their bytes, and whether more follow.
+    Listed {
+        after: Option<Key>,
+        keys: Page,
+        more: bool,
+    },
+    /// What is kept for the key; zero and nothing where it has no slot.
+    Probed {
+        promise: Ballot,
+        accepted: Option<Accepted>,
+    },
 }

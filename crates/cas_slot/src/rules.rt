@@ -3,10 +3,11 @@
 ghost use Rattle.std.specs.Prelude.{◌≡◌};
 ghost use Rattle.std.specs.Option.{option_copied};
 ghost use Rattle.cas_slot.specs.Slot.{seen_of, accepted_of};
-ghost use Rattle.cas_slot.specs.Rules.{prepare_rule, accept_rule, is_accepted_at};
+ghost use Rattle.cas_slot.specs.Rules.{prepare_rule, accept_rule, remove_rule, is_accepted_at, is_tombstone};
 
 use crate::slot::Slot;
 use cas_ballot::Ballot;
+use cas_change::State;
 use std::cmp::Ordering;
 
 /// What an acceptor does with a prepare.
@@ -29,6 +30,17 @@ pub enum AcceptRule {
     Repeat,
     /// It has seen this greater ballot, and refuses.
     Met(Ballot),
+}
+
+/// What an acceptor does with a removal.
+#[derive(Clone, Copy, Debug, PartialEq, Eq)]
+pub enum RemoveRule {
+    /// It removes the slot, which holds the tombstone and has promised nothing greater.
+    Remove,
+    /// There is no slot, and nothing to do.
+    Absent,
+    /// It keeps the slot, which holds something else or has promised a greater ballot.
+    Keep,
 }
 
 /// What becomes of a prepare at this ballot, where the key has that slot or none.
@@ -55,6 +67,36 @@ pub fn on_accept(slot: Option<&Slot>, ballot: Ballot) -> AcceptRule
         AcceptRule::Met(seen)
     } else {
         AcceptRule::Take
+    }
+}
+
+/// What becomes of a removal with the tombstone of this ballot, where the key has that slot or none.
+pub fn on_remove(slot: Option<&Slot>, tomb: Ballot) -> RemoveRule
+    ensures { result ≡ remove_rule (option_copied slot.entry) tomb }
+{
+    match slot {
+        None => RemoveRule::Absent,
+        Some(slot) => {
+            if is_tombstone(slot, tomb) {
+                RemoveRule::Remove
+            } else {
+                RemoveRule::Keep
+            }
+        }
+    }
+}
+
+/// Whether the slot holds the empty state, accepted at just this ballot, and has promised nothing greater.
+fn is_tombstone(slot: &Slot, tomb: Ballot) -> bool
+    ensures { result ≡ is_tombstone slot.now tomb }
+{
+    match &slot.accepted {
+        Some(accepted) => {
+            matches!(&accepted.state, State::Empty)
+                && accepted.ballot == tomb
+                && slot.promise <= tomb
+        }
+        None => false,
     }
 }
 
@@ -85,7 +127,7 @@ fn is_accepted_at(slot: Option<&Slot>, ballot: Ballot) -> bool
 mod tests {
     use super::*;
     use crate::slot::Accepted;
-    use cas_change::State;
+    use cas_change::Body;
 
     const fn at(counter: u64, proposer: u8) -> Ballot {
         Ballot { counter, proposer }
@@ -178,5 +220,33 @@ mod tests {
                 "accept {ballot} at {slot:?}"
             );
         }
+    }
+
+    #[test]
+    fn remove_a_tombstone_alone(rt: HostRuntime) {
+        assert_eq!(rt; on_remove(None, at(2, 0)), RemoveRule::Absent);
+        // The promise, the accepted ballot, and what becomes of a removal at 2.0.
+        let rows = [
+            (at(0, 0), Some(at(2, 0)), RemoveRule::Remove),
+            (at(2, 0), Some(at(2, 0)), RemoveRule::Remove),
+            (at(2, 1), Some(at(2, 0)), RemoveRule::Keep),
+            (at(0, 0), Some(at(1, 9)), RemoveRule::Keep),
+            (at(0, 0), Some(at(2, 1)), RemoveRule::Keep),
+            (at(2, 0), None, RemoveRule::Keep),
+        ];
+        for (promise, accepted, want) in rows {
+            let slot = slot_of(promise, accepted);
+            assert_eq!(rt; on_remove(Some(&slot), at(2, 0)), want, "{slot:?}");
+        }
+        let mut held = slot_of(at(0, 0), None);
+        held.accepted = Some(Accepted {
+            ballot: at(2, 0),
+            era: 0,
+            state: State::Held {
+                version: 0,
+                body: Body::Number(5),
+            },
+        });
+        assert_eq!(rt; on_remove(Some(&held), at(2, 0)), RemoveRule::Keep);
     }
 }

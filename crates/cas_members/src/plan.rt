@@ -1,0 +1,318 @@
+ghost use Rattle.std.specs.Prelude.{◌≡◌, ◌≢◌, ◌+◌, ◌<◌, ◌^◌, ◌==◌, ◌∷◌, IfOk, option_to_list};
+ghost use Rattle.cas_quorum.specs.Era.{era_of_majorities, majority_era};
+ghost use Rattle.cas_members.specs.Steps.{steps_left};
+ghost use Rattle.cas_members.specs.Plan.{IsLawfulCourse, IsLawfulPlan, eras_of, next_of, IsEnter, join_of, leave_of};
+
+use cas_ballot::{AcceptorId, Members};
+use cas_quorum::{Era, PlanFault};
+use std::marker::Model;
+
+/// The most members that a cluster has.
+pub const MOST_MEMBERS: u32 = 9;
+
+/// What a change of membership does next.
+#[derive(Clone, Copy, Debug, PartialEq, Eq)]
+pub enum PlanStep {
+    /// To settle the era that was entered last: each key is listed by its members, and proposed anew in it.
+    Settle,
+    /// To enter this era, with all proposers.
+    Enter(Era),
+    /// Nothing more: the plan is at its end.
+    Finished,
+}
+
+/// A change of membership that is under way, seen as the era that was entered last and the steps that are left.
+///
+/// In every era that a plan enters, all sizes are majorities of their sets. Each of these eras meets itself and the one
+/// before it, and in the last one the same members prepare and accept.
+#[derive(Debug, Drop)]
+pub struct Plan {
+    era: Era,
+    settled: bool,
+    half: Option<Era>,
+    whole: Option<Era>,
+}
+
+impl Model for Plan {
+    ghost use Rattle.cas_members.specs.Steps.{Progress, steps_left};
+    ghost use Rattle.cas_members.specs.Plan.{eras_of, IsLawfulCourse};
+
+    ghost Value = { Progress };
+
+    ghost view = { λ plan. record { era = plan.era; left = steps_left plan.settled (eras_of plan.half plan.whole) } };
+
+    ghost invariant = { λ plan. IsLawfulCourse plan.era (eras_of plan.half plan.whole) };
+}
+
+impl Plan {
+    /// The plan by which an acceptor joins.
+    ///
+    /// With an odd number of members the new one first accepts alone, in an era between, and prepares in the next; with
+    /// an even number it does both at once. An era above 0 is settled before it is left.
+    ///
+    /// Refused, by the first of these that holds: [`PlanFault::AlreadyIn`] exactly where the acceptor is a member,
+    /// [`PlanFault::IdUsed`] exactly where it is one of `used`, [`PlanFault::TooMany`] exactly where there are
+    /// [`MOST_MEMBERS`].
+    pub fn join(era: &Era, used: &Members, id: AcceptorId) -> Result<Plan, PlanFault>
+        requires majorities { era.now ≡ majority_era era.now.number era.now.prep }
+        requires number { era.now.number + 2 < 2 ^ 32 }
+        ensures value { result ≡ join_of era.now used.now id }
+        ensures lawful { IfOk result IsLawfulPlan }
+    {
+        let members = era.prep;
+        if members.has(id) {
+            return Err(PlanFault::AlreadyIn);
+        }
+        if used.has(id) {
+            return Err(PlanFault::IdUsed);
+        }
+        if members.count() >= MOST_MEMBERS {
+            return Err(PlanFault::TooMany);
+        }
+        let mut joined = members;
+        joined.insert(id);
+        if members.count() % 2 == 1 {
+            let half = majorities_of(era.number + 1, members, joined);
+            let whole = Era::majority(era.number + 2, joined);
+            Ok(Plan::over(era, Some(half), whole))
+        } else {
+            Ok(Plan::over(era, None, Era::majority(era.number + 1, joined)))
+        }
+    }
+
+    /// The plan by which a member leaves.
+    ///
+    /// With an even number of members it first accepts alone, in an era between, and then neither; with an odd number it
+    /// stops both at once. An era above 0 is settled before it is left.
+    ///
+    /// Refused, by the first of these that holds: [`PlanFault::NotIn`] exactly where the acceptor is no member,
+    /// [`PlanFault::Last`] exactly where it is the only one.
+    pub fn leave(era: &Era, id: AcceptorId) -> Result<Plan, PlanFault>
+        requires majorities { era.now ≡ majority_era era.now.number era.now.prep }
+        requires number { era.now.number + 2 < 2 ^ 32 }
+        ensures value { result ≡ leave_of era.now id }
+        ensures lawful { IfOk result IsLawfulPlan }
+    {
+        let members = era.prep;
+        if !members.has(id) {
+            return Err(PlanFault::NotIn);
+        }
+        if members.count() <= 1 {
+            return Err(PlanFault::Last);
+        }
+        let mut rest = members;
+        rest.remove(id);
+        if members.count() % 2 == 0 {
+            let half = majorities_of(era.number + 1, rest, members);
+            let whole = Era::majority(era.number + 2, rest);
+            Ok(Plan::over(era, Some(half), whole))
+        } else {
+            Ok(Plan::over(era, None, Era::majority(era.number + 1, rest)))
+        }
+    }
+
+    /// The plan from that era over the half step's era, where there is one, to the last.
+    fn over(era: &Era, half: Option<Era>, whole: Era) -> Plan
+        requires { IsLawfulCourse era.now (eras_of half (Some whole)) }
+        ensures value { result ≡ record { era = era.now; left = steps_left (era.now.number == 0) (eras_of half (Some whole)) } }
+        ensures lawful { IsLawfulPlan result }
+    {
+        Plan {
+            era: *era,
+            settled: era.number == 0,
+            half,
+            whole: Some(whole),
+        }
+    }
+
+    /// The era that was entered last; before any was, the one from which the plan begins.
+    pub fn era(&self) -> Era
+        ensures { result ≡ self.now.era }
+    {
+        self.era
+    }
+
+    /// What has to be done next: the first of the steps that are left.
+    pub fn next(&self) -> PlanStep
+        ensures value { result ≡ next_of self.now.left }
+        ensures lawful { IsLawfulPlan self.now }
+    {
+        let next = match self.half {
+            Some(half) => Some(half),
+            None => self.whole,
+        };
+        match next {
+            Some(era) if self.settled => PlanStep::Enter(era),
+            Some(_) => PlanStep::Settle,
+            None => PlanStep::Finished,
+        }
+    }
+
+    /// The era was settled.
+    pub fn settled(&mut self)
+        requires { next_of self.old.left ≡ PlanStep.Settle }
+        ensures steps { self.old.left ≡ PlanStep.Settle ∷ self.new.left }
+        ensures era { self.new.era ≡ self.old.era }
+    {
+        self.settled = true;
+    }
+
+    /// All proposers entered the era that was next.
+    pub fn entered(&mut self)
+        requires { IsEnter (next_of self.old.left) }
+        ensures { self.old.left ≡ PlanStep.Enter self.new.era ∷ self.new.left }
+    {
+        let entered = match self.half.take() {
+            Some(half) => Some(half),
+            None => self.whole.take(),
+        };
+        if let Some(era) = entered {
+            self.era = era;
+            self.settled = false;
+        }
+    }
+}
+
+/// The era with majorities of these two sets.
+fn majorities_of(number: u32, prep: Members, acc: Members) -> Era
+    ensures { result ≡ era_of_majorities number prep acc }
+{
+    Era {
+        number,
+        prep,
+        need_prep: prep.count() / 2 + 1,
+        acc,
+        need_acc: acc.count() / 2 + 1,
+    }
+}
+
+#[cfg(test)]
+mod tests {
+    use super::*;
+    use PlanStep::{Enter, Finished, Settle};
+
+    /// An identity that was used before and is no member.
+    const USED: u8 = 1;
+
+    /// All steps of a plan.
+    fn played(mut plan: Plan) -> [PlanStep; 5] {
+        let mut steps = [Finished; 5];
+        for step in steps.iter_mut() {
+            *step = plan.next();
+            match plan.next() {
+                Settle => plan.settled(),
+                Enter(_) => plan.entered(),
+                Finished => {}
+            }
+        }
+        steps
+    }
+
+    /// The steps of a plan that enters these eras, from that one on.
+    fn steps_from(era: u32, half: Option<Era>, whole: Era) -> [PlanStep; 5] {
+        match (era, half) {
+            (0, Some(half)) => [Enter(half), Settle, Enter(whole), Finished, Finished],
+            (_, Some(half)) => [Settle, Enter(half), Settle, Enter(whole), Finished],
+            (0, None) => [Enter(whole), Finished, Finished, Finished, Finished],
+            (_, None) => [Settle, Enter(whole), Finished, Finished, Finished],
+        }
+    }
+
+    /// The majorities of 0 to 10 members.
+    fn majority(count: u32) -> u32 {
+        match count {
+            0 | 1 => 1,
+            2 | 3 => 2,
+            4 | 5 => 3,
+            6 | 7 => 4,
+            8 | 9 => 5,
+            _ => 6,
+        }
+    }
+
+    fn era_of(number: u32, prep: Members, acc: Members) -> Era {
+        Era {
+            number,
+            prep,
+            need_prep: majority(prep.count()),
+            acc,
+            need_acc: majority(acc.count()),
+        }
+    }
+
+    /// What a join is answered, from an era of that number with n members.
+    fn join_row(m: u32, n: u8, members: Members, id: AcceptorId) -> Result<[PlanStep; 5], PlanFault>
+        requires { m < 100 }
+    {
+        let mut joined = members;
+        joined.insert(id);
+        if members.has(id) {
+            Err(PlanFault::AlreadyIn)
+        } else if id.number() == USED {
+            Err(PlanFault::IdUsed)
+        } else if n == 9 {
+            Err(PlanFault::TooMany)
+        } else if [1, 3, 5, 7].contains(&n) {
+            let half = era_of(m + 1, members, joined);
+            Ok(steps_from(m, Some(half), era_of(m + 2, joined, joined)))
+        } else {
+            Ok(steps_from(m, None, era_of(m + 1, joined, joined)))
+        }
+    }
+
+    /// What a leave is answered.
+    fn leave_row(
+        m: u32,
+        n: u8,
+        members: Members,
+        id: AcceptorId,
+    ) -> Result<[PlanStep; 5], PlanFault>
+        requires { m < 100 }
+    {
+        let mut rest = members;
+        rest.remove(id);
+        if !members.has(id) {
+            Err(PlanFault::NotIn)
+        } else if n == 1 {
+            Err(PlanFault::Last)
+        } else if [2, 4, 6, 8].contains(&n) {
+            let half = era_of(m + 1, rest, members);
+            Ok(steps_from(m, Some(half), era_of(m + 2, rest, rest)))
+        } else {
+            Ok(steps_from(m, None, era_of(m + 1, rest, rest)))
+        }
+    }
+
+    #[test]
+    fn follow_the_table(rt: HostRuntime) {
+        let mut members = Members::new();
+        let mut used = Members::new();
+        for n in 1..10u8 {
+            for number in [7 * (n - 1), USED] {
+                if let Some(id) = AcceptorId::new(number) {
+                    used.insert(id);
+                    if number != USED {
+                        members.insert(id);
+                    }
+                }
+            }
+            for m in [0, 7] {
+                let era = Era::majority(m, members);
+                for number in 0..64u8 {
+                    if let Some(id) = AcceptorId::new(number) {
+                        let joined = Plan::join(&era, &used, id).map(|plan| played(plan));
+                        assert!(rt;
+                            joined == join_row(m, n, members, id),
+                            "join {number} of {n} at {m}"
+                        );
+                        let left = Plan::leave(&era, id).map(|plan| played(plan));
+                        assert!(rt;
+                            left == leave_row(m, n, members, id),
+                            "leave {number} of {n} at {m}"
+                        );
+                    }
+                }
+            }
+        }
+    }
+}

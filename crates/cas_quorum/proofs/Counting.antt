@@ -1,0 +1,97 @@
+-- Quorums that are together larger than their sets share an acceptor, and majorities are.
+use Rattle.std.proofs.Common.{◌≡◌, ℕ, ◌+◌, suc, ◌<◌, ◌≤◌, Bool, true, false, List, length, arith, refl, ap}
+use Rattle.std.specs.Prelude.{◌&&◌, ◌||◌}
+use Rattle.std.proofs.lemmas.Bool.Decides.{leb_tells}
+use mathlib.Core.Logic.{inl, inr}
+use Rattle.cas_ballot.specs.Members.{has_member, members_where, union_of, IsMemberSet}
+use Rattle.cas_ballot.proofs.CountLemmas.{length-apart, length-within, someone, Passes, IsWithin, IsWithin-same, union_within, union_around}
+use Rattle.cas_quorum.specs.declared.era.Era.{Era}
+use Rattle.cas_quorum.specs.Quorum.{count_in, has_quorum, majority_of, SizesMeet, Shared}
+use Rattle.cas_quorum.specs.Era.{holds_prep, holds_acc, Meet}
+
+-- an acceptor that is in either set's part is in the sets together
+within_either : (p a q b : Bool) → ((p && a) || (q && b)) ≡ true → (p || q) ≡ true
+within_either true a q b e = refl
+within_either false a true b e = refl
+within_either false a false b e = e
+
+both_left : (a b : Bool) → (a && b) ≡ true → a ≡ true
+both_left true b e = refl
+both_left false b e = e
+
+both_right : (a b : Bool) → (a && b) ≡ true → b ≡ true
+both_right true b e = e
+both_right false b e = absurd (cc e)
+
+-- an acceptor that is in both sets and in both parts
+pub record IsCommon (prep acc prepared accepted : List ℕ) : Type 0 where
+  pub acceptor : ℕ
+  pub below : acceptor < 64
+  pub in_prep : has_member prep acceptor ≡ true
+  pub in_acc : has_member acc acceptor ≡ true
+  pub in_prepared : has_member prepared acceptor ≡ true
+  pub in_accepted : has_member accepted acceptor ≡ true
+
+common : (prep acc prepared accepted : List ℕ)
+    → Passes (λ n. (has_member prep n && has_member prepared n) && (has_member acc n && has_member accepted n)) → IsCommon prep acc prepared accepted
+common prep acc prepared accepted one =
+    let left : (has_member prep one.acceptor && has_member prepared one.acceptor) ≡ true = both_left _ (has_member acc one.acceptor && has_member accepted one.acceptor) one.passes in
+    let right : (has_member acc one.acceptor && has_member accepted one.acceptor) ≡ true = both_right (has_member prep one.acceptor && has_member prepared one.acceptor) _ one.passes in
+    record {
+      acceptor = one.acceptor;
+      below = one.below;
+      in_prep = both_left _ (has_member prepared one.acceptor) left;
+      in_acc = both_left _ (has_member accepted one.acceptor) right;
+      in_prepared = both_right (has_member prep one.acceptor) _ left;
+      in_accepted = both_right (has_member acc one.acceptor) _ right;
+    }
+
+-- parts of two sets that are together more than the sets have overlap
+pub parts_share : (prep acc prepared accepted : List ℕ)
+    → length (union_of prep acc) < count_in prep prepared + count_in acc accepted → IsCommon prep acc prepared accepted
+parts_share prep acc prepared accepted h =
+    let p : ℕ → Bool = λ n. has_member prep n && has_member prepared n in
+    let q : ℕ → Bool = λ n. has_member acc n && has_member accepted n in
+    let inside : length (members_where (λ n. p n || q n)) ≤ length (union_of prep acc)
+    = length-within (λ n. p n || q n) (λ n. has_member prep n || has_member acc n)
+    (λ n small e. within_either (has_member prep n) (has_member prepared n) (has_member acc n) (has_member accepted n) e) in
+    common prep acc prepared accepted (someone (λ n. p n && q n) (omega (arith, length-apart p q, inside)))
+
+-- a test for a quorum tells that there is one
+pub quorum_tells : (need : ℕ) (set by : List ℕ) → has_quorum need set by ≡ true → need ≤ count_in set by
+quorum_tells need set by e = elim (leb_tells need (count_in set by)) [ inl low ↦ low.1 | inr high ↦ absurd (cc (e, high.0)) ]
+
+-- quorums of eras that meet have an acceptor in common, which is in both sets
+pub common_of_quorums : (a b : Era) → Meet a b → (prepared accepted : List ℕ)
+    → holds_prep a prepared ≡ true → holds_acc b accepted ≡ true → IsCommon a.prep b.acc prepared accepted
+common_of_quorums a b meet prepared accepted e f =
+    parts_share a.prep b.acc prepared accepted
+    (omega (arith, meet.forth, quorum_tells a.need_prep a.prep prepared e, quorum_tells b.need_acc b.acc accepted f))
+
+shared : (prep acc prepared accepted : List ℕ) → IsCommon prep acc prepared accepted → Shared prepared accepted
+shared prep acc prepared accepted one = record { acceptor = one.acceptor; left = one.in_prepared; right = one.in_accepted }
+
+pub quorums_share : (a b : Era) → Meet a b → (prepared accepted : List ℕ)
+    → holds_prep a prepared ≡ true → holds_acc b accepted ≡ true → Shared prepared accepted
+quorums_share a b meet prepared accepted e f =
+    shared a.prep b.acc prepared accepted (common_of_quorums a b meet prepared accepted e f)
+
+-- ---- majorities
+-- two sets of which one has all of the other, and at most one more
+pub data IsNear (a b : List ℕ) : Type 0 where
+  grows : IsMemberSet b → IsWithin a b → length b ≤ suc (length a) → IsNear a b
+  shrinks : IsMemberSet a → IsWithin b a → length a ≤ suc (length b) → IsNear a b
+
+large : (m n : ℕ) → n ≤ suc m → n < majority_of m + majority_of n
+large m n h = omega arith
+
+large_back : (m n : ℕ) → m ≤ suc n → m < majority_of m + majority_of n
+large_back m n h = omega arith
+
+-- majorities of near sets meet
+pub majorities_meet : (a b : List ℕ) → IsNear a b → SizesMeet a (majority_of (length a)) b (majority_of (length b))
+majorities_meet a b (grows set within more) = omega (arith, ap length (union_within a b set within), large (length a) (length b) more)
+majorities_meet a b (shrinks set within more) = omega (arith, ap length (union_around b a set within), large_back (length a) (length b) more)
+
+pub IsNear-same : (a : List ℕ) → IsMemberSet a → IsNear a a
+IsNear-same a set = grows set (IsWithin-same a) (omega arith)

@@ -1,0 +1,4 @@
+pub mod Era
+pub mod Fault
+pub mod Laws
+pub mod Quorum

@@ -1,0 +1,56 @@
+ghost use Rattle.std.specs.Prelude.{Some};
+ghost use Rattle.cas_quorum.specs.Fault.{plan_fault_text};
+
+use std::error::Error;
+use std::fmt;
+
+/// Why a change of membership is refused. Each is printed as in the list below.
+#[derive(Clone, Copy, Debug, PartialEq, Eq)]
+pub enum PlanFault {
+    /// `already in`: the acceptor that joins is a member.
+    AlreadyIn,
+    /// `not in`: the acceptor that leaves is no member.
+    NotIn,
+    /// `id used`: the acceptor that joins was a member before. It kept nothing of what it promised then.
+    IdUsed,
+    /// `too many`: there are nine members.
+    TooMany,
+    /// `last`: the acceptor that leaves is the only member.
+    Last,
+}
+
+impl fmt::Display for PlanFault {
+    ghost output = { λ fault. Some (plan_fault_text fault) };
+
+    fn fmt<W: fmt::Write>(&self, f: &mut fmt::Formatter<W>) -> fmt::Result {
+        match self {
+            PlanFault::AlreadyIn => write!(f, "already in"),
+            PlanFault::NotIn => write!(f, "not in"),
+            PlanFault::IdUsed => write!(f, "id used"),
+            PlanFault::TooMany => write!(f, "too many"),
+            PlanFault::Last => write!(f, "last"),
+        }
+    }
+}
+
+impl Error for PlanFault {}
+
+#[cfg(test)]
+mod tests {
+    use super::*;
+    use std::test::Fail;
+
+    #[test]
+    fn are_printed_in_words(rt: HostRuntime) -> Result<(), Fail> {
+        for (fault, text) in [
+            (PlanFault::AlreadyIn, "already in"),
+            (PlanFault::NotIn, "not in"),
+            (PlanFault::IdUsed, "id used"),
+            (PlanFault::TooMany, "too many"),
+            (PlanFault::Last, "last"),
+        ] {
+            assert_eq!(rt; fault.to_string(rt.alloc())?.as_str(), text);
+        }
+        Ok(())
+    }
+}

@@ -1,0 +1,5 @@
+pub mod Arrivals
+pub mod Greatest
+pub mod Lists
+pub mod Order
+pub mod TallyLemmas

@@ -1,0 +1,5 @@
+use Rattle.cas_round.proofs.Order as order
+use Rattle.cas_round.proofs.laws.one_read.Goals as goal
+
+pub returns : goal.returns
+returns c = order.one_read

@@ -1,0 +1,4 @@
+pub mod Laws
+pub mod Replies
+pub mod Round
+pub mod Tally

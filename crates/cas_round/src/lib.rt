@@ -1,0 +1,16 @@
+//! The two phases of a round, as its proposer sees them: what the replies that arrived come to.
+//!
+//! A phase is pure: it is told each reply, and says at any time how it would end. Who sends the requests, and what
+//! becomes of the state that was read, lives above.
+#![tactic(auto)]
+
+pub mod laws;
+mod phase;
+mod tally;
+mod verdict;
+
+pub use phase::{AcceptRound, PrepareRound};
+pub use verdict::RoundVerdict;
+
+#[cfg(test)]
+mod tests;
