@@ -1,6 +1,6 @@
 -- The rules of one slot and the acceptor's table say the same.
-use Rattle.std.proofs.Common.{◌≡◌, ℕ, Bool, true, false, cond, List, Some, None, inl, inr, sym, ap, subst, refl, ◌∙◌}
-use Rattle.std.specs.Prelude.{Option, IsSomeAnd, IsSome, ◌⊎◌, ◌&&◌}
+use Rattle.std.proofs.Common.{◌≡◌, ℕ, Bool, true, false, cond, List, Some, None, inl, inr, ap, subst, refl}
+use Rattle.std.specs.Prelude.{Option, IsSomeAnd, IsSome, ◌&&◌}
 use Rattle.std.specs.Borrow.{Bor}
 use Rattle.std.specs.Cmp.{first_so, second_so}
 use Rattle.std.specs.Ordering.{match_ordering, is_eq, is_lt, is_le, MatchOrdering}
@@ -23,10 +23,10 @@ use Rattle.cas_slot.specs.declared.message.Tell.TheVariants as tell
 use Rattle.cas_slot.specs.Contents.{Contents, kept_at}
 use Rattle.cas_slot.specs.Rules.{prepare_rule, accept_rule, remove_rule, is_accepted_at, is_empty, is_empty_at, is_tombstone, tell_by_prepare, tell_by_accept}
 use Rattle.cas_slot.specs.Slot.{accepted_of, promise_of}
-use Rattle.cas_slot.specs.Table.{seen_at, accepted_at, IsRepeat, IsTombstone}
+use Rattle.cas_slot.specs.Table.{seen_at, accepted_at, IsRepeat}
 use Rattle.cas_acceptor.specs.Change.{Decides}
 use Rattle.cas_acceptor.specs.Decide.{put_by_prepare, put_by_accept, put_of, tell_by_probe, IsListing}
-use Rattle.cas_acceptor.specs.declared.change.Change.TheVariants.{Nothing, Put, Remove, Raise}
+use Rattle.cas_acceptor.specs.declared.change.Change.TheVariants.{Nothing, Remove, Raise}
 
 -- ---- a prepare
 prepare_by : (o : Ordering) (old : Contents) (key : Bor (List ℕ)) (ballot : Ballot)

@@ -1,6 +1,5 @@
 -- What a crash leaves within an answer.
 use Rattle.std.proofs.Common.{◌≡◌, ℕ, ◌≤◌, inl, inr, sym, subst, arith, Ok}
-use Rattle.std.specs.Prelude.{◌⊎◌}
 use Rattle.cas_slot.specs.Contents.{Contents}
 use Rattle.cas_slot.specs.declared.message.Request.{Request}
 use Rattle.cas_slot.specs.declared.message.Tell.{Tell}

@@ -11,7 +11,6 @@ use Rattle.cas_slot.specs.declared.rules.AcceptRule.{AcceptRule}
 use Rattle.cas_slot.specs.declared.rules.AcceptRule.TheVariants as accept
 use Rattle.cas_slot.specs.declared.message.Tell.{Tell}
 use Rattle.cas_slot.specs.declared.message.Tell.TheVariants as tell
-use Rattle.cas_slot.specs.declared.message.Ask.TheVariants as ask
 use Rattle.cas_slot.specs.Contents.{Contents}
 use Rattle.cas_slot.specs.Slot.{accepted_of, promise_of}
 use Rattle.cas_slot.specs.Slots.{keys_above}

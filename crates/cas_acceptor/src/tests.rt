@@ -1,3 +1,5 @@
+ghost use Rattle.std.specs.Prelude.{◌≡◌};
+
 use super::*;
 use cas_ballot::{AcceptorId, Ballot};
 use cas_change::{Body, Key, State};
@@ -74,7 +76,9 @@ fn ask_of(key: &Key, question: Question) -> Result<Ask, AllocError> {
     })
 }
 
-fn asked(ask: Ask) -> Request {
+fn asked(ask: Ask) -> Request
+    ensures { result.from ≡ 1 }
+{
     Request {
         to: AcceptorId::new(3).unwrap(),
         from: 1,
