@@ -1,0 +1,28 @@
+-- What an answer does to what is kept.
+use Rattle.cas_slot.specs.declared.message.Ask.{Ask}
+use Rattle.cas_slot.specs.declared.message.Tell.{Tell}
+use Rattle.cas_slot.specs.declared.message.Tell.TheVariants as tell
+use Rattle.cas_slot.specs.Contents.{Contents, with_kept, without_kept, with_raised}
+use Rattle.cas_slot.specs.Slots.{IsFullFor}
+use Rattle.cas_slot.specs.Table.{Answers}
+use Rattle.cas_acceptor.specs.declared.change.Change.{Change}
+use Rattle.cas_acceptor.specs.declared.change.Change.TheVariants.{Nothing, Put, Remove, Raise}
+
+-- what is kept after the change, where there is room for it
+abbrev pub changed : Contents → Change → Contents
+changed old Nothing = old
+changed old (Put key slot) = with_kept old key.now slot
+changed old (Remove key) = without_kept old key.now
+changed old (Raise least) = with_raised old least.now
+
+-- there is no room for the change
+abbrev pub IsFull : Contents → Change → Type 0
+IsFull old Nothing = ⊥
+IsFull old (Put key slot) = IsFullFor old.slots key.now
+IsFull old (Remove key) = ⊥
+IsFull old (Raise least) = ⊥
+
+-- what a question is told and what is changed for it: by the table, both where there is room and where there is none
+pub record Decides (old : Contents) (question : Ask) (answer : Tell) (change : Change) : Type 0 where
+  pub room : ¬ (IsFull old change) → Answers old question answer (changed old change)
+  pub none : IsFull old change → Answers old question tell.Full old

@@ -1,0 +1,3 @@
+pub mod Acceptor
+pub mod Change
+pub mod Decide

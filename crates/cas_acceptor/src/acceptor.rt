@@ -1,0 +1,196 @@
+//! One acceptor over its shelf.
+
+ghost use Rattle.std.specs.Prelude.{◌≡◌, ◌⊎◌, ◌≤◌, ◌↔◌, true, false, Ok, Err, IsTrue, IfOk, OnOk, OnErr, IsErrOf};
+ghost use Rattle.cas_base.specs.Faults.{Rose};
+ghost use Rattle.cas_slot.specs.Contents.{nothing};
+ghost use Rattle.cas_slot.specs.Shelf.{OnlyLeaves, LeavesOnly, HasShelfCause};
+ghost use Rattle.cas_slot.specs.Table.{IsAnswered, Handles};
+ghost use Rattle.cas_acceptor.specs.Acceptor.{LeavesByTable};
+
+use crate::change::carry_out;
+use crate::decide::decide;
+use crate::fault::HandleFault;
+use cas_ballot::AcceptorId;
+use cas_slot::{Reply, Request, Shelf, ShelfFault, Tell};
+use std::marker::Model;
+
+/// An acceptor, seen as its identity, whether a start of its shelf ever succeeded, whether it is down, and its shelf. Where it
+/// is not down, its shelf is up.
+#[derive(Drop)]
+pub struct Acceptor<S: Shelf> {
+    id: AcceptorId,
+    started: bool,
+    down: bool,
+    shelf: S,
+}
+
+impl<S: Shelf> Model for Acceptor<S> {
+    ghost use Rattle.std.specs.Prelude.{◌≡◌, false, IsTrue};
+    ghost use Rattle.cas_acceptor.specs.Acceptor.{AcceptorView};
+
+    ghost Value = { AcceptorView S };
+
+    ghost view = { λ a. record { id = a.id; started = a.started; down = a.down; shelf = a.shelf } };
+
+    ghost invariant = { λ a. a.down ≡ false → IsTrue a.started × S.is_up a.shelf };
+}
+
+impl<S: Shelf> Acceptor<S> {
+    /// An acceptor over a shelf that was never started. It is down until [`Acceptor::restart`].
+    pub fn new(id: AcceptorId, shelf: S) -> Acceptor<S>
+        ensures { result ≡ record { id = id; started = false; down = true; shelf = shelf } }
+    {
+        Acceptor {
+            id,
+            started: false,
+            down: true,
+            shelf,
+        }
+    }
+
+    /// An acceptor over a shelf that is up.
+    pub fn running(id: AcceptorId, shelf: S) -> Acceptor<S>
+        requires { S.is_up shelf }
+        ensures { result ≡ record { id = id; started = true; down = false; shelf = shelf } }
+    {
+        Acceptor {
+            id,
+            started: true,
+            down: false,
+            shelf,
+        }
+    }
+
+    /// Its identity.
+    pub fn id(&self) -> AcceptorId
+        ensures { result ≡ self.now.id }
+    {
+        self.id
+    }
+
+    /// Whether it is down: it answers nothing until it is restarted.
+    pub fn is_down(&self) -> bool
+        ensures { result ≡ self.now.down }
+    {
+        self.down
+    }
+
+    /// Its shelf.
+    pub fn shelf(&self) -> &S
+        ensures { result.now ≡ self.now.shelf }
+    {
+        &self.shelf
+    }
+
+    /// Hands back the shelf.
+    pub fn into_shelf(self) -> S
+        ensures { result ≡ self.shelf }
+    {
+        let Acceptor {
+            id: _,
+            started: _,
+            down: _,
+            shelf,
+        } = self;
+        shelf
+    }
+
+    /// Answers a request by the acceptor's table, whose proposer's number is at most 16.
+    ///
+    /// What a reply says is so in what any crash from then on leaves, until a further request changes it. A crash within the
+    /// call leaves what was kept before, or what the table makes of that. [`HandleFault::Down`] comes only where the acceptor
+    /// was down, or its shelf's count of faults rose; the acceptor is down then, and is restarted before it answers again.
+    /// Whatever the error, the shelf holds what it held.
+    pub fn handle(&mut self, request: &Request) -> Result<Reply, HandleFault>
+        requires { request.now.from ≤ 16 }
+        ensures table { IfOk result (λ reply. IsAnswered self.old.id (S.contents self.old.shelf) request.now reply (S.contents self.new.shelf)) }
+        ensures kept { S.tells → OnOk result (OnlyLeaves (S.contents self.new.shelf) (S.may_leave self.new.shelf)) }
+        ensures any_moment { S.tells → self.old.down ≡ false → LeavesOnly S.moment S.left_since self.old.shelf self.new.shelf (LeavesByTable (S.contents self.old.shelf) request.now) }
+        ensures err { OnErr result (S.contents self.new.shelf ≡ S.contents self.old.shelf) }
+        ensures was_down { IsTrue self.old.down → (result ≡ Err HandleFault.Down) × (self.new ≡ self.old) }
+        ensures down { IsErrOf result HandleFault.Down ↔ IsTrue self.new.down }
+        ensures cause { IsErrOf result HandleFault.Down → IsTrue self.old.down ⊎ Rose (S.fault_count self.old.shelf) (S.fault_count self.new.shelf) }
+        ensures never_falls { S.fault_count self.old.shelf ≤ S.fault_count self.new.shelf }
+        ensures same { (self.new.id ≡ self.old.id) × (self.new.started ≡ self.old.started) }
+    {
+        if self.down {
+            return Err(HandleFault::Down);
+        }
+        let answer = tell(&mut self.shelf, request);
+        self.down = matches!(&answer, Err(HandleFault::Down));
+        Ok(Reply {
+            from: self.id,
+            to: request.from,
+            phase: request.ask.phase(),
+            tag: request.ask.tag(),
+            tell: answer?,
+        })
+    }
+
+    /// Crashes. The acceptor is down until it is restarted.
+    pub fn crash(&mut self)
+        ensures down { IsTrue self.new.down }
+        ensures any_moment { S.tells → LeavesOnly S.moment S.left_since self.old.shelf self.new.shelf (S.may_leave self.old.shelf) }
+        ensures never_falls { S.fault_count self.old.shelf ≤ S.fault_count self.new.shelf }
+        ensures same { (self.new.id ≡ self.old.id) × (self.new.started ≡ self.old.started) }
+    {
+        self.shelf.crash();
+        self.down = true;
+    }
+
+    /// Starts the shelf where no start ever succeeded, and reopens it otherwise. One that is up stays as it is.
+    ///
+    /// The acceptor is up after `Ok`. The errors are those of the shelf, which come by their causes; the acceptor stays down.
+    pub fn restart(&mut self) -> Result<(), ShelfFault>
+        ensures up { OnOk result (self.new.down ≡ false) }
+        ensures still_down { OnErr result (IsTrue self.new.down) }
+        ensures unchanged { self.old.down ≡ false → (result ≡ Ok tt) × (self.new ≡ self.old) }
+        ensures started { OnOk result (IsTrue self.new.started) }
+        ensures not_started { OnErr result (self.new.started ≡ self.old.started) }
+        ensures afresh { IsTrue self.old.down → self.old.started ≡ false → OnOk result (S.contents self.new.shelf ≡ nothing) }
+        ensures reopened { S.tells → IsTrue self.old.down → IsTrue self.old.started → OnOk result (S.may_leave self.old.shelf (Ok (S.contents self.new.shelf))) }
+        ensures cause { HasShelfCause result (S.fault_count self.old.shelf) (S.fault_count self.new.shelf) }
+        ensures same { self.new.id ≡ self.old.id }
+    {
+        if !self.down {
+            return Ok(());
+        }
+        if self.started {
+            self.shelf.reopen()?;
+        } else {
+            self.shelf.start()?;
+        }
+        self.started = true;
+        self.down = false;
+        Ok(())
+    }
+}
+
+/// What a request is told, by the table. After [`HandleFault::Down`] the shelf is reopened before it is used.
+fn tell<S: Shelf>(shelf: &mut S, request: &Request) -> Result<Tell, HandleFault>
+    requires up { S.is_up shelf.old }
+    requires known { request.now.from ≤ 16 }
+    ensures table { IfOk result (λ tell. Handles (S.contents shelf.old) request.now tell (S.contents shelf.new)) }
+    ensures any_moment { S.tells → LeavesOnly S.moment S.left_since shelf.old shelf.new (LeavesByTable (S.contents shelf.old) request.now) }
+    ensures err { OnErr result (S.contents shelf.new ≡ S.contents shelf.old) }
+    ensures up { OnOk result (S.is_up shelf.new) }
+    ensures up_still { IsErrOf result HandleFault.NoMemory → S.is_up shelf.new }
+    ensures cause { IsErrOf result HandleFault.Down → Rose (S.fault_count shelf.old) (S.fault_count shelf.new) }
+    ensures never_falls { S.fault_count shelf.old ≤ S.fault_count shelf.new }
+{
+    let least = shelf.ages().least(request.from);
+    if request.age < least {
+        return Ok(Tell::Aged(least));
+    }
+    let (tell, change) = match decide(shelf, &request.ask) {
+        Ok(decided) => decided,
+        Err(_) => return Err(HandleFault::NoMemory),
+    };
+    match carry_out(shelf, change) {
+        Ok(()) => Ok(tell),
+        Err(ShelfFault::Full) => Ok(Tell::Full),
+        Err(ShelfFault::NoMemory) => Err(HandleFault::NoMemory),
+        Err(ShelfFault::DiskFault) => Err(HandleFault::Down),
+        Err(ShelfFault::Foreign { .. }) => unreachable!(),
+    }
+}

@@ -1,0 +1,4 @@
+pub mod Formats
+pub mod Limits
+pub mod PartFormats
+pub mod Taking

@@ -1,0 +1,23 @@
+use Rattle.std.proofs.Common.{arith}
+use Rattle.cas_wire.proofs.Formats.{IsBytes}
+use Rattle.cas_wire.proofs.PartFormats.{accepted_or_none_format}
+use Rattle.cas_wire.proofs.Taking.{left_over, found_spelled, found_place, wrong_spelled, wrong_place}
+use Rattle.cas_wire.proofs.parts.take_accepted.Goals as goal
+
+pub overflow_sub-result : goal.overflow_sub-result
+overflow_sub-result c = left_over accepted_or_none_format c.args.bytes.now c.in-Ok.value c.in-Ok.rest.now (λ i. omega (arith, c.type_inv.bytes i)) c.in-Ok.ensures
+
+pub overflow_sub-result-in-Err-Wrong : goal.overflow_sub-result-in-Err-Wrong
+overflow_sub-result-in-Err-Wrong c = accepted_or_none_format.within c.args.bytes.now c.in-Err-Wrong.left (λ i. omega (arith, c.type_inv.bytes i)) (rw c.in-Err-Wrong.field-0-is at c.in-Err-Wrong.ensures)
+
+pub returns-in-Ok-clause-spelled : goal.returns-in-Ok-clause-spelled
+returns-in-Ok-clause-spelled c = found_spelled accepted_or_none_format c.args.bytes.now c.in-Ok.value c.in-Ok.rest.now (λ i. omega (arith, c.type_inv.bytes i)) c.in-Ok.ensures
+
+pub returns-in-Ok-clause-place : goal.returns-in-Ok-clause-place
+returns-in-Ok-clause-place c = found_place accepted_or_none_format c.args.bytes.now c.in-Ok.value c.in-Ok.rest.now (λ i. omega (arith, c.type_inv.bytes i)) c.in-Ok.ensures
+
+pub returns-in-Err-Wrong-clause-spelled : goal.returns-in-Err-Wrong-clause-spelled
+returns-in-Err-Wrong-clause-spelled c = wrong_spelled accepted_or_none_format c.args.bytes.now c.in-Err-Wrong.left (rw c.in-Err-Wrong.field-0-is at c.in-Err-Wrong.ensures)
+
+pub returns-in-Err-Wrong-clause-place : goal.returns-in-Err-Wrong-clause-place
+returns-in-Err-Wrong-clause-place c = wrong_place accepted_or_none_format c.args.bytes.now c.in-Err-Wrong.left (λ i. omega (arith, c.type_inv.bytes i)) (rw c.in-Err-Wrong.field-0-is at c.in-Err-Wrong.ensures)

@@ -1,0 +1,142 @@
+//! Writers of parts, into room that is there.
+
+ghost use Rattle.std.specs.Prelude.{◌≡◌, ◌+◌, ◌≤◌, ◌++◌, [], ◌∷◌, length, vec_len, vec_capacity};
+ghost use Rattle.std.specs.Int.{w16, w32, w64, to_be_bytes, cast_unsigned};
+ghost use Rattle.std.specs.Option.{option_copied};
+ghost use Rattle.cas_wire.specs.Spelling.{key_spelling, ballot_spelling, body_kind, body_spelling, state_spelling, accepted_spelling, optional_spelling};
+ghost use Rattle.cas_wire.specs.Writing.{Puts};
+
+use byteorder::{BigEndian, ByteOrder};
+use cas_ballot::Ballot;
+use cas_change::{Body, Key, State};
+use cas_slot::Accepted;
+
+/// Appends bytes, for which there is room.
+pub(crate) fn put(out: &mut Vec<u8>, bytes: &[u8])
+    requires { vec_len out.old + length bytes.now ≤ vec_capacity out.old }
+    ensures { Puts out.old out.new bytes.now (length bytes.now) }
+{
+    let put = out.extend_from_slice(bytes).is_ok();
+    prove!(put);
+}
+
+pub(crate) fn put_byte(out: &mut Vec<u8>, byte: u8)
+    requires { vec_len out.old + 1 ≤ vec_capacity out.old }
+    ensures { Puts out.old out.new (byte ∷ []) 1 }
+{
+    put(out, &[byte]);
+}
+
+pub(crate) fn put_u16(out: &mut Vec<u8>, number: u16)
+    requires { vec_len out.old + 2 ≤ vec_capacity out.old }
+    ensures { Puts out.old out.new (to_be_bytes w16 number) 2 }
+{
+    let mut bytes = [0; 2];
+    BigEndian::write_u16(&mut bytes, number);
+    put(out, &bytes);
+}
+
+pub(crate) fn put_u32(out: &mut Vec<u8>, number: u32)
+    requires { vec_len out.old + 4 ≤ vec_capacity out.old }
+    ensures { Puts out.old out.new (to_be_bytes w32 number) 4 }
+{
+    let mut bytes = [0; 4];
+    BigEndian::write_u32(&mut bytes, number);
+    put(out, &bytes);
+}
+
+pub(crate) fn put_u64(out: &mut Vec<u8>, number: u64)
+    requires { vec_len out.old + 8 ≤ vec_capacity out.old }
+    ensures { Puts out.old out.new (to_be_bytes w64 number) 8 }
+{
+    let mut bytes = [0; 8];
+    BigEndian::write_u64(&mut bytes, number);
+    put(out, &bytes);
+}
+
+pub(crate) fn put_i64(out: &mut Vec<u8>, number: i64)
+    requires { vec_len out.old + 8 ≤ vec_capacity out.old }
+    ensures { Puts out.old out.new (to_be_bytes w64 (cast_unsigned w64 number)) 8 }
+{
+    put_u64(out, number.cast_unsigned());
+}
+
+#[tactic(auto, unfolding(crate::specs::Spelling::key_spelling))]
+pub(crate) fn put_key(out: &mut Vec<u8>, key: &Key)
+    requires { vec_len out.old + 65 ≤ vec_capacity out.old }
+    ensures { Puts out.old out.new (key_spelling key.now) 65 }
+{
+    let bytes = key.bytes();
+    put_byte(out, bytes.len() as u8);
+    put(out, bytes);
+}
+
+#[tactic(auto, unfolding(crate::specs::Spelling::ballot_spelling))]
+pub(crate) fn put_ballot(out: &mut Vec<u8>, ballot: Ballot)
+    requires { vec_len out.old + 9 ≤ vec_capacity out.old }
+    ensures { Puts out.old out.new (ballot_spelling ballot) 9 }
+{
+    put_u64(out, ballot.counter);
+    put_byte(out, ballot.proposer);
+}
+
+const fn kind_of(body: &Body) -> u8
+    ensures { result ≡ body_kind body.now }
+{
+    match body {
+        Body::Number(_) => 1,
+        Body::Text(_) => 2,
+    }
+}
+
+fn put_body(out: &mut Vec<u8>, body: &Body)
+    requires { vec_len out.old + 202 ≤ vec_capacity out.old }
+    ensures { Puts out.old out.new (body_spelling body.now) 202 }
+{
+    match body {
+        Body::Number(number) => put_i64(out, *number),
+        Body::Text(text) => {
+            let bytes = text.bytes();
+            put_u16(out, bytes.len() as u16);
+            put(out, bytes);
+        }
+    }
+}
+
+#[tactic(auto, unfolding(crate::specs::Spelling::state_spelling))]
+pub(crate) fn put_state(out: &mut Vec<u8>, state: &State)
+    requires { vec_len out.old + 211 ≤ vec_capacity out.old }
+    ensures { Puts out.old out.new (state_spelling state.now) 211 }
+{
+    match state {
+        State::Empty => put_byte(out, 0),
+        State::Held { version, body } => {
+            put_byte(out, kind_of(body));
+            put_u64(out, *version);
+            put_body(out, body);
+        }
+    }
+}
+
+#[tactic(auto, unfolding(crate::specs::Spelling::accepted_spelling))]
+pub(crate) fn put_accepted(out: &mut Vec<u8>, accepted: &Accepted)
+    requires { vec_len out.old + 224 ≤ vec_capacity out.old }
+    ensures { Puts out.old out.new (accepted_spelling accepted.now) 224 }
+{
+    put_ballot(out, accepted.ballot);
+    put_u32(out, accepted.era);
+    put_state(out, &accepted.state);
+}
+
+pub(crate) fn put_accepted_or_none(out: &mut Vec<u8>, accepted: Option<&Accepted>)
+    requires { vec_len out.old + 225 ≤ vec_capacity out.old }
+    ensures { Puts out.old out.new (optional_spelling accepted_spelling (option_copied accepted.entry)) 225 }
+{
+    match accepted {
+        Some(accepted) => {
+            put_byte(out, 1);
+            put_accepted(out, accepted);
+        }
+        None => put_byte(out, 0),
+    }
+}
