@@ -35,11 +35,11 @@ pub bind_ok : {A B : Type 0} (r : Result A TextRefusal) (f : A → Result B Text
 bind_ok (Ok x) f y e = (x, refl, e)
 bind_ok (Err refusal) f y e = absurd cc
 
-ok_or_ok : {A : Type 0} (o : Option A) (refusal : TextRefusal) (x : A) → ok_or o refusal ≡ Ok x → o ≡ Some x
+pub ok_or_ok : {A : Type 0} (o : Option A) (refusal : TextRefusal) (x : A) → ok_or o refusal ≡ Ok x → o ≡ Some x
 ok_or_ok (Some y) refusal x e = let same : y ≡ x = cc in ap (λ z. Some z) same
 ok_or_ok None refusal x e = absurd cc
 
-abbrev done : {A : Type 0} → A → Result A TextRefusal
+abbrev pub done : {A : Type 0} → A → Result A TextRefusal
 done x = Ok x
 
 -- these words are left at this place
@@ -61,7 +61,7 @@ Again read front x = (at : ℕ) (rest : List Word) → (next : ℕ) × (read (fr
 abbrev pub IsOne : {X : Type 0} → (Word → X → Type 0) → List Word → X → Type 0
 IsOne P words x = (word : Word) × (words ≡ word ∷ []) × P word x
 
-word_took : (at : ℕ) (words : List Word) (word : Word) (left : WordsLeft) → word_from at words ≡ Ok (word, left) → words ≡ word ∷ left.words
+pub word_took : (at : ℕ) (words : List Word) (word : Word) (left : WordsLeft) → word_from at words ≡ Ok (word, left) → words ≡ word ∷ left.words
 word_took at [] word left e = absurd cc
 word_took at (first ∷ words) word left e =
     let same : (first, from (at + 1) words) ≡ (word, left) = cc in
@@ -136,7 +136,7 @@ text_again word bytes spelled at rest = (at + 1, rw (text_in-again at word bytes
 
 -- ---- names
 
-named : {X : Type 0} (word text : Word) (x y : X) (rest : Option X) → cond (bytes_eq word text) (Some x) rest ≡ Some y → ((word ≡ text) × (x ≡ y)) ⊎ (rest ≡ Some y)
+pub named : {X : Type 0} (word text : Word) (x y : X) (rest : Option X) → cond (bytes_eq word text) (Some x) rest ≡ Some y → ((word ≡ text) × (x ≡ y)) ⊎ (rest ≡ Some y)
 named word text x y rest e = elim (chosen (bytes_eq word text) (Some x) rest (Some y) e) [
   | inl p ↦ inl ((bytes_eq-Decides word text).0 p.0, let same : x ≡ y = cc (p.1) in same)
   | inr p ↦ inr p.1
@@ -517,7 +517,7 @@ state_again words (Held version body) is at rest =
     let b = body_again is.1 body is.3 (at + 1) rest in
     (b.0, ap (λ (ws : List Word). state_at (from at (ws ++ rest))) is.4 ∙ rw (is.2, b.1) refl)
 
-ends_at : (at : ℕ) (words none : List Word) → end_from at words ≡ Ok none → words ≡ []
+pub ends_at : (at : ℕ) (words none : List Word) → end_from at words ≡ Ok none → words ≡ []
 ends_at at [] none e = refl
 ends_at at (word ∷ words) none e = absurd cc
 

@@ -17,7 +17,9 @@ mod words;
 
 pub use names::says;
 pub use printing::{print_program, print_state, push_state};
-pub use reading::{next_word, program_in, read_number, read_program, read_text, read_version};
+pub use reading::{
+    next_word, program_in, read_end, read_number, read_program, read_text, read_version,
+};
 pub use refusal::{TextRefusal, Why};
 pub use states::read_state;
 pub use words::Words;

@@ -2,7 +2,7 @@
 
 ghost use Rattle.std.specs.Prelude.{List, ◌≡◌, ◌≢◌, ◌+◌, ◌∷◌, ◌++◌, [], Ok, Err, IfOk, IfErr, OnOk, MatchResult, vec_len};
 ghost use Rattle.cas_change.specs.Program.{IsProgramLength};
-ghost use Rattle.cas_change_text.specs.Reading.{Reads, ReadsInMemory, GivesInMemory, word_at, version_at, number_at, text_at, guard_at, guard_of, act_at, act_of, clause_at, semicolon_at, clauses_at, program_at};
+ghost use Rattle.cas_change_text.specs.Reading.{Reads, ReadsInMemory, GivesInMemory, word_at, version_at, number_at, text_at, guard_at, guard_of, act_at, act_of, clause_at, semicolon_at, clauses_at, program_at, end_at};
 ghost use Rattle.cas_change_text.specs.Grammar.{IsProgram};
 ghost use Rattle.cas_change_text.specs.Words.{words_of, all_of};
 ghost use Rattle.cas_change.specs.declared.program.Clause.{Clause};
@@ -24,6 +24,20 @@ pub fn next_word<'a>(words: &mut Words<'a>) -> Result<&'a [u8], TextRefusal>
         None => Err(TextRefusal {
             why: Why::NoWord,
             word: words.taken(),
+        }),
+    }
+}
+
+/// Nothing, where no word is left. A word that is left is the refusal: it is one too many.
+pub fn read_end(words: &mut Words<'_>) -> Result<(), TextRefusal>
+    ensures { MatchResult result (λ _. words.old.words ≡ []) (λ refusal. end_at words.old ≡ Err refusal) }
+{
+    let at = words.taken();
+    match words.next() {
+        None => Ok(()),
+        Some(_) => Err(TextRefusal {
+            why: Why::UnknownWord,
+            word: at,
         }),
     }
 }

@@ -4,11 +4,11 @@ ghost use Rattle.std.specs.Prelude.{◌≡◌, ◌≢◌, [], Some, None, Ok, Er
 ghost use Rattle.cas_change_text.specs.Grammar.{IsState};
 ghost use Rattle.cas_change_text.specs.Words.{words_of, all_of};
 ghost use Rattle.cas_change.specs.declared.state.State.{State};
-ghost use Rattle.cas_change_text.specs.Reading.{ReadsInMemory, GivesInMemory, body_at, body_of, held_at, after_v, state_at, end_at, whole_state};
+ghost use Rattle.cas_change_text.specs.Reading.{ReadsInMemory, GivesInMemory, body_at, body_of, held_at, after_v, state_at, whole_state};
 
 use crate::decimal::read_u64;
 use crate::names::says;
-use crate::reading::{next_word, read_number, read_text};
+use crate::reading::{next_word, read_end, read_number, read_text};
 use crate::refusal::{TextRefusal, Why};
 use crate::words::Words;
 use cas_change::{Body, State};
@@ -94,20 +94,6 @@ fn state_in(alloc: Global, words: &mut Words<'_>) -> Result<State, TextRefusal>
         Ok(State::Empty)
     } else {
         read_held(alloc, word, words, at)
-    }
-}
-
-/// Nothing, where no word is left.
-fn read_end(words: &mut Words<'_>) -> Result<(), TextRefusal>
-    ensures { MatchResult result (λ _. words.old.words ≡ []) (λ refusal. end_at words.old ≡ Err refusal) }
-{
-    let at = words.taken();
-    match words.next() {
-        None => Ok(()),
-        Some(_) => Err(TextRefusal {
-            why: Why::UnknownWord,
-            word: at,
-        }),
     }
 }
 

@@ -1,4 +1,6 @@
+pub mod Command
 pub mod Decimal
 pub mod Lines
+pub mod Reading
 pub mod Sink
 pub mod Source
