@@ -1,10 +1,9 @@
 -- What is read of a line is in the grammar of lines, and what is in the grammar is read.
-use Rattle.std.proofs.Common.{◌≡◌, ℕ, ◌+◌, ◌^◌, ◌<◌, ◌≤◌, Bool, true, false, cond, List, [], ◌∷◌, ◌++◌, length, Option, Some, None, Result, Ok, Err, refl, sym, ap, subst, ◌∙◌, arith, inl, inr}
-use Rattle.std.specs.Prelude.{◌≢◌, ◌⊎◌, ◌==◌, ◌&&◌, ◌||◌, codes, nat_le, nat_lt, ℤ}
+use Rattle.std.proofs.Common.{◌≡◌, ℕ, ◌+◌, ◌^◌, ◌<◌, ◌≤◌, true, false, cond, List, [], ◌∷◌, ◌++◌, length, Option, Some, None, Ok, Err, refl, sym, ap, subst, ◌∙◌, arith, inl, inr}
+use Rattle.std.specs.Prelude.{◌≢◌, ◌==◌, ◌&&◌, ◌||◌, codes, nat_le, nat_lt}
 use Rattle.std.specs.Char.{is_ascii_digit}
 use Rattle.std.specs.List.{list_all}
 use Rattle.std.specs.Option.{ok_or, is_some}
-use Rattle.std.specs.Str.{bytes_eq}
 use Rattle.std.proofs.lemmas.Bool.Decides.{nat_tests}
 use Rattle.std.proofs.lemmas.Bool.{leb-true, le-leb, ltb-false, le-ltb, eqb-false, ne_eqb, and_parts, or_parts, or_right, lt-ltb}
 use Rattle.cas_change.specs.Key.{IsKey, first_bad_byte}
@@ -12,11 +11,10 @@ use Rattle.cas_change.specs.declared.key.KeyFault.{KeyFault}
 use Rattle.cas_change.specs.declared.key.KeyFault.TheVariants as fault
 use Rattle.cas_change.specs.declared.key.TheConstants.{LONGEST_KEY}
 use Rattle.cas_change.proofs.Keys.{key_bytes, no_bad_byte}
-use Rattle.cas_change_text.specs.declared.refusal.TextRefusal.{TextRefusal}
 use Rattle.cas_change_text.specs.declared.refusal.Why.TheVariants as why
 use Rattle.cas_change_text.specs.Decimal.{u64_of, i64_of, is_numeral, number_after}
-use Rattle.cas_change_text.specs.Grammar.{IsTextWord, IsProgram}
-use Rattle.cas_change_text.specs.Reading.{◌>>=◌, Read, word_at, version_at, number_at, text_at, program_at, end_from, end_at, refusal_at}
+use Rattle.cas_change_text.specs.Grammar.{IsTextWord}
+use Rattle.cas_change_text.specs.Reading.{◌>>=◌, Read, word_at, version_at, number_at, text_at, program_at, end_at, refusal_at}
 use Rattle.cas_change_text.specs.Words.{Word, WordsLeft, words_of, all_of}
 use Rattle.cas_change_text.proofs.BothWays.{bind_ok, ok_or_ok, named, Took, IsOne, from, word_took, version_found, version_again, number_found, number_again, text_found, text_again, clauses_found, clauses_again, ends_at}
 use Rattle.cas_change_text.proofs.EscapedTexts.{chosen}
@@ -25,7 +23,7 @@ use Rattle.cas_lines.specs.declared.command.Command.{Command}
 use Rattle.cas_lines.specs.declared.command.Command.TheVariants.{Get, Set, Num, Init, Add, Cas, CasNum, Del, DelVersion, Do}
 use Rattle.cas_lines.specs.declared.command.CommandName.{CommandName}
 use Rattle.cas_lines.specs.declared.command.CommandName.TheVariants as names
-use Rattle.cas_lines.specs.Command.{IsCaller, IsForm, IsFormWith, IsFormAt, IsCommand, is_remark, IsLine}
+use Rattle.cas_lines.specs.Command.{IsCaller, IsForm, IsCommand, is_remark, IsLine}
 use Rattle.cas_lines.specs.Reading.{begins_with_digit, within, caller_in, caller_at, command_name, name_at, why_no_key, key_in, key_at, ended, command_of, command_at, words_in, line_in}
 
 -- ---- callers

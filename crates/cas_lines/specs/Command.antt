@@ -1,10 +1,6 @@
 -- The lines that ask for a change, and what they ask for.
-use Rattle.std.specs.Prelude.{◌≡◌, ◌≢◌, ℕ, ◌<◌, ◌≤◌, Bool, true, false, ◌||◌, ◌&&◌, ◌==◌, nat_le, nat_lt, if◌then◌else◌, List, [], ◌∷◌, length, codes, Option, Some, None, Result, Ok, Err}
-use Rattle.std.specs.Char.{is_ascii_digit}
-use Rattle.std.specs.Option.{ok_or, is_some, option_and_then}
-use Rattle.std.specs.Str.{bytes_eq}
-use Rattle.cas_change.specs.Key.{IsKey, first_bad_byte}
-use Rattle.cas_change.specs.declared.key.TheConstants.{LONGEST_KEY}
+use Rattle.std.specs.Prelude.{◌≡◌, ℕ, ◌≤◌, Bool, true, false, ◌==◌, List, [], ◌∷◌, length, codes, Option, Some, None}
+use Rattle.cas_change.specs.Key.{IsKey}
 use Rattle.cas_change.specs.declared.program.Clause.{Clause}
 use Rattle.cas_change.specs.declared.program.Guard.{Guard}
 use Rattle.cas_change.specs.declared.program.Guard.TheVariants.{Always, IsEmpty, VersionIs}
@@ -12,15 +8,10 @@ use Rattle.cas_change.specs.declared.program.Act.{Act}
 use Rattle.cas_change.specs.declared.program.Act.TheVariants.{Keep, PutText, PutNumber, Add as AddTo, Clear}
 use Rattle.cas_change_text.specs.Decimal.{u64_of, i64_of}
 use Rattle.cas_change_text.specs.Grammar.{IsTextWord, IsProgram}
-use Rattle.cas_change_text.specs.Words.{Word, WordsLeft, words_of, all_of}
-use Rattle.cas_change_text.specs.Reading.{◌>>=◌, Read, word_at, version_at, number_at, text_at, program_at, end_at, refusal_at}
-use Rattle.cas_change_text.specs.declared.refusal.TextRefusal.{TextRefusal}
-use Rattle.cas_change_text.specs.declared.refusal.Why.TheVariants as why
+use Rattle.cas_change_text.specs.Words.{Word, words_of}
 use Rattle.cas_lines.specs.declared.command.TheConstants.{LONGEST_LINE}
 use Rattle.cas_lines.specs.declared.command.Command.{Command}
 use Rattle.cas_lines.specs.declared.command.Command.TheVariants.{Get, Set, Num, Init, Add, Cas, CasNum, Del, DelVersion, Do}
-use Rattle.cas_lines.specs.declared.command.CommandName.{CommandName}
-use Rattle.cas_lines.specs.declared.command.CommandName.TheVariants as names
 
 -- ---- the grammar
 

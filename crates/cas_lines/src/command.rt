@@ -18,6 +18,9 @@ use cas_change_text::{
 };
 use std::alloc::{AllocError, Global};
 
+#[cfg(test)]
+mod tests;
+
 /// How many bytes a line may have that is read as a command.
 pub const LONGEST_LINE: usize = 4_096;
 
