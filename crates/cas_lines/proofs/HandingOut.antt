@@ -90,11 +90,11 @@ none_within : (room : ℕ) (bytes : List ℕ) → has_newline (take room bytes) 
 none_within room bytes none over = lines_within-ended room bytes over ∙ ended_lines_of-none (take room bytes) none
 
 -- a newline stays where it is when more bytes follow
-has_newline-front : (bytes more : List ℕ) → has_newline bytes ≡ true → has_newline (bytes ++ more) ≡ true
+pub has_newline-front : (bytes more : List ℕ) → has_newline bytes ≡ true → has_newline (bytes ++ more) ≡ true
 has_newline-front bytes more some = list_any-append (λ byte. byte == 10) bytes more ∙ ap (λ b. b || has_newline more) some
 
 -- a newline within the room stays there when more bytes follow
-newline_kept : (room : ℕ) (held left : List ℕ) → has_newline (take room held) ≡ true → has_newline (take room (held ++ left)) ≡ true
+pub newline_kept : (room : ℕ) (held left : List ℕ) → has_newline (take room held) ≡ true → has_newline (take room (held ++ left)) ≡ true
 newline_kept room held left some =
     elim (cases_lt room (length held)) [
       | inl over ↦ ap has_newline (take-append-le room held left (omega arith)) ∙ some

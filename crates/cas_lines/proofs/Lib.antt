@@ -1,4 +1,6 @@
+pub mod Commands
 pub mod Decimals
+pub mod FirstLens
 pub mod FirstLines
 pub mod HandingOut
 pub mod Newlines

@@ -1,8 +1,10 @@
-//! Where the program's input comes from, where its output goes, and how the input falls into lines.
+//! Where the program's input comes from, where its output goes, how the input falls into lines, and which commands the
+//! lines are.
 //!
-//! Sources and sinks count their own faults. No command and no answer of the store is known here.
+//! Sources and sinks count their own faults. No answer of the store is known here.
 #![tactic(auto)]
 
+pub mod command;
 pub mod decimal;
 pub mod lines;
 pub mod sink;

@@ -16,6 +16,10 @@ use std::alloc::{AllocError, AllocFailed, Global};
 use std::marker::Model;
 use thiserror::Error;
 
+mod reader;
+
+pub use reader::{LINE_LIMIT, LineReader, MOST_LINES, ReaderFault};
+
 /// How many bytes a whole input may have.
 pub const INPUT_LIMIT: usize = 65_536;
 

@@ -1,0 +1,15 @@
+use Rattle.cas_change_text.proofs.BothWays.{only_from_gives, found_from_gives}
+use Rattle.cas_lines.specs.Command.{IsLine}
+use Rattle.cas_lines.specs.Reading.{line_in}
+use Rattle.cas_lines.proofs.Commands.{line_found, line_again}
+use Rattle.cas_lines.proofs.command.read_command.Goals as goal
+
+pub returns-clause-found : goal.returns-clause-found
+returns-clause-found c =
+    let line = c.args.line.now in
+    found_from_gives c.line_in.result (line_in c.args.proposers line) (IsLine c.args.proposers line) c.line_in.ensures (line_found c.args.proposers line)
+
+pub returns-clause-only : goal.returns-clause-only
+returns-clause-only c = λ said is.
+    let line = c.args.line.now in
+    only_from_gives c.line_in.result (line_in c.args.proposers line) said c.line_in.ensures (line_again c.args.proposers line said is)
