@@ -1,6 +1,7 @@
 mod Frames
 mod Growing
 mod Leaving
+mod Placing
 mod Recovering
 mod Rows
 mod Sound

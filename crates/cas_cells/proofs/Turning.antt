@@ -14,7 +14,7 @@ use Rattle.cas_cells.proofs.Frames.{frame_size}
 use Rattle.cas_cells.proofs.Sound.{IsSound, sound}
 use Rattle.cas_cells.proofs.Tearing.{gate_tail}
 
-weaken : (o : Option (List ℕ)) (P Q : Type 0) (F : List ℕ → Type 0) → (P → Q) → MatchOption o P F → MatchOption o Q F
+pub weaken : (o : Option (List ℕ)) (P Q : Type 0) (F : List ℕ → Type 0) → (P → Q) → MatchOption o P F → MatchOption o Q F
 weaken None P Q F f here = f here
 weaken (Some p) P Q F f here = here
 

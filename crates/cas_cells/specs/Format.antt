@@ -1,6 +1,7 @@
 -- The format of a row of cells. A cell is two frames of 512 bytes. A frame is a gate, a number, a length in two bytes, a payload
 -- of so many bytes, and zeros to its end. It is open where its gate is 1. Numbers are big-endian.
 use Rattle.std.specs.Prelude.{◌≡◌, ◌⊎◌, ℕ, ◌+◌, ◌*◌, ◌/◌, ◌%◌, ◌≤◌, min, Bool, ◌&&◌, ◌||◌, not, ◌==◌, nat_le, nat_lt, if◌then◌else◌, List, [], ◌∷◌, ◌++◌, length, take, drop, slice_index, Option, Some, None, zero, suc}
+use Rattle.std.specs.Option.{option_map}
 
 -- the frame of this number on a disk
 abbrev pub frame_at : List ℕ → ℕ → List ℕ
@@ -57,6 +58,12 @@ payload_of first second =
     if is_open second && (not (is_open first) || number_of second == next (number_of first)) then Some (payload_in second)
     else (if is_open first then Some (payload_in first) else None)
 
+-- where that payload begins in the cell
+abbrev pub place_of : List ℕ → List ℕ → Option ℕ
+place_of first second =
+    if is_open second && (not (is_open first) || number_of second == next (number_of first)) then Some 516
+    else (if is_open first then Some 4 else None)
+
 -- a payload has a length that a frame can tell
 pub record IsPayload (payload : List ℕ) : Type 0 where
   pub not_empty : 1 ≤ length payload
@@ -99,6 +106,10 @@ grown (Some head ∷ cells) = Some (with_count head (count_told head + 1)) ∷ c
 -- the payload of this cell of a disk
 abbrev pub payload_at : List ℕ → ℕ → Option (List ℕ)
 payload_at disk i = payload_of (frame_at disk (2 * i)) (frame_at disk (2 * i + 1))
+
+-- where that payload begins on the disk
+abbrev pub payload_place : List ℕ → ℕ → Option ℕ
+payload_place disk i = option_map (λ place. 1024 * i + place) (place_of (frame_at disk (2 * i)) (frame_at disk (2 * i + 1)))
 
 -- the payloads of n cells from this one on
 abbrev pub payloads_from : ℕ → ℕ → List ℕ → List (Option (List ℕ))

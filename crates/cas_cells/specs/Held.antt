@@ -51,6 +51,11 @@ abbrev pub frame_of : ℕ → Side → ℕ
 frame_of i First = 2 * i
 frame_of i Second = 2 * i + 1
 
+-- where the payload of the frame on this side begins in its cell
+abbrev pub place_on : Side → ℕ
+place_on First = 4
+place_on Second = 516
+
 -- of two frames, the one on this side
 abbrev pub on : Side → List ℕ → List ℕ → List ℕ
 on First first second = first

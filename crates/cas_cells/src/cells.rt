@@ -1,9 +1,9 @@
 //! A row of cells on a disk.
-ghost use Rattle.std.specs.Prelude.{◌≡◌, ◌≢◌, ◌<◌, ◌≤◌, ◌+◌, ◌∷◌, ◌++◌, [], ℕ, List, IsTrue, IfOk, vec_len, vec_capacity, map, length, slice_get, slice_set, Some, None, OnOk, OnErr, IsErrOf};
+ghost use Rattle.std.specs.Prelude.{◌≡◌, ◌≢◌, ◌<◌, ◌≤◌, ◌+◌, ◌*◌, ◌∷◌, ◌++◌, [], ℕ, List, IsTrue, IfSome, IfOk, vec_len, vec_capacity, map, length, slice_get, slice_set, Some, None, OnOk, OnErr, IsErrOf};
 ghost use Rattle.std.specs.Option.{option_copied};
 ghost use Rattle.cas_disk.specs.Disk.{LeavesOnly, Only, Elapses};
 ghost use Rattle.cas_cells.specs.Fault.{HasCellCause, IsFaultOfDisk};
-ghost use Rattle.cas_cells.specs.Format.{count_in, count_told, is_head, head_in, with_count, grown, foreign_at, IsPayload, StandsFor, IsBeforeOrAfter};
+ghost use Rattle.cas_cells.specs.Format.{count_in, count_told, is_head, head_in, with_count, grown, foreign_at, payload_place, IsPayload, StandsFor, IsBeforeOrAfter};
 ghost use Rattle.cas_cells.specs.Reading.{OnlyRead};
 ghost use Rattle.cas_cells.specs.Held.{payload_held, IsBlank};
 ghost use Rattle.cas_cells.specs.declared.cell.Cell.{Cell};
@@ -57,6 +57,20 @@ impl<D: Disk> Cells<D> {
         let cell = self.cells.get(cell as usize)?;
         let payload = cell.payload.as_ref()?;
         Some(payload.as_slice())
+    }
+
+    /// Where the payload of a cell begins on the disk. A blank cell has none.
+    pub fn payload_place(&self, cell: u32) -> Option<u64>
+        requires stands { Stands D.tells D.seen D.may_leave self.now }
+        requires within { cell ≤ count_in (cells_of self.now) }
+        ensures place { D.tells → result ≡ payload_place (D.seen (disk_of self.now)) cell }
+        ensures small { IfSome result (λ place. place ≤ 1024 * cell + 516) }
+    {
+        let held = &self.cells[cell as usize];
+        if held.payload.is_none() {
+            return None;
+        }
+        Some(1024 * u64::from(cell) + steps::payload_place(held.side))
     }
 
     /// How many cells stand after cell 0: as many as a head in cell 0 tells, and none under any other payload.

@@ -4,7 +4,7 @@ ghost use Rattle.cas_disk.specs.Disk.{Only, Keeps, LeavesOnly, HasCause};
 ghost use Rattle.cas_disk.specs.declared.disk.DiskFault.TheVariants.{NoMemory};
 ghost use Rattle.cas_cells.specs.Format.{frame_at, next, IsPayload};
 ghost use Rattle.cas_cells.specs.Torn.{Others};
-ghost use Rattle.cas_cells.specs.Held.{frame_of, other, payload_held, IsBlank, CellHeld, HoldsTail, Shuts, Opens, Leaves, MayOpen, Still};
+ghost use Rattle.cas_cells.specs.Held.{frame_of, place_on, other, payload_held, IsBlank, CellHeld, HoldsTail, Shuts, Opens, Leaves, MayOpen, Still};
 
 use crate::cell::{Cell, Side};
 use crate::frame::{next, tail_of};
@@ -19,6 +19,16 @@ pub fn spare_frame(cell: &Cell, index: u32) -> u64
     match cell.side {
         Side::First => 2 * u64::from(index) + 1,
         Side::Second => 2 * u64::from(index),
+    }
+}
+
+/// Where the payload of a frame on this side begins in its cell.
+pub fn payload_place(side: Side) -> u64
+    ensures { result ≡ place_on side }
+{
+    match side {
+        Side::First => 4,
+        Side::Second => 516,
     }
 }
 

@@ -86,7 +86,9 @@ fn a_row_grows(rt: HostRuntime) -> Result<(), Fail> {
     let alloc = rt.alloc();
     let mut cells = over(alloc, &[], &[], Image::Old)?;
     cells.format(&HEAD)?;
+    assert_eq!(rt; cells.payload_place(0), Some(4));
     cells.grow()?;
+    assert_eq!(rt; cells.payload_place(0), Some(516));
     assert_eq!(rt; cells.count(), 1);
     let head = cells.payload(0).unwrap_or(&[]);
     assert_eq!(rt;

@@ -1,0 +1,13 @@
+//! The promises that ride on a proposer's accepts: for each key at most one, the most recently used first, and at most 64 of them.
+//!
+//! When a promise may be used, and for what, is decided elsewhere.
+#![tactic(auto)]
+
+mod cache;
+mod ready;
+
+pub use cache::{Cache, KEPT};
+pub use ready::Ready;
+
+#[cfg(test)]
+mod tests;

@@ -1,0 +1,16 @@
+//! A proposer's vault: its counter in memory, and on a disk of its own the bound of the numbers that it may draw, its age and
+//! its era. A number that was drawn is never drawn again, wherever the disk crashes.
+//!
+//! What a number, an age or an era is for is decided elsewhere.
+#![tactic(auto)]
+
+mod codec;
+mod error;
+mod kept;
+mod vault;
+
+pub use error::VaultError;
+pub use vault::Vault;
+
+#[cfg(test)]
+mod tests;
