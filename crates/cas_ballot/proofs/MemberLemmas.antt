@@ -56,23 +56,6 @@ pub has-members_where : (p : ℕ → Bool) (n : ℕ) → n < 64 → has_member (
 unfolding members_where
 has-members_where p n h = has-filter p 64 0 n (omega arith) (omega arith)
 
--- and each that it has passes it
-parts : (b e f : Bool) → ((b && e) || f) ≡ true → ((b ≡ true) × (e ≡ true)) ⊎ (f ≡ true)
-parts true true f h = inl (refl, refl)
-parts true false f h = inr h
-parts false e f h = inr h
-
-filter_tells : (p : ℕ → Bool) (xs : List ℕ) (n : ℕ) → has_member (filter p xs) n ≡ true → p n ≡ true
-filter_tells p [] n h = absurd cc
-filter_tells p (x ∷ xs) n h = elim (parts (p x) (x == n) (has_member (filter p xs) n) (sym (has-cond (p x) x n (filter p xs)) ∙ h)) [
-  | inl first ↦ subst (λ m. p m ≡ true) (eqb-true x n first.1) first.0
-  | inr rest ↦ filter_tells p xs n rest
-]
-
-pub members_where_tells : (p : ℕ → Bool) (n : ℕ) → has_member (members_where p) n ≡ true → p n ≡ true
-unfolding members_where
-members_where_tells p n h = filter_tells p (range_with_len 0 64) n h
-
 -- tests that agree make one set
 pub members_where_same : (p q : ℕ → Bool) → ((n : ℕ) → n < 64 → p n ≡ q n) → members_where p ≡ members_where q
 unfolding members_where

@@ -19,11 +19,9 @@ use Rattle.cas_world.specs.View.{View}
 -- a reply leaves a round in its phase
 phase-confirmed : (stage : Stage) (acceptor : ℕ) (t : Tell) → phase_at (confirmed stage acceptor t) ≡ phase_at stage
 phase-confirmed (Preparing by read) acceptor (tell.Promised accepted) = refl
-phase-confirmed (Preparing by read) acceptor tell.Accepted = refl
-phase-confirmed (Preparing by read) acceptor (tell.Met ballot) = refl
-phase-confirmed (Accepting outcome by) acceptor (tell.Promised accepted) = refl
+phase-confirmed (Preparing by read) acceptor other = refl
 phase-confirmed (Accepting outcome by) acceptor tell.Accepted = refl
-phase-confirmed (Accepting outcome by) acceptor (tell.Met ballot) = refl
+phase-confirmed (Accepting outcome by) acceptor other = refl
 
 phase-chosen : (b : Bool) (round : Round) (reply : Reply)
     → phase_at (if b then record round { stage = confirmed round.stage reply.from reply.tell } else round).stage ≡ phase_at round.stage

@@ -104,11 +104,12 @@ accepted_grows g key (Some accepted) s = g.states s
 pub ask_grows : {old new : List Happening} → Grows old new → (ask : Ask) → IsAskTrue (marks_of old) ask → IsAskTrue (marks_of new) ask
 ask_grows g (Prepare key ballot) s = tt
 ask_grows g (Accept key ballot era ride state) s = g.states s
+ask_grows g other s = absurd s
 
 tell_grows : {old new : List Happening} → Grows old new → (acceptor : ℕ) (key : List ℕ) (ballot : Ballot) (t : Tell) → IsTellTrue old acceptor key ballot t → IsTellTrue new acceptor key ballot t
 tell_grows g acceptor key ballot (tell.Promised accepted) s = (g.stands s.0, accepted_grows g key accepted s.1)
 tell_grows g acceptor key ballot tell.Accepted s = mark_grows g s
-tell_grows g acceptor key ballot (tell.Met seen) s = tt
+tell_grows g acceptor key ballot other s = tt
 
 reply_grows : {old new : List Happening} → Grows old new → (reply : Reply) → IsReplyTrue old reply → IsReplyTrue new reply
 reply_grows g reply r = record {

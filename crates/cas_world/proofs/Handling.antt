@@ -26,10 +26,12 @@ use Rattle.cas_slot.specs.declared.message.Ask.TheVariants.{Prepare, Accept}
 use Rattle.cas_slot.specs.declared.message.Request.{Request}
 use Rattle.cas_slot.specs.declared.message.Tell.{Tell}
 use Rattle.cas_slot.specs.declared.message.Tell.TheVariants as tell
-use Rattle.cas_slot.specs.Rules.{prepare_rule, accept_rule, is_accepted_at, slot_by_prepare, slot_by_accept, tell_by_prepare, tell_by_accept, tell_of, slots_after, with_slot_after, key_of, tag_of}
+use Rattle.cas_slot.specs.Message.{tag_of}
+use Rattle.cas_slot.specs.Rules.{prepare_rule, accept_rule, is_accepted_at, slot_by_prepare, slot_by_accept, tell_by_prepare, tell_by_accept, tell_of, slots_after, with_slot_after, key_of}
 use Rattle.cas_slot.specs.Slot.{seen_of, accepted_of, accepted_ballot}
 use Rattle.cas_slot.specs.Slots.{Slots, slot_at}
-use Rattle.cas_slot.proofs.SlotsLemmas.{slot_at-with_slot_same, slot_at-with_slot_other}
+use Rattle.cas_slot.proofs.SlotsLemmas.{slot_at-with_slot_same}
+use Rattle.cas_world.proofs.SlotLemmas.{slot_at-with_slot_other, slot_at-without_slot_same, slot_at-without_slot_other}
 use Rattle.cas_world.specs.Acceptor.{AcceptorView, acceptor_after, replied}
 use Rattle.cas_world.specs.Sound.{Each}
 use Rattle.cas_world.specs.Step.{vote_of}
@@ -92,12 +94,12 @@ others_told c g y differs t = record {
 }
 
 -- a key's slot stands as it did, or was put
-after_slot : (slots : Slots) (key : List ℕ) (slot : Option Slot) → (slot ≡ None → slot_at slots key ≡ None) → slot_at (with_slot_after slots key slot) key ≡ slot
-after_slot slots key None kept = kept refl
-after_slot slots key (Some slot) kept = slot_at-with_slot_same slots key slot
+after_slot : (slots : Slots) (key : List ℕ) (slot : Option Slot) → slot_at (with_slot_after slots key slot) key ≡ slot
+after_slot slots key None = slot_at-without_slot_same slots key
+after_slot slots key (Some slot) = slot_at-with_slot_same slots key slot
 
 after_other : (slots : Slots) (key : List ℕ) (slot : Option Slot) (q : List ℕ) → (q ≡ key → ⊥) → slot_at (with_slot_after slots key slot) q ≡ slot_at slots q
-after_other slots key None q differs = refl
+after_other slots key None q differs = slot_at-without_slot_other slots key q differs
 after_other slots key (Some slot) q differs = slot_at-with_slot_other slots key slot q differs
 
 -- the acceptor whose slot changed: the log tells the slot that it has now
@@ -224,7 +226,7 @@ met log x request key seen h after at tells =
 
 -- a slot that stays where it was stands there
 stays_at : (slots : Slots) (key : List ℕ) → slot_at (with_slot_after slots key (slot_at slots key)) key ≡ slot_at slots key
-stays_at slots key = after_slot slots key (slot_at slots key) (λ e. e)
+stays_at slots key = after_slot slots key (slot_at slots key)
 
 prepare_by : (log : List Happening) (x : AcceptorView) (request : Request) (key : List ℕ) (ballot : Ballot) (r : Ordering) → request.ask ≡ Prepare key ballot → Handles log x
     → ballot_cmp (seen_of (slot_at x.slots key)) ballot ≡ r → MatchOrdering r (BallotLess (seen_of (slot_at x.slots key)) ballot) (seen_of (slot_at x.slots key) ≡ ballot) (BallotLess ballot (seen_of (slot_at x.slots key)))
@@ -236,21 +238,21 @@ prepare_by log x request key ballot Less ask h is less =
     promised log x request key ballot new ask h (at_most_of_less less)
     (ap (slots_after x.slots) ask ∙ ap (λ rule. with_slot_after x.slots key (slot_by_prepare rule slot ballot)) rule)
     (slot_at-with_slot_same x.slots key (record { promise = ballot; accepted = accepted_of slot })) (promised_new slot ballot less) refl
-    (ap (λ (a : Ask). tell_of (slot_at x.slots (key_of a)) a) ask ∙ ap (λ rule. tell_by_prepare rule slot) rule)
+    (ap (tell_of x.slots) ask ∙ ap (λ rule. tell_by_prepare rule slot) rule)
 prepare_by log x request key ballot Equal ask h is same =
     let slot = slot_at x.slots key in
     let rule : prepare_rule slot ballot ≡ prepare.Again = ap (λ o. match_ordering o prepare.Promise prepare.Again (prepare.Met (seen_of slot))) is in
     promised log x request key ballot slot ask h (subst (BallotAtMost (seen_of slot)) same (at_most_refl (seen_of slot)))
     (ap (slots_after x.slots) ask ∙ ap (λ rule. with_slot_after x.slots key (slot_by_prepare rule slot ballot)) rule)
     (stays_at x.slots key) (promised_again slot ballot same) refl
-    (ap (λ (a : Ask). tell_of (slot_at x.slots (key_of a)) a) ask ∙ ap (λ rule. tell_by_prepare rule slot) rule)
+    (ap (tell_of x.slots) ask ∙ ap (λ rule. tell_by_prepare rule slot) rule)
 prepare_by log x request key ballot Greater ask h is greater =
     let slot = slot_at x.slots key in
     let rule : prepare_rule slot ballot ≡ prepare.Met (seen_of slot) = ap (λ o. match_ordering o prepare.Promise prepare.Again (prepare.Met (seen_of slot))) is in
     met log x request key (seen_of slot) h
     (ap (slots_after x.slots) ask ∙ ap (λ rule. with_slot_after x.slots key (slot_by_prepare rule slot ballot)) rule)
     (stays_at x.slots key)
-    (ap (λ (a : Ask). tell_of (slot_at x.slots (key_of a)) a) ask ∙ ap (λ rule. tell_by_prepare rule slot) rule)
+    (ap (tell_of x.slots) ask ∙ ap (λ rule. tell_by_prepare rule slot) rule)
 
 prepare_handled : (log : List Happening) (x : AcceptorView) (request : Request) (key : List ℕ) (ballot : Ballot) → request.ask ≡ Prepare key ballot → Handles log x → Handled log x request
 prepare_handled log x request key ballot ask h =
@@ -333,8 +335,8 @@ repeated log x request key ballot era ride state ask h made rule is =
     let changes = vote_changes log x.id key ballot in
     let after : slots_after x.slots request.ask ≡ with_slot_after x.slots key slot =
     ap (slots_after x.slots) ask ∙ ap (λ rule. with_slot_after x.slots key (slot_by_accept rule slot accepted ride)) rule in
-    let tells : tell_of (slot_at x.slots (key_of request.ask)) request.ask ≡ tell.Accepted =
-    ap (λ (a : Ask). tell_of (slot_at x.slots (key_of a)) a) ask ∙ ap tell_by_accept rule in
+    let tells : tell_of x.slots request.ask ≡ tell.Accepted =
+    ap (tell_of x.slots) ask ∙ ap tell_by_accept rule in
     record {
       new = happening ∷ log;
       lawful = lawful;
@@ -370,8 +372,8 @@ taken log x request key ballot era ride state ask h made rule low =
     let changes = take_changes log x.id key ballot rides in
     let after : slots_after x.slots request.ask ≡ with_slot_after x.slots key (Some new) =
     ap (slots_after x.slots) ask ∙ ap (λ rule. with_slot_after x.slots key (slot_by_accept rule slot accepted ride)) rule in
-    let tells : tell_of (slot_at x.slots (key_of request.ask)) request.ask ≡ tell.Accepted =
-    ap (λ (a : Ask). tell_of (slot_at x.slots (key_of a)) a) ask ∙ ap tell_by_accept rule in
+    let tells : tell_of x.slots request.ask ≡ tell.Accepted =
+    ap (tell_of x.slots) ask ∙ ap tell_by_accept rule in
     record {
       new = vote ∷ took ∷ log;
       lawful = lawful;
@@ -400,7 +402,7 @@ accept_handled log x request key ballot era ride state ask h made =
             met log x request key (seen_of slot) h
             (ap (slots_after x.slots) ask ∙ ap (λ rule. with_slot_after x.slots key (slot_by_accept rule slot accepted ride)) rule)
             (stays_at x.slots key)
-            (ap (λ (a : Ask). tell_of (slot_at x.slots (key_of a)) a) ask ∙ ap tell_by_accept rule)
+            (ap (tell_of x.slots) ask ∙ ap tell_by_accept rule)
         | inr low ↦
             taken log x request key ballot era ride state ask h made
             (if_false (is_accepted_at (accepted_of slot) ballot) _ _ other ∙ if_false (is_lt (ballot_cmp ballot (seen_of slot))) _ _ low)
@@ -415,3 +417,4 @@ request_handled log x request h true_ask = by_ask request.ask refl true_ask
     by_ask : (ask : Ask) → request.ask ≡ ask → IsAskTrue (marks_of log) ask → Handled log x request
     by_ask (Prepare key ballot) e t = prepare_handled log x request key ballot e h
     by_ask (Accept key ballot era ride state) e t = accept_handled log x request key ballot era ride state e h t
+    by_ask other e t = absurd t

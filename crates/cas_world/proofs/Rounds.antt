@@ -58,7 +58,7 @@ prepare_promises key ballot x below = record {
 pub prepare_replies : (key : List ℕ) (ballot : Ballot) (x : AcceptorView) → HasSeenBelow key ballot x
     → replied x (prepare_request key ballot x.id) ≡ promise_reply key ballot (acceptor_after x (prepare_request key ballot x.id))
 prepare_replies key ballot x below =
-    let told : tell_of (slot_at x.slots key) (Prepare key ballot) ≡ tell.Promised (accepted_of (slot_at (acceptor_after x (prepare_request key ballot x.id)).slots key)) =
+    let told : tell_of x.slots (Prepare key ballot) ≡ tell.Promised (accepted_of (slot_at (acceptor_after x (prepare_request key ballot x.id)).slots key)) =
     ap (λ rule. tell_by_prepare rule (slot_at x.slots key)) (promises (slot_at x.slots key) ballot below)
     ∙ ap (λ (slot : Option Slot). tell.Promised (accepted_of slot)) (sym (prepare_stands key ballot x below)) in
     λ i. record { from = x.id; to = 1; phase = phase.Prepare; tag = ballot; tell = told i }
@@ -107,7 +107,7 @@ accept_slots key ballot state x p =
 pub accept_replies : (key : List ℕ) (ballot : Ballot) (state : State) (x : AcceptorView) → HasPromised key ballot x
     → replied x (accept_request key ballot state x.id) ≡ accept_reply ballot (acceptor_after x (accept_request key ballot state x.id))
 accept_replies key ballot state x p =
-    let told : tell_of (slot_at x.slots key) (Accept key ballot 0 None state) ≡ tell.Accepted = ap tell_by_accept (takes_here key ballot x p) in
+    let told : tell_of x.slots (Accept key ballot 0 None state) ≡ tell.Accepted = ap tell_by_accept (takes_here key ballot x p) in
     λ i. record { from = x.id; to = 1; phase = phase.Accept; tag = ballot; tell = told i }
 
 pub accept_bounded : (key : List ℕ) (ballot : Ballot) (state : State) (x : AcceptorView) → HasPromised key ballot x → HasSeenAtMost ballot x

@@ -29,7 +29,7 @@ use Rattle.cas_world.specs.declared.desk.Stage.{Stage}
 use Rattle.cas_world.specs.declared.desk.Stage.TheVariants.{Preparing, Accepting}
 use Rattle.cas_world.specs.declared.message.Message.{Message}
 use Rattle.cas_world.specs.declared.message.Message.TheVariants as message
-use Rattle.cas_world.specs.Acceptor.{AcceptorView, acceptor_after, replied}
+use Rattle.cas_world.specs.Acceptor.{AcceptorView, acceptor_after, replied, IsRoundAsk}
 use Rattle.cas_world.specs.Desk.{ballot_at, arrived, closed, telling, round_after, state_of, later_of, confirmed, phase_at, is_same_phase, is_reply_to, acknowledgment_of, begun, proposing, is_preparing, is_accepting}
 use Rattle.cas_world.specs.Sound.{Each, IsNumberedFrom, HasSeenAtMost, HasSeenBelow, HasPromised, promise_reply, accept_reply, IsStageSound, IsRoundSound, IsSound}
 use Rattle.cas_world.specs.Step.{prepare_request, accept_request, to_each, vote_of, after_begin, after_request, after_proposal, after_accepting, after_end, after_frame, after_turn, proposal_mark, turns_left, confirmers, confirmers_at, IsProposal}
@@ -88,6 +88,7 @@ pub record RequestSound (world : View) (room : ℕ) (request : Request) (rest : 
   pub at : world.acceptors ≡ before ++ acceptor ∷ after
   pub put : slice_set world.acceptors (request.to - 1) (acceptor_after acceptor request) ≡ before ++ acceptor_after acceptor request ∷ after
   pub found : slice_get world.acceptors (request.to - 1) ≡ Some acceptor
+  pub of_round : IsRoundAsk request.ask
   pub vote_fits : length (vote_of (key_of request.ask) acceptor.id (replied acceptor request).tag (replied acceptor request).tell) ≤ room
   pub sound : (left : ℕ) → left + length (vote_of (key_of request.ask) acceptor.id (replied acceptor request).tag (replied acceptor request).tell) ≡ room
       → IsSound (after_request world request rest (Some acceptor)) left
@@ -112,19 +113,21 @@ one_vote key ballot state x request e promised =
 request_sound : (world : View) (room : ℕ) (request : Request) (rest : List Message) (before : List AcceptorView) (x : AcceptorView) (after : List AcceptorView)
     → IsSound world room → world.acceptors ≡ before ++ x ∷ after
     → slice_get world.acceptors (request.to - 1) ≡ Some x
+    → IsRoundAsk request.ask
     → slice_set world.acceptors (request.to - 1) (acceptor_after x request) ≡ before ++ acceptor_after x request ∷ after
     → HasSeenAtMost (ballot_at world.desk.counter) (acceptor_after x request)
     → length (vote_of (key_of request.ask) x.id (replied x request).tag (replied x request).tell) ≤ room
     → ((left : ℕ) → left + length (vote_of (key_of request.ask) x.id (replied x request).tag (replied x request).tell) ≡ room
     → IsRoundSound (after_request world request rest (Some x)) left world.desk.round)
     → RequestSound world room request rest
-request_sound world room request rest before x after s at found put bounded fits stage = record {
+request_sound world room request rest before x after s at found round put bounded fits stage = record {
   before = before;
   acceptor = x;
   after = after;
   at = at;
   put = put;
   found = found;
+  of_round = round;
   vote_fits = fits;
   sound = λ left e. record {
     three = ap length put ∙ length-replaced before x (acceptor_after x request) after ∙ ap length (sym at) ∙ s.three;
@@ -153,7 +156,7 @@ prepare_turn world room request rest round by read s open_round stage own fits a
     subst (λ (r : Request). HasSeenAtMost round.ballot (acceptor_after turn.acceptor r)) (sym turn.request_is) (prepare_bounded round.key round.ballot turn.acceptor turn.was_before seen) in
     let none : length (vote_of (key_of request.ask) turn.acceptor.id (replied turn.acceptor request).tag (replied turn.acceptor request).tell) ≡ 0 =
     ap length (no_vote round.key round.ballot turn.acceptor request turn.request_is turn.was_before) in
-    request_sound world room request rest turn.before turn.acceptor turn.after s turn.at turn.found turn.put
+    request_sound world room request rest turn.before turn.acceptor turn.after s turn.at turn.found (subst (λ (r : Request). IsRoundAsk r.ask) (sym turn.request_is) tt) turn.put
     (subst (λ (b : Ballot). HasSeenAtMost b (acceptor_after turn.acceptor request)) own kept)
     (omega (arith, none))
     (λ left e. subst (IsRoundSound (after_request world request rest (Some turn.acceptor)) left) (sym open_round) (
@@ -174,7 +177,7 @@ accept_turn world room request rest round outcome by s open_round stage own aske
     (accept_bounded round.key round.ballot outcome.state turn.acceptor turn.was_before seen) in
     let one : length (vote_of (key_of request.ask) turn.acceptor.id (replied turn.acceptor request).tag (replied turn.acceptor request).tell) ≡ 1 =
     ap length (one_vote round.key round.ballot outcome.state turn.acceptor request turn.request_is turn.was_before) in
-    request_sound world room request rest turn.before turn.acceptor turn.after s turn.at turn.found turn.put
+    request_sound world room request rest turn.before turn.acceptor turn.after s turn.at turn.found (subst (λ (r : Request). IsRoundAsk r.ask) (sym turn.request_is) tt) turn.put
     (subst (λ (b : Ballot). HasSeenAtMost b (acceptor_after turn.acceptor request)) own kept)
     (omega (arith, one, fits))
     (λ left e. subst (IsRoundSound (after_request world request rest (Some turn.acceptor)) left) (sym open_round) (

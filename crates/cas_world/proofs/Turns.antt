@@ -8,7 +8,6 @@ use Rattle.cas_ballot.specs.declared.ballot.Ballot.{Ballot}
 use Rattle.cas_ballot.specs.Ballot.{ballot_cmp, BallotAtMost}
 use Rattle.cas_ballot.specs.Members.{has_member, with_member}
 use Rattle.cas_ballot.proofs.BallotLemmas.{at_most_refl, at_most_trans, at_most_of_less, at_most_or_less}
-use Rattle.cas_ballot.proofs.MemberLemmas.{members_where_tells}
 use Rattle.cas_record.specs.declared.mark.Mark.{Mark}
 use Rattle.cas_record.specs.declared.mark.Mark.TheVariants.{Voted}
 use Rattle.cas_record.specs.Places.{Stands}
@@ -33,7 +32,7 @@ use Rattle.cas_world.specs.Sound.{Each, IsNumberedFrom}
 use Rattle.cas_world.specs.Step.{vote_of, after_request}
 use Rattle.cas_world.specs.View.{View}
 use Rattle.cas_world.specs.History.{IsAcceptedState, IsAcceptorTold, IsTellTrue, IsReplyTrue, IsMessageTrue, IsPlain, IsWithin, IsNoEnd, IsBefore, IsOwnAsk, IsGranted, IsStageTrue, IsRoundTrue, HasHistory}
-use Rattle.cas_world.proofs.Lists.{Each-map, Each-append, Each-at, id_at}
+use Rattle.cas_world.proofs.Lists.{members_where_tells, Each-map, Each-append, Each-at, id_at}
 use Rattle.cas_world.proofs.Growth.{each_stands, mark_grows, accepted_grows, message_grows, granted_grows, accept_grows, within_grows}
 use Rattle.cas_world.proofs.Handling.{Handled, request_handled}
 
@@ -61,13 +60,11 @@ replaced n P Q (y ∷ before) old new after numbered others is each =
 -- ---- a request
 reversed : (key : List ℕ) (acceptor : ℕ) (ballot : Ballot) (t : Tell) (marks : List Mark) → vote_of key acceptor ballot t ++ reverse marks ≡ reverse (marks ++ vote_of key acceptor ballot t)
 reversed key acceptor ballot tell.Accepted marks = sym (reverse-append marks (Voted acceptor key ballot ∷ []))
-reversed key acceptor ballot (tell.Promised accepted) marks = ap reverse (sym (append-nil marks))
-reversed key acceptor ballot (tell.Met seen) marks = ap reverse (sym (append-nil marks))
+reversed key acceptor ballot other marks = ap reverse (sym (append-nil marks))
 
 no_calls : (key : List ℕ) (acceptor : ℕ) (ballot : Ballot) (t : Tell) (marks : List Mark) → calls_of 1 (vote_of key acceptor ballot t ++ marks) ≡ calls_of 1 marks
 no_calls key acceptor ballot tell.Accepted marks = refl
-no_calls key acceptor ballot (tell.Promised accepted) marks = refl
-no_calls key acceptor ballot (tell.Met seen) marks = refl
+no_calls key acceptor ballot other marks = refl
 
 stage_grows : {log : List Happening} {x : AcceptorView} {request : Request} (d : Handled log x request) (round : Round) (stage : Stage) → IsStageTrue log round stage → IsStageTrue d.new round stage
 stage_grows d round (Preparing by read) s = record {
@@ -161,9 +158,7 @@ stage_confirmed log round (Preparing by read) acceptor (tell.Promised accepted) 
       let g = s.granted m member in
       record { told = g.told; stands = g.stands; low = at_most_trans g.low (later_old read accepted) }) is;
 }
-stage_confirmed log round (Preparing by read) acceptor tell.Accepted told s = s
-stage_confirmed log round (Preparing by read) acceptor (tell.Met seen) told s = s
-stage_confirmed log round (Accepting outcome by) acceptor (tell.Promised accepted) told s = s
+stage_confirmed log round (Preparing by read) acceptor other told s = s
 stage_confirmed log round (Accepting outcome by) acceptor tell.Accepted told s = record {
   proposal = s.proposal;
   older = s.older;
@@ -176,7 +171,7 @@ stage_confirmed log round (Accepting outcome by) acceptor tell.Accepted told s =
   outcome_is = s.outcome_is;
   votes = λ n is. joined by acceptor n (λ m. Stands (Voted m round.key round.ballot) (marks_of log)) told s.votes is;
 }
-stage_confirmed log round (Accepting outcome by) acceptor (tell.Met seen) told s = s
+stage_confirmed log round (Accepting outcome by) acceptor other told s = s
 
 -- the round after the reply, whether it is the round's own or not
 chosen_round : (b : Bool) (log : List Happening) (calls : ℕ) (round : Round) (reply : Reply) → is_reply_to round reply ≡ b → IsRoundTrue log calls round → IsReplyTrue log reply

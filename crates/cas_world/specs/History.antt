@@ -25,7 +25,8 @@ use Rattle.cas_slot.specs.declared.message.Request.{Request}
 use Rattle.cas_slot.specs.declared.message.Reply.{Reply}
 use Rattle.cas_slot.specs.declared.message.Tell.{Tell}
 use Rattle.cas_slot.specs.declared.message.Tell.TheVariants as tell
-use Rattle.cas_slot.specs.Rules.{key_of, tag_of}
+use Rattle.cas_slot.specs.Message.{tag_of}
+use Rattle.cas_slot.specs.Rules.{key_of}
 use Rattle.cas_slot.specs.Slot.{accepted_of, accepted_ballot}
 use Rattle.cas_slot.specs.Slots.{slot_at}
 use Rattle.cas_world.specs.declared.desk.Round.{Round}
@@ -73,16 +74,17 @@ pub record IsAcceptorTold (log : List Happening) (acceptor : AcceptorView) : Typ
   pub states : (key : List ℕ) → IsAcceptedState (marks_of log) key (accepted_of (slot_at acceptor.slots key))
 
 -- ---- messages
--- a request to accept bears the state of a proposal
+-- a request to accept bears the state of a proposal; only a round asks yet
 abbrev pub IsAskTrue : List Mark → Ask → Type 0
 IsAskTrue marks (Prepare key ballot) = ⊤
 IsAskTrue marks (Accept key ballot era ride state) = IsProposedState marks key ballot era state
+IsAskTrue marks other = ⊥
 
 -- what a reply tells has happened
 abbrev pub IsTellTrue : List Happening → ℕ → List ℕ → Ballot → Tell → Type 0
 IsTellTrue log acceptor key ballot (tell.Promised accepted) = Stands (Promised acceptor key ballot (accepted_ballot accepted)) log × IsAcceptedState (marks_of log) key accepted
 IsTellTrue log acceptor key ballot tell.Accepted = Stands (Voted acceptor key ballot) (marks_of log)
-IsTellTrue log acceptor key ballot (tell.Met seen) = ⊤
+IsTellTrue log acceptor key ballot other = ⊤
 
 -- a reply answers a request that was made, and tells the truth
 pub record IsReplyTrue (log : List Happening) (reply : Reply) : Type 0 where

@@ -1,26 +1,26 @@
 //! One acceptor over its shelf.
 
 ghost use Rattle.std.specs.Prelude.{◌≡◌, IfOk, OnOk, OnErr};
-ghost use Rattle.cas_slot.specs.Rules.{prepare_rule, accept_rule, slot_by_prepare, slot_by_accept, slot_after, tell_by_prepare, tell_by_accept, tell_of, with_slot_after};
-ghost use Rattle.cas_world.specs.Acceptor.{AcceptorView, acceptor_after, replied, slot_with};
+ghost use Rattle.cas_slot.specs.Rules.{prepare_rule, accept_rule, slot_by_prepare, slot_by_accept, slot_after, tell_by_prepare, tell_by_accept, key_of};
+ghost use Rattle.cas_world.specs.Acceptor.{AcceptorView, acceptor_after, replied, slot_with, with_change, IsRoundAsk, IsToldBy};
 
 use cas_ballot::{AcceptorId, Ballot};
 use cas_change::Key;
+use crate::slot_store::SlotStore;
 use cas_slot::{
-    AcceptRule, Accepted, Ask, PrepareRule, Reply, Request, Shelf, Slot, Tell, on_accept,
-    on_prepare,
+    AcceptRule, Accepted, Ask, PrepareRule, Reply, Request, Slot, Tell, on_accept, on_prepare,
 };
 use std::alloc::AllocError;
 use std::marker::Model;
 
 /// An acceptor, seen as its identity and the slots on its shelf.
 #[derive(Drop)]
-pub struct Acceptor<S: Shelf> {
+pub struct Acceptor<S: SlotStore> {
     id: AcceptorId,
     shelf: S,
 }
 
-impl<S: Shelf> Model for Acceptor<S> {
+impl<S: SlotStore> Model for Acceptor<S> {
     ghost use Rattle.cas_world.specs.Acceptor.{AcceptorView};
     ghost use Rattle.cas_world.specs.AcceptorCode.{acceptor_code};
 
@@ -31,7 +31,7 @@ impl<S: Shelf> Model for Acceptor<S> {
     ghost view = { λ acceptor. record { id = acceptor.id; slots = S.contents acceptor.shelf } };
 }
 
-impl<S: Shelf> Acceptor<S> {
+impl<S: SlotStore> Acceptor<S> {
     /// An acceptor over a shelf that can be used.
     pub fn running(id: AcceptorId, shelf: S) -> Acceptor<S>
         ensures { result ≡ record { id = id; slots = S.contents shelf } }
@@ -46,14 +46,15 @@ impl<S: Shelf> Acceptor<S> {
         self.id
     }
 
-    /// Handles a request by the acceptor's table, and answers it. What the reply says is on the shelf by then. After
-    /// an `Err` all is as before.
+    /// Handles a request of a round by the acceptor's table, and answers it. What the reply says is on the shelf by then.
+    /// After an `Err` all is as before.
     pub fn handle(&mut self, request: &Request) -> Result<Reply, AllocError>
+        requires { IsRoundAsk request.now.ask }
         ensures reply { IfOk result (λ reply. reply ≡ replied self.old request.now) }
         ensures ok { OnOk result (self.new ≡ acceptor_after self.old request.now) }
         ensures err { OnErr result (self.new ≡ self.old) }
     {
-        let key = request.ask.key();
+        let key = key_of(&request.ask);
         let slot = self.shelf.get(key)?;
         let (tell, change) = answered(slot, &request.ask)?;
         put_change(&mut self.shelf, key, change)?;
@@ -76,8 +77,8 @@ impl<S: Shelf> Acceptor<S> {
 }
 
 /// Puts the slot at the key, if there is one. After an `Err` all is as before.
-fn put_change<S: Shelf>(shelf: &mut S, key: &Key, change: Option<Slot>) -> Result<(), AllocError>
-    ensures ok { OnOk result (S.contents shelf.new ≡ with_slot_after (S.contents shelf.old) key.now change) }
+fn put_change<S: SlotStore>(shelf: &mut S, key: &Key, change: Option<Slot>) -> Result<(), AllocError>
+    ensures ok { OnOk result (S.contents shelf.new ≡ with_change (S.contents shelf.old) key.now change) }
     ensures err { OnErr result (S.contents shelf.new ≡ S.contents shelf.old) }
 {
     match change {
@@ -88,7 +89,8 @@ fn put_change<S: Shelf>(shelf: &mut S, key: &Key, change: Option<Slot>) -> Resul
 
 /// What a request is told, and the slot that it leaves in the place of this one, if it leaves another.
 fn answered(slot: Option<Slot>, ask: &Ask) -> Result<(Tell, Option<Slot>), AllocError>
-    ensures tell { IfOk result (λ done. done.0 ≡ tell_of slot ask.now) }
+    requires { IsRoundAsk ask.now }
+    ensures tell { IfOk result (λ done. IsToldBy slot ask.now done.0) }
     ensures change { IfOk result (λ done. slot_with slot done.1 ≡ slot_after slot ask.now) }
 {
     match ask {
@@ -107,6 +109,18 @@ fn answered(slot: Option<Slot>, ask: &Ask) -> Result<(Tell, Option<Slot>), Alloc
             };
             Ok(accepted(slot, *ride, proposal))
         }
+        _ => unreachable!(),
+    }
+}
+
+/// The key of a question of a round.
+pub(crate) fn key_of(ask: &Ask) -> &Key
+    requires { IsRoundAsk ask.now }
+    ensures { result.now ≡ key_of ask.now }
+{
+    match ask {
+        Ask::Prepare { key, .. } | Ask::Accept { key, .. } => key,
+        _ => unreachable!(),
     }
 }
 
@@ -156,7 +170,8 @@ fn accepted(slot: Option<Slot>, ride: Option<Ballot>, accepted: Accepted) -> (Te
 mod tests {
     use super::*;
     use cas_change::{Body, State};
-    use cas_slot::{MapShelf, Phase};
+    use crate::memory_slots::MemorySlots;
+    use cas_slot::Phase;
     use std::test::Fail;
 
     const FIRST: Ballot = Ballot {
@@ -204,7 +219,7 @@ mod tests {
     fn promises_and_accepts(rt: HostRuntime) -> Result<(), Fail> {
         let key = Key::read(rt.alloc(), b"a")?;
         let id = AcceptorId::new(3).unwrap();
-        let mut acceptor = Acceptor::running(id, MapShelf::new(rt.alloc()));
+        let mut acceptor = Acceptor::running(id, MemorySlots::new(rt.alloc()));
         let none = Tell::Promised { accepted: None };
         assert_eq!(rt; acceptor.handle(&prepare(&key, SECOND)?)?.tell, none);
         assert_eq!(rt;

@@ -107,14 +107,14 @@ impl Stage {
                     by: joined(by, acceptor),
                     read: later_of(read, accepted),
                 },
-                Tell::Accepted | Tell::Met(_) => Stage::Preparing { by, read },
+                _ => Stage::Preparing { by, read },
             },
             Stage::Accepting { outcome, by } => match tell {
                 Tell::Accepted => Stage::Accepting {
                     outcome,
                     by: joined(by, acceptor),
                 },
-                Tell::Promised { .. } | Tell::Met(_) => Stage::Accepting { outcome, by },
+                _ => Stage::Accepting { outcome, by },
             },
         }
     }

@@ -8,19 +8,20 @@ ghost use Rattle.std.specs.VecDeque.{deque_len, deque_capacity};
 ghost use Rattle.cas_change.specs.Outcome.{outcome_of};
 ghost use Rattle.cas_slot.specs.Rules.{key_of};
 ghost use Rattle.cas_world.specs.declared.message.Message.TheVariants as message;
-ghost use Rattle.cas_world.specs.Acceptor.{acceptor_after, replied};
+ghost use Rattle.cas_world.specs.Acceptor.{acceptor_after, replied, IsRoundAsk};
 ghost use Rattle.cas_world.specs.Desk.{IsDone, closed, telling, is_preparing, is_accepting, state_of};
 ghost use Rattle.cas_world.specs.Sound.{Each};
 ghost use Rattle.cas_world.specs.Step.{Step, Begin, Turn, Propose, Count, End, turns_left, confirmers, to_each, prepare_request, accept_request, vote_of, IsProposal};
 ghost use Rattle.cas_world.specs.View.{View, opened, acceptors_from};
 
-use crate::acceptor::Acceptor;
+use crate::acceptor::{Acceptor, key_of};
 use crate::desk::{Desk, PROPOSER, Round, Stage, ballot_of};
 use crate::message::Message;
+use crate::slot_store::SlotStore;
 use cas_ballot::{AcceptorId, Ballot};
 use cas_change::{Key, Outcome, Program, State, apply};
 use cas_record::{Answer, MOST_MARKS, Mark, Proposal, Record};
-use cas_slot::{Accepted, Ask, Reply, Request, Shelf, Tell};
+use cas_slot::{Accepted, Ask, Reply, Request, Tell};
 use std::alloc::{AllocError, Global};
 use std::collections::VecDeque;
 use std::marker::Model;
@@ -37,7 +38,7 @@ pub const ROUND_MARKS: usize = 4 * ACCEPTORS + 8;
 
 /// The whole store, seen as its acceptors with their slots, its proposer, the messages under way and the marks.
 #[derive(Drop)]
-pub struct World<S: Shelf> {
+pub struct World<S: SlotStore> {
     acceptors: Vec<Acceptor<S>>,
     /// The list that the shelves came in, empty, so that they can be handed back without taking memory.
     shelves: Vec<S>,
@@ -46,7 +47,7 @@ pub struct World<S: Shelf> {
     record: Record,
 }
 
-impl<S: Shelf> Model for World<S> {
+impl<S: SlotStore> Model for World<S> {
     ghost use Rattle.std.specs.Prelude.{◌≡◌, ◌≤◌, vec_len, vec_capacity};
     ghost use Rattle.std.specs.Coded.{codes};
     ghost use Rattle.cas_world.specs.AcceptorCode.{acceptor_code};
@@ -96,7 +97,7 @@ struct Prepared {
     mark: Mark,
 }
 
-impl<S: Shelf> World<S> {
+impl<S: SlotStore> World<S> {
     /// A world over these shelves, in which nothing has happened. The first shelf is that of acceptor 1.
     ///
     /// Where no memory is found the shelves come back.
@@ -310,7 +311,7 @@ impl<S: Shelf> World<S> {
 }
 
 /// Makes acceptors over the shelves, numbered from 1, and leaves the list of shelves empty with its room.
-fn take_shelves<S: Shelf>(acceptors: &mut Vec<Acceptor<S>>, shelves: &mut Vec<S>)
+fn take_shelves<S: SlotStore>(acceptors: &mut Vec<Acceptor<S>>, shelves: &mut Vec<S>)
     requires none { acceptors.old.items ≡ [] }
     requires few { vec_len shelves.old < 64 }
     requires room { vec_len shelves.old ≤ vec_capacity acceptors.old }
@@ -327,7 +328,7 @@ fn take_shelves<S: Shelf>(acceptors: &mut Vec<Acceptor<S>>, shelves: &mut Vec<S>
 }
 
 /// Puts the shelves of the acceptors into their list.
-fn give_shelves<S: Shelf>(acceptors: &mut Vec<Acceptor<S>>, shelves: &mut Vec<S>)
+fn give_shelves<S: SlotStore>(acceptors: &mut Vec<Acceptor<S>>, shelves: &mut Vec<S>)
     requires none { shelves.old.items ≡ [] }
     requires room { vec_len acceptors.old ≤ vec_capacity shelves.old }
     ensures given { map (λ shelf. S.contents shelf) shelves.new.items ≡ map (λ acceptor. acceptor.slots) acceptors.old.items }
@@ -340,7 +341,7 @@ fn give_shelves<S: Shelf>(acceptors: &mut Vec<Acceptor<S>>, shelves: &mut Vec<S>
 }
 
 /// A prepare of the ballot for each acceptor, in their order.
-fn prepares<S: Shelf>(
+fn prepares<S: SlotStore>(
     alloc: Global,
     acceptors: &[Acceptor<S>],
     key: &Key,
@@ -360,7 +361,7 @@ fn prepares<S: Shelf>(
 }
 
 /// An accept of the state at the ballot for each acceptor, in their order.
-fn accepts<S: Shelf>(
+fn accepts<S: SlotStore>(
     alloc: Global,
     acceptors: &[Acceptor<S>],
     key: &Key,
@@ -396,7 +397,7 @@ fn request_to(to: AcceptorId, ask: Ask) -> Message
 }
 
 /// All that a call needs to begin, and room for the marks of its round. After an `Err` the record is as before.
-fn prepare_opening<S: Shelf>(
+fn prepare_opening<S: SlotStore>(
     alloc: Global,
     acceptors: &[Acceptor<S>],
     record: &mut Record,
@@ -429,7 +430,7 @@ fn prepare_opening<S: Shelf>(
 }
 
 /// All that a round in its prepare phase needs to propose.
-fn prepare_proposal<S: Shelf>(
+fn prepare_proposal<S: SlotStore>(
     alloc: Global,
     acceptors: &[Acceptor<S>],
     caller: u8,
@@ -476,7 +477,7 @@ fn outcome_on(program: &Program, read: &Option<Accepted>) -> Result<Outcome, All
 /// Lets the acceptor that is asked handle the request, puts its reply behind the other messages, and marks its vote.
 ///
 /// After an `Err` the request waits in front again, and the caller is told that no memory was found.
-fn serve<S: Shelf>(
+fn serve<S: SlotStore>(
     acceptors: &mut Vec<Acceptor<S>>,
     desk: &mut Desk,
     frames: &mut VecDeque<Message>,
@@ -484,6 +485,7 @@ fn serve<S: Shelf>(
     request: Request,
 ) -> Result<(), AllocError>
     requires asked { request.to - 1 < vec_len acceptors.old }
+    requires round { IsRoundAsk request.ask }
     requires space { deque_len frames.old < deque_capacity frames.old }
     requires vote { IfSome (slice_get acceptors.old.items (request.to - 1)) (λ acceptor.
         length (vote_of (key_of request.ask) acceptor.id (replied acceptor request).tag (replied acceptor request).tell) ≤ «record».old.room) }
@@ -521,18 +523,19 @@ fn serve<S: Shelf>(
 
 /// Lets the acceptor that is asked handle the request. Its reply comes with the mark of its vote, where it accepted.
 /// After an `Err` all is as before.
-fn handled<S: Shelf>(
+fn handled<S: SlotStore>(
     acceptors: &mut Vec<Acceptor<S>>,
     request: &Request,
 ) -> Result<(Reply, Option<Mark>), AllocError>
-    requires { request.now.to - 1 < vec_len acceptors.old }
+    requires asked { request.now.to - 1 < vec_len acceptors.old }
+    requires round { IsRoundAsk request.now.ask }
     ensures ok { IfOk result (λ done. IfSome (slice_get acceptors.old.items (request.now.to - 1)) (λ acceptor.
         (done.0 ≡ replied acceptor request.now)
         × (option_to_list done.1 ≡ vote_of (key_of request.now.ask) acceptor.id (replied acceptor request.now).tag (replied acceptor request.now).tell)
         × (acceptors.new.items ≡ slice_set acceptors.old.items (request.now.to - 1) (acceptor_after acceptor request.now)))) }
     ensures err { OnErr result (acceptors.new.items ≡ acceptors.old.items) }
 {
-    let key = request.ask.key().copy()?;
+    let key = key_of(&request.ask).copy()?;
     let index = usize::from(request.to.number()).saturating_sub(1);
     let acceptor = &mut acceptors[index];
     let reply = acceptor.handle(request)?;
@@ -550,7 +553,7 @@ fn vote_of(key: Key, acceptor: AcceptorId, reply: &Reply) -> Option<Mark>
             key,
             ballot: reply.tag,
         }),
-        Tell::Promised { .. } | Tell::Met(_) => None,
+        _ => None,
     }
 }
 

@@ -9,14 +9,13 @@ ghost use Rattle.casreg.specs.Changes.{AllTurned, FailsToTurn, IsRound, IsChange
 
 use cas_change::{Key, Program};
 use cas_record::Answer;
-use cas_slot::Shelf;
-use cas_world::{PHASE_TURNS, PROPOSER, World};
+use cas_world::{PHASE_TURNS, PROPOSER, SlotStore, World};
 use std::alloc::AllocError;
 
 /// Runs a change as the next call, and gives its answer.
 ///
 /// `calls` is how many calls were begun. A call that is refused before it is marked does not count.
-pub fn change<S: Shelf>(
+pub fn change<S: SlotStore>(
     world: &mut World<S>,
     calls: &mut u32,
     key: &Key,
@@ -40,7 +39,7 @@ pub fn change<S: Shelf>(
 }
 
 /// Runs the round that has just begun, and gives the answer that its call is told.
-fn round<S: Shelf>(world: &mut World<S>) -> Answer
+fn round<S: SlotStore>(world: &mut World<S>) -> Answer
     requires preparing { IsTrue (is_preparing world.old.desk.round) }
     requires all { turns_left world.old.frames ≡ PHASE_TURNS }
     ensures round { IsRound world.old world.new }
@@ -60,7 +59,7 @@ fn round<S: Shelf>(world: &mut World<S>) -> Answer
 }
 
 /// Makes all turns of a phase that has just begun.
-fn all_turns<S: Shelf>(world: &mut World<S>) -> Result<(), AllocError>
+fn all_turns<S: SlotStore>(world: &mut World<S>) -> Result<(), AllocError>
     requires { turns_left world.old.frames ≡ PHASE_TURNS }
     ensures through { OnOk result (AllTurned world.old world.new) }
     ensures fails { OnErr result (FailsToTurn world.old world.new) }

@@ -17,8 +17,7 @@ use crate::words::is_script;
 use cas_lines::lines::{Line, Lines};
 use cas_lines::sink::{Sink, put_all};
 use cas_lines::source::Source;
-use cas_slot::MapShelf;
-use cas_world::{ACCEPTORS, PROPOSER, World};
+use cas_world::{ACCEPTORS, MemorySlots, PROPOSER, World};
 use std::alloc::{AllocError, Global};
 
 /// Runs the command that the words name over the source's lines, and writes the answer to each line before it reads on.
@@ -49,12 +48,12 @@ pub fn cluster<R, S: Source, K: Sink>(
 }
 
 /// A world over three empty shelves in memory.
-pub fn open_world(alloc: Global) -> Result<World<MapShelf>, AllocError>
+pub fn open_world(alloc: Global) -> Result<World<MemorySlots>, AllocError>
     ensures { IfOk result (λ world. world ≡ opened) }
 {
     let mut shelves = Vec::with_capacity(alloc, ACCEPTORS)?;
     for _shelf in 0..ACCEPTORS {
-        shelves.push(MapShelf::new(alloc))?;
+        shelves.push(MemorySlots::new(alloc))?;
     }
     match World::open(alloc, shelves) {
         Ok(world) => Ok(world),
@@ -65,7 +64,7 @@ pub fn open_world(alloc: Global) -> Result<World<MapShelf>, AllocError>
 /// Runs the script in a new world, and tells how it ended. The world is taken apart then.
 fn run_script<S: Source, K: Sink>(
     alloc: Global,
-    mut world: World<MapShelf>,
+    mut world: World<MemorySlots>,
     source: &mut S,
     sink: &mut K,
 ) -> Status
@@ -89,7 +88,7 @@ fn run_script<S: Source, K: Sink>(
 /// Answers each line of the source before it reads the next one. An `Err` has the status of the run.
 fn answer_lines<S: Source, K: Sink>(
     alloc: Global,
-    world: &mut World<MapShelf>,
+    world: &mut World<MemorySlots>,
     source: &mut S,
     sink: &mut K,
 ) -> Result<(), Status>
@@ -115,7 +114,7 @@ fn answer_lines<S: Source, K: Sink>(
 /// Runs the line, and gives the text of its answer. After an `Err` it may have been run.
 fn answer_to(
     alloc: Global,
-    world: &mut World<MapShelf>,
+    world: &mut World<MemorySlots>,
     calls: &mut u32,
     line: &Line,
 ) -> Result<String, AllocError>

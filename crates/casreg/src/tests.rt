@@ -8,7 +8,7 @@ use cas_change::{Act, Body, Clause, Guard, Key, Program, State, Took};
 use cas_lines::sink::MemorySink;
 use cas_lines::source::MemorySource;
 use cas_record::{Acknowledgment, Answer, Mark, Proposal};
-use cas_slot::Shelf;
+use cas_world::SlotStore;
 use std::alloc::{AllocError, Global};
 use std::test::Fail;
 

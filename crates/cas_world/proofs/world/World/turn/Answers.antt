@@ -19,6 +19,13 @@ serve-requires-clause-asked g c =
     let within : c.in-Some-Request.request.to - 1 < length c.self.inside.acceptors.items = slice_get_within _ _ _ s.found in
     omega (arith, within, c.self.inside.acceptors.ok)
 
+pub serve-requires-clause-round : goal.serve-requires-clause-round
+serve-requires-clause-round g c =
+    let first : c.self.inside.frames.items ≡ message.Request c.in-Some-Request.request ∷ c.pop_front.new.self.items =
+    rw c.in-Some-Request.field-0-is at c.in-Some-Request.ensures.items in
+    (sound_request (record { acceptors = c.self.inside.acceptors.items; desk = c.self.inside.desk; frames = c.self.inside.frames.items; marks = c.self.inside.record.marks }) c.self.inside.record.room
+    c.in-Some-Request.request c.pop_front.new.self.items c.self.invariant.0 first).of_round
+
 pub serve-requires-clause-vote : goal.serve-requires-clause-vote
 serve-requires-clause-vote g c =
     let first : c.self.inside.frames.items ≡ message.Request c.in-Some-Request.request ∷ c.pop_front.new.self.items =
