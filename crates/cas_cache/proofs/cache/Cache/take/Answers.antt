@@ -52,8 +52,8 @@ invariant_of-self-then-not-promote c =
     let same = same_cache key s.entries c.promote.new.self none c.promote.ensures.entries in
     let is : IsCache s.entries = record { capacity = s.capacity; row = s.row; few = s.few } in
     let kept : IsCache c.put.new.self = either_way c.put.result _ _ (IsCache c.put.new.self) c.put.ensures.entries c.put.ensures.err
-        (λ put. opens_cache key s.entries c.put.new.self is c.requires (opens key c.in_ok-copy.field-0 s.entries c.promote.new.self c.put.new.self is c.requires none same c.in_ok-copy.ensures put))
-        (λ err. subst (λ (x : Lru). IsCache x) (sym (err ∙ same)) is) in
+    (λ put. opens_cache key s.entries c.put.new.self is c.requires (opens key c.in_ok-copy.field-0 s.entries c.promote.new.self c.put.new.self is c.requires none same c.in_ok-copy.ensures put))
+    (λ err. subst (λ (x : Lru). IsCache x) (sym (err ∙ same)) is) in
     record { capacity = kept.capacity; row = kept.row; few = kept.few }
 
 pub returns-in_err-put-clause-same : goal.returns-in_err-put-clause-same
