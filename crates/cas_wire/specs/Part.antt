@@ -1,5 +1,5 @@
 -- What a reader of the code says.
-use Rattle.std.specs.Prelude.{◌≡◌, ℕ, ◌+◌, ◌-◌, ◌≤◌, List, ◌++◌, length, take, drop, Result, Ok, Err}
+use Rattle.std.specs.Prelude.{◌≡◌, ℕ, ◌-◌, ◌≤◌, List, ◌++◌, length, take, drop, Result, Ok, Err}
 use Rattle.cas_wire.specs.Reading.{Reading}
 use Rattle.cas_wire.specs.declared.parts.Part.{Part}
 use Rattle.cas_wire.specs.declared.parts.Part.TheVariants as part

@@ -1,8 +1,7 @@
 -- The one spelling of each part, format 1, and what has one. Numbers are big-endian.
-use Rattle.std.specs.Prelude.{ℕ, ◌<◌, ◌≤◌, ◌^◌, List, [], ◌∷◌, ◌++◌, length, Option, Some, None, IfSome, FitsSigned}
+use Rattle.std.specs.Prelude.{ℕ, ◌<◌, ◌≤◌, ◌^◌, List, [], ◌∷◌, ◌++◌, length, Option, Some, None, FitsSigned}
 use Rattle.std.specs.Int.{w16, w32, w64, to_be_bytes, cast_unsigned}
 use Rattle.cas_ballot.specs.declared.ballot.Ballot.{Ballot}
-use Rattle.cas_change.specs.Key.{IsKey}
 use Rattle.cas_change.specs.Text.{IsText}
 use Rattle.cas_change.specs.declared.state.State.{State}
 use Rattle.cas_change.specs.declared.state.State.TheVariants.{Empty, Held}

@@ -1,8 +1,10 @@
-//! Requests and replies as bytes, format 1, and the parts that frames share with the cells of a disk.
+//! The parts that frames share with the cells of a disk, as bytes, format 1.
 //!
-//! Each value has one spelling, and no spelling begins another. Nothing here sends a frame.
+//! Each value has one spelling, and no spelling begins another. No frame and no cell lives here.
 #![tactic(auto)]
 
 pub mod parts;
 mod reading;
+#[cfg(test)]
+mod tests;
 mod writing;

@@ -1,5 +1,4 @@
 use Rattle.std.proofs.Common.{arith}
-use Rattle.cas_wire.proofs.Formats.{IsBytes}
 use Rattle.cas_wire.proofs.PartFormats.{accepted_or_none_format}
 use Rattle.cas_wire.proofs.Taking.{left_over, found_spelled, found_place, wrong_spelled, wrong_place}
 use Rattle.cas_wire.proofs.parts.take_accepted.Goals as goal
