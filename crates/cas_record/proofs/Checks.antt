@@ -18,7 +18,7 @@ use Rattle.cas_change.specs.contracts.outcome.OutcomePartialEq.TheImpl as outcom
 use Rattle.cas_record.specs.declared.answer.Answer.{Answer}
 use Rattle.cas_record.specs.declared.answer.Answer.TheVariants as answer
 use Rattle.cas_record.specs.declared.mark.Mark.{Mark}
-use Rattle.cas_record.specs.declared.mark.Mark.TheVariants.{Begun, Proposed, Voted, Acked, Floor, EraEntered, Ended, Harmed}
+use Rattle.cas_record.specs.declared.mark.Mark.TheVariants.{Begun, Proposed, Voted, Acked, Floor, EraEntered, Ended, Harmed, Told}
 use Rattle.cas_record.specs.declared.mark.Proposal.{Proposal}
 use Rattle.cas_record.specs.declared.mark.Acknowledgment.{Acknowledgment}
 use Rattle.cas_record.specs.Places.{At, Stands, here, past}
@@ -723,6 +723,7 @@ check_mark cluster log (Floor key ballot state) = check_floor key ballot state (
 check_mark cluster log (EraEntered proposer era) = check_mark_era log proposer era
 check_mark cluster log (Ended caller call rounds a) = check_end (marks_of log) caller call a
 check_mark cluster log (Harmed caller call down) = true
+check_mark cluster log (Told asked answer) = true
 
 mark_checked : (cluster : Cluster) (log : List Happening) (m : Mark) → check_mark cluster log m ≡ true → MayMark cluster log m
 mark_checked cluster log (Begun caller call key program) e = nat_same {a = call} {b = suc (calls_of caller (marks_of log))} e
@@ -733,6 +734,7 @@ mark_checked cluster log (Floor key ballot state) e = floor_checked key ballot s
 mark_checked cluster log (EraEntered proposer era) e = mark_era_checked log proposer era e
 mark_checked cluster log (Ended caller call rounds a) e = end_checked (marks_of log) caller call a e
 mark_checked cluster log (Harmed caller call down) e = tt
+mark_checked cluster log (Told asked answer) e = tt
 
 abbrev pub check_next : Cluster → List Happening → Happening → Bool
 check_next cluster log (Marked mark) = check_mark cluster log mark

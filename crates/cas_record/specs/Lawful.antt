@@ -10,7 +10,7 @@ use Rattle.cas_change.specs.Outcome.{outcome_of}
 use Rattle.cas_record.specs.declared.answer.Answer.{Answer}
 use Rattle.cas_record.specs.declared.answer.Answer.TheVariants as answer
 use Rattle.cas_record.specs.declared.mark.Mark.{Mark}
-use Rattle.cas_record.specs.declared.mark.Mark.TheVariants.{Begun, Proposed, Voted, Acked, Floor, EraEntered, Ended, Harmed}
+use Rattle.cas_record.specs.declared.mark.Mark.TheVariants.{Begun, Proposed, Voted, Acked, Floor, EraEntered, Ended, Harmed, Told}
 use Rattle.cas_record.specs.declared.mark.Proposal.{Proposal}
 use Rattle.cas_record.specs.declared.mark.Acknowledgment.{Acknowledgment}
 use Rattle.cas_record.specs.Places.{At, Stands}
@@ -211,6 +211,7 @@ MayMark cluster log (Floor key ballot state) = IsFloor key ballot state (marks_o
 MayMark cluster log (EraEntered proposer era) = MayMarkEra log proposer era
 MayMark cluster log (Ended caller call rounds answer) = MayEnd (marks_of log) caller call answer
 MayMark cluster log (Harmed caller call down) = ⊤
+MayMark cluster log (Told asked answer) = ⊤
 
 -- it may happen next
 abbrev pub May : Cluster → List Happening → Happening → Type 0

@@ -8,9 +8,11 @@ mod entry;
 mod history;
 pub mod laws;
 mod mark;
+mod operator;
 mod record;
 
 pub use answer::{Answer, Cause};
 pub use entry::Entry;
 pub use mark::{Acknowledgment, Mark, Proposal};
+pub use operator::{Asked, OpAnswer, Probe, Probes};
 pub use record::{MOST_MARKS, Record};

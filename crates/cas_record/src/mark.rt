@@ -1,6 +1,7 @@
 //! The marks, each of which tells one thing that happened.
 
 use crate::answer::Answer;
+use crate::operator::{Asked, OpAnswer};
 use cas_ballot::{AcceptorId, Ballot, Members};
 use cas_change::{Key, Program, State};
 
@@ -48,6 +49,11 @@ pub enum Mark {
         caller: u8,
         call: u32,
         down: bool,
+    },
+    /// An operator was answered. Answers to probes have no mark.
+    Told {
+        asked: Asked,
+        answer: OpAnswer,
     },
 }
 

@@ -1,0 +1,144 @@
+//! What an operator asks for, and what is answered.
+
+ghost use Rattle.std.specs.Prelude.{◌≡◌};
+
+use crate::answer::Answer;
+use cas_ballot::{AcceptorId, Ballot};
+use cas_change::Key;
+use cas_quorum::PlanFault;
+use cas_slot::Tell;
+
+/// What an operator asks for.
+#[derive(Debug, PartialEq, Eq, Drop)]
+pub enum Asked {
+    /// That the acceptor joins.
+    Join(AcceptorId),
+    /// That the acceptor leaves.
+    Leave(AcceptorId),
+    /// That what is left of the deleted key is collected.
+    Collect(Key),
+    /// What each acceptor keeps for the key.
+    Probe(Key),
+}
+
+/// What an operator is answered.
+#[derive(Debug, PartialEq, Eq, Drop)]
+pub enum OpAnswer {
+    /// The acceptor joined, and its plan is finished in this era. So many keys were proposed anew for it.
+    Joined {
+        id: AcceptorId,
+        era: u32,
+        rescanned: u32,
+    },
+    /// The acceptor left, and its plan is finished in this era. So many keys were proposed anew for it.
+    Left {
+        id: AcceptorId,
+        era: u32,
+        rescanned: u32,
+    },
+    /// The membership does not admit the plan.
+    Refused(PlanFault),
+    /// Another plan is open, and proposer 0 is in this era.
+    Busy {
+        era: u32,
+    },
+    /// The key was collected at the ballot of its tombstone: so many acceptors removed its slot, and so many kept it for a
+    /// later change.
+    Collected {
+        key: Key,
+        ballot: Ballot,
+        removed: u32,
+        kept: u32,
+    },
+    /// The key holds a state, of this version, and is not deleted.
+    NotEmpty {
+        version: u64,
+    },
+    /// This acceptor, the least such, did not confirm a step that all have to confirm.
+    Absent {
+        acceptor: AcceptorId,
+    },
+    /// This proposer is down, and a step of its own is due.
+    ProposerDown {
+        proposer: u8,
+    },
+    /// What each member told of the key.
+    Probed {
+        key: Key,
+        found: Probes,
+    },
+    /// A round, a draw or a listing of proposer 0 was stopped by this.
+    Stopped(Answer),
+}
+
+/// What one member told when it was probed; nothing where no reply of it arrived.
+#[derive(Debug, PartialEq, Eq, Drop)]
+pub struct Probe {
+    pub acceptor: AcceptorId,
+    pub told: Option<Tell>,
+}
+
+/// What the members told, one probe each, in a list of its own.
+#[derive(Debug, PartialEq, Eq, Drop)]
+pub struct Probes {
+    probes: Vec<Probe>,
+}
+
+impl Probes {
+    /// These probes, in their order.
+    pub fn new(probes: Vec<Probe>) -> Probes
+        ensures { result.probes.items ≡ probes.items }
+    {
+        Probes { probes }
+    }
+
+    /// The probes, in order.
+    pub fn probes(&self) -> &[Probe]
+        ensures { result.now ≡ self.now.probes.items }
+    {
+        &self.probes
+    }
+
+    /// The list of the probes, in the memory that they were given in.
+    pub fn into_probes(self) -> Vec<Probe>
+        ensures { result.items ≡ self.probes.items }
+    {
+        self.probes
+    }
+}
+
+#[cfg(test)]
+mod tests {
+    use super::*;
+    use crate::mark::Mark;
+    use crate::record::Record;
+    use std::test::Fail;
+
+    #[test]
+    fn is_marked_with_its_answer(rt: HostRuntime) -> Result<(), Fail> {
+        let alloc = rt.alloc();
+        let mut probes = Vec::new(alloc);
+        probes.push(Probe {
+            acceptor: AcceptorId::new(2).unwrap(),
+            told: Some(Tell::Full),
+        })?;
+        let found = Probes::new(probes);
+        assert_eq!(rt; found.probes().len(), 1);
+        let key = Key::read(alloc, b"a")?;
+        let answer = OpAnswer::Probed { key, found };
+        let asked = Asked::Probe(Key::read(alloc, b"a")?);
+        let mut record = Record::new(alloc);
+        record.reserve(None, 1)?;
+        record.push(Mark::Told { asked, answer });
+        assert!(rt;
+            matches!(
+                record.marks(),
+                [Mark::Told {
+                    asked: Asked::Probe(_),
+                    answer: OpAnswer::Probed { .. }
+                }]
+            )
+        );
+        Ok(())
+    }
+}
