@@ -4,9 +4,9 @@ ghost use Rattle.std.specs.Prelude.{◌≡◌, IfOk, OnOk, OnErr};
 ghost use Rattle.cas_slot.specs.Rules.{prepare_rule, accept_rule, slot_by_prepare, slot_by_accept, slot_after, tell_by_prepare, tell_by_accept, key_of};
 ghost use Rattle.cas_world.specs.Acceptor.{AcceptorView, acceptor_after, replied, slot_with, with_change, IsRoundAsk, IsToldBy};
 
+use crate::slot_store::SlotStore;
 use cas_ballot::{AcceptorId, Ballot};
 use cas_change::Key;
-use crate::slot_store::SlotStore;
 use cas_slot::{
     AcceptRule, Accepted, Ask, PrepareRule, Reply, Request, Slot, Tell, on_accept, on_prepare,
 };
@@ -77,7 +77,11 @@ impl<S: SlotStore> Acceptor<S> {
 }
 
 /// Puts the slot at the key, if there is one. After an `Err` all is as before.
-fn put_change<S: SlotStore>(shelf: &mut S, key: &Key, change: Option<Slot>) -> Result<(), AllocError>
+fn put_change<S: SlotStore>(
+    shelf: &mut S,
+    key: &Key,
+    change: Option<Slot>,
+) -> Result<(), AllocError>
     ensures ok { OnOk result (S.contents shelf.new ≡ with_change (S.contents shelf.old) key.now change) }
     ensures err { OnErr result (S.contents shelf.new ≡ S.contents shelf.old) }
 {
@@ -169,8 +173,8 @@ fn accepted(slot: Option<Slot>, ride: Option<Ballot>, accepted: Accepted) -> (Te
 #[cfg(test)]
 mod tests {
     use super::*;
-    use cas_change::{Body, State};
     use crate::memory_slots::MemorySlots;
+    use cas_change::{Body, State};
     use cas_slot::Phase;
     use std::test::Fail;
 

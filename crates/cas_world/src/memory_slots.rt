@@ -58,7 +58,7 @@ impl SlotStore for MemorySlots {
 #[cfg(test)]
 mod tests {
     use super::*;
-        use cas_ballot::Ballot;
+    use cas_ballot::Ballot;
     use cas_change::{Body, State};
     use cas_slot::Accepted;
     use std::test::Fail;
