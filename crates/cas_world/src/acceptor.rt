@@ -188,7 +188,9 @@ mod tests {
         proposer: 1,
     };
 
-    fn asked(ask: Ask) -> Request {
+    fn asked(ask: Ask) -> Request
+        ensures { result.ask ≡ ask }
+    {
         Request {
             to: AcceptorId::new(3).unwrap(),
             from: 1,
@@ -197,12 +199,16 @@ mod tests {
         }
     }
 
-    fn prepare(key: &Key, ballot: Ballot) -> Result<Request, AllocError> {
+    fn prepare(key: &Key, ballot: Ballot) -> Result<Request, AllocError>
+        ensures { IfOk result (λ request. IsRoundAsk request.ask) }
+    {
         let key = key.copy()?;
         Ok(asked(Ask::Prepare { key, ballot }))
     }
 
-    fn accept(key: &Key, ballot: Ballot) -> Result<Request, AllocError> {
+    fn accept(key: &Key, ballot: Ballot) -> Result<Request, AllocError>
+        ensures { IfOk result (λ request. IsRoundAsk request.ask) }
+    {
         Ok(asked(Ask::Accept {
             key: key.copy()?,
             ballot,
