@@ -4,13 +4,12 @@ use Rattle.std.proofs.lemmas.List.{take-append-le, drop-append-le}
 use Rattle.std.proofs.lemmas.List.Folds.{list_any-append}
 use Rattle.std.proofs.lemmas.List.Sums.{prefix_len-le-length}
 use Rattle.std.proofs.Math.Seq.{take-suc}
-use Rattle.std.specs.Io.BufRead.{take_through}
+use Rattle.std.specs.Io.BufRead.{take_through, drop_through}
 use Rattle.std.specs.Io.KnownBytes.{Keeps, IsAtEnd, prepend_known}
-use Rattle.cas_lines.specs.Lines.{has_newline, text_of, lines_of}
-use Rattle.cas_lines.specs.LineReader.{ReaderState, first_len, IsFirstLine, HandsFirst, IsLongLine, HasMore}
-use Rattle.cas_lines.specs.declared.lines.reader.TheConstants.{LINE_LIMIT}
+use Rattle.cas_lines.specs.Lines.{has_newline, text_of, lines_of, first_len, LinesState, IsFirstLine, HandsOut, IsLongLine, HasMore}
+use Rattle.cas_lines.specs.declared.lines.TheConstants.{LINE_LIMIT}
 use Rattle.cas_lines.proofs.FirstLines.{drop-length-take_through, length-take_through-le, lines_of-first, text_of-append, take_through-append}
-use Rattle.cas_lines.proofs.HandingOut.{has_newline-front, newline_kept}
+use Rattle.cas_lines.proofs.Newlines.{has_newline-front, newline_kept}
 
 -- a newline among the first bytes ends the first line there
 first_len-le : (n : ℕ) (bytes : List ℕ) → has_newline (take (suc n) bytes) ≡ true → first_len bytes ≤ n
@@ -58,6 +57,11 @@ newline_some : (bytes : List ℕ) → has_newline bytes ≡ true → 0 < length 
 newline_some [] some = absurd cc
 newline_some (byte ∷ bytes) some = omega arith
 
+pub newline_within : (n : ℕ) (bytes : List ℕ) → has_newline (take n bytes) ≡ true → 0 < length bytes
+newline_within zero bytes some = absurd cc
+newline_within (suc n) [] some = absurd cc
+newline_within (suc n) (byte ∷ bytes) some = omega arith
+
 -- a line whose newline is held goes out
 takes_first : (n : ℕ) (held left : List ℕ) → n ≡ LINE_LIMIT → has_newline (take (suc n) held) ≡ true
     → IsFirstLine (held ++ left) (drop (length (take_through 10 held)) held ++ left) (text_of held)
@@ -71,8 +75,10 @@ takes_first n held left is some =
           ∙ ap (λ t. t ∷ lines_of (drop (length (take_through 10 (held ++ left))) (held ++ left))) (text_of-append held left here)
           ∙ ap (λ l. text_of held ∷ lines_of (drop (length l) (held ++ left))) (take_through-append held left here)
           ∙ ap (λ l. text_of held ∷ lines_of l) (drop-append-le count held left (length-take_through-le held));
-      spelled = take count held;
-      split = ap (λ l. l ++ left) (sym (take-append-drop count held)) ∙ append_assoc (take count held) (drop count held) left;
+      behind = sym (drop-append-le count held left (length-take_through-le held))
+          ∙ ap (λ l. drop (length l) (held ++ left)) (sym (take_through-append held left here))
+          ∙ drop-length-take_through (held ++ left);
+      some = more;
       fits = subst (λ m. first_len (held ++ left) ≤ m) is fits;
     }
 
@@ -83,48 +89,48 @@ takes_rest held some fits =
     let count = length (take_through 10 held) in
     record {
       first = ap lines_of (append-nil held) ∙ lines_of-some held some ∙ ap (λ l. text_of held ∷ lines_of l) (sym (append-nil (drop count held)));
-      spelled = take count held;
-      split = ap (λ l. l ++ []) (sym (take-append-drop count held)) ∙ append_assoc (take count held) (drop count held) [];
+      behind = append-nil (drop count held) ∙ drop-length-take_through held ∙ ap (drop_through 10) (sym (append-nil held));
+      some = omega (arith, length-append held []);
       fits = subst (λ l. first_len l ≤ LINE_LIMIT) (sym (append-nil held)) (omega (arith, prefix_len-le-length (λ byte. not (byte == 10)) held));
     }
 
 -- where it is known what is ahead, the reader handed out its first line
-hands_first : (old new : ReaderState) (left new_left : Option (List ℕ)) (held line : List ℕ)
+hands_first : (old new : LinesState) (left new_left : Option (List ℕ)) (held line : List ℕ)
     → Keeps (prepend_known old.held left) (prepend_known held new_left)
     → new.held ≡ drop (length (take_through 10 held)) held → line ≡ text_of held
     → ((rest : List ℕ) → new_left ≡ Some rest → IsFirstLine (held ++ rest) (drop (length (take_through 10 held)) held ++ rest) (text_of held))
-    → HandsFirst old new left new_left line
+    → HandsOut old new left new_left line
 hands_first old new None new_left held line kept is_held is_text takes = tt
 hands_first old new (Some left) None held line kept is_held is_text takes = absurd kept
 hands_first old new (Some left) (Some rest) held line kept is_held is_text takes = rw (is_held, is_text, ← kept) (takes rest refl)
 
 -- the newline stands within the limit
-pub hands_line : (n : ℕ) (old new : ReaderState) (left new_left : Option (List ℕ)) (held line : List ℕ) → n ≡ LINE_LIMIT
+pub hands_line : (n : ℕ) (old new : LinesState) (left new_left : Option (List ℕ)) (held line : List ℕ) → n ≡ LINE_LIMIT
     → Keeps (prepend_known old.held left) (prepend_known held new_left)
-    → new.held ≡ drop (length (take_through 10 held)) held → line ≡ text_of held → has_newline (take n held) ≡ true → HandsFirst old new left new_left line
+    → new.held ≡ drop (length (take_through 10 held)) held → line ≡ text_of held → has_newline (take n held) ≡ true → HandsOut old new left new_left line
 hands_line n old new left new_left held line is kept is_held is_text some =
     hands_first old new left new_left held line kept is_held is_text (λ rest _. takes_first n held rest is (newline_wider n held some))
 
 -- the newline stands right behind the limit
-pub hands_longest : (n : ℕ) (old new : ReaderState) (left new_left : Option (List ℕ)) (held line : List ℕ) → n ≡ LINE_LIMIT
+pub hands_longest : (n : ℕ) (old new : LinesState) (left new_left : Option (List ℕ)) (held line : List ℕ) → n ≡ LINE_LIMIT
     → Keeps (prepend_known old.held left) (prepend_known held new_left)
     → new.held ≡ drop (length (take_through 10 held)) held → line ≡ text_of held → has_newline (take n held) ≡ false → n < length held → get_or held n 0 ≡ 10
-    → HandsFirst old new left new_left line
+    → HandsOut old new left new_left line
 hands_longest n old new left new_left held line is kept is_held is_text none inside at =
     let some : has_newline (take (suc n) held) ≡ true = newline_at n held inside ∙ (λ i. none i || ((at i == 10) || false)) in
     hands_first old new left new_left held line kept is_held is_text (λ rest _. takes_first n held rest is some)
 
 -- the last line has no newline
-pub hands_rest : (old new : ReaderState) (left new_left : Option (List ℕ)) (held line : List ℕ)
+pub hands_rest : (old new : LinesState) (left new_left : Option (List ℕ)) (held line : List ℕ)
     → Keeps (prepend_known old.held left) (prepend_known held new_left)
     → new.held ≡ drop (length (take_through 10 held)) held → line ≡ text_of held → IsAtEnd new_left → 0 < length held → length held ≤ LINE_LIMIT
-    → HandsFirst old new left new_left line
+    → HandsOut old new left new_left line
 hands_rest old new left new_left held line kept is_held is_text end some fits =
     hands_first old new left new_left held line kept is_held is_text
     (λ rest is. let empty : rest ≡ [] = subst IsAtEnd is end in rw empty (takes_rest held some fits))
 
 -- no newline stands within the limit or right behind it
-pub is_long_line : (n : ℕ) (old : ReaderState) (left new_left : Option (List ℕ)) (held : List ℕ) → n ≡ LINE_LIMIT
+pub is_long_line : (n : ℕ) (old : LinesState) (left new_left : Option (List ℕ)) (held : List ℕ) → n ≡ LINE_LIMIT
     → Keeps (prepend_known old.held left) (prepend_known held new_left)
     → has_newline (take n held) ≡ false → n < length held → (get_or held n 0 == 10) ≡ false → IsLongLine old left
 is_long_line n old None new_left held is kept none inside at = tt
@@ -136,7 +142,7 @@ is_long_line n old (Some left) (Some rest) held is kept none inside at =
     rw (← kept) (subst (λ m. m < first_len (held ++ rest)) is long)
 
 -- what is held is ahead
-pub has_more : (old : ReaderState) (left new_left : Option (List ℕ)) (held : List ℕ)
+pub has_more : (old : LinesState) (left new_left : Option (List ℕ)) (held : List ℕ)
     → Keeps (prepend_known old.held left) (prepend_known held new_left) → 0 < length held → HasMore old left
 has_more old None new_left held kept some = tt
 has_more old (Some left) None held kept some = absurd kept

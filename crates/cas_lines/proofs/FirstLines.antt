@@ -1,17 +1,12 @@
 -- Lemmas on the first of the lines of some bytes.
-use Rattle.std.proofs.Common.{◌≡◌, ℕ, ◌≤◌, Bool, true, false, ◌||◌, ◌&&◌, ◌==◌, cond, List, [], ◌∷◌, ◌++◌, length, drop, refl, ap, ◌∙◌, arith}
+use Rattle.std.proofs.Common.{◌≡◌, ℕ, ◌≤◌, Bool, true, false, ◌||◌, ◌&&◌, ◌==◌, not, ◌+◌, cond, List, [], ◌∷◌, ◌++◌, length, drop, refl, ap, ◌∙◌, arith}
 use Rattle.std.specs.Io.BufRead.{take_through, drop_through}
-use Rattle.cas_lines.specs.Lines.{has_newline, is_at_newline, text_of, lines_of, ended_lines_of, onto_first, onto_ended}
+use Rattle.cas_lines.specs.Lines.{has_newline, is_at_newline, text_of, lines_of, onto_first, longer_first, line_lens, first_len}
 
 -- and false is false
 and_false : (b : Bool) → (b && false) ≡ false
 and_false true = refl
 and_false false = refl
-
--- a choice between equal things
-cond_same : {A : Type 0} (b : Bool) (x : A) → cond b x x ≡ x
-cond_same true x = refl
-cond_same false x = refl
 
 -- what is dropped with the first line is what stands before its end
 pub drop-length-take_through : (bytes : List ℕ) → drop (length (take_through 10 bytes)) bytes ≡ drop_through 10 bytes
@@ -27,14 +22,6 @@ length-take_through-le (byte ∷ bytes) =
     elim (byte == 10) as (λ b. length (cond b (byte ∷ []) (byte ∷ take_through 10 bytes)) ≤ length (byte ∷ bytes))
     [ true ↦ omega arith | false ↦ omega (arith, length-take_through-le bytes) ]
 
--- bytes without a newline are one line
-pub take_through-none : (bytes : List ℕ) → has_newline bytes ≡ false → take_through 10 bytes ≡ bytes
-take_through-none [] none = refl
-take_through-none (byte ∷ bytes) none =
-    elim (byte == 10) as (λ b. (b || has_newline bytes) ≡ false → cond b (byte ∷ []) (byte ∷ take_through 10 bytes) ≡ byte ∷ bytes)
-    [ true ↦ λ h. cc | false ↦ λ h. ap (λ l. byte ∷ l) (take_through-none bytes h) ]
-    none
-
 -- the line before a newline right in front is empty
 text_of-at_newline : (bytes : List ℕ) → is_at_newline bytes ≡ true → text_of bytes ≡ []
 text_of-at_newline [] at = refl
@@ -47,13 +34,6 @@ onto_first-step : (return newline : Bool) (byte : ℕ) (lines rest : List (List 
 onto_first-step true true byte lines rest text first empty = first ∙ ap (λ t. t ∷ rest) (empty refl)
 onto_first-step true false byte lines rest text first empty = ap (onto_first byte) first
 onto_first-step false newline byte lines rest text first empty = ap (onto_first byte) first
-
--- the same of the lines that have their newline
-onto_ended-step : (return newline : Bool) (byte : ℕ) (lines rest : List (List ℕ)) (text : List ℕ) → lines ≡ text ∷ rest → (newline ≡ true → text ≡ [])
-    → cond (return && newline) lines (onto_ended byte lines) ≡ cond (return && newline) [] (byte ∷ text) ∷ rest
-onto_ended-step true true byte lines rest text first empty = first ∙ ap (λ t. t ∷ rest) (empty refl)
-onto_ended-step true false byte lines rest text first empty = ap (onto_ended byte) first
-onto_ended-step false newline byte lines rest text first empty = ap (onto_ended byte) first
 
 -- the first line of some bytes
 pub lines_of-first : (byte : ℕ) (bytes : List ℕ) → lines_of (byte ∷ bytes) ≡ text_of (byte ∷ bytes) ∷ lines_of (drop_through 10 (byte ∷ bytes))
@@ -68,26 +48,16 @@ lines_of-first byte (next ∷ bytes) =
       | false ↦ onto_first-step (byte == 13) (next == 10) byte (lines_of (next ∷ bytes)) (lines_of (drop_through 10 (next ∷ bytes))) (text_of (next ∷ bytes)) later (λ at. text_of-at_newline (next ∷ bytes) at)
     ]
 
--- the first ended line of bytes with a newline
-pub ended_lines_of-first : (bytes : List ℕ) → has_newline bytes ≡ true → ended_lines_of bytes ≡ text_of bytes ∷ ended_lines_of (drop_through 10 bytes)
-ended_lines_of-first [] some = absurd cc
-ended_lines_of-first (byte ∷ bytes) some =
-    elim (byte == 10) as (λ n. (n || has_newline bytes) ≡ true → cond n ([] ∷ ended_lines_of bytes) (cond ((byte == 13) && is_at_newline bytes) (ended_lines_of bytes) (onto_ended byte (ended_lines_of bytes)))
-    ≡ cond n [] (cond ((byte == 13) && is_at_newline bytes) [] (byte ∷ text_of bytes)) ∷ ended_lines_of (cond n bytes (drop_through 10 bytes))) [
-      | true ↦ λ h. refl
-      | false ↦ λ h. onto_ended-step (byte == 13) (is_at_newline bytes) byte (ended_lines_of bytes) (ended_lines_of (drop_through 10 bytes)) (text_of bytes) (ended_lines_of-first bytes h) (text_of-at_newline bytes)
-    ]
-    some
-
--- bytes without a newline have no ended line
-pub ended_lines_of-none : (bytes : List ℕ) → has_newline bytes ≡ false → ended_lines_of bytes ≡ []
-ended_lines_of-none [] none = refl
-ended_lines_of-none (byte ∷ bytes) none =
-    elim (byte == 10) as (λ n. (n || has_newline bytes) ≡ false → cond n ([] ∷ ended_lines_of bytes) (cond ((byte == 13) && is_at_newline bytes) (ended_lines_of bytes) (onto_ended byte (ended_lines_of bytes))) ≡ []) [
-      | true ↦ λ h. absurd cc
-      | false ↦ λ h. rw (ended_lines_of-none bytes h) (cond_same ((byte == 13) && is_at_newline bytes) [])
-    ]
-    none
+-- how long the first line of some bytes is
+pub line_lens-first : (byte : ℕ) (bytes : List ℕ) → line_lens (byte ∷ bytes) ≡ first_len (byte ∷ bytes) ∷ line_lens (drop_through 10 (byte ∷ bytes))
+line_lens-first byte [] =
+    elim (byte == 10) as (λ n. cond n (0 ∷ []) (1 ∷ []) ≡ cond (not n) (1 + first_len []) 0 ∷ line_lens (cond n [] []))
+    [ true ↦ refl | false ↦ refl ]
+line_lens-first byte (next ∷ bytes) =
+    let later = line_lens-first next bytes in
+    elim (byte == 10) as (λ n. cond n (0 ∷ line_lens (next ∷ bytes)) (longer_first (line_lens (next ∷ bytes)))
+    ≡ cond (not n) (1 + first_len (next ∷ bytes)) 0 ∷ line_lens (cond n (next ∷ bytes) (drop_through 10 (next ∷ bytes))))
+    [ true ↦ refl | false ↦ ap longer_first later ]
 
 -- a newline in front stays in front when more bytes follow
 is_at_newline-append : (bytes more : List ℕ) → has_newline bytes ≡ true → is_at_newline (bytes ++ more) ≡ is_at_newline bytes

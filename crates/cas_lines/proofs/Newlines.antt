@@ -1,5 +1,7 @@
 -- Lemmas on where newlines stand in bytes that grow piece by piece.
-use Rattle.std.proofs.Common.{◌≡◌, ℕ, ◌≤◌, Bool, true, false, ◌||◌, ◌==◌, List, length, take, drop, refl, sym, ap, ◌∙◌, arith}
+use Rattle.std.proofs.Common.{◌≡◌, ℕ, ◌+◌, ◌-◌, ◌≤◌, Bool, true, false, ◌||◌, ◌==◌, List, ◌++◌, length, take, drop, refl, sym, ap, ◌∙◌, arith, inl, inr}
+use Rattle.std.proofs.Math.Seq.{take-append-add}
+use Rattle.std.proofs.lemmas.Bool.{cases_lt}
 use Rattle.std.proofs.lemmas.List.{take_all, length-take, take-append-le}
 use Rattle.std.specs.Io.{StartsWith}
 use Rattle.std.proofs.KnownBytes.{starts_with_rest}
@@ -41,3 +43,20 @@ pub StartsWith-trans : (old mid new : List ℕ) → StartsWith mid old → Start
 StartsWith-trans old mid new first second =
     let shorter : length old ≤ length mid = omega (arith, ap length first, length-take (length old) mid) in
     ap (take (length old)) (starts_with_rest new mid second) ∙ take-append-le (length old) mid (drop (length mid) new) shorter ∙ first
+
+-- a newline stays where it is when more bytes follow
+pub has_newline-front : (bytes more : List ℕ) → has_newline bytes ≡ true → has_newline (bytes ++ more) ≡ true
+has_newline-front bytes more some = list_any-append (λ byte. byte == 10) bytes more ∙ ap (λ b. b || has_newline more) some
+
+-- a newline within the room stays there when more bytes follow
+pub newline_kept : (room : ℕ) (held left : List ℕ) → has_newline (take room held) ≡ true → has_newline (take room (held ++ left)) ≡ true
+newline_kept room held left some =
+    elim (cases_lt room (length held)) [
+      | inl over ↦ ap has_newline (take-append-le room held left (omega arith)) ∙ some
+      | inr fits ↦
+          let more = room - length held in
+          let split : length held + more ≡ room = omega arith in
+          ap (λ n. has_newline (take n (held ++ left))) (sym split)
+          ∙ ap has_newline (take-append-add held left more)
+          ∙ has_newline-front held (take more left) (ap has_newline (sym (take_all room held fits)) ∙ some)
+    ]

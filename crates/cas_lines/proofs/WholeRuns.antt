@@ -1,69 +1,95 @@
 -- Lemmas on a reader of lines over its whole run.
-use Rattle.std.proofs.Common.{◌≡◌, ℕ, zero, suc, ◌+◌, ◌<◌, ◌≤◌, Bool, true, false, ◌&&◌, ◌==◌, cond, count_by, List, [], ◌∷◌, ◌++◌, length, take, Option, Some, None, IfSome, refl, sym, ap, ◌∙◌, arith, length-append, append_assoc, append-nil}
-use Rattle.std.proofs.lemmas.List.Sums.{sum_by-cons}
-use Rattle.std.specs.List.{range_with_len}
+use Rattle.std.proofs.Common.{◌≡◌, ℕ, suc, ◌+◌, ◌<◌, ◌≤◌, ◌==◌, List, [], ◌∷◌, ◌++◌, length, true, false, Option, Some, None, IfSome, refl, sym, ap, ◌∙◌, arith, length-append, append_assoc, append-nil}
+use Rattle.std.specs.Prelude.{nat_lt}
+use Rattle.std.specs.Io.BufRead.{drop_through}
 use Rattle.std.specs.Io.KnownBytes.{IsAtEnd}
-use Rattle.cas_lines.specs.Lines.{is_at_newline, lines_of, ended_lines_of, onto_ended, line_at, lines_within, LinesState, ahead, HandsOut, IsEndless, HasHandedOut}
-use Rattle.cas_lines.proofs.HandingOut.{lines_within-all, lines_within-ended}
+use Rattle.std.proofs.lemmas.Bool.Decides.{nat_tests}
+use Rattle.cas_lines.specs.declared.lines.TheConstants.{LINE_LIMIT, MOST_LINES}
+use Rattle.cas_lines.specs.Lines.{lines_of, line_lens, first_len, Ending, Whole, TooMany, TooLong, ending_from, ending_of, LinesState, ahead, IsFirstLine, HandsOut, IsLongLine, HasMore, HasRead, HasHandedOut}
+use Rattle.cas_lines.proofs.FirstLines.{line_lens-first}
 
+-- ---- where an input ends
+-- the first line's length, and those behind it
+first_of : (bytes : List ℕ) → 0 < length bytes → line_lens bytes ≡ first_len bytes ∷ line_lens (drop_through 10 bytes)
+first_of [] some = absurd (omega arith)
+first_of (byte ∷ bytes) some = line_lens-first byte bytes
+
+-- there is no line beyond the most
+too_many_at : (before len : ℕ) (lens : List ℕ) → before ≡ MOST_LINES → ending_from before (len ∷ lens) ≡ TooMany
+unfolding ending_from
+too_many_at before len lens full = grind (arith, nat_tests)
+
+-- a line that is too long
+too_long_at : (before len : ℕ) (lens : List ℕ) → before < MOST_LINES → LINE_LIMIT < len → ending_from before (len ∷ lens) ≡ TooLong (suc before)
+unfolding ending_from
+too_long_at before len lens few long = grind (arith, nat_tests)
+
+-- a line that fits
+goes_on : (before len : ℕ) (lens : List ℕ) → before < MOST_LINES → len ≤ LINE_LIMIT → ending_from before (len ∷ lens) ≡ ending_from (suc before) lens
+unfolding ending_from
+goes_on before len lens few fits = grind (arith, nat_tests)
+
+whole_at : (before : ℕ) → ending_from before [] ≡ Whole
+unfolding ending_from
+whole_at before = refl
+
+-- ---- the run
 -- nothing was handed out at first
-pub HasHandedOut-nothing : (limit : ℕ) (start : Option (List ℕ)) (reader : LinesState) → reader.held ≡ [] → reader.room ≡ limit → HasHandedOut limit start [] reader start
-HasHandedOut-nothing limit None reader empty full = tt
-HasHandedOut-nothing limit (Some input) reader empty full =
-    rw (empty, full) (record { lines_split = refl; bytes_left = omega arith })
+pub HasHandedOut-nothing : (start : Option (List ℕ)) (reader : LinesState) → reader.held ≡ [] → HasHandedOut start [] reader start
+HasHandedOut-nothing None reader empty = tt
+HasHandedOut-nothing (Some input) reader empty = rw empty (record { lines_split = refl; ends_alike = refl })
 
 -- one line more
-pub HasHandedOut-line : (limit : ℕ) (start left new_left : Option (List ℕ)) (lines : List (List ℕ)) (old new : LinesState) (line : List ℕ)
-    → HasHandedOut limit start lines old left → HandsOut old new left new_left line → HasHandedOut limit start (lines ++ line ∷ []) new new_left
-HasHandedOut-line limit None left new_left lines old new line before out = tt
-HasHandedOut-line limit (Some input) None new_left lines old new line before out = absurd before
-HasHandedOut-line limit (Some input) (Some left) None lines old new line before out = absurd out
-HasHandedOut-line limit (Some input) (Some left) (Some new_left) lines old new line before out = record {
-  lines_split = before.lines_split ∙ ap (λ l. lines ++ l) out.first ∙ sym (append_assoc lines (line ∷ []) (lines_within new.room (new.held ++ new_left)));
-  bytes_left = omega (arith, before.bytes_left, ap length out.split, length-append out.spelled (new.held ++ new_left), out.within);
-}
+pub HasHandedOut-line : (start left new_left : Option (List ℕ)) (lines : List (List ℕ)) (old new : LinesState) (line : List ℕ)
+    → HasHandedOut start lines old left → HandsOut old new left new_left line → length lines < MOST_LINES → HasHandedOut start (lines ++ line ∷ []) new new_left
+HasHandedOut-line None left new_left lines old new line before out few = tt
+HasHandedOut-line (Some input) None new_left lines old new line before out few = absurd before
+HasHandedOut-line (Some input) (Some left) None lines old new line before out few = absurd out
+HasHandedOut-line (Some input) (Some left) (Some new_left) lines old new line before out few =
+    let bytes = old.held ++ left in
+    let rest = new.held ++ new_left in
+    let lens : line_lens bytes ≡ first_len bytes ∷ line_lens rest = first_of bytes out.some ∙ ap (λ r. first_len bytes ∷ line_lens r) (sym out.behind) in
+    let longer : suc (length lines) ≡ length (lines ++ line ∷ []) = omega (arith, length-append lines (line ∷ [])) in
+    record {
+      lines_split = before.lines_split ∙ ap (λ l. lines ++ l) out.first ∙ sym (append_assoc lines (line ∷ []) (lines_of rest));
+      ends_alike = before.ends_alike ∙ ap (ending_from (length lines)) lens
+          ∙ goes_on (length lines) (first_len bytes) (line_lens rest) few out.fits
+          ∙ ap (λ n. ending_from n (line_lens rest)) longer;
+    }
 
 -- at the end of the input all its lines were handed out
-pub HasHandedOut-end : (limit : ℕ) (start left : Option (List ℕ)) (lines : List (List ℕ)) (reader : LinesState)
-    → HasHandedOut limit start lines reader left → IsAtEnd (ahead reader left) → IfSome start (λ input. (length input ≤ limit) × (lines ≡ lines_of input))
-HasHandedOut-end limit None left lines reader before end = tt
-HasHandedOut-end limit (Some input) None lines reader before end = absurd before
-HasHandedOut-end limit (Some input) (Some left) lines reader before end =
-    let fits : length input ≤ limit = omega (arith, before.bytes_left, ap length end) in
-    let none : lines_within reader.room (reader.held ++ left) ≡ [] = ap (lines_within reader.room) end ∙ lines_within-all reader.room [] (omega arith) in
-    (fits, sym (append-nil lines) ∙ ap (λ l. lines ++ l) (sym none) ∙ sym before.lines_split ∙ lines_within-all limit input fits)
+pub HasHandedOut-end : (start left : Option (List ℕ)) (lines : List (List ℕ)) (reader : LinesState)
+    → HasHandedOut start lines reader left → IsAtEnd (ahead reader left) → IfSome start (λ input. (ending_of input ≡ Whole) × (lines ≡ lines_of input))
+HasHandedOut-end None left lines reader before end = tt
+HasHandedOut-end (Some input) None lines reader before end = absurd before
+HasHandedOut-end (Some input) (Some left) lines reader before end = (
+  before.ends_alike ∙ ap (λ rest. ending_from (length lines) (line_lens rest)) end ∙ whole_at (length lines),
+  sym (append-nil lines) ∙ ap (λ rest. lines ++ lines_of rest) (sym end) ∙ sym before.lines_split,
+)
 
--- one number more
-pub range_with_len-more : (from count : ℕ) → range_with_len from (suc count) ≡ range_with_len from count ++ (from + count) ∷ []
-range_with_len-more from zero = let same : from ≡ from + 0 = omega arith in ap (λ n. n ∷ []) same
-range_with_len-more from (suc count) =
-    let same : from + 1 + count ≡ from + suc count = omega arith in
-    ap (λ ns. from ∷ ns) (range_with_len-more (from + 1) count ∙ ap (λ n. range_with_len (from + 1) count ++ n ∷ []) same)
+-- where a byte is ahead behind the most lines, the input has too many
+pub HasHandedOut-too_many : (start left : Option (List ℕ)) (lines : List (List ℕ)) (reader : LinesState)
+    → HasHandedOut start lines reader left → length lines ≡ MOST_LINES → HasMore reader left → IfSome start (λ input. ending_of input ≡ TooMany)
+HasHandedOut-too_many None left lines reader before full more = tt
+HasHandedOut-too_many (Some input) None lines reader before full more = absurd before
+HasHandedOut-too_many (Some input) (Some left) lines reader before full more =
+    let bytes = reader.held ++ left in
+    before.ends_alike ∙ ap (ending_from (length lines)) (first_of bytes more)
+    ∙ too_many_at (length lines) (first_len bytes) (line_lens (drop_through 10 bytes)) full
 
--- only a newline makes one ended line more
-length-ended : (newline dropped : Bool) (byte : ℕ) (lines : List (List ℕ))
-    → length (cond newline ([] ∷ lines) (cond dropped lines (onto_ended byte lines))) ≡ cond newline 1 0 + length lines
-length-ended true dropped byte lines = omega arith
-length-ended false true byte lines = omega arith
-length-ended false false byte [] = refl
-length-ended false false byte (line ∷ lines) = omega arith
-
--- there are as many ended lines as newlines
-length-ended_lines_of : (bytes : List ℕ) → length (ended_lines_of bytes) ≡ count_by (λ byte. byte == 10) bytes
-length-ended_lines_of [] = refl
-length-ended_lines_of (byte ∷ bytes) =
-    length-ended (byte == 10) ((byte == 13) && is_at_newline bytes) byte (ended_lines_of bytes)
-    ∙ ap (λ n. cond (byte == 10) 1 0 + n) (length-ended_lines_of bytes)
-    ∙ sym (sum_by-cons (λ b. cond (b == 10) 1 0) byte bytes)
-
--- where there is no room for the next line, it is the line of the first byte beyond the limit
-pub HasHandedOut-endless : (limit : ℕ) (start left : Option (List ℕ)) (lines : List (List ℕ)) (reader : LinesState) (number : ℕ)
-    → HasHandedOut limit start lines reader left → IsEndless reader left → number ≡ length lines + 1
-    → IfSome start (λ input. (limit < length input) × (number ≡ line_at limit input))
-HasHandedOut-endless limit None left lines reader number before endless next = tt
-HasHandedOut-endless limit (Some input) None lines reader number before endless next = absurd before
-HasHandedOut-endless limit (Some input) (Some left) lines reader number before endless next =
-    let over : limit < length input = omega (arith, before.bytes_left, endless.0) in
-    let all : lines ≡ ended_lines_of (take limit input) =
-    sym (append-nil lines) ∙ ap (λ l. lines ++ l) (sym endless.1) ∙ sym before.lines_split ∙ lines_within-ended limit input over in
-    (over, omega (arith, next, ap length all, length-ended_lines_of (take limit input)))
+-- where the next line is too long, the input has a line that is
+pub HasHandedOut-endless : (start left : Option (List ℕ)) (lines : List (List ℕ)) (reader : LinesState) (number : ℕ)
+    → HasHandedOut start lines reader left → length lines < MOST_LINES → IsLongLine reader left → number ≡ length lines + 1
+    → IfSome start (λ input. ending_of input ≡ TooLong number)
+HasHandedOut-endless None left lines reader number before few long next = tt
+HasHandedOut-endless (Some input) None lines reader number before few long next = absurd before
+HasHandedOut-endless (Some input) (Some left) lines reader number before few long next =
+    let bytes = reader.held ++ left in
+    let counted : suc (length lines) ≡ number = omega (arith, next) in
+    before.ends_alike ∙ ap (ending_from (length lines)) (first_of bytes (some_byte bytes long))
+    ∙ too_long_at (length lines) (first_len bytes) (line_lens (drop_through 10 bytes)) few long
+    ∙ ap TooLong counted
+  where
+    some_byte : (bytes : List ℕ) → LINE_LIMIT < first_len bytes → 0 < length bytes
+    some_byte [] long = absurd (omega arith)
+    some_byte (byte ∷ bytes) long = omega arith

@@ -1,6 +1,4 @@
 pub mod Command
-pub mod Decimal
-pub mod LineReader
 pub mod Lines
 pub mod Reading
 pub mod Sink

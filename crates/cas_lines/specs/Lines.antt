@@ -1,7 +1,9 @@
 -- The lines of an input, and what a reader of lines has before it.
-use Rattle.std.specs.Prelude.{◌≡◌, ℕ, ◌+◌, ◌<◌, Bool, false, count_by, ◌&&◌, ◌==◌, nat_le, if◌then◌else◌, List, [], ◌∷◌, ◌++◌, length, take, Option, IfSome, IsSomeAnd}
-use Rattle.std.specs.List.{list_any}
+use Rattle.std.specs.Prelude.{◌≡◌, ℕ, suc, ◌+◌, ◌<◌, ◌≤◌, Bool, false, ◌&&◌, ◌==◌, nat_lt, if◌then◌else◌, List, [], ◌∷◌, ◌++◌, length, Option, IfSome, IsSomeAnd}
+use Rattle.std.specs.List.{list_any, position_or_len}
+use Rattle.std.specs.Io.BufRead.{drop_through}
 use Rattle.std.specs.Io.KnownBytes.{prepend_known}
+use Rattle.cas_lines.specs.declared.lines.TheConstants.{LINE_LIMIT, MOST_LINES}
 
 -- some byte is a newline
 abbrev pub has_newline : List ℕ → Bool
@@ -29,65 +31,78 @@ lines_of [] = []
 lines_of (byte ∷ bytes) = if byte == 10 then [] ∷ lines_of bytes
     else (if (byte == 13) && is_at_newline bytes then lines_of bytes else onto_first byte (lines_of bytes))
 
--- the byte begins the first of these lines. Where there is none, it is dropped
-abbrev pub onto_ended : ℕ → List (List ℕ) → List (List ℕ)
-onto_ended byte [] = []
-onto_ended byte (line ∷ lines) = (byte ∷ line) ∷ lines
+-- how many bytes stand before the first newline
+abbrev pub first_len : List ℕ → ℕ
+first_len bytes = position_or_len (λ byte. byte == 10) bytes
 
--- the lines that end with a newline
-abbrev pub ended_lines_of : List ℕ → List (List ℕ)
-ended_lines_of [] = []
-ended_lines_of (byte ∷ bytes) = if byte == 10 then [] ∷ ended_lines_of bytes
-    else (if (byte == 13) && is_at_newline bytes then ended_lines_of bytes else onto_ended byte (ended_lines_of bytes))
+-- ---- how an input ends
+-- one byte more in the first of these lines. Where there is none, it is a line of its own
+abbrev pub longer_first : List ℕ → List ℕ
+longer_first [] = 1 ∷ []
+longer_first (len ∷ lens) = (1 + len) ∷ lens
 
--- the lines that are read of an input for which there is this much room: all of them, or where it has more bytes, those
--- that end within the room
-unfoldable pub lines_within : ℕ → List ℕ → List (List ℕ)
-lines_within room input = if nat_le (length input) room then lines_of input else ended_lines_of (take room input)
+-- how many bytes each line has before its newline
+abbrev pub line_lens : List ℕ → List ℕ
+line_lens [] = []
+line_lens (byte ∷ bytes) = if byte == 10 then 0 ∷ line_lens bytes else longer_first (line_lens bytes)
 
--- the number of the line in which the byte at this index stands, counted from 1
-abbrev pub line_at : ℕ → List ℕ → ℕ
-line_at index input = count_by (λ byte. byte == 10) (take index input) + 1
+-- where the reading of an input ends: at its own end, at the first line beyond the most that there may be, or at the
+-- line of this number, which is the first that is too long
+pub data Ending : Type 0 where
+  Whole : Ending
+  TooMany : Ending
+  TooLong : ℕ → Ending
 
+-- the same by how many lines come before, and how long those are that follow
+unfoldable pub ending_from : ℕ → List ℕ → Ending
+ending_from before [] = Whole
+ending_from before (len ∷ lens) = if before == MOST_LINES then TooMany
+    else (if nat_lt LINE_LIMIT len then TooLong (suc before) else ending_from (suc before) lens)
+
+abbrev pub ending_of : List ℕ → Ending
+ending_of input = ending_from 0 (line_lens input)
+
+-- ---- readers
 -- what callers see of a line: its number, counted from 1, and its text
 pub record LineState : Type 0 where
   pub number : ℕ
   pub bytes : List ℕ
 
--- what callers see of a reader of lines: the bytes taken and not handed out, how many lines were handed out, and how
--- many bytes the input may have from the first byte held on
+-- what callers see of a reader of lines: the bytes taken and not handed out, and how many lines were handed out
 pub record LinesState : Type 0 where
   pub held : List ℕ
   pub handed : ℕ
-  pub room : ℕ
 
 -- the bytes that are not handed out, where the source tells what it has left
 abbrev pub ahead : LinesState → Option (List ℕ) → Option (List ℕ)
 ahead reader left = prepend_known reader.held left
 
--- the first line of what was ahead went out, and took its bytes from the front and from the room
-pub record TakesLine (room new_room : ℕ) (bytes rest line : List ℕ) : Type 0 where
-  pub first : lines_within room bytes ≡ line ∷ lines_within new_room rest
-  pub spelled : List ℕ
-  pub split : bytes ≡ spelled ++ rest
-  pub within : room ≡ length spelled + new_room
+-- the first line of the bytes, which fits, and the bytes behind it
+pub record IsFirstLine (bytes rest line : List ℕ) : Type 0 where
+  pub first : lines_of bytes ≡ line ∷ lines_of rest
+  pub behind : rest ≡ drop_through 10 bytes
+  pub some : 0 < length bytes
+  pub fits : first_len bytes ≤ LINE_LIMIT
 
--- the same of a reader, where it is known what is ahead
+-- the first line of what was ahead went out, where that is known
 abbrev pub HandsOut : LinesState → LinesState → Option (List ℕ) → Option (List ℕ) → List ℕ → Type 0
 HandsOut old new left new_left line =
-    IfSome (ahead old left) (λ bytes. IsSomeAnd (ahead new new_left) (λ rest. TakesLine old.room new.room bytes rest line))
+    IfSome (ahead old left) (λ bytes. IsSomeAnd (ahead new new_left) (λ rest. IsFirstLine bytes rest line))
 
--- more bytes are ahead than there is room for, and no line ends within the room
-abbrev pub IsEndless : LinesState → Option (List ℕ) → Type 0
-IsEndless reader left =
-    IfSome (ahead reader left) (λ bytes. (reader.room < length bytes) × (lines_within reader.room bytes ≡ []))
+-- the next line is longer than a line may be
+abbrev pub IsLongLine : LinesState → Option (List ℕ) → Type 0
+IsLongLine reader left = IfSome (ahead reader left) (λ bytes. LINE_LIMIT < first_len bytes)
 
--- of an input that may have `limit` bytes these lines were handed out, and these bytes are still ahead
-pub record HasRead (limit : ℕ) (input : List ℕ) (lines : List (List ℕ)) (room : ℕ) (rest : List ℕ) : Type 0 where
-  pub lines_split : lines_within limit input ≡ lines ++ lines_within room rest
-  pub bytes_left : length input + room ≡ limit + length rest
+-- a byte is ahead
+abbrev pub HasMore : LinesState → Option (List ℕ) → Type 0
+HasMore reader left = IfSome (ahead reader left) (λ bytes. 0 < length bytes)
+
+-- ---- whole runs
+-- of an input these lines were handed out, and these bytes are still ahead
+pub record HasRead (input : List ℕ) (lines : List (List ℕ)) (rest : List ℕ) : Type 0 where
+  pub lines_split : lines_of input ≡ lines ++ lines_of rest
+  pub ends_alike : ending_of input ≡ ending_from (length lines) (line_lens rest)
 
 -- the same of a reader, where it is known what the input was
-abbrev pub HasHandedOut : ℕ → Option (List ℕ) → List (List ℕ) → LinesState → Option (List ℕ) → Type 0
-HasHandedOut limit start lines reader left =
-    IfSome start (λ input. IsSomeAnd (ahead reader left) (λ rest. HasRead limit input lines reader.room rest))
+abbrev pub HasHandedOut : Option (List ℕ) → List (List ℕ) → LinesState → Option (List ℕ) → Type 0
+HasHandedOut start lines reader left = IfSome start (λ input. IsSomeAnd (ahead reader left) (λ rest. HasRead input lines rest))

@@ -5,7 +5,6 @@
 #![tactic(auto)]
 
 pub mod command;
-pub mod decimal;
 pub mod lines;
 pub mod sink;
 pub mod source;

@@ -1,14 +1,13 @@
 //! The lines of an input, one by one, as soon as each is there.
 //!
-//! The whole input may have 65,536 bytes. What a line says is no matter of its reader.
+//! An input may have 1,000,000 lines, and each of them 65,536 bytes. What a line says is no matter of its reader.
 
-ghost use Rattle.std.specs.Prelude.{◌≡◌, ◌≢◌, ℕ, ◌+◌, ◌-◌, ◌<◌, ◌≤◌, ◌++◌, ◌∷◌, [], length, take, drop, max, true, false, vec_len, IsTrue, IfOk, IfErr, IfSome, map, IfNone, OnSome, OnOk, OnErr, IsErrOf};
-ghost use Rattle.std.specs.List.{range_with_len};
+ghost use Rattle.std.specs.Prelude.{◌≡◌, ◌≢◌, ℕ, ◌+◌, ◌-◌, ◌<◌, ◌≤◌, ◌++◌, [], length, take, drop, max, true, false, vec_len, IfOk, IfSome, IfNone, OnSome, OnOk, OnErr, IsErrOf};
 ghost use Rattle.std.specs.Io.{StartsWith};
 ghost use Rattle.std.specs.Io.KnownBytes.{Keeps, IsAtEnd, prepend_known};
-ghost use Rattle.std.specs.Io.BufRead.{take_through, drop_through};
+ghost use Rattle.std.specs.Io.BufRead.{take_through};
 ghost use Rattle.cas_base.specs.Faults.{Rose};
-ghost use Rattle.cas_lines.specs.Lines.{has_newline, text_of, lines_of, line_at, ahead, HandsOut, IsEndless};
+ghost use Rattle.cas_lines.specs.Lines.{has_newline, text_of, ahead, HandsOut, IsLongLine, HasMore};
 ghost use Rattle.cas_lines.specs.declared.lines.LineFault.TheVariants.{ReadFault, NoMemory};
 
 use crate::source::{Failed, Source};
@@ -16,12 +15,14 @@ use std::alloc::{AllocError, AllocFailed, Global};
 use std::marker::Model;
 use thiserror::Error;
 
-mod reader;
+#[cfg(test)]
+mod tests;
 
-pub use reader::{LINE_LIMIT, LineReader, MOST_LINES, ReaderFault};
+/// How many bytes a line may have before its newline, with a carriage return that is dropped.
+pub const LINE_LIMIT: usize = 65_536;
 
-/// How many bytes a whole input may have.
-pub const INPUT_LIMIT: usize = 65_536;
+/// How many lines an input may have.
+pub const MOST_LINES: u32 = 1_000_000;
 
 /// How many bytes are asked of a source at once.
 const PIECE: usize = 4_096;
@@ -32,8 +33,11 @@ pub enum LineFault {
     /// The source failed.
     #[error("the input could not be read")]
     ReadFault,
-    /// The input has more than 65,536 bytes, and the first byte beyond them stands in the line of this number.
-    #[error("the input is too long at line {line}")]
+    /// The input has more than 1,000,000 lines.
+    #[error("the input has too many lines")]
+    TooManyLines,
+    /// The line of this number has more than 65,536 bytes.
+    #[error("line {line} is too long")]
     Endless { line: u32 },
     /// There was no memory.
     #[error("there is no memory")]
@@ -173,6 +177,7 @@ fn take_piece<S: Source>(
     ensures err { OnErr result (held.new.items ≡ held.old.items) }
     ensures read_fault { IsErrOf result LineFault.ReadFault → Rose (S.faults_of source.old) (S.faults_of source.new) }
     ensures not_endless { (line : ℕ) → result ≢ Err (LineFault.Endless line) }
+    ensures not_too_many { result ≢ Err LineFault.TooManyLines }
     ensures never_falls { S.faults_of source.old ≤ S.faults_of source.new }
 {
     let wanted = (room - held.len()).min(PIECE).max(1);
@@ -205,6 +210,7 @@ fn fill<S: Source>(source: &mut S, held: &mut Vec<u8>, room: usize) -> Result<Su
     ensures ready { has_newline (take room held.old.items) ≡ true → source.new ≡ source.old }
     ensures read_fault { IsErrOf result LineFault.ReadFault → Rose (S.faults_of source.old) (S.faults_of source.new) }
     ensures not_endless { (line : ℕ) → result ≢ Err (LineFault.Endless line) }
+    ensures not_too_many { result ≢ Err LineFault.TooManyLines }
     ensures never_falls { S.faults_of source.old ≤ S.faults_of source.new }
 {
     if contains_newline(&held[..room.min(held.len())]) {
@@ -229,19 +235,18 @@ pub struct Lines {
     alloc: Global,
     held: Vec<u8>,
     handed: u32,
-    room: usize,
 }
 
 impl Model for Lines {
     ghost use Rattle.std.specs.Prelude.{◌+◌, ◌≤◌, vec_len};
     ghost use Rattle.cas_lines.specs.Lines.{LinesState};
-    ghost use Rattle.cas_lines.specs.declared.lines.TheConstants.{INPUT_LIMIT};
+    ghost use Rattle.cas_lines.specs.declared.lines.TheConstants.{LINE_LIMIT, MOST_LINES};
 
     ghost Value = { LinesState };
 
-    ghost view = { λ l. record { held = l.held.items; handed = l.handed; room = l.room } };
+    ghost view = { λ l. record { held = l.held.items; handed = l.handed } };
 
-    ghost invariant = { λ l. (vec_len l.held ≤ l.room + 1) × (l.handed + l.room ≤ INPUT_LIMIT) };
+    ghost invariant = { λ l. (vec_len l.held ≤ LINE_LIMIT + 1) × (l.handed ≤ MOST_LINES) };
 }
 
 impl Lines {
@@ -249,52 +254,69 @@ impl Lines {
     pub fn new(alloc: Global) -> Lines
         ensures held { result.held ≡ [] }
         ensures handed { result.handed ≡ 0 }
-        ensures room { result.room ≡ INPUT_LIMIT }
     {
         Lines {
             alloc,
             held: Vec::new(alloc),
             handed: 0,
-            room: INPUT_LIMIT,
         }
     }
 
     /// Hands out the first line of what is held. After an `Err` all is as before.
     fn hand_out(&mut self) -> Result<Line, AllocError>
         requires some { 0 < length self.old.held }
-        requires within { length (take_through 10 self.old.held) ≤ self.old.room }
+        requires fits { self.old.handed < MOST_LINES }
         ensures number { IfOk result (λ line. line.number ≡ self.old.handed + 1) }
         ensures text { IfOk result (λ line. line.bytes ≡ text_of self.old.held) }
         ensures held { OnOk result (self.new.held ≡ drop (length (take_through 10 self.old.held)) self.old.held) }
         ensures handed { OnOk result (self.new.handed ≡ self.old.handed + 1) }
-        ensures room { OnOk result (self.new.room ≡ self.old.room - length (take_through 10 self.old.held)) }
-        ensures less { OnOk result (self.new.room < self.old.room) }
         ensures err { OnErr result (self.new ≡ self.old) }
     {
         let cut = first_cut(&self.held);
         let bytes = Vec::from_slice(self.alloc, &self.held[..cut.text])?;
         drop_front(&mut self.held, cut.spelled);
         self.handed += 1;
-        self.room -= cut.spelled;
         Ok(Line {
             number: self.handed,
             bytes,
         })
     }
 
+    /// Nothing, where the input ends here, and else the fault that a line more begins.
+    fn expect_end<S: Source>(&mut self, source: &mut S) -> Result<(), LineFault>
+        ensures end { OnOk result (IsAtEnd (ahead self.old (S.remaining source.old)) × IsAtEnd (S.remaining source.new)) }
+        ensures ended { OnOk result (self.new ≡ self.old) }
+        ensures too_many { IsErrOf result LineFault.TooManyLines → HasMore self.old (S.remaining source.old) }
+        ensures not_endless { (line : ℕ) → result ≢ Err (LineFault.Endless line) }
+        ensures read_fault { IsErrOf result LineFault.ReadFault → Rose (S.faults_of source.old) (S.faults_of source.new) }
+        ensures err { OnErr result (Keeps (ahead self.old (S.remaining source.old)) (ahead self.new (S.remaining source.new))) }
+        ensures handed { self.new.handed ≡ self.old.handed }
+        ensures ready { 0 < length self.old.held → source.new ≡ source.old }
+        ensures never_falls { S.faults_of source.old ≤ S.faults_of source.new }
+    {
+        if !self.held.is_empty() {
+            return Err(LineFault::TooManyLines);
+        }
+        if take_piece(source, &mut self.held, LINE_LIMIT)? == 0 {
+            Ok(())
+        } else {
+            Err(LineFault::TooManyLines)
+        }
+    }
+
     /// Hands out the next line, or `None` where the input has ended and all its lines were handed out. It takes from
     /// `source`, of which each call is passed the same, only until the line is there.
     ///
-    /// `ReadFault` comes only where the source's count of faults rose, and `Endless` exactly where more bytes are ahead
-    /// than there is room for and all lines that end within it were handed out. After an `Err` the same lines and bytes
-    /// are ahead as before, so `Endless` comes again.
+    /// `ReadFault` comes only where the source's count of faults rose. `TooManyLines` comes exactly where 1,000,000 lines
+    /// were handed out and a byte is ahead, and `Endless` where the next line has more than 65,536 bytes. After an `Err`
+    /// the same lines and bytes are ahead as before, so that these two come again.
     pub fn next<S: Source>(&mut self, source: &mut S) -> Result<Option<Line>, LineFault>
-        // A line is the first of what was ahead.
+        // A line is the first of what was ahead, and fits.
         ensures line { IfOk result (λ next. IfSome next (λ line.
             HandsOut self.old self.new (S.remaining source.old) (S.remaining source.new) line.bytes)) }
         ensures number { IfOk result (λ next. IfSome next (λ line. line.number ≡ self.old.handed + 1)) }
         ensures handed { IfOk result (λ next. IfSome next (λ line. self.new.handed ≡ line.number)) }
-        ensures progress { IfOk result (λ next. OnSome next (self.new.room < self.old.room)) }
+        ensures few { IfOk result (λ next. OnSome next (self.old.handed < MOST_LINES)) }
 
         // No line comes at the end of the input alone.
         ensures end { IfOk result (λ next. IfNone next (IsAtEnd (ahead self.old (S.remaining source.old)))) }
@@ -302,48 +324,29 @@ impl Lines {
         ensures ended { IfOk result (λ next. IfNone next (self.new ≡ self.old)) }
 
         // A line whose newline was taken before is handed out with no call of the source.
-        ensures ready { has_newline (take self.old.room self.old.held) ≡ true → source.new ≡ source.old }
+        ensures ready { has_newline (take LINE_LIMIT self.old.held) ≡ true → source.new ≡ source.old }
 
         ensures read_fault { IsErrOf result LineFault.ReadFault → Rose (S.faults_of source.old) (S.faults_of source.new) }
+        ensures too_many { IsErrOf result LineFault.TooManyLines →
+            (self.old.handed ≡ MOST_LINES) × HasMore self.old (S.remaining source.old) }
         ensures endless { (line : ℕ) → IsErrOf result (LineFault.Endless line) →
-            (line ≡ self.old.handed + 1) × IsEndless self.old (S.remaining source.old) }
+            (line ≡ self.old.handed + 1) × (self.old.handed < MOST_LINES) × IsLongLine self.old (S.remaining source.old) }
         ensures err { OnErr result (Keeps (ahead self.old (S.remaining source.old)) (ahead self.new (S.remaining source.new))) }
-        ensures err_kept { OnErr result ((self.new.handed ≡ self.old.handed) × (self.new.room ≡ self.old.room)) }
+        ensures err_kept { OnErr result (self.new.handed ≡ self.old.handed) }
         ensures never_falls { S.faults_of source.old ≤ S.faults_of source.new }
     {
-        match fill(source, &mut self.held, self.room)? {
+        if self.handed == MOST_LINES {
+            self.expect_end(source)?;
+            return Ok(None);
+        }
+        match fill(source, &mut self.held, LINE_LIMIT)? {
             Supply::Line => Ok(Some(self.hand_out()?)),
             Supply::End if self.held.is_empty() => Ok(None),
             Supply::End => Ok(Some(self.hand_out()?)),
+            Supply::Beyond if self.held[LINE_LIMIT] == b'\n' => Ok(Some(self.hand_out()?)),
             Supply::Beyond => Err(LineFault::Endless {
                 line: self.handed + 1,
             }),
         }
     }
 }
-
-/// All lines of the input of a source, in their order and numbered from 1.
-///
-/// `ReadFault` comes only where the source's count of faults rose, and `Endless` exactly where the input has more than
-/// 65,536 bytes, with the number of the line in which the first byte beyond them stands. After an `Err` it is not known
-/// which bytes the source has left.
-pub fn read_lines<S: Source>(alloc: Global, source: &mut S) -> Result<Vec<Line>, LineFault>
-    ensures lines { IfOk result (λ lines. IfSome (S.remaining source.old) (λ input.
-        (length input ≤ INPUT_LIMIT) × (map (λ line. line.bytes) lines.items ≡ lines_of input))) }
-    ensures numbers { IfOk result (λ lines. map (λ line. line.number) lines.items ≡ range_with_len 1 (vec_len lines)) }
-    ensures read { OnOk result (IsAtEnd (S.remaining source.new)) }
-    ensures endless { (line : ℕ) → IsErrOf result (LineFault.Endless line) → IfSome (S.remaining source.old) (λ input.
-        (INPUT_LIMIT < length input) × (line ≡ line_at INPUT_LIMIT input)) }
-    ensures read_fault { IsErrOf result LineFault.ReadFault → Rose (S.faults_of source.old) (S.faults_of source.new) }
-    ensures never_falls { S.faults_of source.old ≤ S.faults_of source.new }
-{
-    let mut reader = Lines::new(alloc);
-    let mut lines = Vec::new(alloc);
-    while let Some(line) = reader.next(source)? {
-        lines.push(line)?;
-    }
-    Ok(lines)
-}
-
-#[cfg(test)]
-mod tests;

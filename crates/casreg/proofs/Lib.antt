@@ -1,4 +1,3 @@
-pub mod AddLines
 pub mod Rounds
 pub mod Runs
 pub mod Written

@@ -1,80 +1,71 @@
 -- What was written by the end of a run.
-use Rattle.std.proofs.Common.{◌≡◌, ℕ, ◌<◌, ◌≤◌, List, [], ◌∷◌, ◌++◌, length, take, drop, arith, append_assoc, refl, sym, ap, ◌∙◌, subst, Err}
-use Rattle.std.specs.Prelude.{◌⊎◌, Option, Some, None, Result, IfErr, IfSome}
+use Rattle.std.proofs.Common.{◌≡◌, ℕ, suc, ◌+◌, ◌<◌, List, [], ◌∷◌, ◌++◌, length, take, drop, arith, append_assoc, refl, sym, ap, ◌∙◌, subst, Err}
+use Rattle.std.specs.Prelude.{◌⊎◌, ⊤, Option, Some, None, Result, IfErr, IfSome}
 use mathlib.Core.Logic.{inl, inr}
 use Rattle.std.specs.Io.KnownBytes.{IsAtEnd}
 use Rattle.std.proofs.lemmas.List.{append-nil, take-append-drop}
 use Rattle.cas_lines.specs.declared.lines.LineFault.{LineFault}
 use Rattle.cas_lines.specs.declared.lines.LineFault.TheVariants as fault
-use Rattle.cas_lines.specs.declared.lines.TheConstants.{INPUT_LIMIT}
-use Rattle.cas_lines.specs.Lines.{LinesState, ahead, line_at, lines_within, IsEndless, HasHandedOut}
+use Rattle.cas_lines.specs.declared.lines.TheConstants.{MOST_LINES}
+use Rattle.cas_lines.specs.Lines.{lines_of, Ending, Whole, TooMany, TooLong, ending_of, LinesState, ahead, HasHandedOut, HasMore, IsLongLine}
 use Rattle.cas_lines.specs.Sink.{AppendsFront}
-use Rattle.cas_lines.proofs.HandingOut.{lines_within-all}
 use Rattle.cas_lines.proofs.WholeRuns.{HasHandedOut-end}
 use Rattle.cas_world.specs.View.{View, opened}
 use Rattle.casreg.specs.declared.status.Status.{Status}
 use Rattle.casreg.specs.declared.status.Status.TheVariants as status
-use Rattle.casreg.specs.Causes.{AnswersAll, AnswersFront, AreFirstLines, WroteIn}
+use Rattle.casreg.specs.Causes.{AnswersTo, AnswersFront, AreFirstLines, WroteIn, status_of}
 use Rattle.casreg.specs.Script.{AnswersLine, RanOrNot, not_run, ran, ScriptRun, none, one_more, text_of, transcript_of}
 use Rattle.casreg.specs.Status.{status_of_fault}
-use Rattle.casreg.proofs.Runs.{IsMidway, IsNextLine, appends_nothing, appends_both, transcript_more}
+use Rattle.casreg.proofs.Runs.{IsMidway, IsNextLine, appends_nothing, appends_both, transcript_more, midway-too_many, midway-endless}
 
 -- what holds of the error holds of the result that has it
 pub if_err : {T E : Type 0} (r : Result T E) (e : E) (P : E → Type 0) → r ≡ Err e → P e → IfErr r P
 if_err r e P is p = subst (λ (x : Result _ _). IfErr x P) (sym is) p
 
 -- ---- which lines were answered
-handed_first : (input left : Option (List ℕ)) (lines : List (List ℕ)) (reader : LinesState) → HasHandedOut INPUT_LIMIT input lines reader left → AreFirstLines input lines
+handed_first : (input left : Option (List ℕ)) (lines : List (List ℕ)) (reader : LinesState) → HasHandedOut input lines reader left → AreFirstLines input lines
 handed_first None left lines reader h = tt
 handed_first (Some bytes) None lines reader h = absurd h
-handed_first (Some bytes) (Some rest) lines reader h = (lines_within reader.room (reader.held ++ rest), h.lines_split)
+handed_first (Some bytes) (Some rest) lines reader h = (lines_of (reader.held ++ rest), h.lines_split)
 
 -- a front of the first lines are first lines
 front_first : (input : Option (List ℕ)) (lines : List (List ℕ)) (line : List ℕ) → AreFirstLines input (lines ++ line ∷ []) → AreFirstLines input lines
 front_first None lines line first = tt
 front_first (Some bytes) lines line first = (line ∷ first.0, first.1 ∙ append_assoc lines (line ∷ []) first.0)
 
-handed_all : (input left : Option (List ℕ)) (lines : List (List ℕ)) (reader : LinesState) → HasHandedOut INPUT_LIMIT input lines reader left → IsEndless reader left
-    → IfSome input (λ bytes. lines ≡ lines_within INPUT_LIMIT bytes)
-handed_all None left lines reader h endless = tt
-handed_all (Some bytes) None lines reader h endless = absurd h
-handed_all (Some bytes) (Some rest) lines reader h endless = sym (h.lines_split ∙ ap (λ later. lines ++ later) endless.1 ∙ append-nil lines)
-
-ended_all : (input left : Option (List ℕ)) (lines : List (List ℕ)) (reader : LinesState) → HasHandedOut INPUT_LIMIT input lines reader left → IsAtEnd (ahead reader left)
-    → IfSome input (λ bytes. lines ≡ lines_within INPUT_LIMIT bytes)
-ended_all None left lines reader h end = tt
-ended_all (Some bytes) left lines reader h end =
-    let all = HasHandedOut-end INPUT_LIMIT (Some bytes) left lines reader h end in
-    all.1 ∙ sym (lines_within-all INPUT_LIMIT bytes all.0)
+handed_all : (input left : Option (List ℕ)) (lines : List (List ℕ)) (reader : LinesState) → HasHandedOut input lines reader left → IsAtEnd (ahead reader left)
+    → IfSome input (λ bytes. lines ≡ lines_of bytes)
+handed_all None left lines reader h end = tt
+handed_all (Some bytes) left lines reader h end = (HasHandedOut-end (Some bytes) left lines reader h end).1
 
 -- ---- ends
-pub wrote_all : (input left old new : Option (List ℕ)) (reader : LinesState) (world : View) → IsMidway INPUT_LIMIT input reader left old new world → IsAtEnd (ahead reader left) → AnswersAll input old new world
-wrote_all input left old new reader world m end = record {
+midway_to : (P : List (List ℕ) → Type 0) (input left old new : Option (List ℕ)) (reader : LinesState) (world : View) → (m : IsMidway input reader left old new world) → P m.lines
+    → AnswersTo P input old new world
+midway_to P input left old new reader world m holds = record {
   lines = m.lines;
-  of_input = ended_all input left m.lines reader m.handed_out end;
+  of_input = handed_first input left m.lines reader m.handed_out;
+  are = holds;
   answers = m.answers;
   run = m.run;
   written = m.written;
 }
 
+pub wrote_all : (input left old new : Option (List ℕ)) (reader : LinesState) (world : View) → IsMidway input reader left old new world → IsAtEnd (ahead reader left)
+    → WroteIn input old new world status.Ok
+wrote_all input left old new reader world m end =
+    midway_to (λ lines. IfSome input (λ bytes. lines ≡ lines_of bytes)) input left old new reader world m (handed_all input left m.lines reader m.handed_out end)
+
 -- the next line could not be read
-pub wrote_fault : (input left old new : Option (List ℕ)) (reader : LinesState) (world : View) (f : LineFault) → IsMidway INPUT_LIMIT input reader left old new world
-    → ((line : ℕ) → f ≡ fault.Endless line → IsEndless reader left) → WroteIn input old new world (status_of_fault f)
-wrote_fault input left old new reader world fault.ReadFault m endless = record {
-  lines = m.lines;
-  of_input = handed_first input left m.lines reader m.handed_out;
-  answers = m.answers;
-  run = m.run;
-  written = m.written;
-}
-wrote_fault input left old new reader world (fault.Endless line) m endless = record {
-  lines = m.lines;
-  of_input = handed_all input left m.lines reader m.handed_out (endless line refl);
-  answers = m.answers;
-  run = m.run;
-  written = m.written;
-}
-wrote_fault input left old new reader world fault.NoMemory m endless = record {
+pub wrote_fault : (input left old new : Option (List ℕ)) (reader : LinesState) (world : View) (f : LineFault) → IsMidway input reader left old new world
+    → (f ≡ fault.TooManyLines → (reader.handed ≡ MOST_LINES) × HasMore reader left)
+    → ((line : ℕ) → f ≡ fault.Endless line → (line ≡ reader.handed + 1) × (reader.handed < MOST_LINES) × IsLongLine reader left)
+    → WroteIn input old new world (status_of_fault f)
+wrote_fault input left old new reader world fault.ReadFault m many endless = midway_to (λ lines. ⊤) input left old new reader world m tt
+wrote_fault input left old new reader world fault.TooManyLines m many endless =
+    midway_to (λ lines. length lines ≡ MOST_LINES) input left old new reader world m (omega (arith, (many refl).0, m.counted))
+wrote_fault input left old new reader world (fault.Endless line) m many endless =
+    midway_to (λ lines. suc (length lines) ≡ line) input left old new reader world m (omega (arith, (endless line refl).0, m.counted))
+wrote_fault input left old new reader world fault.NoMemory m many endless = record {
   lines = m.lines;
   of_input = handed_first input left m.lines reader m.handed_out;
   answers = m.answers;
@@ -86,7 +77,7 @@ wrote_fault input left old new reader world fault.NoMemory m endless = record {
 }
 
 -- there was no memory for the answer of the next line
-pub wrote_no_answer : (input left old new : Option (List ℕ)) (reader : LinesState) (world after : View) (line : List ℕ) (number : ℕ) → IsNextLine INPUT_LIMIT input reader left old new world line number
+pub wrote_no_answer : (input left old new : Option (List ℕ)) (reader : LinesState) (world after : View) (line : List ℕ) (number : ℕ) → IsNextLine input reader left old new world line number
     → RanOrNot world line after → AnswersFront input old new after
 wrote_no_answer input left old new reader world after line number n (not_run same) = record {
   lines = n.lines;
@@ -111,7 +102,7 @@ wrote_no_answer input left old new reader world after line number n (ran answer 
 
 -- the answer of the next line could not be written whole
 pub wrote_front : (input left old held new : Option (List ℕ)) (reader : LinesState) (world after : View) (line : List ℕ) (number : ℕ) (text : List ℕ)
-    → IsNextLine INPUT_LIMIT input reader left old held world line number → AnswersLine world line number text after → AppendsFront held new text → AnswersFront input old new after
+    → IsNextLine input reader left old held world line number → AnswersLine world line number text after → AppendsFront held new text → AnswersFront input old new after
 wrote_front input left old held new reader world after line number text n a part = record {
   lines = n.lines ++ line ∷ [];
   of_input = handed_first input left (n.lines ++ line ∷ []) reader n.handed_out;
@@ -139,28 +130,47 @@ wrote_nothing input held = record {
   where
     first : (input : Option (List ℕ)) → AreFirstLines input []
     first None = tt
-    first (Some bytes) = (lines_within INPUT_LIMIT bytes, refl)
+    first (Some bytes) = (lines_of bytes, refl)
 
 -- ---- causes
--- the fault of a run that ended as endless
-pub endless_fault : (f : LineFault) (line : ℕ) → status_of_fault f ≡ status.Endless line → f ≡ fault.Endless line
-endless_fault fault.ReadFault line e = absurd cc
-endless_fault (fault.Endless other) line e = let same : other ≡ line = cc in ap fault.Endless same
-endless_fault fault.NoMemory line e = absurd cc
+-- the end of an input that a fault of its reader tells
+pub fault_ends : (input left old new : Option (List ℕ)) (reader : LinesState) (world : View) (f : LineFault) → IsMidway input reader left old new world
+    → (f ≡ fault.TooManyLines → (reader.handed ≡ MOST_LINES) × HasMore reader left)
+    → ((line : ℕ) → f ≡ fault.Endless line → (line ≡ reader.handed + 1) × (reader.handed < MOST_LINES) × IsLongLine reader left)
+    → (ending : Ending) → status_of_fault f ≡ status_of ending → IfSome input (λ bytes. ending_of bytes ≡ ending)
+fault_ends input left old new reader world fault.ReadFault m many endless Whole is = absurd cc
+fault_ends input left old new reader world fault.ReadFault m many endless TooMany is = absurd cc
+fault_ends input left old new reader world fault.ReadFault m many endless (TooLong line) is = absurd cc
+fault_ends input left old new reader world fault.TooManyLines m many endless Whole is = absurd cc
+fault_ends input left old new reader world fault.TooManyLines m many endless TooMany is = midway-too_many input left old new reader world m (many refl)
+fault_ends input left old new reader world fault.TooManyLines m many endless (TooLong line) is = absurd cc
+fault_ends input left old new reader world (fault.Endless number) m many endless Whole is = absurd cc
+fault_ends input left old new reader world (fault.Endless number) m many endless TooMany is = absurd cc
+fault_ends input left old new reader world (fault.Endless number) m many endless (TooLong line) is =
+    let same : number ≡ line = cc in
+    subst (λ n. IfSome input (λ bytes. ending_of bytes ≡ TooLong n)) same (midway-endless input left old new reader world number m (endless number refl))
+fault_ends input left old new reader world fault.NoMemory m many endless Whole is = absurd cc
+fault_ends input left old new reader world fault.NoMemory m many endless TooMany is = absurd cc
+fault_ends input left old new reader world fault.NoMemory m many endless (TooLong line) is = absurd cc
 
--- a run that nothing hinders answers all, or finds no memory
+-- no end of an input makes a write fault or leaves no memory
+pub no_ending : (s : Status) → (s ≡ status.WriteFault) ⊎ (s ≡ status.NoMemory) → (ending : Ending) → s ≡ status_of ending → ⊥
+no_ending s (inl write) Whole is = cc
+no_ending s (inl write) TooMany is = cc
+no_ending s (inl write) (TooLong line) is = cc
+no_ending s (inr memory) Whole is = cc
+no_ending s (inr memory) TooMany is = cc
+no_ending s (inr memory) (TooLong line) is = cc
+
+-- a run that nothing hinders ends by its input, or finds no memory
 pub completes_of : (input : Option (List ℕ)) (result : Status) (read wrote : Type 0) → (result ≡ status.Usage → ⊥) → (result ≡ status.ReadFault → read) → (result ≡ status.WriteFault → wrote)
-    → ((line : ℕ) → result ≡ status.Endless line → IfSome input (λ bytes. (INPUT_LIMIT < length bytes) × (line ≡ line_at INPUT_LIMIT bytes))) → (read → ⊥) → (wrote → ⊥)
-    → IfSome input (λ bytes. length bytes ≤ INPUT_LIMIT → (result ≡ status.Ok) ⊎ (result ≡ status.NoMemory))
-completes_of None result read wrote usage read_fault write_fault endless no_read no_write = tt
-completes_of (Some bytes) result read wrote usage read_fault write_fault endless no_read no_write = λ fits. by_result result usage read_fault write_fault endless fits
-  where
-    by_result : (result : Status) → (result ≡ status.Usage → ⊥) → (result ≡ status.ReadFault → read) → (result ≡ status.WriteFault → wrote)
-        → ((line : ℕ) → result ≡ status.Endless line → (INPUT_LIMIT < length bytes) × (line ≡ line_at INPUT_LIMIT bytes)) → length bytes ≤ INPUT_LIMIT
-        → (result ≡ status.Ok) ⊎ (result ≡ status.NoMemory)
-    by_result status.Ok u r w e fits = inl refl
-    by_result status.Usage u r w e fits = absurd (u refl)
-    by_result status.ReadFault u r w e fits = absurd (no_read (r refl))
-    by_result status.WriteFault u r w e fits = absurd (no_write (w refl))
-    by_result status.NoMemory u r w e fits = inr refl
-    by_result (status.Endless line) u r w e fits = absurd (omega (arith, (e line refl).0, fits))
+    → ((ending : Ending) → result ≡ status_of ending → IfSome input (λ bytes. ending_of bytes ≡ ending)) → (read → ⊥) → (wrote → ⊥)
+    → IfSome input (λ bytes. (result ≡ status_of (ending_of bytes)) ⊎ (result ≡ status.NoMemory))
+completes_of None result read wrote usage read_fault write_fault ends no_read no_write = tt
+completes_of (Some bytes) status.Ok read wrote u r w ends no_read no_write = inl (ap status_of (sym (ends Whole refl)))
+completes_of (Some bytes) status.Usage read wrote u r w ends no_read no_write = absurd (u refl)
+completes_of (Some bytes) status.ReadFault read wrote u r w ends no_read no_write = absurd (no_read (r refl))
+completes_of (Some bytes) status.WriteFault read wrote u r w ends no_read no_write = absurd (no_write (w refl))
+completes_of (Some bytes) status.TooManyLines read wrote u r w ends no_read no_write = inl (ap status_of (sym (ends TooMany refl)))
+completes_of (Some bytes) status.NoMemory read wrote u r w ends no_read no_write = inr refl
+completes_of (Some bytes) (status.Endless line) read wrote u r w ends no_read no_write = inl (ap status_of (sym (ends (TooLong line) refl)))

@@ -1,4 +1,3 @@
-pub mod Adds
 pub mod Answers
 pub mod Causes
 pub mod Changes

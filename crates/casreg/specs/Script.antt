@@ -1,31 +1,38 @@
 -- A script: its lines run one after another, each has its answer, and the answers are its transcript.
-use Rattle.std.specs.Prelude.{◌≡◌, ℕ, ℤ, suc, List, [], ◌∷◌, ◌++◌}
+use Rattle.std.specs.Prelude.{◌≡◌, ℕ, suc, List, [], ◌∷◌, ◌++◌, Some, None, Err}
+use Rattle.cas_change_text.specs.declared.refusal.Why.{Why}
+use Rattle.cas_lines.specs.Command.{IsLine, caller_of, key_of, program_of}
+use Rattle.cas_lines.specs.Reading.{line_in}
+use Rattle.cas_lines.specs.declared.command.Command.{Command}
 use Rattle.cas_record.specs.declared.answer.Answer.{Answer}
 use Rattle.cas_world.specs.View.{View}
-use Rattle.casreg.specs.Adds.{IsAddLine, add_program}
+use Rattle.casreg.specs.declared.cluster.TheConstants.{PROPOSERS}
 use Rattle.casreg.specs.Answers.{change_line, bad_line}
 use Rattle.casreg.specs.Changes.{IsChange}
 
--- what answers a line: the answer of its change, or that it has another form
+-- what answers a line: what its caller is told of its change, why it is bad, or nothing where it is a remark
 pub data LineAnswer : Type 0 where
-  Changed : Answer → LineAnswer
-  Bad : LineAnswer
+  Changed : ℕ → Answer → LineAnswer
+  Bad : Why → LineAnswer
+  Remark : LineAnswer
 
--- a line that adds runs its change
-pub record RunsAdd (line : List ℕ) (old : View) (answer : Answer) (new : View) : Type 0 where
-  pub key : List ℕ
-  pub number : ℤ
-  pub adds : IsAddLine line key number
-  pub change : IsChange old key (add_program number) answer new
+-- a line that asks for a change runs it
+pub record RunsChange (line : List ℕ) (old : View) (caller : ℕ) (answer : Answer) (new : View) : Type 0 where
+  pub command : Command
+  pub says : IsLine PROPOSERS line (Some command)
+  pub asked_by : caller ≡ caller_of command
+  pub change : IsChange old (key_of command) (program_of command) answer new
 
--- any other changes nothing
-pub record IsOther (line : List ℕ) (old new : View) : Type 0 where
-  pub adds_none : (key : List ℕ) (number : ℤ) → IsAddLine line key number → ⊥
+-- a line that is refused changes nothing
+pub record IsRefused (line : List ℕ) (old : View) (why : Why) (new : View) : Type 0 where
+  pub word : ℕ
+  pub refused : line_in PROPOSERS line ≡ Err (record { why = why; word = word })
   pub same : new ≡ old
 
 abbrev pub IsAnswered : View → List ℕ → LineAnswer → View → Type 0
-IsAnswered old line (Changed answer) new = RunsAdd line old answer new
-IsAnswered old line Bad new = IsOther line old new
+IsAnswered old line (Changed caller answer) new = RunsChange line old caller answer new
+IsAnswered old line (Bad why) new = IsRefused line old why new
+IsAnswered old line Remark new = IsLine PROPOSERS line None × (new ≡ old)
 
 -- the lines were run one after another, with these answers
 pub data ScriptRun (old : View) : List (List ℕ) → List LineAnswer → View → Type 0 where
@@ -35,8 +42,9 @@ pub data ScriptRun (old : View) : List (List ℕ) → List LineAnswer → View �
 
 -- the text of the answer to the line of that number
 abbrev pub text_of : ℕ → LineAnswer → List ℕ
-text_of number (Changed answer) = change_line 1 answer
-text_of number Bad = bad_line number
+text_of number (Changed caller answer) = change_line caller answer
+text_of number (Bad why) = bad_line number why
+text_of number Remark = []
 
 -- the line of that number is run, and this is the text of its answer
 pub record AnswersLine (old : View) (line : List ℕ) (number : ℕ) (text : List ℕ) (new : View) : Type 0 where

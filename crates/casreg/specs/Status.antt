@@ -11,11 +11,13 @@ number_of status.Ok = 0
 number_of status.Usage = 2
 number_of status.ReadFault = 3
 number_of status.WriteFault = 4
+number_of status.TooManyLines = 7
 number_of status.NoMemory = 8
 number_of (status.Endless line) = 9
 
 -- how a run ends whose next line could not be read
 abbrev pub status_of_fault : LineFault → Status
 status_of_fault fault.ReadFault = status.ReadFault
+status_of_fault fault.TooManyLines = status.TooManyLines
 status_of_fault (fault.Endless line) = status.Endless line
 status_of_fault fault.NoMemory = status.NoMemory

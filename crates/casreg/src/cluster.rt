@@ -1,29 +1,34 @@
 //! The top call: a script over the store, from the bytes in to the bytes out.
 
-ghost use Rattle.std.specs.Prelude.{◌≡◌, ◌≢◌, ℕ, ◌+◌, ◌<◌, ◌≤◌, ◌↔◌, Some, None, map, length, reverse, vec_len, string_bytes, IfSome, IfOk, IfErr, OnOk, OnErr, IsErrOf};
+ghost use Rattle.std.specs.Prelude.{◌≡◌, ◌≢◌, ℕ, ◌+◌, ◌-◌, ◌^◌, ◌<◌, ◌≤◌, Some, None, List, map, string_bytes, IfOk, IfErr, OnOk, OnErr, IfSome, IsErrOf};
 ghost use Rattle.std.specs.Io.KnownBytes.{IsAtEnd};
 ghost use Rattle.cas_base.specs.Faults.{Rose};
-ghost use Rattle.cas_lines.specs.Lines.{line_at};
-ghost use Rattle.cas_lines.specs.declared.lines.TheConstants.{INPUT_LIMIT};
+ghost use Rattle.cas_lines.specs.Command.{IsLine};
+ghost use Rattle.cas_lines.specs.Lines.{Ending, Whole, ending_of};
 ghost use Rattle.cas_world.specs.View.{opened};
-ghost use Rattle.casreg.specs.Causes.{Causes, Wrote, WroteIn, AnswersAll};
+ghost use Rattle.casreg.specs.Answers.{bad_line};
+ghost use Rattle.casreg.specs.Causes.{Causes, Wrote, WroteIn, status_of};
 ghost use Rattle.casreg.specs.Script.{AnswersLine, RanOrNot};
 
-use crate::adds::read_add;
 use crate::answers::{print_answer, print_bad};
 use crate::changes::change;
 use crate::status::Status;
-use crate::words::is_script;
+use crate::words::are_words;
+use cas_change_text::{TextRefusal, Why};
+use cas_lines::command::{Command, read_command};
 use cas_lines::lines::{Line, Lines};
 use cas_lines::sink::{Sink, put_all};
 use cas_lines::source::Source;
-use cas_world::{ACCEPTORS, MemorySlots, PROPOSER, World};
+use cas_world::{ACCEPTORS, MemorySlots, World};
 use std::alloc::{AllocError, Global};
+
+/// How many proposers there are, of which each serves the caller of its number.
+const PROPOSERS: u8 = 1;
 
 /// Runs the command that the words name over the source's lines, and writes the answer to each line before it reads on.
 ///
-/// The words are those of a script over three acceptors and one proposer. A line `1 add <key> <n>` is a change, and any
-/// other line is answered as bad. The statuses say how the run ended.
+/// The words are read by clap: `script`, with the options `--acceptors` (3) and `--proposers` (1). A line asks for a change,
+/// is a remark, which has no answer, or is answered as bad, with the reason. The statuses say how the run ended.
 pub fn cluster<R, S: Source, K: Sink>(
     _rt: &R,
     alloc: Global,
@@ -38,8 +43,10 @@ pub fn cluster<R, S: Source, K: Sink>(
     ensures read { result ≡ Status.Ok → IsAtEnd (S.remaining source.new) }
     ensures untouched { result ≡ Status.Usage → (source.new ≡ source.old) × (sink.new ≡ sink.old) }
 {
-    if !is_script(words) {
-        return Status::Usage;
+    match are_words(alloc, words) {
+        Ok(true) => {}
+        Ok(false) => return Status::Usage,
+        Err(AllocError) => return Status::NoMemory,
     }
     match open_world(alloc) {
         Ok(world) => run_script(alloc, world, source, sink),
@@ -70,12 +77,11 @@ fn run_script<S: Source, K: Sink>(
 ) -> Status
     requires { world ≡ opened }
     ensures wrote { Wrote (S.remaining source.old) (K.contents sink.old) (K.contents sink.new) result }
-    ensures ok { result ≡ Status.Ok → IsAtEnd (S.remaining source.new) × IfSome (S.remaining source.old) (λ input. length input ≤ INPUT_LIMIT) }
+    ensures read { result ≡ Status.Ok → IsAtEnd (S.remaining source.new) }
     ensures usage { result ≢ Status.Usage }
     ensures read_fault { result ≡ Status.ReadFault → Rose (S.faults_of source.old) (S.faults_of source.new) }
     ensures write_fault { result ≡ Status.WriteFault → Rose (K.faults_of sink.old) (K.faults_of sink.new) }
-    ensures endless { (line : ℕ) → result ≡ Status.Endless line → IfSome (S.remaining source.old) (λ input.
-        (INPUT_LIMIT < length input) × (line ≡ line_at INPUT_LIMIT input)) }
+    ensures ends { (ending : Ending) → result ≡ status_of ending → IfSome (S.remaining source.old) (λ input. ending_of input ≡ ending) }
 {
     let answered = answer_lines(alloc, &mut world, source, sink);
     let (_record, _shelves) = world.parts();
@@ -93,14 +99,14 @@ fn answer_lines<S: Source, K: Sink>(
     sink: &mut K,
 ) -> Result<(), Status>
     requires { world.old ≡ opened }
-    ensures all { OnOk result (AnswersAll (S.remaining source.old) (K.contents sink.old) (K.contents sink.new) world.new) }
+    ensures all { OnOk result (WroteIn (S.remaining source.old) (K.contents sink.old) (K.contents sink.new) world.new Status.Ok) }
     ensures wrote { IfErr result (λ status. WroteIn (S.remaining source.old) (K.contents sink.old) (K.contents sink.new) world.new status) }
-    ensures ok { OnOk result (IsAtEnd (S.remaining source.new) × IfSome (S.remaining source.old) (λ input. length input ≤ INPUT_LIMIT)) }
+    ensures read { OnOk result (IsAtEnd (S.remaining source.new)) }
+    ensures whole { OnOk result (IfSome (S.remaining source.old) (λ input. ending_of input ≡ Whole)) }
     ensures fails { IfErr result (λ status. (status ≢ Status.Ok) × (status ≢ Status.Usage)) }
     ensures read_fault { IsErrOf result Status.ReadFault → Rose (S.faults_of source.old) (S.faults_of source.new) }
     ensures write_fault { IsErrOf result Status.WriteFault → Rose (K.faults_of sink.old) (K.faults_of sink.new) }
-    ensures endless { (line : ℕ) → IsErrOf result (Status.Endless line) → IfSome (S.remaining source.old) (λ input.
-        (INPUT_LIMIT < length input) × (line ≡ line_at INPUT_LIMIT input)) }
+    ensures ends { (ending : Ending) → IsErrOf result (status_of ending) → IfSome (S.remaining source.old) (λ input. ending_of input ≡ ending) }
 {
     let mut lines = Lines::new(alloc);
     let mut calls = 0;
@@ -111,7 +117,7 @@ fn answer_lines<S: Source, K: Sink>(
     Ok(())
 }
 
-/// Runs the line, and gives the text of its answer. After an `Err` it may have been run.
+/// Runs the line, and gives the text of its answer, which is empty for a remark. After an `Err` it may have been run.
 fn answer_to(
     alloc: Global,
     world: &mut World<MemorySlots>,
@@ -128,12 +134,42 @@ fn answer_to(
     ensures no_round { world.new.desk.round ≡ None }
 {
     let number = line.number();
-    match read_add(alloc, line.bytes())? {
-        Some(add) => {
-            let program = add.program(alloc)?;
-            let answer = change(world, calls, &add.key, &program);
-            print_answer(alloc, PROPOSER, &answer)
-        }
-        None => print_bad(alloc, number),
+    match read_command(alloc, line.bytes(), PROPOSERS) {
+        Ok(Some(command)) => answer_command(alloc, world, calls, &command),
+        Ok(None) => Ok(String::new(alloc)),
+        Err(refusal) => answer_refusal(alloc, number, refusal),
+    }
+}
+
+/// Runs the change that a command asks for, and gives the text of its answer. After an `Err` it may have been run.
+fn answer_command(
+    alloc: Global,
+    world: &mut World<MemorySlots>,
+    calls: &mut u32,
+    command: &Command,
+) -> Result<String, AllocError>
+    requires counted { calls.old ≡ world.old.desk.calls }
+    requires fits { calls.old < 2 ^ 32 - 1 }
+    requires no_round { world.old.desk.round ≡ None }
+    // Of each line that asks for the command it is the answer.
+    ensures answers { (line : List ℕ) (number : ℕ) → IsLine PROPOSERS line (Some command.now)
+        → IfOk result (λ text. AnswersLine world.old line number (string_bytes text) world.new) }
+    ensures err { (line : List ℕ) → IsLine PROPOSERS line (Some command.now) → OnErr result (RanOrNot world.old line world.new) }
+    ensures counts { calls.new ≡ world.new.desk.calls }
+    ensures one_more { calls.new ≤ calls.old + 1 }
+    ensures no_round { world.new.desk.round ≡ None }
+{
+    let program = command.program(alloc)?;
+    let answer = change(world, calls, command.key(), &program);
+    print_answer(alloc, command.caller(), &answer)
+}
+
+/// The text that says why the line of that number is bad. What is refused for want of memory alone is no bad line.
+fn answer_refusal(alloc: Global, number: u32, refusal: TextRefusal) -> Result<String, AllocError>
+    ensures { IfOk result (λ text. (refusal.why ≢ Why.NoMemory) × (string_bytes text ≡ bad_line number refusal.why)) }
+{
+    match refusal.why {
+        Why::NoMemory => Err(AllocError),
+        why => print_bad(alloc, number, why),
     }
 }

@@ -3,7 +3,6 @@
 //! All that it does is in [`cluster::cluster`]. Here stand the real words, input and output.
 #![tactic(auto)]
 
-mod adds;
 mod answers;
 mod changes;
 mod cluster;

@@ -19,10 +19,11 @@ pub enum Status {
     ReadFault,
     /// The sink failed. It has a front of the answers.
     WriteFault,
+    /// The input has more than 1,000,000 lines. The answers to that many were written.
+    TooManyLines,
     /// There was no memory. The sink has a front of the answers.
     NoMemory,
-    /// The input is longer than 65,536 bytes, and the first byte beyond them stands in the line of this number. The
-    /// answers to the lines before were written.
+    /// The line of this number has more than 65,536 bytes. The answers to the lines before were written.
     Endless { line: u32 },
 }
 
@@ -36,6 +37,7 @@ impl Status {
             Status::Usage => 2,
             Status::ReadFault => 3,
             Status::WriteFault => 4,
+            Status::TooManyLines => 7,
             Status::NoMemory => 8,
             Status::Endless { .. } => 9,
         }
@@ -51,6 +53,7 @@ impl From<LineFault> for Status {
     fn from(fault: LineFault) -> Status {
         match fault {
             LineFault::ReadFault => Status::ReadFault,
+            LineFault::TooManyLines => Status::TooManyLines,
             LineFault::Endless { line } => Status::Endless { line },
             LineFault::NoMemory => Status::NoMemory,
         }

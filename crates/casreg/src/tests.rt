@@ -58,18 +58,27 @@ fn answers_each_line(rt: HostRuntime) -> Result<(), Fail> {
             "1 add a 5\n1 add a 2\n",
             "1: done v0 num 5 at 1.1\n1: done v1 num 7 at 2.1\n",
         ),
-        ("1 get a\n", "bad 1 form\n"),
         (
-            "1 add a 9223372036854775807\n1 add a 1\n",
+            "1 do c empty num 10 ; below 12 add 1\n1 do c empty num 10 ; below 12 add 1\n1 do c empty num 10 ; below 12 add 1\n1 do c empty num 10 ; below 12 add 1\n",
+            "1: done v0 num 10 at 1.1\n1: done v1 num 11 at 2.1\n1: done v2 num 12 at 3.1\n1: done v2 num 12 at 4.1 no clause\n",
+        ),
+        (
+            "1 num a 9223372036854775807\n1 add a 1\n",
             "1: done v0 num 9223372036854775807 at 1.1\n1: done v0 num 9223372036854775807 at 2.1 unfit\n",
         ),
         ("", ""),
-        ("\n1 add a 5\n", "bad 1 form\n1: done v0 num 5 at 1.1\n"),
         ("1 add a 5", "1: done v0 num 5 at 1.1\n"),
-        ("1 add a -5\r\n", "1: done v0 num -5 at 1.1\n"),
         (
-            "1 add a 5\n1 add b 1\n1  add a 1\n1 add a 1 \n1 add  1\n1 add a 1",
-            "1: done v0 num 5 at 1.1\n1: done v0 num 1 at 2.1\nbad 3 form\nbad 4 form\nbad 5 form\n1: done v1 num 6 at 3.1\n",
+            "# a remark\n\r\n \t\n1\tadd  a -5 \r\n",
+            "1: done v0 num -5 at 1.1\n",
+        ),
+        (
+            "1 set a %e2b%20\n1 cas a 0 %-\n1 delv a 1\n1 init a 3\n1 casnum a 1 4\n1 get a\n1 del a\n",
+            "1: done v0 text %E2b%20 at 1.1\n1: done v1 text %- at 2.1\n1: done empty at 3.1\n1: done v0 num 3 at 4.1\n1: done v0 num 3 at 5.1 no clause\n1: done v0 num 3 at 6.1\n1: done empty at 7.1\n",
+        ),
+        (
+            "1 add a\n1 ad a 1\n#\n1 add a x\n3 get a\n1 set a %4",
+            "bad 1 no word\nbad 2 unknown word\nbad 4 bad number\nbad 5 bad number\nbad 6 unknown word\n",
         ),
     ];
     for (input, output) in rows {
@@ -86,6 +95,87 @@ fn answers_each_line(rt: HostRuntime) -> Result<(), Fail> {
     Ok(())
 }
 
+/// A text, and as many letters behind it.
+fn with_letters(alloc: Global, text: &[u8], letters: usize) -> Result<Vec<u8>, AllocError> {
+    let mut bytes = text.to_vec(alloc)?;
+    for _letter in 0..letters {
+        bytes.push(b'x')?;
+    }
+    Ok(bytes)
+}
+
+#[test]
+fn limits_words_and_lines(rt: HostRuntime) -> Result<(), Fail> {
+    for (front, letters, status, written) in [
+        ("1 get ", 64, Status::Ok, "1: done empty at 1.1\n"),
+        ("1 get ", 65, Status::Ok, "bad 1 too long\n"),
+        ("1 set a ", 201, Status::Ok, "bad 1 too long\n"),
+        ("#", 4_095, Status::Ok, ""),
+        ("#", 4_096, Status::Ok, "bad 1 too long\n"),
+        ("#", 65_535, Status::Ok, "bad 1 too long\n"),
+        (
+            "1 get a\n#",
+            65_536,
+            Status::Endless { line: 2 },
+            "1: done empty at 1.1\n",
+        ),
+    ] {
+        let input = with_letters(rt.alloc(), front.as_bytes(), letters)?;
+        let run = run(&rt, SCRIPT, &input, 4096, (0, 0))?;
+        assert_eq!(rt; run.status, status, "{front} and {letters}");
+        assert_eq!(rt;
+            run.written.as_slice(),
+            written.as_bytes(),
+            "{front} and {letters}"
+        );
+    }
+    let input = with_letters(rt.alloc(), b"1 set a ", 200)?;
+    let run = run(&rt, SCRIPT, &input, 4096, (0, 0))?;
+    let mut want = with_letters(rt.alloc(), b"1: done v0 text ", 200)?;
+    want.extend_from_slice(b" at 1.1\n")?;
+    assert_eq!(rt; run.written.as_slice(), want.as_slice());
+    Ok(())
+}
+
+/// The same line that many times.
+fn repeated(alloc: Global, line: &[u8], times: u32) -> Result<Vec<u8>, AllocError> {
+    let mut bytes = Vec::new(alloc);
+    for _time in 0..times {
+        bytes.extend_from_slice(line)?;
+    }
+    Ok(bytes)
+}
+
+#[test]
+fn answers_where_the_record_is_full(rt: HostRuntime) -> Result<(), Fail> {
+    let input = repeated(rt.alloc(), b"1 add a 1\n", 142_856)?;
+    let run = run(&rt, SCRIPT, &input, 65_536, (0, 0))?;
+    assert_eq!(rt; run.status, Status::Ok);
+    let end = b"\n1: done v142854 num 142855 at 142855.1\n1: record full\n";
+    assert!(rt; run.written.ends_with(end.as_slice()));
+    Ok(())
+}
+
+#[test]
+fn ends_behind_the_last_line_that_may_be(rt: HostRuntime) -> Result<(), Fail> {
+    let mut input = repeated(rt.alloc(), b"\n", 999_999)?;
+    input.extend_from_slice(b"1 get a\n")?;
+    let whole = run(&rt, SCRIPT, &input, 65_536, (0, 0))?;
+    assert_eq!(rt; whole.status, Status::Ok);
+    assert_eq!(rt;
+        whole.written.as_slice(),
+        b"1: done empty at 1.1\n".as_slice()
+    );
+    input.push(b'#')?;
+    let long = run(&rt, SCRIPT, &input, 65_536, (0, 0))?;
+    assert_eq!(rt; long.status, Status::TooManyLines);
+    assert_eq!(rt;
+        long.written.as_slice(),
+        b"1: done empty at 1.1\n".as_slice()
+    );
+    Ok(())
+}
+
 #[test]
 fn stops_where_the_outside_fails(rt: HostRuntime) -> Result<(), Fail> {
     let answer = b"1: done v0 num 5 at 1.1\n";
@@ -95,45 +185,9 @@ fn stops_where_the_outside_fails(rt: HostRuntime) -> Result<(), Fail> {
     let sink = run(&rt, SCRIPT, b"1 add a 5\n", 4096, (0, 1))?;
     assert_eq!(rt; sink.status, Status::WriteFault);
     assert_eq!(rt; sink.written.as_slice(), b"".as_slice());
-    Ok(())
-}
-
-#[test]
-fn knows_its_words(rt: HostRuntime) -> Result<(), Fail> {
-    for words in [
-        "",
-        "script",
-        "script --acceptors 4 --proposers 1",
-        "script --proposers 1 --acceptors 3",
-        "script --acceptors 3 --proposers 1 --tries 1",
-        "race --acceptors 3 --proposers 1",
-    ] {
-        let run = run(&rt, words, b"1 add a 5\n", 4096, (1, 1))?;
-        assert_eq!(rt; run.status, Status::Usage, "{words}");
-        assert_eq!(rt; run.written.as_slice(), b"".as_slice(), "{words}");
-    }
-    Ok(())
-}
-
-#[test]
-fn ends_where_the_input_is_too_long(rt: HostRuntime) -> Result<(), Fail> {
-    let mut input = b"1 add a 5\n".to_vec(rt.alloc())?;
-    for _filler in input.len()..65_536 {
-        input.push(b'x')?;
-    }
-    let whole = run(&rt, SCRIPT, &input, 4096, (0, 0))?;
-    assert_eq!(rt; whole.status, Status::Ok);
-    assert_eq!(rt;
-        whole.written.as_slice(),
-        b"1: done v0 num 5 at 1.1\nbad 2 form\n".as_slice()
-    );
-    input.push(b'\n')?;
-    let long = run(&rt, SCRIPT, &input, 4096, (0, 0))?;
-    assert_eq!(rt; long.status, Status::Endless { line: 2 });
-    assert_eq!(rt;
-        long.written.as_slice(),
-        b"1: done v0 num 5 at 1.1\n".as_slice()
-    );
+    let words = run(&rt, "script --acceptors 4", b"1 add a 5\n", 4096, (1, 1))?;
+    assert_eq!(rt; words.status, Status::Usage);
+    assert_eq!(rt; words.written.as_slice(), b"".as_slice());
     Ok(())
 }
 

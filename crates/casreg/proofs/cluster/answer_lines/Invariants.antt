@@ -1,12 +1,12 @@
-use Rattle.std.proofs.Common.{◌≡◌, ◌≤◌}
+use Rattle.std.proofs.Common.{◌≡◌, ◌-◌, ◌≤◌}
 use Rattle.std.specs.Prelude.{None}
-use Rattle.cas_lines.specs.declared.lines.TheConstants.{INPUT_LIMIT}
+use Rattle.cas_lines.specs.declared.lines.TheConstants.{MOST_LINES}
 use Rattle.casreg.proofs.Runs.{IsMidway}
 use Rattle.casreg.proofs.cluster.answer_lines.Given as goal
 
 abbrev pub invariant-loop-lines : goal.invariant-loop-lines
 invariant-loop-lines g l = record {
-  midway : IsMidway INPUT_LIMIT (g.S.Source.remaining l.initial.source) l.lines (g.S.Source.remaining l.source) (g.K.Sink.contents l.initial.sink) (g.K.Sink.contents l.sink) l.world;
+  midway : IsMidway (g.S.Source.remaining l.initial.source) l.lines (g.S.Source.remaining l.source) (g.K.Sink.contents l.initial.sink) (g.K.Sink.contents l.sink) l.world;
   counted : l.calls ≡ l.world.desk.calls;
   few : l.calls ≤ l.lines.handed;
   no_round : l.world.desk.round ≡ None;
@@ -15,4 +15,4 @@ invariant-loop-lines g l = record {
 }
 
 abbrev pub decreases-loop-lines : goal.decreases-loop-lines
-decreases-loop-lines g l = l.lines.room
+decreases-loop-lines g l = MOST_LINES - l.lines.handed

@@ -4,18 +4,21 @@ use Rattle.cas_world.proofs.Legality.{legal_record}
 use Rattle.casreg.proofs.Written.{wrote_nothing, completes_of}
 use Rattle.casreg.proofs.cluster.cluster.Goals as goal
 
-pub returns-then-not-is_script-clause-wrote : goal.returns-then-not-is_script-clause-wrote
-returns-then-not-is_script-clause-wrote g c = record { world = opened; wrote = tt; legal = legal_record opened history_opened }
-
-pub returns-in-Ok-clause-causes : goal.returns-in-Ok-clause-causes
-returns-in-Ok-clause-causes g c = record {
-  usage = (λ is. absurd (c.run_script.ensures.usage is), λ differs. absurd (differs (c.is_script.ensures.0 c.if-not-is_script.false)));
-  ok = λ is. (c.run_script.ensures.ok is).1;
-  read_fault = c.run_script.ensures.read_fault;
-  write_fault = c.run_script.ensures.write_fault;
-  endless = c.run_script.ensures.endless;
-  completes = λ words no_read no_write. completes_of _ _ _ _ c.run_script.ensures.usage c.run_script.ensures.read_fault c.run_script.ensures.write_fault c.run_script.ensures.endless no_read no_write;
-}
+pub returns-in-Ok-false-clause-wrote : goal.returns-in-Ok-false-clause-wrote
+returns-in-Ok-false-clause-wrote g c = record { world = opened; wrote = tt; legal = legal_record opened history_opened }
 
 pub returns-in-Err-clause-wrote : goal.returns-in-Err-clause-wrote
 returns-in-Err-clause-wrote g c = record { world = opened; wrote = wrote_nothing _ _; legal = legal_record opened history_opened }
+
+pub returns-in-Err-open_world-clause-wrote : goal.returns-in-Err-open_world-clause-wrote
+returns-in-Err-open_world-clause-wrote g c = record { world = opened; wrote = wrote_nothing _ _; legal = legal_record opened history_opened }
+
+pub returns-in-Ok-clause-causes : goal.returns-in-Ok-clause-causes
+returns-in-Ok-clause-causes g c = record {
+  usage = λ is. absurd (c.run_script.ensures.usage is);
+  no_words = λ differs. absurd (differs (c.in-Ok-true.ensures.0 c.in-Ok-true.field-0-test));
+  read_fault = c.run_script.ensures.read_fault;
+  write_fault = c.run_script.ensures.write_fault;
+  ends = c.run_script.ensures.ends;
+  completes = λ words no_read no_write. completes_of _ _ _ _ c.run_script.ensures.usage c.run_script.ensures.read_fault c.run_script.ensures.write_fault c.run_script.ensures.ends no_read no_write;
+}

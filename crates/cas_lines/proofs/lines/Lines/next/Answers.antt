@@ -1,41 +1,90 @@
-use Rattle.std.proofs.Common.{◌≡◌, ◌+◌, ◌<◌, Ok, ap, length, arith}
+use Rattle.std.proofs.Common.{◌≡◌, ◌+◌, ◌<◌, Ok, false, ◌==◌, length, get_or, refl, sym, ap, ◌∙◌, arith}
+use Rattle.std.proofs.lemmas.Bool.{ne_eqb}
 use Rattle.std.proofs.lemmas.Grind.{common_steps}
+use Rattle.std.proofs.lemmas.List.{get_or_default}
+use Rattle.std.proofs.lemmas.Result.{err_from_is_err_and}
 use Rattle.cas_lines.specs.Lines.{LinesState}
-use Rattle.cas_lines.proofs.FirstLines.{length-take_through-le}
-use Rattle.cas_lines.proofs.HandingOut.{spelled-le-room, takes_ended, hands_out, hands_out_last, is_endless}
+use Rattle.cas_lines.specs.declared.lines.TheConstants.{LINE_LIMIT, MOST_LINES}
+use Rattle.cas_lines.proofs.FirstLens.{newline_within, hands_line, hands_longest, hands_rest, is_long_line}
 use Rattle.cas_lines.proofs.lines.Lines.next.Goals as goal
 
-pub hand_out-requires-clause-within : goal.hand_out-requires-clause-within
-hand_out-requires-clause-within g c =
-    spelled-le-room c.self.inside.room c.fill.new.held.items (c.in_ok-fill.ensures.line (ap Ok c.in-Line.is))
+pub returns-in_err-hand_out-in-Line-clause-err : goal.returns-in_err-hand_out-in-Line-clause-err
+returns-in_err-hand_out-in-Line-clause-err g c =
+    let p = err_from_is_err_and c.from_residual-in_err-hand_out-in-Line.result c.from_residual-in_err-hand_out-in-Line.ensures.1 in
+    rw (p.1, c.in_err-hand_out-in-Line.ensures.err, ← c.self.view_is) c.in_ok-fill.ensures.ahead
 
-pub hand_out-requires-in-End-2-clause-within : goal.hand_out-requires-in-End-2-clause-within
-hand_out-requires-in-End-2-clause-within g c =
-    omega (arith, length-take_through-le c.fill.new.held.items, (c.in_ok-fill.ensures.end (ap Ok c.in-End-2.is)).1)
+pub returns-in_err-hand_out-in-End-2-clause-err : goal.returns-in_err-hand_out-in-End-2-clause-err
+returns-in_err-hand_out-in-End-2-clause-err g c =
+    let p = err_from_is_err_and c.from_residual-in_err-hand_out-in-End-2.result c.from_residual-in_err-hand_out-in-End-2.ensures.1 in
+    rw (p.1, c.in_err-hand_out-in-End-2.ensures.err, ← c.self.view_is) c.in_ok-fill.ensures.ahead
+
+pub returns-in_err-hand_out-in-Beyond-clause-err : goal.returns-in_err-hand_out-in-Beyond-clause-err
+returns-in_err-hand_out-in-Beyond-clause-err g c =
+    let p = err_from_is_err_and c.from_residual-in_err-hand_out-in-Beyond.result c.from_residual-in_err-hand_out-in-Beyond.ensures.1 in
+    rw (p.1, c.in_err-hand_out-in-Beyond.ensures.err, ← c.self.view_is) c.in_ok-fill.ensures.ahead
 
 pub returns-in_ok-hand_out-in-Line-clause-line : goal.returns-in_ok-hand_out-in-Line-clause-line
 returns-in_ok-hand_out-in-Line-clause-line g c =
     let s = c.self.inside in
-    let old : LinesState = record { held = s.held.items; handed = s.handed; room = s.room } in
-    let some = c.in_ok-fill.ensures.line (ap Ok c.in-Line.is) in
+    let old : LinesState = record { held = s.held.items; handed = s.handed } in
     let out = c.in_ok-hand_out-in-Line.ensures in
-    rw (← c.self.view_is) (hands_out old c.hand_out.new.self _ _ c.fill.new.held.items _ c.in_ok-fill.ensures.ahead out.held out.room out.text
-    (λ rest _. takes_ended s.room c.fill.new.held.items rest some))
+    rw (← c.self.view_is) (hands_line LINE_LIMIT old c.hand_out.new.self _ _ c.fill.new.held.items _ refl c.in_ok-fill.ensures.ahead out.held out.text
+    (c.in_ok-fill.ensures.line (ap Ok c.in-Line.is)))
 
 pub returns-in_ok-hand_out-in-End-2-clause-line : goal.returns-in_ok-hand_out-in-End-2-clause-line
 returns-in_ok-hand_out-in-End-2-clause-line g c =
     let s = c.self.inside in
-    let old : LinesState = record { held = s.held.items; handed = s.handed; room = s.room } in
+    let old : LinesState = record { held = s.held.items; handed = s.handed } in
     let ended = c.in_ok-fill.ensures.end (ap Ok c.in-End-2.is) in
     let out = c.in_ok-hand_out-in-End-2.ensures in
     let some : 0 < length c.fill.new.held.items = grind (arith, common_steps) in
-    rw (← c.self.view_is) (hands_out_last old c.hand_out-in-End-2.new.self _ _ c.fill.new.held.items _ c.in_ok-fill.ensures.ahead out.held out.room out.text
-    ended.2 ended.0 some (omega (arith, ended.1)))
+    rw (← c.self.view_is) (hands_rest old c.hand_out-in-End-2.new.self _ _ c.fill.new.held.items _ c.in_ok-fill.ensures.ahead out.held out.text
+    ended.2 some (omega (arith, ended.1)))
 
-pub returns-in-Beyond-clause-endless : goal.returns-in-Beyond-clause-endless
-returns-in-Beyond-clause-endless g c = λ line is.
+pub returns-in_ok-hand_out-in-Beyond-clause-line : goal.returns-in_ok-hand_out-in-Beyond-clause-line
+returns-in_ok-hand_out-in-Beyond-clause-line g c =
     let s = c.self.inside in
-    let old : LinesState = record { held = s.held.items; handed = s.handed; room = s.room } in
+    let held = c.fill.new.held.items in
+    let old : LinesState = record { held = s.held.items; handed = s.handed } in
     let beyond = c.in_ok-fill.ensures.beyond (ap Ok c.in-Beyond.is) in
+    let inside : LINE_LIMIT < length c.fill.new.held.items = omega (arith, beyond.1) in
+    let at : get_or c.fill.new.held.items LINE_LIMIT 0 ≡ 10 = get_or_default held LINE_LIMIT 0 c.index.result.now inside ∙ sym c.index.ensures ∙ c.if-index-eq10.true in
+    let out = c.in_ok-hand_out-in-Beyond.ensures in
+    rw (← c.self.view_is) (hands_longest LINE_LIMIT old c.hand_out-in-Beyond.new.self _ _ held _ refl c.in_ok-fill.ensures.ahead out.held out.text beyond.0 inside at)
+
+pub returns-in-Beyond-2-clause-endless : goal.returns-in-Beyond-2-clause-endless
+returns-in-Beyond-2-clause-endless g c = λ line is.
+    let s = c.self.inside in
+    let held = c.fill.new.held.items in
+    let old : LinesState = record { held = s.held.items; handed = s.handed } in
+    let beyond = c.in_ok-fill.ensures.beyond (ap Ok c.in-Beyond.is) in
+    let inside : LINE_LIMIT < length c.fill.new.held.items = omega (arith, beyond.1) in
+    let other : (get_or c.fill.new.held.items LINE_LIMIT 0 == 10) ≡ false =
+    ne_eqb (get_or held LINE_LIMIT 0) 10 (λ e. c.if-index-eq10.false (c.index.ensures ∙ sym (get_or_default held LINE_LIMIT 0 c.index.result.now inside) ∙ e)) in
     let number : line ≡ s.handed + 1 = cc is in
-    rw (← c.self.view_is) (number, is_endless old _ _ c.fill.new.held.items c.in_ok-fill.ensures.ahead beyond.0 (omega (arith, beyond.1)))
+    let few : s.handed < MOST_LINES = omega arith in
+    rw (← c.self.view_is) (number, few, is_long_line LINE_LIMIT old _ _ held refl c.in_ok-fill.ensures.ahead beyond.0 inside other)
+
+pub returns-in-Beyond-2-clause-err : goal.returns-in-Beyond-2-clause-err
+returns-in-Beyond-2-clause-err g c = rw (← c.self.view_is) c.in_ok-fill.ensures.ahead
+
+-- ---- a line that is there already
+pub returns-in_err-fill-clause-err : goal.returns-in_err-fill-clause-err
+returns-in_err-fill-clause-err g c =
+    let p = err_from_is_err_and c.from_residual-in_err-fill.result c.from_residual-in_err-fill.ensures.1 in
+    rw (p.1, ← c.self.view_is) c.in_err-fill.ensures.ahead
+
+pub returns-in_err-hand_out-in-Beyond-clause-ready : goal.returns-in_err-hand_out-in-Beyond-clause-ready
+returns-in_err-hand_out-in-Beyond-clause-ready g c = rw (← c.self.view_is) c.in_ok-fill.ensures.ready
+
+pub returns-in_ok-hand_out-in-End-2-clause-ready : goal.returns-in_ok-hand_out-in-End-2-clause-ready
+returns-in_ok-hand_out-in-End-2-clause-ready g c = rw (← c.self.view_is) c.in_ok-fill.ensures.ready
+
+pub returns-in_ok-hand_out-in-Beyond-clause-ready : goal.returns-in_ok-hand_out-in-Beyond-clause-ready
+returns-in_ok-hand_out-in-Beyond-clause-ready g c = rw (← c.self.view_is) c.in_ok-fill.ensures.ready
+
+pub returns-in_err-expect_end-clause-ready : goal.returns-in_err-expect_end-clause-ready
+returns-in_err-expect_end-clause-ready g c = λ some. c.in_err-expect_end.ensures.ready (newline_within LINE_LIMIT _ some)
+
+pub returns-then-self-eq-MOST_LINES-clause-ready : goal.returns-then-self-eq-MOST_LINES-clause-ready
+returns-then-self-eq-MOST_LINES-clause-ready g c = λ some. c.in_ok-expect_end.ensures.ready (newline_within LINE_LIMIT _ some)
