@@ -3,6 +3,7 @@ pub mod Refusal
 pub mod Words
 pub mod Escapes
 pub mod Grammar
+pub mod Misfit
 pub mod Printing
 pub mod Ranges
 pub mod Reading

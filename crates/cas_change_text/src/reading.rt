@@ -4,6 +4,7 @@ ghost use Rattle.std.specs.Prelude.{List, ◌≡◌, ◌≢◌, ◌+◌, ◌∷�
 ghost use Rattle.cas_change.specs.Program.{IsProgramLength};
 ghost use Rattle.cas_change_text.specs.Reading.{Reads, ReadsInMemory, GivesInMemory, word_at, version_at, number_at, text_at, guard_at, guard_of, act_at, act_of, clause_at, semicolon_at, clauses_at, program_at, end_at};
 ghost use Rattle.cas_change_text.specs.Grammar.{IsProgram};
+ghost use Rattle.cas_change_text.specs.Misfit.{AreClauses, AreProgram, IsFirstMisfit};
 ghost use Rattle.cas_change_text.specs.Words.{words_of, all_of};
 ghost use Rattle.cas_change.specs.declared.program.Clause.{Clause};
 
@@ -240,7 +241,9 @@ pub fn read_program(alloc: Global, text: &[u8]) -> Result<Program, TextRefusal>
     // What the words say is read, unless memory runs out.
     ensures only { (program : List Clause) → IsProgram (words_of text.now) program
         → MatchResult result (λ read. read ≡ program) (λ refusal. refusal.why ≡ Why.NoMemory) }
-    // Which refusal it is.
+    // A refusal names the first word that does not fit.
+    ensures first { IfErr result (λ refusal. refusal.why ≢ Why.NoMemory → IsFirstMisfit AreClauses AreProgram (words_of text.now) refusal.word) }
+    // Which refusal it is, word by word.
     ensures exact { GivesInMemory result (program_at (all_of (words_of text.now))) }
 {
     program_in(alloc, &mut Words::of(text))

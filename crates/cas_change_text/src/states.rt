@@ -1,7 +1,8 @@
 //! States, read word by word.
 
-ghost use Rattle.std.specs.Prelude.{◌≡◌, ◌≢◌, [], Some, None, Ok, Err, IfSome, IfNone, IfOk, MatchResult};
+ghost use Rattle.std.specs.Prelude.{◌≡◌, ◌≢◌, [], Some, None, Ok, Err, IfSome, IfNone, IfOk, IfErr, MatchResult};
 ghost use Rattle.cas_change_text.specs.Grammar.{IsState};
+ghost use Rattle.cas_change_text.specs.Misfit.{AreState, IsFirstMisfit};
 ghost use Rattle.cas_change_text.specs.Words.{words_of, all_of};
 ghost use Rattle.cas_change.specs.declared.state.State.{State};
 ghost use Rattle.cas_change_text.specs.Reading.{ReadsInMemory, GivesInMemory, body_at, body_of, held_at, after_v, state_at, whole_state};
@@ -116,7 +117,9 @@ pub fn read_state(alloc: Global, text: &[u8]) -> Result<State, TextRefusal>
     // What the words say is read, unless memory runs out.
     ensures only { (state : State) → IsState (words_of text.now) state
         → MatchResult result (λ read. read ≡ state) (λ refusal. refusal.why ≡ Why.NoMemory) }
-    // Which refusal it is.
+    // A refusal names the first word that does not fit.
+    ensures first { IfErr result (λ refusal. refusal.why ≢ Why.NoMemory → IsFirstMisfit AreState AreState (words_of text.now) refusal.word) }
+    // Which refusal it is, word by word.
     ensures exact { GivesInMemory result (whole_state (all_of (words_of text.now))) }
 {
     whole_state(alloc, &mut Words::of(text))
