@@ -319,6 +319,29 @@ whole_to_end {X} read most is at words refusal e = elim (bind_err (read (from at
           on = rw (g.again []) refl;
         }
 
+-- what was read to the end is made into something
+pub made_whole : {X Y : Type 0} (read : ℕ → WordsLeft → Result X TextRefusal) (most : ℕ) (make : X → Y) → IsWhole read most → IsWhole (λ m left. read m left >>= λ x. Ok (make x)) most
+made_whole {X} {Y} read most make is at words refusal e = elim (bind_err (read most (from at words)) (λ x. Ok (make x)) refusal e) [
+  | inl stopped ↦
+      let s = is at words refusal stopped in
+      record {
+        before = s.before;
+        rest = s.rest;
+        split = s.split;
+        place = s.place;
+        again = repeats s.before s.rest s.again;
+        enough = s.enough;
+        more = s.more;
+        x = make s.x;
+        on = rw (s.on) refl;
+      }
+  | inr step ↦ absurd (let no : Ok (make step.0) ≡ Err refusal = step.2 in cc)
+]
+  where
+    repeats : (before rest : List Word) → Repeats (read most) at before rest refusal → Repeats (λ left. read most left >>= λ x. Ok (make x)) at before rest refusal
+    repeats before [] again = tt
+    repeats before (word ∷ rest) again = λ other. rw (again other) refl
+
 -- some words are read to their end
 pub record StartsWhole {X : Type 0} (read : ℕ → WordsLeft → Result X TextRefusal) (at : ℕ) : Type 0 where
   pub enough : ℕ

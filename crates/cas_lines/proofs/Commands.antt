@@ -1,5 +1,5 @@
 -- What is read of a line is in the grammar of lines, and what is in the grammar is read.
-use Rattle.std.proofs.Common.{◌≡◌, ℕ, ◌+◌, ◌^◌, ◌<◌, ◌≤◌, true, false, cond, List, [], ◌∷◌, ◌++◌, length, Option, Some, None, Ok, Err, refl, sym, ap, subst, ◌∙◌, arith, inl, inr}
+use Rattle.std.proofs.Common.{◌≡◌, ℕ, ◌+◌, ◌^◌, ◌<◌, ◌≤◌, true, false, cond, List, [], ◌∷◌, ◌++◌, length, Option, Some, None, Result, Ok, Err, refl, sym, ap, subst, ◌∙◌, arith, inl, inr}
 use Rattle.std.specs.Prelude.{◌≢◌, ◌==◌, ◌&&◌, ◌||◌, codes, nat_le, nat_lt}
 use Rattle.std.specs.Char.{is_ascii_digit}
 use Rattle.std.specs.List.{list_all}
@@ -12,6 +12,7 @@ use Rattle.cas_change.specs.declared.key.KeyFault.TheVariants as fault
 use Rattle.cas_change.specs.declared.key.TheConstants.{LONGEST_KEY}
 use Rattle.cas_change.proofs.Keys.{key_bytes, no_bad_byte}
 use Rattle.cas_change_text.specs.declared.refusal.Why.TheVariants as why
+use Rattle.cas_change_text.specs.declared.refusal.TextRefusal.{TextRefusal}
 use Rattle.cas_change_text.specs.Decimal.{u64_of, i64_of, is_numeral, number_after}
 use Rattle.cas_change_text.specs.Grammar.{IsTextWord}
 use Rattle.cas_change_text.specs.Reading.{◌>>=◌, Read, word_at, version_at, number_at, text_at, program_at, end_at, refusal_at}
@@ -170,10 +171,10 @@ last_found P words x rest took none = (took.says.0, took.split ∙ (λ i. took.s
 
 -- ---- commands
 
-form : (proposers caller : ℕ) (word name : Word) (key : List ℕ) (rest words : List Word) → IsCaller proposers caller word → IsKey key → words ≡ rest → IsForm proposers (word ∷ name ∷ key ∷ words) caller name key rest
+pub form : (proposers caller : ℕ) (word name : Word) (key : List ℕ) (rest words : List Word) → IsCaller proposers caller word → IsKey key → words ≡ rest → IsForm proposers (word ∷ name ∷ key ∷ words) caller name key rest
 form proposers caller word name key rest words is names_key same = (word, is, names_key, ap (λ (ws : List Word). word ∷ name ∷ key ∷ ws) same)
 
-command_of-found : (proposers caller : ℕ) (word : Word) (key : List ℕ) → IsCaller proposers caller word → IsKey key → (name : CommandName) (left : WordsLeft) (command : Command)
+pub command_of-found : (proposers caller : ℕ) (word : Word) (key : List ℕ) → IsCaller proposers caller word → IsKey key → (name : CommandName) (left : WordsLeft) (command : Command)
     → command_of name caller key left ≡ Ok command → IsCommand proposers (word ∷ command_word name ∷ key ∷ left.words) command
 unfolding command_of
 command_of-found proposers caller word key is names_key names.Get left command e =
@@ -238,9 +239,16 @@ command_of-found proposers caller word key is names_key names.Do left command e 
     let same : Do caller key p.0 ≡ command = cc (p.2) in
     subst (IsCommand proposers (word ∷ codes "do" ∷ key ∷ left.words)) same (left.words, form proposers caller word (codes "do") key left.words left.words is names_key refl, program)
 
-command_found : (proposers : ℕ) (left : WordsLeft) (command : Command) → command_at proposers left ≡ Ok command → IsCommand proposers left.words command
-unfolding command_at caller_at name_at key_at
-command_found proposers left command e =
+-- a caller, a form and a key, and what their reader reads behind them
+abbrev pub front_at : ℕ → (CommandName → ℕ → List ℕ → WordsLeft → Result Command TextRefusal) → WordsLeft → Result Command TextRefusal
+front_at proposers rest left = caller_at proposers left >>= λ caller. (name_at caller.1 >>= λ name. (key_at name.1 >>= λ key. rest name.0 caller.0 key.0 key.1))
+
+pub front_found : (proposers : ℕ) (rest : CommandName → ℕ → List ℕ → WordsLeft → Result Command TextRefusal) (Says : List Word → Command → Type 0)
+    → ((caller : ℕ) (word : Word) (key : List ℕ) → IsCaller proposers caller word → IsKey key → (name : CommandName) (left : WordsLeft) (command : Command)
+    → rest name caller key left ≡ Ok command → Says (word ∷ command_word name ∷ key ∷ left.words) command)
+    → (left : WordsLeft) (command : Command) → front_at proposers rest left ≡ Ok command → Says left.words command
+unfolding caller_at name_at key_at
+front_found proposers rest Says found left command e =
     let c = bind_ok (caller_at proposers left) _ command e in
     let cw = bind_ok (word_at left) _ c.0 c.1 in
     let cv = bind_ok (caller_in proposers left.at cw.0.0) _ c.0 cw.2 in
@@ -263,7 +271,11 @@ command_found proposers left command e =
     let first : left.words ≡ cw.0.0 ∷ c.0.1.words = word_took left.at left.words cw.0.0 cw.0.1 cw.1 ∙ (λ i. cw.0.0 ∷ (c_is i).1.words) in
     let all : left.words ≡ cw.0.0 ∷ command_word n.0.0 ∷ k.0.0 ∷ k.0.1.words =
     first ∙ ap (λ (ws : List Word). cw.0.0 ∷ ws) second ∙ ap (λ (ws : List Word). cw.0.0 ∷ command_word n.0.0 ∷ ws) third in
-    subst (λ (ws : List Word). IsCommand proposers ws command) (sym all) (command_of-found proposers c.0.0 cw.0.0 k.0.0 caller good n.0.0 k.0.1 command k.2)
+    subst (λ (ws : List Word). Says ws command) (sym all) (found c.0.0 cw.0.0 k.0.0 caller good n.0.0 k.0.1 command k.2)
+
+command_found : (proposers : ℕ) (left : WordsLeft) (command : Command) → command_at proposers left ≡ Ok command → IsCommand proposers left.words command
+unfolding command_at
+command_found proposers left command e = front_found proposers command_of (IsCommand proposers) (λ caller word key is names_key. command_of-found proposers caller word key is names_key) left command e
 
 -- a form is read up to its key
 form_again : (proposers caller : ℕ) (key : List ℕ) (name : CommandName) (words rest : List Word) → IsForm proposers words caller (command_word name) key rest → command_name (command_word name) ≡ Some name

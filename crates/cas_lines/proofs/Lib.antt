@@ -1,6 +1,7 @@
 pub mod Commands
 pub mod FirstLens
 pub mod FirstLines
+pub mod LineMisfits
 pub mod Newlines
 pub mod Pieces
 pub mod WholeRuns

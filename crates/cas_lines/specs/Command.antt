@@ -7,7 +7,7 @@ use Rattle.cas_change.specs.declared.program.Guard.TheVariants.{Always, IsEmpty,
 use Rattle.cas_change.specs.declared.program.Act.{Act}
 use Rattle.cas_change.specs.declared.program.Act.TheVariants.{Keep, PutText, PutNumber, Add as AddTo, Clear}
 use Rattle.cas_change_text.specs.Decimal.{u64_of, i64_of}
-use Rattle.cas_change_text.specs.Grammar.{IsTextWord, IsProgram}
+use Rattle.cas_change_text.specs.Grammar.{IsTextWord, IsClauses, IsProgram}
 use Rattle.cas_change_text.specs.Words.{Word, words_of}
 use Rattle.cas_lines.specs.declared.command.TheConstants.{LONGEST_LINE}
 use Rattle.cas_lines.specs.declared.command.Command.{Command}
@@ -44,6 +44,18 @@ IsCommand proposers words (CasNum caller key version number) = IsFormAt proposer
 IsCommand proposers words (Del caller key) = IsForm proposers words caller (codes "del") key []
 IsCommand proposers words (DelVersion caller key version) = IsFormWith proposers words caller (codes "delv") key (λ word. u64_of word ≡ Some version)
 IsCommand proposers words (Do caller key program) = (rest : List Word) × IsForm proposers words caller (codes "do") key rest × IsProgram rest program
+
+-- the same, where a program may have any number of clauses
+abbrev pub IsUnlimited : ℕ → List Word → Command → Type 0
+IsUnlimited proposers words (Do caller key program) = (rest : List Word) × IsForm proposers words caller (codes "do") key rest × IsClauses rest program
+IsUnlimited proposers words command = IsCommand proposers words command
+
+-- the words of some command
+abbrev pub AreCommand : ℕ → List Word → Type 0
+AreCommand proposers words = (command : Command) × IsCommand proposers words command
+
+abbrev pub AreUnlimited : ℕ → List Word → Type 0
+AreUnlimited proposers words = (command : Command) × IsUnlimited proposers words command
 
 -- a line without a word, or whose first word begins with a number sign
 abbrev pub is_remark : List Word → Bool

@@ -3,10 +3,11 @@
 //! A line is read word by word, and refused at the first word that does not fit. What a command does is said by its
 //! program.
 
-ghost use Rattle.std.specs.Prelude.{◌≡◌, ◌≢◌, Option, Some, None, Ok, Err, IfOk, MatchResult};
+ghost use Rattle.std.specs.Prelude.{◌≡◌, ◌≢◌, ◌≤◌, length, Option, Some, None, Ok, Err, IfOk, IfErr, MatchResult};
+ghost use Rattle.cas_change_text.specs.Misfit.{IsFirstMisfit};
 ghost use Rattle.cas_change_text.specs.Reading.{Reads, ReadsInMemory, GivesInMemory, end_at, text_at, number_at, version_at};
 ghost use Rattle.cas_change_text.specs.Words.{words_of};
-ghost use Rattle.cas_lines.specs.Command.{IsLine, is_remark, program_of, caller_of, key_of, one};
+ghost use Rattle.cas_lines.specs.Command.{AreCommand, AreUnlimited, IsLine, is_remark, program_of, caller_of, key_of, one};
 ghost use Rattle.cas_lines.specs.Reading.{begins_with_digit, within, caller_in, caller_at, command_name, name_at, why_no_key, key_in, key_at, ended, command_of, command_at, words_in, line_in};
 ghost use Rattle.cas_lines.specs.declared.command.Command.{Command};
 
@@ -486,7 +487,10 @@ pub fn read_command(
     // What the line says is read, unless memory runs out.
     ensures only { (said : Option Command) → IsLine proposers line.now said
         → MatchResult result (λ read. read ≡ said) (λ refusal. refusal.why ≡ Why.NoMemory) }
-    // Which refusal it is.
+    // A line whose length fits is refused at the first word with which it begins no command.
+    ensures first { 1 ≤ proposers → length line.now ≤ LONGEST_LINE → IfErr result (λ refusal. refusal.why ≢ Why.NoMemory
+        → IsFirstMisfit (AreUnlimited proposers) (AreCommand proposers) (words_of line.now) refusal.word) }
+    // Which refusal it is, word by word.
     ensures exact { GivesInMemory result (line_in proposers line.now) }
 {
     line_in(alloc, line, proposers)

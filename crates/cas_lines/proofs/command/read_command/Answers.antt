@@ -1,7 +1,10 @@
 use Rattle.cas_change_text.proofs.BothWays.{only_from_gives, found_from_gives}
-use Rattle.cas_lines.specs.Command.{IsLine}
+use Rattle.cas_change_text.specs.Words.{words_of}
+use Rattle.cas_change_text.proofs.Misfits.{misfit_from_gives}
+use Rattle.cas_lines.specs.Command.{AreCommand, AreUnlimited, IsLine}
 use Rattle.cas_lines.specs.Reading.{line_in}
 use Rattle.cas_lines.proofs.Commands.{line_found, line_again}
+use Rattle.cas_lines.proofs.LineMisfits.{line_misfit}
 use Rattle.cas_lines.proofs.command.read_command.Goals as goal
 
 pub returns-clause-found : goal.returns-clause-found
@@ -13,3 +16,9 @@ pub returns-clause-only : goal.returns-clause-only
 returns-clause-only c = λ said is.
     let line = c.args.line.now in
     only_from_gives c.line_in.result (line_in c.args.proposers line) said c.line_in.ensures (line_again c.args.proposers line said is)
+
+pub returns-clause-first : goal.returns-clause-first
+returns-clause-first c = λ some fits.
+    let line = c.args.line.now in
+    misfit_from_gives c.line_in.result (line_in c.args.proposers line) (AreUnlimited c.args.proposers) (AreCommand c.args.proposers) (words_of line) c.line_in.ensures
+    (λ refusal. line_misfit c.args.proposers some line refusal fits)
