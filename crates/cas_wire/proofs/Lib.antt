@@ -1,4 +1,15 @@
+pub mod Counting
+pub mod Fitting
 pub mod Formats
+pub mod Frames
+pub mod Limited
 pub mod Limits
+pub mod Loops
+pub mod MoreFormats
 pub mod PartFormats
+pub mod PartStops
+pub mod Puts
+pub mod ReplyFormats
+pub mod RequestFormats
+pub mod Stops
 pub mod Taking

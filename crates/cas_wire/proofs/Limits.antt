@@ -25,7 +25,7 @@ later_none : (o : Option ℕ) → one_later o ≡ None → o ≡ None
 later_none None e = refl
 later_none (Some i) e = absurd cc
 
-risen_by : (s t : Bool) (o : Option ℕ) → cond s None (cond t (Some 0) (one_later o)) ≡ None → (s ≡ true) ⊎ ((s ≡ false) × (t ≡ false) × (o ≡ None))
+pub risen_by : (s t : Bool) (o : Option ℕ) → cond s None (cond t (Some 0) (one_later o)) ≡ None → (s ≡ true) ⊎ ((s ≡ false) × (t ≡ false) × (o ≡ None))
 risen_by true t o e = inl refl
 risen_by false true o e = absurd cc
 risen_by false false o e = inr (refl, refl, later_none o e)
@@ -50,7 +50,7 @@ rise_le (l ∷ limit) (b ∷ bytes) rest len fits e =
           omega (arith, inner, here, power)
     ]
 
-not_risen : (s t : Bool) (o : Option ℕ) → (t ≡ true → ⊥) → (s ≡ false → t ≡ false → o ≡ None) → cond s None (cond t (Some 0) (one_later o)) ≡ None
+pub not_risen : (s t : Bool) (o : Option ℕ) → (t ≡ true → ⊥) → (s ≡ false → t ≡ false → o ≡ None) → cond s None (cond t (Some 0) (one_later o)) ≡ None
 not_risen true t o above same = refl
 not_risen false true o above same = absurd (above refl)
 not_risen false false o above same = ap one_later (same refl refl)

@@ -17,15 +17,16 @@ use Rattle.cas_change.proofs.Keys.{key_bytes, no_bad_byte}
 use Rattle.cas_slot.specs.declared.slot.Accepted.{Accepted}
 use Rattle.cas_wire.specs.Reading.{Reading, ◌>>=◌, pair_at, byte_where, number_at, some_at, stopped_at, rise_at, is_key_length, key_bytes_at, key_at, most_counter, counter_at, is_proposer, ballot_of, ballot_at, most_length, text_at, number_state, text_state, state_at, accepted_of, accepted_at, optional_at}
 use Rattle.cas_wire.specs.Spelling.{key_spelling, ballot_spelling, state_spelling, accepted_spelling, optional_spelling, FitsBallot, FitsState, FitsAccepted}
-use Rattle.cas_wire.proofs.Limits.{value, rise_le, le_rise, IsBytes-high_first, value-of_8, value-of_2}
+use Rattle.cas_wire.proofs.Limited.{IsLimit, limited_at, limited_format}
+use Rattle.cas_wire.proofs.Limits.{IsBytes-high_first, value-of_8, value-of_2}
 use Rattle.cas_wire.proofs.Formats.{IsBytes, IsBytes-rest, IsBytes-take, bind_ok, bind_err, ok_is, left_is, not_err, guard_err, stopped_ok, Takes, Takes-then, rest_shorter, IsFormat, byte_format, wide16, wide32, wide64, number_takes, number_again, number_within, number_format, some_takes, some_again, pair_format, made_format, optional_format}
 
 -- ---- keys
 
-key_length_of : (n : ℕ) → is_key_length n ≡ true → (1 ≤ n) × (n ≤ 64)
+pub key_length_of : (n : ℕ) → is_key_length n ≡ true → (1 ≤ n) × (n ≤ 64)
 key_length_of n e = (leb-true 1 n (first_so (leb 1 n) (leb n 64) e), leb-true n 64 (second_so (leb 1 n) (leb n 64) e))
 
-both : (a b : Bool) → a ≡ true → b ≡ true → (a && b) ≡ true
+pub both : (a b : Bool) → a ≡ true → b ≡ true → (a && b) ≡ true
 both a b p q = rw (p, q) refl
 
 key_takes : (bytes : List ℕ) (x : List ℕ × List ℕ) → IsBytes bytes → key_at bytes ≡ Ok x → Takes bytes (key_spelling x.0) x.1 × IsKey x.0
@@ -99,29 +100,36 @@ IsBytes-length zero = lit< tt
 IsBytes-length (suc zero) = lit< tt
 IsBytes-length (suc (suc i)) = lit< tt
 
-counter_takes : (bytes : List ℕ) (x : ℕ × List ℕ) → IsBytes bytes → counter_at bytes ≡ Ok x → Takes bytes (to_be_bytes w64 x.0) x.1 × (x.0 ≤ 2 ^ 48)
-unfolding counter_at
-counter_takes bytes x fits e =
-    let s = stopped_ok (rise_at most_counter bytes) bytes (number_at w64 bytes) x e in
-    let t = number_takes w64 (2 ^ 64) wide64 bytes x fits s.1 in
-    let none : rise_at most_counter (to_be_bytes w64 x.0 ++ x.1) ≡ None = ap (λ (xs : List ℕ). rise_at most_counter xs) (sym t.0.parts) ∙ s.0 in
-    let le : value (to_be_bytes w64 x.0) ≤ value most_counter = rise_le most_counter (to_be_bytes w64 x.0) x.1 refl (IsBytes-high_first 8 x.0) none in
-    let is : value (to_be_bytes w64 x.0) ≡ x.0 = value-of_8 (to_be_bytes w64 x.0) refl ∙ wide64.again x.0 t.1 in
-    (t.0, omega (arith, le, is))
+pub counter_limit : IsLimit w64 (2 ^ 64) (2 ^ 48) most_counter
+counter_limit = record {
+  wide = wide64;
+  below = lit< tt;
+  spelled = refl;
+  fits = IsBytes-limit;
+  len = refl;
+  value_is = refl;
+  value_of = value-of_8;
+  spelled_fits = IsBytes-high_first 8;
+}
 
-counter_again : (n : ℕ) (rest : List ℕ) → n ≤ 2 ^ 48 → counter_at (to_be_bytes w64 n ++ rest) ≡ Ok (n, rest)
+pub counter_format : IsFormat (to_be_bytes w64) (λ n. n ≤ 2 ^ 48) counter_at
 unfolding counter_at
-counter_again n rest le =
-    let is : value (to_be_bytes w64 n) ≡ n = value-of_8 (to_be_bytes w64 n) refl ∙ wide64.again n (omega (arith, le)) in
-    let none : rise_at most_counter (to_be_bytes w64 n ++ rest) ≡ None = le_rise most_counter (to_be_bytes w64 n) rest refl IsBytes-limit (omega (arith, le, is)) in
-    ap (λ (o : Option ℕ). stopped_at o (to_be_bytes w64 n ++ rest) (number_at w64 (to_be_bytes w64 n ++ rest))) none ∙ number_again w64 (2 ^ 64) wide64 n rest (omega (arith, le))
+counter_format = limited_format w64 (2 ^ 64) (2 ^ 48) most_counter counter_limit
 
-counter_within : (bytes : List ℕ) (left : ℕ) → counter_at bytes ≡ Err left → left ≤ length bytes
-unfolding counter_at
-counter_within bytes left e = elim (stopped_err (rise_at most_counter bytes) bytes (number_at w64 bytes) left e) [ inl stopped ↦ stopped | inr short ↦ number_within w64 bytes left short ]
+pub length_limit : IsLimit w16 (2 ^ 16) 200 most_length
+length_limit = record {
+  wide = wide16;
+  below = lit< tt;
+  spelled = refl;
+  fits = IsBytes-length;
+  len = refl;
+  value_is = refl;
+  value_of = value-of_2;
+  spelled_fits = IsBytes-high_first 2;
+}
 
-counter_format : IsFormat (to_be_bytes w64) (λ n. n ≤ 2 ^ 48) counter_at
-counter_format = record { takes = counter_takes; again = counter_again; within = λ bytes left fits e. counter_within bytes left e }
+pub length_format : IsFormat (to_be_bytes w16) (λ n. n ≤ 200) (limited_at w16 most_length)
+length_format = limited_format w16 (2 ^ 16) 200 most_length length_limit
 
 -- ---- ballots
 
@@ -146,47 +154,38 @@ text_spelling text = to_be_bytes w16 (length text) ++ text
 text_takes : (bytes : List ℕ) (x : List ℕ × List ℕ) → IsBytes bytes → text_at bytes ≡ Ok x → Takes bytes (to_be_bytes w16 (length x.0) ++ x.0) x.1 × IsText x.0
 unfolding text_at
 text_takes bytes x fits e =
-    let a = bind_ok (stopped_at (rise_at most_length bytes) bytes (number_at w16 bytes)) (λ n. some_at n.0 n.1) x e in
-    let s = stopped_ok (rise_at most_length bytes) bytes (number_at w16 bytes) a.0 a.1 in
-    let t = number_takes w16 (2 ^ 16) wide16 bytes a.0 fits s.1 in
-    let none : rise_at most_length (to_be_bytes w16 a.0.0 ++ a.0.1) ≡ None = ap (λ (xs : List ℕ). rise_at most_length xs) (sym t.0.parts) ∙ s.0 in
-    let le : value (to_be_bytes w16 a.0.0) ≤ value most_length = rise_le most_length (to_be_bytes w16 a.0.0) a.0.1 refl (IsBytes-high_first 2 a.0.0) none in
-    let is : value (to_be_bytes w16 a.0.0) ≡ a.0.0 = value-of_2 (to_be_bytes w16 a.0.0) refl ∙ wide16.again a.0.0 t.1 in
+    let a = bind_ok (limited_at w16 most_length bytes) (λ n. some_at n.0 n.1) x e in
+    let t = length_format.takes bytes a.0 fits a.1 in
     let body = some_takes a.0.0 a.0.1 x t.0.rest_fits a.2 in
-    (subst (λ (n : ℕ). Takes bytes (to_be_bytes w16 n ++ x.0) x.1) (sym body.1.0) (Takes-then bytes (to_be_bytes w16 a.0.0) a.0.1 x.0 x.1 t.0 body.0), omega (arith, le, is, body.1.0))
+    (subst (λ (n : ℕ). Takes bytes (to_be_bytes w16 n ++ x.0) x.1) (sym body.1.0) (Takes-then bytes (to_be_bytes w16 a.0.0) a.0.1 x.0 x.1 t.0 body.0), omega (arith, t.1, body.1.0))
 
 text_again : (text rest : List ℕ) → IsText text → text_at ((to_be_bytes w16 (length text) ++ text) ++ rest) ≡ Ok (text, rest)
 unfolding text_at
 text_again text rest fits =
-    let n : ℕ = length text in
-    let is : value (to_be_bytes w16 (length text)) ≡ length text = value-of_2 (to_be_bytes w16 (length text)) refl ∙ wide16.again (length text) (omega (arith, fits)) in
-    let none : rise_at most_length (to_be_bytes w16 (length text) ++ (text ++ rest)) ≡ None = le_rise most_length (to_be_bytes w16 (length text)) (text ++ rest) refl IsBytes-length (omega (arith, fits, is)) in
     ap text_at (append_assoc (to_be_bytes w16 (length text)) text rest)
-    ∙ ap (λ (o : Option ℕ). stopped_at o (to_be_bytes w16 (length text) ++ (text ++ rest)) (number_at w16 (to_be_bytes w16 (length text) ++ (text ++ rest))) >>= λ n. some_at n.0 n.1) none
-    ∙ ap (λ (r : Reading ℕ). r >>= λ n. some_at n.0 n.1) (number_again w16 (2 ^ 16) wide16 (length text) (text ++ rest) (omega (arith, fits)))
+    ∙ ap (λ (r : Reading ℕ). r >>= λ n. some_at n.0 n.1) (length_format.again (length text) (text ++ rest) fits)
     ∙ some_again text rest
 
 text_within : (bytes : List ℕ) (left : ℕ) → IsBytes bytes → text_at bytes ≡ Err left → left ≤ length bytes
 unfolding text_at
-text_within bytes left fits e = elim (bind_err (stopped_at (rise_at most_length bytes) bytes (number_at w16 bytes)) (λ n. some_at n.0 n.1) left e) [
-  | inl head ↦ elim (stopped_err (rise_at most_length bytes) bytes (number_at w16 bytes) left head) [ inl stopped ↦ stopped | inr short ↦ number_within w16 bytes left short ]
+text_within bytes left fits e = elim (bind_err (limited_at w16 most_length bytes) (λ n. some_at n.0 n.1) left e) [
+  | inl head ↦ length_format.within bytes left fits head
   | inr a ↦
-      let s = stopped_ok (rise_at most_length bytes) bytes (number_at w16 bytes) a.0 a.1 in
-      let t = number_takes w16 (2 ^ 16) wide16 bytes a.0 fits s.1 in
+      let t = length_format.takes bytes a.0 fits a.1 in
       let shorter = rest_shorter bytes (to_be_bytes w16 a.0.0) a.0.1 t.0 in
       let inner = some_within a.0.0 a.0.1 left a.2 in
       omega arith
 ]
 
-text_format : IsFormat (λ text. to_be_bytes w16 (length text) ++ text) IsText text_at
+pub text_format : IsFormat (λ text. to_be_bytes w16 (length text) ++ text) IsText text_at
 text_format = record { takes = text_takes; again = text_again; within = text_within }
 
 -- ---- states
 
-two_numbers : IsFormat (λ (p : ℕ × ℕ). to_be_bytes w64 p.0 ++ to_be_bytes w64 p.1) (λ p. (p.0 < 2 ^ 64) × (p.1 < 2 ^ 64)) (pair_at (number_at w64) (number_at w64))
+pub two_numbers : IsFormat (λ (p : ℕ × ℕ). to_be_bytes w64 p.0 ++ to_be_bytes w64 p.1) (λ p. (p.0 < 2 ^ 64) × (p.1 < 2 ^ 64)) (pair_at (number_at w64) (number_at w64))
 two_numbers = pair_format (number_format w64 (2 ^ 64) wide64) (number_format w64 (2 ^ 64) wide64)
 
-version_and_text : IsFormat (λ (p : ℕ × List ℕ). to_be_bytes w64 p.0 ++ (to_be_bytes w16 (length p.1) ++ p.1)) (λ p. (p.0 < 2 ^ 64) × IsText p.1) (pair_at (number_at w64) text_at)
+pub version_and_text : IsFormat (λ (p : ℕ × List ℕ). to_be_bytes w64 p.0 ++ (to_be_bytes w16 (length p.1) ++ p.1)) (λ p. (p.0 < 2 ^ 64) × IsText p.1) (pair_at (number_at w64) text_at)
 version_and_text = pair_format (number_format w64 (2 ^ 64) wide64) text_format
 
 state_takes : (bytes : List ℕ) (x : State × List ℕ) → IsBytes bytes → state_at bytes ≡ Ok x → Takes bytes (state_spelling x.0) x.1 × FitsState x.0
@@ -210,7 +209,7 @@ state_takes (suc (suc zero) ∷ bytes) x fits e =
     (record { parts = ap (λ (w : List ℕ). 2 ∷ w) t.0.parts; rest_fits = t.0.rest_fits }, t.1)
 state_takes (suc (suc (suc b)) ∷ bytes) x fits e = absurd cc
 
-small_bits : (z : ℤ) → FitsSigned w64 z → cast_unsigned w64 z < 2 ^ 64
+pub small_bits : (z : ℤ) → FitsSigned w64 z → cast_unsigned w64 z < 2 ^ 64
 small_bits (pos m) fits = omega (arith, fits)
 small_bits (negsuc m) fits = omega arith
 
@@ -238,7 +237,7 @@ state_within (suc (suc zero) ∷ bytes) left fits e = elim (bind_err (pair_at (n
 ]
 state_within (suc (suc (suc b)) ∷ bytes) left fits e = let all : length (b ∷ bytes) ≡ left = left_is {A = State} (length (b ∷ bytes)) left e in omega arith
 
-state_format : IsFormat state_spelling FitsState state_at
+pub state_format : IsFormat state_spelling FitsState state_at
 state_format = record { takes = state_takes; again = state_again; within = state_within }
 
 -- ---- what was accepted

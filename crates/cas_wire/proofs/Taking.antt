@@ -1,10 +1,11 @@
 -- What a part says of its bytes.
 use Rattle.std.proofs.Common.{◌≡◌, ℕ, ◌-◌, ◌≤◌, List, length, take, drop, Ok, Err, sym, ap, ◌∙◌, arith}
 use Rattle.std.proofs.lemmas.List.{take_at, drop_at, length-append}
-use Rattle.cas_wire.specs.Part.{IsPart, IsSpelledPart}
+use Rattle.cas_wire.specs.Part.{IsPart, IsSpelledPart, StopsAtFirst}
 use Rattle.cas_wire.specs.Reading.{Reading}
 use Rattle.cas_wire.specs.declared.parts.Part.TheVariants as part
 use Rattle.cas_wire.proofs.Formats.{IsBytes, IsFormat, Takes, not_err, rest_shorter}
+use Rattle.cas_wire.proofs.Stops.{Stops, first_wrong}
 
 used_is : {A : Type 0} (s : A → List ℕ) (bytes rest : List ℕ) (value : A) → Takes bytes (s value) rest → length bytes - length rest ≡ length (s value)
 used_is s bytes rest value t = omega (arith, ap (λ (xs : List ℕ). length xs) t.parts, length-append (s value) rest)
@@ -34,3 +35,6 @@ module _ {A : Type 0} {s : A → List ℕ} {F : A → Type 0} {r : List ℕ → 
       let few = format.within bytes left fits e in
       let same : left ≡ length bytes - (length bytes - left) = omega (arith, few) in
       (omega arith, e ∙ ap (λ (n : ℕ). Err n) same)
+
+  pub wrong_first : Stops s F r → (bytes : List ℕ) (left : ℕ) → IsBytes bytes → r bytes ≡ Err left → StopsAtFirst s F bytes (part.Wrong (length bytes - left))
+  wrong_first stops bytes left fits e = first_wrong s F bytes left (stops bytes left fits e)

@@ -1,3 +1,6 @@
+pub mod Frame
+pub mod FrameReading
+pub mod Kinds
 pub mod Part
 pub mod Reading
 pub mod Spelling

@@ -46,6 +46,10 @@ pub record FitsBallot (ballot : Ballot) : Type 0 where
   pub counter : ballot.counter ≤ 2 ^ 48
   pub proposer : ballot.proposer ≤ 16
 
+abbrev pub FitsBody : Body → Type 0
+FitsBody (Number n) = FitsSigned w64 n
+FitsBody (Text text) = IsText text
+
 abbrev pub FitsState : State → Type 0
 FitsState Empty = Unit {0}
 FitsState (Held version (Number n)) = (version < 2 ^ 64) × FitsSigned w64 n

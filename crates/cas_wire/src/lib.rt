@@ -1,10 +1,20 @@
-//! The parts that frames share with the cells of a disk, as bytes, format 1.
+//! The frames of requests and replies as bytes, format 1, and the parts that they share with the cells of a disk.
 //!
-//! Each value has one spelling, and no spelling begins another. No frame and no cell lives here.
+//! Each value has one spelling, and no spelling begins another. No cell lives here, and nothing is sent or kept.
 #![tactic(auto)]
 
+mod frame;
+#[cfg(test)]
+mod frame_tests;
+mod kinds;
 pub mod parts;
 mod reading;
+mod reply;
+mod request;
 #[cfg(test)]
 mod tests;
 mod writing;
+
+pub use frame::LONGEST_FRAME;
+pub use reply::{decode_reply, encode_reply, encode_reply_into};
+pub use request::{decode_request, encode_request};

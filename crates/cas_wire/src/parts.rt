@@ -3,7 +3,7 @@
 ghost use Rattle.std.specs.Prelude.{◌≡◌, ◌++◌, IfOk, IfSome, OnOk, OnErr};
 ghost use Rattle.std.specs.Option.{option_copied};
 ghost use Rattle.cas_change.specs.Key.{IsKey};
-ghost use Rattle.cas_wire.specs.Part.{IsPart, IsSpelledPart};
+ghost use Rattle.cas_wire.specs.Part.{IsPart, IsSpelledPart, StopsAtFirst};
 ghost use Rattle.cas_wire.specs.Reading.{key_at, ballot_at, optional_at, accepted_at};
 ghost use Rattle.cas_wire.specs.Spelling.{key_spelling, ballot_spelling, accepted_spelling, optional_spelling, FitsBallot, FitsAccepted};
 
@@ -60,6 +60,7 @@ pub fn push_accepted(out: &mut Vec<u8>, accepted: Option<&Accepted>) -> Result<(
 pub fn take_key(alloc: Global, bytes: &[u8]) -> Result<Part<Key>, AllocError>
     ensures spelled { IfOk result (IsSpelledPart key_spelling IsKey bytes.now) }
     ensures place { IfOk result (IsPart (key_at bytes.now) bytes.now) }
+    ensures first { IfOk result (StopsAtFirst key_spelling IsKey bytes.now) }
 {
     match reading::key_at(alloc, bytes) {
         Ok((value, rest)) => Ok(Part::Read {
@@ -77,6 +78,7 @@ pub fn take_key(alloc: Global, bytes: &[u8]) -> Result<Part<Key>, AllocError>
 pub fn take_ballot(bytes: &[u8]) -> Part<Ballot>
     ensures spelled { IsSpelledPart ballot_spelling FitsBallot bytes.now result }
     ensures place { IsPart (ballot_at bytes.now) bytes.now result }
+    ensures first { StopsAtFirst ballot_spelling FitsBallot bytes.now result }
 {
     match reading::ballot_at(bytes) {
         Ok((value, rest)) => Part::Read {
@@ -94,6 +96,7 @@ pub fn take_ballot(bytes: &[u8]) -> Part<Ballot>
 pub fn take_accepted(alloc: Global, bytes: &[u8]) -> Result<Part<Option<Accepted>>, AllocError>
     ensures spelled { IfOk result (IsSpelledPart (optional_spelling accepted_spelling) (λ accepted. IfSome accepted FitsAccepted) bytes.now) }
     ensures place { IfOk result (IsPart (optional_at accepted_at bytes.now) bytes.now) }
+    ensures first { IfOk result (StopsAtFirst (optional_spelling accepted_spelling) (λ accepted. IfSome accepted FitsAccepted) bytes.now) }
 {
     match reading::accepted_or_none_at(alloc, bytes) {
         Ok((value, rest)) => Ok(Part::Read {

@@ -9,7 +9,7 @@ ghost use Rattle.cas_wire.specs.Reading.{number_at, byte_where, rise_at, is_key_
 use cas_ballot::Ballot;
 use cas_change::{Body, Key, State, Text};
 use cas_slot::Accepted;
-use std::alloc::{AllocError, Global};
+use std::alloc::{AllocError, AllocFailed, Global};
 
 /// Why a part was not read.
 #[derive(Clone, Copy, Debug, PartialEq, Eq)]
@@ -17,6 +17,17 @@ pub(crate) enum ReadError {
     NoMemory,
     /// So many bytes are left from the first one on that cannot stand there.
     Wrong { left: usize },
+}
+
+impl<T: Drop> From<AllocFailed<T>> for ReadError {
+    ghost use Rattle.std.specs.Prelude.{◌≡◌};
+    ghost use Rattle.cas_wire.specs.declared.reading.ReadError.TheVariants.{NoMemory};
+
+    ghost from_gives = { λ _ e. e ≡ NoMemory };
+
+    fn from(_: AllocFailed<T>) -> Self {
+        ReadError::NoMemory
+    }
 }
 
 impl From<AllocError> for ReadError {
@@ -30,7 +41,7 @@ impl From<AllocError> for ReadError {
     }
 }
 
-const fn wrong<T>(left: usize) -> Result<T, ReadError>
+pub(crate) const fn wrong<T>(left: usize) -> Result<T, ReadError>
     ensures { result ≡ Err (ReadError.Wrong left) }
 {
     Err(ReadError::Wrong { left })
@@ -252,6 +263,36 @@ pub(crate) fn accepted_or_none_at(
         [1, rest @ ..] => {
             let (accepted, rest) = accepted_at(alloc, rest)?;
             Ok((Some(accepted), rest))
+        }
+        [_, ..] => wrong(bytes.len()),
+    }
+}
+
+/// A ballot, if there is one.
+pub(crate) fn ballot_or_none_at(bytes: &[u8]) -> Result<(Option<Ballot>, &[u8]), ReadError>
+    ensures { Gives (λ x. (x.0, x.1.now)) result (optional_at ballot_at bytes.now) }
+{
+    match bytes {
+        [] => wrong(0),
+        [0, rest @ ..] => Ok((None, rest)),
+        [1, rest @ ..] => {
+            let (ballot, rest) = ballot_at(rest)?;
+            Ok((Some(ballot), rest))
+        }
+        [_, ..] => wrong(bytes.len()),
+    }
+}
+
+/// A key, if there is one.
+pub(crate) fn key_or_none_at(alloc: Global, bytes: &[u8]) -> Result<(Option<Key>, &[u8]), ReadError>
+    ensures { Gives (λ x. (x.0, x.1.now)) result (optional_at key_at bytes.now) }
+{
+    match bytes {
+        [] => wrong(0),
+        [0, rest @ ..] => Ok((None, rest)),
+        [1, rest @ ..] => {
+            let (key, rest) = key_at(alloc, rest)?;
+            Ok((Some(key), rest))
         }
         [_, ..] => wrong(bytes.len()),
     }

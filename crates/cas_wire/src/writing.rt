@@ -1,9 +1,11 @@
 //! Writers of parts, into room that is there.
 
-ghost use Rattle.std.specs.Prelude.{◌≡◌, ◌+◌, ◌≤◌, ◌++◌, [], ◌∷◌, length, vec_len, vec_capacity};
+ghost use Rattle.std.specs.Prelude.{◌≡◌, ◌+◌, ◌*◌, ◌^◌, ◌<◌, ◌≤◌, ◌++◌, [], ◌∷◌, length, FitsSigned, IfSome, vec_len, vec_capacity};
+ghost use Rattle.std.specs.List.{flat_map, AllByRecursion};
 ghost use Rattle.std.specs.Int.{w16, w32, w64, to_be_bytes, cast_unsigned};
 ghost use Rattle.std.specs.Option.{option_copied};
-ghost use Rattle.cas_wire.specs.Spelling.{key_spelling, ballot_spelling, body_kind, body_spelling, state_spelling, accepted_spelling, optional_spelling};
+ghost use Rattle.cas_change.specs.Key.{IsKey};
+ghost use Rattle.cas_wire.specs.Spelling.{FitsBody, FitsBallot, FitsState, FitsAccepted, key_spelling, ballot_spelling, body_kind, body_spelling, state_spelling, accepted_spelling, optional_spelling};
 ghost use Rattle.cas_wire.specs.Writing.{Puts};
 
 use byteorder::{BigEndian, ByteOrder};
@@ -38,7 +40,8 @@ pub(crate) fn put_u16(out: &mut Vec<u8>, number: u16)
 
 pub(crate) fn put_u32(out: &mut Vec<u8>, number: u32)
     requires { vec_len out.old + 4 ≤ vec_capacity out.old }
-    ensures { Puts out.old out.new (to_be_bytes w32 number) 4 }
+    ensures spelling { Puts out.old out.new (to_be_bytes w32 number) 4 }
+    ensures fits { number < 2 ^ 32 }
 {
     let mut bytes = [0; 4];
     BigEndian::write_u32(&mut bytes, number);
@@ -47,7 +50,8 @@ pub(crate) fn put_u32(out: &mut Vec<u8>, number: u32)
 
 pub(crate) fn put_u64(out: &mut Vec<u8>, number: u64)
     requires { vec_len out.old + 8 ≤ vec_capacity out.old }
-    ensures { Puts out.old out.new (to_be_bytes w64 number) 8 }
+    ensures spelling { Puts out.old out.new (to_be_bytes w64 number) 8 }
+    ensures fits { number < 2 ^ 64 }
 {
     let mut bytes = [0; 8];
     BigEndian::write_u64(&mut bytes, number);
@@ -56,7 +60,8 @@ pub(crate) fn put_u64(out: &mut Vec<u8>, number: u64)
 
 pub(crate) fn put_i64(out: &mut Vec<u8>, number: i64)
     requires { vec_len out.old + 8 ≤ vec_capacity out.old }
-    ensures { Puts out.old out.new (to_be_bytes w64 (cast_unsigned w64 number)) 8 }
+    ensures spelling { Puts out.old out.new (to_be_bytes w64 (cast_unsigned w64 number)) 8 }
+    ensures fits { FitsSigned w64 number }
 {
     put_u64(out, number.cast_unsigned());
 }
@@ -64,7 +69,8 @@ pub(crate) fn put_i64(out: &mut Vec<u8>, number: i64)
 #[tactic(auto, unfolding(crate::specs::Spelling::key_spelling))]
 pub(crate) fn put_key(out: &mut Vec<u8>, key: &Key)
     requires { vec_len out.old + 65 ≤ vec_capacity out.old }
-    ensures { Puts out.old out.new (key_spelling key.now) 65 }
+    ensures spelling { Puts out.old out.new (key_spelling key.now) 65 }
+    ensures fits { IsKey key.now }
 {
     let bytes = key.bytes();
     put_byte(out, bytes.len() as u8);
@@ -91,7 +97,8 @@ const fn kind_of(body: &Body) -> u8
 
 fn put_body(out: &mut Vec<u8>, body: &Body)
     requires { vec_len out.old + 202 ≤ vec_capacity out.old }
-    ensures { Puts out.old out.new (body_spelling body.now) 202 }
+    ensures spelling { Puts out.old out.new (body_spelling body.now) 202 }
+    ensures fits { FitsBody body.now }
 {
     match body {
         Body::Number(number) => put_i64(out, *number),
@@ -103,10 +110,11 @@ fn put_body(out: &mut Vec<u8>, body: &Body)
     }
 }
 
-#[tactic(auto, unfolding(crate::specs::Spelling::state_spelling))]
+#[tactic(auto, using(crate::proofs::Fitting::held_fits), unfolding(crate::specs::Spelling::state_spelling))]
 pub(crate) fn put_state(out: &mut Vec<u8>, state: &State)
     requires { vec_len out.old + 211 ≤ vec_capacity out.old }
-    ensures { Puts out.old out.new (state_spelling state.now) 211 }
+    ensures spelling { Puts out.old out.new (state_spelling state.now) 211 }
+    ensures fits { FitsState state.now }
 {
     match state {
         State::Empty => put_byte(out, 0),
@@ -121,7 +129,8 @@ pub(crate) fn put_state(out: &mut Vec<u8>, state: &State)
 #[tactic(auto, unfolding(crate::specs::Spelling::accepted_spelling))]
 pub(crate) fn put_accepted(out: &mut Vec<u8>, accepted: &Accepted)
     requires { vec_len out.old + 224 ≤ vec_capacity out.old }
-    ensures { Puts out.old out.new (accepted_spelling accepted.now) 224 }
+    ensures spelling { Puts out.old out.new (accepted_spelling accepted.now) 224 }
+    ensures fits { FitsBallot accepted.now.ballot → FitsAccepted accepted.now }
 {
     put_ballot(out, accepted.ballot);
     put_u32(out, accepted.era);
@@ -130,7 +139,8 @@ pub(crate) fn put_accepted(out: &mut Vec<u8>, accepted: &Accepted)
 
 pub(crate) fn put_accepted_or_none(out: &mut Vec<u8>, accepted: Option<&Accepted>)
     requires { vec_len out.old + 225 ≤ vec_capacity out.old }
-    ensures { Puts out.old out.new (optional_spelling accepted_spelling (option_copied accepted.entry)) 225 }
+    ensures spelling { Puts out.old out.new (optional_spelling accepted_spelling (option_copied accepted.entry)) 225 }
+    ensures fits { IfSome (option_copied accepted.entry) (λ a. FitsBallot a.ballot → FitsAccepted a) }
 {
     match accepted {
         Some(accepted) => {
@@ -138,5 +148,54 @@ pub(crate) fn put_accepted_or_none(out: &mut Vec<u8>, accepted: Option<&Accepted
             put_accepted(out, accepted);
         }
         None => put_byte(out, 0),
+    }
+}
+
+pub(crate) fn put_ballot_or_none(out: &mut Vec<u8>, ballot: Option<Ballot>)
+    requires { vec_len out.old + 10 ≤ vec_capacity out.old }
+    ensures { Puts out.old out.new (optional_spelling ballot_spelling ballot) 10 }
+{
+    match ballot {
+        Some(ballot) => {
+            put_byte(out, 1);
+            put_ballot(out, ballot);
+        }
+        None => put_byte(out, 0),
+    }
+}
+
+pub(crate) fn put_key_or_none(out: &mut Vec<u8>, key: Option<&Key>)
+    requires { vec_len out.old + 66 ≤ vec_capacity out.old }
+    ensures spelling { Puts out.old out.new (optional_spelling key_spelling (option_copied key.entry)) 66 }
+    ensures fits { IfSome (option_copied key.entry) IsKey }
+{
+    match key {
+        Some(key) => {
+            put_byte(out, 1);
+            put_key(out, key);
+        }
+        None => put_byte(out, 0),
+    }
+}
+
+/// Each key, one behind the other.
+pub(crate) fn put_keys(out: &mut Vec<u8>, keys: &[Key])
+    requires { vec_len out.old + 65 * length keys.now ≤ vec_capacity out.old }
+    ensures spelling { Puts out.old out.new (flat_map key_spelling keys.now) (65 * length keys.now) }
+    ensures fits { AllByRecursion IsKey keys.now }
+{
+    for key in keys {
+        put_key(out, key);
+    }
+}
+
+/// Each number, one behind the other.
+pub(crate) fn put_numbers(out: &mut Vec<u8>, numbers: &[u64])
+    requires { vec_len out.old + 8 * length numbers.now ≤ vec_capacity out.old }
+    ensures spelling { Puts out.old out.new (flat_map (to_be_bytes w64) numbers.now) (8 * length numbers.now) }
+    ensures fits { AllByRecursion (λ number. number < 2 ^ 64) numbers.now }
+{
+    for number in numbers {
+        put_u64(out, *number);
     }
 }

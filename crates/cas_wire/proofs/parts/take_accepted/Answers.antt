@@ -1,6 +1,7 @@
 use Rattle.std.proofs.Common.{arith}
 use Rattle.cas_wire.proofs.PartFormats.{accepted_or_none_format}
-use Rattle.cas_wire.proofs.Taking.{left_over, found_spelled, found_place, wrong_spelled, wrong_place}
+use Rattle.cas_wire.proofs.PartStops.{accepted_or_none_stops}
+use Rattle.cas_wire.proofs.Taking.{left_over, found_spelled, found_place, wrong_spelled, wrong_place, wrong_first}
 use Rattle.cas_wire.proofs.parts.take_accepted.Goals as goal
 
 pub overflow_sub-result : goal.overflow_sub-result
@@ -20,3 +21,6 @@ returns-in-Err-Wrong-clause-spelled c = wrong_spelled accepted_or_none_format c.
 
 pub returns-in-Err-Wrong-clause-place : goal.returns-in-Err-Wrong-clause-place
 returns-in-Err-Wrong-clause-place c = wrong_place accepted_or_none_format c.args.bytes.now c.in-Err-Wrong.left (λ i. omega (arith, c.type_inv.bytes i)) (rw c.in-Err-Wrong.field-0-is at c.in-Err-Wrong.ensures)
+
+pub returns-in-Err-Wrong-clause-first : goal.returns-in-Err-Wrong-clause-first
+returns-in-Err-Wrong-clause-first c = wrong_first accepted_or_none_stops c.args.bytes.now c.in-Err-Wrong.left (λ i. omega (arith, c.type_inv.bytes i)) (rw c.in-Err-Wrong.field-0-is at c.in-Err-Wrong.ensures)

@@ -1,0 +1,59 @@
+-- Writing values one after another, as a loop does.
+use Rattle.std.proofs.Common.{◌≡◌, ℕ, ◌+◌, ◌*◌, ◌<◌, ◌≤◌, List, [], ◌∷◌, ◌++◌, length, get_or, take, refl, sym, ap, subst, ◌∙◌, append_assoc, arith}
+use Rattle.std.specs.Prelude.{vec_len, vec_capacity}
+use Rattle.std.specs.Global.{Vec}
+use Rattle.std.specs.List.{flat_map, AllByRecursion}
+use Rattle.std.proofs.lemmas.List.{append-nil, take_more, flat_map_more, take_all}
+use Rattle.cas_wire.specs.Writing.{Puts}
+
+-- each of the first values is put
+pub record PutsFront {A : Type 0} (spelling : A → List ℕ) (Fits : A → Type 0) (most : ℕ) (old new : Vec ℕ) (values : List A) (i : ℕ) : Type 0 where
+  pub put : Puts old new (flat_map spelling (take i values)) (most * i)
+  pub fits : AllByRecursion Fits (take i values)
+
+all_more : {A : Type 0} (P : A → Type 0) (xs : List A) (x : A) → AllByRecursion P xs → P x → AllByRecursion P (xs ++ x ∷ [])
+all_more P [] x h p = (p, tt)
+all_more P (y ∷ ys) x h p = (h.0, all_more P ys x h.1 p)
+
+pub none_put : {A : Type 0} (spelling : A → List ℕ) (Fits : A → Type 0) (most : ℕ) (out : Vec ℕ) (values : List A) → PutsFront spelling Fits most out out values 0
+none_put spelling Fits most out values = record {
+  put = record { items = sym (append-nil out.items); len = omega arith; capacity = omega arith };
+  fits = tt;
+}
+
+pub one_more : {A : Type 0} (spelling : A → List ℕ) (Fits : A → Type 0) (most : ℕ) (old mid new : Vec ℕ) (values : List A) (i : ℕ) (x : A) → i < length values → x ≡ get_or values i x
+    → PutsFront spelling Fits most old mid values i → Puts mid new (spelling x) most → Fits x → PutsFront spelling Fits most old new values (i + 1)
+one_more spelling Fits most old mid new values i x lt is front put fits =
+    let taken : take (i + 1) values ≡ take i values ++ x ∷ [] = take_more values i x lt ∙ ap (λ y. take i values ++ y ∷ []) (sym is) in
+    let before = front.put in
+    record {
+      put = record {
+        items = put.items ∙ ap (λ (text : List ℕ). text ++ spelling x) before.items ∙ flat_map_more spelling old.items (take i values) x ∙ ap (λ xs. old.items ++ flat_map spelling xs) (sym taken);
+        len = let a = before.len in let b = put.len in omega arith;
+        capacity = let a = before.capacity in let b = put.capacity in omega arith;
+      };
+      fits = subst (AllByRecursion Fits) (sym taken) (all_more Fits (take i values) x front.fits fits);
+    }
+
+pub all_put : {A : Type 0} (spelling : A → List ℕ) (Fits : A → Type 0) (most : ℕ) (old new : Vec ℕ) (values : List A) (i : ℕ) → length values ≤ i → i ≤ length values → PutsFront spelling Fits most old new values i
+    → Puts old new (flat_map spelling values) (most * length values) × AllByRecursion Fits values
+all_put spelling Fits most old new values i ge le front =
+    let whole : take i values ≡ values = take_all i values ge in
+    let same : i ≡ length values = omega arith in
+    (subst (λ n. Puts old new (flat_map spelling values) (most * n)) same (subst (λ xs. Puts old new (flat_map spelling xs) (most * i)) whole front.put), subst (AllByRecursion Fits) whole front.fits)
+
+-- ---- one behind the other
+
+pub Puts-then : (a b c : Vec ℕ) (s t : List ℕ) (m n : ℕ) → Puts a b s m → Puts b c t n → Puts a c (s ++ t) (m + n)
+Puts-then a b c s t m n p q = record {
+  items = q.items ∙ ap (λ (text : List ℕ). text ++ t) p.items ∙ append_assoc a.items s t;
+  len = let k = p.len in let l = q.len in omega arith;
+  capacity = let k = p.capacity in let l = q.capacity in omega arith;
+}
+
+pub four_put : (a b c d e : Vec ℕ) (w x y z : ℕ) → Puts a b (w ∷ []) 1 → Puts b c (x ∷ []) 1 → Puts c d (y ∷ []) 1 → Puts d e (z ∷ []) 1 → Puts a e (w ∷ x ∷ y ∷ z ∷ []) 4
+four_put a b c d e w x y z p q r s =
+    Puts-then a d e (w ∷ x ∷ y ∷ []) (z ∷ []) 3 1 (Puts-then a c d (w ∷ x ∷ []) (y ∷ []) 2 1 (Puts-then a b c (w ∷ []) (x ∷ []) 1 1 p q) r) s
+
+pub Puts-as : (a b : Vec ℕ) (s t : List ℕ) (m : ℕ) → Puts a b s m → s ≡ t → Puts a b t m
+Puts-as a b s t m p e = subst (λ (text : List ℕ). Puts a b text m) e p

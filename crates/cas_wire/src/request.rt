@@ -1,0 +1,214 @@
+//! The frames of requests.
+
+ghost use Rattle.std.specs.Prelude.{◌≡◌, ℕ, ◌+◌, ◌≤◌, List, [], ◌++◌, length, Some, IfOk, IfSome, vec_len, vec_capacity};
+ghost use Rattle.cas_slot.specs.declared.message.Request.{Request};
+ghost use Rattle.cas_wire.specs.Frame.{IsRequest, CanBeAsked, BallotsFit, FitsAsk, FitsRequest, ask_spelling, request_spelling};
+ghost use Rattle.cas_wire.specs.FrameReading.{named_at, accept_at, ages_at, ask_at, request_head_at, request_at};
+ghost use Rattle.cas_wire.specs.Kinds.{phases};
+ghost use Rattle.cas_wire.specs.Part.{Gives};
+ghost use Rattle.cas_wire.specs.Writing.{Puts};
+
+use crate::frame::{FORMAT, LONGEST_FRAME, acceptor_at, format_at, phase_at, whole};
+use crate::reading::{self, ReadError};
+use crate::{kinds, writing};
+use cas_ballot::AcceptorId;
+use cas_slot::{Ages, Ask, PROPOSERS, Phase, Request};
+use std::alloc::{AllocError, Global};
+
+/// What stands before the question.
+#[derive(Drop)]
+struct RequestHead {
+    phase: Phase,
+    to: AcceptorId,
+    from: u8,
+    age: u64,
+}
+
+fn ages_at(bytes: &[u8]) -> Result<(Ages, &[u8]), ReadError>
+    ensures { Gives (λ x. (x.0.0, x.1.now)) result (ages_at bytes.now) }
+{
+    let mut least = Ages::ZERO;
+    let mut rest = bytes;
+    for i in 0..PROPOSERS {
+        let (age, after) = reading::u64_at(rest)?;
+        least.0[i] = age;
+        rest = after;
+    }
+    Ok((least, rest))
+}
+
+#[tactic(auto, unfolding(crate::specs::FrameReading::accept_at))]
+fn accept_at(alloc: Global, bytes: &[u8]) -> Result<(Ask, &[u8]), ReadError>
+    ensures { Gives (λ x. (x.0, x.1.now)) result (accept_at bytes.now) }
+{
+    let (key, rest) = reading::key_at(alloc, bytes)?;
+    let (ballot, rest) = reading::ballot_at(rest)?;
+    let (era, rest) = reading::u32_at(rest)?;
+    let (ride, rest) = reading::ballot_or_none_at(rest)?;
+    let (state, rest) = reading::state_at(alloc, rest)?;
+    let ask = Ask::Accept {
+        key,
+        ballot,
+        era,
+        ride,
+        state,
+    };
+    Ok((ask, rest))
+}
+
+/// The question of that kind.
+#[tactic(auto, unfolding(crate::specs::FrameReading::ask_at))]
+fn ask_at(alloc: Global, phase: Phase, bytes: &[u8]) -> Result<(Ask, &[u8]), ReadError>
+    ensures { Gives (λ x. (x.0, x.1.now)) result (ask_at phase bytes.now) }
+{
+    match phase {
+        Phase::Prepare => {
+            let (key, rest) = reading::key_at(alloc, bytes)?;
+            let (ballot, rest) = reading::ballot_at(rest)?;
+            Ok((Ask::Prepare { key, ballot }, rest))
+        }
+        Phase::Accept => accept_at(alloc, bytes),
+        Phase::Ages => {
+            let (tag, rest) = reading::ballot_at(bytes)?;
+            let (least, rest) = ages_at(rest)?;
+            Ok((Ask::Ages { tag, least }, rest))
+        }
+        Phase::Remove => {
+            let (key, rest) = reading::key_at(alloc, bytes)?;
+            let (tomb, rest) = reading::ballot_at(rest)?;
+            Ok((Ask::Remove { key, tomb }, rest))
+        }
+        Phase::List => {
+            let (tag, rest) = reading::ballot_at(bytes)?;
+            let (after, rest) = reading::key_or_none_at(alloc, rest)?;
+            Ok((Ask::List { tag, after }, rest))
+        }
+        Phase::Probe => {
+            let (tag, rest) = reading::ballot_at(bytes)?;
+            let (key, rest) = reading::key_at(alloc, rest)?;
+            Ok((Ask::Probe { tag, key }, rest))
+        }
+    }
+}
+
+#[tactic(auto, unfolding(crate::specs::FrameReading::request_head_at))]
+fn request_head_at(bytes: &[u8]) -> Result<(RequestHead, &[u8]), ReadError>
+    ensures { Gives (λ x. (x.0, x.1.now)) result (request_head_at bytes.now) }
+{
+    let (_, rest) = format_at(bytes)?;
+    let (phase, rest) = phase_at(rest)?;
+    let (to, rest) = match acceptor_at(rest) {
+        Ok(found) => found,
+        Err(error) => return Err(error),
+    };
+    let (from, rest) = reading::proposer_at(rest)?;
+    let (age, rest) = reading::u64_at(rest)?;
+    let head = RequestHead {
+        phase,
+        to,
+        from,
+        age,
+    };
+    Ok((head, rest))
+}
+
+#[tactic(auto, unfolding(crate::specs::FrameReading::request_at))]
+fn request_at(alloc: Global, bytes: &[u8]) -> Result<(Request, &[u8]), ReadError>
+    ensures { Gives (λ x. (x.0, x.1.now)) result (request_at bytes.now) }
+{
+    let (head, rest) = match request_head_at(bytes) {
+        Ok(found) => found,
+        Err(error) => return Err(error),
+    };
+    let (ask, rest) = ask_at(alloc, head.phase, rest)?;
+    let request = Request {
+        to: head.to,
+        from: head.from,
+        age: head.age,
+        ask,
+    };
+    Ok((request, rest))
+}
+
+/// The request whose frame these bytes are. `None` comes exactly where they are no request's frame.
+pub fn decode_request(alloc: Global, bytes: &[u8]) -> Result<Option<Request>, AllocError>
+    ensures found { IfOk result (λ found. IfSome found (IsRequest bytes.now)) }
+    ensures only { (request : Request) → IsRequest bytes.now request → IfOk result (λ found. found ≡ Some request) }
+{
+    match request_at(alloc, bytes) {
+        Ok((request, rest)) => Ok(whole(request, rest)),
+        Err(ReadError::Wrong { .. }) => Ok(None),
+        Err(ReadError::NoMemory) => Err(AllocError),
+    }
+}
+
+#[tactic(auto, unfolding(crate::specs::Frame::ask_spelling))]
+fn put_ask(out: &mut Vec<u8>, ask: &Ask)
+    requires room { vec_len out.old + 299 ≤ vec_capacity out.old }
+    requires ballots { BallotsFit ask.now }
+    ensures spelling { Puts out.old out.new (ask_spelling ask.now) 299 }
+    ensures fits { FitsAsk ask.now }
+{
+    match ask {
+        Ask::Prepare { key, ballot } => {
+            writing::put_key(out, key);
+            writing::put_ballot(out, *ballot);
+        }
+        Ask::Accept {
+            key,
+            ballot,
+            era,
+            ride,
+            state,
+        } => {
+            writing::put_key(out, key);
+            writing::put_ballot(out, *ballot);
+            writing::put_u32(out, *era);
+            writing::put_ballot_or_none(out, *ride);
+            writing::put_state(out, state);
+        }
+        Ask::Ages { tag, least } => {
+            writing::put_ballot(out, *tag);
+            writing::put_numbers(out, &least.0);
+        }
+        Ask::Remove { key, tomb } => {
+            writing::put_key(out, key);
+            writing::put_ballot(out, *tomb);
+        }
+        Ask::List { tag, after } => {
+            writing::put_ballot(out, *tag);
+            writing::put_key_or_none(out, after.as_ref());
+        }
+        Ask::Probe { tag, key } => {
+            writing::put_ballot(out, *tag);
+            writing::put_key(out, key);
+        }
+    }
+}
+
+#[tactic(auto, unfolding(crate::specs::Frame::request_spelling))]
+fn put_request(out: &mut Vec<u8>, request: &Request)
+    requires room { vec_len out.old + 311 ≤ vec_capacity out.old }
+    requires ask { CanBeAsked request.now }
+    ensures spelling { Puts out.old out.new (request_spelling request.now) 311 }
+    ensures fits { FitsRequest request.now }
+{
+    writing::put_byte(out, FORMAT);
+    writing::put_byte(out, kinds::phase_byte(request.ask.phase()));
+    writing::put_byte(out, request.to.number());
+    writing::put_byte(out, request.from);
+    writing::put_u64(out, request.age);
+    put_ask(out, &request.ask);
+}
+
+/// The frame of a request, which begins no other request's frame.
+pub fn encode_request(alloc: Global, request: &Request) -> Result<Vec<u8>, AllocError>
+    requires { CanBeAsked request.now }
+    ensures frame { IfOk result (λ frame. IsRequest frame.items request.now) }
+    ensures short { IfOk result (λ frame. length frame.items ≤ LONGEST_FRAME) }
+    ensures alone { IfOk result (λ frame. (more : List ℕ) (other : Request) → IsRequest (frame.items ++ more) other → (more ≡ []) × (other ≡ request.now)) }
+{
+    let mut frame = Vec::with_capacity(alloc, LONGEST_FRAME)?;
+    put_request(&mut frame, request);
+    Ok(frame)
+}
