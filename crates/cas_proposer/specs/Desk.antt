@@ -72,7 +72,7 @@ with_ride (Some round) ballot = Some (record round { ride = Some ballot })
 -- ---- the vault
 -- a ballot of this proposer is drawn: the one after its counter
 pub record Draws {V : Type 0} (id : ℕ) (old new : Vault V) (ballot : Ballot) : Type 0 where
-  pub ballot : ballot ≡ record { counter = counter_of old + 1; proposer = id }
+  pub next : ballot ≡ record { counter = counter_of old + 1; proposer = id }
   pub counter : counter_of new ≡ counter_of old + 1
   pub kept : kept_of new ≡ kept_to_draw (counter_of old) (kept_of old)
 

@@ -104,12 +104,12 @@ impl<V: Disk> Desk<V> {
             return Err(VaultError::NoMemory);
         };
         if let Some(ready) = promise {
-            self.round = Some(Round::accepting(own, *era, ready.ballot));
+            self.round = Some(Round::accepting(own, era, ready.ballot));
             return Ok(Began::Accept(ready));
         }
         match draw(&mut self.vault, self.id) {
             Ok(ballot) => {
-                self.round = Some(Round::preparing(own, *era, ballot));
+                self.round = Some(Round::preparing(own, era, ballot));
                 Ok(Began::Prepare(ballot))
             }
             Err(error) => {
@@ -129,9 +129,10 @@ impl<V: Disk> Desk<V> {
         ensures phase { is_in_prepare self.new.round ≡ is_in_prepare self.old.round }
         ensures heard { (old : ARound) → self.old.round ≡ Some old → IsSomeAnd self.new.round (Hears old reply) }
     {
-        if let Some(round) = &mut self.round {
-            round.arrive(reply);
-        }
+        let Some(round) = &mut self.round else {
+            return;
+        };
+        round.arrive(reply);
     }
 
     /// How the open phase ends, should no other reply arrive.
@@ -249,13 +250,10 @@ impl<V: Disk> Desk<V> {
         if self.vault.age() == LAST {
             return Err(VaultError::Spent);
         }
-        self.vault.forward(tomb.counter);
-        match self.vault.raise_age() {
+        match grow_older(&mut self.vault, tomb.counter) {
             Ok(age) => {
-                if let Some(closed) = self.round.take() {
-                    self.cache.forget(&closed.key);
-                }
-                self.cache.forget(key);
+                close(&mut self.cache, &self.round, key);
+                drop(self.round.take());
                 Ok(age)
             }
             Err(VaultError::VaultFault) => {
@@ -317,9 +315,7 @@ impl<V: Disk> Desk<V> {
     {
         match draw(&mut self.vault, self.id) {
             Err(VaultError::VaultFault) => {
-                if let Some(round) = self.round.take() {
-                    finish(&mut self.vault, &mut self.cache, round, None);
-                }
+                give_up(&mut self.vault, &mut self.cache, self.round.take());
                 self.down = true;
                 Err(VaultError::VaultFault)
             }
@@ -403,7 +399,7 @@ impl<V: Disk> Desk<V> {
     }
 }
 
-ghost use Rattle.cas_proposer.specs.Desk.{cache_after, counter_after, met_counter, Draws, ShowsTheSame};
+ghost use Rattle.cas_proposer.specs.Desk.{cache_after, counter_after, cache_without, counter_without, met_counter, key_of, IsOut, IsWithin, Draws, ShowsTheSame};
 
 // Draws a ballot of this proposer.
 fn draw<V: Disk>(vault: &mut Vault<V>, id: ProposerId) -> Result<Ballot, VaultError>
@@ -426,6 +422,42 @@ fn draw<V: Disk>(vault: &mut Vault<V>, id: ProposerId) -> Result<Ballot, VaultEr
     })
 }
 
+// Moves the counter up to this one and raises the age, by one change of the disk.
+fn grow_older<V: Disk>(vault: &mut Vault<V>, counter: u64) -> Result<u64, VaultError>
+    requires stands { Stands V.tells V.seen V.may_leave vault.old }
+    requires within { counter ≤ 2 ^ 48 }
+    ensures age { IfOk result (λ age. age ≡ (kept_of vault.old).age + 1) }
+    ensures counter { counter_of vault.new ≡ max (counter_of vault.old) counter }
+    ensures kept { OnOk result (kept_of vault.new ≡ kept_one_older (max (counter_of vault.old) counter) (kept_of vault.old)) }
+    ensures stands { OnOk result (Stands V.tells V.seen V.may_leave vault.new) }
+    ensures past { V.tells → OnOk result (IsPast V.may_leave counter vault.new) }
+    ensures still_past { V.tells → (n : ℕ) → IsPast V.may_leave n vault.old → IsPast V.may_leave n vault.new }
+    ensures any_moment { V.tells → LeavesOnly V.moment V.left_since (disk_of vault.old) (disk_of vault.new) (IsBeforeOrAfter (kept_of vault.old) (kept_one_older (max (counter_of vault.old) counter) (kept_of vault.old))) }
+    ensures spent { IsErrOf result VaultError.Spent → (kept_of vault.old).age ≡ 2 ^ 48 }
+    ensures after_no_memory { IsErrOf result VaultError.NoMemory → Stands V.tells V.seen V.may_leave vault.new }
+    ensures not_foreign { IsNotForeign result }
+    ensures same { OnErr result (kept_of vault.new ≡ kept_of vault.old) }
+    ensures cause { HasVaultCause result (V.fault_count (disk_of vault.old)) (V.fault_count (disk_of vault.new)) }
+{
+    vault.forward(counter);
+    vault.raise_age()
+}
+
+// Closes the round, if one is open, and takes the key's promise out.
+fn close(cache: &mut Cache, round: &Option<Round>, key: &Key)
+    requires { place_of cache.old ≡ key_of round.now }
+    ensures promises { promises_of cache.new ≡ without key.now (cache_without round.now (promises_of cache.old)) }
+    ensures place { place_of cache.new ≡ None }
+{
+    match round {
+        Some(closed) => {
+            cache.forget(&closed.key);
+            cache.forget(key);
+        }
+        None => cache.forget(key),
+    }
+}
+
 // What a crash leaves beside the vault.
 fn fall(cache: &mut Cache, round: &mut Option<Round>, down: &mut bool)
     ensures promises { promises_of cache.new ≡ [] }
@@ -436,6 +468,23 @@ fn fall(cache: &mut Cache, round: &mut Option<Round>, down: &mut bool)
     cache.clear();
     *round = None;
     *down = true;
+}
+
+// Ends the round, if one is open, which offers no promise.
+fn give_up<V: Disk>(vault: &mut Vault<V>, cache: &mut Cache, round: Option<Round>)
+    requires place { place_of cache.old ≡ key_of round }
+    requires out { IsOut round (promises_of cache.old) }
+    requires within { IsWithin round }
+    ensures promises { promises_of cache.new ≡ cache_without round (promises_of cache.old) }
+    ensures place { place_of cache.new ≡ None }
+    ensures counter { counter_of vault.new ≡ counter_without round (counter_of vault.old) }
+    ensures kept { kept_of vault.new ≡ kept_of vault.old }
+    ensures disk { disk_of vault.new ≡ disk_of vault.old }
+    ensures still_past { (n : ℕ) → IsPast V.may_leave n vault.old → IsPast V.may_leave n vault.new }
+{
+    if let Some(round) = round {
+        finish(vault, cache, round, None);
+    }
 }
 
 // Ends a round that offers this promise, or none.

@@ -45,30 +45,30 @@ impl OpenPhase {
 
 impl Round {
     /// A round in its prepare phase, before any reply.
-    pub fn preparing(key: Key, era: Era, ballot: Ballot) -> Round
-        ensures about { IsAbout key era ballot result }
+    pub fn preparing(key: Key, era: &Era, ballot: Ballot) -> Round
+        ensures about { IsAbout key era.now ballot result }
         ensures phase { IsPreparing [] result }
     {
-        let phase = PrepareRound::new(era, ballot);
-        Round::in_phase(key, era, ballot, OpenPhase::Prepare(phase))
+        let phase = OpenPhase::Prepare(PrepareRound::new(*era, ballot));
+        Round::in_phase(key, era, ballot, phase)
     }
 
     /// A round that begins in its accept phase, before any reply.
-    pub fn accepting(key: Key, era: Era, ballot: Ballot) -> Round
-        ensures about { IsAbout key era ballot result }
+    pub fn accepting(key: Key, era: &Era, ballot: Ballot) -> Round
+        ensures about { IsAbout key era.now ballot result }
         ensures phase { IsAccepting [] [] result }
     {
-        let phase = AcceptRound::new(era, ballot);
-        Round::in_phase(key, era, ballot, OpenPhase::Accept(phase))
+        let phase = OpenPhase::Accept(AcceptRound::new(*era, ballot));
+        Round::in_phase(key, era, ballot, phase)
     }
 
     /// A round in that phase, at which no ballot was met.
-    fn in_phase(key: Key, era: Era, ballot: Ballot, phase: OpenPhase) -> Round
-        ensures { result ≡ record { key = key; era = era; ballot = ballot; ride = None; met = None; phase = phase } }
+    fn in_phase(key: Key, era: &Era, ballot: Ballot, phase: OpenPhase) -> Round
+        ensures { result ≡ record { key = key; era = era.now; ballot = ballot; ride = None; met = None; phase = phase } }
     {
         Round {
             key,
-            era,
+            era: *era,
             ballot,
             ride: None,
             met: None,
