@@ -1,5 +1,5 @@
 -- What the calls of a desk keep true.
-use Rattle.std.specs.Prelude.{nat_eq}
+use Rattle.std.specs.Prelude.{nat_eq, OnOk, Result, Ok, Err}
 use Rattle.std.specs.Cmp.Lexicographic.{pointwise}
 use Rattle.std.specs.Map.{lookup, remove_entry}
 use Rattle.std.specs.Ordering.{is_lt}
@@ -21,6 +21,11 @@ use Rattle.cas_vault.specs.Vault.{disk_of, counter_of, kept_of, IsBeforeOrAfter,
 use Rattle.cas_proposer.specs.declared.round.Round.{Round}
 use Rattle.cas_proposer.specs.Round.{met_with, met_after, is_heard_at, Hears, may_keep}
 use Rattle.cas_proposer.specs.Desk.{cache_after, met_counter, IsDesk}
+
+-- ---- results
+pub still_ok : {T E P Q : Type 0} (r : Result T E) → (P → Q) → OnOk r P → OnOk r Q
+still_ok (Ok v) f h = f h
+still_ok (Err e) f h = h
 
 -- ---- promises
 absent_head : (b : Bool) (e : List ℕ × Ready) (es rest : List (List ℕ × Ready)) (found : Option Ready) → cond b (Some e.1) found ≡ None → (found ≡ None → rest ≡ es) → cond b es (e ∷ rest) ≡ e ∷ es

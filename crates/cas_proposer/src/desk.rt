@@ -56,7 +56,11 @@ impl<V: Disk> Desk<V> {
 
     /// The desk of that proposer over a vault that is in use, with an empty cache and no open round. It is up. Where no memory was
     /// found the vault comes back.
-    pub fn new(alloc: Global, id: ProposerId, vault: Vault<V>) -> Result<Desk<V>, (AllocError, Vault<V>)>
+    pub fn new(
+        alloc: Global,
+        id: ProposerId,
+        vault: Vault<V>,
+    ) -> Result<Desk<V>, (AllocError, Vault<V>)>
         requires { Stands V.tells V.seen V.may_leave vault }
         ensures desk { IfOk result (λ desk. desk ≡ record { id = id; vault = vault; cache = []; round = None; down = false }) }
         ensures back { IfErr result (λ back. back.1 ≡ vault) }
@@ -97,26 +101,29 @@ impl<V: Disk> Desk<V> {
         ensures down { IsErrOf result VaultError.VaultFault ↔ IsTrue self.new.down }
         ensures cause { HasVaultCause result (V.fault_count (disk_of self.old.vault)) (V.fault_count (disk_of self.new.vault)) }
     {
+        let id = self.id;
         let Ok(own) = key.copy() else {
             return Err(VaultError::NoMemory);
         };
         let Ok(promise) = self.cache.take(key) else {
             return Err(VaultError::NoMemory);
         };
-        if let Some(ready) = promise {
-            self.round = Some(Round::accepting(own, era, ready.ballot));
-            return Ok(Began::Accept(ready));
-        }
-        match draw(&mut self.vault, self.id) {
-            Ok(ballot) => {
-                self.round = Some(Round::preparing(own, era, ballot));
-                Ok(Began::Prepare(ballot))
+        match promise {
+            Some(ready) => {
+                self.round = Some(Round::accepting(own, era, ready.ballot));
+                Ok(Began::Accept(ready))
             }
-            Err(error) => {
-                self.cache.forget(key);
-                self.down = matches!(error, VaultError::VaultFault);
-                Err(error)
-            }
+            None => match draw(&mut self.vault, id) {
+                Ok(ballot) => {
+                    self.round = Some(Round::preparing(own, era, ballot));
+                    Ok(Began::Prepare(ballot))
+                }
+                Err(error) => {
+                    self.cache.forget(key);
+                    self.down = matches!(error, VaultError::VaultFault);
+                    Err(error)
+                }
+            },
         }
     }
 
@@ -129,10 +136,10 @@ impl<V: Disk> Desk<V> {
         ensures phase { is_in_prepare self.new.round ≡ is_in_prepare self.old.round }
         ensures heard { (old : ARound) → self.old.round ≡ Some old → IsSomeAnd self.new.round (Hears old reply) }
     {
-        let Some(round) = &mut self.round else {
-            return;
-        };
-        round.arrive(reply);
+        match &mut self.round {
+            Some(round) => round.arrive(reply),
+            None => drop(reply),
+        }
     }
 
     /// How the open phase ends, should no other reply arrive.

@@ -286,7 +286,11 @@ fn desks_draw_as_in_worked_runs(rt: HostRuntime) -> Result<(), Fail> {
     for (number, steps) in rows {
         let mut desk = desk_of(rt.alloc(), number)?;
         for (step, ballot, ride) in steps {
-            assert_eq!(rt; take(&mut desk, &key, step)?, (ballot, ride), "{step:?} of {number}");
+            assert_eq!(rt;
+                take(&mut desk, &key, step)?,
+                (ballot, ride),
+                "{step:?} of {number}"
+            );
         }
     }
     Ok(())
