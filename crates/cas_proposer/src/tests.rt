@@ -19,7 +19,9 @@ const fn drawn(counter: u64, proposer: u8) -> Option<Ballot> {
     Some(Ballot { counter, proposer })
 }
 
-const fn at(counter: u64, proposer: u8) -> Ballot {
+fn at(counter: u64, proposer: u8) -> Ballot
+    ensures { result ≡ record { counter = counter; proposer = proposer } }
+{
     Ballot { counter, proposer }
 }
 
@@ -283,15 +285,39 @@ fn desks_draw_as_in_worked_runs(rt: HostRuntime) -> Result<(), Fail> {
             ],
         ),
     ];
-    for (number, steps) in rows {
+    for (number, [first, second, third, fourth]) in rows {
         let mut desk = desk_of(rt.alloc(), number)?;
-        for (step, ballot, ride) in steps {
-            assert_eq!(rt;
-                take(&mut desk, &key, step)?,
-                (ballot, ride),
-                "{step:?} of {number}"
-            );
-        }
+        let drawn = [
+            take(&mut desk, &key, first.0)?,
+            take(&mut desk, &key, second.0)?,
+            take(&mut desk, &key, third.0)?,
+            take(&mut desk, &key, fourth.0)?,
+        ];
+        let wanted = [
+            (first.1, first.2),
+            (second.1, second.2),
+            (third.1, third.2),
+            (fourth.1, fourth.2),
+        ];
+        assert_eq!(rt; drawn, wanted, "of proposer {number}");
     }
+    Ok(())
+}
+
+#[test]
+fn a_restart_keeps_age_and_era(rt: HostRuntime) -> Result<(), Fail> {
+    let key = Key::read(rt.alloc(), b"a")?;
+    let mut desk = desk_of(rt.alloc(), 0)?;
+    assert_eq!(rt; desk.tag()?, at(1, 0));
+    assert_eq!(rt; desk.renew(&key, at(4, 0))?, 1);
+    desk.move_to(&Era::majority(7, three()))?;
+    assert_eq!(rt; desk.tag()?, at(5, 0));
+    desk.crash();
+    assert!(rt; desk.is_down());
+    desk.restart()?;
+    assert!(rt; !desk.is_down());
+    assert_eq!(rt; (desk.age(), desk.era()), (1, 7));
+    assert_eq!(rt; desk.tag()?, at(101, 0));
+    assert_eq!(rt; desk.into_vault().counter(), 101);
     Ok(())
 }
