@@ -1,6 +1,6 @@
 -- What a caller knows of a desk whose round goes on or ended.
-use Rattle.std.specs.Prelude.{is_some, is_none, IsTrue, Result, Ok}
-use Rattle.std.proofs.Common.{◌≡◌, ◌⊎◌, ℕ, ◌^◌, Bool, true, false, ◌&&◌, not, List, Option, Some, None, refl, sym, ap, ◌∙◌}
+use Rattle.std.specs.Prelude.{is_some, IsSomeAnd, Result, Ok}
+use Rattle.std.proofs.Common.{◌≡◌, ◌⊎◌, ◌^◌, true, false, Option, Some, None, refl, ap, ◌∙◌}
 use Rattle.cas_ballot.specs.declared.ballot.Ballot.{Ballot}
 use Rattle.cas_cache.specs.declared.ready.Ready.{Ready}
 use Rattle.cas_vault.specs.declared.error.VaultError.{VaultError}
@@ -11,6 +11,10 @@ use Rattle.cas_proposer.specs.Desk.{DeskView, cache_after, may_ride, with_ride}
 some_of : (o : Option Round) → is_some o ≡ true → (round : Round) × (o ≡ Some round)
 some_of None is = absurd (cc)
 some_of (Some round) is = (round, refl)
+
+pub is_some_of : (o : Option Round) (P : Round → Type 0) → IsSomeAnd o P → is_some o ≡ true
+is_some_of None P is = absurd is
+is_some_of (Some round) P is = refl
 
 may_ride_open : (o : Option Round) → may_ride o ≡ true → is_some o ≡ true
 may_ride_open None is = absurd (cc)
