@@ -5,7 +5,7 @@ use Rattle.std.specs.Map.{lookup, remove_entry}
 use Rattle.std.specs.Ordering.{is_lt}
 use Rattle.std.proofs.Common.{◌≡◌, inl, ℕ, ◌≤◌, ◌^◌, Bool, true, false, cond, List, [], ◌∷◌, take, Option, Some, None, refl, sym, ap, subst, ◌∙◌, arith}
 use Rattle.cas_ballot.specs.declared.ballot.Ballot.{Ballot}
-use Rattle.cas_ballot.specs.Ballot.{ballot_cmp, greater_of}
+use Rattle.cas_ballot.specs.Ballot.{ballot_cmp}
 use Rattle.cas_disk.specs.Disk.{LeavesOnly}
 use Rattle.cas_disk.proofs.Moments.{started}
 use Rattle.cas_slot.specs.declared.message.Reply.{Reply}
@@ -13,11 +13,11 @@ use Rattle.cas_slot.specs.declared.message.Tell.{Tell}
 use Rattle.cas_round.specs.Replies.{met_by}
 use Rattle.cas_cache.specs.declared.ready.Ready.{Ready}
 use Rattle.cas_cache.specs.declared.cache.Cache.{Cache}
-use Rattle.cas_cache.specs.Cache.{promises_of, place_of}
+use Rattle.cas_cache.specs.Cache.{promises_of}
 use Rattle.cas_cache.specs.Entries.{promise_at, without}
 use Rattle.cas_vault.specs.declared.kept.Kept.{Kept}
 use Rattle.cas_vault.specs.declared.vault.Vault.{Vault}
-use Rattle.cas_vault.specs.Vault.{disk_of, counter_of, kept_of, IsBeforeOrAfter, Stands, IsPast}
+use Rattle.cas_vault.specs.Vault.{disk_of, kept_of, IsBeforeOrAfter, Stands, IsPast}
 use Rattle.cas_proposer.specs.declared.round.Round.{Round}
 use Rattle.cas_proposer.specs.Round.{met_with, met_after, is_heard_at, Hears, may_keep}
 use Rattle.cas_proposer.specs.Desk.{cache_after, met_counter, IsDesk}

@@ -1,11 +1,9 @@
 -- What a reply makes of a round.
-use Rattle.std.specs.Prelude.{ℕ}
-use Rattle.std.proofs.Common.{◌≡◌, Bool, true, false, cond, List, [], ◌∷◌, ◌++◌, Option, Some, None, refl, ap, sym, subst}
+use Rattle.std.proofs.Common.{◌≡◌, Bool, true, false, cond, List, ◌∷◌, ◌++◌, Option, Some, None, refl, ap, sym, subst}
 use Rattle.cas_ballot.specs.declared.ballot.Ballot.{Ballot}
 use Rattle.cas_ballot.specs.Ballot.{BallotAtMost}
 use Rattle.cas_quorum.specs.declared.era.Era.{Era}
 use Rattle.cas_slot.specs.declared.message.Reply.{Reply}
-use Rattle.cas_slot.specs.declared.message.Phase.{Phase}
 use Rattle.cas_round.specs.Replies.{is_prepare, is_accept, is_heard, heard, mets_of, met_by}
 use Rattle.cas_round.specs.Round.{GreatestOf, IsPrepareAfter, IsAcceptAfter}
 use Rattle.cas_round.specs.declared.phase.PrepareRound.{PrepareRound}
@@ -14,7 +12,7 @@ use Rattle.cas_round.proofs.Greatest.{met_more}
 use Rattle.cas_proposer.specs.declared.round.Round.{Round}
 use Rattle.cas_proposer.specs.declared.round.OpenPhase.{OpenPhase}
 use Rattle.cas_proposer.specs.declared.round.OpenPhase.TheVariants.{Prepare, Accept}
-use Rattle.cas_proposer.specs.Round.{met_after, is_heard_at, IsPrepare, IsAccept, Hears}
+use Rattle.cas_proposer.specs.Round.{met_after, is_heard_at, Hears}
 
 -- a reply that is heard or not, and tells a ballot as met or not
 with_reply : (b : Bool) (reply : Reply) (before : List Reply) (told : Option Ballot) (met : Option Ballot) → met_by reply.tell ≡ told

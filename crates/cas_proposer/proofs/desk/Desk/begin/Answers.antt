@@ -1,4 +1,4 @@
-use Rattle.std.proofs.Common.{◌≡◌, ℕ, List, Bool, false, None, sym, ap, subst, ◌∙◌}
+use Rattle.std.proofs.Common.{◌≡◌, ℕ, List, false, None, sym, ap, subst, ◌∙◌}
 use Rattle.cas_disk.specs.Disk.{LeavesOnly}
 use Rattle.cas_cache.specs.declared.ready.Ready.{Ready}
 use Rattle.cas_cache.specs.Cache.{promises_of}
