@@ -1,0 +1,323 @@
+//! The ballots that desks draw in worked runs, without acceptors.
+ghost use Rattle.std.specs.Prelude.{◌≡◌, ◌≤◌, ◌^◌, false, None, is_some, IsTrue, IfOk, OnOk};
+ghost use Rattle.cas_round.specs.Replies.{met_by};
+ghost use Rattle.cas_proposer.specs.Desk.{is_in_prepare, may_ride, met_counter};
+
+use crate::{Began, Desk};
+use cas_ballot::{AcceptorId, Ballot, Members, ProposerId};
+use cas_cache::Ready;
+use cas_change::{Key, State};
+use cas_disk::{Disk, Image, MemoryDisk};
+use cas_quorum::Era;
+use cas_round::RoundVerdict;
+use cas_slot::{Phase, Reply, Tell};
+use cas_vault::Vault;
+use std::alloc::Global;
+use std::test::Fail;
+
+const fn drawn(counter: u64, proposer: u8) -> Option<Ballot> {
+    Some(Ballot { counter, proposer })
+}
+
+fn at(counter: u64, proposer: u8) -> Ballot
+    ensures { result ≡ record { counter = counter; proposer = proposer } }
+{
+    Ballot { counter, proposer }
+}
+
+// One step of a desk's run.
+#[derive(Clone, Copy, Debug)]
+enum Step {
+    /// A round that all three acceptors confirm.
+    Settle,
+    /// A round in whose first phase all three acceptors tell this greater ballot.
+    Meet(u32, u8),
+    /// A round that is closed in its first phase by a crash, after which the desk restarts.
+    Stop,
+    /// A crash without an open round, and a restart.
+    Crash,
+    /// A renewal for a tombstone at the ballot of this counter.
+    Renew(u64),
+    /// A step to the next era.
+    Move,
+}
+
+use Step::{Crash, Meet, Move, Renew, Settle, Stop};
+
+// The ballot of a round and the one that rode with it.
+type Ballots = (Option<Ballot>, Option<Ballot>);
+
+fn three() -> Members {
+    let mut members = Members::new();
+    for number in [1, 2, 3] {
+        if let Some(id) = AcceptorId::new(number) {
+            members.insert(id);
+        }
+    }
+    members
+}
+
+// Each of the three acceptors replies in that phase: it confirms, or it tells a greater ballot.
+fn all_reply<V: Disk>(desk: &mut Desk<V>, phase: Phase, tag: Ballot, met: Option<Ballot>)
+    requires { met_counter met ≤ 2 ^ 48 }
+    ensures down { desk.new.down ≡ desk.old.down }
+    ensures open { is_some desk.new.round ≡ is_some desk.old.round }
+    ensures phase { is_in_prepare desk.new.round ≡ is_in_prepare desk.old.round }
+{
+    for number in [1, 2, 3] {
+        let Some(from) = AcceptorId::new(number) else {
+            continue;
+        };
+        desk.arrive(Reply {
+            from,
+            to: 1,
+            phase,
+            tag,
+            tell: told(phase, met),
+        });
+    }
+}
+
+fn told(phase: Phase, met: Option<Ballot>) -> Tell
+    ensures { met_by result ≡ met }
+{
+    match (met, phase) {
+        (Some(met), _) => Tell::Met(met),
+        (None, Phase::Prepare) => Tell::Promised { accepted: None },
+        (None, _) => Tell::Accepted,
+    }
+}
+
+// The accept phase of an open round, and its end.
+fn accept<V: Disk>(desk: &mut Desk<V>, tag: Ballot, met: Option<Ballot>) -> Result<Ballots, Fail>
+    requires up { desk.old.down ≡ false }
+    requires open { IsTrue (may_ride desk.old.round) }
+    requires within { met_counter met ≤ 2 ^ 48 }
+    ensures up { OnOk result (desk.new.down ≡ false) }
+    ensures idle { OnOk result (desk.new.round ≡ None) }
+{
+    let ride = desk.ride()?;
+    all_reply(desk, Phase::Accept, tag, met);
+    let by = desk.confirmers();
+    let kept = match ride {
+        Some(ballot) if desk.verdict() == RoundVerdict::Quorum => Some(Ready {
+            ballot,
+            state: State::Empty,
+            read: tag,
+            by,
+        }),
+        _ => None,
+    };
+    desk.end(kept);
+    Ok((Some(tag), ride))
+}
+
+// A whole round, whose first phase ends by a ballot that was met, or by a quorum.
+fn round<V: Disk>(desk: &mut Desk<V>, key: &Key, met: Option<Ballot>) -> Result<Ballots, Fail>
+    requires up { desk.old.down ≡ false }
+    requires idle { desk.old.round ≡ None }
+    requires within { met_counter met ≤ 2 ^ 48 }
+    ensures up { OnOk result (desk.new.down ≡ false) }
+    ensures idle { OnOk result (desk.new.round ≡ None) }
+{
+    match desk.begin(&Era::majority(0, three()), key)? {
+        Began::Prepare(ballot) => {
+            all_reply(desk, Phase::Prepare, ballot, met);
+            if desk.verdict() == RoundVerdict::Quorum {
+                desk.read();
+                accept(desk, ballot, None)
+            } else {
+                desk.end(None);
+                Ok((Some(ballot), None))
+            }
+        }
+        Began::Accept(ready) => accept(desk, ready.ballot, met),
+    }
+}
+
+// A round that is closed in its first phase by a crash, after which the desk restarts.
+fn stop<V: Disk>(desk: &mut Desk<V>, key: &Key) -> Result<Ballots, Fail>
+    requires up { desk.old.down ≡ false }
+    requires idle { desk.old.round ≡ None }
+    ensures up { OnOk result (desk.new.down ≡ false) }
+    ensures idle { OnOk result (desk.new.round ≡ None) }
+{
+    let ballot = match desk.begin(&Era::majority(0, three()), key)? {
+        Began::Prepare(ballot) => ballot,
+        Began::Accept(ready) => ready.ballot,
+    };
+    desk.crash();
+    desk.restart()?;
+    Ok((Some(ballot), None))
+}
+
+fn take<V: Disk>(desk: &mut Desk<V>, key: &Key, step: Step) -> Result<Ballots, Fail>
+    requires up { desk.old.down ≡ false }
+    requires idle { desk.old.round ≡ None }
+    ensures up { OnOk result (desk.new.down ≡ false) }
+    ensures idle { OnOk result (desk.new.round ≡ None) }
+{
+    match step {
+        Settle => round(desk, key, None),
+        Meet(counter, proposer) => round(desk, key, Some(at(u64::from(counter), proposer))),
+        Stop => stop(desk, key),
+        Crash => {
+            desk.crash();
+            desk.restart()?;
+            Ok((None, None))
+        }
+        Renew(counter) => {
+            desk.renew(key, at(counter.min(1 << 48), 0))?;
+            Ok((None, None))
+        }
+        Move => {
+            desk.move_to(&Era::majority(1, three()))?;
+            Ok((None, None))
+        }
+    }
+}
+
+fn desk_of(alloc: Global, number: u8) -> Result<Desk<MemoryDisk>, Fail>
+    ensures up { IfOk result (λ desk. desk.down ≡ false) }
+    ensures idle { IfOk result (λ desk. desk.round ≡ None) }
+{
+    let disk = MemoryDisk::new(alloc, Vec::new(alloc), Vec::new(alloc), Image::New);
+    let mut vault = Vault::over(alloc, disk);
+    vault.start()?;
+    let id = ProposerId::new(number).ok_or("a number below 17")?;
+    match Desk::new(alloc, id, vault) {
+        Ok(desk) => Ok(desk),
+        Err(_) => Err(Fail::from("no memory")),
+    }
+}
+
+#[test]
+fn desks_draw_as_in_worked_runs(rt: HostRuntime) -> Result<(), Fail> {
+    let key = Key::read(rt.alloc(), b"a")?;
+    let none = (Crash, None, None);
+    // The proposer, and for each step the ballot of its round and the one that rode with it.
+    let rows: [(u8, [(Step, Option<Ballot>, Option<Ballot>); 4]); 9] = [
+        // A change rides on the promise of the one before.
+        (
+            1,
+            [
+                (Settle, drawn(1, 1), drawn(2, 1)),
+                (Settle, drawn(2, 1), drawn(3, 1)),
+                (Settle, drawn(3, 1), drawn(4, 1)),
+                (Settle, drawn(4, 1), drawn(5, 1)),
+            ],
+        ),
+        // The counter goes on from a ballot that was met, in either phase.
+        (
+            2,
+            [
+                (Meet(3, 1), drawn(1, 2), None),
+                (Settle, drawn(4, 2), drawn(5, 2)),
+                none,
+                none,
+            ],
+        ),
+        (
+            1,
+            [
+                (Settle, drawn(1, 1), drawn(2, 1)),
+                (Settle, drawn(2, 1), drawn(3, 1)),
+                (Meet(5, 2), drawn(3, 1), drawn(4, 1)),
+                (Settle, drawn(6, 1), drawn(7, 1)),
+            ],
+        ),
+        // After a crash it goes on from the bound.
+        (
+            1,
+            [
+                (Stop, drawn(1, 1), None),
+                (Settle, drawn(101, 1), drawn(102, 1)),
+                none,
+                (Settle, drawn(201, 1), drawn(202, 1)),
+            ],
+        ),
+        // After a renewal the bound is the counter, and the promise is gone.
+        (
+            2,
+            [
+                (Renew(4), None, None),
+                (Settle, drawn(5, 2), drawn(6, 2)),
+                none,
+                (Settle, drawn(105, 2), drawn(106, 2)),
+            ],
+        ),
+        (
+            1,
+            [
+                (Settle, drawn(1, 1), drawn(2, 1)),
+                (Settle, drawn(2, 1), drawn(3, 1)),
+                (Renew(4), None, None),
+                (Settle, drawn(5, 1), drawn(6, 1)),
+            ],
+        ),
+        // In another era no promise is used.
+        (
+            1,
+            [
+                (Settle, drawn(1, 1), drawn(2, 1)),
+                (Move, None, None),
+                (Meet(7, 0), drawn(3, 1), None),
+                (Settle, drawn(8, 1), drawn(9, 1)),
+            ],
+        ),
+        // Nothing rides with proposer 0, and nothing above the last number.
+        (
+            0,
+            [
+                (Meet(3, 1), drawn(1, 0), None),
+                (Settle, drawn(4, 0), None),
+                (Settle, drawn(5, 0), None),
+                none,
+            ],
+        ),
+        (
+            1,
+            [
+                (Renew((1 << 48) - 1), None, None),
+                (Settle, drawn(1 << 48, 1), None),
+                none,
+                none,
+            ],
+        ),
+    ];
+    for (number, [first, second, third, fourth]) in rows {
+        let mut desk = desk_of(rt.alloc(), number)?;
+        let drawn = [
+            take(&mut desk, &key, first.0)?,
+            take(&mut desk, &key, second.0)?,
+            take(&mut desk, &key, third.0)?,
+            take(&mut desk, &key, fourth.0)?,
+        ];
+        let wanted = [
+            (first.1, first.2),
+            (second.1, second.2),
+            (third.1, third.2),
+            (fourth.1, fourth.2),
+        ];
+        assert_eq!(rt; drawn, wanted, "of proposer {number}");
+    }
+    Ok(())
+}
+
+#[test]
+fn a_restart_keeps_age_and_era(rt: HostRuntime) -> Result<(), Fail> {
+    let key = Key::read(rt.alloc(), b"a")?;
+    let mut desk = desk_of(rt.alloc(), 0)?;
+    assert_eq!(rt; desk.tag()?, at(1, 0));
+    assert_eq!(rt; desk.renew(&key, at(4, 0))?, 1);
+    desk.move_to(&Era::majority(7, three()))?;
+    assert_eq!(rt; desk.tag()?, at(5, 0));
+    desk.crash();
+    assert!(rt; desk.is_down());
+    desk.restart()?;
+    assert!(rt; !desk.is_down());
+    assert_eq!(rt; (desk.age(), desk.era()), (1, 7));
+    assert_eq!(rt; desk.tag()?, at(101, 0));
+    assert_eq!(rt; desk.into_vault().counter(), 101);
+    Ok(())
+}
