@@ -1,0 +1,13 @@
+//! The frames under way: for each proposer a queue of its own frames, and one pool of late ones.
+//!
+//! A frame is bytes here, and a message to contracts. Who handles it, and what becomes of it, is decided elsewhere.
+#![tactic(auto)]
+
+mod fall;
+mod frame;
+mod message;
+mod queue;
+
+pub use fall::Fall;
+pub use frame::Frame;
+pub use message::Message;
