@@ -1,5 +1,5 @@
 -- The frames that wait, as the messages that they bear.
-use Rattle.std.specs.Prelude.{ℕ, ◌+◌, ◌-◌, Bool, true, false, ◌&&◌, is_some, List, [], ◌∷◌, ◌++◌, drop, Option, Some, None}
+use Rattle.std.specs.Prelude.{ℕ, ◌+◌, ◌-◌, nat_lt, length, if◌then◌else◌, Bool, true, false, ◌&&◌, is_some, List, [], ◌∷◌, ◌++◌, drop, Option, Some, None}
 use Rattle.cas_fate.specs.declared.fate.Verdict.{Verdict}
 use Rattle.cas_fate.specs.declared.fate.Verdict.TheVariants as verdict
 use Rattle.cas_flow.specs.declared.message.Message.{Message}
@@ -42,3 +42,7 @@ fall_of false verdict.Twice = Handle
 fall_of false verdict.Lose = Gone
 fall_of false verdict.Late = Gone
 fall_of false verdict.Hold = Held
+
+-- a late frame joins the others, or is lost where there are 65,536
+abbrev pub joined : List Message → Message → List Message
+joined late message = if nat_lt (length late) 65536 then late ++ message ∷ [] else late

@@ -6,8 +6,10 @@
 mod fall;
 mod frame;
 mod message;
+mod pool;
 mod queue;
 
 pub use fall::Fall;
 pub use frame::Frame;
 pub use message::Message;
+pub use pool::MOST_LATE;
