@@ -8,6 +8,7 @@ mod frame;
 mod message;
 mod pool;
 mod queue;
+mod settle;
 
 pub use fall::Fall;
 pub use frame::Frame;

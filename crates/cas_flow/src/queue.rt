@@ -1,5 +1,5 @@
 //! The own frames of one proposer.
-ghost use Rattle.std.specs.Prelude.{◌≡◌, ◌+◌, ◌<◌, ◌≤◌, [], Some, None, slice_get, IfSome, IsSome, MatchOption, OnOk, OnErr, true};
+ghost use Rattle.std.specs.Prelude.{◌≡◌, ◌+◌, ◌<◌, ◌≤◌, [], Some, None, slice_get, IfSome, IsSome, IsNone, MatchOption, OnOk, OnErr, true};
 
 use crate::frame::Frame;
 use std::alloc::{AllocError, Global};
@@ -31,11 +31,10 @@ impl Queue {
     ghost use Rattle.cas_flow.specs.Queue.{empty_queue, popped, pushed};
 
     pub fn new(alloc: Global) -> Queue
-        ensures messages { result.messages ≡ empty_queue.messages }
-        ensures again { result.again ≡ empty_queue.again }
+        ensures { result ≡ empty_queue }
     {
         Queue {
-            frames: VecDeque::new(alloc),
+            frames: VecDeque::with_capacity(alloc, 0).unwrap(),
             again: false,
         }
     }
@@ -75,6 +74,7 @@ impl Queue {
     /// The first frame leaves.
     pub fn pop(&mut self) -> Option<Frame>
         ensures left { IsSome result → self.new ≡ popped self.old }
+        ensures none { IsNone result → self.new ≡ record self.old { again = false } }
         ensures first { MatchOption result ((self.old.messages ≡ []) × (self.new.messages ≡ [])) (λ frame. (frame ≡ slice_get self.old.messages 0) × IsSome frame) }
     {
         self.again = false;
