@@ -1,5 +1,5 @@
 //! The own frames of one proposer.
-ghost use Rattle.std.specs.Prelude.{◌≡◌, ◌+◌, ◌<◌, ◌≤◌, [], Some, None, slice_get, IfSome, IsSome, IsNone, MatchOption, OnOk, OnErr, true};
+ghost use Rattle.std.specs.Prelude.{◌≡◌, ◌+◌, ◌<◌, ◌≤◌, [], Some, None, slice_get, IfSome, IsSome, IsNone, MatchOption, OnOk, OnErr, true, false};
 
 use crate::frame::Frame;
 use std::alloc::{AllocError, Global};
