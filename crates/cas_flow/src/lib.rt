@@ -4,6 +4,7 @@
 #![tactic(auto)]
 
 mod fall;
+mod flow;
 mod frame;
 mod message;
 mod pool;
@@ -11,6 +12,7 @@ mod queue;
 mod settle;
 
 pub use fall::Fall;
+pub use flow::Flow;
 pub use frame::Frame;
 pub use message::Message;
 pub use pool::MOST_LATE;

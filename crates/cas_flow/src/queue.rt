@@ -1,10 +1,14 @@
 //! The own frames of one proposer.
-ghost use Rattle.std.specs.Prelude.{◌≡◌, ◌+◌, ◌<◌, ◌≤◌, [], Some, None, slice_get, IfSome, IsSome, IsNone, MatchOption, OnOk, OnErr, true, false};
+ghost use Rattle.std.specs.Prelude.{◌≡◌, ◌+◌, ◌<◌, ◌≤◌, [], Some, None, slice_get, IfSome, IsSome, IsNone, MatchOption, OnOk, IfOk, replicate, true, false};
+ghost use Rattle.cas_flow.specs.Queue.{empty_queue};
 
 use crate::frame::Frame;
 use std::alloc::{AllocError, Global};
 use std::collections::VecDeque;
 use std::marker::Model;
+
+/// How many queues there are: one for each proposer, from 0 on.
+const QUEUES: usize = 17;
 
 /// The own frames of one proposer, in the order in which they are handled. They are seen as their messages, with whether the first
 /// was handled once of two times, and how many more frames have room.
@@ -28,7 +32,7 @@ impl Model for Queue {
 }
 
 impl Queue {
-    ghost use Rattle.cas_flow.specs.Queue.{empty_queue, popped, pushed};
+    ghost use Rattle.cas_flow.specs.Queue.{popped, pushed};
 
     pub fn new(alloc: Global) -> Queue
         ensures { result ≡ empty_queue }
@@ -87,4 +91,15 @@ impl Queue {
     {
         self.again = true;
     }
+}
+
+/// An empty queue for each proposer.
+pub(crate) fn empty_queues(alloc: Global) -> Result<Vec<Queue>, AllocError>
+    ensures { IfOk result (λ queues. queues.items ≡ replicate 17 empty_queue) }
+{
+    let mut queues = Vec::with_capacity(alloc, QUEUES)?;
+    for _ in 0..QUEUES {
+        queues.push_reserved(Queue::new(alloc));
+    }
+    Ok(queues)
 }
