@@ -1,5 +1,5 @@
 //! One frame as bytes.
-ghost use Rattle.std.specs.Prelude.{◌≡◌, Some, None, IfOk, IsSome, option_map};
+ghost use Rattle.std.specs.Prelude.{◌≡◌, Some, None, IfOk, IsSome, is_none, option_map};
 ghost use Rattle.cas_wire.specs.Frame.{CanBeAsked, CanBeTold};
 ghost use Rattle.cas_flow.specs.Message.{head_of};
 ghost use Rattle.cas_flow.specs.declared.message.Message.TheVariants as message;
@@ -66,6 +66,13 @@ impl Frame {
             bytes: Vec::with_capacity(alloc, LONGEST_FRAME)?,
             head: Head::Blank,
         })
+    }
+
+    /// Whether it bears no message yet.
+    pub fn is_blank(&self) -> bool
+        ensures { result ≡ is_none self.now }
+    {
+        matches!(self.head, Head::Blank)
     }
 
     /// Fills a blank frame with a reply. It takes no memory.
