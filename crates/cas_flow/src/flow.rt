@@ -111,7 +111,11 @@ impl Flow {
         requires front { (queue_at self.old proposer).messages ≢ [] }
         ensures { self.new ≡ taken self.old proposer verdict }
     {
-        settle::settle(&mut self.own[usize::from(proposer)], &mut self.late, verdict);
+        settle::settle(
+            &mut self.own[usize::from(proposer)],
+            &mut self.late,
+            verdict,
+        );
     }
 
     /// How many late frames there are, at most [`MOST_LATE`](crate::MOST_LATE).

@@ -81,7 +81,10 @@ fn late_peers(alloc: Global, flow: &Flow) -> Result<Vec<u8>, Fail> {
 #[test]
 fn a_frame_comes_out_as_it_went_in(rt: HostRuntime) -> Result<(), Fail> {
     let alloc = rt.alloc();
-    assert_eq!(rt; asked(alloc, 2)?.read(alloc)?, Message::Request(request(2)?));
+    assert_eq!(rt;
+        asked(alloc, 2)?.read(alloc)?,
+        Message::Request(request(2)?)
+    );
     assert_eq!(rt; told(alloc, 3)?.read(alloc)?, Message::Reply(reply(3)?));
     assert!(rt; Frame::blank(alloc)?.is_blank());
     assert!(rt; !told(alloc, 3)?.is_blank());
@@ -100,7 +103,9 @@ fn own_frames_keep_their_order(rt: HostRuntime) -> Result<(), Fail> {
     flow.take(1, Verdict::Deliver);
     flow.push_own(1, told(alloc, 1)?);
     assert_eq!(rt; first(&flow), Some((Leg::Ages, 2)));
-    flow.take(1, Verdict::Lose);
+    if flow.front(1).is_some() {
+        flow.take(1, Verdict::Lose);
+    }
     assert_eq!(rt; first(&flow), Some((Leg::Reply, 1)));
     assert_eq!(rt; flow.front(2), None);
     assert_eq!(rt; flow.late(), 0);

@@ -9,5 +9,5 @@ index-requires c = omega (arith, c.requires, c.self.inside.frames.ok, as_many c.
 pub returns : goal.returns
 returns c =
     subst (λ (ms : List Message). c.index.result.now ≡ slice_get ms c.args.index) c.self.view_is
-        (messages_at c.self.inside.frames.items c.args.index c.index.result.now c.self.invariant.0
-            (omega (arith, c.requires, as_many c.args.self.now c.self.inside.frames.items c.self.view_is c.self.invariant.0)) c.index.ensures)
+    (messages_at c.self.inside.frames.items c.args.index c.index.result.now c.self.invariant.0
+    (omega (arith, c.requires, as_many c.args.self.now c.self.inside.frames.items c.self.view_is c.self.invariant.0)) c.index.ensures)

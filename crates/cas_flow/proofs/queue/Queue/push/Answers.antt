@@ -8,5 +8,5 @@ invariant_of-self c = push_bears c.self.inside.frames.items c.push_back_reserved
 pub returns : goal.returns
 returns c =
     push_view c.args.self.now c.self.inside.frames.items c.push_back_reserved.new.self.items c.args.frame c.self.inside.again
-        (deque_capacity c.self.inside.frames) (deque_len c.self.inside.frames) (deque_capacity c.push_back_reserved.new.self) (deque_len c.push_back_reserved.new.self)
-        c.self.view_is c.push_back_reserved.ensures.items c.push_back_reserved.ensures.capacity c.push_back_reserved.ensures.len
+    (deque_capacity c.self.inside.frames) (deque_len c.self.inside.frames) (deque_capacity c.push_back_reserved.new.self) (deque_len c.push_back_reserved.new.self)
+    c.self.view_is c.push_back_reserved.ensures.items c.push_back_reserved.ensures.capacity c.push_back_reserved.ensures.len
