@@ -1,0 +1,4 @@
+pub mod Message
+pub mod Frame
+pub mod Queue
+pub mod Flow
