@@ -1,0 +1,222 @@
+-- The memory of a shelf after each of its changes, and what a crash within one leaves.
+use Rattle.std.proofs.Common.{◌≡◌, ℕ, ◌+◌, ◌<◌, Bool, true, false, List, [], ◌∷◌, Option, Some, None, Ok, refl, sym, ap, subst, ◌∙◌, arith, inl, inr, ⊎_elim}
+use Rattle.std.proofs.lemmas.Bool.{cases_eq}
+use Rattle.std.proofs.Math.ListN.{set}
+use Rattle.std.specs.BTreeSet.{btree_set_len}
+use Rattle.indexmap.specs.IndexMap.{index_map_len}
+use Rattle.cas_change.specs.Key.{IsKey}
+use Rattle.cas_slot.specs.declared.slot.Slot.{Slot}
+use Rattle.cas_slot.specs.declared.ages.Ages.{Ages}
+use Rattle.cas_slot.specs.Contents.{Contents, with_kept, without_kept}
+use Rattle.cas_slot.specs.Shelf.{LeavesOnly, IsOldOrNew}
+use Rattle.cas_slot.specs.Slots.{slot_count}
+use Rattle.cas_disk.specs.Disk.{LeavesOnly as DiskLeavesOnly}
+use Rattle.cas_cells.specs.Format.{count_in, count_told, with_count, grown, IsBeforeOrAfter}
+use Rattle.cas_cells.specs.Held.{IsRow}
+use Rattle.cas_cells.specs.Cells as cells
+use Rattle.cas_disk_shelf.specs.declared.memory.Memory.{Memory}
+use Rattle.cas_disk_shelf.specs.declared.shelf.DiskShelf.{DiskShelf}
+use Rattle.cas_disk_shelf.specs.Head.{head_spelling, FitsHead}
+use Rattle.cas_disk_shelf.specs.HeadLaws.{count-told, other-count}
+use Rattle.cas_disk_shelf.specs.Cell.{cell_spelling, FitsSlot}
+use Rattle.cas_disk_shelf.specs.Memory.{cell_of, is_free, AreOf, IsMemoryOf, moved, removed, freed, taken}
+use Rattle.cas_disk_shelf.specs.Shelf.{disk_of, contents_of, moment_of, LeftSince, IsUp}
+use Rattle.cas_disk_shelf.specs.ShelfLaws.{by_key, spelled, up_spells}
+use Rattle.cas_disk_shelf.proofs.Leaving.{reads_only, at_rest}
+use Rattle.cas_disk_shelf.proofs.Changing.{count_behind, grow_are}
+use Rattle.cas_disk_shelf.proofs.Stepping.{moved_own, moved_other, taken_own, taken_other, freed_other, not_free}
+use Rattle.cas_disk_shelf.proofs.Using.{memory_of, same_memory, rewritten, added, dropped, raised, own_within, free_within, row_behind, row_first, row_grown, old_or_new}
+
+not_true : (b : Bool) → (b ≡ true → ⊥) → b ≡ false
+not_true true f = absurd (f refl)
+not_true false f = refl
+
+module _ (cells : List (Option (List ℕ))) (old new : Memory) (is : IsMemoryOf cells old) (row : IsRow cells) where
+  pub rewritten_memory : (key : List ℕ) (slot : Slot) (payload : List ℕ) (i : ℕ) → IsKey key → FitsSlot slot → payload ≡ cell_spelling (Some (key, slot)) → cell_of old key ≡ Some i → new.held ≡ with_kept old.held key slot → new.index ≡ old.index → new.free ≡ old.free → slot_count new.held.slots ≡ slot_count old.held.slots
+      → IsMemoryOf (set cells i (Some payload)) new
+  rewritten_memory key slot payload i named fits spells own held index free count =
+      let within = own_within cells old.held (cell_of old) (is_free old) is.shown.in_step row key i own in
+      let keys : (q : List ℕ) → cell_of new q ≡ moved (cell_of old) key i q = λ q. ap (λ m. cell_of (record old { index = m }) q) index ∙ by_key key q
+      (λ same. ap (cell_of old) (sym same) ∙ own ∙ sym (moved_own (cell_of old) key i q same))
+      (λ other. sym (moved_other (cell_of old) key i q other)) in
+      let frees : (j : ℕ) → is_free new j ≡ taken (is_free old) i j = λ j. ap (λ s. is_free (record old { free = s }) j) free ∙ elim (cases_eq i j) [
+        | inl same ↦ not_true (is_free old j) (λ e. not_free old.held (cell_of old) (is_free old) cells is.shown.in_step key i own (ap (is_free old) same ∙ e)) ∙ sym (taken_own (is_free old) i j same)
+        | inr other ↦ sym (taken_other (is_free old) i j other)
+      ] in
+      memory_of (set cells i (Some payload)) (with_kept old.held key slot) (moved (cell_of old) key i) (taken (is_free old) i) new
+      (rewritten cells old.held (cell_of old) (is_free old) is.shown row key slot payload i named fits spells own) held keys frees
+      (record {
+        cells = (λ t. index_map_len (index t) + btree_set_len (free t)) ∙ is.counted.cells ∙ sym (count_behind cells i (Some payload) within.0);
+        keys = count ∙ is.counted.keys ∙ ap (λ m. index_map_len m) (sym index);
+      })
+
+  pub added_memory : (key : List ℕ) (slot : Slot) (payload : List ℕ) (i : ℕ) → IsKey key → FitsSlot slot → payload ≡ cell_spelling (Some (key, slot)) → cell_of old key ≡ None → is_free old i ≡ true → new.held ≡ with_kept old.held key slot
+      → ((q : List ℕ) → cell_of new q ≡ moved (cell_of old) key i q) → ((j : ℕ) → is_free new j ≡ taken (is_free old) i j) → index_map_len new.index ≡ index_map_len old.index + 1 → btree_set_len new.free + 1 ≡ btree_set_len old.free → slot_count new.held.slots ≡ slot_count old.held.slots + 1
+      → IsMemoryOf (set cells i (Some payload)) new
+  added_memory key slot payload i named fits spells none free held keys frees index_len free_len count =
+      let within = free_within cells old.held (cell_of old) (is_free old) is.shown.in_step row i free in
+      memory_of (set cells i (Some payload)) (with_kept old.held key slot) (moved (cell_of old) key i) (taken (is_free old) i) new
+      (added cells old.held (cell_of old) (is_free old) is.shown row key slot payload i named fits spells none free) held keys frees
+      (record {
+        cells = omega (arith, index_len, free_len, is.counted.cells, count_behind cells i (Some payload) within.0);
+        keys = omega (arith, count, index_len, is.counted.keys);
+      })
+
+  pub dropped_memory : (key payload : List ℕ) (i : ℕ) → payload ≡ cell_spelling None → cell_of old key ≡ Some i → new.held ≡ without_kept old.held key
+      → ((q : List ℕ) → cell_of new q ≡ removed (cell_of old) key q) → ((j : ℕ) → is_free new j ≡ freed (is_free old) i j) → index_map_len new.index + 1 ≡ index_map_len old.index → btree_set_len new.free ≡ btree_set_len old.free + 1 → slot_count new.held.slots + 1 ≡ slot_count old.held.slots
+      → IsMemoryOf (set cells i (Some payload)) new
+  dropped_memory key payload i spells own held keys frees index_len free_len count =
+      let within = own_within cells old.held (cell_of old) (is_free old) is.shown.in_step row key i own in
+      memory_of (set cells i (Some payload)) (without_kept old.held key) (removed (cell_of old) key) (freed (is_free old) i) new
+      (dropped cells old.held (cell_of old) (is_free old) is.shown row key payload i spells own) held keys frees
+      (record {
+        cells = omega (arith, index_len, free_len, is.counted.cells, count_behind cells i (Some payload) within.0);
+        keys = omega (arith, count, index_len, is.counted.keys);
+      })
+
+  pub raised_memory : (ages : Ages) (payload : List ℕ) → FitsHead (record { count = count_in cells; ages = ages }) → payload ≡ head_spelling (record { count = count_in cells; ages = ages }) → count_in (set cells 0 (Some payload)) ≡ count_in cells → new.held ≡ record old.held { ages = ages } → new.index ≡ old.index → new.free ≡ old.free → IsMemoryOf (set cells 0 (Some payload)) new
+  raised_memory ages payload fits spells told held index free =
+      memory_of (set cells 0 (Some payload)) (record old.held { ages = ages }) (cell_of old) (is_free old) new
+      (raised cells old.held (cell_of old) (is_free old) is.shown row ages payload fits spells) held
+      (λ q. ap (λ m. cell_of (record old { index = m }) q) index) (λ j. ap (λ s. is_free (record old { free = s }) j) free)
+      (record {
+        cells = (λ t. index_map_len (index t) + btree_set_len (free t)) ∙ is.counted.cells ∙ sym told;
+        keys = ap (λ (c : Contents). slot_count c.slots) held ∙ is.counted.keys ∙ ap (λ m. index_map_len m) (sym index);
+      })
+
+  pub grown_memory : count_in cells < 4096 → count_in (grown cells) ≡ count_in cells + 1 → new.held ≡ old.held → new.index ≡ old.index → ((j : ℕ) → is_free new j ≡ freed (is_free old) (1 + count_in cells) j) → btree_set_len new.free ≡ btree_set_len old.free + 1 → IsMemoryOf (grown cells) new
+  grown_memory room more held index frees free_len =
+      memory_of (grown cells) old.held (cell_of old) (freed (is_free old) (1 + count_in cells)) new
+      (grow_are cells old.held (cell_of old) (is_free old) is.shown row room) held
+      (λ q. ap (λ m. cell_of (record old { index = m }) q) index) frees
+      (record {
+        cells = omega (arith, ap (λ m. index_map_len m) index, free_len, is.counted.cells, more);
+        keys = ap (λ (c : Contents). slot_count c.slots) held ∙ is.counted.keys ∙ ap (λ m. index_map_len m) (sym index);
+      })
+
+-- a grown row tells one cell more
+pub more_cells : (cells : List (Option (List ℕ))) (contents : Contents) (f : List ℕ → Option ℕ) (g : ℕ → Bool) → AreOf cells contents f g → IsRow cells → count_in cells < 4096 → count_in (grown cells) ≡ count_in cells + 1
+more_cells [] contents f g are row room = absurd row
+more_cells (None ∷ cells) contents f g are row room = absurd row
+more_cells (Some head ∷ cells) contents f g are row room =
+    let n : ℕ = count_told head in
+    ap (λ (l : List ℕ). count_told (with_count l (n + 1))) are.head
+    ∙ ap count_told (other-count n (n + 1) contents.ages (omega (arith, room)))
+    ∙ count-told (record { count = n + 1; ages = contents.ages }) (record { count = omega (arith, room); long = are.fits.long; small = are.fits.small })
+
+-- another head that tells as many cells
+pub same_cells : (cells : List (Option (List ℕ))) (head : List ℕ) → count_told head ≡ count_in cells → IsRow cells → count_in (set cells 0 (Some head)) ≡ count_in cells
+same_cells [] head told row = absurd row
+same_cells (c ∷ cells) head told row = told
+
+module _ {D : Type 0} (tells : Type 0) (seen : D → List ℕ) (may_leave : D → List ℕ → Type 0) (moment : D → ℕ) (left_since : D → ℕ → List ℕ → Type 0) (old new : DiskShelf D) (up : IsUp tells seen may_leave old) where
+  abbrev row_of : List (Option (List ℕ))
+  row_of = cells.cells_of old.cells
+
+  pub put_moment : (key : List ℕ) (slot : Slot) (payload : List ℕ) (i : ℕ) → IsKey key → FitsSlot slot → payload ≡ cell_spelling (Some (key, slot)) → cell_of old.memory key ≡ Some i → DiskLeavesOnly moment left_since (disk_of old) (disk_of new) (IsBeforeOrAfter row_of (set row_of i (Some payload)))
+      → LeavesOnly (moment_of moment) (LeftSince left_since) old new (IsOldOrNew (contents_of old) (with_kept (contents_of old) key slot))
+  put_moment key slot payload i named fits spells own run =
+      let within = own_within row_of (contents_of old) _ _ up.memory.shown.in_step up.row.row key i own in
+      old_or_new tells seen may_leave moment left_since old new (set row_of i (Some payload)) (with_kept (contents_of old) key slot) _ _ up (row_behind row_of i (Some payload) within.0 up.row.row)
+      (rewritten row_of (contents_of old) _ _ up.memory.shown up.row.row key slot payload i named fits spells own) run
+
+  pub add_moment : (key : List ℕ) (slot : Slot) (payload : List ℕ) (i : ℕ) → IsKey key → FitsSlot slot → payload ≡ cell_spelling (Some (key, slot)) → cell_of old.memory key ≡ None → is_free old.memory i ≡ true → DiskLeavesOnly moment left_since (disk_of old) (disk_of new) (IsBeforeOrAfter row_of (set row_of i (Some payload)))
+      → LeavesOnly (moment_of moment) (LeftSince left_since) old new (IsOldOrNew (contents_of old) (with_kept (contents_of old) key slot))
+  add_moment key slot payload i named fits spells none free run =
+      let within = free_within row_of (contents_of old) _ _ up.memory.shown.in_step up.row.row i free in
+      old_or_new tells seen may_leave moment left_since old new (set row_of i (Some payload)) (with_kept (contents_of old) key slot) _ _ up (row_behind row_of i (Some payload) within.0 up.row.row)
+      (added row_of (contents_of old) _ _ up.memory.shown up.row.row key slot payload i named fits spells none free) run
+
+  pub drop_moment : (key payload : List ℕ) (i : ℕ) → payload ≡ cell_spelling None → cell_of old.memory key ≡ Some i → DiskLeavesOnly moment left_since (disk_of old) (disk_of new) (IsBeforeOrAfter row_of (set row_of i (Some payload)))
+      → LeavesOnly (moment_of moment) (LeftSince left_since) old new (IsOldOrNew (contents_of old) (without_kept (contents_of old) key))
+  drop_moment key payload i spells own run =
+      let within = own_within row_of (contents_of old) _ _ up.memory.shown.in_step up.row.row key i own in
+      old_or_new tells seen may_leave moment left_since old new (set row_of i (Some payload)) (without_kept (contents_of old) key) _ _ up (row_behind row_of i (Some payload) within.0 up.row.row)
+      (dropped row_of (contents_of old) _ _ up.memory.shown up.row.row key payload i spells own) run
+
+  pub raise_moment : (ages : Ages) (payload : List ℕ) → FitsHead (record { count = count_in row_of; ages = ages }) → payload ≡ head_spelling (record { count = count_in row_of; ages = ages }) → DiskLeavesOnly moment left_since (disk_of old) (disk_of new) (IsBeforeOrAfter row_of (set row_of 0 (Some payload)))
+      → LeavesOnly (moment_of moment) (LeftSince left_since) old new (IsOldOrNew (contents_of old) (record (contents_of old) { ages = ages }))
+  raise_moment ages payload fits spells run =
+      let told : count_told payload ≡ count_in row_of = ap count_told spells ∙ count-told _ fits in
+      old_or_new tells seen may_leave moment left_since old new (set row_of 0 (Some payload)) (record (contents_of old) { ages = ages }) _ _ up (row_first row_of payload told up.row.row)
+      (raised row_of (contents_of old) _ _ up.memory.shown up.row.row ages payload fits spells) run
+
+  pub grow_moment : count_in row_of < 4096 → DiskLeavesOnly moment left_since (disk_of old) (disk_of new) (IsBeforeOrAfter row_of (grown row_of)) → LeavesOnly (moment_of moment) (LeftSince left_since) old new (λ left. left ≡ Ok (contents_of old))
+  grow_moment room run =
+      reads_only moment left_since old new (IsBeforeOrAfter row_of (grown row_of)) (λ left. left ≡ Ok (contents_of old))
+      (λ c either. ⊎_elim
+      (λ before. spelled row_of (contents_of old) _ _ c up.row.row up.memory.shown before)
+      (λ grew. spelled (grown row_of) (contents_of old) _ _ c (row_grown row_of (more_cells row_of (contents_of old) _ _ up.memory.shown up.row.row room) up.row.row) (grow_are row_of (contents_of old) _ _ up.memory.shown up.row.row room) grew)
+      either)
+      run
+
+  -- the disk was not touched
+  pub still : disk_of new ≡ disk_of old → ((c : List ℕ) → left_since (disk_of old) (moment (disk_of old)) c → may_leave (disk_of old) c) → tells → LeavesOnly (moment_of moment) (LeftSince left_since) old new (λ left. left ≡ Ok (contents_of old))
+  still same now t = at_rest moment left_since old new may_leave (λ left. left ≡ Ok (contents_of old)) same now (λ c left. up_spells tells seen may_leave old up t c left)
+
+  pub still_old : (after : Contents) → disk_of new ≡ disk_of old → ((c : List ℕ) → left_since (disk_of old) (moment (disk_of old)) c → may_leave (disk_of old) c) → tells → LeavesOnly (moment_of moment) (LeftSince left_since) old new (IsOldOrNew (contents_of old) after)
+  still_old after same now t = at_rest moment left_since old new may_leave (IsOldOrNew (contents_of old) after) same now (λ c left. inl (up_spells tells seen may_leave old up t c left))
+
+  -- ---- the shelf is up again
+
+  pub rewritten_up : (key : List ℕ) (slot : Slot) (payload : List ℕ) (i : ℕ) → IsKey key → FitsSlot slot → payload ≡ cell_spelling (Some (key, slot)) → cell_of old.memory key ≡ Some i → cells.Stands tells seen may_leave new.cells → cells.cells_of new.cells ≡ set row_of i (Some payload) → new.memory.held ≡ with_kept old.memory.held key slot → new.memory.index ≡ old.memory.index → new.memory.free ≡ old.memory.free → slot_count new.memory.held.slots ≡ slot_count old.memory.held.slots
+      → IsUp tells seen may_leave new
+  rewritten_up key slot payload i named fits spells own stands changed held index free count = record {
+    row = stands;
+    memory = subst (λ (l : List (Option (List ℕ))). IsMemoryOf l new.memory) (sym changed) (rewritten_memory row_of old.memory new.memory up.memory up.row.row key slot payload i named fits spells own held index free count);
+  }
+
+  pub added_up : (key : List ℕ) (slot : Slot) (payload : List ℕ) (i : ℕ) → IsKey key → FitsSlot slot → payload ≡ cell_spelling (Some (key, slot)) → cell_of old.memory key ≡ None → is_free old.memory i ≡ true → cells.Stands tells seen may_leave new.cells → cells.cells_of new.cells ≡ set row_of i (Some payload) → new.memory.held ≡ with_kept old.memory.held key slot
+      → ((q : List ℕ) → cell_of new.memory q ≡ moved (cell_of old.memory) key i q) → ((j : ℕ) → is_free new.memory j ≡ taken (is_free old.memory) i j) → index_map_len new.memory.index ≡ index_map_len old.memory.index + 1 → btree_set_len new.memory.free + 1 ≡ btree_set_len old.memory.free → slot_count new.memory.held.slots ≡ slot_count old.memory.held.slots + 1
+      → IsUp tells seen may_leave new
+  added_up key slot payload i named fits spells none is_unused stands changed held keys frees index_len free_len count = record {
+    row = stands;
+    memory = subst (λ (l : List (Option (List ℕ))). IsMemoryOf l new.memory) (sym changed) (added_memory row_of old.memory new.memory up.memory up.row.row key slot payload i named fits spells none is_unused held keys frees index_len free_len count);
+  }
+
+  pub dropped_up : (key payload : List ℕ) (i : ℕ) → payload ≡ cell_spelling None → cell_of old.memory key ≡ Some i → cells.Stands tells seen may_leave new.cells → cells.cells_of new.cells ≡ set row_of i (Some payload) → new.memory.held ≡ without_kept old.memory.held key
+      → ((q : List ℕ) → cell_of new.memory q ≡ removed (cell_of old.memory) key q) → ((j : ℕ) → is_free new.memory j ≡ freed (is_free old.memory) i j) → index_map_len new.memory.index + 1 ≡ index_map_len old.memory.index → btree_set_len new.memory.free ≡ btree_set_len old.memory.free + 1 → slot_count new.memory.held.slots + 1 ≡ slot_count old.memory.held.slots
+      → IsUp tells seen may_leave new
+  dropped_up key payload i spells own stands changed held keys frees index_len free_len count = record {
+    row = stands;
+    memory = subst (λ (l : List (Option (List ℕ))). IsMemoryOf l new.memory) (sym changed) (dropped_memory row_of old.memory new.memory up.memory up.row.row key payload i spells own held keys frees index_len free_len count);
+  }
+
+  pub raised_up : (ages : Ages) (payload : List ℕ) → FitsHead (record { count = count_in row_of; ages = ages }) → payload ≡ head_spelling (record { count = count_in row_of; ages = ages }) → cells.Stands tells seen may_leave new.cells → cells.cells_of new.cells ≡ set row_of 0 (Some payload) → new.memory.held ≡ record old.memory.held { ages = ages } → new.memory.index ≡ old.memory.index → new.memory.free ≡ old.memory.free
+      → IsUp tells seen may_leave new
+  raised_up ages payload fits spells stands changed held index free = record {
+    row = stands;
+    memory = subst (λ (l : List (Option (List ℕ))). IsMemoryOf l new.memory) (sym changed)
+        (raised_memory row_of old.memory new.memory up.memory up.row.row ages payload fits spells (same_cells row_of payload (ap count_told spells ∙ count-told _ fits) up.row.row) held index free);
+  }
+
+  pub grown_up : count_in row_of < 4096 → cells.Stands tells seen may_leave new.cells → cells.cells_of new.cells ≡ grown row_of → new.memory.held ≡ old.memory.held → new.memory.index ≡ old.memory.index → ((j : ℕ) → is_free new.memory j ≡ freed (is_free old.memory) (1 + count_in row_of) j) → btree_set_len new.memory.free ≡ btree_set_len old.memory.free + 1
+      → IsUp tells seen may_leave new
+  grown_up room stands changed held index frees free_len = record {
+    row = stands;
+    memory = subst (λ (l : List (Option (List ℕ))). IsMemoryOf l new.memory) (sym changed)
+        (grown_memory row_of old.memory new.memory up.memory up.row.row room (more_cells row_of (contents_of old) _ _ up.memory.shown up.row.row room) held index frees free_len);
+  }
+
+  -- nothing changed, as look-ups see it
+  pub same_up : cells.Stands tells seen may_leave new.cells → cells.cells_of new.cells ≡ row_of → new.memory.held ≡ old.memory.held → ((q : List ℕ) → cell_of new.memory q ≡ cell_of old.memory q) → ((j : ℕ) → is_free new.memory j ≡ is_free old.memory j) → index_map_len new.memory.index ≡ index_map_len old.memory.index → btree_set_len new.memory.free ≡ btree_set_len old.memory.free
+      → IsUp tells seen may_leave new
+  same_up stands same held keys frees index_len free_len = record {
+    row = stands;
+    memory = subst (λ (l : List (Option (List ℕ))). IsMemoryOf l new.memory) (sym same) (same_memory row_of old.memory new.memory held keys frees index_len free_len up.memory);
+  }
+
+-- a cell that was added to the free cells and taken back
+pub taken_back : (g : ℕ → Bool) (i : ℕ) → g i ≡ false → (j : ℕ) → taken (freed g i) i j ≡ g j
+taken_back g i unused j = elim (cases_eq i j) [
+  | inl same ↦ taken_own (freed g i) i j same ∙ sym (ap g (sym same) ∙ unused)
+  | inr other ↦ taken_other (freed g i) i j other ∙ freed_other g i j other
+]
+
+-- a cell of a key is not free
+pub own_not_free : (contents : Contents) (f : List ℕ → Option ℕ) (g : ℕ → Bool) (cells : List (Option (List ℕ))) → AreOf cells contents f g → (key : List ℕ) (i : ℕ) → f key ≡ Some i → g i ≡ false
+own_not_free contents f g cells are key i own = not_true (g i) (λ e. not_free contents f g cells are.in_step key i own e)
+
+-- nor is one behind the last
+pub past_not_free : (contents : Contents) (f : List ℕ → Option ℕ) (g : ℕ → Bool) (cells : List (Option (List ℕ))) → AreOf cells contents f g → IsRow cells → (i : ℕ) → count_in cells < i → g i ≡ false
+past_not_free contents f g cells are row i past = not_true (g i) (λ e. let within = free_within cells contents f g are.in_step row i e in omega (arith, within.1, past))

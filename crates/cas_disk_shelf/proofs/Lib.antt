@@ -1,0 +1,11 @@
+mod Changing
+mod Counting
+mod Entries
+mod Faults
+mod Keeping
+mod Leaving
+mod Lists
+mod Loading
+mod Opening
+mod Stepping
+mod Using

@@ -1,0 +1,24 @@
+use Rattle.std.proofs.Common.{refl, subst}
+use Rattle.cas_slot.specs.Contents.{Contents, with_kept}
+use Rattle.cas_slot.specs.Shelf.{IsOldOrNew, LeavesOnly}
+use Rattle.cas_disk_shelf.specs.Shelf.{contents_of, moment_of, LeftSince}
+use Rattle.cas_disk_shelf.proofs.Leaving.{unchanged, then_changed}
+use Rattle.cas_disk_shelf.proofs.Keeping.{still_old}
+use Rattle.cas_disk_shelf.proofs.shelf.DiskShelf.add.Goals as goal
+
+pub returns-then-not-has_spelling-clause-any_moment : goal.returns-then-not-has_spelling-clause-any_moment
+returns-then-not-has_spelling-clause-any_moment g c tells =
+    still_old g.D.Disk.tells g.D.Disk.seen g.D.Disk.may_leave g.D.Disk.moment g.D.Disk.left_since _ _ c.requires.up _ refl (λ image left. g.met.D.Disk.only_now _ image tells left) tells
+
+pub returns-in_err-cell-clause-any_moment : goal.returns-in_err-cell-clause-any_moment
+returns-in_err-cell-clause-any_moment g c tells =
+    unchanged g.D.Disk.moment g.D.Disk.left_since _ _ (contents_of c.args.self.now) _ (c.unused_cell.ensures.any_moment tells)
+
+pub returns-clause-any_moment : goal.returns-clause-any_moment
+returns-clause-any_moment g c tells =
+    let old = c.args.self.now in
+    let mid = c.unused_cell.new.self in
+    let new = c.add_at.new.self in
+    let put : LeavesOnly (moment_of g.D.Disk.moment) (LeftSince g.D.Disk.left_since) mid new (IsOldOrNew (contents_of old) (with_kept (contents_of old) c.args.key.now c.args.slot)) =
+    subst (λ (x : Contents). LeavesOnly (moment_of g.D.Disk.moment) (LeftSince g.D.Disk.left_since) mid new (IsOldOrNew x (with_kept x c.args.key.now c.args.slot))) c.unused_cell.ensures.contents (c.add_at.ensures.any_moment tells) in
+    then_changed g.D.Disk.moment g.D.Disk.left_since old mid new (contents_of old) (with_kept (contents_of old) c.args.key.now c.args.slot) (c.unused_cell.ensures.any_moment tells) put

@@ -1,0 +1,9 @@
+pub mod Cell
+pub mod FaultOf
+pub mod Head
+pub mod HeadLaws
+pub mod Image
+pub mod Loading
+pub mod Memory
+pub mod Shelf
+pub mod ShelfLaws

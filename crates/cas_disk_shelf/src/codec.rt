@@ -1,0 +1,284 @@
+//! How the payloads of a shelf's cells are written and read: the head in cell 0, and behind it cells that are free or hold the
+//! slot of a key.
+ghost use Rattle.std.specs.Prelude.{◌≡◌, ◌≤◌, ◌<◌, ◌+◌, ◌*◌, ◌^◌, ◌++◌, [], ◌∷◌, ℕ, length, drop, IfOk, IfErr, OnOk, OnErr, IsTrue, IfSome, FitsSigned, Some, None, slice_index};
+ghost use Rattle.std.specs.Int.{w32, w64, to_be_bytes, from_be_bytes};
+ghost use Rattle.cas_wire.specs.Reading.{rise_at};
+ghost use Rattle.cas_wire.specs.Spelling.{FitsBallot, FitsState, FitsAccepted};
+ghost use Rattle.cas_change.specs.Key.{IsKey};
+ghost use Rattle.cas_disk_shelf.specs.Head.{head_spelling, head_of, IsSpelledHead, unlike_at, numbers_spelling, number_from, ages_in};
+ghost use Rattle.cas_disk_shelf.specs.Cell.{cell_spelling, FitsSlot, IsFound, IsReadSoFar};
+
+use byteorder::{BigEndian, ByteOrder};
+use cas_ballot::Ballot;
+use cas_change::{Body, Key, LONGEST_TEXT, State};
+use cas_slot::{Accepted, Ages, PROPOSERS, Slot};
+use cas_wire::parts::{
+    Part, push_accepted, push_ballot, push_key, take_accepted, take_ballot, take_key,
+};
+use std::alloc::{AllocError, Global};
+
+/// How many bytes a head has.
+const HEAD_LENGTH: usize = 149;
+
+/// How each head begins: its kind, and the name of the format.
+const FRONT: [u8; 9] = *b"\x02CASREG01";
+
+/// The payload of a cell that holds no slot.
+pub const FREE: [u8; 1] = [0];
+
+/// What a head tells.
+#[derive(Clone, Copy, Debug, PartialEq, Eq)]
+pub struct Head {
+    /// How many cells stand behind it. At most 4,096.
+    pub count: u32,
+    /// The least ages.
+    pub ages: Ages,
+}
+
+/// What a payload behind the head is.
+#[derive(Debug, PartialEq, Eq, Drop)]
+pub enum Found {
+    /// The cell holds no slot.
+    Free,
+    /// The cell holds the slot of a key.
+    Kept { key: Key, slot: Slot },
+    /// No payload has the byte at this place there; or the payload ends too early, and it is its length.
+    Wrong { at: usize },
+}
+
+/// The payload of a head.
+pub fn spell_head(alloc: Global, head: &Head) -> Result<Vec<u8>, AllocError>
+    ensures spelled { IfOk result (λ bytes. bytes.items ≡ head_spelling head.now) }
+    ensures long { OnOk result (length head.now.ages.0 ≡ 17) }
+    ensures small { OnOk result ((i : ℕ) → slice_index head.now.ages.0 i < 2 ^ 64) }
+{
+    let mut bytes = FRONT.to_vec(alloc)?;
+    let mut count = [0; 4];
+    BigEndian::write_u32(&mut count, head.count);
+    bytes.extend_from_slice(&count)?;
+    push_numbers(&mut bytes, &head.ages.0)?;
+    Ok(bytes)
+}
+
+/// Appends numbers, eight bytes each.
+fn push_numbers(out: &mut Vec<u8>, numbers: &[u64]) -> Result<(), AllocError>
+    ensures spelled { OnOk result (out.new.items ≡ out.old.items ++ numbers_spelling numbers.now) }
+    ensures small { (i : ℕ) → slice_index numbers.now i < 2 ^ 64 }
+{
+    let Some((number, rest)) = numbers.split_first() else {
+        return Ok(());
+    };
+    let mut bytes = [0; 8];
+    BigEndian::write_u64(&mut bytes, *number);
+    out.extend_from_slice(&bytes)?;
+    push_numbers(out, rest)
+}
+
+/// The head that these bytes spell. `Err` tells the place of the first byte that no head has there, or the length of bytes that
+/// end too early.
+pub fn read_head(bytes: &[u8]) -> Result<Head, usize>
+    ensures read { result ≡ head_of bytes.now }
+    ensures within { IfErr result (λ at. at ≤ length bytes.now) }
+    ensures spelled { IfOk result (IsSpelledHead bytes.now) }
+{
+    if let Some(at) = unlike_at(&FRONT, bytes) {
+        return Err(at);
+    }
+    if let Some(at) = rise_at(&[0, 0, 16, 0], &bytes[9..]) {
+        return Err(9 + at);
+    }
+    if bytes.len() != HEAD_LENGTH {
+        return Err(bytes.len().min(HEAD_LENGTH));
+    }
+    Ok(Head {
+        count: u32::from_be_bytes([bytes[9], bytes[10], bytes[11], bytes[12]]),
+        ages: ages_in(&bytes[13..]),
+    })
+}
+
+/// The place of the first byte that differs from this text, or that is missing.
+fn unlike_at(text: &[u8], bytes: &[u8]) -> Option<usize>
+    ensures place { result ≡ unlike_at text.now bytes.now }
+    ensures within { IfSome result (λ i. i ≤ length bytes.now) }
+    ensures all { (result ≡ None) → length text.now ≤ length bytes.now }
+{
+    let (want, text) = text.split_first()?;
+    let Some((byte, rest)) = bytes.split_first() else {
+        return Some(0);
+    };
+    if byte != want {
+        return Some(0);
+    }
+    match unlike_at(text, rest) {
+        Some(i) => Some(i + 1),
+        None => None,
+    }
+}
+
+/// The place of the byte by which a number rises above this limit, where it does.
+fn rise_at(limit: &[u8], bytes: &[u8]) -> Option<usize>
+    ensures place { result ≡ rise_at limit.now bytes.now }
+    ensures within { IfSome result (λ i. i < length bytes.now) }
+{
+    let (most, limit) = limit.split_first()?;
+    let (byte, rest) = bytes.split_first()?;
+    if byte < most {
+        return None;
+    }
+    if most < byte {
+        return Some(0);
+    }
+    match rise_at(limit, rest) {
+        Some(i) => Some(i + 1),
+        None => None,
+    }
+}
+
+/// The ages in the first 136 bytes.
+fn ages_in(bytes: &[u8]) -> Ages
+    requires { length bytes.now ≡ 136 }
+    ensures { result ≡ ages_in bytes.now }
+{
+    let mut ages = Ages::ZERO;
+    for i in 0..PROPOSERS {
+        ages.0[i] = u64_at(bytes, 8 * i);
+    }
+    ages
+}
+
+/// The number in eight bytes from there on.
+fn u64_at(bytes: &[u8], at: usize) -> u64
+    requires { at + 8 ≤ length bytes.now }
+    ensures { result ≡ number_from at bytes.now }
+{
+    let bytes = &bytes[at..];
+    u64::from_be_bytes([
+        bytes[0], bytes[1], bytes[2], bytes[3], bytes[4], bytes[5], bytes[6], bytes[7],
+    ])
+}
+
+/// Whether a slot has a spelling: its ballots have counters up to 2^48 and proposers up to 16.
+pub fn has_spelling(slot: &Slot) -> bool
+    ensures { IsTrue result → FitsSlot slot.now }
+{
+    fits(slot.promise) && accepted_fits(&slot.accepted)
+}
+
+fn accepted_fits(accepted: &Option<Accepted>) -> bool
+    ensures { IsTrue result → IfSome accepted.now FitsAccepted }
+{
+    match accepted {
+        Some(accepted) => fits(accepted.ballot) && parts_fit(accepted.era, &accepted.state),
+        None => true,
+    }
+}
+
+// Each era and each state has one.
+fn parts_fit(era: u32, state: &State) -> bool
+    ensures { IsTrue result → (era < 2 ^ 32) × FitsState state.now }
+{
+    match state {
+        State::Empty => true,
+        State::Held { version, body } => body_fits(*version, body),
+    }
+}
+
+fn body_fits(version: u64, body: &Body) -> bool
+    ensures { IsTrue result → FitsState (State.Held version body.now) }
+{
+    match body {
+        Body::Number(number) => number_fits(version, *number),
+        Body::Text(text) => text.bytes().len() <= LONGEST_TEXT,
+    }
+}
+
+const fn number_fits(version: u64, number: i64) -> bool
+    ensures version { version < 2 ^ 64 }
+    ensures number { FitsSigned w64 number }
+{
+    true
+}
+
+fn fits(ballot: Ballot) -> bool
+    ensures { IsTrue result → FitsBallot ballot }
+{
+    ballot.counter <= 1 << 48 && ballot.proposer <= 16
+}
+
+/// The payload of a cell that holds the slot of a key.
+pub fn spell_slot(alloc: Global, key: &Key, slot: &Slot) -> Result<Vec<u8>, AllocError>
+    requires { FitsSlot slot.now }
+    ensures spelled { IfOk result (λ bytes. bytes.items ≡ cell_spelling (Some (key.now, slot.now))) }
+    ensures key { IsKey key.now }
+{
+    let mut bytes = Vec::with_capacity(alloc, key.bytes().len() + 236)?;
+    bytes.push(1)?;
+    push_key(&mut bytes, key)?;
+    push_ballot(&mut bytes, slot.promise)?;
+    push_accepted(&mut bytes, slot.accepted.as_ref())?;
+    Ok(bytes)
+}
+
+/// What a payload behind the head is.
+pub fn read_cell(alloc: Global, bytes: &[u8]) -> Result<Found, AllocError>
+    ensures { IfOk result (IsFound bytes.now) }
+{
+    let Some((kind, rest)) = bytes.split_first() else {
+        return Ok(Found::Wrong { at: 0 });
+    };
+    if *kind == 1 {
+        return read_entry(alloc, rest);
+    }
+    if *kind > 1 {
+        return Ok(Found::Wrong { at: 0 });
+    }
+    if rest.is_empty() {
+        Ok(Found::Free)
+    } else {
+        Ok(Found::Wrong { at: 1 })
+    }
+}
+
+/// What a payload is that has these bytes behind its kind.
+fn read_entry(alloc: Global, bytes: &[u8]) -> Result<Found, AllocError>
+    ensures { IfOk result (IsFound (1 ∷ bytes.now)) }
+{
+    match take_key(alloc, bytes)? {
+        Part::Wrong { at } => Ok(Found::Wrong { at: 1 + at }),
+        Part::Read { value: key, used } => match take_ballot(&bytes[used..]) {
+            Part::Wrong { at } => Ok(Found::Wrong { at: 1 + used + at }),
+            Part::Read {
+                value: promise,
+                used: more,
+            } => read_accepted(alloc, bytes, used + more, key, promise),
+        },
+    }
+}
+
+/// The same, where a key and a promise were read up to this place.
+fn read_accepted(
+    alloc: Global,
+    bytes: &[u8],
+    from: usize,
+    key: Key,
+    promise: Ballot,
+) -> Result<Found, AllocError>
+    requires { IsReadSoFar bytes.now from key promise }
+    ensures { IfOk result (IsFound (1 ∷ bytes.now)) }
+{
+    match take_accepted(alloc, &bytes[from..])? {
+        Part::Wrong { at } => Ok(Found::Wrong { at: 1 + from + at }),
+        Part::Read {
+            value: accepted,
+            used,
+        } => {
+            if from + used < bytes.len() {
+                return Ok(Found::Wrong {
+                    at: 1 + from + used,
+                });
+            }
+            let slot = Slot { promise, accepted };
+            Ok(Found::Kept { key, slot })
+        }
+    }
+}

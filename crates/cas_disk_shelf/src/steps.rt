@@ -1,0 +1,65 @@
+//! The change of one cell.
+ghost use Rattle.std.specs.Prelude.{◌≡◌, ◌≤◌, Some, OnOk, OnErr, IsErrOf, slice_set};
+ghost use Rattle.cas_slot.specs.Shelf.{HasShelfCause, IsNeitherFullNorForeign};
+ghost use Rattle.cas_disk.specs.Disk.{LeavesOnly};
+ghost use Rattle.cas_cells.specs.Cells.{Stands, cells_of, disk_of};
+ghost use Rattle.cas_cells.specs.Fault.{IsFaultOfDisk};
+ghost use Rattle.cas_cells.specs.Format.{count_in, count_told, IsPayload, IsBeforeOrAfter};
+ghost use Rattle.cas_disk_shelf.specs.FaultOf.{fault_of};
+
+use cas_cells::{CellFault, Cells};
+use cas_disk::Disk;
+use cas_slot::ShelfFault;
+
+/// What a fault of the cells is to a shelf.
+pub fn fault_of(fault: CellFault) -> ShelfFault
+    ensures { result ≡ fault_of fault }
+{
+    match fault {
+        CellFault::DiskFault => ShelfFault::DiskFault,
+        CellFault::Foreign { at } => ShelfFault::Foreign { at },
+        CellFault::NoMemory => ShelfFault::NoMemory,
+    }
+}
+
+/// Changes a cell in its three steps. A crash within the call leaves the old payload or the new, and after `Ok` the new. After an
+/// `Err` the cells show what they showed.
+pub fn change<D: Disk>(cells: &mut Cells<D>, cell: u32, payload: &[u8]) -> Result<(), ShelfFault>
+    requires stands { Stands D.tells D.seen D.may_leave cells.old }
+    requires within { cell ≤ count_in (cells_of cells.old) }
+    requires fits { IsPayload payload.now }
+    requires same_count { (cell ≡ 0) → count_told payload.now ≡ count_in (cells_of cells.old) }
+    ensures changed { OnOk result (cells_of cells.new ≡ slice_set (cells_of cells.old) cell (Some payload.now)) }
+    ensures same { OnErr result (cells_of cells.new ≡ cells_of cells.old) }
+    ensures stands { OnOk result (Stands D.tells D.seen D.may_leave cells.new) }
+    ensures after_no_memory { IsErrOf result ShelfFault.NoMemory → Stands D.tells D.seen D.may_leave cells.new }
+    ensures any_moment { D.tells → LeavesOnly D.moment D.left_since (disk_of cells.old) (disk_of cells.new) (IsBeforeOrAfter (cells_of cells.old) (slice_set (cells_of cells.old) cell (Some payload.now))) }
+    ensures other { IsNeitherFullNorForeign result }
+    ensures cause { HasShelfCause result (D.fault_count (disk_of cells.old)) (D.fault_count (disk_of cells.new)) }
+{
+    match change_in_steps(cells, cell, payload) {
+        Ok(()) => Ok(()),
+        Err(fault) => Err(fault_of(fault)),
+    }
+}
+
+fn change_in_steps<D: Disk>(
+    cells: &mut Cells<D>,
+    cell: u32,
+    payload: &[u8],
+) -> Result<(), CellFault>
+    requires stands { Stands D.tells D.seen D.may_leave cells.old }
+    requires within { cell ≤ count_in (cells_of cells.old) }
+    requires fits { IsPayload payload.now }
+    requires same_count { (cell ≡ 0) → count_told payload.now ≡ count_in (cells_of cells.old) }
+    ensures changed { OnOk result (cells_of cells.new ≡ slice_set (cells_of cells.old) cell (Some payload.now)) }
+    ensures same { OnErr result (cells_of cells.new ≡ cells_of cells.old) }
+    ensures stands { OnOk result (Stands D.tells D.seen D.may_leave cells.new) }
+    ensures after_no_memory { IsErrOf result CellFault.NoMemory → Stands D.tells D.seen D.may_leave cells.new }
+    ensures any_moment { D.tells → LeavesOnly D.moment D.left_since (disk_of cells.old) (disk_of cells.new) (IsBeforeOrAfter (cells_of cells.old) (slice_set (cells_of cells.old) cell (Some payload.now))) }
+    ensures cause { IsFaultOfDisk result (D.fault_count (disk_of cells.old)) (D.fault_count (disk_of cells.new)) }
+{
+    cells.close_spare(cell)?;
+    cells.write_spare(cell, payload)?;
+    cells.open_spare(cell)
+}
