@@ -7,15 +7,15 @@ use Rattle.cas_change.specs.Key.{IsKeyByte, is_key_byte, first_bad_byte, IsKey}
 use Rattle.cas_change.proofs.Positions.{none_passes}
 
 -- a byte that does not fail the test may stand in a key
-passing_byte : (byte : ℕ) → not (is_key_byte byte) ≡ false → IsKeyByte byte
+pub passing_byte : (byte : ℕ) → not (is_key_byte byte) ≡ false → IsKeyByte byte
 passing_byte byte passes = (grind (arith, common_steps), grind (arith, common_steps))
 
 -- a byte that may stand in a key does not fail the test
-byte_passing : (byte : ℕ) → IsKeyByte byte → not (is_key_byte byte) ≡ true → ⊥
+pub byte_passing : (byte : ℕ) → IsKeyByte byte → not (is_key_byte byte) ≡ true → ⊥
 byte_passing byte fits fails = grind (arith, common_steps)
 
 -- without a first bad byte each byte may stand in a key
-each_byte : (bytes : List ℕ) → first_bad_byte bytes ≡ None → All IsKeyByte bytes
+pub each_byte : (bytes : List ℕ) → first_bad_byte bytes ≡ None → All IsKeyByte bytes
 each_byte bytes none = λ k d lt. passing_byte (get_or bytes k d) (none_passes (λ byte. not (is_key_byte byte)) bytes none k d lt)
 
 -- bytes that no fault is found in are a key

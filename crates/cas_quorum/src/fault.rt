@@ -11,7 +11,7 @@ pub enum PlanFault {
     AlreadyIn,
     /// `not in`: the acceptor that leaves is no member.
     NotIn,
-    /// `id used`: the acceptor that joins was a member before. It kept nothing of what it promised then.
+    /// `id used`: the acceptor that joins was a member before. An identity is used once.
     IdUsed,
     /// `too many`: there are nine members.
     TooMany,

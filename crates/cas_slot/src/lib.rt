@@ -1,7 +1,8 @@
 //! One acceptor's side of a round, as values: what it keeps for a key, the rules by which it answers, the messages
 //! that pass between it and a proposer, and where it keeps its slots.
 //!
-//! The rules are those of Rystsov 2018, section 2.2. Nothing here sends a message, and no proposer lives here.
+//! The rules by which a ballot is promised and a state is accepted are those of Rystsov 2018, section 2.2. Ages, removals,
+//! listings and probes are this store's own. Nothing here sends a message, and no proposer lives here.
 #![tactic(auto)]
 
 mod ages;

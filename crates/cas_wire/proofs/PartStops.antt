@@ -17,7 +17,7 @@ use Rattle.cas_change.specs.Text.{IsText}
 use Rattle.cas_change.specs.declared.state.State.{State}
 use Rattle.cas_change.specs.declared.state.State.TheVariants.{Empty, Held}
 use Rattle.cas_change.specs.declared.state.Body.TheVariants.{Number, Text}
-use Rattle.cas_change.proofs.Keys.{key_bytes}
+use Rattle.cas_change.proofs.Keys.{passing_byte, byte_passing, key_bytes}
 use Rattle.cas_slot.specs.declared.slot.Accepted.{Accepted}
 use Rattle.cas_wire.specs.Reading.{Reading, ◌>>=◌, pair_at, byte_where, number_at, some_at, stopped_at, rise_at, is_key_length, key_bytes_at, key_at, counter_at, is_proposer, ballot_of, ballot_at, most_length, text_at, number_state, text_state, state_at, accepted_of, accepted_at, optional_at}
 use Rattle.cas_wire.specs.Spelling.{key_spelling, ballot_spelling, state_spelling, accepted_spelling, optional_spelling, FitsBallot, FitsState, FitsAccepted}
@@ -81,12 +81,6 @@ padded bytes n each short few =
 padded_len : (bytes : List ℕ) (n : ℕ) → length bytes < n → length (bytes ++ padding (n - length bytes)) ≡ n
 padded_len bytes n short = omega (arith, short, length-append bytes (padding (n - length bytes)), length-replicate {A = ℕ} (n - length bytes) exclamation)
 
-passing_byte : (byte : ℕ) → not (is_key_byte byte) ≡ false → IsKeyByte byte
-passing_byte byte passes = (grind (arith, common_steps), grind (arith, common_steps))
-
-bad_byte : (byte : ℕ) → not (is_key_byte byte) ≡ true → IsKeyByte byte → ⊥
-bad_byte byte fails is = grind (arith, common_steps)
-
 each_clean : (bytes : List ℕ) → length bytes ≤ 64 → first_bad_byte bytes ≡ None → All IsKeyByte bytes
 each_clean [] few none = All-nil IsKeyByte
 each_clean (b ∷ bytes) few none = (key_bytes (b ∷ bytes) (omega arith) few none).each
@@ -140,7 +134,7 @@ key_bytes_stop n some few bytes left e = elim (stopped_err (first_bad_byte (take
             let place : length (take found.0 bytes) ≡ found.0 = omega (arith, count, bad.within) in
             let here : get_or bytes found.0 0 ≡ b = ap (λ (xs : List ℕ). get_or xs found.0 0) (sym joined ∙ ap (λ (xs : List ℕ). take found.0 bytes ++ xs) is) ∙ ap (λ (k : ℕ). get_or (take found.0 bytes ++ (b ∷ after)) k 0) (sym place) ∙ get_or-append_seam (take found.0 bytes) b after 0 in
             let there : get_or key found.0 0 ≡ b = ap (λ (xs : List ℕ). get_or xs found.0 0) we ∙ ap (λ (k : ℕ). get_or (take found.0 bytes ++ (b ∷ rest)) k 0) (sym place) ∙ get_or-append_seam (take found.0 bytes) b rest 0 in
-            bad_byte (get_or bytes found.0 0) bad.bad (subst IsKeyByte (there ∙ sym here) (fits.0.each found.0 0 (omega (arith, fits.1, bad.below))));
+            byte_passing (get_or bytes found.0 0) (subst IsKeyByte (there ∙ sym here) (fits.0.each found.0 0 (omega (arith, fits.1, bad.below)))) bad.bad;
       }
   | inr short ↦
       let s = some_short n bytes left short.1 in
