@@ -3,6 +3,7 @@ use Rattle.cas_slot.specs.declared.message.Ask.{Ask}
 use Rattle.cas_slot.specs.declared.message.Tell.{Tell}
 use Rattle.cas_slot.specs.declared.message.Tell.TheVariants as tell
 use Rattle.cas_slot.specs.Contents.{Contents, with_kept, without_kept, with_raised}
+use Rattle.cas_slot.specs.Limits.{SlotBallotsFit}
 use Rattle.cas_slot.specs.Slots.{IsFullFor}
 use Rattle.cas_slot.specs.Table.{Answers}
 use Rattle.cas_acceptor.specs.declared.change.Change.{Change}
@@ -21,6 +22,11 @@ IsFull old Nothing = ⊥
 IsFull old (Put key slot) = IsFullFor old.slots key.now
 IsFull old (Remove key) = ⊥
 IsFull old (Raise least) = ⊥
+
+-- the ballots of what is put are within their limits
+abbrev pub ChangeBallotsFit : Change → Type 0
+ChangeBallotsFit (Put key slot) = SlotBallotsFit slot
+ChangeBallotsFit other = Unit {0}
 
 -- what a question is told and what is changed for it: by the table, both where there is room and where there is none
 pub record Decides (old : Contents) (question : Ask) (answer : Tell) (change : Change) : Type 0 where

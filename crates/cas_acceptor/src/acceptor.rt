@@ -3,6 +3,7 @@
 ghost use Rattle.std.specs.Prelude.{◌≡◌, ◌⊎◌, ◌≤◌, ◌↔◌, true, false, Ok, Err, IsTrue, IfOk, OnOk, OnErr, IsErrOf};
 ghost use Rattle.cas_base.specs.Faults.{Rose};
 ghost use Rattle.cas_slot.specs.Contents.{nothing};
+ghost use Rattle.cas_slot.specs.Limits.{AskBallotsFit, TellBallotsFit};
 ghost use Rattle.cas_slot.specs.Shelf.{OnlyLeaves, LeavesOnly, HasShelfCause};
 ghost use Rattle.cas_slot.specs.Table.{IsAnswered, Handles};
 ghost use Rattle.cas_acceptor.specs.Acceptor.{LeavesByTable};
@@ -95,15 +96,18 @@ impl<S: Shelf> Acceptor<S> {
         shelf
     }
 
-    /// Answers a request by the acceptor's table, whose proposer's number is at most 16.
+    /// Answers a request by the acceptor's table. The request's proposer is at most 16, and its ballots have counters up to 2^48
+    /// and proposers up to 16; so have those of the reply.
     ///
     /// What a reply says is so in what any crash from then on leaves, until a further request changes it. A crash within the
     /// call leaves what was kept before, or what the table makes of that. [`HandleFault::Down`] comes only where the acceptor
     /// was down, or its shelf's count of faults rose; the acceptor is down then, and is restarted before it answers again.
     /// Whatever the error, the shelf holds what it held.
     pub fn handle(&mut self, request: &Request) -> Result<Reply, HandleFault>
-        requires { request.now.from ≤ 16 }
+        requires known { request.now.from ≤ 16 }
+        requires fits { AskBallotsFit request.now.ask }
         ensures table { IfOk result (λ reply. IsAnswered self.old.id (S.contents self.old.shelf) request.now reply (S.contents self.new.shelf)) }
+        ensures told { IfOk result (λ reply. TellBallotsFit reply.tell) }
         ensures kept { S.tells → OnOk result (OnlyLeaves (S.contents self.new.shelf) (S.may_leave self.new.shelf)) }
         ensures any_moment { S.tells → self.old.down ≡ false → LeavesOnly S.moment S.left_since self.old.shelf self.new.shelf (LeavesByTable (S.contents self.old.shelf) request.now) }
         ensures err { OnErr result (S.contents self.new.shelf ≡ S.contents self.old.shelf) }
@@ -140,7 +144,8 @@ impl<S: Shelf> Acceptor<S> {
 
     /// Starts the shelf where no start ever succeeded, and reopens it otherwise. One that is up stays as it is.
     ///
-    /// The acceptor is up after `Ok`. The errors are those of the shelf, which come by their causes; the acceptor stays down.
+    /// The acceptor is up after `Ok`. The errors are those of the shelf, which come by their causes, and never
+    /// [`ShelfFault::Full`]; the acceptor stays down.
     pub fn restart(&mut self) -> Result<(), ShelfFault>
         ensures up { OnOk result (self.new.down ≡ false) }
         ensures still_down { OnErr result (IsTrue self.new.down) }
@@ -149,6 +154,7 @@ impl<S: Shelf> Acceptor<S> {
         ensures not_started { OnErr result (self.new.started ≡ self.old.started) }
         ensures afresh { IsTrue self.old.down → self.old.started ≡ false → OnOk result (S.contents self.new.shelf ≡ nothing) }
         ensures reopened { S.tells → IsTrue self.old.down → IsTrue self.old.started → OnOk result (S.may_leave self.old.shelf (Ok (S.contents self.new.shelf))) }
+        ensures not_full { IsErrOf result ShelfFault.Full → ⊥ }
         ensures cause { HasShelfCause result (S.fault_count self.old.shelf) (S.fault_count self.new.shelf) }
         ensures same { self.new.id ≡ self.old.id }
     {
@@ -170,7 +176,9 @@ impl<S: Shelf> Acceptor<S> {
 fn tell<S: Shelf>(shelf: &mut S, request: &Request) -> Result<Tell, HandleFault>
     requires up { S.is_up shelf.old }
     requires known { request.now.from ≤ 16 }
+    requires fits { AskBallotsFit request.now.ask }
     ensures table { IfOk result (λ tell. Handles (S.contents shelf.old) request.now tell (S.contents shelf.new)) }
+    ensures told { IfOk result TellBallotsFit }
     ensures any_moment { S.tells → LeavesOnly S.moment S.left_since shelf.old shelf.new (LeavesByTable (S.contents shelf.old) request.now) }
     ensures err { OnErr result (S.contents shelf.new ≡ S.contents shelf.old) }
     ensures up { OnOk result (S.is_up shelf.new) }

@@ -2,7 +2,7 @@
 
 ghost use Rattle.std.specs.Prelude.{◌≡◌, ◌↔◌, ℕ, Ok, OnOk, OnErr, IsErrOf};
 ghost use Rattle.cas_slot.specs.Shelf.{IsOldOrNew, LeavesOnly, HasShelfCause};
-ghost use Rattle.cas_acceptor.specs.Change.{changed, IsFull};
+ghost use Rattle.cas_acceptor.specs.Change.{changed, IsFull, ChangeBallotsFit};
 
 use cas_change::Key;
 use cas_slot::{Ages, Shelf, ShelfFault, Slot};
@@ -19,7 +19,8 @@ pub(crate) enum Change<'a> {
 /// Makes the change. A crash within the call leaves what was there before or what is there after it, and after `Ok` only the
 /// latter. Whatever the error, the shelf holds what it held.
 pub(crate) fn carry_out<S: Shelf>(shelf: &mut S, change: Change<'_>) -> Result<(), ShelfFault>
-    requires { S.is_up shelf.old }
+    requires up { S.is_up shelf.old }
+    requires fits { ChangeBallotsFit change }
     ensures ok { OnOk result (S.contents shelf.new ≡ changed (S.contents shelf.old) change.entry) }
     ensures err { OnErr result (S.contents shelf.new ≡ S.contents shelf.old) }
     ensures up { OnOk result (S.is_up shelf.new) }

@@ -1,10 +1,11 @@
 //! What a request is answered, and what the answer changes.
 
 ghost use Rattle.std.specs.Prelude.{◌≡◌, IfOk};
+ghost use Rattle.cas_slot.specs.Limits.{AskBallotsFit, AllBallotsFit};
 ghost use Rattle.cas_slot.specs.Rules.{prepare_rule, accept_rule, tell_by_prepare, tell_by_accept};
 ghost use Rattle.cas_slot.specs.Table.{Answers};
 ghost use Rattle.cas_slot.specs.declared.message.Ask.TheVariants as asked;
-ghost use Rattle.cas_acceptor.specs.Change.{Decides};
+ghost use Rattle.cas_acceptor.specs.Change.{Decides, ChangeBallotsFit};
 ghost use Rattle.cas_acceptor.specs.Decide.{put_by_prepare, put_by_accept, put_of, tell_by_probe, IsListing};
 
 use crate::change::Change;
@@ -16,12 +17,14 @@ use cas_slot::{
 };
 use std::alloc::AllocError;
 
-/// What a request is told, and what is changed for it, by the table.
+/// What a request is told, and what is changed for it, by the table. The ballots of what is put are within their limits, where
+/// those of the shelf and of the request are.
 pub(crate) fn decide<'a, S: Shelf>(
     shelf: &S,
     ask: &'a Ask,
 ) -> Result<(Tell, Change<'a>), AllocError>
-    ensures { IfOk result (λ done. Decides (S.contents shelf.now) ask.now done.0 done.1) }
+    ensures table { IfOk result (λ done. Decides (S.contents shelf.now) ask.now done.0 done.1) }
+    ensures fits { AllBallotsFit (S.contents shelf.now) → AskBallotsFit ask.now → IfOk result (λ done. ChangeBallotsFit done.1) }
 {
     match ask {
         Ask::Prepare { key, ballot } => {

@@ -1,4 +1,6 @@
-ghost use Rattle.std.specs.Prelude.{◌≡◌};
+ghost use Rattle.std.specs.Prelude.{◌≡◌, IsTrue};
+ghost use Rattle.cas_ballot.specs.Ballot.{FitsBallot};
+ghost use Rattle.cas_slot.specs.Limits.{SlotBallotsFit, AskBallotsFit, AllBallotsFit};
 
 use super::*;
 use cas_ballot::{AcceptorId, Ballot};
@@ -77,7 +79,8 @@ fn ask_of(key: &Key, question: Question) -> Result<Ask, AllocError> {
 }
 
 fn asked(ask: Ask) -> Request
-    ensures { result.from ≡ 1 }
+    ensures from { result.from ≡ 1 }
+    ensures ask { result.ask ≡ ask }
 {
     Request {
         to: AcceptorId::new(3).unwrap(),
@@ -87,7 +90,50 @@ fn asked(ask: Ask) -> Request
     }
 }
 
-fn running(shelf: MapShelf) -> Acceptor<MapShelf> {
+fn fits(ballot: Ballot) -> bool
+    ensures { IsTrue result → FitsBallot ballot }
+{
+    ballot.counter <= 1 << 48 && ballot.proposer <= 16
+}
+
+fn slot_fits(slot: &Slot) -> bool
+    ensures { IsTrue result → SlotBallotsFit slot.now }
+{
+    let accepted = match &slot.accepted {
+        Some(accepted) => fits(accepted.ballot),
+        None => true,
+    };
+    fits(slot.promise) && accepted
+}
+
+fn ask_fits(ask: &Ask) -> bool
+    ensures { IsTrue result → AskBallotsFit ask.now }
+{
+    match ask {
+        Ask::Accept { ballot, ride, .. } => {
+            let rides = match ride {
+                Some(ride) => fits(*ride),
+                None => true,
+            };
+            fits(*ballot) && rides
+        }
+        Ask::Prepare { ballot, .. } => fits(*ballot),
+        Ask::Ages { tag, .. } | Ask::List { tag, .. } | Ask::Probe { tag, .. } => fits(*tag),
+        Ask::Remove { tomb, .. } => fits(*tomb),
+    }
+}
+
+// The ballots of each row are within their limits.
+fn handle<S: Shelf>(acceptor: &mut Acceptor<S>, ask: Ask) -> Result<Reply, Fail> {
+    if !ask_fits(&ask) {
+        return Err(Fail::from("a ballot beyond its limits"));
+    }
+    Ok(acceptor.handle(&asked(ask))?)
+}
+
+fn running(shelf: MapShelf) -> Acceptor<MapShelf>
+    requires { AllBallotsFit shelf }
+{
     Acceptor::running(AcceptorId::new(3).unwrap(), shelf)
 }
 
@@ -101,10 +147,13 @@ fn answer(alloc: Global, kept: Kept, question: Question) -> Result<(Tell, Option
     let key = Key::read(alloc, b"a")?;
     let mut shelf = MapShelf::new(alloc);
     if let Some(slot) = slot_of(kept) {
+        if !slot_fits(&slot) {
+            return Err(Fail::from("a ballot beyond its limits"));
+        }
         shelf.put(&key, slot)?;
     }
     let mut acceptor = running(shelf);
-    let reply = acceptor.handle(&asked(ask_of(&key, question)?))?;
+    let reply = handle(&mut acceptor, ask_of(&key, question)?)?;
     Ok((reply.tell, acceptor.into_shelf().get(&key)?))
 }
 
@@ -268,7 +317,10 @@ fn a_removal_and_a_probe_are_answered_by_the_table(rt: HostRuntime) -> Result<()
 fn a_reply_bears_its_request(rt: HostRuntime) -> Result<(), Fail> {
     let key = Key::read(rt.alloc(), b"a")?;
     let mut acceptor = running(MapShelf::new(rt.alloc()));
-    let reply = acceptor.handle(&asked(ask_of(&key, Question::Accept(at(2, 1), None))?))?;
+    let reply = handle(
+        &mut acceptor,
+        ask_of(&key, Question::Accept(at(2, 1), None))?,
+    )?;
     let want = Reply {
         from: AcceptorId::new(3).unwrap(),
         to: 1,
@@ -287,11 +339,11 @@ fn a_low_age_is_refused_first(rt: HostRuntime) -> Result<(), Fail> {
     let mut least = Ages::ZERO;
     for (age, told) in [(2, Tell::AgesSet), (3, Tell::AgesSet), (1, Tell::Aged(3))] {
         least.0[1] = age;
-        let raise = asked(Ask::Ages {
+        let raise = Ask::Ages {
             tag: at(2, 0),
             least,
-        });
-        assert_eq!(rt; acceptor.handle(&raise)?.tell, told, "{age}");
+        };
+        assert_eq!(rt; handle(&mut acceptor, raise)?.tell, told, "{age}");
     }
     for question in [
         Question::Prepare(at(2, 1)),
@@ -299,7 +351,7 @@ fn a_low_age_is_refused_first(rt: HostRuntime) -> Result<(), Fail> {
         Question::Remove(at(2, 1)),
         Question::Probe,
     ] {
-        let reply = acceptor.handle(&asked(ask_of(&key, question)?))?;
+        let reply = handle(&mut acceptor, ask_of(&key, question)?)?;
         assert_eq!(rt; reply.tell, Tell::Aged(3));
     }
     assert_eq!(rt; acceptor.shelf().get(&key)?, None);
@@ -313,20 +365,23 @@ fn listings_go_on_by_four(rt: HostRuntime) -> Result<(), Fail> {
         let mut acceptor = running(MapShelf::new(alloc));
         for n in 0..count {
             // A promise alone makes a slot.
-            acceptor.handle(&asked(ask_of(&key_of(alloc, n)?, Question::Prepare(at(1, 1)))?))?;
+            handle(
+                &mut acceptor,
+                ask_of(&key_of(alloc, n)?, Question::Prepare(at(1, 1)))?,
+            )?;
         }
         let mut after = None;
         let mut found = 0usize;
         for page in 1..=pages {
-            let list = asked(Ask::List {
+            let list = Ask::List {
                 tag: at(9, 0),
                 after,
-            });
+            };
             let Tell::Listed {
                 after: _,
                 keys,
                 more,
-            } = acceptor.handle(&list)?.tell
+            } = handle(&mut acceptor, list)?.tell
             else {
                 return Err(Fail::from("no listing"));
             };
@@ -348,7 +403,10 @@ fn a_new_key_finds_it_full(rt: HostRuntime) -> Result<(), Fail> {
     let alloc = rt.alloc();
     let mut acceptor = running(MapShelf::new(alloc));
     for n in 0..MOST_SLOTS {
-        acceptor.handle(&asked(ask_of(&key_of(alloc, n)?, Question::Prepare(at(1, 1)))?))?;
+        handle(
+            &mut acceptor,
+            ask_of(&key_of(alloc, n)?, Question::Prepare(at(1, 1)))?,
+        )?;
     }
     let held = key_of(alloc, 7)?;
     let other = key_of(alloc, MOST_SLOTS)?;
@@ -358,7 +416,7 @@ fn a_new_key_finds_it_full(rt: HostRuntime) -> Result<(), Fail> {
         (&other, accept, true),
         (&held, accept, false),
     ] {
-        let reply = acceptor.handle(&asked(ask_of(key, question)?))?;
+        let reply = handle(&mut acceptor, ask_of(key, question)?)?;
         assert_eq!(rt; reply.tell == Tell::Full, full);
     }
     assert_eq!(rt; acceptor.shelf().get(&other)?, None);
@@ -369,6 +427,7 @@ fn a_new_key_finds_it_full(rt: HostRuntime) -> Result<(), Fail> {
 fn a_restart_takes_up_what_was_kept(rt: HostRuntime) -> Result<(), Fail> {
     let key = Key::read(rt.alloc(), b"a")?;
     let prepare = asked(ask_of(&key, Question::Prepare(at(2, 1)))?);
+    assert!(rt; ask_fits(&prepare.ask));
     let mut acceptor = Acceptor::new(AcceptorId::new(3).unwrap(), MapShelf::new(rt.alloc()));
     assert!(rt; acceptor.is_down());
     assert_eq!(rt; acceptor.handle(&prepare), Err(HandleFault::Down));
@@ -378,7 +437,7 @@ fn a_restart_takes_up_what_was_kept(rt: HostRuntime) -> Result<(), Fail> {
     acceptor.crash();
     assert_eq!(rt; acceptor.handle(&prepare), Err(HandleFault::Down));
     acceptor.restart()?;
-    let reply = acceptor.handle(&asked(ask_of(&key, Question::Prepare(at(1, 1)))?))?;
+    let reply = handle(&mut acceptor, ask_of(&key, Question::Prepare(at(1, 1)))?)?;
     assert_eq!(rt; reply.tell, Tell::Met(at(2, 1)));
     assert_eq!(rt; acceptor.id().number(), 3);
     Ok(())

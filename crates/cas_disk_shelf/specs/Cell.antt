@@ -1,10 +1,11 @@
 -- The payload of a cell behind the head: 0 where the cell is free, and else 1 and the slot of a key.
 use Rattle.std.specs.Prelude.{◌≡◌, ℕ, ◌-◌, ◌≤◌, ◌==◌, if◌then◌else◌, List, ◌++◌, length, drop, Option, Some, None, IfSome, Result, Ok, Err}
 use Rattle.cas_ballot.specs.declared.ballot.Ballot.{Ballot}
+use Rattle.cas_ballot.specs.Ballot.{FitsBallot}
 use Rattle.cas_slot.specs.declared.slot.Accepted.{Accepted}
 use Rattle.cas_slot.specs.declared.slot.Slot.{Slot}
 use Rattle.cas_wire.specs.Reading.{Reading, pair_at, made_at, key_at, ballot_at, accepted_at, optional_at}
-use Rattle.cas_wire.specs.Spelling.{key_spelling, ballot_spelling, accepted_spelling, optional_spelling, FitsBallot, FitsAccepted}
+use Rattle.cas_wire.specs.Spelling.{key_spelling, ballot_spelling, accepted_spelling, optional_spelling, FitsAccepted}
 use Rattle.cas_disk_shelf.specs.declared.codec.Found.{Found}
 use Rattle.cas_disk_shelf.specs.declared.codec.Found.TheVariants.{Free, Kept, Wrong}
 

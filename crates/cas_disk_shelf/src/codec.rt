@@ -2,8 +2,9 @@
 //! slot of a key.
 ghost use Rattle.std.specs.Prelude.{◌≡◌, ◌≤◌, ◌<◌, ◌+◌, ◌*◌, ◌^◌, ◌++◌, [], ◌∷◌, ℕ, length, drop, IfOk, IfErr, OnOk, OnErr, IsTrue, IfSome, FitsSigned, Some, None, slice_index};
 ghost use Rattle.std.specs.Int.{w32, w64, to_be_bytes, from_be_bytes};
+ghost use Rattle.cas_ballot.specs.Ballot.{FitsBallot};
 ghost use Rattle.cas_wire.specs.Reading.{rise_at};
-ghost use Rattle.cas_wire.specs.Spelling.{FitsBallot, FitsState, FitsAccepted};
+ghost use Rattle.cas_wire.specs.Spelling.{FitsState, FitsAccepted};
 ghost use Rattle.cas_change.specs.Key.{IsKey};
 ghost use Rattle.cas_disk_shelf.specs.Head.{head_spelling, head_of, IsSpelledHead, unlike_at, numbers_spelling, number_from, ages_in};
 ghost use Rattle.cas_disk_shelf.specs.Cell.{cell_spelling, FitsSlot, IsFound, IsReadSoFar};

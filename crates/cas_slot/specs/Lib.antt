@@ -1,6 +1,7 @@
 pub mod Ages
 pub mod Contents
 pub mod ContentsCode
+pub mod Limits
 pub mod Message
 pub mod Rules
 pub mod Shelf

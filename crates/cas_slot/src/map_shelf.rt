@@ -5,6 +5,7 @@ ghost use Rattle.std.specs.FinMap as map;
 ghost use Rattle.std.specs.Option.{option_copied};
 ghost use Rattle.cas_slot.specs.Slots.{keys_above, IsFullFor};
 ghost use Rattle.cas_slot.specs.Contents.{nothing};
+ghost use Rattle.cas_slot.specs.Limits.{AllBallotsFit, SlotBallotsFit};
 
 use crate::ages::Ages;
 use crate::fault::ShelfFault;
@@ -30,6 +31,7 @@ pub struct MapShelf {
 impl Model for MapShelf {
     ghost use Rattle.std.specs.FinMap as map;
     ghost use Rattle.cas_slot.specs.Contents.{Contents};
+    ghost use Rattle.cas_slot.specs.Limits.{AllBallotsFit};
     ghost use Rattle.cas_slot.specs.ContentsCode.{contents_code};
 
     ghost Value = { Contents };
@@ -37,12 +39,15 @@ impl Model for MapShelf {
     ghost coded = { contents_code };
 
     ghost view = { λ shelf. record { slots = map.from_entries shelf.slots.entries; ages = shelf.ages } };
+
+    ghost invariant = { λ shelf. AllBallotsFit (record { slots = map.from_entries shelf.slots.entries; ages = shelf.ages }) };
 }
 
 impl MapShelf {
     /// A shelf with no slot, on which each least age is 0.
     pub fn new(alloc: Global) -> MapShelf
-        ensures { result ≡ nothing }
+        ensures nothing { result ≡ nothing }
+        ensures up { AllBallotsFit result }
     {
         MapShelf {
             alloc,
@@ -54,12 +59,13 @@ impl MapShelf {
 
 impl Shelf for MapShelf {
     ghost use Rattle.std.specs.Prelude.{◌≡◌, ⊤, Ok};
+    ghost use Rattle.cas_slot.specs.Limits.{AllBallotsFit};
 
     ghost tells = { ⊤ };
 
     ghost contents = { λ shelf. shelf };
 
-    ghost is_up = { λ _. ⊤ };
+    ghost is_up = { λ shelf. AllBallotsFit shelf };
 
     ghost may_leave = { λ shelf left. left ≡ Ok shelf };
 
@@ -70,6 +76,8 @@ impl Shelf for MapShelf {
     ghost fault_count = { λ _. 0 };
 
     ghost up_is_kept = { λ _ _ _ _ left. left };
+
+    ghost ballots_fit = { λ _ up. up };
 
     ghost counts_now = { λ _ _ _ _ _ left. left };
 
@@ -82,6 +90,8 @@ impl Shelf for MapShelf {
     }
 
     fn reopen(&mut self) -> Result<(), ShelfFault> {
+        // For the proof alone: the fields are read, so that their invariant is known.
+        let _ = &self.slots;
         Ok(())
     }
 
@@ -167,7 +177,10 @@ mod tests {
     use cas_change::{Body, State};
     use std::test::Fail;
 
-    fn slot_at(counter: u64, number: i64) -> Slot {
+    fn slot_at(counter: u32, number: i64) -> Slot
+        ensures { SlotBallotsFit result }
+    {
+        let counter = u64::from(counter);
         Slot {
             promise: Ballot::ZERO,
             accepted: Some(Accepted {
@@ -193,7 +206,9 @@ mod tests {
         shelf: &mut S,
         key: &Key,
         slot: Slot,
-    ) -> Result<Option<Slot>, ShelfFault> {
+    ) -> Result<Option<Slot>, ShelfFault>
+        requires { SlotBallotsFit slot }
+    {
         shelf.start()?;
         shelf.put(key, slot)?;
         Ok(shelf.get(key)?)

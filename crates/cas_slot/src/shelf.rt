@@ -4,6 +4,7 @@ ghost use Rattle.std.specs.Prelude.{◌≡◌, ◌≤◌, ◌↔◌, ℕ, Ok, Er
 ghost use Rattle.std.specs.Option.{option_copied};
 ghost use Rattle.cas_slot.specs.Slots.{keys_above, IsFullFor};
 ghost use Rattle.cas_slot.specs.Contents.{Contents, nothing, kept_at, with_kept, without_kept, with_raised};
+ghost use Rattle.cas_slot.specs.Limits.{SlotBallotsFit, AllBallotsFit};
 ghost use Rattle.cas_slot.specs.Shelf.{Left, OnlyLeaves, IsOldOrNew, LeavesOnly, HasShelfCause, IsNeitherFullNorForeign};
 
 use crate::ages::Ages;
@@ -75,11 +76,13 @@ pub trait Shelf {
     fn keys_after(&self, after: Option<&Key>, most: usize) -> Result<Vec<Key>, AllocError>
         ensures { IfOk result (λ keys. keys.items ≡ take most (keys_above (contents self.now).slots (option_copied after.entry))) };
 
-    /// Puts the slot at the key, in the place of the one that was there. A crash within the call leaves what was there before
-    /// or what is there after it, and after `Ok` only the latter. [`ShelfFault::Full`] comes exactly where there are 4,096
-    /// slots and none of them has the key; [`ShelfFault::DiskFault`] only where the count of faults rose.
+    /// Puts the slot, whose ballots have counters up to 2^48 and proposers up to 16, at the key, in the place of the one that
+    /// was there. A crash within the call leaves what was there before or what is there after it, and after `Ok` only the
+    /// latter. [`ShelfFault::Full`] comes exactly where there are 4,096 slots and none of them has the key;
+    /// [`ShelfFault::DiskFault`] only where the count of faults rose.
     fn put(&mut self, key: &Key, slot: Slot) -> Result<(), ShelfFault>
-        requires { is_up self.old }
+        requires up { is_up self.old }
+        requires fits { SlotBallotsFit slot }
         ensures ok { OnOk result (contents self.new ≡ with_kept (contents self.old) key.now slot) }
         ensures err { OnErr result (contents self.new ≡ contents self.old) }
         ensures up { OnOk result (is_up self.new) }
@@ -123,6 +126,9 @@ pub trait Shelf {
 
     /// A crash of a shelf that is up leaves what it holds and nothing else.
     ghost up_is_kept: { (shelf : Self) → tells → is_up shelf → OnlyLeaves (contents shelf) (may_leave shelf) };
+
+    /// Of a shelf that is up, the ballots of each slot are within their limits.
+    ghost ballots_fit: { (shelf : Self) → is_up shelf → AllBallotsFit (contents shelf) };
 
     /// This moment is one of those since an earlier one.
     ghost counts_now: { (shelf : Self) (t : ℕ) (left : Left) → tells → t ≤ moment shelf → may_leave shelf left → left_since shelf t left };

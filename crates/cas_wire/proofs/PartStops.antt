@@ -12,6 +12,7 @@ use Rattle.std.proofs.lemmas.List.Quantifiers.{position-Some}
 use Rattle.std.proofs.Math.Facts.{sfits_to_z}
 use Rattle.std.proofs.Math.Seq.{get_or-append_seam}
 use Rattle.cas_ballot.specs.declared.ballot.Ballot.{Ballot}
+use Rattle.cas_ballot.specs.Ballot.{FitsBallot}
 use Rattle.cas_change.specs.Key.{IsKey, IsKeyByte, is_key_byte, first_bad_byte}
 use Rattle.cas_change.specs.Text.{IsText}
 use Rattle.cas_change.specs.declared.state.State.{State}
@@ -20,7 +21,7 @@ use Rattle.cas_change.specs.declared.state.Body.TheVariants.{Number, Text}
 use Rattle.cas_change.proofs.Keys.{passing_byte, byte_passing, key_bytes}
 use Rattle.cas_slot.specs.declared.slot.Accepted.{Accepted}
 use Rattle.cas_wire.specs.Reading.{Reading, ◌>>=◌, pair_at, byte_where, number_at, some_at, stopped_at, rise_at, is_key_length, key_bytes_at, key_at, counter_at, is_proposer, ballot_of, ballot_at, most_length, text_at, number_state, text_state, state_at, accepted_of, accepted_at, optional_at}
-use Rattle.cas_wire.specs.Spelling.{key_spelling, ballot_spelling, state_spelling, accepted_spelling, optional_spelling, FitsBallot, FitsState, FitsAccepted}
+use Rattle.cas_wire.specs.Spelling.{key_spelling, ballot_spelling, state_spelling, accepted_spelling, optional_spelling, FitsState, FitsAccepted}
 use Rattle.cas_wire.proofs.Formats.{IsBytes, IsBytes-rest, bind_err, ok_is, left_is, not_err, IsFormat, byte_format, wide16, wide32, wide64, number_format, pair_format}
 use Rattle.cas_wire.proofs.Limited.{IsLimit, limited_at, limited_stops, stopped_err, number_stops}
 use Rattle.cas_wire.proofs.PartFormats.{key_length_of, both, length_format, counter_format, ballot_format, state_format, text_format, two_numbers, version_and_text, small_bits, counter_limit, length_limit}

@@ -6,6 +6,7 @@ use Rattle.std.specs.List.{flat_map, AllByRecursion}
 use Rattle.std.specs.Int.{w64, to_be_bytes}
 use Rattle.std.proofs.lemmas.Bool.{leb-true, le-leb, eqb-true, eq-eqb}
 use Rattle.cas_ballot.specs.declared.ballot.Ballot.{Ballot}
+use Rattle.cas_ballot.specs.Ballot.{FitsBallot}
 use Rattle.cas_change.specs.Key.{IsKey}
 use Rattle.cas_slot.specs.declared.message.Phase.{Phase}
 use Rattle.cas_slot.specs.declared.message.Tell.{Tell}
@@ -19,7 +20,7 @@ use Rattle.cas_wire.specs.Frame.{rises, listing_spelling, tell_spelling, reply_s
 use Rattle.cas_wire.specs.FrameReading.{then_at, where_at, list_at, named_at, is_format, is_acceptor, is_count, keys_at, is_listing, listing_at, promised_of, met_of, aged_of, listed_of, probed_of, plain_at, tell_at, reply_head_of, is_head, reply_head_at, reply_of, reply_at}
 use Rattle.cas_wire.specs.Kinds.{named, kinds, kind_byte, kind_of, phase_byte, may_get, flags, flag_byte}
 use Rattle.cas_wire.specs.Reading.{Reading, ◌>>=◌, pair_at, byte_where, number_at, is_proposer, key_at, ballot_at, accepted_at, optional_at}
-use Rattle.cas_wire.specs.Spelling.{key_spelling, ballot_spelling, accepted_spelling, optional_spelling, FitsBallot, FitsAccepted}
+use Rattle.cas_wire.specs.Spelling.{key_spelling, ballot_spelling, accepted_spelling, optional_spelling, FitsAccepted}
 use Rattle.cas_wire.proofs.Formats.{IsBytes, bind_ok, bind_err, Takes, Takes-then, ok_is, left_is, not_err, rest_shorter, IsFormat, byte_format, wide64, number_format, pair_format, made_format, optional_format}
 use Rattle.cas_wire.proofs.MoreFormats.{then_format, where_format, said_format, list_format, named_format, variant_takes, variant_again, variant_within}
 use Rattle.cas_wire.proofs.PartFormats.{key_format, ballot_format, accepted_or_none_format}

@@ -5,6 +5,7 @@ use Rattle.std.specs.List.{flat_map, AllByRecursion}
 use Rattle.std.specs.Int.{w32, w64, to_be_bytes}
 use Rattle.std.proofs.lemmas.Bool.{leb-true, le-leb, eqb-true}
 use Rattle.cas_ballot.specs.declared.ballot.Ballot.{Ballot}
+use Rattle.cas_ballot.specs.Ballot.{FitsBallot}
 use Rattle.cas_change.specs.Key.{IsKey}
 use Rattle.cas_change.specs.declared.state.State.{State}
 use Rattle.cas_slot.specs.declared.message.Ask.{Ask}
@@ -18,7 +19,7 @@ use Rattle.cas_wire.specs.Frame.{ask_spelling, request_spelling, FitsAsk, FitsRe
 use Rattle.cas_wire.specs.FrameReading.{named_at, is_format, is_acceptor, prepare_of, accept_of, ages_of, remove_of, list_of, probe_of, accept_at, ages_at, ask_at, request_head_of, request_head_at, request_of, request_at}
 use Rattle.cas_wire.specs.Kinds.{named, phases, phase_byte}
 use Rattle.cas_wire.specs.Reading.{Reading, pair_at, byte_where, number_at, is_proposer, key_at, ballot_at, state_at, optional_at}
-use Rattle.cas_wire.specs.Spelling.{key_spelling, ballot_spelling, state_spelling, optional_spelling, FitsBallot, FitsState}
+use Rattle.cas_wire.specs.Spelling.{key_spelling, ballot_spelling, state_spelling, optional_spelling, FitsState}
 use Rattle.cas_wire.proofs.Formats.{IsBytes, Takes, IsFormat, byte_format, wide32, wide64, number_format, pair_format, made_format, optional_format}
 use Rattle.cas_wire.proofs.MoreFormats.{then_format, said_format, list_format, named_format, variant_takes, variant_again, variant_within}
 use Rattle.cas_wire.proofs.PartFormats.{key_format, ballot_format, state_format}

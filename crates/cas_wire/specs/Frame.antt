@@ -3,6 +3,7 @@ use Rattle.std.specs.Prelude.{◌≡◌, ℕ, ◌^◌, ◌<◌, ◌≤◌, ◌&&
 use Rattle.std.specs.Int.{w32, w64, to_be_bytes}
 use Rattle.std.specs.List.{flat_map, AllByRecursion}
 use Rattle.cas_ballot.specs.declared.ballot.Ballot.{Ballot}
+use Rattle.cas_ballot.specs.Ballot.{FitsBallot}
 use Rattle.cas_change.specs.Key.{IsKey}
 use Rattle.cas_slot.specs.declared.message.Ask.{Ask}
 use Rattle.cas_slot.specs.declared.message.Ask.TheVariants.{Prepare, Accept, Ages, Remove, List as ListKeys, Probe}
@@ -10,10 +11,11 @@ use Rattle.cas_slot.specs.declared.message.Request.{Request}
 use Rattle.cas_slot.specs.declared.message.Tell.{Tell}
 use Rattle.cas_slot.specs.declared.message.Tell.TheVariants as tell
 use Rattle.cas_slot.specs.declared.message.Reply.{Reply}
+use Rattle.cas_slot.specs.Limits.{AskBallotsFit, TellBallotsFit}
 use Rattle.cas_slot.specs.Message.{phase_of}
 use Rattle.cas_slot.specs.Slots.{is_above}
 use Rattle.cas_wire.specs.Kinds.{phase_byte, kind_byte, kind_of, may_get, flag_byte}
-use Rattle.cas_wire.specs.Spelling.{key_spelling, ballot_spelling, state_spelling, accepted_spelling, optional_spelling, FitsBallot, FitsState, FitsAccepted}
+use Rattle.cas_wire.specs.Spelling.{key_spelling, ballot_spelling, state_spelling, accepted_spelling, optional_spelling, FitsState, FitsAccepted}
 
 -- ---- requests
 
@@ -115,32 +117,16 @@ pub record IsReply (bytes : List ℕ) (reply : Reply) : Type 0 where
 
 -- ---- what the types of requests and replies leave open
 
-abbrev pub BallotsFit : Ask → Type 0
-BallotsFit (Prepare key ballot) = FitsBallot ballot
-BallotsFit (Accept key ballot era ride state) = FitsBallot ballot × IfSome ride FitsBallot
-BallotsFit (Ages tag least) = FitsBallot tag
-BallotsFit (Remove key tomb) = FitsBallot tomb
-BallotsFit (ListKeys tag after) = FitsBallot tag
-BallotsFit (Probe tag key) = FitsBallot tag
-
 pub record CanBeAsked (request : Request) : Type 0 where
   pub from : request.from ≤ 16
-  pub ballots : BallotsFit request.ask
+  pub ballots : AskBallotsFit request.ask
 
 abbrev pub CanBeListed : Option (List ℕ) → List (List ℕ) → Bool → Type 0
 CanBeListed after keys more = IsTrue (rises after keys) × (IsTrue more → length keys ≡ 4)
 
 abbrev pub TellFits : Tell → Type 0
-TellFits (tell.Promised accepted) = IfSome accepted (λ a. FitsBallot a.ballot)
-TellFits tell.Accepted = Unit {0}
-TellFits (tell.Met ballot) = FitsBallot ballot
-TellFits (tell.Aged least) = Unit {0}
-TellFits tell.Full = Unit {0}
-TellFits tell.AgesSet = Unit {0}
-TellFits tell.Removed = Unit {0}
-TellFits tell.Kept = Unit {0}
 TellFits (tell.Listed after keys more) = CanBeListed after keys more
-TellFits (tell.Probed promise accepted) = FitsBallot promise × IfSome accepted (λ a. FitsBallot a.ballot)
+TellFits answer = TellBallotsFit answer
 
 pub record CanBeTold (reply : Reply) : Type 0 where
   pub to : reply.to ≤ 16

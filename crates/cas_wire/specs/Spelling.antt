@@ -2,6 +2,7 @@
 use Rattle.std.specs.Prelude.{ℕ, ◌<◌, ◌≤◌, ◌^◌, List, [], ◌∷◌, ◌++◌, length, Option, Some, None, FitsSigned}
 use Rattle.std.specs.Int.{w16, w32, w64, to_be_bytes, cast_unsigned}
 use Rattle.cas_ballot.specs.declared.ballot.Ballot.{Ballot}
+use Rattle.cas_ballot.specs.Ballot.{FitsBallot}
 use Rattle.cas_change.specs.Text.{IsText}
 use Rattle.cas_change.specs.declared.state.State.{State}
 use Rattle.cas_change.specs.declared.state.State.TheVariants.{Empty, Held}
@@ -41,10 +42,6 @@ optional_spelling spelling None = 0 ∷ []
 optional_spelling spelling (Some x) = 1 ∷ spelling x
 
 -- ---- what has a spelling
-
-pub record FitsBallot (ballot : Ballot) : Type 0 where
-  pub counter : ballot.counter ≤ 2 ^ 48
-  pub proposer : ballot.proposer ≤ 16
 
 abbrev pub FitsBody : Body → Type 0
 FitsBody (Number n) = FitsSigned w64 n

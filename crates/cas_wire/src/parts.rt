@@ -2,10 +2,11 @@
 
 ghost use Rattle.std.specs.Prelude.{◌≡◌, ◌++◌, IfOk, IfSome, OnOk, OnErr};
 ghost use Rattle.std.specs.Option.{option_copied};
+ghost use Rattle.cas_ballot.specs.Ballot.{FitsBallot};
 ghost use Rattle.cas_change.specs.Key.{IsKey};
 ghost use Rattle.cas_wire.specs.Part.{IsPart, IsSpelledPart, StopsAtFirst};
 ghost use Rattle.cas_wire.specs.Reading.{key_at, ballot_at, optional_at, accepted_at};
-ghost use Rattle.cas_wire.specs.Spelling.{key_spelling, ballot_spelling, accepted_spelling, optional_spelling, FitsBallot, FitsAccepted};
+ghost use Rattle.cas_wire.specs.Spelling.{key_spelling, ballot_spelling, accepted_spelling, optional_spelling, FitsAccepted};
 
 use crate::reading::{self, ReadError};
 use crate::writing;

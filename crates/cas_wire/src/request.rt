@@ -2,7 +2,8 @@
 
 ghost use Rattle.std.specs.Prelude.{◌≡◌, ℕ, ◌+◌, ◌≤◌, List, [], ◌++◌, length, Some, IfOk, IfSome, vec_len, vec_capacity};
 ghost use Rattle.cas_slot.specs.declared.message.Request.{Request};
-ghost use Rattle.cas_wire.specs.Frame.{IsRequest, CanBeAsked, BallotsFit, FitsAsk, FitsRequest, ask_spelling, request_spelling};
+ghost use Rattle.cas_slot.specs.Limits.{AskBallotsFit};
+ghost use Rattle.cas_wire.specs.Frame.{IsRequest, CanBeAsked, FitsAsk, FitsRequest, ask_spelling, request_spelling};
 ghost use Rattle.cas_wire.specs.FrameReading.{named_at, accept_at, ages_at, ask_at, request_head_at, request_at};
 ghost use Rattle.cas_wire.specs.Kinds.{phases};
 ghost use Rattle.cas_wire.specs.Part.{Gives};
@@ -145,7 +146,7 @@ pub fn decode_request(alloc: Global, bytes: &[u8]) -> Result<Option<Request>, Al
 #[tactic(auto, unfolding(crate::specs::Frame::ask_spelling))]
 fn put_ask(out: &mut Vec<u8>, ask: &Ask)
     requires room { vec_len out.old + 299 ≤ vec_capacity out.old }
-    requires ballots { BallotsFit ask.now }
+    requires ballots { AskBallotsFit ask.now }
     ensures spelling { Puts out.old out.new (ask_spelling ask.now) 299 }
     ensures fits { FitsAsk ask.now }
 {

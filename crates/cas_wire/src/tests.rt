@@ -1,4 +1,4 @@
-ghost use Rattle.cas_wire.specs.Spelling.{FitsBallot};
+ghost use Rattle.cas_ballot.specs.Ballot.{FitsBallot};
 
 use super::parts::{
     Part, push_accepted, push_ballot, push_key, take_accepted, take_ballot, take_key,

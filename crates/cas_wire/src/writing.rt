@@ -4,8 +4,9 @@ ghost use Rattle.std.specs.Prelude.{◌≡◌, ◌+◌, ◌*◌, ◌^◌, ◌<�
 ghost use Rattle.std.specs.List.{flat_map, AllByRecursion};
 ghost use Rattle.std.specs.Int.{w16, w32, w64, to_be_bytes, cast_unsigned};
 ghost use Rattle.std.specs.Option.{option_copied};
+ghost use Rattle.cas_ballot.specs.Ballot.{FitsBallot};
 ghost use Rattle.cas_change.specs.Key.{IsKey};
-ghost use Rattle.cas_wire.specs.Spelling.{FitsBody, FitsBallot, FitsState, FitsAccepted, key_spelling, ballot_spelling, body_kind, body_spelling, state_spelling, accepted_spelling, optional_spelling};
+ghost use Rattle.cas_wire.specs.Spelling.{FitsBody, FitsState, FitsAccepted, key_spelling, ballot_spelling, body_kind, body_spelling, state_spelling, accepted_spelling, optional_spelling};
 ghost use Rattle.cas_wire.specs.Writing.{Puts};
 
 use byteorder::{BigEndian, ByteOrder};

@@ -1,5 +1,7 @@
-use Rattle.std.proofs.Common.{◌∙◌, ap, refl, arith, inr, Ok}
+use Rattle.std.proofs.Common.{◌∙◌, ap, sym, subst, refl, arith, inr, Ok}
 use Rattle.std.proofs.lemmas.Result.{err_from_is_err_and}
+use Rattle.cas_slot.specs.Limits.{AllBallotsFit}
+use Rattle.cas_slot.proofs.LimitLemmas.{put_fits}
 use Rattle.cas_slot.proofs.SlotsLemmas.{put-slots}
 use Rattle.cas_slot.proofs.map_shelf.MapShelfShelf.put.Goals as goal
 
@@ -28,3 +30,9 @@ returns-clause-any_moment c = λ _. record {
   each = λ left is. inr (is ∙ ap Ok (returns-clause-ok c));
   before = λ t left le is. inr (inr (is ∙ ap Ok (returns-clause-ok c)));
 }
+
+pub returns-clause-up : goal.returns-clause-up
+returns-clause-up c = subst AllBallotsFit (sym (returns-clause-ok c)) (put_fits c.args.self.now c.args.key.now c.args.slot c.requires.up c.requires.fits)
+
+pub invariant_of-self-2 : goal.invariant_of-self-2
+invariant_of-self-2 c = returns-clause-up c
