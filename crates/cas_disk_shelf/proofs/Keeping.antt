@@ -1,15 +1,21 @@
 -- The memory of a shelf after each of its changes, and what a crash within one leaves.
 use Rattle.std.proofs.Common.{◌≡◌, ℕ, ◌+◌, ◌<◌, Bool, true, false, List, [], ◌∷◌, Option, Some, None, Ok, refl, sym, ap, subst, ◌∙◌, arith, inl, inr, ⊎_elim}
 use Rattle.std.proofs.lemmas.Bool.{cases_eq}
+use Rattle.std.specs.Prelude.{IfSome}
 use Rattle.std.proofs.Math.ListN.{set}
 use Rattle.std.specs.BTreeSet.{btree_set_len}
 use Rattle.indexmap.specs.IndexMap.{index_map_len}
+use Rattle.cas_ballot.specs.Ballot.{FitsBallot}
 use Rattle.cas_change.specs.Key.{IsKey}
+use Rattle.cas_slot.specs.declared.slot.Accepted.{Accepted}
 use Rattle.cas_slot.specs.declared.slot.Slot.{Slot}
 use Rattle.cas_slot.specs.declared.ages.Ages.{Ages}
 use Rattle.cas_slot.specs.Contents.{Contents, with_kept, without_kept}
+use Rattle.cas_slot.specs.Limits.{SlotBallotsFit, AllBallotsFit}
 use Rattle.cas_slot.specs.Shelf.{LeavesOnly, IsOldOrNew}
 use Rattle.cas_slot.specs.Slots.{slot_count}
+use Rattle.cas_slot.proofs.LimitLemmas.{put_fits, removal_fits}
+use Rattle.cas_wire.specs.Spelling.{FitsAccepted}
 use Rattle.cas_disk.specs.Disk.{LeavesOnly as DiskLeavesOnly}
 use Rattle.cas_cells.specs.Format.{count_in, count_told, with_count, grown, IsBeforeOrAfter}
 use Rattle.cas_cells.specs.Held.{IsRow}
@@ -159,11 +165,19 @@ module _ {D : Type 0} (tells : Type 0) (seen : D → List ℕ) (may_leave : D �
 
   -- ---- the shelf is up again
 
+  none_beyond : (accepted : Option Accepted) → IfSome accepted FitsAccepted → IfSome accepted (λ a. FitsBallot a.ballot)
+  none_beyond None fits = tt
+  none_beyond (Some accepted) fits = fits.ballot
+
+  ballots_fit : (slot : Slot) → FitsSlot slot → SlotBallotsFit slot
+  ballots_fit slot fits = record { promise = fits.promise; accepted = none_beyond slot.accepted fits.accepted }
+
   pub rewritten_up : (key : List ℕ) (slot : Slot) (payload : List ℕ) (i : ℕ) → IsKey key → FitsSlot slot → payload ≡ cell_spelling (Some (key, slot)) → cell_of old.memory key ≡ Some i → cells.Stands tells seen may_leave new.cells → cells.cells_of new.cells ≡ set row_of i (Some payload) → new.memory.held ≡ with_kept old.memory.held key slot → new.memory.index ≡ old.memory.index → new.memory.free ≡ old.memory.free → slot_count new.memory.held.slots ≡ slot_count old.memory.held.slots
       → IsUp tells seen may_leave new
   rewritten_up key slot payload i named fits spells own stands changed held index free count = record {
     row = stands;
     memory = subst (λ (l : List (Option (List ℕ))). IsMemoryOf l new.memory) (sym changed) (rewritten_memory row_of old.memory new.memory up.memory up.row.row key slot payload i named fits spells own held index free count);
+    fits = subst AllBallotsFit (sym held) (put_fits old.memory.held key slot up.fits (ballots_fit slot fits));
   }
 
   pub added_up : (key : List ℕ) (slot : Slot) (payload : List ℕ) (i : ℕ) → IsKey key → FitsSlot slot → payload ≡ cell_spelling (Some (key, slot)) → cell_of old.memory key ≡ None → is_free old.memory i ≡ true → cells.Stands tells seen may_leave new.cells → cells.cells_of new.cells ≡ set row_of i (Some payload) → new.memory.held ≡ with_kept old.memory.held key slot
@@ -172,6 +186,7 @@ module _ {D : Type 0} (tells : Type 0) (seen : D → List ℕ) (may_leave : D �
   added_up key slot payload i named fits spells none is_unused stands changed held keys frees index_len free_len count = record {
     row = stands;
     memory = subst (λ (l : List (Option (List ℕ))). IsMemoryOf l new.memory) (sym changed) (added_memory row_of old.memory new.memory up.memory up.row.row key slot payload i named fits spells none is_unused held keys frees index_len free_len count);
+    fits = subst AllBallotsFit (sym held) (put_fits old.memory.held key slot up.fits (ballots_fit slot fits));
   }
 
   pub dropped_up : (key payload : List ℕ) (i : ℕ) → payload ≡ cell_spelling None → cell_of old.memory key ≡ Some i → cells.Stands tells seen may_leave new.cells → cells.cells_of new.cells ≡ set row_of i (Some payload) → new.memory.held ≡ without_kept old.memory.held key
@@ -180,6 +195,7 @@ module _ {D : Type 0} (tells : Type 0) (seen : D → List ℕ) (may_leave : D �
   dropped_up key payload i spells own stands changed held keys frees index_len free_len count = record {
     row = stands;
     memory = subst (λ (l : List (Option (List ℕ))). IsMemoryOf l new.memory) (sym changed) (dropped_memory row_of old.memory new.memory up.memory up.row.row key payload i spells own held keys frees index_len free_len count);
+    fits = subst AllBallotsFit (sym held) (removal_fits old.memory.held key up.fits);
   }
 
   pub raised_up : (ages : Ages) (payload : List ℕ) → FitsHead (record { count = count_in row_of; ages = ages }) → payload ≡ head_spelling (record { count = count_in row_of; ages = ages }) → cells.Stands tells seen may_leave new.cells → cells.cells_of new.cells ≡ set row_of 0 (Some payload) → new.memory.held ≡ record old.memory.held { ages = ages } → new.memory.index ≡ old.memory.index → new.memory.free ≡ old.memory.free
@@ -188,6 +204,7 @@ module _ {D : Type 0} (tells : Type 0) (seen : D → List ℕ) (may_leave : D �
     row = stands;
     memory = subst (λ (l : List (Option (List ℕ))). IsMemoryOf l new.memory) (sym changed)
         (raised_memory row_of old.memory new.memory up.memory up.row.row ages payload fits spells (same_cells row_of payload (ap count_told spells ∙ count-told _ fits) up.row.row) held index free);
+    fits = subst AllBallotsFit (sym held) (λ key. up.fits key);
   }
 
   pub grown_up : count_in row_of < 4096 → cells.Stands tells seen may_leave new.cells → cells.cells_of new.cells ≡ grown row_of → new.memory.held ≡ old.memory.held → new.memory.index ≡ old.memory.index → ((j : ℕ) → is_free new.memory j ≡ freed (is_free old.memory) (1 + count_in row_of) j) → btree_set_len new.memory.free ≡ btree_set_len old.memory.free + 1
@@ -196,6 +213,7 @@ module _ {D : Type 0} (tells : Type 0) (seen : D → List ℕ) (may_leave : D �
     row = stands;
     memory = subst (λ (l : List (Option (List ℕ))). IsMemoryOf l new.memory) (sym changed)
         (grown_memory row_of old.memory new.memory up.memory up.row.row room (more_cells row_of (contents_of old) _ _ up.memory.shown up.row.row room) held index frees free_len);
+    fits = subst AllBallotsFit (sym held) up.fits;
   }
 
   -- nothing changed, as look-ups see it
@@ -204,6 +222,7 @@ module _ {D : Type 0} (tells : Type 0) (seen : D → List ℕ) (may_leave : D �
   same_up stands same held keys frees index_len free_len = record {
     row = stands;
     memory = subst (λ (l : List (Option (List ℕ))). IsMemoryOf l new.memory) (sym same) (same_memory row_of old.memory new.memory held keys frees index_len free_len up.memory);
+    fits = subst AllBallotsFit (sym held) up.fits;
   }
 
 -- a cell that was added to the free cells and taken back

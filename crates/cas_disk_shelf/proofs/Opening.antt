@@ -1,7 +1,10 @@
 -- A shelf that is started, crashed or reopened.
 use Rattle.std.proofs.Common.{◌≡◌, ℕ, false, List, [], ◌∷◌, Option, Some, None, Err, sym, ap, subst, ◌∙◌}
+use Rattle.cas_slot.specs.declared.ages.Ages.{Ages}
 use Rattle.cas_slot.specs.Contents.{Contents}
+use Rattle.cas_slot.specs.Limits.{AllBallotsFit}
 use Rattle.cas_slot.specs.Slots.{no_slots}
+use Rattle.cas_slot.proofs.LimitLemmas.{nothing_fits}
 use Rattle.cas_cells.specs.Format.{count_told, foreign_at, StandsFor}
 use Rattle.cas_disk_shelf.specs.declared.codec.Head.{Head}
 use Rattle.cas_disk_shelf.specs.declared.memory.Memory.{Memory}
@@ -38,3 +41,6 @@ new_memory head payload row memory fits none spells is held keys free counted =
     (record { fits = fits; spelled = spells; read = ap head_of spells ∙ head_again head fits; count = told }) (sym (told ∙ none))
     (none_loaded (Some payload ∷ []) head.ages memory held keys free counted) (ap (λ (c : Contents). c.ages) held) in
     subst (λ (l : List (Option (List ℕ))). IsMemoryOf l memory) (sym is) alone
+
+pub new_fits : (ages : Ages) (held : Contents) → held ≡ record { slots = no_slots; ages = ages } → AllBallotsFit held
+new_fits ages contents held = subst AllBallotsFit (sym held) (nothing_fits ages)

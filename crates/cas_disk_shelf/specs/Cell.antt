@@ -4,6 +4,7 @@ use Rattle.cas_ballot.specs.declared.ballot.Ballot.{Ballot}
 use Rattle.cas_ballot.specs.Ballot.{FitsBallot}
 use Rattle.cas_slot.specs.declared.slot.Accepted.{Accepted}
 use Rattle.cas_slot.specs.declared.slot.Slot.{Slot}
+use Rattle.cas_slot.specs.Limits.{SlotBallotsFit}
 use Rattle.cas_wire.specs.Reading.{Reading, pair_at, made_at, key_at, ballot_at, accepted_at, optional_at}
 use Rattle.cas_wire.specs.Spelling.{key_spelling, ballot_spelling, accepted_spelling, optional_spelling, FitsAccepted}
 use Rattle.cas_disk_shelf.specs.declared.codec.Found.{Found}
@@ -48,6 +49,11 @@ abbrev pub IsFound : List ℕ → Found → Type 0
 IsFound bytes Free = entry_in bytes ≡ Ok None
 IsFound bytes (Kept key slot) = entry_in bytes ≡ Ok (Some (key, slot))
 IsFound bytes (Wrong at) = entry_in bytes ≡ Err at
+
+-- the ballots of a slot that was found are within their limits
+abbrev pub FoundBallotsFit : Found → Type 0
+FoundBallotsFit (Kept key slot) = SlotBallotsFit slot
+FoundBallotsFit other = Unit {0}
 
 -- a key and a promise were read up to this place
 pub record IsReadSoFar (bytes : List ℕ) (from : ℕ) (key : List ℕ) (promise : Ballot) : Type 0 where

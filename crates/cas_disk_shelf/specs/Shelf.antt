@@ -1,6 +1,7 @@
 -- What a shelf on a disk shows, and what of it a crash leaves.
 use Rattle.std.specs.Prelude.{◌≡◌, ℕ, List}
 use Rattle.cas_slot.specs.Contents.{Contents}
+use Rattle.cas_slot.specs.Limits.{AllBallotsFit}
 use Rattle.cas_slot.specs.Shelf.{Left}
 use Rattle.cas_cells.specs.Cells as cells
 use Rattle.cas_disk_shelf.specs.declared.shelf.DiskShelf.{DiskShelf}
@@ -15,10 +16,11 @@ disk_of shelf = cells.disk_of shelf.cells
 abbrev pub contents_of : {D : Type 0} → DiskShelf D → Contents
 contents_of shelf = shelf.memory.held
 
--- a shelf is up: its cells are in use, and what it keeps in memory is what they hold
+-- a shelf is up: its cells are in use, what it keeps in memory is what they hold, and the ballots of that are within their limits
 pub record IsUp {D : Type 0} (tells : Type 0) (seen : D → List ℕ) (may_leave : D → List ℕ → Type 0) (shelf : DiskShelf D) : Type 0 where
   pub row : cells.Stands tells seen may_leave shelf.cells
   pub memory : IsMemoryOf (cells.cells_of shelf.cells) shelf.memory
+  pub fits : AllBallotsFit shelf.memory.held
 
 -- what a crash of the shelf may leave: what its disk is then
 abbrev pub MayLeave : {D : Type 0} → (D → List ℕ → Type 0) → DiskShelf D → Left → Type 0

@@ -1,18 +1,18 @@
 //! How the payloads of a shelf's cells are written and read: the head in cell 0, and behind it cells that are free or hold the
 //! slot of a key.
-ghost use Rattle.std.specs.Prelude.{◌≡◌, ◌≤◌, ◌<◌, ◌+◌, ◌*◌, ◌^◌, ◌++◌, [], ◌∷◌, ℕ, length, drop, IfOk, IfErr, OnOk, OnErr, IsTrue, IfSome, FitsSigned, Some, None, slice_index};
+ghost use Rattle.std.specs.Prelude.{◌≡◌, ◌≤◌, ◌<◌, ◌+◌, ◌*◌, ◌^◌, ◌++◌, [], ◌∷◌, ℕ, length, drop, IfOk, IfErr, OnOk, IfSome, Some, None, slice_index};
 ghost use Rattle.std.specs.Int.{w32, w64, to_be_bytes, from_be_bytes};
 ghost use Rattle.cas_ballot.specs.Ballot.{FitsBallot};
 ghost use Rattle.cas_wire.specs.Reading.{rise_at};
-ghost use Rattle.cas_wire.specs.Spelling.{FitsState, FitsAccepted};
 ghost use Rattle.cas_change.specs.Key.{IsKey};
+ghost use Rattle.cas_slot.specs.Limits.{SlotBallotsFit};
 ghost use Rattle.cas_disk_shelf.specs.Head.{head_spelling, head_of, IsSpelledHead, unlike_at, numbers_spelling, number_from, ages_in};
-ghost use Rattle.cas_disk_shelf.specs.Cell.{cell_spelling, FitsSlot, IsFound, IsReadSoFar};
+ghost use Rattle.cas_disk_shelf.specs.Cell.{cell_spelling, FitsSlot, IsFound, FoundBallotsFit, IsReadSoFar};
 
 use byteorder::{BigEndian, ByteOrder};
 use cas_ballot::Ballot;
-use cas_change::{Body, Key, LONGEST_TEXT, State};
-use cas_slot::{Accepted, Ages, PROPOSERS, Slot};
+use cas_change::Key;
+use cas_slot::{Ages, PROPOSERS, Slot};
 use cas_wire::parts::{
     Part, push_accepted, push_ballot, push_key, take_accepted, take_ballot, take_key,
 };
@@ -158,58 +158,11 @@ fn u64_at(bytes: &[u8], at: usize) -> u64
     ])
 }
 
-/// Whether a slot has a spelling: its ballots have counters up to 2^48 and proposers up to 16.
-pub fn has_spelling(slot: &Slot) -> bool
-    ensures { IsTrue result → FitsSlot slot.now }
-{
-    fits(slot.promise) && accepted_fits(&slot.accepted)
-}
-
-fn accepted_fits(accepted: &Option<Accepted>) -> bool
-    ensures { IsTrue result → IfSome accepted.now FitsAccepted }
-{
-    match accepted {
-        Some(accepted) => fits(accepted.ballot) && parts_fit(accepted.era, &accepted.state),
-        None => true,
-    }
-}
-
-// Each era and each state has one.
-fn parts_fit(era: u32, state: &State) -> bool
-    ensures { IsTrue result → (era < 2 ^ 32) × FitsState state.now }
-{
-    match state {
-        State::Empty => true,
-        State::Held { version, body } => body_fits(*version, body),
-    }
-}
-
-fn body_fits(version: u64, body: &Body) -> bool
-    ensures { IsTrue result → FitsState (State.Held version body.now) }
-{
-    match body {
-        Body::Number(number) => number_fits(version, *number),
-        Body::Text(text) => text.bytes().len() <= LONGEST_TEXT,
-    }
-}
-
-const fn number_fits(version: u64, number: i64) -> bool
-    ensures version { version < 2 ^ 64 }
-    ensures number { FitsSigned w64 number }
-{
-    true
-}
-
-fn fits(ballot: Ballot) -> bool
-    ensures { IsTrue result → FitsBallot ballot }
-{
-    ballot.counter <= 1 << 48 && ballot.proposer <= 16
-}
-
 /// The payload of a cell that holds the slot of a key.
 pub fn spell_slot(alloc: Global, key: &Key, slot: &Slot) -> Result<Vec<u8>, AllocError>
-    requires { FitsSlot slot.now }
+    requires { SlotBallotsFit slot.now }
     ensures spelled { IfOk result (λ bytes. bytes.items ≡ cell_spelling (Some (key.now, slot.now))) }
+    ensures fits { OnOk result (FitsSlot slot.now) }
     ensures key { IsKey key.now }
 {
     let mut bytes = Vec::with_capacity(alloc, key.bytes().len() + 236)?;
@@ -222,7 +175,8 @@ pub fn spell_slot(alloc: Global, key: &Key, slot: &Slot) -> Result<Vec<u8>, Allo
 
 /// What a payload behind the head is.
 pub fn read_cell(alloc: Global, bytes: &[u8]) -> Result<Found, AllocError>
-    ensures { IfOk result (IsFound bytes.now) }
+    ensures found { IfOk result (IsFound bytes.now) }
+    ensures fits { IfOk result FoundBallotsFit }
 {
     let Some((kind, rest)) = bytes.split_first() else {
         return Ok(Found::Wrong { at: 0 });
@@ -242,7 +196,8 @@ pub fn read_cell(alloc: Global, bytes: &[u8]) -> Result<Found, AllocError>
 
 /// What a payload is that has these bytes behind its kind.
 fn read_entry(alloc: Global, bytes: &[u8]) -> Result<Found, AllocError>
-    ensures { IfOk result (IsFound (1 ∷ bytes.now)) }
+    ensures found { IfOk result (IsFound (1 ∷ bytes.now)) }
+    ensures fits { IfOk result FoundBallotsFit }
 {
     match take_key(alloc, bytes)? {
         Part::Wrong { at } => Ok(Found::Wrong { at: 1 + at }),
@@ -264,8 +219,10 @@ fn read_accepted(
     key: Key,
     promise: Ballot,
 ) -> Result<Found, AllocError>
-    requires { IsReadSoFar bytes.now from key promise }
-    ensures { IfOk result (IsFound (1 ∷ bytes.now)) }
+    requires so_far { IsReadSoFar bytes.now from key promise }
+    requires fits { FitsBallot promise }
+    ensures found { IfOk result (IsFound (1 ∷ bytes.now)) }
+    ensures fits { IfOk result FoundBallotsFit }
 {
     match take_accepted(alloc, &bytes[from..])? {
         Part::Wrong { at } => Ok(Found::Wrong { at: 1 + from + at }),

@@ -1,6 +1,7 @@
 //! What a shelf keeps in memory beside its disk: what it shows, the cell of each key, and the cells that hold no slot.
 ghost use Rattle.std.specs.Prelude.{◌≡◌, ◌+◌, ◌*◌, ◌^◌, ◌<◌, ◌≤◌, ℕ, List, length, None, Some, Err, false, IfOk, OnOk, IsErrOf};
 ghost use Rattle.cas_slot.specs.Contents.{kept_at, with_kept};
+ghost use Rattle.cas_slot.specs.Limits.{AllBallotsFit};
 ghost use Rattle.cas_slot.specs.Slots.{no_slots};
 ghost use Rattle.cas_cells.specs.Cells.{Stands, cells_of, disk_of};
 ghost use Rattle.cas_cells.specs.Format.{count_in};
@@ -84,6 +85,7 @@ impl Memory {
 pub fn load<D: Disk>(alloc: Global, cells: &Cells<D>) -> Result<Memory, ShelfFault>
     requires { Stands D.tells D.seen D.may_leave cells.now }
     ensures memory { IfOk result (IsMemoryOf (cells_of cells.now)) }
+    ensures fits { IfOk result (λ memory. AllBallotsFit memory.held) }
     ensures foreign { D.tells → (at : ℕ) → IsErrOf result (ShelfFault.Foreign at) → left_in (place_on (D.seen (disk_of cells.now))) (cells_of cells.now) ≡ Err at }
     ensures other { IsOfLoading result }
 {
@@ -133,6 +135,8 @@ fn load_cell<D: Disk>(
     requires stands { Stands D.tells D.seen D.may_leave cells.now }
     requires within { so_many < count_in (cells_of cells.now) }
     requires loaded { IsLoaded (cells_of cells.now) so_many memory.old }
+    requires fits { AllBallotsFit memory.old.held }
+    ensures fits { OnOk result (AllBallotsFit memory.new.held) }
     ensures loaded { OnOk result (IsLoaded (cells_of cells.now) (so_many + 1) memory.new) }
     ensures ages { OnOk result (memory.new.held.ages ≡ memory.old.held.ages) }
     ensures read { D.tells → OnOk result (read_on (place_on (D.seen (disk_of cells.now))) (cells_of cells.now) so_many memory.old ≡ read_on (place_on (D.seen (disk_of cells.now))) (cells_of cells.now) (so_many + 1) memory.new) }

@@ -1,16 +1,16 @@
 //! A shelf on a disk.
 ghost use Rattle.std.specs.Prelude.{◌≡◌, ◌≤◌, ◌<◌, ℕ, List, Ok, Err, Some, None, true, OnOk, OnErr, IsErrOf, IfOk};
 ghost use Rattle.cas_slot.specs.Contents.{nothing, kept_at, with_kept, without_kept, with_raised};
+ghost use Rattle.cas_slot.specs.Limits.{SlotBallotsFit};
 ghost use Rattle.cas_slot.specs.Shelf.{IsOldOrNew, LeavesOnly, HasShelfCause, IsNeitherFullNorForeign};
 ghost use Rattle.cas_slot.specs.Slots.{IsFullFor, slot_count};
 ghost use Rattle.cas_disk.specs.Disk.{Only, LeavesOnly as DiskLeavesOnly};
 ghost use Rattle.cas_cells.specs.Cells.{cells_of};
 ghost use Rattle.cas_cells.specs.Format.{count_in};
-ghost use Rattle.cas_disk_shelf.specs.Cell.{FitsSlot};
 ghost use Rattle.cas_disk_shelf.specs.Image.{left_on};
 ghost use Rattle.cas_disk_shelf.specs.Memory.{cell_of, is_free};
 
-use crate::codec::{FREE, Head, has_spelling, spell_head, spell_slot};
+use crate::codec::{FREE, Head, spell_head, spell_slot};
 use crate::memory::{Memory, load};
 use crate::steps::{change, fault_of};
 use cas_cells::Cells;
@@ -23,9 +23,6 @@ use std::alloc::{AllocError, Global};
 ///
 /// Each slot has a cell of its own. Beside the disk the slots are in memory too, with an index from their keys to their cells and
 /// the cells that hold none.
-///
-/// A slot with a ballot above the ends of the format, a counter above 2^48 or a proposer above 16, is not put: `put` answers
-/// `NoMemory`, and nothing changes.
 #[derive(Drop)]
 pub struct DiskShelf<D: Disk> {
     alloc: Global,
@@ -62,6 +59,7 @@ impl<D: Disk> DiskShelf<D> {
     fn rewrite(&mut self, cell: u32, key: &Key, slot: Slot) -> Result<(), ShelfFault>
         requires up { IsUp D.tells D.seen D.may_leave self.old }
         requires own { cell_of self.old.memory key.now ≡ Some cell }
+        requires fits { SlotBallotsFit slot }
         ensures ok { OnOk result (contents_of self.new ≡ with_kept (contents_of self.old) key.now slot) }
         ensures err { OnErr result (contents_of self.new ≡ contents_of self.old) }
         ensures up { OnOk result (IsUp D.tells D.seen D.may_leave self.new) }
@@ -70,9 +68,6 @@ impl<D: Disk> DiskShelf<D> {
         ensures other { IsNeitherFullNorForeign result }
         ensures cause { HasShelfCause result (D.fault_count (disk_of self.old)) (D.fault_count (disk_of self.new)) }
     {
-        if !has_spelling(&slot) {
-            return Err(ShelfFault::NoMemory);
-        }
         let payload = spell_slot(self.alloc, key, &slot)?;
         let own = key.copy()?;
         change(&mut self.cells, cell, &payload)?;
@@ -86,6 +81,7 @@ impl<D: Disk> DiskShelf<D> {
         requires up { IsUp D.tells D.seen D.may_leave self.old }
         requires new { cell_of self.old.memory key.now ≡ None }
         requires room { slot_count (contents_of self.old).slots < 4096 }
+        requires fits { SlotBallotsFit slot }
         ensures ok { OnOk result (contents_of self.new ≡ with_kept (contents_of self.old) key.now slot) }
         ensures err { OnErr result (contents_of self.new ≡ contents_of self.old) }
         ensures up { OnOk result (IsUp D.tells D.seen D.may_leave self.new) }
@@ -94,9 +90,6 @@ impl<D: Disk> DiskShelf<D> {
         ensures other { IsNeitherFullNorForeign result }
         ensures cause { HasShelfCause result (D.fault_count (disk_of self.old)) (D.fault_count (disk_of self.new)) }
     {
-        if !has_spelling(&slot) {
-            return Err(ShelfFault::NoMemory);
-        }
         let cell = self.unused_cell()?;
         self.add_at(cell, key, slot)
     }
@@ -106,7 +99,7 @@ impl<D: Disk> DiskShelf<D> {
         requires up { IsUp D.tells D.seen D.may_leave self.old }
         requires new { cell_of self.old.memory key.now ≡ None }
         requires free { is_free self.old.memory cell ≡ true }
-        requires fits { FitsSlot slot }
+        requires fits { SlotBallotsFit slot }
         ensures ok { OnOk result (contents_of self.new ≡ with_kept (contents_of self.old) key.now slot) }
         ensures err { OnErr result (contents_of self.new ≡ contents_of self.old) }
         ensures up { OnOk result (IsUp D.tells D.seen D.may_leave self.new) }
@@ -250,6 +243,8 @@ impl<D: Disk> Shelf for DiskShelf<D> {
     ghost fault_count = { λ shelf. D.fault_count (disk_of shelf) };
 
     ghost up_is_kept = { λ shelf t up left may. up_is_left D.tells D.seen D.may_leave shelf up t left may };
+
+    ghost ballots_fit = { λ shelf up. up.fits };
 
     ghost counts_now = { λ shelf t left tells le may. (may.0, D.counts_now (disk_of shelf) t may.0 tells le may.1, may.2) };
 

@@ -1,7 +1,7 @@
 ghost use Rattle.std.specs.Prelude.{OnOk};
 
 use super::*;
-use crate::codec::{Found, Head, has_spelling, read_cell, read_head, spell_head, spell_slot};
+use crate::codec::{Found, Head, read_cell, read_head, spell_head, spell_slot};
 use cas_ballot::Ballot;
 use cas_change::{Body, Key, State};
 use cas_disk::{Disk, FileDisk, Image, MemoryDisk, Trouble};
@@ -62,7 +62,6 @@ fn payloads_have_their_bytes(rt: HostRuntime) -> Result<(), Fail> {
     let alloc = rt.alloc();
     let a = Key::read(alloc, b"a")?;
     let slot = slot_at(1);
-    assert!(rt; has_spelling(&slot));
     let want: [u8; 42] = [
         1, 1, 0x61, 0, 0, 0, 0, 0, 0, 0, 2, 1, 1, 0, 0, 0, 0, 0, 0, 0, 1, 16, 0, 0, 0, 7, 1, 0, 0,
         0, 0, 0, 0, 0, 3, 255, 255, 255, 255, 255, 255, 255,

@@ -2,7 +2,8 @@
 use Rattle.std.proofs.Common.{◌≡◌, ℕ, ◌≤◌, Bool, true, false, cond, List, [], None, Some, inl, inr, sym, ap, subst, arith}
 use Rattle.std.specs.Prelude.{Option, IfSome}
 use Rattle.std.specs.FinMap as map
-use Rattle.std.specs.Ordering.{is_lt}
+use Rattle.std.specs.Ordering.{nat_cmp, is_lt}
+use Rattle.std.specs.Cmp.Lexicographic.{slice_cmp}
 use Rattle.cas_ballot.specs.declared.ballot.Ballot.{Ballot}
 use Rattle.cas_ballot.specs.Ballot.{FitsBallot, zero_ballot, ballot_cmp}
 use Rattle.cas_slot.specs.declared.ages.Ages.{Ages}
@@ -15,6 +16,7 @@ use Rattle.cas_slot.specs.declared.message.Tell.TheVariants as tell
 use Rattle.cas_slot.specs.Contents.{Contents, kept_at, with_kept, without_kept}
 use Rattle.cas_slot.specs.Limits.{SlotBallotsFit, TellBallotsFit, AllBallotsFit}
 use Rattle.cas_slot.specs.Slot.{accepted_ballot, accepted_of, promise_of, seen_of}
+use Rattle.cas_slot.specs.Slots.{no_slots}
 use Rattle.cas_slot.specs.Table.{Answers}
 use Rattle.cas_slot.proofs.SlotsLemmas.{lookup-slots, slot_cases, removed_cases}
 
@@ -22,6 +24,9 @@ pub zero_fits : FitsBallot zero_ballot
 zero_fits = record { counter = omega arith; proposer = omega arith }
 
 -- where there are no slots, none is beyond them
+pub nothing_fits : (ages : Ages) → AllBallotsFit (record { slots = no_slots; ages = ages })
+nothing_fits ages key = subst (λ (o : Option Slot). IfSome o SlotBallotsFit) (sym (map.get-empty (slice_cmp nat_cmp) key)) tt
+
 pub none_fit : (ages : Ages) (entries : List (List ℕ × Slot)) → entries ≡ [] → AllBallotsFit (record { slots = map.from_entries entries; ages = ages })
 none_fit ages entries none = rw none (λ key. subst (λ (o : Option Slot). IfSome o SlotBallotsFit) (lookup-slots key []) tt)
 

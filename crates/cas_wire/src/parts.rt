@@ -50,6 +50,7 @@ pub fn push_ballot(out: &mut Vec<u8>, ballot: Ballot) -> Result<(), AllocError>
 pub fn push_accepted(out: &mut Vec<u8>, accepted: Option<&Accepted>) -> Result<(), AllocError>
     requires { IfSome (option_copied accepted) (λ a. FitsBallot a.ballot) }
     ensures ok { OnOk result (out.new.items ≡ out.old.items ++ optional_spelling accepted_spelling (option_copied accepted.entry)) }
+    ensures fits { OnOk result (IfSome (option_copied accepted.entry) FitsAccepted) }
     ensures err { OnErr result (out.new.items ≡ out.old.items) }
 {
     out.reserve(225)?;

@@ -1,14 +1,9 @@
-use Rattle.std.proofs.Common.{refl, subst}
+use Rattle.std.proofs.Common.{subst}
 use Rattle.cas_slot.specs.Contents.{Contents, with_kept}
 use Rattle.cas_slot.specs.Shelf.{IsOldOrNew, LeavesOnly}
 use Rattle.cas_disk_shelf.specs.Shelf.{contents_of, moment_of, LeftSince}
 use Rattle.cas_disk_shelf.proofs.Leaving.{unchanged, then_changed}
-use Rattle.cas_disk_shelf.proofs.Keeping.{still_old}
 use Rattle.cas_disk_shelf.proofs.shelf.DiskShelf.add.Goals as goal
-
-pub returns-then-not-has_spelling-clause-any_moment : goal.returns-then-not-has_spelling-clause-any_moment
-returns-then-not-has_spelling-clause-any_moment g c tells =
-    still_old g.D.Disk.tells g.D.Disk.seen g.D.Disk.may_leave g.D.Disk.moment g.D.Disk.left_since _ _ c.requires.up _ refl (λ image left. g.met.D.Disk.only_now _ image tells left) tells
 
 pub returns-in_err-cell-clause-any_moment : goal.returns-in_err-cell-clause-any_moment
 returns-in_err-cell-clause-any_moment g c tells =

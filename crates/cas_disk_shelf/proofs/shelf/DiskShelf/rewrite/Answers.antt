@@ -9,10 +9,6 @@ use Rattle.cas_disk_shelf.proofs.Using.{slot_payload, own_within}
 use Rattle.cas_disk_shelf.proofs.Keeping.{still_old, put_moment, rewritten_up}
 use Rattle.cas_disk_shelf.proofs.shelf.DiskShelf.rewrite.Goals as goal
 
-pub returns-then-not-has_spelling-clause-any_moment : goal.returns-then-not-has_spelling-clause-any_moment
-returns-then-not-has_spelling-clause-any_moment g c tells =
-    still_old g.D.Disk.tells g.D.Disk.seen g.D.Disk.may_leave g.D.Disk.moment g.D.Disk.left_since _ _ c.requires.up _ refl (λ image left. g.met.D.Disk.only_now _ image tells left) tells
-
 pub returns-in_err-payload-clause-any_moment : goal.returns-in_err-payload-clause-any_moment
 returns-in_err-payload-clause-any_moment g c tells =
     still_old g.D.Disk.tells g.D.Disk.seen g.D.Disk.may_leave g.D.Disk.moment g.D.Disk.left_since _ _ c.requires.up _ refl (λ image left. g.met.D.Disk.only_now _ image tells left) tells
@@ -27,12 +23,12 @@ change-requires-clause-within g c =
     (own_within (cells_of c.args.self.now.cells) _ _ _ up.memory.shown.in_step up.row.row c.args.key.now c.args.cell c.requires.own).1
 
 pub change-requires-clause-fits : goal.change-requires-clause-fits
-change-requires-clause-fits g c = slot_payload c.args.key.now c.args.slot _ c.spell_slot.ensures.key (c.if-not-has_spelling.ensures refl) (c.deref.ensures.value ∙ c.in_ok-payload.ensures.spelled)
+change-requires-clause-fits g c = slot_payload c.args.key.now c.args.slot _ c.spell_slot.ensures.key c.in_ok-payload.ensures.fits (c.deref.ensures.value ∙ c.in_ok-payload.ensures.spelled)
 
 pub returns-in_err-change-clause-any_moment : goal.returns-in_err-change-clause-any_moment
 returns-in_err-change-clause-any_moment g c tells =
     put_moment g.D.Disk.tells g.D.Disk.seen g.D.Disk.may_leave g.D.Disk.moment g.D.Disk.left_since _ _ c.requires.up
-    c.args.key.now c.args.slot _ c.args.cell c.spell_slot.ensures.key (c.if-not-has_spelling.ensures refl) (c.deref.ensures.value ∙ c.in_ok-payload.ensures.spelled) c.requires.own (c.change.ensures.any_moment tells)
+    c.args.key.now c.args.slot _ c.args.cell c.spell_slot.ensures.key c.in_ok-payload.ensures.fits (c.deref.ensures.value ∙ c.in_ok-payload.ensures.spelled) c.requires.own (c.change.ensures.any_moment tells)
 
 pub returns-clause-up : goal.returns-clause-up
 returns-clause-up g c =
@@ -43,10 +39,10 @@ returns-clause-up g c =
     let put : c.insert.new.self ≡ with_kept old c.in_ok-own.own c.args.slot = on_ok c.insert.result _ c.if-prove.ensures.value c.insert.ensures.ok in
     let len : slot_count c.insert.new.self.slots ≡ slot_count old.slots + (if is_some (kept_at old c.in_ok-own.own) then 0 else 1) = on_ok c.insert.result _ c.if-prove.ensures.value c.insert.ensures.len in
     rewritten_up g.D.Disk.tells g.D.Disk.seen g.D.Disk.may_leave g.D.Disk.moment g.D.Disk.left_since _ _ up
-    c.args.key.now c.args.slot _ c.args.cell c.spell_slot.ensures.key (c.if-not-has_spelling.ensures refl) (c.deref.ensures.value ∙ c.in_ok-payload.ensures.spelled) c.requires.own c.in_ok-change.ensures.stands c.in_ok-change.ensures.changed
+    c.args.key.now c.args.slot _ c.args.cell c.spell_slot.ensures.key c.in_ok-payload.ensures.fits (c.deref.ensures.value ∙ c.in_ok-payload.ensures.spelled) c.requires.own c.in_ok-change.ensures.stands c.in_ok-change.ensures.changed
     (put ∙ ap (λ (key : List ℕ). with_kept old key c.args.slot) own) refl refl (as_many _ _ (kept_at old c.in_ok-own.own) there.0 (ap (kept_at old) own ∙ there.2) len)
 
 pub returns-clause-any_moment : goal.returns-clause-any_moment
 returns-clause-any_moment g c tells =
     put_moment g.D.Disk.tells g.D.Disk.seen g.D.Disk.may_leave g.D.Disk.moment g.D.Disk.left_since _ _ c.requires.up
-    c.args.key.now c.args.slot _ c.args.cell c.spell_slot.ensures.key (c.if-not-has_spelling.ensures refl) (c.deref.ensures.value ∙ c.in_ok-payload.ensures.spelled) c.requires.own (c.change.ensures.any_moment tells)
+    c.args.key.now c.args.slot _ c.args.cell c.spell_slot.ensures.key c.in_ok-payload.ensures.fits (c.deref.ensures.value ∙ c.in_ok-payload.ensures.spelled) c.requires.own (c.change.ensures.any_moment tells)
