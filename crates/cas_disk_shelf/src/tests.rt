@@ -1,4 +1,6 @@
-ghost use Rattle.std.specs.Prelude.{OnOk};
+ghost use Rattle.std.specs.Prelude.{◌≤◌, OnOk};
+ghost use Rattle.cas_ballot.specs.Ballot.{FitsBallot};
+ghost use Rattle.cas_slot.specs.Limits.{SlotBallotsFit};
 
 use super::*;
 use crate::codec::{Found, Head, read_cell, read_head, spell_head, spell_slot};
@@ -28,12 +30,20 @@ fn key(alloc: Global, n: u64) -> Result<Key, Fail> {
     Ok(Key::read(alloc, text.as_bytes())?)
 }
 
-fn ballot(counter: u64, proposer: u8) -> Ballot {
-    Ballot { counter, proposer }
+const fn ballot(counter: u32, proposer: u8) -> Ballot
+    requires { proposer ≤ 16 }
+    ensures { FitsBallot result }
+{
+    Ballot {
+        counter: counter as u64,
+        proposer,
+    }
 }
 
 // A slot that accepted -5 at version 3, in era 7.
-fn slot_at(counter: u64) -> Slot {
+fn slot_at(counter: u32) -> Slot
+    ensures { SlotBallotsFit result }
+{
     Slot {
         promise: ballot(2, 1),
         accepted: Some(Accepted {
@@ -151,18 +161,18 @@ fn put_four<S: Shelf>(alloc: Global, shelf: &mut S) -> Result<(), Fail>
 {
     shelf.start()?;
     for n in 0..4 {
-        shelf.put(&key(alloc, n)?, slot_at(n))?;
+        shelf.put(&key(alloc, u64::from(n))?, slot_at(n))?;
     }
     Ok(())
 }
 
 // Drops the oldest key and puts a new one, so often.
-fn turn_over<S: Shelf>(alloc: Global, shelf: &mut S, rounds: u64) -> Result<(), Fail>
+fn turn_over<S: Shelf>(alloc: Global, shelf: &mut S, rounds: u32) -> Result<(), Fail>
     requires { S.is_up shelf.old }
 {
     for round in 0..rounds {
-        shelf.drop_slot(&key(alloc, round)?)?;
-        shelf.put(&key(alloc, round.saturating_add(4))?, slot_at(round))?;
+        shelf.drop_slot(&key(alloc, u64::from(round))?)?;
+        shelf.put(&key(alloc, u64::from(round) + 4)?, slot_at(round))?;
     }
     Ok(())
 }
