@@ -175,3 +175,23 @@ members_of_bits-zero = refl
 -- what passes a test is a set of acceptors
 pub IsMemberSet-members_where : (p : ℕ → Bool) → IsMemberSet (members_where p)
 IsMemberSet-members_where p = record { lists = members_where_same p (has_member (members_where p)) (λ n below. sym (has-members_where p n below)) }
+
+-- each acceptor of such a set passes the test
+in_front : (b : Bool) (x n : ℕ) (xs : List ℕ) → has_member (cond b (x ∷ xs) xs) n ≡ true → ((b ≡ true) × ((x == n) ≡ true)) ⊎ (has_member xs n ≡ true)
+in_front false x n xs e = inr e
+in_front true x n xs e = by_first (x == n) refl
+  where
+    by_first : (t : Bool) → (x == n) ≡ t → ((true ≡ true) × ((x == n) ≡ true)) ⊎ (has_member xs n ≡ true)
+    by_first true same = inl (refl, same)
+    by_first false other = inr (ap (λ (t : Bool). t || has_member xs n) (sym other) ∙ e)
+
+filter_tells : (p : ℕ → Bool) (xs : List ℕ) (n : ℕ) → has_member (filter p xs) n ≡ true → p n ≡ true
+filter_tells p [] n e = absurd cc
+filter_tells p (x ∷ xs) n e = elim (in_front (p x) x n (filter p xs) e) [
+  | inl first ↦ subst (λ m. p m ≡ true) (eqb-true x n first.1) first.0
+  | inr rest ↦ filter_tells p xs n rest
+]
+
+pub members_where_tells : (p : ℕ → Bool) (n : ℕ) → has_member (members_where p) n ≡ true → p n ≡ true
+unfolding members_where
+members_where_tells p n e = filter_tells p (range_with_len 0 64) n e

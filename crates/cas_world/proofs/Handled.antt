@@ -7,8 +7,7 @@ use Rattle.cas_slot.specs.declared.message.Ask.{Ask}
 use Rattle.cas_slot.specs.declared.message.Ask.TheVariants.{Prepare, Accept}
 use Rattle.cas_slot.specs.declared.message.Tell.{Tell}
 use Rattle.cas_slot.specs.Slots.{Slots, slot_at}
-use Rattle.cas_slot.proofs.SlotsLemmas.{with_slot-same}
-use Rattle.cas_world.proofs.SlotLemmas.{without_slot-same}
+use Rattle.cas_slot.proofs.SlotsLemmas.{with_slot-same, without_slot-same}
 use Rattle.cas_world.specs.Acceptor.{slot_with, with_change, IsRoundAsk, IsToldBy}
 
 unchanged : (slots : Slots) (key : List ℕ) (slot : Option Slot) → slot_at slots key ≡ slot → with_slot_after slots key slot ≡ slots

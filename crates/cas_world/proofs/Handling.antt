@@ -30,8 +30,7 @@ use Rattle.cas_slot.specs.Message.{tag_of}
 use Rattle.cas_slot.specs.Rules.{prepare_rule, accept_rule, is_accepted_at, slot_by_prepare, slot_by_accept, tell_by_prepare, tell_by_accept, tell_of, slots_after, with_slot_after, key_of}
 use Rattle.cas_slot.specs.Slot.{seen_of, accepted_of, accepted_ballot}
 use Rattle.cas_slot.specs.Slots.{Slots, slot_at}
-use Rattle.cas_slot.proofs.SlotsLemmas.{slot_at-with_slot_same}
-use Rattle.cas_world.proofs.SlotLemmas.{slot_at-with_slot_other, slot_at-without_slot_same, slot_at-without_slot_other}
+use Rattle.cas_slot.proofs.SlotsLemmas.{slot_at-with_slot_same, slot_at-with_slot_other, slot_at-without_slot_same, slot_at-without_slot_other}
 use Rattle.cas_world.specs.Acceptor.{AcceptorView, acceptor_after, replied}
 use Rattle.cas_world.specs.Sound.{Each}
 use Rattle.cas_world.specs.Step.{vote_of}

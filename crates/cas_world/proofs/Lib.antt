@@ -10,6 +10,5 @@ pub mod Lists
 pub mod Phases
 pub mod Proposals
 pub mod Rounds
-pub mod SlotLemmas
 pub mod SoundLemmas
 pub mod Turns

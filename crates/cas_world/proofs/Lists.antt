@@ -59,22 +59,6 @@ length-replaced [] old new after = refl
 length-replaced (y ∷ before) old new after = ap suc (length-replaced before old new after)
 
 -- ---- sets of acceptors
--- each that a set has passes its test
-in_front : (b : Bool) (x n : ℕ) (xs : List ℕ) → has_member (cond b (x ∷ xs) xs) n ≡ true → ((b ≡ true) × ((x == n) ≡ true)) ⊎ (has_member xs n ≡ true)
-in_front false x n xs e = inr e
-in_front true x n xs e = elim (or_cases (x == n) (has_member xs n) e) [ inl same ↦ inl (refl, same) | inr rest ↦ inr rest ]
-
-filter_tells : (p : ℕ → Bool) (xs : List ℕ) (n : ℕ) → has_member (filter p xs) n ≡ true → p n ≡ true
-filter_tells p [] n e = absurd cc
-filter_tells p (x ∷ xs) n e = elim (in_front (p x) x n (filter p xs) e) [
-  | inl first ↦ subst (λ m. p m ≡ true) (nat_same {a = x} {b = n} first.1) first.0
-  | inr rest ↦ filter_tells p xs n rest
-]
-
-pub members_where_tells : (p : ℕ → Bool) (n : ℕ) → has_member (members_where p) n ≡ true → p n ≡ true
-unfolding members_where
-members_where_tells p n e = filter_tells p (range_with_len 0 64) n e
-
 or_swap : (a b c : Bool) → (a || (b || c)) ≡ (b || (a || c))
 or_swap true true c = refl
 or_swap true false c = refl

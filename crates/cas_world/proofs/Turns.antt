@@ -8,6 +8,7 @@ use Rattle.cas_ballot.specs.declared.ballot.Ballot.{Ballot}
 use Rattle.cas_ballot.specs.Ballot.{ballot_cmp, BallotAtMost}
 use Rattle.cas_ballot.specs.Members.{has_member, with_member}
 use Rattle.cas_ballot.proofs.BallotLemmas.{at_most_refl, at_most_trans, at_most_of_less, at_most_or_less}
+use Rattle.cas_ballot.proofs.MemberLemmas.{members_where_tells}
 use Rattle.cas_record.specs.declared.mark.Mark.{Mark}
 use Rattle.cas_record.specs.declared.mark.Mark.TheVariants.{Voted}
 use Rattle.cas_record.specs.Places.{Stands}
@@ -32,7 +33,7 @@ use Rattle.cas_world.specs.Sound.{Each, IsNumberedFrom}
 use Rattle.cas_world.specs.Step.{vote_of, after_request}
 use Rattle.cas_world.specs.View.{View}
 use Rattle.cas_world.specs.History.{IsAcceptedState, IsAcceptorTold, IsTellTrue, IsReplyTrue, IsMessageTrue, IsPlain, IsWithin, IsNoEnd, IsBefore, IsOwnAsk, IsGranted, IsStageTrue, IsRoundTrue, HasHistory}
-use Rattle.cas_world.proofs.Lists.{members_where_tells, Each-map, Each-append, Each-at, id_at}
+use Rattle.cas_world.proofs.Lists.{Each-map, Each-append, Each-at, id_at}
 use Rattle.cas_world.proofs.Growth.{each_stands, mark_grows, accepted_grows, message_grows, granted_grows, accept_grows, within_grows}
 use Rattle.cas_world.proofs.Handling.{Handled, request_handled}
 
