@@ -1,12 +1,10 @@
 -- Acceptors in their order, and facts about each of a list.
-use Rattle.std.proofs.Common.{◌≡◌, ℕ, suc, ◌+◌, Bool, true, false, List, [], ◌∷◌, ◌++◌, length, arith, sym, ◌∙◌, ap, subst, refl}
-use Rattle.std.specs.Prelude.{◌==◌, ◌||◌, ◌⊎◌, cond, filter, Some, slice_get, slice_set}
-use mathlib.Core.Logic.{inl, inr}
+use Rattle.std.proofs.Common.{◌≡◌, ℕ, suc, ◌+◌, Bool, true, false, List, [], ◌∷◌, ◌++◌, length, arith, sym, ◌∙◌, ap, refl}
+use Rattle.std.specs.Prelude.{◌==◌, ◌||◌, Some, slice_get, slice_set}
 use Rattle.std.specs.Cmp.{nat_eq_equiv}
-use Rattle.std.specs.List.{list_any, range_with_len}
-use Rattle.cas_ballot.specs.Members.{members_where, has_member, with_member}
+use Rattle.std.specs.List.{list_any}
+use Rattle.cas_ballot.specs.Members.{members_where, with_member}
 use Rattle.cas_ballot.proofs.MemberLemmas.{has-members_where, members_where_same}
-use Rattle.cas_record.proofs.Tests.{or_cases, nat_same}
 use Rattle.cas_world.specs.Acceptor.{AcceptorView}
 use Rattle.cas_world.specs.Sound.{Each, IsNumberedFrom, set_of}
 
