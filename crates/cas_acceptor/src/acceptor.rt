@@ -3,7 +3,7 @@
 ghost use Rattle.std.specs.Prelude.{◌≡◌, ◌⊎◌, ◌≤◌, ◌↔◌, true, false, Ok, Err, IsTrue, IfOk, OnOk, OnErr, IsErrOf};
 ghost use Rattle.cas_base.specs.Faults.{Rose};
 ghost use Rattle.cas_slot.specs.Contents.{nothing};
-ghost use Rattle.cas_slot.specs.Limits.{AskBallotsFit, TellBallotsFit};
+ghost use Rattle.cas_slot.specs.Limits.{AskBallotsFit, TellFits};
 ghost use Rattle.cas_slot.specs.Shelf.{OnlyLeaves, LeavesOnly, HasShelfCause};
 ghost use Rattle.cas_slot.specs.Table.{IsAnswered, Handles};
 ghost use Rattle.cas_acceptor.specs.Acceptor.{LeavesByTable};
@@ -97,7 +97,7 @@ impl<S: Shelf> Acceptor<S> {
     }
 
     /// Answers a request by the acceptor's table. The request's proposer is at most 16, and its ballots have counters up to 2^48
-    /// and proposers up to 16; so have those of the reply.
+    /// and proposers up to 16; so have those of the reply, whose listing is in order.
     ///
     /// What a reply says is so in what any crash from then on leaves, until a further request changes it. A crash within the
     /// call leaves what was kept before, or what the table makes of that. [`HandleFault::Down`] comes only where the acceptor
@@ -107,7 +107,7 @@ impl<S: Shelf> Acceptor<S> {
         requires known { request.now.from ≤ 16 }
         requires fits { AskBallotsFit request.now.ask }
         ensures table { IfOk result (λ reply. IsAnswered self.old.id (S.contents self.old.shelf) request.now reply (S.contents self.new.shelf)) }
-        ensures told { IfOk result (λ reply. TellBallotsFit reply.tell) }
+        ensures told { IfOk result (λ reply. TellFits reply.tell) }
         ensures kept { S.tells → OnOk result (OnlyLeaves (S.contents self.new.shelf) (S.may_leave self.new.shelf)) }
         ensures any_moment { S.tells → self.old.down ≡ false → LeavesOnly S.moment S.left_since self.old.shelf self.new.shelf (LeavesByTable (S.contents self.old.shelf) request.now) }
         ensures err { OnErr result (S.contents self.new.shelf ≡ S.contents self.old.shelf) }
@@ -178,7 +178,7 @@ fn tell<S: Shelf>(shelf: &mut S, request: &Request) -> Result<Tell, HandleFault>
     requires known { request.now.from ≤ 16 }
     requires fits { AskBallotsFit request.now.ask }
     ensures table { IfOk result (λ tell. Handles (S.contents shelf.old) request.now tell (S.contents shelf.new)) }
-    ensures told { IfOk result TellBallotsFit }
+    ensures told { IfOk result TellFits }
     ensures any_moment { S.tells → LeavesOnly S.moment S.left_since shelf.old shelf.new (LeavesByTable (S.contents shelf.old) request.now) }
     ensures err { OnErr result (S.contents shelf.new ≡ S.contents shelf.old) }
     ensures up { OnOk result (S.is_up shelf.new) }

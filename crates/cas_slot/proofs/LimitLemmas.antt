@@ -1,6 +1,7 @@
 -- Ballots stay within their limits.
-use Rattle.std.proofs.Common.{◌≡◌, ℕ, ◌≤◌, Bool, true, false, cond, List, [], None, Some, inl, inr, sym, ap, subst, arith}
+use Rattle.std.proofs.Common.{◌≡◌, ℕ, ◌≤◌, Bool, true, false, cond, ◌<◌, List, [], length, take, None, Some, ◌∙◌, inl, inr, sym, ap, subst, arith}
 use Rattle.std.specs.Prelude.{Option, IfSome}
+use Rattle.std.proofs.lemmas.List.{length-take}
 use Rattle.std.specs.FinMap as map
 use Rattle.std.specs.Ordering.{nat_cmp, is_lt}
 use Rattle.std.specs.Cmp.Lexicographic.{slice_cmp}
@@ -14,10 +15,11 @@ use Rattle.cas_slot.specs.declared.message.Ask.TheVariants as ask
 use Rattle.cas_slot.specs.declared.message.Tell.{Tell}
 use Rattle.cas_slot.specs.declared.message.Tell.TheVariants as tell
 use Rattle.cas_slot.specs.Contents.{Contents, kept_at, with_kept, without_kept}
-use Rattle.cas_slot.specs.Limits.{SlotBallotsFit, TellBallotsFit, AllBallotsFit}
+use Rattle.cas_slot.specs.Limits.{SlotBallotsFit, TellFits, AllBallotsFit, CanBeListed}
 use Rattle.cas_slot.specs.Slot.{accepted_ballot, accepted_of, promise_of, seen_of}
-use Rattle.cas_slot.specs.Slots.{no_slots}
+use Rattle.cas_slot.specs.Slots.{Slots, no_slots, keys_above}
 use Rattle.cas_slot.specs.Table.{Answers}
+use Rattle.cas_slot.proofs.ListingLemmas.{page_rises}
 use Rattle.cas_slot.proofs.SlotsLemmas.{lookup-slots, slot_cases, removed_cases}
 
 pub zero_fits : FitsBallot zero_ballot
@@ -64,33 +66,44 @@ seen_fits : (slot : Option Slot) → IfSome slot SlotBallotsFit → FitsBallot (
 seen_fits None fits = zero_fits
 seen_fits (Some slot) fits = greater_by (is_lt (ballot_cmp slot.promise (accepted_ballot slot.accepted))) slot.promise (accepted_ballot slot.accepted) fits.promise (accepted_ballot_fits slot.accepted fits.accepted)
 
+listed_fits : (slots : Slots) (after told : Option (List ℕ)) (keys : List (List ℕ)) (more : Bool) → told ≡ after → keys ≡ take 4 (keys_above slots after)
+    → (more ≡ true → 4 < length (keys_above slots after)) → CanBeListed told keys more
+listed_fits slots after told keys more same first follow =
+    (rw (same, first) (page_rises slots after 4), λ yes. ap length first ∙ omega (arith, length-take 4 (keys_above slots after), follow yes))
+
 -- what is told of contents whose ballots are within their limits
-pub told_fits : (old : Contents) (question : Ask) (answer : Tell) (new : Contents) → AllBallotsFit old → Answers old question answer new → TellBallotsFit answer
+pub told_fits : (old : Contents) (question : Ask) (answer : Tell) (new : Contents) → AllBallotsFit old → Answers old question answer new → TellFits answer
 told_fits old (ask.Prepare key ballot) (tell.Met seen) new all row = subst FitsBallot (sym row.0) (seen_fits (kept_at old key) (all key))
 told_fits old (ask.Prepare key ballot) (tell.Promised accepted) new all row =
     subst (λ (o : Option Accepted). IfSome o (λ a. FitsBallot a.ballot)) (sym row.0) (accepted_fits (kept_at old key) (all key))
 told_fits old (ask.Prepare key ballot) (tell.Probed promise accepted) new all row = absurd row
+told_fits old (ask.Prepare key ballot) (tell.Listed told keys more) new all row = absurd row
 told_fits old (ask.Accept key ballot era ride state) (tell.Met seen) new all row = subst FitsBallot (sym row.1) (seen_fits (kept_at old key) (all key))
 told_fits old (ask.Accept key ballot era ride state) (tell.Promised accepted) new all row = absurd row
 told_fits old (ask.Accept key ballot era ride state) (tell.Probed promise accepted) new all row = absurd row
+told_fits old (ask.Accept key ballot era ride state) (tell.Listed told keys more) new all row = absurd row
 told_fits old (ask.Ages tag least) (tell.Met seen) new all row = absurd row
 told_fits old (ask.Ages tag least) (tell.Promised accepted) new all row = absurd row
 told_fits old (ask.Ages tag least) (tell.Probed promise accepted) new all row = absurd row
+told_fits old (ask.Ages tag least) (tell.Listed told keys more) new all row = absurd row
 told_fits old (ask.Remove key tomb) (tell.Met seen) new all row = absurd row
 told_fits old (ask.Remove key tomb) (tell.Promised accepted) new all row = absurd row
 told_fits old (ask.Remove key tomb) (tell.Probed promise accepted) new all row = absurd row
+told_fits old (ask.Remove key tomb) (tell.Listed told keys more) new all row = absurd row
 told_fits old (ask.List tag after) (tell.Met seen) new all row = absurd row
 told_fits old (ask.List tag after) (tell.Promised accepted) new all row = absurd row
 told_fits old (ask.List tag after) (tell.Probed promise accepted) new all row = absurd row
+told_fits old (ask.List tag after) (tell.Listed told keys more) new all row = listed_fits old.slots after told keys more row.0 row.1 row.2.0
 told_fits old (ask.Probe tag key) (tell.Met seen) new all row = absurd row
 told_fits old (ask.Probe tag key) (tell.Promised accepted) new all row = absurd row
-told_fits old (ask.Probe tag key) (tell.Probed promise accepted) new all row =
-    (subst FitsBallot (sym row.0) (promise_fits (kept_at old key) (all key)),
-    subst (λ (o : Option Accepted). IfSome o (λ a. FitsBallot a.ballot)) (sym row.1) (accepted_fits (kept_at old key) (all key)))
+told_fits old (ask.Probe tag key) (tell.Probed promise accepted) new all row = (
+  subst FitsBallot (sym row.0) (promise_fits (kept_at old key) (all key)),
+  subst (λ (o : Option Accepted). IfSome o (λ a. FitsBallot a.ballot)) (sym row.1) (accepted_fits (kept_at old key) (all key)),
+)
 told_fits old question tell.Accepted new all row = tt
 told_fits old question (tell.Aged least) new all row = tt
 told_fits old question tell.Full new all row = tt
 told_fits old question tell.AgesSet new all row = tt
 told_fits old question tell.Removed new all row = tt
 told_fits old question tell.Kept new all row = tt
-told_fits old question (tell.Listed after keys more) new all row = tt
+told_fits old (ask.Probe tag key) (tell.Listed told keys more) new all row = absurd row

@@ -1,5 +1,5 @@
 -- The slots of one acceptor, as a finite map from the bytes of keys.
-use Rattle.std.specs.Prelude.{◌≡◌, ℕ, ◌≤◌, Bool, true, List, filter, Option, None, Some}
+use Rattle.std.specs.Prelude.{◌≡◌, ℕ, ◌≤◌, ◌&&◌, Bool, true, List, [], ◌∷◌, filter, Option, None, Some}
 use Rattle.std.specs.Ordering.{nat_cmp, is_lt}
 use Rattle.std.specs.Cmp.Lexicographic.{slice_cmp}
 use Rattle.std.specs.FinMap as map
@@ -43,3 +43,8 @@ is_above (Some after) key = is_lt (slice_cmp nat_cmp after key)
 -- the keys above this one that have a slot, in the order of their bytes
 abbrev pub keys_above : Slots → Option (List ℕ) → List (List ℕ)
 keys_above slots after = filter (is_above after) (map.keys slots)
+
+-- whether keys come one after another in the order of their bytes, all above this one
+abbrev pub rises : Option (List ℕ) → List (List ℕ) → Bool
+rises after [] = true
+rises after (key ∷ keys) = is_above after key && rises (Some key) keys

@@ -16,7 +16,8 @@ use Rattle.cas_slot.specs.declared.slot.Accepted.{Accepted}
 use Rattle.cas_wire.specs.declared.kinds.TellKind.{TellKind}
 use Rattle.cas_wire.specs.declared.kinds.TellKind.TheVariants as kind
 use Rattle.cas_wire.specs.declared.reply.ReplyHead.{ReplyHead}
-use Rattle.cas_wire.specs.Frame.{rises, listing_spelling, tell_spelling, reply_spelling, FitsListing, FitsTell, FitsReply}
+use Rattle.cas_slot.specs.Slots.{rises}
+use Rattle.cas_wire.specs.Frame.{listing_spelling, tell_spelling, reply_spelling, FitsListing, FitsTell, FitsReply}
 use Rattle.cas_wire.specs.FrameReading.{then_at, where_at, list_at, named_at, is_format, is_acceptor, is_count, keys_at, is_listing, listing_at, promised_of, met_of, aged_of, listed_of, probed_of, plain_at, tell_at, reply_head_of, is_head, reply_head_at, reply_of, reply_at}
 use Rattle.cas_wire.specs.Kinds.{named, kinds, kind_byte, kind_of, phase_byte, may_get, flags, flag_byte}
 use Rattle.cas_wire.specs.Reading.{Reading, ◌>>=◌, pair_at, byte_where, number_at, is_proposer, key_at, ballot_at, accepted_at, optional_at}

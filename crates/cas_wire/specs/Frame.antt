@@ -11,9 +11,9 @@ use Rattle.cas_slot.specs.declared.message.Request.{Request}
 use Rattle.cas_slot.specs.declared.message.Tell.{Tell}
 use Rattle.cas_slot.specs.declared.message.Tell.TheVariants as tell
 use Rattle.cas_slot.specs.declared.message.Reply.{Reply}
-use Rattle.cas_slot.specs.Limits.{AskBallotsFit, TellBallotsFit}
+use Rattle.cas_slot.specs.Limits.{AskBallotsFit, TellFits}
 use Rattle.cas_slot.specs.Message.{phase_of}
-use Rattle.cas_slot.specs.Slots.{is_above}
+use Rattle.cas_slot.specs.Slots.{rises}
 use Rattle.cas_wire.specs.Kinds.{phase_byte, kind_byte, kind_of, may_get, flag_byte}
 use Rattle.cas_wire.specs.Spelling.{key_spelling, ballot_spelling, state_spelling, accepted_spelling, optional_spelling, FitsState, FitsAccepted}
 
@@ -54,11 +54,6 @@ pub record IsRequest (bytes : List ℕ) (request : Request) : Type 0 where
   pub spelled : bytes ≡ request_spelling request
 
 -- ---- replies
-
--- the keys come one after another in the order of their bytes, all above this one
-abbrev pub rises : Option (List ℕ) → List (List ℕ) → Bool
-rises after [] = true
-rises after (key ∷ keys) = is_above after key && rises (Some key) keys
 
 -- the key gone on after, the number of keys, the keys, and whether more follow
 unfoldable pub listing_spelling : Option (List ℕ) → List (List ℕ) → Bool → List ℕ
@@ -120,13 +115,6 @@ pub record IsReply (bytes : List ℕ) (reply : Reply) : Type 0 where
 pub record CanBeAsked (request : Request) : Type 0 where
   pub from : request.from ≤ 16
   pub ballots : AskBallotsFit request.ask
-
-abbrev pub CanBeListed : Option (List ℕ) → List (List ℕ) → Bool → Type 0
-CanBeListed after keys more = IsTrue (rises after keys) × (IsTrue more → length keys ≡ 4)
-
-abbrev pub TellFits : Tell → Type 0
-TellFits (tell.Listed after keys more) = CanBeListed after keys more
-TellFits answer = TellBallotsFit answer
 
 pub record CanBeTold (reply : Reply) : Type 0 where
   pub to : reply.to ≤ 16

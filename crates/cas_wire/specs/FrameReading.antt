@@ -12,7 +12,7 @@ use Rattle.cas_slot.specs.declared.message.Request.{Request}
 use Rattle.cas_slot.specs.declared.message.Tell.{Tell}
 use Rattle.cas_slot.specs.declared.message.Tell.TheVariants as tell
 use Rattle.cas_slot.specs.declared.message.Reply.{Reply}
-use Rattle.cas_wire.specs.Frame.{rises}
+use Rattle.cas_slot.specs.Slots.{rises}
 use Rattle.cas_wire.specs.Kinds.{named, phases, kinds, flags, may_get}
 use Rattle.cas_wire.specs.Reading.{Reading, ◌>>=◌, pair_at, made_at, byte_where, number_at, is_proposer, key_at, ballot_at, state_at, accepted_at, optional_at}
 use Rattle.cas_wire.specs.declared.kinds.TellKind.{TellKind}

@@ -4,7 +4,9 @@ ghost use Rattle.std.specs.Prelude.{◌≡◌, ℕ, ◌+◌, ◌≤◌, List, []
 ghost use Rattle.std.specs.Option.{option_copied};
 ghost use Rattle.cas_slot.specs.declared.message.Reply.{Reply};
 ghost use Rattle.cas_slot.specs.Slots.{is_above};
-ghost use Rattle.cas_wire.specs.Frame.{rises, IsReply, CanBeListed, CanBeTold, TellFits, FitsListing, FitsTell, FitsReply, listing_spelling, tell_spelling, reply_spelling};
+ghost use Rattle.cas_slot.specs.Limits.{CanBeListed, TellFits};
+ghost use Rattle.cas_slot.specs.Slots.{rises};
+ghost use Rattle.cas_wire.specs.Frame.{IsReply, CanBeTold, FitsListing, FitsTell, FitsReply, listing_spelling, tell_spelling, reply_spelling};
 ghost use Rattle.cas_wire.specs.FrameReading.{is_count, is_listing, list_at, named_at, keys_at, listing_at, tell_at, reply_head_at, reply_at};
 ghost use Rattle.cas_wire.specs.Kinds.{kinds, flags};
 ghost use Rattle.cas_wire.specs.Part.{Gives};
