@@ -1,6 +1,7 @@
 mod Frames
 mod Growing
 mod Leaving
+pub mod Lengths
 mod Placing
 mod Recovering
 mod Rows

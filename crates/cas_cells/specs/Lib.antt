@@ -3,6 +3,7 @@ pub mod Fault
 pub mod FaultOf
 pub mod Format
 pub mod Held
+pub mod Length
 pub mod Reading
 pub mod Torn
 pub mod UnderWay

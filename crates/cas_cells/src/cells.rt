@@ -4,6 +4,7 @@ ghost use Rattle.std.specs.Option.{option_copied};
 ghost use Rattle.cas_disk.specs.Disk.{LeavesOnly, Only, Elapses};
 ghost use Rattle.cas_cells.specs.Fault.{HasCellCause, IsFaultOfDisk};
 ghost use Rattle.cas_cells.specs.Format.{count_in, count_told, is_head, head_in, with_count, grown, foreign_at, payload_place, IsPayload, StandsFor, IsBeforeOrAfter};
+ghost use Rattle.cas_cells.specs.Length.{NotLonger};
 ghost use Rattle.cas_cells.specs.Reading.{OnlyRead};
 ghost use Rattle.cas_cells.specs.Held.{payload_held, IsBlank};
 ghost use Rattle.cas_cells.specs.declared.cell.Cell.{Cell};
@@ -23,6 +24,9 @@ use std::alloc::{AllocError, Global};
 /// A cell is changed in three steps, `close_spare`, `write_spare` and `open_spare`. Until the third a crash leaves the old
 /// payload, within it the old or the new, and after its `Ok` the new. The cells are formatted or recovered before they are used,
 /// and again after `DiskFault`.
+///
+/// Only `format` and `grow` may make the disk longer, and no longer than to the end of the last cell: of cell 0, and of the cell that
+/// `grow` appends. That holds where the call fails too, and of what a crash at any moment leaves.
 #[derive(Drop)]
 pub struct Cells<D: Disk> {
     disk: D,
@@ -91,6 +95,7 @@ impl<D: Disk> Cells<D> {
         ensures stands { OnOk result (Stands D.tells D.seen D.may_leave self.new) }
         ensures after_no_memory { IsErrOf result CellFault.NoMemory → Stands D.tells D.seen D.may_leave self.new }
         ensures any_moment { D.tells → LeavesOnly D.moment D.left_since (disk_of self.old) (disk_of self.new) (StandsFor (cells_of self.old)) }
+        ensures length { D.tells → NotLonger D.moment D.left_since D.may_leave (disk_of self.old) (disk_of self.new) 0 }
         ensures cause { IsFaultOfDisk result (D.fault_count (disk_of self.old)) (D.fault_count (disk_of self.new)) }
     {
         let held = &mut self.cells[cell as usize];
@@ -116,6 +121,7 @@ impl<D: Disk> Cells<D> {
         ensures stands { OnOk result (Stands D.tells D.seen D.may_leave self.new) }
         ensures after_no_memory { IsErrOf result CellFault.NoMemory → Stands D.tells D.seen D.may_leave self.new }
         ensures any_moment { D.tells → LeavesOnly D.moment D.left_since (disk_of self.old) (disk_of self.new) (StandsFor (cells_of self.old)) }
+        ensures length { D.tells → NotLonger D.moment D.left_since D.may_leave (disk_of self.old) (disk_of self.new) 0 }
         ensures cause { IsFaultOfDisk result (D.fault_count (disk_of self.old)) (D.fault_count (disk_of self.new)) }
     {
         let held = &self.cells[cell as usize];
@@ -143,6 +149,7 @@ impl<D: Disk> Cells<D> {
         ensures stands { OnOk result (Stands D.tells D.seen D.may_leave self.new) }
         ensures after_no_memory { IsErrOf result CellFault.NoMemory → Stands D.tells D.seen D.may_leave self.new }
         ensures any_moment { D.tells → LeavesOnly D.moment D.left_since (disk_of self.old) (disk_of self.new) (IsBeforeOrAfter (cells_of self.old) (slice_set (cells_of self.old) cell (Some (staged_of self.old)))) }
+        ensures length { D.tells → NotLonger D.moment D.left_since D.may_leave (disk_of self.old) (disk_of self.new) 0 }
         ensures cause { IsFaultOfDisk result (D.fault_count (disk_of self.old)) (D.fault_count (disk_of self.new)) }
     {
         let mut staged = take_staged(&mut self.change, cell);
@@ -177,6 +184,7 @@ impl<D: Disk> Cells<D> {
         ensures stands { OnOk result (Stands D.tells D.seen D.may_leave self.new) }
         ensures after_no_memory { IsErrOf result CellFault.NoMemory → Stands D.tells D.seen D.may_leave self.new }
         ensures any_moment { D.tells → LeavesOnly D.moment D.left_since (disk_of self.old) (disk_of self.new) (IsBeforeOrAfter (cells_of self.old) (grown (cells_of self.old))) }
+        ensures length { D.tells → NotLonger D.moment D.left_since D.may_leave (disk_of self.old) (disk_of self.new) (1024 * (count_in (cells_of self.old) + 2)) }
         ensures cause { IsFaultOfDisk result (D.fault_count (disk_of self.old)) (D.fault_count (disk_of self.new)) }
     {
         let count = count_of(&self.cells) + 1;
@@ -202,6 +210,7 @@ impl<D: Disk> Cells<D> {
         ensures cells { OnErr result (cells_of self.new ≡ cells_of self.old) }
         ensures stands { OnOk result (Stands D.tells D.seen D.may_leave self.new) }
         ensures read { D.tells → OnlyRead D.moment D.left_since D.seen D.may_leave (disk_of self.old) (disk_of self.new) }
+        ensures length { D.tells → NotLonger D.moment D.left_since D.may_leave (disk_of self.old) (disk_of self.new) 0 }
         ensures cause { HasCellCause result (D.fault_count (disk_of self.old)) (D.fault_count (disk_of self.new)) }
     {
         let cells = read_row(&mut self.disk, self.alloc)?;
@@ -220,6 +229,7 @@ impl<D: Disk> Cells<D> {
         ensures same { OnErr result (change_of self.new ≡ change_of self.old) }
         ensures cells { OnErr result (cells_of self.new ≡ cells_of self.old) }
         ensures stands { OnOk result (Stands D.tells D.seen D.may_leave self.new) }
+        ensures length { D.tells → NotLonger D.moment D.left_since D.may_leave (disk_of self.old) (disk_of self.new) 1024 }
         ensures cause { IsFaultOfDisk result (D.fault_count (disk_of self.old)) (D.fault_count (disk_of self.new)) }
     {
         let payload = payload.to_vec(self.alloc)?;
@@ -238,6 +248,7 @@ impl<D: Disk> Cells<D> {
         ensures image { D.tells → D.may_leave (disk_of self.old) (D.seen (disk_of self.new)) }
         ensures settled { D.tells → Only (D.seen (disk_of self.new)) (D.may_leave (disk_of self.new)) }
         ensures time { D.tells → Elapses (D.moment (disk_of self.old)) (D.moment (disk_of self.new)) (D.left_since (disk_of self.old)) (D.left_since (disk_of self.new)) (D.may_leave (disk_of self.new)) }
+        ensures length { D.tells → NotLonger D.moment D.left_since D.may_leave (disk_of self.old) (disk_of self.new) 0 }
         ensures cells { cells_of self.new ≡ cells_of self.old }
         ensures change { change_of self.new ≡ change_of self.old }
         ensures never_falls { D.fault_count (disk_of self.old) ≤ D.fault_count (disk_of self.new) }

@@ -5,6 +5,7 @@ ghost use Rattle.cas_disk.specs.declared.disk.DiskFault.TheVariants.{NoMemory};
 ghost use Rattle.cas_cells.specs.Format.{frame_at};
 ghost use Rattle.cas_cells.specs.Torn.{Others, GateTorn, TailTorn, SameBelow};
 ghost use Rattle.cas_cells.specs.Held.{IsShut};
+ghost use Rattle.cas_cells.specs.Length.{NotLonger};
 
 use cas_disk::{Disk, DiskFault};
 
@@ -14,6 +15,7 @@ pub fn put<D: Disk>(disk: &mut D, at: u64, bytes: &[u8]) -> Result<(), DiskFault
     ensures held { D.tells → OnOk result (Holds (D.seen disk.old) at bytes.now (D.seen disk.new)) }
     ensures durable { D.tells → OnOk result (Only (D.seen disk.new) (D.may_leave disk.new)) }
     ensures any_moment { D.tells → Only (D.seen disk.old) (D.may_leave disk.old) → LeavesOnly D.moment D.left_since disk.old disk.new (Torn at (length bytes.now) (D.seen disk.old)) }
+    ensures length { D.tells → NotLonger D.moment D.left_since D.may_leave disk.old disk.new (at + length bytes.now) }
     ensures unchanged { D.tells → IsErrOf result NoMemory → Keeps (D.seen disk.old) (D.seen disk.new) (D.may_leave disk.old) (D.may_leave disk.new) }
     ensures cause { HasCause result (D.fault_count disk.old) (D.fault_count disk.new) }
 {
@@ -61,6 +63,7 @@ pub fn write_blank<D: Disk>(disk: &mut D, index: u32) -> Result<(), DiskFault>
     ensures below { D.tells → OnOk result (SameBelow (2 * index) (D.seen disk.old) (D.seen disk.new)) }
     ensures durable { D.tells → OnOk result (Only (D.seen disk.new) (D.may_leave disk.new)) }
     ensures any_moment { D.tells → Only (D.seen disk.old) (D.may_leave disk.old) → LeavesOnly D.moment D.left_since disk.old disk.new (SameBelow (2 * index) (D.seen disk.old)) }
+    ensures length { D.tells → NotLonger D.moment D.left_since D.may_leave disk.old disk.new (1024 * (index + 1)) }
     ensures unchanged { D.tells → IsErrOf result NoMemory → Keeps (D.seen disk.old) (D.seen disk.new) (D.may_leave disk.old) (D.may_leave disk.new) }
     ensures cause { HasCause result (D.fault_count disk.old) (D.fault_count disk.new) }
 {
@@ -77,6 +80,7 @@ fn write_zeros<D: Disk>(disk: &mut D, index: u32, zeros: &[u8]) -> Result<(), Di
     ensures below { D.tells → OnOk result (SameBelow (2 * index) (D.seen disk.old) (D.seen disk.new)) }
     ensures durable { D.tells → OnOk result (Only (D.seen disk.new) (D.may_leave disk.new)) }
     ensures any_moment { D.tells → Only (D.seen disk.old) (D.may_leave disk.old) → LeavesOnly D.moment D.left_since disk.old disk.new (SameBelow (2 * index) (D.seen disk.old)) }
+    ensures length { D.tells → NotLonger D.moment D.left_since D.may_leave disk.old disk.new (1024 * (index + 1)) }
     ensures unchanged { D.tells → IsErrOf result NoMemory → Keeps (D.seen disk.old) (D.seen disk.new) (D.may_leave disk.old) (D.may_leave disk.new) }
     ensures cause { HasCause result (D.fault_count disk.old) (D.fault_count disk.new) }
 {

@@ -8,6 +8,7 @@ use Rattle.cas_disk.specs.declared.disk.DiskFault.{DiskFault}
 use Rattle.cas_cells.specs.declared.cell.Cell.{Cell}
 use Rattle.cas_cells.proofs.Rows.{disk_set, get_set_same}
 use Rattle.cas_cells.proofs.Using.{told_no_memory, within_row, at_index, set_own, view_same, leaves_stand, stands_kept}
+use Rattle.cas_cells.proofs.Lengths.{step_no_longer}
 use Rattle.cas_cells.proofs.cells.Cells.close_spare.Goals as goal
 
 pub shut_spare-requires-clause-held : goal.shut_spare-requires-clause-held
@@ -68,3 +69,23 @@ returns-clause-stands g c =
           let same : cell' ≡ cell'' = cc in (subst (λ (m : Cell). m.spare_open ≡ false) same c.in_ok-shut_spare.ensures.shut.spare, tt);
       durable = λ tells. c.in_ok-shut_spare.ensures.durable tells;
     }
+
+pub returns-in_err-shut_spare-clause-length : goal.returns-in_err-shut_spare-clause-length
+returns-in_err-shut_spare-clause-length g c tells =
+    let s = c.requires.stands in
+    let disk = c.args.self.now.disk in
+    let i = c.args.cell in
+    let cell = c.index_mut-held.result.now in
+    let is = at_index c.args.self.now.cells.items i cell s.row c.requires.within c.index_mut-held.ensures.value in
+    step_no_longer g.D.Disk.moment g.D.Disk.left_since g.D.Disk.may_leave disk c.shut_spare.new.disk (g.D.Disk.seen disk) i cell (payload_held cell)
+    (g.met.D.Disk.seen_may_stay disk tells) (s.on_disk tells i cell is) (c.shut_spare.ensures.any_moment tells)
+
+pub returns-clause-length : goal.returns-clause-length
+returns-clause-length g c tells =
+    let s = c.requires.stands in
+    let disk = c.args.self.now.disk in
+    let i = c.args.cell in
+    let cell = c.index_mut-held.result.now in
+    let is = at_index c.args.self.now.cells.items i cell s.row c.requires.within c.index_mut-held.ensures.value in
+    step_no_longer g.D.Disk.moment g.D.Disk.left_since g.D.Disk.may_leave disk c.shut_spare.new.disk (g.D.Disk.seen disk) i cell (payload_held cell)
+    (g.met.D.Disk.seen_may_stay disk tells) (s.on_disk tells i cell is) (c.shut_spare.ensures.any_moment tells)

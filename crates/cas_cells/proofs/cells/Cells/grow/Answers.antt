@@ -13,6 +13,7 @@ use Rattle.cas_cells.specs.declared.cell.Cell.{Cell}
 use Rattle.cas_cells.proofs.Rows.{disk_set, map_set, frame_of_apart}
 use Rattle.cas_cells.proofs.Using.{told_no_memory, row_length, at_index, view_same, stands_kept, stands_now, blank_stands}
 use Rattle.cas_cells.proofs.Growing.{room_behind, on_below, below_stands, disk_push, grown_is, grown_row, growing_stands, blank_behind, frame_below, still_under_way}
+use Rattle.cas_cells.proofs.Lengths.{within_more, then_no_longer, opening_no_longer}
 use Rattle.cas_cells.proofs.cells.Cells.grow.Goals as goal
 
 pub returns-in_err-head-clause-any_moment : goal.returns-in_err-head-clause-any_moment
@@ -206,3 +207,43 @@ returns-clause-stands g c =
       under_way = λ tells. tt;
       durable = λ tells. c.in_ok-change_cell.ensures.durable tells;
     }
+
+pub returns-in_err-change_cell-clause-length : goal.returns-in_err-change_cell-clause-length
+returns-in_err-change_cell-clause-length g c tells =
+    let s = c.requires.stands in
+    let cells = c.args.self.now.cells.items in
+    let view = map payload_held cells in
+    let disk = c.args.self.now.disk in
+    let mid = c.write_blank.new.disk in
+    let new = c.change_cell.new.disk in
+    let count_is : c.count_of-count.result ≡ count_in view = c.count_of-count.ensures ∙ ap (λ (l : List Cell). count_in (map payload_held l)) c.deref.ensures.value in
+    let index : c.count_of-count.result + 1 ≡ length cells = omega (arith, count_is, row_length view s.row, length-map cells payload_held) in
+    let cell = c.index_mut.result.now in
+    let is : slice_get cells 0 ≡ Some cell = at_index cells 0 cell s.row (omega arith) (subst (λ (l : List Cell). cell ≡ get_or l 0 cell) c.reserve.ensures.items c.index_mut.ensures.value) in
+    let held = on_below cells (g.D.Disk.seen disk) (g.D.Disk.seen mid) (c.count_of-count.result + 1) (omega (arith, index)) (s.on_disk tells) (c.in_ok-write_blank.ensures.below tells) 0 cell is in
+    then_no_longer g.D.Disk.moment g.D.Disk.left_since g.D.Disk.may_leave disk mid new (1024 * (count_in view + 2))
+    (λ image later left. g.met.D.Disk.counts_now mid (g.D.Disk.moment disk) image tells later left)
+    (within_more g.D.Disk.moment g.D.Disk.left_since g.D.Disk.may_leave disk mid (1024 * (c.count_of-count.result + 1 + 1)) (1024 * (count_in view + 2)) (omega (arith, count_is)) (c.write_blank.ensures.length tells))
+    (within_more g.D.Disk.moment g.D.Disk.left_since g.D.Disk.may_leave mid new 0 (1024 * (count_in view + 2)) (omega arith)
+    (opening_no_longer g.D.Disk.moment g.D.Disk.left_since g.D.Disk.may_leave mid new (g.D.Disk.seen mid) 0 cell (payload_held cell) c.in_ok-head.head.items
+    (g.met.D.Disk.seen_may_stay mid tells) held (c.change_cell.ensures.any_moment tells)))
+
+pub returns-clause-length : goal.returns-clause-length
+returns-clause-length g c tells =
+    let s = c.requires.stands in
+    let cells = c.args.self.now.cells.items in
+    let view = map payload_held cells in
+    let disk = c.args.self.now.disk in
+    let mid = c.write_blank.new.disk in
+    let new = c.change_cell.new.disk in
+    let count_is : c.count_of-count.result ≡ count_in view = c.count_of-count.ensures ∙ ap (λ (l : List Cell). count_in (map payload_held l)) c.deref.ensures.value in
+    let index : c.count_of-count.result + 1 ≡ length cells = omega (arith, count_is, row_length view s.row, length-map cells payload_held) in
+    let cell = c.index_mut.result.now in
+    let is : slice_get cells 0 ≡ Some cell = at_index cells 0 cell s.row (omega arith) (subst (λ (l : List Cell). cell ≡ get_or l 0 cell) c.reserve.ensures.items c.index_mut.ensures.value) in
+    let held = on_below cells (g.D.Disk.seen disk) (g.D.Disk.seen mid) (c.count_of-count.result + 1) (omega (arith, index)) (s.on_disk tells) (c.in_ok-write_blank.ensures.below tells) 0 cell is in
+    then_no_longer g.D.Disk.moment g.D.Disk.left_since g.D.Disk.may_leave disk mid new (1024 * (count_in view + 2))
+    (λ image later left. g.met.D.Disk.counts_now mid (g.D.Disk.moment disk) image tells later left)
+    (within_more g.D.Disk.moment g.D.Disk.left_since g.D.Disk.may_leave disk mid (1024 * (c.count_of-count.result + 1 + 1)) (1024 * (count_in view + 2)) (omega (arith, count_is)) (c.write_blank.ensures.length tells))
+    (within_more g.D.Disk.moment g.D.Disk.left_since g.D.Disk.may_leave mid new 0 (1024 * (count_in view + 2)) (omega arith)
+    (opening_no_longer g.D.Disk.moment g.D.Disk.left_since g.D.Disk.may_leave mid new (g.D.Disk.seen mid) 0 cell (payload_held cell) c.in_ok-head.head.items
+    (g.met.D.Disk.seen_may_stay mid tells) held (c.change_cell.ensures.any_moment tells)))

@@ -12,6 +12,7 @@ use Rattle.cas_cells.specs.declared.change.Change.{Change}
 use Rattle.cas_cells.specs.declared.fault.CellFault.TheVariants.{NoMemory}
 use Rattle.cas_cells.proofs.Rows.{disk_set, disk_kept, map_set}
 use Rattle.cas_cells.proofs.Using.{no_memory_of_disk, within_row, at_index, may_open_stands, row_changed, same_cell}
+use Rattle.cas_cells.proofs.Lengths.{opening_no_longer}
 use Rattle.cas_cells.proofs.cells.Cells.open_spare.Goals as goal
 
 pub open_spare-answer-requires-clause-held : goal.open_spare-answer-requires-clause-held
@@ -133,3 +134,23 @@ returns-clause-stands g c =
       under_way = λ tells. subst (λ (ch : Option Change). IsUnderWay new (set cells i c.turn.new.cell) ch) (sym c.take_staged-staged.ensures.gone) tt;
       durable = λ tells. c.in_default.ensures.durable tells;
     }
+
+pub returns-in-Err-clause-length : goal.returns-in-Err-clause-length
+returns-in-Err-clause-length g c tells =
+    let s = c.requires.stands in
+    let disk = c.args.self.now.disk in
+    let i = c.args.cell in
+    let cell = c.index-held.result.now in
+    let is = at_index c.args.self.now.cells.items i cell s.row c.requires.within c.index-held.ensures in
+    opening_no_longer g.D.Disk.moment g.D.Disk.left_since g.D.Disk.may_leave disk c.open_spare-answer.new.disk (g.D.Disk.seen disk) i cell (payload_held cell) c.deref.result.now
+    (g.met.D.Disk.seen_may_stay disk tells) (s.on_disk tells i cell is) (c.open_spare-answer.ensures.any_moment tells)
+
+pub returns-clause-length : goal.returns-clause-length
+returns-clause-length g c tells =
+    let s = c.requires.stands in
+    let disk = c.args.self.now.disk in
+    let i = c.args.cell in
+    let cell = c.index-held.result.now in
+    let is = at_index c.args.self.now.cells.items i cell s.row c.requires.within c.index-held.ensures in
+    opening_no_longer g.D.Disk.moment g.D.Disk.left_since g.D.Disk.may_leave disk c.open_spare-answer.new.disk (g.D.Disk.seen disk) i cell (payload_held cell) c.deref.result.now
+    (g.met.D.Disk.seen_may_stay disk tells) (s.on_disk tells i cell is) (c.open_spare-answer.ensures.any_moment tells)

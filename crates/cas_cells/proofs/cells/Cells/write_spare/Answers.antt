@@ -8,6 +8,7 @@ use Rattle.cas_cells.specs.Cells.{cells_of}
 use Rattle.cas_cells.specs.declared.cell.Cell.{Cell}
 use Rattle.cas_cells.proofs.Rows.{disk_kept}
 use Rattle.cas_cells.proofs.Using.{told_no_memory, at_index, leaves_stand, stands_kept, stands_now, shut_under_way, same_cell}
+use Rattle.cas_cells.proofs.Lengths.{step_no_longer}
 use Rattle.cas_cells.proofs.cells.Cells.write_spare.Goals as goal
 
 pub returns-in_err-tail-clause-any_moment : goal.returns-in_err-tail-clause-any_moment
@@ -82,3 +83,23 @@ returns-clause-stands g c =
           subst (λ (m : Cell). (m.spare_open ≡ false) × (true ≡ true → HoldsTail new c.args.cell m c.in_ok-payload.payload.items)) same (shut, λ _. staged);
       durable = λ tells. c.in_ok-write_spare.ensures.durable tells;
     }
+
+pub returns-in_err-write_spare-clause-length : goal.returns-in_err-write_spare-clause-length
+returns-in_err-write_spare-clause-length g c tells =
+    let s = c.requires.stands in
+    let disk = c.args.self.now.disk in
+    let i = c.args.cell in
+    let cell = c.index-held.result.now in
+    let is = at_index c.args.self.now.cells.items i cell s.row c.requires.within c.index-held.ensures in
+    step_no_longer g.D.Disk.moment g.D.Disk.left_since g.D.Disk.may_leave disk c.write_spare.new.disk (g.D.Disk.seen disk) i cell (payload_held cell)
+    (g.met.D.Disk.seen_may_stay disk tells) (s.on_disk tells i cell is) (c.write_spare.ensures.any_moment tells)
+
+pub returns-clause-length : goal.returns-clause-length
+returns-clause-length g c tells =
+    let s = c.requires.stands in
+    let disk = c.args.self.now.disk in
+    let i = c.args.cell in
+    let cell = c.index-held.result.now in
+    let is = at_index c.args.self.now.cells.items i cell s.row c.requires.within c.index-held.ensures in
+    step_no_longer g.D.Disk.moment g.D.Disk.left_since g.D.Disk.may_leave disk c.write_spare.new.disk (g.D.Disk.seen disk) i cell (payload_held cell)
+    (g.met.D.Disk.seen_may_stay disk tells) (s.on_disk tells i cell is) (c.write_spare.ensures.any_moment tells)
