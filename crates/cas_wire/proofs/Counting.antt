@@ -1,5 +1,5 @@
 -- How many values are read.
-use Rattle.std.proofs.Common.{◌≡◌, ℕ, zero, suc, ◌≤◌, List, [], ◌∷◌, length, Ok, Err, refl, sym, ap, ◌∙◌, arith}
+use Rattle.std.proofs.Common.{◌≡◌, ℕ, zero, suc, ◌≤◌, List, [], ◌∷◌, length, Ok, sym, ap, ◌∙◌, arith}
 use Rattle.std.proofs.lemmas.Bool.{leb-true}
 use Rattle.cas_wire.specs.FrameReading.{list_at, is_count}
 use Rattle.cas_wire.specs.Reading.{Reading, ◌>>=◌, byte_where, key_at}

@@ -16,11 +16,11 @@ use Rattle.cas_change.specs.declared.state.State.TheVariants.{Empty, Held}
 use Rattle.cas_change.specs.declared.state.Body.TheVariants.{Number, Text}
 use Rattle.cas_change.proofs.Keys.{key_bytes, no_bad_byte}
 use Rattle.cas_slot.specs.declared.slot.Accepted.{Accepted}
-use Rattle.cas_wire.specs.Reading.{Reading, ◌>>=◌, pair_at, byte_where, number_at, some_at, stopped_at, rise_at, is_key_length, key_bytes_at, key_at, most_counter, counter_at, is_proposer, ballot_of, ballot_at, most_length, text_at, number_state, text_state, state_at, accepted_of, accepted_at, optional_at}
+use Rattle.cas_wire.specs.Reading.{Reading, ◌>>=◌, pair_at, byte_where, number_at, some_at, stopped_at, is_key_length, key_bytes_at, key_at, most_counter, counter_at, is_proposer, ballot_of, ballot_at, most_length, text_at, number_state, text_state, state_at, accepted_of, accepted_at, optional_at}
 use Rattle.cas_wire.specs.Spelling.{key_spelling, ballot_spelling, state_spelling, accepted_spelling, optional_spelling, FitsState, FitsAccepted}
 use Rattle.cas_wire.proofs.Limited.{IsLimit, limited_at, limited_format}
 use Rattle.cas_wire.proofs.Limits.{IsBytes-high_first, value-of_8, value-of_2}
-use Rattle.cas_wire.proofs.Formats.{IsBytes, IsBytes-rest, IsBytes-take, bind_ok, bind_err, ok_is, left_is, not_err, guard_err, stopped_ok, Takes, Takes-then, rest_shorter, IsFormat, byte_format, wide16, wide32, wide64, number_takes, number_again, number_within, number_format, some_takes, some_again, pair_format, made_format, optional_format}
+use Rattle.cas_wire.proofs.Formats.{IsBytes, IsBytes-rest, IsBytes-take, bind_ok, bind_err, ok_is, left_is, not_err, guard_err, stopped_ok, Takes, Takes-then, rest_shorter, IsFormat, byte_format, wide16, wide32, wide64, number_format, some_takes, some_again, pair_format, made_format, optional_format}
 
 -- ---- keys
 

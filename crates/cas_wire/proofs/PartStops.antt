@@ -1,12 +1,11 @@
 -- Where reading a part stops.
-use Rattle.std.proofs.Common.{◌≡◌, ℕ, zero, suc, ◌+◌, ◌-◌, ◌^◌, lit<, lit≤, ◌<◌, ◌≤◌, Bool, true, false, cond, not, ltb, leb, List, [], ◌∷◌, ◌++◌, length, get_or, take, drop, Option, Some, None, Ok, Err, refl, sym, ap, subst, ◌∙◌, append_assoc, arith, inl, inr}
-use Rattle.std.specs.Prelude.{◌⊎◌, IfSome, replicate, position}
+use Rattle.std.proofs.Common.{◌≡◌, ℕ, zero, suc, ◌-◌, ◌^◌, lit<, lit≤, ◌<◌, ◌≤◌, Bool, true, false, cond, not, ltb, leb, List, [], ◌∷◌, ◌++◌, length, get_or, take, drop, Some, None, Ok, Err, refl, sym, ap, subst, ◌∙◌, arith, inl, inr}
+use Rattle.std.specs.Prelude.{IfSome, replicate}
 use Rattle.std.specs.List.{All}
-use Rattle.std.specs.Int.{w16, w32, w64, byte_len, to_be_bytes, from_be_bytes, cast_signed, cast_unsigned}
+use Rattle.std.specs.Int.{w16, w32, w64, to_be_bytes, cast_unsigned}
 use Rattle.std.proofs.lemmas.Bool.{ltb-true, le-leb, leb-true}
 use Rattle.std.proofs.lemmas.Int.{of_z-to_z}
-use Rattle.std.proofs.lemmas.List.{append-nil, length-append, length-replicate, length-take, take_all, take-append-drop, get_or-take, get_or-replicate}
-use Rattle.std.proofs.lemmas.Grind.{common_steps}
+use Rattle.std.proofs.lemmas.List.{length-append, length-replicate, length-take, take_all, take-append-drop, get_or-take, get_or-replicate}
 use Rattle.std.proofs.lemmas.List.Elements.{All-append, All-nil}
 use Rattle.std.proofs.lemmas.List.Quantifiers.{position-Some}
 use Rattle.std.proofs.Math.Facts.{sfits_to_z}
@@ -20,11 +19,11 @@ use Rattle.cas_change.specs.declared.state.State.TheVariants.{Empty, Held}
 use Rattle.cas_change.specs.declared.state.Body.TheVariants.{Number, Text}
 use Rattle.cas_change.proofs.Keys.{passing_byte, byte_passing, key_bytes}
 use Rattle.cas_slot.specs.declared.slot.Accepted.{Accepted}
-use Rattle.cas_wire.specs.Reading.{Reading, ◌>>=◌, pair_at, byte_where, number_at, some_at, stopped_at, rise_at, is_key_length, key_bytes_at, key_at, counter_at, is_proposer, ballot_of, ballot_at, most_length, text_at, number_state, text_state, state_at, accepted_of, accepted_at, optional_at}
+use Rattle.cas_wire.specs.Reading.{Reading, pair_at, byte_where, number_at, some_at, is_key_length, key_bytes_at, key_at, counter_at, is_proposer, ballot_of, ballot_at, most_length, text_at, number_state, text_state, state_at, accepted_of, accepted_at, optional_at}
 use Rattle.cas_wire.specs.Spelling.{key_spelling, ballot_spelling, state_spelling, accepted_spelling, optional_spelling, FitsState, FitsAccepted}
-use Rattle.cas_wire.proofs.Formats.{IsBytes, IsBytes-rest, bind_err, ok_is, left_is, not_err, IsFormat, byte_format, wide16, wide32, wide64, number_format, pair_format}
-use Rattle.cas_wire.proofs.Limited.{IsLimit, limited_at, limited_stops, stopped_err, number_stops}
-use Rattle.cas_wire.proofs.PartFormats.{key_length_of, both, length_format, counter_format, ballot_format, state_format, text_format, two_numbers, version_and_text, small_bits, counter_limit, length_limit}
+use Rattle.cas_wire.proofs.Formats.{IsBytes-rest, bind_err, left_is, not_err, byte_format, wide32, wide64, number_format}
+use Rattle.cas_wire.proofs.Limited.{limited_at, limited_stops, stopped_err, number_stops}
+use Rattle.cas_wire.proofs.PartFormats.{key_length_of, both, length_format, counter_format, ballot_format, small_bits, counter_limit, length_limit}
 use Rattle.cas_wire.proofs.Stops.{StopsAt, Stops, stops_first, stops_second, pair_stops, made_stops, ended, not_first, behind_first, byte_stops, optional_stops}
 
 -- the same of values that are said otherwise

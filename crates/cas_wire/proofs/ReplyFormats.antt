@@ -1,9 +1,9 @@
 -- The formats of answers and replies.
-use Rattle.std.proofs.Common.{◌≡◌, ℕ, zero, ◌^◌, ◌<◌, ◌≤◌, Bool, true, false, leb, eqb, not, List, [], ◌∷◌, ◌++◌, length, Option, Some, None, Ok, Err, refl, sym, ap, subst, ◌∙◌, arith}
+use Rattle.std.proofs.Common.{◌≡◌, ℕ, ◌^◌, ◌<◌, ◌≤◌, Bool, true, false, eqb, not, List, [], ◌∷◌, ◌++◌, length, Option, Some, Ok, Err, refl, sym, ap, subst, ◌∙◌, arith}
 use Rattle.std.specs.Prelude.{IfSome, ◌&&◌, ◌||◌}
 use Rattle.std.specs.Cmp.{first_so, second_so}
 use Rattle.std.specs.List.{flat_map, AllByRecursion}
-use Rattle.std.specs.Int.{w64, to_be_bytes}
+use Rattle.std.specs.Int.{w64}
 use Rattle.std.proofs.lemmas.Bool.{leb-true, le-leb, eqb-true, eq-eqb}
 use Rattle.cas_ballot.specs.declared.ballot.Ballot.{Ballot}
 use Rattle.cas_ballot.specs.Ballot.{FitsBallot}
@@ -18,11 +18,11 @@ use Rattle.cas_wire.specs.declared.kinds.TellKind.TheVariants as kind
 use Rattle.cas_wire.specs.declared.reply.ReplyHead.{ReplyHead}
 use Rattle.cas_slot.specs.Slots.{rises}
 use Rattle.cas_wire.specs.Frame.{listing_spelling, tell_spelling, reply_spelling, FitsListing, FitsTell, FitsReply}
-use Rattle.cas_wire.specs.FrameReading.{then_at, where_at, list_at, named_at, is_format, is_acceptor, is_count, keys_at, is_listing, listing_at, promised_of, met_of, aged_of, listed_of, probed_of, plain_at, tell_at, reply_head_of, is_head, reply_head_at, reply_of, reply_at}
-use Rattle.cas_wire.specs.Kinds.{named, kinds, kind_byte, kind_of, phase_byte, may_get, flags, flag_byte}
-use Rattle.cas_wire.specs.Reading.{Reading, ◌>>=◌, pair_at, byte_where, number_at, is_proposer, key_at, ballot_at, accepted_at, optional_at}
+use Rattle.cas_wire.specs.FrameReading.{then_at, list_at, named_at, is_format, is_acceptor, is_count, keys_at, is_listing, listing_at, promised_of, met_of, aged_of, listed_of, probed_of, plain_at, tell_at, reply_head_of, is_head, reply_head_at, reply_of, reply_at}
+use Rattle.cas_wire.specs.Kinds.{named, kinds, kind_byte, kind_of, phase_byte, flags, flag_byte}
+use Rattle.cas_wire.specs.Reading.{Reading, ◌>>=◌, pair_at, byte_where, is_proposer, key_at, ballot_at, accepted_at, optional_at}
 use Rattle.cas_wire.specs.Spelling.{key_spelling, ballot_spelling, accepted_spelling, optional_spelling, FitsAccepted}
-use Rattle.cas_wire.proofs.Formats.{IsBytes, bind_ok, bind_err, Takes, Takes-then, ok_is, left_is, not_err, rest_shorter, IsFormat, byte_format, wide64, number_format, pair_format, made_format, optional_format}
+use Rattle.cas_wire.proofs.Formats.{IsBytes, Takes, ok_is, left_is, not_err, IsFormat, byte_format, wide64, number_format, pair_format, made_format, optional_format}
 use Rattle.cas_wire.proofs.MoreFormats.{then_format, where_format, said_format, list_format, named_format, variant_takes, variant_again, variant_within}
 use Rattle.cas_wire.proofs.PartFormats.{key_format, ballot_format, accepted_or_none_format}
 use Rattle.cas_wire.proofs.RequestFormats.{phase_format}

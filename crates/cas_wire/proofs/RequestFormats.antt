@@ -1,5 +1,5 @@
 -- The formats of questions and requests.
-use Rattle.std.proofs.Common.{◌≡◌, ℕ, ◌^◌, ◌<◌, ◌≤◌, true, leb, List, [], ◌∷◌, ◌++◌, length, Option, Some, None, Ok, Err, refl, sym, ap, ◌∙◌, arith}
+use Rattle.std.proofs.Common.{◌≡◌, ℕ, ◌^◌, ◌<◌, ◌≤◌, List, [], ◌∷◌, ◌++◌, length, Option, Some, Ok, Err, refl, sym, ap, ◌∙◌, arith}
 use Rattle.std.specs.Prelude.{IfSome}
 use Rattle.std.specs.List.{flat_map, AllByRecursion}
 use Rattle.std.specs.Int.{w32, w64, to_be_bytes}
@@ -18,10 +18,10 @@ use Rattle.cas_wire.specs.declared.request.RequestHead.{RequestHead}
 use Rattle.cas_wire.specs.Frame.{ask_spelling, request_spelling, FitsAsk, FitsRequest}
 use Rattle.cas_wire.specs.FrameReading.{named_at, is_format, is_acceptor, prepare_of, accept_of, ages_of, remove_of, list_of, probe_of, accept_at, ages_at, ask_at, request_head_of, request_head_at, request_of, request_at}
 use Rattle.cas_wire.specs.Kinds.{named, phases, phase_byte}
-use Rattle.cas_wire.specs.Reading.{Reading, pair_at, byte_where, number_at, is_proposer, key_at, ballot_at, state_at, optional_at}
+use Rattle.cas_wire.specs.Reading.{pair_at, number_at, is_proposer, key_at, ballot_at, state_at, optional_at}
 use Rattle.cas_wire.specs.Spelling.{key_spelling, ballot_spelling, state_spelling, optional_spelling, FitsState}
 use Rattle.cas_wire.proofs.Formats.{IsBytes, Takes, IsFormat, byte_format, wide32, wide64, number_format, pair_format, made_format, optional_format}
-use Rattle.cas_wire.proofs.MoreFormats.{then_format, said_format, list_format, named_format, variant_takes, variant_again, variant_within}
+use Rattle.cas_wire.proofs.MoreFormats.{then_format, list_format, named_format, variant_takes, variant_again, variant_within}
 use Rattle.cas_wire.proofs.PartFormats.{key_format, ballot_format, state_format}
 
 -- ---- questions

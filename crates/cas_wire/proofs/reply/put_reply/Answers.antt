@@ -1,6 +1,6 @@
 use Rattle.std.proofs.Common.{ℕ, List, [], ◌∷◌, ◌++◌, ap, ◌∙◌}
 use Rattle.cas_wire.specs.Frame.{tell_spelling, reply_spelling}
-use Rattle.cas_wire.specs.Kinds.{kind_of, kind_byte, phase_byte}
+use Rattle.cas_wire.specs.Kinds.{kind_of, kind_byte}
 use Rattle.cas_wire.specs.Spelling.{ballot_spelling}
 use Rattle.cas_wire.proofs.Puts.{Puts-then, Puts-as, four_put}
 use Rattle.cas_wire.proofs.reply.put_reply.Goals as goal

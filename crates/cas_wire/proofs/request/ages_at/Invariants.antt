@@ -1,7 +1,3 @@
-use Rattle.std.proofs.Common.{◌≡◌, ◌-◌, length, take}
-use Rattle.std.specs.Int.{w64}
-use Rattle.cas_wire.specs.FrameReading.{list_at}
-use Rattle.cas_wire.specs.Reading.{number_at}
 use Rattle.cas_wire.proofs.Loops.{AgesRead}
 use Rattle.cas_wire.proofs.request.ages_at.Given as goal
 
