@@ -1,5 +1,5 @@
 -- Ballots stay within their limits.
-use Rattle.std.proofs.Common.{◌≡◌, ℕ, ◌≤◌, Bool, true, false, cond, ◌<◌, List, [], length, take, None, Some, ◌∙◌, inl, inr, sym, ap, subst, arith}
+use Rattle.std.proofs.Common.{◌≡◌, ℕ, Bool, true, false, cond, ◌<◌, List, [], length, take, None, Some, ◌∙◌, inl, inr, sym, ap, subst, arith}
 use Rattle.std.specs.Prelude.{Option, IfSome}
 use Rattle.std.proofs.lemmas.List.{length-take}
 use Rattle.std.specs.FinMap as map
