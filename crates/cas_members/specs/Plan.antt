@@ -5,7 +5,7 @@ use Rattle.cas_quorum.specs.declared.era.Era.{Era}
 use Rattle.cas_quorum.specs.declared.fault.PlanFault.{PlanFault}
 use Rattle.cas_quorum.specs.declared.fault.PlanFault.TheVariants.{AlreadyIn, NotIn, IdUsed, TooMany, Last}
 use Rattle.cas_quorum.specs.Quorum.{majority_of}
-use Rattle.cas_quorum.specs.Era.{era_of_majorities, majority_era, IsLawfulChain}
+use Rattle.cas_quorum.specs.Era.{era_of_majorities, majority_era, NeighboursMeet}
 use Rattle.cas_members.specs.declared.plan.TheConstants.{MOST_MEMBERS}
 use Rattle.cas_members.specs.declared.plan.PlanStep.{PlanStep}
 use Rattle.cas_members.specs.declared.plan.PlanStep.TheVariants.{Settle, Enter, Finished}
@@ -67,7 +67,7 @@ EndsWhole era (next ∷ later) = EndsWhole next later
 
 -- from this era on, these eras are entered
 pub record IsLawfulCourse (era : Era) (later : List Era) : Type 0 where
-  pub chain : IsLawfulChain (era ∷ later)
+  pub chain : NeighboursMeet (era ∷ later)
   pub majorities : All HasMajorities later
   pub whole : EndsWhole era later
 

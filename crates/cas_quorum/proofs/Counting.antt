@@ -23,58 +23,43 @@ both_right : (a b : Bool) → (a && b) ≡ true → b ≡ true
 both_right true b e = e
 both_right false b e = absurd (cc e)
 
--- an acceptor that is in both sets and in both parts
-pub record IsCommon (prep acc prepared accepted : List ℕ) : Type 0 where
-  pub acceptor : ℕ
-  pub below : acceptor < 64
-  pub in_prep : has_member prep acceptor ≡ true
-  pub in_acc : has_member acc acceptor ≡ true
-  pub in_prepared : has_member prepared acceptor ≡ true
-  pub in_accepted : has_member accepted acceptor ≡ true
-
-common : (prep acc prepared accepted : List ℕ)
-    → Passes (λ n. (has_member prep n && has_member prepared n) && (has_member acc n && has_member accepted n)) → IsCommon prep acc prepared accepted
-common prep acc prepared accepted one =
+-- an acceptor of both sets that is in both parts is shared by the parts
+shared : (prep acc prepared accepted : List ℕ)
+    → Passes (λ n. (has_member prep n && has_member prepared n) && (has_member acc n && has_member accepted n)) → Shared prepared accepted
+shared prep acc prepared accepted one =
     let left : (has_member prep one.acceptor && has_member prepared one.acceptor) ≡ true = both_left _ (has_member acc one.acceptor && has_member accepted one.acceptor) one.passes in
     let right : (has_member acc one.acceptor && has_member accepted one.acceptor) ≡ true = both_right (has_member prep one.acceptor && has_member prepared one.acceptor) _ one.passes in
     record {
       acceptor = one.acceptor;
-      below = one.below;
-      in_prep = both_left _ (has_member prepared one.acceptor) left;
-      in_acc = both_left _ (has_member accepted one.acceptor) right;
-      in_prepared = both_right (has_member prep one.acceptor) _ left;
-      in_accepted = both_right (has_member acc one.acceptor) _ right;
+      left = both_right (has_member prep one.acceptor) _ left;
+      right = both_right (has_member acc one.acceptor) _ right;
     }
 
--- parts of two sets that are together more than the sets have overlap
-pub parts_share : (prep acc prepared accepted : List ℕ)
-    → length (union_of prep acc) < count_in prep prepared + count_in acc accepted → IsCommon prep acc prepared accepted
+-- parts of two sets that are together more than the sets share an acceptor
+parts_share : (prep acc prepared accepted : List ℕ)
+    → length (union_of prep acc) < count_in prep prepared + count_in acc accepted → Shared prepared accepted
 parts_share prep acc prepared accepted h =
     let p : ℕ → Bool = λ n. has_member prep n && has_member prepared n in
     let q : ℕ → Bool = λ n. has_member acc n && has_member accepted n in
     let inside : length (members_where (λ n. p n || q n)) ≤ length (union_of prep acc)
     = length-within (λ n. p n || q n) (λ n. has_member prep n || has_member acc n)
     (λ n small e. within_either (has_member prep n) (has_member prepared n) (has_member acc n) (has_member accepted n) e) in
-    common prep acc prepared accepted (someone (λ n. p n && q n) (omega (arith, length-apart p q, inside)))
+    shared prep acc prepared accepted (someone (λ n. p n && q n) (omega (arith, length-apart p q, inside)))
 
 -- a test for a quorum tells that there is one
-pub quorum_tells : (need : ℕ) (set by : List ℕ) → has_quorum need set by ≡ true → need ≤ count_in set by
+quorum_tells : (need : ℕ) (set by : List ℕ) → has_quorum need set by ≡ true → need ≤ count_in set by
 quorum_tells need set by e = elim (leb_tells need (count_in set by)) [ inl low ↦ low.1 | inr high ↦ absurd (cc (e, high.0)) ]
 
--- quorums of eras that meet have an acceptor in common, which is in both sets
-pub common_of_quorums : (a b : Era) → Meet a b → (prepared accepted : List ℕ)
-    → holds_prep a prepared ≡ true → holds_acc b accepted ≡ true → IsCommon a.prep b.acc prepared accepted
-common_of_quorums a b meet prepared accepted e f =
-    parts_share a.prep b.acc prepared accepted
-    (omega (arith, meet.forth, quorum_tells a.need_prep a.prep prepared e, quorum_tells b.need_acc b.acc accepted f))
+-- quorums whose sizes are together more than their two sets have share an acceptor
+pub sizes_share : (prep acc : List ℕ) (need_prep need_acc : ℕ) → SizesMeet prep need_prep acc need_acc → (prepared accepted : List ℕ)
+    → has_quorum need_prep prep prepared ≡ true → has_quorum need_acc acc accepted ≡ true → Shared prepared accepted
+sizes_share prep acc need_prep need_acc meet prepared accepted e f =
+    parts_share prep acc prepared accepted (omega (arith, meet, quorum_tells need_prep prep prepared e, quorum_tells need_acc acc accepted f))
 
-shared : (prep acc prepared accepted : List ℕ) → IsCommon prep acc prepared accepted → Shared prepared accepted
-shared prep acc prepared accepted one = record { acceptor = one.acceptor; left = one.in_prepared; right = one.in_accepted }
-
+-- and so do quorums of eras that meet
 pub quorums_share : (a b : Era) → Meet a b → (prepared accepted : List ℕ)
     → holds_prep a prepared ≡ true → holds_acc b accepted ≡ true → Shared prepared accepted
-quorums_share a b meet prepared accepted e f =
-    shared a.prep b.acc prepared accepted (common_of_quorums a b meet prepared accepted e f)
+quorums_share a b meet prepared accepted e f = sizes_share a.prep b.acc a.need_prep b.need_acc meet.forth prepared accepted e f
 
 -- ---- majorities
 -- two sets of which one has all of the other, and at most one more

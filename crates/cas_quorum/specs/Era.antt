@@ -37,7 +37,7 @@ pub record Meet (a b : Era) : Type 0 where
   pub back : SizesMeet b.prep b.need_prep a.acc a.need_acc
 
 -- each era of the chain meets itself and the next
-abbrev pub IsLawfulChain : List Era → Type 0
-IsLawfulChain [] = ⊤
-IsLawfulChain (era ∷ []) = Meet era era
-IsLawfulChain (era ∷ next ∷ later) = Meet era era × Meet era next × IsLawfulChain (next ∷ later)
+abbrev pub NeighboursMeet : List Era → Type 0
+NeighboursMeet [] = ⊤
+NeighboursMeet (era ∷ []) = Meet era era
+NeighboursMeet (era ∷ next ∷ later) = Meet era era × Meet era next × NeighboursMeet (next ∷ later)

@@ -7,6 +7,7 @@ use Rattle.cas_ballot.specs.declared.ballot.Ballot.{Ballot}
 use Rattle.cas_ballot.specs.Ballot.{zero_ballot, BallotAtMost, BallotLess}
 use Rattle.cas_ballot.specs.Members.{has_member}
 use Rattle.cas_ballot.proofs.BallotLemmas.{at_most_refl, at_most_trans, at_most_antisym, at_most_or_less, at_most_greater_left, at_most_greater_right, less_irreflexive, less_not_at_most, less_at_most, at_most_of_less, none_below_zero}
+use Rattle.cas_quorum.specs.Quorum.{Shared}
 use Rattle.cas_record.specs.declared.mark.Mark.{Mark}
 use Rattle.cas_record.specs.declared.mark.Mark.TheVariants.{Proposed}
 use Rattle.cas_record.specs.declared.mark.Proposal.{Proposal}
@@ -14,7 +15,7 @@ use Rattle.cas_record.specs.Places.{At, Stands, IsPrefix}
 use Rattle.cas_record.specs.Chain.{floor_below, link_of, entry_of, chain_of, top_of, settled_of}
 use Rattle.cas_record.specs.Legal.{HasFloor}
 use Rattle.cas_record.specs.Happening.{Happening, Marked, Promised, Took, marks_of}
-use Rattle.cas_record.specs.Lawful.{Cluster, Shared, Lawful, MayPromise, MayTake, MayVote, in_promise, in_take, in_ride, Granted, by_promise, by_ride}
+use Rattle.cas_record.specs.Lawful.{Cluster, Lawful, MayPromise, MayTake, MayVote, in_promise, in_take, in_ride, Granted, by_promise, by_ride}
 use Rattle.cas_record.proofs.PlaceLemmas.{deeper, stands_deeper, stands_at, stands_part, older_than, newer_than, at_one, order, length-At, prefix_same, nil_prefix, prefix_append}
 use Rattle.cas_record.proofs.ChainLemmas.{at_most_floor_below, top_cases, top_later, chain-none}
 use Rattle.cas_record.proofs.LogLemmas.{law, lawful_older, mark_at, mark_stands, in_log, part_of, proposal_law, ack_law, floor_law, ProposedAt, AckedAt, acked_at, acked_deeper, acked_proposed, OpeningAt, opening_deeper, above_opening, Begins, at_zero, at_proposal, at_opening, link_begins, has_none_zero, chain_whole, chain_of_proposal}

@@ -1,10 +1,12 @@
 -- The witness stands.
 use Rattle.std.proofs.Common.{refl, reverse}
+use Rattle.cas_ballot.specs.Members.{members_where}
 use Rattle.cas_record.specs.Witness.{small_cluster, happened, WitnessStands}
 use Rattle.cas_record.proofs.Checks.{lawful_checked}
 use Rattle.cas_record.proofs.Quorums.{small_meet}
 
 pub witness_stands : WitnessStands
+unfolding members_where
 witness_stands = record {
   meet = small_meet;
   lawful = lawful_checked small_cluster (reverse happened) refl;

@@ -7,6 +7,7 @@ use Rattle.cas_ballot.specs.Members.{has_member}
 use Rattle.cas_change.specs.declared.state.State.{State}
 use Rattle.cas_change.specs.declared.outcome.Took.{Took as Who}
 use Rattle.cas_change.specs.Outcome.{outcome_of}
+use Rattle.cas_quorum.specs.Quorum.{Shared}
 use Rattle.cas_record.specs.declared.answer.Answer.{Answer}
 use Rattle.cas_record.specs.declared.answer.Answer.TheVariants as answer
 use Rattle.cas_record.specs.declared.mark.Mark.{Mark}
@@ -25,12 +26,6 @@ pub record Cluster : Type 0 where
   pub greatest : ℕ
   pub prepares : ℕ → List ℕ → Bool
   pub accepts : ℕ → List ℕ → Bool
-
--- an acceptor that is in both sets
-pub record Shared (a b : List ℕ) : Type 0 where
-  pub acceptor : ℕ
-  pub left : has_member a acceptor ≡ true
-  pub right : has_member b acceptor ≡ true
 
 -- a prepare quorum and an accept quorum of one era, or of two eras that follow each other, share an acceptor
 abbrev pub NeighboursMeet : Cluster → Type 0

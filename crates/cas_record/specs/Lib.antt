@@ -7,5 +7,4 @@ pub mod Happening
 pub mod Lawful
 pub mod Laws
 pub mod Scan
-pub mod Quorum
 pub mod Witness

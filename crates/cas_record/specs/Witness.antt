@@ -11,12 +11,12 @@ use Rattle.cas_change.specs.declared.state.State.{State}
 use Rattle.cas_change.specs.declared.state.State.TheVariants.{Empty, Held}
 use Rattle.cas_change.specs.declared.state.Body.TheVariants.{Number}
 use Rattle.cas_change.specs.declared.outcome.Took.TheVariants.{Clause as ByClause}
+use Rattle.cas_quorum.specs.Quorum.{has_quorum}
 use Rattle.cas_record.specs.declared.answer.Answer.TheVariants as answer
 use Rattle.cas_record.specs.declared.mark.Mark.TheVariants.{Begun, Proposed, Voted, Acked, Floor, EraEntered, Ended, Harmed}
 use Rattle.cas_record.specs.Chain.{settled_of}
 use Rattle.cas_record.specs.Replay.{replay}
 use Rattle.cas_record.specs.Happening.{Happening, Marked, Promised, Took, Dropped, Entered, marks_of}
-use Rattle.cas_record.specs.Quorum.{has_quorum}
 use Rattle.cas_record.specs.Lawful.{Cluster, NeighboursMeet, Lawful}
 
 -- ---- the cluster

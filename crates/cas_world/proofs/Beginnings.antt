@@ -27,6 +27,7 @@ use Rattle.cas_world.specs.Sound.{Each}
 use Rattle.cas_world.specs.Step.{prepare_request, after_begin}
 use Rattle.cas_world.specs.View.{View, opened}
 use Rattle.cas_world.specs.History.{cluster, IsAcceptedState, IsAcceptorTold, IsPlain, IsWithin, IsNoEnd, IsBefore, IsOwnAsk, HasHistory, told_of}
+use Rattle.cas_world.proofs.Ballots.{next_above}
 use Rattle.cas_world.proofs.Lists.{Each-map}
 use Rattle.cas_world.proofs.Growth.{Grows, grows_trans, grows_one, within_grows}
 use Rattle.cas_world.proofs.Asking.{asks, asks_each, asks_marks, asks_lawful, asks_grows, asks_told, asks_messages, told_more}
@@ -90,9 +91,6 @@ own_new marks top ballot key less (Marked mark) w = tt
 own_new marks top ballot key less other w = tt
 
 -- ---- begin
-next_above : (counter : ℕ) → BallotLess (ballot_at counter) (ballot_at (counter + 1))
-next_above counter = record { counters = omega arith; proposers = λ h. omega arith }
-
 begun_history : (world : View) (key : List ℕ) (program : List Clause) → HasHistory world → HasHistory (after_begin world 1 (world.desk.calls + 1) key program)
 begun_history world key program h =
     let call = world.desk.calls + 1 in

@@ -1,5 +1,5 @@
 -- Each call keeps the history of the world, as it keeps the world sound.
-use Rattle.std.proofs.Common.{◌≡◌, ℕ, ◌+◌, true, false, List, [], ◌∷◌, ◌++◌, arith, refl, sym, ap, ◌∙◌, subst}
+use Rattle.std.proofs.Common.{◌≡◌, ℕ, ◌+◌, true, false, List, [], ◌∷◌, ◌++◌, refl, sym, ap, ◌∙◌, subst}
 use Rattle.std.specs.Prelude.{Option, None, Some}
 use Rattle.cas_ballot.specs.Ballot.{zero_ballot, BallotLess}
 use Rattle.cas_change.specs.declared.outcome.Outcome.{Outcome}
@@ -12,11 +12,12 @@ use Rattle.cas_world.specs.declared.desk.Round.{Round}
 use Rattle.cas_world.specs.declared.desk.Stage.{Stage}
 use Rattle.cas_world.specs.declared.desk.Stage.TheVariants.{Preparing, Accepting}
 use Rattle.cas_world.specs.declared.message.Message.{Message}
-use Rattle.cas_world.specs.Desk.{ballot_at, closed, telling, is_accepting, is_preparing, IsCount, IsCountOf}
+use Rattle.cas_world.specs.Desk.{closed, telling, is_accepting, is_preparing, IsCount, IsCountOf}
 use Rattle.cas_world.specs.Sound.{IsSound, IsRoundSound}
 use Rattle.cas_world.specs.Step.{IsProposal, after_proposal, after_accepting}
 use Rattle.cas_world.specs.View.{View}
 use Rattle.cas_world.specs.History.{HasHistory}
+use Rattle.cas_world.proofs.Ballots.{above_zero}
 use Rattle.cas_world.proofs.SoundLemmas.{prepared, all_confirmed, sound_counted}
 use Rattle.cas_world.proofs.Proposals.{history_proposed, history_counted, history_told, history_closed}
 
@@ -37,9 +38,6 @@ kept_unserved world room m rest after s h first acceptors frames marks desk =
     subst HasHistory (sym is) (told_at world room m rest world.desk.round h first refl s.round)
 
 -- ---- propose
-above_zero : (counter : ℕ) → BallotLess zero_ballot (ballot_at counter)
-above_zero counter = record { counters = omega arith; proposers = λ h. omega arith }
-
 pub kept_proposed : (world : View) (room caller : ℕ) (round : Round) (stage : Stage) (made spare : Outcome) (frames : List Message) (mark : Mark) → IsSound world room → HasHistory world
     → world.frames ≡ [] → world.desk.round ≡ Some round → round.stage ≡ stage → IsProposal caller world.acceptors round stage made spare frames mark → caller ≡ 1
     → HasHistory (after_proposal world caller round stage)

@@ -1,4 +1,5 @@
 pub mod Asking
+pub mod Ballots
 pub mod Beginnings
 pub mod Calls
 pub mod Growth

@@ -5,6 +5,7 @@ use Rattle.std.proofs.lemmas.List.{reverse-append}
 use mathlib.Core.Logic.{inl, inr}
 use Rattle.cas_ballot.specs.declared.ballot.Ballot.{Ballot}
 use Rattle.cas_ballot.specs.Ballot.{zero_ballot, greater_of, BallotAtMost, BallotLess}
+use Rattle.cas_ballot.specs.Members.{members_where}
 use Rattle.cas_ballot.proofs.BallotLemmas.{at_most_refl, greater_cases, none_below_zero, less_irreflexive}
 use Rattle.cas_change.specs.declared.state.State.{State}
 use Rattle.cas_change.specs.declared.outcome.Outcome.{Outcome}
@@ -92,8 +93,12 @@ proposal_of round by read = record {
   prepared_by = by;
 }
 
+three_prepare : cluster.prepares 0 three ≡ true
+unfolding members_where
+three_prepare = refl
+
 all_prepare : (by : List ℕ) → by ≡ three → cluster.prepares 0 by ≡ true
-all_prepare by e = rw e refl
+all_prepare by e = ap (cluster.prepares 0) e ∙ three_prepare
 
 may_propose : (log : List Happening) (calls : ℕ) (round : Round) (by : List ℕ) (read : Option Accepted) → Each IsPlain log → IsRoundTrue log calls round → IsPrepareTrue log round by read
     → by ≡ three → BallotLess zero_ballot round.ballot → round.ballot.proposer ≤ 1 → MayPropose cluster log (proposal_of round by read)

@@ -5,7 +5,7 @@ use Rattle.std.specs.Ordering.{nat_cmp, is_eq}
 use Rattle.std.specs.Cmp.Lexicographic.{slice_cmp}
 use Rattle.std.specs.FinMap.{get-empty}
 use Rattle.cas_ballot.specs.declared.ballot.Ballot.{Ballot}
-use Rattle.cas_ballot.specs.Ballot.{BallotAtMost, BallotLess}
+use Rattle.cas_ballot.specs.Ballot.{BallotAtMost}
 use Rattle.cas_ballot.proofs.BallotLemmas.{at_most_trans, at_most_less, at_most_of_less, cmp_refl}
 use Rattle.cas_ballot.specs.Members.{with_member}
 use Rattle.cas_change.specs.declared.program.Clause.{Clause}
@@ -34,6 +34,7 @@ use Rattle.cas_world.specs.Desk.{ballot_at, arrived, closed, telling, round_afte
 use Rattle.cas_world.specs.Sound.{Each, IsNumberedFrom, HasSeenAtMost, HasSeenBelow, HasPromised, promise_reply, accept_reply, IsStageSound, IsRoundSound, IsSound}
 use Rattle.cas_world.specs.Step.{prepare_request, accept_request, to_each, vote_of, after_begin, after_request, after_proposal, after_accepting, after_end, after_frame, after_turn, proposal_mark, turns_left, confirmers, confirmers_at, IsProposal}
 use Rattle.cas_world.specs.View.{View, opened, acceptors_from}
+use Rattle.cas_world.proofs.Ballots.{next_above}
 use Rattle.cas_world.proofs.Lists.{Each-map, Each-at, Each-replaced, numbered-replaced, length-replaced, all_three}
 use Rattle.cas_world.proofs.Phases.{RequestTurn, phase_request, ReplyTurn, phase_reply, phase_done, phase_begun}
 use Rattle.cas_world.proofs.Rounds.{prepare_promises, prepare_replies, prepare_bounded, accept_replies, accept_bounded}
@@ -53,9 +54,6 @@ sound_opened room = record {
 }
 
 -- ---- begin
-next_above : (counter : ℕ) → BallotLess (ballot_at counter) (ballot_at (counter + 1))
-next_above counter = record { counters = omega arith; proposers = λ h. omega arith }
-
 pub sound_begun : (world : View) (room left : ℕ) (caller call : ℕ) (key : List ℕ) (program : List Clause) → IsSound world room → 6 ≤ left
     → IsSound (after_begin world caller call key program) left
 sound_begun world room left caller call key program s fits =

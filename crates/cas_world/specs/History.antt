@@ -7,13 +7,13 @@ use Rattle.cas_ballot.specs.Members.{has_member}
 use Rattle.cas_change.specs.declared.state.State.{State}
 use Rattle.cas_change.specs.declared.outcome.Outcome.{Outcome}
 use Rattle.cas_change.specs.Outcome.{outcome_of}
+use Rattle.cas_quorum.specs.Quorum.{has_quorum}
 use Rattle.cas_record.specs.declared.mark.Mark.{Mark}
 use Rattle.cas_record.specs.declared.mark.Mark.TheVariants.{Begun, Proposed, Voted, Floor, EraEntered, Ended}
 use Rattle.cas_record.specs.declared.mark.Proposal.{Proposal}
 use Rattle.cas_record.specs.Places.{At, Stands}
 use Rattle.cas_record.specs.Chain.{link_of, entry_of, chain_of}
 use Rattle.cas_record.specs.Replay.{replay_from, opening_state}
-use Rattle.cas_record.specs.Quorum.{has_quorum}
 use Rattle.cas_record.specs.Legal.{calls_of}
 use Rattle.cas_record.specs.Happening.{Happening, Marked, Asked, Promised, Dropped, Entered, marks_of}
 use Rattle.cas_record.specs.Lawful.{Cluster, Lawful, SlotTold, slot_told, MayEnd}
