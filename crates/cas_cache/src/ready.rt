@@ -3,8 +3,9 @@
 use cas_ballot::{Ballot, Members};
 use cas_change::State;
 
-/// A promise that rode on an accept (Rystsov 2018, section 2.2.1): a round at its ballot begins in the accept phase, with this
-/// state.
+/// A promise that rode on an accept: the prepare of a proposer's next round for the key was piggybacked on the accept of this
+/// one, so that round takes one round trip in place of two (Rystsov 2018, section 2.2.1). A round at this ballot begins in the
+/// accept phase, with this state.
 #[derive(Debug, PartialEq, Eq, Drop)]
 pub struct Ready {
     /// The ballot that was promised.
