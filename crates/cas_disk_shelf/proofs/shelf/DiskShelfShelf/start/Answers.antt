@@ -1,5 +1,7 @@
 use Rattle.std.proofs.Common.{refl, ◌∙◌, arith}
 use Rattle.cas_slot.specs.Contents.{no_ages}
+use Rattle.cas_cells.specs.Cells.{disk_of}
+use Rattle.cas_cells.proofs.Lengths.{within_more, then_no_longer}
 use Rattle.cas_disk_shelf.specs.Head.{FitsHead}
 use Rattle.cas_disk_shelf.proofs.Opening.{new_memory}
 use Rattle.cas_disk_shelf.proofs.shelf.DiskShelfShelf.start.Goals as goal
@@ -12,3 +14,19 @@ returns-clause-up g c =
       memory = new_memory (record { count = 0; ages = no_ages }) _ _ c.new.result fits refl (c.deref.ensures.value ∙ c.in_ok-payload.ensures.spelled) c.in_default.ensures.formatted
           c.new.ensures.held c.new.ensures.index c.new.ensures.free c.new.ensures.counted;
     }
+
+pub returns-in-Err-clause-length : goal.returns-in-Err-clause-length
+returns-in-Err-clause-length g c tells =
+    let old = disk_of c.args.self.now.cells in
+    let mid = disk_of c.crash.new.self in
+    then_no_longer g.D.Disk.moment g.D.Disk.left_since g.D.Disk.may_leave old mid (disk_of c.format.new.self) 1024
+    (λ image later left. g.met.D.Disk.counts_now mid _ image tells later left)
+    (within_more g.D.Disk.moment g.D.Disk.left_since g.D.Disk.may_leave old mid 0 1024 (omega arith) (c.crash.ensures.length tells)) (c.format.ensures.length tells)
+
+pub returns-clause-length : goal.returns-clause-length
+returns-clause-length g c tells =
+    let old = disk_of c.args.self.now.cells in
+    let mid = disk_of c.crash.new.self in
+    then_no_longer g.D.Disk.moment g.D.Disk.left_since g.D.Disk.may_leave old mid (disk_of c.format.new.self) 1024
+    (λ image later left. g.met.D.Disk.counts_now mid _ image tells later left)
+    (within_more g.D.Disk.moment g.D.Disk.left_since g.D.Disk.may_leave old mid 0 1024 (omega arith) (c.crash.ensures.length tells)) (c.format.ensures.length tells)
