@@ -9,6 +9,7 @@ ghost use Rattle.cas_cells.specs.Format.{count_in};
 ghost use Rattle.cas_cells.specs.Length.{NotLonger};
 ghost use Rattle.cas_disk_shelf.specs.Cell.{FitsSlot};
 ghost use Rattle.cas_disk_shelf.specs.Image.{left_on};
+ghost use Rattle.cas_disk_shelf.specs.Length.{IsShort, StaysShort};
 ghost use Rattle.cas_disk_shelf.specs.Memory.{cell_of, is_free};
 
 use crate::codec::{FREE, Head, has_spelling, spell_head, spell_slot};
@@ -24,6 +25,9 @@ use std::alloc::{AllocError, Global};
 ///
 /// Each slot has a cell of its own. Beside the disk the slots are in memory too, with an index from their keys to their cells and
 /// the cells that hold none.
+///
+/// The disk is never longer than it was when the shelf took it, or than `1024 * (2 + s)` bytes, `s` being the greatest number of
+/// slots that the shelf ever had at once: `over` begins that, and each call keeps it, whatever it answers.
 ///
 /// A slot with a ballot above the ends of the format, a counter above 2^48 or a proposer above 16, is not put: `put` answers
 /// `NoMemory`, and nothing changes.
@@ -41,6 +45,7 @@ impl<D: Disk> DiskShelf<D> {
     pub fn over(alloc: Global, disk: D) -> DiskShelf<D>
         ensures disk { disk_of result ≡ disk }
         ensures contents { contents_of result ≡ nothing }
+        ensures length { D.tells → IsShort D.moment D.left_since D.may_leave disk 0 result }
     {
         DiskShelf {
             alloc,
@@ -267,7 +272,7 @@ impl<D: Disk> Shelf for DiskShelf<D> {
         ensures started { OnOk result (contents_of self.new ≡ nothing) }
         ensures up { OnOk result (IsUp D.tells D.seen D.may_leave self.new) }
         ensures other { IsNeitherFullNorForeign result }
-        ensures length { D.tells → NotLonger D.moment D.left_since D.may_leave (disk_of self.old) (disk_of self.new) 1024 }
+        ensures length { D.tells → StaysShort D.moment D.left_since D.may_leave self.old self.new }
         ensures cause { HasShelfCause result (D.fault_count (disk_of self.old)) (D.fault_count (disk_of self.new)) }
     {
         self.cells.crash();
@@ -289,7 +294,7 @@ impl<D: Disk> Shelf for DiskShelf<D> {
         ensures up { OnOk result (IsUp D.tells D.seen D.may_leave self.new) }
         ensures any_moment { D.tells → LeavesOnly (moment_of D.moment) (LeftSince D.left_since) self.old self.new (MayLeave D.may_leave self.old) }
         ensures not_full { IsErrOf result ShelfFault.Full → ⊥ }
-        ensures length { D.tells → NotLonger D.moment D.left_since D.may_leave (disk_of self.old) (disk_of self.new) 0 }
+        ensures length { D.tells → StaysShort D.moment D.left_since D.may_leave self.old self.new }
         ensures cause { HasShelfCause result (D.fault_count (disk_of self.old)) (D.fault_count (disk_of self.new)) }
     {
         self.cells.crash();
@@ -298,7 +303,7 @@ impl<D: Disk> Shelf for DiskShelf<D> {
 
     fn crash(&mut self)
         ensures any_moment { D.tells → LeavesOnly (moment_of D.moment) (LeftSince D.left_since) self.old self.new (MayLeave D.may_leave self.old) }
-        ensures length { D.tells → NotLonger D.moment D.left_since D.may_leave (disk_of self.old) (disk_of self.new) 0 }
+        ensures length { D.tells → StaysShort D.moment D.left_since D.may_leave self.old self.new }
         ensures never_falls { D.fault_count (disk_of self.old) ≤ D.fault_count (disk_of self.new) }
     {
         self.cells.crash();
@@ -327,7 +332,7 @@ impl<D: Disk> Shelf for DiskShelf<D> {
         ensures untouched_when_full { D.tells → IsErrOf result ShelfFault.Full → LeavesOnly (moment_of D.moment) (LeftSince D.left_since) self.old self.new (λ left. left ≡ Ok (contents_of self.old)) }
         ensures not_foreign { (at : ℕ) → IsErrOf result (ShelfFault.Foreign at) → ⊥ }
         ensures any_moment { D.tells → LeavesOnly (moment_of D.moment) (LeftSince D.left_since) self.old self.new (IsOldOrNew (contents_of self.old) (with_kept (contents_of self.old) key.now slot)) }
-        ensures length { D.tells → NotLonger D.moment D.left_since D.may_leave (disk_of self.old) (disk_of self.new) (1024 * (slot_count (contents_of self.old).slots + 2)) }
+        ensures length { D.tells → StaysShort D.moment D.left_since D.may_leave self.old self.new }
         ensures cause { HasShelfCause result (D.fault_count (disk_of self.old)) (D.fault_count (disk_of self.new)) }
     {
         match self.memory.cell_of(key) {
@@ -349,7 +354,7 @@ impl<D: Disk> Shelf for DiskShelf<D> {
         ensures up_still { IsErrOf result ShelfFault.NoMemory → IsUp D.tells D.seen D.may_leave self.new }
         ensures other { IsNeitherFullNorForeign result }
         ensures any_moment { D.tells → LeavesOnly (moment_of D.moment) (LeftSince D.left_since) self.old self.new (IsOldOrNew (contents_of self.old) (without_kept (contents_of self.old) key.now)) }
-        ensures length { D.tells → NotLonger D.moment D.left_since D.may_leave (disk_of self.old) (disk_of self.new) 0 }
+        ensures length { D.tells → StaysShort D.moment D.left_since D.may_leave self.old self.new }
         ensures cause { HasShelfCause result (D.fault_count (disk_of self.old)) (D.fault_count (disk_of self.new)) }
     {
         match self.memory.cell_of(key) {
@@ -366,7 +371,7 @@ impl<D: Disk> Shelf for DiskShelf<D> {
         ensures up_still { IsErrOf result ShelfFault.NoMemory → IsUp D.tells D.seen D.may_leave self.new }
         ensures other { IsNeitherFullNorForeign result }
         ensures any_moment { D.tells → LeavesOnly (moment_of D.moment) (LeftSince D.left_since) self.old self.new (IsOldOrNew (contents_of self.old) (with_raised (contents_of self.old) least.now)) }
-        ensures length { D.tells → NotLonger D.moment D.left_since D.may_leave (disk_of self.old) (disk_of self.new) 0 }
+        ensures length { D.tells → StaysShort D.moment D.left_since D.may_leave self.old self.new }
         ensures cause { HasShelfCause result (D.fault_count (disk_of self.old)) (D.fault_count (disk_of self.new)) }
     {
         let mut ages = self.memory.held.ages();
