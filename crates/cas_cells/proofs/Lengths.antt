@@ -48,7 +48,7 @@ module _ {D : Type 0} (moment : D → ℕ) (left_since : D → ℕ → List ℕ 
   }
 
   -- a run in which a crash leaves nothing longer than what a read gave before
-  no_longer_than_seen : (old new : D) (seen : List ℕ) (P : List ℕ → Type 0) → may_leave old seen → ((c : List ℕ) → P c → length c ≤ length seen) → LeavesOnly moment left_since old new P → NotLonger moment left_since may_leave old new 0
+  pub no_longer_than_seen : (old new : D) (seen : List ℕ) (P : List ℕ → Type 0) → may_leave old seen → ((c : List ℕ) → P c → length c ≤ length seen) → LeavesOnly moment left_since old new P → NotLonger moment left_since may_leave old new 0
   no_longer_than_seen old new seen P stays short run = record {
     within = λ limit low all. weaker moment left_since old new P (λ c. length c ≤ limit) (λ c is. omega (arith, short c is, all seen stays)) run;
   }

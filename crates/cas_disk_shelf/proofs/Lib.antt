@@ -4,6 +4,7 @@ mod Entries
 mod Faults
 mod Keeping
 mod Leaving
+mod Lengths
 mod Lists
 mod Loading
 mod Opening

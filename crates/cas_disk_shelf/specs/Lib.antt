@@ -3,6 +3,7 @@ pub mod FaultOf
 pub mod Head
 pub mod HeadLaws
 pub mod Image
+pub mod Length
 pub mod Loading
 pub mod Memory
 pub mod Shelf

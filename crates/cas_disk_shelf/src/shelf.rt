@@ -1,5 +1,5 @@
 //! A shelf on a disk.
-ghost use Rattle.std.specs.Prelude.{◌≡◌, ◌≤◌, ◌<◌, ℕ, List, Ok, Err, Some, None, true, OnOk, OnErr, IsErrOf, IfOk};
+ghost use Rattle.std.specs.Prelude.{◌≡◌, ◌≤◌, ◌<◌, ◌+◌, ◌*◌, ◌↔◌, ℕ, List, Ok, Err, Some, None, true, OnOk, OnErr, IsErrOf, IfOk};
 ghost use Rattle.cas_slot.specs.Contents.{nothing, kept_at, with_kept, without_kept, with_raised};
 ghost use Rattle.cas_slot.specs.Limits.{SlotBallotsFit};
 ghost use Rattle.cas_slot.specs.Shelf.{IsOldOrNew, LeavesOnly, HasShelfCause, IsNeitherFullNorForeign};
@@ -7,7 +7,9 @@ ghost use Rattle.cas_slot.specs.Slots.{IsFullFor, slot_count};
 ghost use Rattle.cas_disk.specs.Disk.{Only, LeavesOnly as DiskLeavesOnly};
 ghost use Rattle.cas_cells.specs.Cells.{cells_of};
 ghost use Rattle.cas_cells.specs.Format.{count_in};
+ghost use Rattle.cas_cells.specs.Length.{NotLonger};
 ghost use Rattle.cas_disk_shelf.specs.Image.{left_on};
+ghost use Rattle.cas_disk_shelf.specs.Length.{IsShort, StaysShort};
 ghost use Rattle.cas_disk_shelf.specs.Memory.{cell_of, is_free};
 
 use crate::codec::{FREE, Head, spell_head, spell_slot};
@@ -23,6 +25,9 @@ use std::alloc::{AllocError, Global};
 ///
 /// Each slot has a cell of its own. Beside the disk the slots are in memory too, with an index from their keys to their cells and
 /// the cells that hold none.
+///
+/// The disk is never longer than it was when the shelf took it, or than `1024 * (2 + s)` bytes, `s` being the greatest number of
+/// slots that the shelf ever had at once: `over` begins that, and each call keeps it, whatever it answers.
 #[derive(Drop)]
 pub struct DiskShelf<D: Disk> {
     alloc: Global,
@@ -37,6 +42,7 @@ impl<D: Disk> DiskShelf<D> {
     pub fn over(alloc: Global, disk: D) -> DiskShelf<D>
         ensures disk { disk_of result ≡ disk }
         ensures contents { contents_of result ≡ nothing }
+        ensures length { D.tells → IsShort D.moment D.left_since D.may_leave disk 0 result }
     {
         DiskShelf {
             alloc,
@@ -65,6 +71,7 @@ impl<D: Disk> DiskShelf<D> {
         ensures up { OnOk result (IsUp D.tells D.seen D.may_leave self.new) }
         ensures up_still { IsErrOf result ShelfFault.NoMemory → IsUp D.tells D.seen D.may_leave self.new }
         ensures any_moment { D.tells → LeavesOnly (moment_of D.moment) (LeftSince D.left_since) self.old self.new (IsOldOrNew (contents_of self.old) (with_kept (contents_of self.old) key.now slot)) }
+        ensures length { D.tells → NotLonger D.moment D.left_since D.may_leave (disk_of self.old) (disk_of self.new) 0 }
         ensures other { IsNeitherFullNorForeign result }
         ensures cause { HasShelfCause result (D.fault_count (disk_of self.old)) (D.fault_count (disk_of self.new)) }
     {
@@ -87,6 +94,7 @@ impl<D: Disk> DiskShelf<D> {
         ensures up { OnOk result (IsUp D.tells D.seen D.may_leave self.new) }
         ensures up_still { IsErrOf result ShelfFault.NoMemory → IsUp D.tells D.seen D.may_leave self.new }
         ensures any_moment { D.tells → LeavesOnly (moment_of D.moment) (LeftSince D.left_since) self.old self.new (IsOldOrNew (contents_of self.old) (with_kept (contents_of self.old) key.now slot)) }
+        ensures length { D.tells → NotLonger D.moment D.left_since D.may_leave (disk_of self.old) (disk_of self.new) (1024 * (slot_count (contents_of self.old).slots + 2)) }
         ensures other { IsNeitherFullNorForeign result }
         ensures cause { HasShelfCause result (D.fault_count (disk_of self.old)) (D.fault_count (disk_of self.new)) }
     {
@@ -105,6 +113,7 @@ impl<D: Disk> DiskShelf<D> {
         ensures up { OnOk result (IsUp D.tells D.seen D.may_leave self.new) }
         ensures up_still { IsErrOf result ShelfFault.NoMemory → IsUp D.tells D.seen D.may_leave self.new }
         ensures any_moment { D.tells → LeavesOnly (moment_of D.moment) (LeftSince D.left_since) self.old self.new (IsOldOrNew (contents_of self.old) (with_kept (contents_of self.old) key.now slot)) }
+        ensures length { D.tells → NotLonger D.moment D.left_since D.may_leave (disk_of self.old) (disk_of self.new) 0 }
         ensures other { IsNeitherFullNorForeign result }
         ensures cause { HasShelfCause result (D.fault_count (disk_of self.old)) (D.fault_count (disk_of self.new)) }
     {
@@ -132,6 +141,7 @@ impl<D: Disk> DiskShelf<D> {
         ensures up { OnOk result (IsUp D.tells D.seen D.may_leave self.new) }
         ensures up_still { IsErrOf result ShelfFault.NoMemory → IsUp D.tells D.seen D.may_leave self.new }
         ensures any_moment { D.tells → LeavesOnly (moment_of D.moment) (LeftSince D.left_since) self.old self.new (λ left. left ≡ Ok (contents_of self.old)) }
+        ensures length { D.tells → NotLonger D.moment D.left_since D.may_leave (disk_of self.old) (disk_of self.new) (1024 * (slot_count (contents_of self.old).slots + 2)) }
         ensures other { IsNeitherFullNorForeign result }
         ensures cause { HasShelfCause result (D.fault_count (disk_of self.old)) (D.fault_count (disk_of self.new)) }
     {
@@ -151,6 +161,7 @@ impl<D: Disk> DiskShelf<D> {
         ensures up { OnOk result (IsUp D.tells D.seen D.may_leave self.new) }
         ensures up_still { IsErrOf result ShelfFault.NoMemory → IsUp D.tells D.seen D.may_leave self.new }
         ensures any_moment { D.tells → LeavesOnly (moment_of D.moment) (LeftSince D.left_since) self.old self.new (λ left. left ≡ Ok (contents_of self.old)) }
+        ensures length { D.tells → NotLonger D.moment D.left_since D.may_leave (disk_of self.old) (disk_of self.new) (1024 * (count_in (cells_of self.old.cells) + 2)) }
         ensures other { IsNeitherFullNorForeign result }
         ensures cause { HasShelfCause result (D.fault_count (disk_of self.old)) (D.fault_count (disk_of self.new)) }
     {
@@ -172,6 +183,7 @@ impl<D: Disk> DiskShelf<D> {
         ensures up { OnOk result (IsUp D.tells D.seen D.may_leave self.new) }
         ensures up_still { IsErrOf result ShelfFault.NoMemory → IsUp D.tells D.seen D.may_leave self.new }
         ensures any_moment { D.tells → LeavesOnly (moment_of D.moment) (LeftSince D.left_since) self.old self.new (IsOldOrNew (contents_of self.old) (without_kept (contents_of self.old) key.now)) }
+        ensures length { D.tells → NotLonger D.moment D.left_since D.may_leave (disk_of self.old) (disk_of self.new) 0 }
         ensures other { IsNeitherFullNorForeign result }
         ensures cause { HasShelfCause result (D.fault_count (disk_of self.old)) (D.fault_count (disk_of self.new)) }
     {
@@ -193,6 +205,7 @@ impl<D: Disk> DiskShelf<D> {
         ensures up { OnOk result (IsUp D.tells D.seen D.may_leave self.new) }
         ensures up_still { IsErrOf result ShelfFault.NoMemory → IsUp D.tells D.seen D.may_leave self.new }
         ensures any_moment { D.tells → LeavesOnly (moment_of D.moment) (LeftSince D.left_since) self.old self.new (IsOldOrNew (contents_of self.old) (record (contents_of self.old) { ages = ages })) }
+        ensures length { D.tells → NotLonger D.moment D.left_since D.may_leave (disk_of self.old) (disk_of self.new) 0 }
         ensures other { IsNeitherFullNorForeign result }
         ensures cause { HasShelfCause result (D.fault_count (disk_of self.old)) (D.fault_count (disk_of self.new)) }
     {
@@ -250,7 +263,13 @@ impl<D: Disk> Shelf for DiskShelf<D> {
 
     ghost only_now = { λ shelf left tells since. (since.0, D.only_now (disk_of shelf) since.0 tells since.1, since.2) };
 
-    fn start(&mut self) -> Result<(), ShelfFault> {
+    fn start(&mut self) -> Result<(), ShelfFault>
+        ensures started { OnOk result (contents_of self.new ≡ nothing) }
+        ensures up { OnOk result (IsUp D.tells D.seen D.may_leave self.new) }
+        ensures other { IsNeitherFullNorForeign result }
+        ensures length { D.tells → StaysShort D.moment D.left_since D.may_leave self.old self.new }
+        ensures cause { HasShelfCause result (D.fault_count (disk_of self.old)) (D.fault_count (disk_of self.new)) }
+    {
         self.cells.crash();
         let head = Head {
             count: 0,
@@ -264,12 +283,24 @@ impl<D: Disk> Shelf for DiskShelf<D> {
         Ok(())
     }
 
-    fn reopen(&mut self) -> Result<(), ShelfFault> {
+    fn reopen(&mut self) -> Result<(), ShelfFault>
+        ensures reopened { D.tells → OnOk result (MayLeave D.may_leave self.old (Ok (contents_of self.new))) }
+        ensures foreign { D.tells → (at : ℕ) → IsErrOf result (ShelfFault.Foreign at) → MayLeave D.may_leave self.old (Err at) }
+        ensures up { OnOk result (IsUp D.tells D.seen D.may_leave self.new) }
+        ensures any_moment { D.tells → LeavesOnly (moment_of D.moment) (LeftSince D.left_since) self.old self.new (MayLeave D.may_leave self.old) }
+        ensures not_full { IsErrOf result ShelfFault.Full → ⊥ }
+        ensures length { D.tells → StaysShort D.moment D.left_since D.may_leave self.old self.new }
+        ensures cause { HasShelfCause result (D.fault_count (disk_of self.old)) (D.fault_count (disk_of self.new)) }
+    {
         self.cells.crash();
         self.recover()
     }
 
-    fn crash(&mut self) {
+    fn crash(&mut self)
+        ensures any_moment { D.tells → LeavesOnly (moment_of D.moment) (LeftSince D.left_since) self.old self.new (MayLeave D.may_leave self.old) }
+        ensures length { D.tells → StaysShort D.moment D.left_since D.may_leave self.old self.new }
+        ensures never_falls { D.fault_count (disk_of self.old) ≤ D.fault_count (disk_of self.new) }
+    {
         self.cells.crash();
     }
 
@@ -285,7 +316,21 @@ impl<D: Disk> Shelf for DiskShelf<D> {
         self.memory.held.keys_after(after, most)
     }
 
-    fn put(&mut self, key: &Key, slot: Slot) -> Result<(), ShelfFault> {
+    fn put(&mut self, key: &Key, slot: Slot) -> Result<(), ShelfFault>
+        requires up { IsUp D.tells D.seen D.may_leave self.old }
+        requires fits { SlotBallotsFit slot }
+        ensures ok { OnOk result (contents_of self.new ≡ with_kept (contents_of self.old) key.now slot) }
+        ensures err { OnErr result (contents_of self.new ≡ contents_of self.old) }
+        ensures up { OnOk result (IsUp D.tells D.seen D.may_leave self.new) }
+        ensures up_still { IsErrOf result ShelfFault.NoMemory → IsUp D.tells D.seen D.may_leave self.new }
+        ensures full { IsErrOf result ShelfFault.Full ↔ IsFullFor (contents_of self.old).slots key.now }
+        ensures up_when_full { IsErrOf result ShelfFault.Full → IsUp D.tells D.seen D.may_leave self.new }
+        ensures untouched_when_full { D.tells → IsErrOf result ShelfFault.Full → LeavesOnly (moment_of D.moment) (LeftSince D.left_since) self.old self.new (λ left. left ≡ Ok (contents_of self.old)) }
+        ensures not_foreign { (at : ℕ) → IsErrOf result (ShelfFault.Foreign at) → ⊥ }
+        ensures any_moment { D.tells → LeavesOnly (moment_of D.moment) (LeftSince D.left_since) self.old self.new (IsOldOrNew (contents_of self.old) (with_kept (contents_of self.old) key.now slot)) }
+        ensures length { D.tells → StaysShort D.moment D.left_since D.may_leave self.old self.new }
+        ensures cause { HasShelfCause result (D.fault_count (disk_of self.old)) (D.fault_count (disk_of self.new)) }
+    {
         match self.memory.cell_of(key) {
             Some(cell) => self.rewrite(cell, key, slot),
             None => {
@@ -297,14 +342,34 @@ impl<D: Disk> Shelf for DiskShelf<D> {
         }
     }
 
-    fn drop_slot(&mut self, key: &Key) -> Result<(), ShelfFault> {
+    fn drop_slot(&mut self, key: &Key) -> Result<(), ShelfFault>
+        requires { IsUp D.tells D.seen D.may_leave self.old }
+        ensures ok { OnOk result (contents_of self.new ≡ without_kept (contents_of self.old) key.now) }
+        ensures err { OnErr result (contents_of self.new ≡ contents_of self.old) }
+        ensures up { OnOk result (IsUp D.tells D.seen D.may_leave self.new) }
+        ensures up_still { IsErrOf result ShelfFault.NoMemory → IsUp D.tells D.seen D.may_leave self.new }
+        ensures other { IsNeitherFullNorForeign result }
+        ensures any_moment { D.tells → LeavesOnly (moment_of D.moment) (LeftSince D.left_since) self.old self.new (IsOldOrNew (contents_of self.old) (without_kept (contents_of self.old) key.now)) }
+        ensures length { D.tells → StaysShort D.moment D.left_since D.may_leave self.old self.new }
+        ensures cause { HasShelfCause result (D.fault_count (disk_of self.old)) (D.fault_count (disk_of self.new)) }
+    {
         match self.memory.cell_of(key) {
             Some(cell) => self.free(cell, key),
             None => Ok(()),
         }
     }
 
-    fn raise_ages(&mut self, least: &Ages) -> Result<(), ShelfFault> {
+    fn raise_ages(&mut self, least: &Ages) -> Result<(), ShelfFault>
+        requires { IsUp D.tells D.seen D.may_leave self.old }
+        ensures ok { OnOk result (contents_of self.new ≡ with_raised (contents_of self.old) least.now) }
+        ensures err { OnErr result (contents_of self.new ≡ contents_of self.old) }
+        ensures up { OnOk result (IsUp D.tells D.seen D.may_leave self.new) }
+        ensures up_still { IsErrOf result ShelfFault.NoMemory → IsUp D.tells D.seen D.may_leave self.new }
+        ensures other { IsNeitherFullNorForeign result }
+        ensures any_moment { D.tells → LeavesOnly (moment_of D.moment) (LeftSince D.left_since) self.old self.new (IsOldOrNew (contents_of self.old) (with_raised (contents_of self.old) least.now)) }
+        ensures length { D.tells → StaysShort D.moment D.left_since D.may_leave self.old self.new }
+        ensures cause { HasShelfCause result (D.fault_count (disk_of self.old)) (D.fault_count (disk_of self.new)) }
+    {
         let mut ages = self.memory.held.ages();
         ages.raise(least);
         self.set_ages(ages)

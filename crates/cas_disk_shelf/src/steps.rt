@@ -5,6 +5,7 @@ ghost use Rattle.cas_disk.specs.Disk.{LeavesOnly};
 ghost use Rattle.cas_cells.specs.Cells.{Stands, cells_of, disk_of};
 ghost use Rattle.cas_cells.specs.Fault.{IsFaultOfDisk};
 ghost use Rattle.cas_cells.specs.Format.{count_in, count_told, IsPayload, IsBeforeOrAfter};
+ghost use Rattle.cas_cells.specs.Length.{NotLonger};
 ghost use Rattle.cas_disk_shelf.specs.FaultOf.{fault_of};
 
 use cas_cells::{CellFault, Cells};
@@ -34,6 +35,7 @@ pub fn change<D: Disk>(cells: &mut Cells<D>, cell: u32, payload: &[u8]) -> Resul
     ensures stands { OnOk result (Stands D.tells D.seen D.may_leave cells.new) }
     ensures after_no_memory { IsErrOf result ShelfFault.NoMemory → Stands D.tells D.seen D.may_leave cells.new }
     ensures any_moment { D.tells → LeavesOnly D.moment D.left_since (disk_of cells.old) (disk_of cells.new) (IsBeforeOrAfter (cells_of cells.old) (slice_set (cells_of cells.old) cell (Some payload.now))) }
+    ensures length { D.tells → NotLonger D.moment D.left_since D.may_leave (disk_of cells.old) (disk_of cells.new) 0 }
     ensures other { IsNeitherFullNorForeign result }
     ensures cause { HasShelfCause result (D.fault_count (disk_of cells.old)) (D.fault_count (disk_of cells.new)) }
 {
@@ -57,6 +59,7 @@ fn change_in_steps<D: Disk>(
     ensures stands { OnOk result (Stands D.tells D.seen D.may_leave cells.new) }
     ensures after_no_memory { IsErrOf result CellFault.NoMemory → Stands D.tells D.seen D.may_leave cells.new }
     ensures any_moment { D.tells → LeavesOnly D.moment D.left_since (disk_of cells.old) (disk_of cells.new) (IsBeforeOrAfter (cells_of cells.old) (slice_set (cells_of cells.old) cell (Some payload.now))) }
+    ensures length { D.tells → NotLonger D.moment D.left_since D.may_leave (disk_of cells.old) (disk_of cells.new) 0 }
     ensures cause { IsFaultOfDisk result (D.fault_count (disk_of cells.old)) (D.fault_count (disk_of cells.new)) }
 {
     cells.close_spare(cell)?;

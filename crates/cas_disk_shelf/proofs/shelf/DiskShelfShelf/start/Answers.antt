@@ -1,6 +1,10 @@
 use Rattle.std.proofs.Common.{refl, ◌∙◌, arith}
 use Rattle.cas_slot.specs.Contents.{no_ages}
+use Rattle.cas_cells.specs.Cells as cells
+use Rattle.cas_cells.proofs.Lengths.{within_more, then_no_longer}
 use Rattle.cas_disk_shelf.specs.Head.{FitsHead}
+use Rattle.cas_disk_shelf.specs.Shelf.{disk_of}
+use Rattle.cas_disk_shelf.proofs.Lengths.{stays_short}
 use Rattle.cas_disk_shelf.proofs.Opening.{new_memory, new_fits}
 use Rattle.cas_disk_shelf.proofs.shelf.DiskShelfShelf.start.Goals as goal
 
@@ -13,3 +17,25 @@ returns-clause-up g c =
           c.new.ensures.held c.new.ensures.index c.new.ensures.free c.new.ensures.counted;
       fits = new_fits no_ages c.new.result.held c.new.ensures.held;
     }
+
+pub returns-in-Err-clause-length : goal.returns-in-Err-clause-length
+returns-in-Err-clause-length g c tells =
+    let old = c.args.self.now in
+    let mid = cells.disk_of c.crash.new.self in
+    let new = cells.disk_of c.format.new.self in
+    stays_short g.D.Disk.moment g.D.Disk.left_since g.D.Disk.may_leave old _ 1024
+    (λ t image later left. g.met.D.Disk.counts_now (disk_of old) t image tells later left) (omega arith)
+    (then_no_longer g.D.Disk.moment g.D.Disk.left_since g.D.Disk.may_leave (disk_of old) mid new 1024
+    (λ image later left. g.met.D.Disk.counts_now mid _ image tells later left)
+    (within_more g.D.Disk.moment g.D.Disk.left_since g.D.Disk.may_leave (disk_of old) mid 0 1024 (omega arith) (c.crash.ensures.length tells)) (c.format.ensures.length tells))
+
+pub returns-clause-length : goal.returns-clause-length
+returns-clause-length g c tells =
+    let old = c.args.self.now in
+    let mid = cells.disk_of c.crash.new.self in
+    let new = cells.disk_of c.format.new.self in
+    stays_short g.D.Disk.moment g.D.Disk.left_since g.D.Disk.may_leave old _ 1024
+    (λ t image later left. g.met.D.Disk.counts_now (disk_of old) t image tells later left) (omega arith)
+    (then_no_longer g.D.Disk.moment g.D.Disk.left_since g.D.Disk.may_leave (disk_of old) mid new 1024
+    (λ image later left. g.met.D.Disk.counts_now mid _ image tells later left)
+    (within_more g.D.Disk.moment g.D.Disk.left_since g.D.Disk.may_leave (disk_of old) mid 0 1024 (omega arith) (c.crash.ensures.length tells)) (c.format.ensures.length tells))
