@@ -14,7 +14,7 @@ use cas_ballot::Ballot;
 use cas_change::Key;
 use cas_slot::{Ages, PROPOSERS, Slot};
 use cas_wire::parts::{
-    Part, push_accepted, push_ballot, push_key, take_accepted, take_ballot, take_key,
+    Part, push_accepted, push_ballot, push_key, rise_at, take_accepted, take_ballot, take_key,
 };
 use std::alloc::{AllocError, Global};
 
@@ -111,25 +111,6 @@ fn unlike_at(text: &[u8], bytes: &[u8]) -> Option<usize>
         return Some(0);
     }
     match unlike_at(text, rest) {
-        Some(i) => Some(i + 1),
-        None => None,
-    }
-}
-
-/// The place of the byte by which a number rises above this limit, where it does.
-fn rise_at(limit: &[u8], bytes: &[u8]) -> Option<usize>
-    ensures place { result ≡ rise_at limit.now bytes.now }
-    ensures within { IfSome result (λ i. i < length bytes.now) }
-{
-    let (most, limit) = limit.split_first()?;
-    let (byte, rest) = bytes.split_first()?;
-    if byte < most {
-        return None;
-    }
-    if most < byte {
-        return Some(0);
-    }
-    match rise_at(limit, rest) {
         Some(i) => Some(i + 1),
         None => None,
     }

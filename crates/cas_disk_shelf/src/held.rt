@@ -1,17 +1,15 @@
 //! What a shelf shows: its slots in the order of their keys, and its least ages, in memory.
 ghost use Rattle.std.specs.Prelude.{◌≡◌, ◌+◌, ◌≤◌, IfOk, OnOk, OnErr, IsTrue, None, is_some, take, if◌then◌else◌};
-ghost use Rattle.std.specs.FinMap as map;
 ghost use Rattle.std.specs.Option.{option_copied};
 ghost use Rattle.cas_slot.specs.Slots.{keys_above, slot_count};
 ghost use Rattle.cas_slot.specs.Contents.{no_ages, kept_at, with_kept, without_kept};
 ghost use Rattle.cas_slot.specs.Slots.{no_slots};
 
 use cas_change::Key;
-use cas_slot::{Ages, Slot};
+use cas_slot::{Ages, Slot, keys_after};
 use std::alloc::{AllocError, Global};
 use std::collections::BTreeMap;
 use std::marker::Model;
-use std::ops::Bound;
 
 /// The slots and the least ages, seen as the contents of a shelf.
 #[derive(Drop)]
@@ -102,27 +100,4 @@ impl Held {
     {
         self.ages = ages;
     }
-}
-
-/// The first `most` keys above this one, or the first `most` of all.
-fn keys_after(
-    alloc: Global,
-    slots: &BTreeMap<Key, Slot>,
-    after: Option<&Key>,
-    most: usize,
-) -> Result<Vec<Key>, AllocError>
-    ensures { IfOk result (λ found. found.items ≡ take most (keys_above (map.from_entries slots.now.entries) (option_copied after.entry))) }
-{
-    let start = match after {
-        Some(key) => Bound::Excluded(key),
-        None => Bound::Unbounded,
-    };
-    let mut found = Vec::new(alloc);
-    for entry in slots.range((start, Bound::Unbounded)) {
-        if found.len() == most {
-            break;
-        }
-        found.push(entry.0.copy()?)?;
-    }
-    Ok(found)
 }

@@ -26,7 +26,7 @@ AskBallotsFit (ask.Probe tag key) = FitsBallot tag
 abbrev pub CanBeListed : Option (List ℕ) → List (List ℕ) → Bool → Type 0
 CanBeListed after keys more = IsTrue (rises after keys) × (IsTrue more → length keys ≡ 4)
 
--- the ballots of an answer are within their limits, and a listing is one
+-- the ballots of an answer are within their limits, and its listing is one that can be
 abbrev pub TellFits : Tell → Type 0
 TellFits (tell.Promised accepted) = IfSome accepted (λ a. FitsBallot a.ballot)
 TellFits (tell.Met ballot) = FitsBallot ballot

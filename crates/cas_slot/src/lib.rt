@@ -17,7 +17,7 @@ mod slots;
 
 pub use ages::{Ages, PROPOSERS};
 pub use fault::ShelfFault;
-pub use map_shelf::MapShelf;
+pub use map_shelf::{MapShelf, keys_after};
 pub use message::{Ask, Phase, Reply, Request, Tell};
 pub use page::{MOST_KEYS, Page};
 pub use rules::{AcceptRule, PrepareRule, RemoveRule, on_accept, on_prepare, on_remove};

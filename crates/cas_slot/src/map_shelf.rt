@@ -146,8 +146,8 @@ fn is_full_for(slots: &BTreeMap<Key, Slot>, key: &Key) -> bool
     }
 }
 
-/// The first `most` keys above this one, or the first `most` of all.
-fn keys_after(
+/// The first `most` keys above this one, or the first `most` of all, in the order of their bytes.
+pub fn keys_after(
     alloc: Global,
     slots: &BTreeMap<Key, Slot>,
     after: Option<&Key>,

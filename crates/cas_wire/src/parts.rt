@@ -8,6 +8,7 @@ ghost use Rattle.cas_wire.specs.Part.{IsPart, IsSpelledPart, StopsAtFirst};
 ghost use Rattle.cas_wire.specs.Reading.{key_at, ballot_at, optional_at, accepted_at};
 ghost use Rattle.cas_wire.specs.Spelling.{key_spelling, ballot_spelling, accepted_spelling, optional_spelling, FitsAccepted};
 
+pub use crate::reading::rise_at;
 use crate::reading::{self, ReadError};
 use crate::writing;
 use cas_ballot::Ballot;

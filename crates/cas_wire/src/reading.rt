@@ -104,8 +104,8 @@ pub(crate) fn u64_at(bytes: &[u8]) -> Result<(u64, &[u8]), ReadError>
     Ok((number, rest))
 }
 
-/// The place of the byte by which a number rises above this limit, where it does.
-fn rise_at(limit: &[u8], bytes: &[u8]) -> Option<usize>
+/// The place of the byte by which a big-endian number rises above this limit, where it does.
+pub fn rise_at(limit: &[u8], bytes: &[u8]) -> Option<usize>
     ensures place { result ≡ rise_at limit.now bytes.now }
     ensures within { IfSome result (λ i. i < length bytes.now) }
 {
