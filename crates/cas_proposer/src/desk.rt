@@ -231,14 +231,14 @@ impl<V: Disk> Desk<V> {
     /// counter becomes at least the tombstone's, and the age rises by one. In the same change the bound rises to the counter, where
     /// that is above it. Answers the new age.
     ///
-    /// `Spent` comes exactly where the age is 2^48, and all is as before then. After `NoMemory` the counter may be the tombstone's already;
-    /// all else is as before. `VaultFault` is a crash: the desk is down, its round is closed and its cache is empty.
+    /// `Spent` comes exactly where the age is 2^48, and all is as before then. After `NoMemory` the counter has become at least the
+    /// tombstone's, too; all else is as before. `VaultFault` is a crash: the desk is down, its round is closed and its cache is empty.
     pub fn renew(&mut self, key: &Key, tomb: Ballot) -> Result<u64, VaultError>
         requires up { self.old.down ≡ false }
         requires within { tomb.counter ≤ 2 ^ 48 }
         ensures age { IfOk result (λ age. age ≡ (kept_of self.old.vault).age + 1) }
         ensures desk { OnOk result (self.new ≡ record self.old { vault = self.new.vault; cache = without key.now (cache_without self.old.round self.old.cache); round = None }) }
-        ensures counter { OnOk result (counter_of self.new.vault ≡ max (counter_of self.old.vault) tomb.counter) }
+        ensures counter { IsErrOf result VaultError.Spent ⊎ (counter_of self.new.vault ≡ max (counter_of self.old.vault) tomb.counter) }
         ensures kept { OnOk result (kept_of self.new.vault ≡ kept_one_older (max (counter_of self.old.vault) tomb.counter) (kept_of self.old.vault)) }
 
         // The vault is then past the tombstone, and still past each number that it was past.

@@ -13,11 +13,8 @@ use cas_round::RoundVerdict;
 use cas_slot::{Phase, Reply, Tell};
 use cas_vault::Vault;
 use std::alloc::Global;
+use std::process::Abort;
 use std::test::Fail;
-
-const fn drawn(counter: u64, proposer: u8) -> Option<Ballot> {
-    Some(Ballot { counter, proposer })
-}
 
 fn at(counter: u64, proposer: u8) -> Ballot
     ensures { result ≡ record { counter = counter; proposer = proposer } }
@@ -191,115 +188,126 @@ fn desk_of(alloc: Global, number: u8) -> Result<Desk<MemoryDisk>, Fail>
     }
 }
 
+// A step, the counter of its round's ballot and of the one that rode with it, both of the proposer itself.
+type Row = (Step, Option<u64>, Option<u64>);
+
+// A crash without an open round, in which nothing is drawn.
+const IDLE: Row = (Crash, None, None);
+
+// Worked runs: the proposer, and its steps.
+const RUNS: [(u8, [Row; 4]); 9] = [
+    // A change rides on the promise of the one before.
+    (
+        1,
+        [
+            (Settle, Some(1), Some(2)),
+            (Settle, Some(2), Some(3)),
+            (Settle, Some(3), Some(4)),
+            (Settle, Some(4), Some(5)),
+        ],
+    ),
+    // The counter goes on from a ballot that was met, in either phase.
+    (
+        2,
+        [
+            (Meet(3, 1), Some(1), None),
+            (Settle, Some(4), Some(5)),
+            IDLE,
+            IDLE,
+        ],
+    ),
+    (
+        1,
+        [
+            (Settle, Some(1), Some(2)),
+            (Settle, Some(2), Some(3)),
+            (Meet(5, 2), Some(3), Some(4)),
+            (Settle, Some(6), Some(7)),
+        ],
+    ),
+    // After a crash it goes on from the bound.
+    (
+        1,
+        [
+            (Stop, Some(1), None),
+            (Settle, Some(101), Some(102)),
+            IDLE,
+            (Settle, Some(201), Some(202)),
+        ],
+    ),
+    // After a renewal the bound is the counter, and the promise is gone.
+    (
+        2,
+        [
+            (Renew(4), None, None),
+            (Settle, Some(5), Some(6)),
+            IDLE,
+            (Settle, Some(105), Some(106)),
+        ],
+    ),
+    (
+        1,
+        [
+            (Settle, Some(1), Some(2)),
+            (Settle, Some(2), Some(3)),
+            (Renew(4), None, None),
+            (Settle, Some(5), Some(6)),
+        ],
+    ),
+    // In another era no promise is used.
+    (
+        1,
+        [
+            (Settle, Some(1), Some(2)),
+            (Move, None, None),
+            (Meet(7, 0), Some(3), None),
+            (Settle, Some(8), Some(9)),
+        ],
+    ),
+    // Nothing rides with proposer 0, and nothing above the last number.
+    (
+        0,
+        [
+            (Meet(3, 1), Some(1), None),
+            (Settle, Some(4), None),
+            (Settle, Some(5), None),
+            IDLE,
+        ],
+    ),
+    (
+        1,
+        [
+            (Renew((1 << 48) - 1), None, None),
+            (Settle, Some(1 << 48), None),
+            IDLE,
+            IDLE,
+        ],
+    ),
+];
+
+fn drawn(counter: Option<u64>, proposer: u8) -> Option<Ballot> {
+    match counter {
+        Some(counter) => Some(at(counter, proposer)),
+        None => None,
+    }
+}
+
+// Takes the steps of a run, each of which has to draw what stands beside it.
+fn follow(rt: &impl Abort, alloc: Global, proposer: u8, steps: [Row; 4]) -> Result<(), Fail> {
+    let key = Key::read(alloc, b"a")?;
+    let mut desk = desk_of(alloc, proposer)?;
+    for (step, ballot, ride) in steps {
+        let found = take(&mut desk, &key, step)?;
+        let wanted = (drawn(ballot, proposer), drawn(ride, proposer));
+        assert_eq!(rt; found, wanted, "{step:?} of proposer {proposer}");
+    }
+    Ok(())
+}
+
 #[test]
 fn desks_draw_as_in_worked_runs(rt: HostRuntime) -> Result<(), Fail> {
-    let key = Key::read(rt.alloc(), b"a")?;
-    let none = (Crash, None, None);
-    // The proposer, and for each step the ballot of its round and the one that rode with it.
-    let rows: [(u8, [(Step, Option<Ballot>, Option<Ballot>); 4]); 9] = [
-        // A change rides on the promise of the one before.
-        (
-            1,
-            [
-                (Settle, drawn(1, 1), drawn(2, 1)),
-                (Settle, drawn(2, 1), drawn(3, 1)),
-                (Settle, drawn(3, 1), drawn(4, 1)),
-                (Settle, drawn(4, 1), drawn(5, 1)),
-            ],
-        ),
-        // The counter goes on from a ballot that was met, in either phase.
-        (
-            2,
-            [
-                (Meet(3, 1), drawn(1, 2), None),
-                (Settle, drawn(4, 2), drawn(5, 2)),
-                none,
-                none,
-            ],
-        ),
-        (
-            1,
-            [
-                (Settle, drawn(1, 1), drawn(2, 1)),
-                (Settle, drawn(2, 1), drawn(3, 1)),
-                (Meet(5, 2), drawn(3, 1), drawn(4, 1)),
-                (Settle, drawn(6, 1), drawn(7, 1)),
-            ],
-        ),
-        // After a crash it goes on from the bound.
-        (
-            1,
-            [
-                (Stop, drawn(1, 1), None),
-                (Settle, drawn(101, 1), drawn(102, 1)),
-                none,
-                (Settle, drawn(201, 1), drawn(202, 1)),
-            ],
-        ),
-        // After a renewal the bound is the counter, and the promise is gone.
-        (
-            2,
-            [
-                (Renew(4), None, None),
-                (Settle, drawn(5, 2), drawn(6, 2)),
-                none,
-                (Settle, drawn(105, 2), drawn(106, 2)),
-            ],
-        ),
-        (
-            1,
-            [
-                (Settle, drawn(1, 1), drawn(2, 1)),
-                (Settle, drawn(2, 1), drawn(3, 1)),
-                (Renew(4), None, None),
-                (Settle, drawn(5, 1), drawn(6, 1)),
-            ],
-        ),
-        // In another era no promise is used.
-        (
-            1,
-            [
-                (Settle, drawn(1, 1), drawn(2, 1)),
-                (Move, None, None),
-                (Meet(7, 0), drawn(3, 1), None),
-                (Settle, drawn(8, 1), drawn(9, 1)),
-            ],
-        ),
-        // Nothing rides with proposer 0, and nothing above the last number.
-        (
-            0,
-            [
-                (Meet(3, 1), drawn(1, 0), None),
-                (Settle, drawn(4, 0), None),
-                (Settle, drawn(5, 0), None),
-                none,
-            ],
-        ),
-        (
-            1,
-            [
-                (Renew((1 << 48) - 1), None, None),
-                (Settle, drawn(1 << 48, 1), None),
-                none,
-                none,
-            ],
-        ),
-    ];
-    for (number, [first, second, third, fourth]) in rows {
-        let mut desk = desk_of(rt.alloc(), number)?;
-        let drawn = [
-            take(&mut desk, &key, first.0)?,
-            take(&mut desk, &key, second.0)?,
-            take(&mut desk, &key, third.0)?,
-            take(&mut desk, &key, fourth.0)?,
-        ];
-        let wanted = [
-            (first.1, first.2),
-            (second.1, second.2),
-            (third.1, third.2),
-            (fourth.1, fourth.2),
-        ];
-        assert_eq!(rt; drawn, wanted, "of proposer {number}");
+    for (proposer, steps) in RUNS {
+        follow(&rt, rt.alloc(), proposer, steps)?;
     }
     Ok(())
 }
