@@ -297,6 +297,7 @@ impl<D: Disk> Shelf for DiskShelf<D> {
     }
 
     fn crash(&mut self)
+        ensures settled { D.tells → Only (D.seen (disk_of self.new)) (D.may_leave (disk_of self.new)) }
         ensures any_moment { D.tells → LeavesOnly (moment_of D.moment) (LeftSince D.left_since) self.old self.new (MayLeave D.may_leave self.old) }
         ensures length { D.tells → StaysShort D.moment D.left_since D.may_leave self.old self.new }
         ensures never_falls { D.fault_count (disk_of self.old) ≤ D.fault_count (disk_of self.new) }
