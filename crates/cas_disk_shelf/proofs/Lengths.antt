@@ -6,7 +6,7 @@ use Rattle.cas_cells.specs.Length.{NotLonger}
 use Rattle.cas_cells.proofs.Lengths.{within_more, then_no_longer}
 use Rattle.cas_disk_shelf.specs.declared.shelf.DiskShelf.{DiskShelf}
 use Rattle.cas_disk_shelf.specs.Shelf.{disk_of, contents_of}
-use Rattle.cas_disk_shelf.specs.Length.{IsShort, StaysShort}
+use Rattle.cas_disk_shelf.specs.Length.{StaysShort}
 
 module _ {D : Type 0} (moment : D → ℕ) (left_since : D → ℕ → List ℕ → Type 0) (may_leave : D → List ℕ → Type 0) (old new : DiskShelf D) where
   -- a call that makes the disk no longer than to the end of the cell behind those of the slots

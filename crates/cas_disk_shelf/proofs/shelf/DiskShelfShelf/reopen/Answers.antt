@@ -1,4 +1,4 @@
-use Rattle.std.proofs.Common.{◌≡◌, List, ℕ, ap, length, arith}
+use Rattle.std.proofs.Common.{◌≡◌, ap, length, arith}
 use Rattle.cas_cells.specs.Cells as cells
 use Rattle.cas_cells.proofs.Lengths.{then_no_longer, no_longer_than_seen}
 use Rattle.cas_disk_shelf.specs.Shelf.{disk_of}
