@@ -1,5 +1,5 @@
 //! The ballots that desks draw in worked runs, without acceptors.
-ghost use Rattle.std.specs.Prelude.{◌≡◌, ◌≤◌, ◌^◌, false, None, is_some, IsTrue, IfOk, OnOk};
+ghost use Rattle.std.specs.Prelude.{◌≡◌, ◌≤◌, ◌^◌, false, None, is_some, IsTrue, IfOk, IfSome, OnOk};
 ghost use Rattle.cas_round.specs.Replies.{met_by};
 ghost use Rattle.cas_proposer.specs.Desk.{is_in_prepare, may_ride, met_counter};
 
@@ -7,11 +7,11 @@ use crate::{Began, Desk};
 use cas_ballot::{AcceptorId, Ballot, Members, ProposerId};
 use cas_cache::Ready;
 use cas_change::{Key, State};
-use cas_disk::{Disk, Image, MemoryDisk};
+use cas_disk::{Disk, Image, MemoryDisk, Trouble};
 use cas_quorum::Era;
 use cas_round::RoundVerdict;
 use cas_slot::{Phase, Reply, Tell};
-use cas_vault::Vault;
+use cas_vault::{Vault, VaultError};
 use std::alloc::Global;
 use std::process::Abort;
 use std::test::Fail;
@@ -174,17 +174,31 @@ fn take<V: Disk>(desk: &mut Desk<V>, key: &Key, step: Step) -> Result<Ballots, F
     }
 }
 
+// A desk whose disk fails at the call of that number, where its vault starts all the same. The calls are numbered from 1.
+fn failing(alloc: Global, number: u8, call: u64) -> Result<Option<Desk<MemoryDisk>>, Fail>
+    ensures up { IfOk result (λ found. IfSome found (λ desk. desk.down ≡ false)) }
+    ensures idle { IfOk result (λ found. IfSome found (λ desk. desk.round ≡ None)) }
+{
+    let id = ProposerId::new(number).ok_or("a number below 17")?;
+    let troubles = [(call, Trouble::Fail)].to_vec(alloc)?;
+    let disk = MemoryDisk::new(alloc, Vec::new(alloc), troubles, Image::New);
+    let mut vault = Vault::over(alloc, disk);
+    if vault.start().is_err() {
+        return Ok(None);
+    }
+    match Desk::new(alloc, id, vault) {
+        Ok(desk) => Ok(Some(desk)),
+        Err(_) => Err(Fail::from("no memory")),
+    }
+}
+
 fn desk_of(alloc: Global, number: u8) -> Result<Desk<MemoryDisk>, Fail>
     ensures up { IfOk result (λ desk. desk.down ≡ false) }
     ensures idle { IfOk result (λ desk. desk.round ≡ None) }
 {
-    let disk = MemoryDisk::new(alloc, Vec::new(alloc), Vec::new(alloc), Image::New);
-    let mut vault = Vault::over(alloc, disk);
-    vault.start()?;
-    let id = ProposerId::new(number).ok_or("a number below 17")?;
-    match Desk::new(alloc, id, vault) {
-        Ok(desk) => Ok(desk),
-        Err(_) => Err(Fail::from("no memory")),
+    match failing(alloc, number, 0)? {
+        Some(desk) => Ok(desk),
+        None => Err(Fail::from("a vault that does not start")),
     }
 }
 
@@ -327,5 +341,31 @@ fn a_restart_keeps_age_and_era(rt: HostRuntime) -> Result<(), Fail> {
     assert_eq!(rt; (desk.age(), desk.era()), (1, 7));
     assert_eq!(rt; desk.tag()?, at(101, 0));
     assert_eq!(rt; desk.into_vault().counter(), 101);
+    Ok(())
+}
+
+// What a crash leaves of a draw that failed is the bound from before it or the one that it writes.
+#[test]
+fn a_fault_of_its_vault_takes_a_desk_down(rt: HostRuntime) -> Result<(), Fail> {
+    let mut old_bounds = 0u32;
+    let mut new_bounds = 0u32;
+    for call in 1..=30 {
+        let Some(mut desk) = failing(rt.alloc(), 1, call)? else {
+            continue;
+        };
+        match desk.tag() {
+            Ok(tag) => assert_eq!(rt; (tag, desk.is_down()), (at(1, 1), false)),
+            Err(fault) => {
+                assert_eq!(rt; (fault, desk.is_down()), (VaultError::VaultFault, true));
+                desk.restart()?;
+                match desk.tag()?.counter {
+                    1 => old_bounds = old_bounds.saturating_add(1),
+                    101 => new_bounds = new_bounds.saturating_add(1),
+                    _ => return Err(Fail::from("another counter")),
+                }
+            }
+        }
+    }
+    assert!(rt; old_bounds > 0 && new_bounds > 0);
     Ok(())
 }
