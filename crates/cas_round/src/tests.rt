@@ -138,91 +138,111 @@ fn played(
     (prepared, accepted, read)
 }
 
+/// How a phase ends: acceptors and ballots by their numbers, and so many that confirmed of two that are needed.
+#[derive(Clone, Copy)]
+enum End {
+    Quorum,
+    Met(u64),
+    Aged(u64),
+    Full(u8),
+    Short(u32),
+}
+
+fn verdict_of(end: End) -> Result<RoundVerdict, Fail> {
+    Ok(match end {
+        End::Quorum => Quorum,
+        End::Met(counter) => RoundVerdict::Met(at(counter)),
+        End::Aged(least) => RoundVerdict::Aged(least),
+        End::Full(number) => RoundVerdict::Full(AcceptorId::new(number).ok_or("below 64")?),
+        End::Short(got) => Short { got, need: 2 },
+    })
+}
+
+/// Four replies, how both phases end, and the counter of what a prepare phase reads.
+const ROWS: [([(u8, Said); 4], End, u64); 14] = [
+    // No second reply of one acceptor counts.
+    (
+        [(1, Yes(0)), (1, Yes(0)), (1, Yes(0)), (1, Yes(0))],
+        End::Short(1),
+        0,
+    ),
+    (
+        [(1, Yes(0)), (1, Yes(2)), (2, Late), (3, Nothing)],
+        End::Short(1),
+        2,
+    ),
+    // No stranger counts.
+    (
+        [(1, Yes(0)), (4, Yes(0)), (5, Yes(0)), (6, Yes(0))],
+        End::Short(1),
+        0,
+    ),
+    (
+        [(1, Nothing), (2, Late), (3, Late), (1, Late)],
+        End::Short(0),
+        0,
+    ),
+    // A quorum, whatever else was told, with the greatest that was accepted.
+    (
+        [(1, Yes(0)), (2, Yes(0)), (3, Met(9)), (1, Yes(0))],
+        End::Quorum,
+        0,
+    ),
+    (
+        [(1, Yes(3)), (2, Yes(4)), (3, Yes(2)), (1, Yes(3))],
+        End::Quorum,
+        4,
+    ),
+    (
+        [(1, Yes(3)), (2, Yes(0)), (3, Aged(2)), (3, Full)],
+        End::Quorum,
+        3,
+    ),
+    // Met before Aged before Full before Short, with the greatest or the least.
+    (
+        [(1, Met(6)), (2, Met(8)), (3, Met(7)), (2, Met(8))],
+        End::Met(8),
+        0,
+    ),
+    (
+        [(1, Yes(1)), (2, Aged(9)), (3, Met(6)), (2, Full)],
+        End::Met(6),
+        1,
+    ),
+    (
+        [(1, Aged(2)), (2, Aged(3)), (3, Aged(1)), (1, Aged(2))],
+        End::Aged(3),
+        0,
+    ),
+    (
+        [(1, Full), (2, Aged(4)), (3, Yes(2)), (1, Full)],
+        End::Aged(4),
+        2,
+    ),
+    (
+        [(3, Full), (2, Full), (1, Yes(0)), (3, Full)],
+        End::Full(2),
+        0,
+    ),
+    (
+        [(1, Full), (3, Full), (2, Full), (3, Yes(0))],
+        End::Full(1),
+        0,
+    ),
+    (
+        [(2, Full), (1, Late), (3, Nothing), (2, Full)],
+        End::Full(2),
+        0,
+    ),
+];
+
 #[test]
 fn end_alike_in_every_order(rt: HostRuntime) -> Result<(), Fail> {
-    let first = AcceptorId::new(1).ok_or("a number below 64")?;
-    let second = AcceptorId::new(2).ok_or("a number below 64")?;
-    // Four replies, how both phases end, and the counter of what a prepare phase reads.
-    let rows = [
-        // No second reply of one acceptor counts.
-        (
-            [(1, Yes(0)), (1, Yes(0)), (1, Yes(0)), (1, Yes(0))],
-            Short { got: 1, need: 2 },
-            0,
-        ),
-        (
-            [(1, Yes(0)), (1, Yes(2)), (2, Late), (3, Nothing)],
-            Short { got: 1, need: 2 },
-            2,
-        ),
-        // No stranger counts.
-        (
-            [(1, Yes(0)), (4, Yes(0)), (5, Yes(0)), (6, Yes(0))],
-            Short { got: 1, need: 2 },
-            0,
-        ),
-        (
-            [(1, Nothing), (2, Late), (3, Late), (1, Late)],
-            Short { got: 0, need: 2 },
-            0,
-        ),
-        // A quorum, whatever else was told, with the greatest that was accepted.
-        (
-            [(1, Yes(0)), (2, Yes(0)), (3, Met(9)), (1, Yes(0))],
-            Quorum,
-            0,
-        ),
-        (
-            [(1, Yes(3)), (2, Yes(4)), (3, Yes(2)), (1, Yes(3))],
-            Quorum,
-            4,
-        ),
-        (
-            [(1, Yes(3)), (2, Yes(0)), (3, Aged(2)), (3, Full)],
-            Quorum,
-            3,
-        ),
-        // Met before Aged before Full before Short, with the greatest or the least.
-        (
-            [(1, Met(6)), (2, Met(8)), (3, Met(7)), (2, Met(8))],
-            RoundVerdict::Met(at(8)),
-            0,
-        ),
-        (
-            [(1, Yes(1)), (2, Aged(9)), (3, Met(6)), (2, Full)],
-            RoundVerdict::Met(at(6)),
-            1,
-        ),
-        (
-            [(1, Aged(2)), (2, Aged(3)), (3, Aged(1)), (1, Aged(2))],
-            RoundVerdict::Aged(3),
-            0,
-        ),
-        (
-            [(1, Full), (2, Aged(4)), (3, Yes(2)), (1, Full)],
-            RoundVerdict::Aged(4),
-            2,
-        ),
-        (
-            [(3, Full), (2, Full), (1, Yes(0)), (3, Full)],
-            RoundVerdict::Full(second),
-            0,
-        ),
-        (
-            [(1, Full), (3, Full), (2, Full), (3, Yes(0))],
-            RoundVerdict::Full(first),
-            0,
-        ),
-        (
-            [(2, Full), (1, Late), (3, Nothing), (2, Full)],
-            RoundVerdict::Full(second),
-            0,
-        ),
-    ];
-    for (replies, verdict, read) in rows {
+    for (replies, end, read) in ROWS {
+        let verdict = verdict_of(end)?;
+        let reads = if read == 0 { None } else { Some(at(read)) };
         for order in ORDERS {
             let (prepared, accepted, counter) = played(&replies, &order);
-            let reads = if read == 0 { None } else { Some(at(read)) };
             assert_eq!(rt; prepared, verdict, "prepare by {replies:?} in {order:?}");
             assert_eq!(rt; accepted, verdict, "accept by {replies:?} in {order:?}");
             assert_eq!(rt; counter, reads, "what {replies:?} read in {order:?}");
