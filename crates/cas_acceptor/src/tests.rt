@@ -157,50 +157,82 @@ fn answer(alloc: Global, kept: Kept, question: Question) -> Result<(Tell, Option
     Ok((reply.tell, acceptor.into_shelf().get(&key)?))
 }
 
+// Ballots by their counters and proposers.
+const AT_1_1: Ballot = Ballot {
+    counter: 1,
+    proposer: 1,
+};
+
+const AT_1_9: Ballot = Ballot {
+    counter: 1,
+    proposer: 9,
+};
+
+const AT_2_1: Ballot = Ballot {
+    counter: 2,
+    proposer: 1,
+};
+
+const AT_2_2: Ballot = Ballot {
+    counter: 2,
+    proposer: 2,
+};
+
+const AT_3_1: Ballot = Ballot {
+    counter: 3,
+    proposer: 1,
+};
+
+const AT_3_2: Ballot = Ballot {
+    counter: 3,
+    proposer: 2,
+};
+
+const AT_4_1: Ballot = Ballot {
+    counter: 4,
+    proposer: 1,
+};
+
+const FIVE: Option<(Ballot, State5)> = Some((AT_2_1, State5::Five));
+
+const EMPTY: Option<(Ballot, State5)> = Some((AT_2_1, State5::Empty));
+
+const RIDE: Option<Ballot> = Some(AT_4_1);
+
+// What is kept, the ballot of a prepare, the ballot that is met, and what is kept then.
+const PREPARES: [(Kept, Ballot, Option<Ballot>, Kept); 7] = [
+    (None, AT_1_1, None, Some((AT_1_1, None))),
+    (
+        Some((AT_2_1, None)),
+        AT_1_1,
+        Some(AT_2_1),
+        Some((AT_2_1, None)),
+    ),
+    (Some((AT_2_1, None)), AT_2_1, None, Some((AT_2_1, None))),
+    (
+        Some((Ballot::ZERO, FIVE)),
+        AT_2_1,
+        None,
+        Some((Ballot::ZERO, FIVE)),
+    ),
+    (
+        Some((Ballot::ZERO, FIVE)),
+        AT_1_9,
+        Some(AT_2_1),
+        Some((Ballot::ZERO, FIVE)),
+    ),
+    (
+        Some((AT_3_1, FIVE)),
+        AT_2_2,
+        Some(AT_3_1),
+        Some((AT_3_1, FIVE)),
+    ),
+    (Some((AT_3_1, FIVE)), AT_3_2, None, Some((AT_3_2, FIVE))),
+];
+
 #[test]
 fn a_prepare_is_answered_by_the_table(rt: HostRuntime) -> Result<(), Fail> {
-    let five = Some((at(2, 1), State5::Five));
-    let rows: [(Kept, Ballot, Option<Ballot>, Kept); 7] = [
-        // What is kept, the ballot, the ballot that is met, and what is kept then.
-        (None, at(1, 1), None, Some((at(1, 1), None))),
-        (
-            Some((at(2, 1), None)),
-            at(1, 1),
-            Some(at(2, 1)),
-            Some((at(2, 1), None)),
-        ),
-        (
-            Some((at(2, 1), None)),
-            at(2, 1),
-            None,
-            Some((at(2, 1), None)),
-        ),
-        (
-            Some((at(0, 0), five)),
-            at(2, 1),
-            None,
-            Some((at(0, 0), five)),
-        ),
-        (
-            Some((at(0, 0), five)),
-            at(1, 9),
-            Some(at(2, 1)),
-            Some((at(0, 0), five)),
-        ),
-        (
-            Some((at(3, 1), five)),
-            at(2, 2),
-            Some(at(3, 1)),
-            Some((at(3, 1), five)),
-        ),
-        (
-            Some((at(3, 1), five)),
-            at(3, 2),
-            None,
-            Some((at(3, 2), five)),
-        ),
-    ];
-    for (kept, ballot, met, after) in rows {
+    for (kept, ballot, met, after) in PREPARES {
         let (tell, slot) = answer(rt.alloc(), kept, Question::Prepare(ballot))?;
         let want = match met {
             Some(seen) => Tell::Met(seen),
@@ -214,59 +246,57 @@ fn a_prepare_is_answered_by_the_table(rt: HostRuntime) -> Result<(), Fail> {
     Ok(())
 }
 
+// What is kept, the ballot of an accept, what rides, the ballot that is met, and what is kept then.
+const ACCEPTS: [(Kept, Ballot, Option<Ballot>, Option<Ballot>, Kept); 8] = [
+    (None, AT_2_1, None, None, Some((Ballot::ZERO, FIVE))),
+    (None, AT_2_1, RIDE, None, Some((AT_4_1, FIVE))),
+    (
+        Some((AT_2_1, None)),
+        AT_2_1,
+        None,
+        None,
+        Some((Ballot::ZERO, FIVE)),
+    ),
+    (
+        Some((AT_3_1, None)),
+        AT_2_1,
+        RIDE,
+        Some(AT_3_1),
+        Some((AT_3_1, None)),
+    ),
+    (
+        Some((AT_3_1, EMPTY)),
+        AT_2_1,
+        RIDE,
+        None,
+        Some((AT_3_1, EMPTY)),
+    ),
+    (
+        Some((Ballot::ZERO, EMPTY)),
+        AT_2_1,
+        RIDE,
+        None,
+        Some((Ballot::ZERO, EMPTY)),
+    ),
+    (
+        Some((Ballot::ZERO, Some((AT_1_1, State5::Empty)))),
+        AT_2_1,
+        None,
+        None,
+        Some((Ballot::ZERO, FIVE)),
+    ),
+    (
+        Some((Ballot::ZERO, FIVE)),
+        AT_1_9,
+        None,
+        Some(AT_2_1),
+        Some((Ballot::ZERO, FIVE)),
+    ),
+];
+
 #[test]
 fn an_accept_is_answered_by_the_table(rt: HostRuntime) -> Result<(), Fail> {
-    let five = Some((at(2, 1), State5::Five));
-    let empty = Some((at(2, 1), State5::Empty));
-    let ride = Some(at(4, 1));
-    let rows: [(Kept, Ballot, Option<Ballot>, Option<Ballot>, Kept); 8] = [
-        // What is kept, the ballot, what rides, the ballot that is met, and what is kept then.
-        (None, at(2, 1), None, None, Some((at(0, 0), five))),
-        (None, at(2, 1), ride, None, Some((at(4, 1), five))),
-        (
-            Some((at(2, 1), None)),
-            at(2, 1),
-            None,
-            None,
-            Some((at(0, 0), five)),
-        ),
-        (
-            Some((at(3, 1), None)),
-            at(2, 1),
-            ride,
-            Some(at(3, 1)),
-            Some((at(3, 1), None)),
-        ),
-        (
-            Some((at(3, 1), empty)),
-            at(2, 1),
-            ride,
-            None,
-            Some((at(3, 1), empty)),
-        ),
-        (
-            Some((at(0, 0), empty)),
-            at(2, 1),
-            ride,
-            None,
-            Some((at(0, 0), empty)),
-        ),
-        (
-            Some((at(0, 0), Some((at(1, 1), State5::Empty)))),
-            at(2, 1),
-            None,
-            None,
-            Some((at(0, 0), five)),
-        ),
-        (
-            Some((at(0, 0), five)),
-            at(1, 9),
-            None,
-            Some(at(2, 1)),
-            Some((at(0, 0), five)),
-        ),
-    ];
-    for (kept, ballot, ride, met, after) in rows {
+    for (kept, ballot, ride, met, after) in ACCEPTS {
         let (tell, slot) = answer(rt.alloc(), kept, Question::Accept(ballot, ride))?;
         let want = match met {
             Some(seen) => Tell::Met(seen),
