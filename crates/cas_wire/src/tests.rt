@@ -46,7 +46,7 @@ fn state(alloc: Global, which: u8) -> Result<State, Fail> {
 const FRONT: [u8; 14] = [1, 0, 0, 0, 0, 0, 0, 0, 1, 1, 1, 2, 3, 4];
 
 #[test]
-fn each_part_has_its_spelling(rt: HostRuntime) -> Result<(), Fail> {
+fn a_key_and_a_ballot_have_their_spellings(rt: HostRuntime) -> Result<(), Fail> {
     let alloc = rt.alloc();
     let mut out = Vec::new(alloc);
     let key = Key::read(alloc, b"a")?;
@@ -69,7 +69,13 @@ fn each_part_has_its_spelling(rt: HostRuntime) -> Result<(), Fail> {
             used: 9
         }
     );
-    out.clear();
+    Ok(())
+}
+
+#[test]
+fn what_was_accepted_has_its_spelling(rt: HostRuntime) -> Result<(), Fail> {
+    let alloc = rt.alloc();
+    let mut out = Vec::new(alloc);
     push_accepted(&mut out, None)?;
     assert_eq!(rt; out.as_slice(), [0].as_slice());
     let rows: [(u8, &[u8]); 3] = [
@@ -98,7 +104,7 @@ fn each_part_has_its_spelling(rt: HostRuntime) -> Result<(), Fail> {
 }
 
 #[test]
-fn the_first_wrong_byte_is_told(rt: HostRuntime) -> Result<(), Fail> {
+fn the_first_wrong_byte_of_a_key_or_a_ballot_is_told(rt: HostRuntime) -> Result<(), Fail> {
     let alloc = rt.alloc();
     let keys: [(&[u8], usize); 8] = [
         (&[], 0),
@@ -126,6 +132,12 @@ fn the_first_wrong_byte_is_told(rt: HostRuntime) -> Result<(), Fail> {
     for (bytes, at) in ballots {
         assert_eq!(rt; take_ballot(bytes), Part::Wrong { at }, "{bytes:?}");
     }
+    Ok(())
+}
+
+#[test]
+fn the_first_wrong_byte_of_what_was_accepted_is_told(rt: HostRuntime) -> Result<(), Fail> {
+    let alloc = rt.alloc();
     let behind: [(&[u8], usize); 7] = [
         (&[], 14),
         (&[3], 14),
