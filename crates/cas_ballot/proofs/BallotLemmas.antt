@@ -56,9 +56,6 @@ at_most_of_less p = record { counters = omega arith; proposers = λ h. omega ari
 pub less_not_at_most : {a b : Ballot} → BallotLess a b → BallotAtMost b a → ⊥
 less_not_at_most p q = grind arith
 
-pub less_of_not_at_most : {a b : Ballot} → (BallotAtMost a b → ⊥) → BallotLess b a
-less_of_not_at_most {a} {b} never = elim (at_most_or_less a b) [ inl p ↦ absurd (never p) | inr q ↦ q ]
-
 -- ---- the two extensions of less by at most
 pub less_at_most : {a b c : Ballot} → BallotLess a b → BallotAtMost b c → BallotLess a c
 less_at_most p q = record { counters = omega arith; proposers = λ h. omega arith }

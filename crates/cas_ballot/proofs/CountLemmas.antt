@@ -4,6 +4,7 @@ use Rattle.std.specs.Prelude.{cond, ◌==◌, ◌&&◌, ◌||◌, filter}
 use Rattle.std.specs.List.{range_with_len}
 use Rattle.std.proofs.lemmas.Bool.Decides.{nat_tests, eqb_tells}
 use mathlib.Core.Logic.{inl, inr}
+use Rattle.cas_base.proofs.Tests.{or_right, and_right}
 use Rattle.cas_ballot.specs.Members.{members_where, has_member, with_member, without_member, union_of, IsMemberSet}
 use Rattle.cas_ballot.proofs.MemberLemmas.{has-members_where, members_where_same}
 
@@ -79,67 +80,6 @@ pub someone : (p : ℕ → Bool) → 0 < length (members_where p) → Passes p
 unfolding members_where
 someone p h = someone_from p 64 0 (omega arith) h
 
-nobody_from : (p : ℕ → Bool) (w a : ℕ) → ((n : ℕ) → a ≤ n → n < a + w → p n ≡ false) → length (filter p (range_with_len a w)) ≡ 0
-nobody_from p zero a h = refl
-nobody_from p (suc w) a h =
-    let none : p a ≡ false = h a (omega arith) (omega arith) in
-    rw none (nobody_from p w (a + 1) (λ n from to. h n (omega arith) (omega arith)))
-
-pub nobody : (p : ℕ → Bool) → ((n : ℕ) → n < 64 → p n ≡ false) → length (members_where p) ≡ 0
-unfolding members_where
-nobody p h = nobody_from p 64 0 (λ n from to. h n (omega arith))
-
-later_one : (n id a : ℕ) → a ≡ id → a + 1 ≤ n → (n == id) ≡ false
-later_one n id a e h = grind (arith, nat_tests)
-
-one_from : (id w a : ℕ) → a ≤ id → id < a + w → length (filter (λ n. n == id) (range_with_len a w)) ≡ 1
-one_from id zero a from to = absurd (omega arith)
-one_from id (suc w) a from to = elim (eqb_tells a id) [
-  | inl here ↦ rw here.0 (omega (arith, nobody_from (λ n. n == id) w (a + 1) (λ n later below. later_one n id a here.1 later)))
-  | inr later ↦ rw later.0 (one_from id w (a + 1) (omega (arith, later.1)) (omega arith))
-]
-
--- one identity is one acceptor
-pub length-single : (id : ℕ) → id < 64 → length (members_where (λ n. n == id)) ≡ 1
-unfolding members_where
-length-single id h = one_from id 64 0 (omega arith) (omega arith)
-
--- ---- sets
-as_set : (ids : List ℕ) → IsMemberSet ids → length (members_where (has_member ids)) ≡ length ids
-as_set ids set = ap length (sym set.lists)
-
--- what holds of one identity holds of the one that is tested equal
-at_one : (ids : List ℕ) (id n : ℕ) (b : Bool) → has_member ids id ≡ b → (n == id) ≡ true → has_member ids n ≡ b
-at_one ids id n b e same = ap (has_member ids) (eqb-true n id same) ∙ e
-
-newcomer : (e h : Bool) → (e ≡ true → h ≡ false) → (e && h) ≡ false
-newcomer true h f = f refl
-newcomer false h f = refl
-
--- a newcomer is one more
-pub length-with_member : (ids : List ℕ) (id : ℕ) → IsMemberSet ids → id < 64 → has_member ids id ≡ false → length (with_member ids id) ≡ suc (length ids)
-length-with_member ids id set below new =
-    let none : length (members_where (λ n. (n == id) && has_member ids n)) ≡ 0
-    = nobody (λ n. (n == id) && has_member ids n) (λ n small. newcomer (n == id) (has_member ids n) (at_one ids id n false new)) in
-    omega (arith, length-apart (λ n. n == id) (has_member ids), length-single id below, as_set ids set)
-
-split_member : (e h : Bool) → (e ≡ true → h ≡ true) → (e || (not e && h)) ≡ h
-split_member true h f = sym (f refl)
-split_member false h f = refl
-
-not_twice : (e h : Bool) → (e && (not e && h)) ≡ false
-not_twice true h = refl
-not_twice false h = refl
-
--- without one of its members a set has one less
-pub length-without_member : (ids : List ℕ) (id : ℕ) → IsMemberSet ids → id < 64 → has_member ids id ≡ true → suc (length (without_member ids id)) ≡ length ids
-length-without_member ids id set below member =
-    let whole : members_where (λ n. (n == id) || (not (n == id) && has_member ids n)) ≡ members_where (has_member ids)
-    = members_where_same _ _ (λ n small. split_member (n == id) (has_member ids n) (at_one ids id n true member)) in
-    let none : length (members_where (λ n. (n == id) && (not (n == id) && has_member ids n))) ≡ 0
-    = nobody (λ n. (n == id) && (not (n == id) && has_member ids n)) (λ n small. not_twice (n == id) (has_member ids n)) in
-    omega (arith, length-apart (λ n. n == id) (λ n. not (n == id) && has_member ids n), length-single id below, as_set ids set, ap length whole)
-
 implied : (h g : Bool) → (h ≡ true → g ≡ true) → (h || g) ≡ g
 implied true g f = sym (f refl)
 implied false g f = refl
@@ -166,14 +106,6 @@ union_around a b set within =
 pub IsWithin-same : (a : List ℕ) → IsWithin a a
 IsWithin-same a = record { all = λ n small h. h }
 
-or_right : (e h : Bool) → h ≡ true → (e || h) ≡ true
-or_right true h f = refl
-or_right false h f = f
-
-and_right : (e h : Bool) → (e && h) ≡ true → h ≡ true
-and_right true h f = f
-and_right false h f = absurd (cc f)
-
 pub IsWithin-with_member : (ids : List ℕ) (id : ℕ) → IsWithin ids (with_member ids id)
 IsWithin-with_member ids id = record {
   all = λ n small h. has-members_where (λ n. n == id || has_member ids n) n small ∙ or_right (n == id) (has_member ids n) h;
@@ -184,6 +116,15 @@ IsWithin-without_member ids id = record {
   all = λ n small h.
       and_right (not (n == id)) (has_member ids n) (sym (has-members_where (λ n. not (n == id) && has_member ids n) n small) ∙ h);
 }
+
+nobody_from : (p : ℕ → Bool) (w a : ℕ) → ((n : ℕ) → a ≤ n → n < a + w → p n ≡ false) → length (filter p (range_with_len a w)) ≡ 0
+nobody_from p zero a h = refl
+nobody_from p (suc w) a h =
+    let none : p a ≡ false = h a (omega arith) (omega arith) in
+    rw none (nobody_from p w (a + 1) (λ n from to. h n (omega arith) (omega arith)))
+
+later_one : (n id a : ℕ) → a ≡ id → a + 1 ≤ n → (n == id) ≡ false
+later_one n id a e h = grind (arith, nat_tests)
 
 -- ---- one more, for any identity
 one_at_most : (id w a : ℕ) → length (filter (λ n. n == id) (range_with_len a w)) ≤ 1
@@ -196,6 +137,9 @@ one_at_most id (suc w) a = elim (eqb_tells a id) [
 length-single-le : (id : ℕ) → length (members_where (λ n. n == id)) ≤ 1
 unfolding members_where
 length-single-le id = one_at_most id 64 0
+
+as_set : (ids : List ℕ) → IsMemberSet ids → length (members_where (has_member ids)) ≡ length ids
+as_set ids set = ap length (sym set.lists)
 
 -- a set with one more has at most one more
 pub length-with_member-le : (ids : List ℕ) (id : ℕ) → IsMemberSet ids → length (with_member ids id) ≤ suc (length ids)

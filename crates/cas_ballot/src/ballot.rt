@@ -8,6 +8,9 @@ ghost use Rattle.cas_ballot.specs.Ballot.{ballot_cmp, ballot_text};
 use std::cmp::Ordering;
 use std::fmt;
 
+/// The end of counters, and of the ages that go with them: no proposer draws a number above it.
+pub const LAST_COUNTER: u64 = 1 << 48;
+
 /// The name of a round: a counter that its proposer drew, and that proposer's number (Rystsov 2018, section 2.1).
 ///
 /// Ballots are ordered by counter, and by proposer where the counters are equal. They are printed `counter.proposer`.

@@ -8,6 +8,6 @@ mod ballot;
 mod identity;
 mod members;
 
-pub use ballot::Ballot;
+pub use ballot::{Ballot, LAST_COUNTER};
 pub use identity::{AcceptorId, ProposerId};
 pub use members::Members;

@@ -1,4 +1,4 @@
-//! What several crates say in the same words: what it means that a count of faults rose.
+//! What several crates say in the same words: what it means that a count of faults rose, and small lemmas on tests and bytes.
 //!
 //! No type of the store and no rule of the protocol lives here.
 #![tactic(auto)]

@@ -1,0 +1,5 @@
+-- Lists of numbers that are bytes.
+use Rattle.std.proofs.Common.{ℕ, ◌<◌, List, get_or}
+
+abbrev pub IsBytes : List ℕ → Type 0
+IsBytes bytes = (i : ℕ) → get_or bytes i 0 < 256
