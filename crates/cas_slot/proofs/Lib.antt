@@ -1,3 +1,4 @@
+pub mod AgeLemmas
 pub mod LimitLemmas
 pub mod ListingLemmas
 pub mod SlotsLemmas

@@ -1,5 +1,5 @@
 -- The keys of a `BTreeMap` of slots, as those of a finite map.
-use Rattle.std.proofs.Common.{◌≡◌, ℕ, zero, suc, ◌≤◌, Bool, true, false, cond, List, [], ◌∷◌, ◌++◌, map, length, take, sym, ◌∙◌, ap, subst, refl, Some}
+use Rattle.std.proofs.Common.{◌≡◌, ℕ, zero, suc, Bool, true, false, cond, List, [], ◌∷◌, map, length, take, sym, ◌∙◌, ap, subst, refl, Some}
 use Rattle.std.specs.Prelude.{Option, None, filter, ◌&&◌}
 use lib.Dec.{T}
 use Rattle.std.specs.List.{AllByRecursion}
@@ -13,8 +13,7 @@ use Rattle.std.specs.declared.cmp.Ordering.TheVariants.{Less}
 use Rattle.std.specs.declared.ops.Bound.{Bound}
 use Rattle.std.specs.declared.ops.Bound.TheVariants.{Excluded, Unbounded}
 use Rattle.std.specs.BTreeMap.Range.{entries_between}
-use Rattle.std.proofs.lemmas.List.{append-nil, take_all}
-use Rattle.std.proofs.Math.Seq.{take-append_seam}
+use Rattle.cas_base.proofs.Tests.{both_true}
 use Rattle.cas_slot.specs.declared.slot.Slot.{Slot}
 use Rattle.cas_slot.specs.Slots.{Slots, slot_count, is_above, keys_above, rises}
 
@@ -64,14 +63,6 @@ keys-between (Some after) [] = refl
 keys-between None (e ∷ es) = ap (λ (ks : List (List ℕ)). e.0 ∷ ks) (keys-between None es)
 keys-between (Some after) (e ∷ es) = one_more (is_lt (slice_cmp nat_cmp after e.0)) e.0 e.1 _ _ (keys-between (Some after) es)
 
--- keys that fill the page, with others behind them
-pub page_full : (most : ℕ) (keys others all : List (List ℕ)) → length keys ≡ most → keys ++ others ≡ all → keys ≡ take most all
-page_full most keys others all full whole = sym (take-append_seam keys others) ∙ ap (λ (n : ℕ). take n (keys ++ others)) full ∙ ap (λ (ks : List (List ℕ)). take most ks) whole
-
--- keys with none behind them
-pub page_ended : (most : ℕ) (keys all : List (List ℕ)) → length keys ≤ most → keys ++ [] ≡ all → keys ≡ take most all
-page_ended most keys all fits whole = sym (take_all most keys fits) ∙ ap (λ (ks : List (List ℕ)). take most ks) (sym (append-nil keys) ∙ whole)
-
 -- ---- a page of keys rises
 
 true_of : (b : Bool) → T b → b ≡ true
@@ -86,10 +77,6 @@ second : (a b : Bool) → T (a && b) → T b
 second true b h = h
 second false b h = absurd h
 
-and_true : (a b : Bool) → a ≡ true → b ≡ true → (a && b) ≡ true
-and_true true b p q = q
-and_true false b p q = absurd cc
-
 -- so many of the keys that pass a test rise where the entries do
 page_over : (key : List ℕ) (p : List ℕ → Bool) (n : ℕ) (entries : List (List ℕ × Slot)) → T (below_all (slice_cmp nat_cmp) key entries) → T (is_sorted (slice_cmp nat_cmp) entries)
     → rises (Some key) (take n (filter p (map (λ e. e.0) entries))) ≡ true
@@ -101,13 +88,13 @@ page_over key p (suc n) (e ∷ es) below sorted =
     let rest = second (below_all (slice_cmp nat_cmp) e.0 es) (is_sorted (slice_cmp nat_cmp) es) sorted in
     let above = is_lt (slice_cmp nat_cmp key e.0) in
     elim (p e.0) as (λ b. rises (Some key) (take (suc n) (cond b (e.0 ∷ keys) keys)) ≡ true) [
-      | true ↦ and_true above (rises (Some e.0) (take n keys)) (true_of above (first above (below_all (slice_cmp nat_cmp) key es) below)) (page_over e.0 p n es over rest)
+      | true ↦ both_true above (rises (Some e.0) (take n keys)) (true_of above (first above (below_all (slice_cmp nat_cmp) key es) below)) (page_over e.0 p n es over rest)
       | false ↦ page_over key p (suc n) es (second above (below_all (slice_cmp nat_cmp) key es) below) rest
     ]
 
 next_page : (after : Option (List ℕ)) (n : ℕ) (key : List ℕ) (keys : List (List ℕ)) (b : Bool) → is_above after key ≡ b → rises (Some key) (take n keys) ≡ true → rises after (take (suc n) keys) ≡ true
     → rises after (take (suc n) (cond b (key ∷ keys) keys)) ≡ true
-next_page after n key keys true above over later = and_true (is_above after key) (rises (Some key) (take n keys)) above over
+next_page after n key keys true above over later = both_true (is_above after key) (rises (Some key) (take n keys)) above over
 next_page after n key keys false below over later = later
 
 page_from : (after : Option (List ℕ)) (n : ℕ) (entries : List (List ℕ × Slot)) → T (is_sorted (slice_cmp nat_cmp) entries)

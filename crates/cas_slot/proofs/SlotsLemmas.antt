@@ -16,8 +16,6 @@ use Rattle.cas_slot.specs.declared.slot.Slot.{Slot}
 use Rattle.cas_slot.specs.Slots.{Slots, slot_at, with_slot, without_slot}
 
 -- the map of these entries
-abbrev slots_of : List (List ℕ × Slot) → Slots
-slots_of entries = map.from_entries entries
 
 found : (key : List ℕ) (entries : List (List ℕ × Slot)) → lookup (is_at (slice_cmp nat_cmp key)) entries ≡ map.find (slice_cmp nat_cmp) key entries
 found key [] = refl

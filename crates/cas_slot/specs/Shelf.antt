@@ -22,8 +22,12 @@ IsOldOrNew old new left = (left ≡ Ok old) ⊎ (left ≡ Ok new)
 pub record LeavesOnly {S : Type 0} (moment : S → ℕ) (left_since : S → ℕ → Left → Type 0) (old new : S) (P : Left → Type 0) : Type 0 where
   pub later : moment old ≤ moment new
   pub each : (left : Left) → left_since new (moment old) left → P left
-  -- for a run that began earlier
-  pub before : (t : ℕ) (left : Left) → t ≤ moment old → left_since new t left → left_since old t left ⊎ P left
+
+-- Nothing is pending after a crash: it left one of those that it might leave, and a further crash leaves just that again.
+pub record IsSettled (might_leave may_leave : Left → Type 0) : Type 0 where
+  pub left : Left
+  pub was_possible : might_leave left
+  pub nothing_else : (other : Left) → may_leave other → other ≡ left
 
 -- the count of faults does not fall, and `DiskFault` comes only where it rose
 pub record HasShelfCause {T : Type 0} (result : Result T ShelfFault) (old new : ℕ) : Type 0 where

@@ -5,7 +5,7 @@ ghost use Rattle.std.specs.Option.{option_copied};
 ghost use Rattle.cas_slot.specs.Slots.{keys_above, IsFullFor};
 ghost use Rattle.cas_slot.specs.Contents.{Contents, nothing, kept_at, with_kept, without_kept, with_raised};
 ghost use Rattle.cas_slot.specs.Limits.{SlotBallotsFit, AllBallotsFit};
-ghost use Rattle.cas_slot.specs.Shelf.{Left, OnlyLeaves, IsOldOrNew, LeavesOnly, HasShelfCause, IsNeitherFullNorForeign};
+ghost use Rattle.cas_slot.specs.Shelf.{Left, OnlyLeaves, IsOldOrNew, LeavesOnly, IsSettled, HasShelfCause, IsNeitherFullNorForeign};
 
 use crate::ages::Ages;
 use crate::fault::ShelfFault;
@@ -33,34 +33,41 @@ pub trait Shelf {
     /// The moment, as a number that does not fall.
     ghost moment: { Self → ℕ };
 
-    /// What a crash at some moment from that one on might have left, during a call or between two.
+    /// What a crash at some moment from that one on might have left, during a call or between two. Each change of a shelf lets
+    /// go of the moments before it began; of them nothing is told.
     ghost left_since: { Self → ℕ → Left → Type 0 };
 
     /// How often the shelf's disk has failed. At the greatest `u64` the count stands still.
     ghost fault_count: { Self → ℕ };
 
     /// Makes the shelf anew: it has no slot, and each least age is 0. It crashes its disk first, so that nothing is pending
-    /// there. After an `Err` it may be called again. [`ShelfFault::DiskFault`] comes only where the count of faults rose, and
-    /// else [`ShelfFault::NoMemory`] alone comes. What a crash within this call leaves is not said.
+    /// there. After an `Err` what is seen is as before, and it may be called again. [`ShelfFault::DiskFault`] comes only where
+    /// the count of faults rose, and else [`ShelfFault::NoMemory`] alone comes. What a crash within this call leaves is not
+    /// said.
     fn start(&mut self) -> Result<(), ShelfFault>
         ensures started { OnOk result (contents self.new ≡ nothing) }
+        ensures err { OnErr result (contents self.new ≡ contents self.old) }
         ensures up { OnOk result (is_up self.new) }
         ensures other { IsNeitherFullNorForeign result }
         ensures cause { HasShelfCause result (fault_count self.old) (fault_count self.new) };
 
     /// Takes up what a crash left. It crashes its disk first, so that nothing is pending there. [`ShelfFault::Foreign`] tells
     /// that what was left is no shelf; [`ShelfFault::DiskFault`] comes only where the count of faults rose;
-    /// [`ShelfFault::Full`] never comes. After an `Err` it may be called again.
+    /// [`ShelfFault::Full`] never comes. After an `Err` what is seen is as before, a crash leaves nothing that it might not
+    /// leave before, and it may be called again.
     fn reopen(&mut self) -> Result<(), ShelfFault>
         ensures reopened { tells → OnOk result (may_leave self.old (Ok (contents self.new))) }
+        ensures err { OnErr result (contents self.new ≡ contents self.old) }
         ensures foreign { tells → (at : ℕ) → IsErrOf result (ShelfFault.Foreign at) → may_leave self.old (Err at) }
         ensures up { OnOk result (is_up self.new) }
         ensures any_moment { tells → LeavesOnly moment left_since self.old self.new (may_leave self.old) }
         ensures not_full { IsErrOf result ShelfFault.Full → ⊥ }
         ensures cause { HasShelfCause result (fault_count self.old) (fault_count self.new) };
 
-    /// Crashes. A further crash leaves nothing that this one might not leave. The shelf is reopened before it is changed.
+    /// Crashes. Nothing is pending then: it left one of those that a crash might leave, and a further crash leaves that again.
+    /// The shelf is reopened before it is changed.
     fn crash(&mut self)
+        ensures settled { tells → IsSettled (may_leave self.old) (may_leave self.new) }
         ensures any_moment { tells → LeavesOnly moment left_since self.old self.new (may_leave self.old) }
         ensures never_falls { fault_count self.old ≤ fault_count self.new };
 

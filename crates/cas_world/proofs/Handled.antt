@@ -2,7 +2,8 @@
 use Rattle.std.proofs.Common.{◌≡◌, ℕ, List, refl, sym, ap, ◌∙◌}
 use Rattle.std.specs.Prelude.{Option, None, Some}
 use Rattle.cas_slot.specs.declared.slot.Slot.{Slot}
-use Rattle.cas_slot.specs.Rules.{key_of, prepare_rule, accept_rule, tell_by_prepare, tell_by_accept, tell_of, slot_after, slots_after, with_slot_after}
+use Rattle.cas_slot.specs.Rules.{key_of, prepare_rule, accept_rule, tell_by_prepare, tell_by_accept}
+use Rattle.cas_world.specs.Rules.{tell_of, slot_after, slots_after, with_slot_after}
 use Rattle.cas_slot.specs.declared.message.Ask.{Ask}
 use Rattle.cas_slot.specs.declared.message.Ask.TheVariants.{Prepare, Accept}
 use Rattle.cas_slot.specs.declared.message.Tell.{Tell}

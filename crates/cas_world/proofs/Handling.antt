@@ -27,7 +27,8 @@ use Rattle.cas_slot.specs.declared.message.Request.{Request}
 use Rattle.cas_slot.specs.declared.message.Tell.{Tell}
 use Rattle.cas_slot.specs.declared.message.Tell.TheVariants as tell
 use Rattle.cas_slot.specs.Message.{tag_of}
-use Rattle.cas_slot.specs.Rules.{prepare_rule, accept_rule, is_accepted_at, slot_by_prepare, slot_by_accept, tell_by_prepare, tell_by_accept, tell_of, slots_after, with_slot_after, key_of}
+use Rattle.cas_slot.specs.Rules.{prepare_rule, accept_rule, is_accepted_at, tell_by_prepare, tell_by_accept, key_of}
+use Rattle.cas_world.specs.Rules.{slot_by_prepare, slot_by_accept, tell_of, slots_after, with_slot_after}
 use Rattle.cas_slot.specs.Slot.{seen_of, accepted_of, accepted_ballot}
 use Rattle.cas_slot.specs.Slots.{Slots, slot_at}
 use Rattle.cas_slot.proofs.SlotsLemmas.{slot_at-with_slot_same, slot_at-with_slot_other, slot_at-without_slot_same, slot_at-without_slot_other}

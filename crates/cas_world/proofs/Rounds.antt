@@ -13,7 +13,8 @@ use Rattle.cas_slot.specs.declared.rules.AcceptRule.TheVariants as accept
 use Rattle.cas_slot.specs.declared.message.Ask.TheVariants.{Prepare, Accept}
 use Rattle.cas_slot.specs.declared.message.Phase.TheVariants as phase
 use Rattle.cas_slot.specs.declared.message.Tell.TheVariants as tell
-use Rattle.cas_slot.specs.Rules.{prepare_rule, accept_rule, is_accepted_at, tell_of, slot_by_prepare, slot_by_accept, tell_by_prepare, tell_by_accept, with_slot_after}
+use Rattle.cas_slot.specs.Rules.{prepare_rule, accept_rule, is_accepted_at, tell_by_prepare, tell_by_accept}
+use Rattle.cas_world.specs.Rules.{tell_of, slot_by_prepare, slot_by_accept, with_slot_after}
 use Rattle.cas_slot.specs.Slot.{seen_of, accepted_of, accepted_ballot}
 use Rattle.cas_slot.specs.Slots.{Slots, slot_at, with_slot}
 use Rattle.cas_slot.proofs.SlotsLemmas.{slot_cases, slot_at-with_slot_same}

@@ -6,7 +6,8 @@ use Rattle.cas_slot.specs.declared.message.Reply.{Reply}
 use Rattle.cas_slot.specs.declared.message.Ask.{Ask}
 use Rattle.cas_slot.specs.declared.message.Ask.TheVariants.{Prepare, Accept}
 use Rattle.cas_slot.specs.declared.message.Tell.{Tell}
-use Rattle.cas_slot.specs.Rules.{prepare_rule, accept_rule, tell_by_prepare, tell_by_accept, slots_after, reply_of}
+use Rattle.cas_slot.specs.Rules.{prepare_rule, accept_rule, tell_by_prepare, tell_by_accept}
+use Rattle.cas_world.specs.Rules.{slots_after, reply_of}
 use Rattle.cas_slot.specs.Slots.{Slots, with_slot}
 
 -- its identity, and the slots on its shelf

@@ -1,7 +1,8 @@
 //! One acceptor over its shelf.
 
 ghost use Rattle.std.specs.Prelude.{◌≡◌, IfOk, OnOk, OnErr};
-ghost use Rattle.cas_slot.specs.Rules.{prepare_rule, accept_rule, slot_by_prepare, slot_by_accept, slot_after, tell_by_prepare, tell_by_accept, key_of};
+ghost use Rattle.cas_slot.specs.Rules.{prepare_rule, accept_rule, tell_by_prepare, tell_by_accept, key_of};
+ghost use Rattle.cas_world.specs.Rules.{slot_by_prepare, slot_by_accept, slot_after};
 ghost use Rattle.cas_world.specs.Acceptor.{AcceptorView, acceptor_after, replied, slot_with, with_change, IsRoundAsk, IsToldBy};
 
 use crate::slot_store::SlotStore;

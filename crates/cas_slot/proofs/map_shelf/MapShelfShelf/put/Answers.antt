@@ -28,7 +28,6 @@ pub returns-clause-any_moment : goal.returns-clause-any_moment
 returns-clause-any_moment c = λ _. record {
   later = omega arith;
   each = λ left is. inr (is ∙ ap Ok (returns-clause-ok c));
-  before = λ t left le is. inr (inr (is ∙ ap Ok (returns-clause-ok c)));
 }
 
 pub returns-clause-up : goal.returns-clause-up
