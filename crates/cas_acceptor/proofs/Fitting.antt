@@ -19,15 +19,6 @@ put_fits : (key : Bor (List ℕ)) (put : Option Slot) → IfSome put SlotBallots
 put_fits key None fits = tt
 put_fits key (Some slot) fits = fits
 
-prepared_fits : (rule : PrepareRule) (slot : Option Slot) (ballot : Ballot) → IfSome slot SlotBallotsFit → FitsBallot ballot → IfSome (put_by_prepare rule slot ballot) SlotBallotsFit
-prepared_fits prepare.Promise slot ballot all fits = record { promise = fits; accepted = accepted_fits slot all }
-prepared_fits prepare.Again slot ballot all fits = tt
-prepared_fits (prepare.Met seen) slot ballot all fits = tt
-
-pub prepare_fits : (key : Bor (List ℕ)) (rule : PrepareRule) (slot : Option Slot) (ballot : Ballot) → IfSome slot SlotBallotsFit → FitsBallot ballot
-    → ChangeBallotsFit (put_of key (put_by_prepare rule slot ballot))
-prepare_fits key rule slot ballot all fits = put_fits key (put_by_prepare rule slot ballot) (prepared_fits rule slot ballot all fits)
-
 taken_fits : (rule : AcceptRule) (accepted : Accepted) (ride : Option Ballot) → FitsBallot accepted.ballot → IfSome ride FitsBallot → IfSome (put_by_accept rule accepted ride) SlotBallotsFit
 taken_fits accept.Take accepted None fits rides = record { promise = zero_fits; accepted = fits }
 taken_fits accept.Take accepted (Some ride) fits rides = record { promise = rides; accepted = fits }
