@@ -6,14 +6,12 @@ use Rattle.cas_ballot.specs.declared.ballot.Ballot.{Ballot}
 use Rattle.cas_ballot.specs.Ballot.{FitsBallot}
 use Rattle.cas_slot.specs.declared.slot.Accepted.{Accepted}
 use Rattle.cas_slot.specs.declared.slot.Slot.{Slot}
-use Rattle.cas_slot.specs.declared.rules.PrepareRule.{PrepareRule}
-use Rattle.cas_slot.specs.declared.rules.PrepareRule.TheVariants as prepare
 use Rattle.cas_slot.specs.declared.rules.AcceptRule.{AcceptRule}
 use Rattle.cas_slot.specs.declared.rules.AcceptRule.TheVariants as accept
 use Rattle.cas_slot.specs.Limits.{SlotBallotsFit}
-use Rattle.cas_slot.proofs.LimitLemmas.{zero_fits, accepted_fits}
+use Rattle.cas_slot.proofs.LimitLemmas.{zero_fits}
 use Rattle.cas_acceptor.specs.Change.{ChangeBallotsFit}
-use Rattle.cas_acceptor.specs.Decide.{put_by_prepare, put_by_accept, put_of}
+use Rattle.cas_acceptor.specs.Decide.{put_by_accept, put_of}
 
 put_fits : (key : Bor (List ℕ)) (put : Option Slot) → IfSome put SlotBallotsFit → ChangeBallotsFit (put_of key put)
 put_fits key None fits = tt
