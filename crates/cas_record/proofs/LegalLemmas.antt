@@ -21,7 +21,7 @@ use Rattle.cas_record.specs.Lawful.{Cluster, Lawful, MayEnd, MayBeDone}
 use Rattle.cas_record.proofs.PlaceLemmas.{deeper, stands_at, at_part, part_at, older_than, newer_than, at_one, order, prefix_same, length-prefix}
 use Rattle.cas_record.proofs.Tests.{false_of_not}
 use Rattle.cas_record.proofs.ChainLemmas.{chain-none, chain-at, has_proposal_tells, entry_place, acked_at_most_top}
-use Rattle.cas_record.proofs.LogLemmas.{law, lawful_older, mark_at, in_log, InLog, part_of, proposal_law, ack_law, floor_law, not_zero, AckedAt, acked_at, proposal_of_acked, above_opening, opening_deeper, has_none_zero, chain_whole, link_begins}
+use Rattle.cas_record.proofs.LogLemmas.{law, lawful_older, mark_at, in_log, InLog, part_of, proposal_law, ack_law, floor_law, not_zero, proposal_placed, not_opened, AckedAt, acked_at, proposal_of_acked, above_opening, opening_deeper, has_none_zero, chain_whole, link_begins}
 use Rattle.cas_record.proofs.Agreement.{Seam, Settles, by_ack, by_opening, settles_deeper, settles_begins, settles_top, agree, grows, settled_begins, overtake}
 use Rattle.cas_record.proofs.CallLemmas.{IsCounted, counted_part, begun_once, program_of_begun}
 
@@ -145,7 +145,7 @@ stands_behind cluster log {p} {older} lawful seam at acked =
     let fresh : has_proposal p.key p.ballot (marks_of found.older) ≡ false =
     false_of_not _ (λ e. (proposal_law cluster lawful found.at).first.fresh (has_proposal_tells p.key p.ballot (marks_of found.older) e)) in
     let own : chain_of p.key p.ballot (marks_of log) ≡ chain_of p.key (link_of older p) older ++ entry_of older p ∷ [] =
-    chain-at at (subst (λ marks. has_proposal p.key p.ballot marks ≡ false) (sym found.is) fresh) (not_zero cluster lawful found.at) in
+    chain-at at (subst (λ marks. has_proposal p.key p.ballot marks ≡ false) (sym found.is) fresh) (not_zero cluster lawful found.at) (not_opened cluster lawful (proposal_placed found.at)) in
     let begins = settled_begins cluster lawful seam (by_ack acked) (acked_low acked) in
     record {
       after = begins.rest;

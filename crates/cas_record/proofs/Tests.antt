@@ -23,6 +23,10 @@ pub if_false : {A : Type 0} (b : Bool) (x y : A) → b ≡ false → cond b x y 
 if_false true x y e = absurd cc
 if_false false x y e = refl
 
+pub if_both : {A : Type 0} (b : Bool) (x y z : A) → x ≡ z → y ≡ z → cond b x y ≡ z
+if_both true x y z e f = e
+if_both false x y z e f = f
+
 pub true_or_false : (b : Bool) → (b ≡ true) ⊎ (b ≡ false)
 true_or_false true = inl refl
 true_or_false false = inr refl
@@ -58,6 +62,18 @@ or_left false b e = absurd cc
 pub or_right : (a b : Bool) → b ≡ true → (a || b) ≡ true
 or_right true b e = refl
 or_right false b e = e
+
+pub neither : (a b : Bool) → a ≡ false → b ≡ false → (a || b) ≡ false
+neither true b e f = e
+neither false b e f = f
+
+pub neither_left : (a b : Bool) → (a || b) ≡ false → a ≡ false
+neither_left true b e = e
+neither_left false b e = refl
+
+pub neither_right : (a b : Bool) → (a || b) ≡ false → b ≡ false
+neither_right true b e = absurd cc
+neither_right false b e = e
 
 pub not_of_true : (a : Bool) → a ≡ true → not a ≡ false
 not_of_true true e = refl

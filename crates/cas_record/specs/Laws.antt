@@ -1,12 +1,13 @@
 -- What is true of every record and every log. Each of these is the contract of a function in `laws`.
-use Rattle.std.specs.Prelude.{◌≡◌, ℕ, true, List}
+use Rattle.std.specs.Prelude.{◌≡◌, ℕ, true, List, []}
+use Rattle.cas_ballot.specs.declared.ballot.Ballot.{Ballot}
 use Rattle.cas_ballot.specs.Ballot.{BallotLess}
 use Rattle.cas_ballot.specs.Members.{has_member}
 use Rattle.cas_record.specs.declared.mark.Mark.{Mark}
 use Rattle.cas_record.specs.declared.mark.Mark.TheVariants.{Proposed}
 use Rattle.cas_record.specs.declared.mark.Proposal.{Proposal}
 use Rattle.cas_record.specs.Places.{Stands, IsOlderPart, IsPrefix}
-use Rattle.cas_record.specs.Chain.{chain_of, settled_of}
+use Rattle.cas_record.specs.Chain.{has_opening, chain_of, settled_of}
 use Rattle.cas_record.specs.Legal.{IsLegal}
 use Rattle.cas_record.specs.Happening.{Happening, marks_of}
 use Rattle.cas_record.specs.Lawful.{Cluster, NeighboursMeet, Lawful, MayVote}
@@ -23,6 +24,10 @@ abbrev pub ChainsExtend : Type 0
 ChainsExtend = (cluster : Cluster) → NeighboursMeet cluster → (log : List Happening) → Lawful cluster log
     → (chosen p : Proposal) → IsChosen cluster log chosen → Stands (Proposed p) (marks_of log) → p.key ≡ chosen.key → BallotLess chosen.ballot p.ballot
     → IsPrefix (chain_of p.key chosen.ballot (marks_of log)) (chain_of p.key p.ballot (marks_of log))
+
+-- the history up to an opening floor is empty, in every list of marks
+abbrev pub OpeningsAreEmpty : Type 0
+OpeningsAreEmpty = (marks : List Mark) (key : List ℕ) (ballot : Ballot) → has_opening key ballot marks ≡ true → chain_of key ballot marks ≡ []
 
 -- what was settled at an earlier time begins what is settled
 abbrev pub SettledGrows : Type 0

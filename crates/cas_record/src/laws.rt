@@ -4,7 +4,7 @@
 //! slots, entries into eras. It is lawful where each happening was allowed by those before it. Both lists are read
 //! newest first.
 
-ghost use Rattle.cas_record.specs.Laws.{ChainsExtend, SettledGrows, LawfulIsLegal, EarlierIsLegal};
+ghost use Rattle.cas_record.specs.Laws.{ChainsExtend, OpeningsAreEmpty, SettledGrows, LawfulIsLegal, EarlierIsLegal};
 ghost use Rattle.cas_record.specs.Witness.{WitnessStands};
 
 /// Agreement: in a lawful log the history of a ballot that an accept quorum of its era took begins the history of each
@@ -12,6 +12,12 @@ ghost use Rattle.cas_record.specs.Witness.{WitnessStands};
 /// quorums of each era meet those of the same and of the next.
 pub fn chains_extend()
     ensures { ChainsExtend }
+{}
+
+/// The history up to the floor of a key that was made before any call began is empty, whatever else is marked at its
+/// ballot.
+pub fn openings_are_empty()
+    ensures { OpeningsAreEmpty }
 {}
 
 /// In a lawful log what was settled of a key at any earlier time begins what is settled.
