@@ -25,10 +25,11 @@ use Rattle.cas_record.specs.Places.{At, Stands, here, past}
 use Rattle.cas_record.specs.Chain.{is_key, is_ballot, is_call, has_proposal, link_of, entry_of, chain_of}
 use Rattle.cas_record.specs.Replay.{replay_from, opening_state}
 use Rattle.cas_record.specs.Legal.{HasFloor, calls_of, IsBegun, IsProposed, IsEnded, IsFirstProposal, tells_refused, tells_unsettled, harms_due, harms_of, HasVotes, IsAcked, IsOpening, IsFloor}
-use Rattle.cas_record.specs.Happening.{Happening, Marked, Asked, Promised, Took, Dropped, Entered, marks_of}
+use Rattle.cas_record.specs.Happening.{Happening, Marked, Promised, Took, Dropped, Entered, marks_of}
 use Rattle.cas_record.specs.Lawful.{Cluster, IsMade, in_promise, in_take, in_ride, HasSeenAtMost, IsFloored, MayPromise, MayTake, slot_told, is_slot, MayDrop, IsIn, AllEntered, IsRescanned, IsCollected, MayLeave, MayEnter, Granted, by_promise, by_ride, MayPropose, MayVote, MayAck, MayBeDone, MayAnswer, MayEnd, MayMarkEra, MayMark, May, Lawful}
 use Rattle.cas_record.proofs.PlaceLemmas.{stands_at}
-use Rattle.cas_record.proofs.Tests.{and_left, and_right, or_cases, or_left, or_right, both_true, not_tells, not_both, key_same, key_is, key_refl, ballot_same, ballot_is, less_tells, less_is, nat_same, nat_is, call_same, call_is, slot_same}
+use Rattle.cas_base.proofs.Tests.{and_left, and_right, or_cases, or_left, or_right, both_true, not_tells, not_both}
+use Rattle.cas_record.proofs.Tests.{key_same, key_is, key_refl, ballot_same, ballot_is, less_tells, less_is, nat_same, nat_is, call_same, call_is, slot_same}
 use Rattle.cas_record.proofs.ChainLemmas.{has_proposal_tells, has_proposal_is}
 
 -- ---- tests of what stands in a list
@@ -738,19 +739,19 @@ mark_checked cluster log (Told asked answer) e = tt
 
 abbrev pub check_next : Cluster → List Happening → Happening → Bool
 check_next cluster log (Marked mark) = check_mark cluster log mark
-check_next cluster log (Asked request) = true
 check_next cluster log (Promised acceptor key ballot told) = check_promise log acceptor key ballot told
 check_next cluster log (Took acceptor key ballot ride) = check_take log acceptor key ballot
 check_next cluster log (Dropped acceptor key tombstone) = check_drop log acceptor key tombstone
 check_next cluster log (Entered proposer era) = check_enter cluster log proposer era
+check_next cluster log other = true
 
 next_checked : (cluster : Cluster) (log : List Happening) (h : Happening) → check_next cluster log h ≡ true → May cluster log h
 next_checked cluster log (Marked mark) e = mark_checked cluster log mark e
-next_checked cluster log (Asked request) e = tt
 next_checked cluster log (Promised acceptor key ballot told) e = promise_checked log acceptor key ballot told e
 next_checked cluster log (Took acceptor key ballot ride) e = take_checked log acceptor key ballot e
 next_checked cluster log (Dropped acceptor key tombstone) e = drop_checked log acceptor key tombstone e
 next_checked cluster log (Entered proposer era) e = enter_checked cluster log proposer era e
+next_checked cluster log other e = tt
 
 -- whether each happening was allowed by what had happened before
 abbrev pub check : Cluster → List Happening → Bool

@@ -10,7 +10,7 @@ use Rattle.cas_record.specs.declared.mark.Proposal.{Proposal}
 use Rattle.cas_record.specs.Places.{At, Stands}
 use Rattle.cas_record.specs.Chain.{floor_below, link_of}
 use Rattle.cas_record.specs.Happening.{Happening, Marked, Took, Entered, marks_of}
-use Rattle.cas_record.specs.Lawful.{Cluster, NeighboursMeet, Lawful, MayTake, MayEnter, MayLeave, MayMarkEra, HasSeen, in_promise, in_take, in_ride, AllEntered, IsRescanned, Granted, by_promise, by_ride}
+use Rattle.cas_record.specs.Lawful.{Cluster, ClusterMeets, Lawful, MayTake, MayEnter, MayLeave, MayMarkEra, HasSeen, in_promise, in_take, in_ride, AllEntered, IsRescanned, Granted, by_promise, by_ride}
 use Rattle.cas_record.proofs.PlaceLemmas.{deeper, stands_deeper, stands_at, stands_part, older_than, newer_than, at_one, order}
 use Rattle.cas_record.proofs.ChainLemmas.{at_most_floor_below}
 use Rattle.cas_record.proofs.LogLemmas.{made_proposed, law, lawful_older, mark_at, in_log, part_of, proposal_law, ack_law, AckedAt, acked_at, acked_deeper, one_place, link_below}
@@ -126,7 +126,7 @@ acked_era cluster lawful a at =
     sym votes.same_era ∙ ap (λ (x : Proposal). x.era) one.same
 
 -- a proposal of the era before that stands before the rescan is at most the rescan
-above_by : (cluster : Cluster) → NeighboursMeet cluster → {log older before : List Happening} {p q : Proposal} → Lawful cluster log → At (Marked (Proposed p)) older log → AckedAt p.key p.ballot log
+above_by : (cluster : Cluster) → ClusterMeets cluster → {log older before : List Happening} {p q : Proposal} → Lawful cluster log → At (Marked (Proposed p)) older log → AckedAt p.key p.ballot log
     → At (Marked (Proposed q)) before older → q.key ≡ p.key → q.era ≤ suc p.era → p.era ≤ suc q.era → BallotAtMost q.ballot p.ballot
 above_by cluster meet {log} {older} {before} {p} {q} lawful at acked q_at same_key low high =
     let era = acked_era cluster lawful acked at in
@@ -162,7 +162,7 @@ no_entry : {proposer era : ℕ} {p : Proposal} → Entered proposer era ≡ Mark
 no_entry e = cc
 
 -- a rescan is above every proposal of an earlier era
-rescan_above : (cluster : Cluster) → NeighboursMeet cluster → (n : ℕ) {log older : List Happening} {era : ℕ} {key : List ℕ} {q : Proposal} → era ≤ n → Lawful cluster log
+rescan_above : (cluster : Cluster) → ClusterMeets cluster → (n : ℕ) {log older : List Happening} {era : ℕ} {key : List ℕ} {q : Proposal} → era ≤ n → Lawful cluster log
     → (r : RescanAt cluster era key log) → At (Marked (Proposed q)) older log → q.key ≡ key → q.era < era → BallotAtMost q.ballot r.proposal.ballot
 rescan_above cluster meet zero fuel lawful r q_at same_key early = absurd (omega arith)
 rescan_above cluster meet (suc n) {log} {older} {era} {key} {q} fuel lawful r q_at same_key early =
@@ -211,7 +211,7 @@ after_entry cluster {p = p} {acceptor = acceptor} {taken = taken} {ride = ride} 
 ]
 
 -- a proposal of an era two or more before another's is under the other's link
-far_below : (cluster : Cluster) → NeighboursMeet cluster → {log older before : List Happening} {p q : Proposal} → Lawful cluster log → At (Marked (Proposed p)) older log
+far_below : (cluster : Cluster) → ClusterMeets cluster → {log older before : List Happening} {p q : Proposal} → Lawful cluster log → At (Marked (Proposed p)) older log
     → At (Marked (Proposed q)) before log → q.key ≡ p.key → suc (suc q.era) ≤ p.era → BallotAtMost q.ballot (link_of (marks_of older) p)
 far_below cluster meet {log} {older} {before} {p} {q} lawful at q_at same_key far =
     let entry = entered_at cluster lawful at (omega arith) in
@@ -243,7 +243,7 @@ far_below cluster meet {log} {older} {before} {p} {q} lawful at q_at same_key fa
           (at_most_trans (at_most_floor_below floor.at ((proposal_law cluster lawful at).above_floors floor)) (at_most_greater_right p.read (floor_below p.key p.ballot (marks_of older))))
     ]
 
-under_acked : (cluster : Cluster) → NeighboursMeet cluster → {log older : List Happening} {p : Proposal} {ballot : Ballot} → Lawful cluster log → (a : AckedAt p.key ballot log) → At (Marked (Proposed p)) older log
+under_acked : (cluster : Cluster) → ClusterMeets cluster → {log older : List Happening} {p : Proposal} {ballot : Ballot} → Lawful cluster log → (a : AckedAt p.key ballot log) → At (Marked (Proposed p)) older log
     → BallotLess ballot p.ballot → BallotAtMost ballot (link_of (marks_of older) p)
 under_acked cluster meet {log} {older} {p} {ballot} lawful a at less =
     let votes = (ack_law cluster lawful a.at).votes in
@@ -265,5 +265,5 @@ under_acked cluster meet {log} {older} {p} {ballot} lawful a at less =
       ]
     ]
 
-pub seam_of : (cluster : Cluster) → NeighboursMeet cluster → (log : List Happening) → Lawful cluster log → Seam log
+pub seam_of : (cluster : Cluster) → ClusterMeets cluster → (log : List Happening) → Lawful cluster log → Seam log
 seam_of cluster meet log lawful = record { under = λ {p} {older} {ballot} a at less. under_acked cluster meet lawful a at less }

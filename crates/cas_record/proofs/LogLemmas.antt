@@ -12,10 +12,10 @@ use Rattle.cas_record.specs.declared.mark.Acknowledgment.{Acknowledgment}
 use Rattle.cas_record.specs.Places.{At, Stands, IsOlderPart, here, past, whole, later}
 use Rattle.cas_record.specs.Chain.{has_proposal, has_calls, has_opening, floor_below, link_of, entry_of, chain_of}
 use Rattle.cas_record.specs.Legal.{HasProposal, HasFloor, IsAcked, NoneBegun, IsOpening, IsFloor}
-use Rattle.cas_record.specs.Happening.{Happening, Marked, Asked, Promised, Took, Dropped, Entered, marks_of}
+use Rattle.cas_record.specs.Happening.{Happening, Marked, marks_of}
 use Rattle.cas_record.specs.Lawful.{IsMade, Cluster, May, Lawful, MayPropose, MayAck}
 use Rattle.cas_record.proofs.PlaceLemmas.{deeper, stands_deeper, stands_at, older_than, newer_than, at_one, order, none_at_nil}
-use Rattle.cas_record.proofs.Tests.{false_of_not}
+use Rattle.cas_base.proofs.Tests.{false_of_not}
 use Rattle.cas_record.proofs.ChainLemmas.{floor_below_cases, has_proposal_tells, has_proposal_is, opening_tells, no_calls, chain-none, chain-later, chain-at}
 
 -- ---- laws
@@ -31,11 +31,7 @@ lawful_older cluster lawful (past at) = lawful_older cluster lawful.0 at
 pub mark_at : {mark : Mark} {older log : List Happening} → At (Marked mark) older log → At mark (marks_of older) (marks_of log)
 mark_at here = here
 mark_at (past {y = Marked other} at) = past (mark_at at)
-mark_at (past {y = Asked request} at) = mark_at at
-mark_at (past {y = Promised a k b r} at) = mark_at at
-mark_at (past {y = Took a k b r} at) = mark_at at
-mark_at (past {y = Dropped a k t} at) = mark_at at
-mark_at (past {y = Entered p e} at) = mark_at at
+mark_at (past {y = other} at) = mark_at at
 
 pub mark_stands : {mark : Mark} {log : List Happening} → Stands (Marked mark) log → Stands mark (marks_of log)
 mark_stands s = record { older = marks_of s.older; at = mark_at s.at }
@@ -57,28 +53,16 @@ in_front other older (past at) rest = in_more (rest at)
 pub in_log : (log : List Happening) {mark : Mark} {marks : List Mark} → At mark marks (marks_of log) → InLog mark marks log
 in_log [] at = absurd (none_at_nil at)
 in_log (Marked other ∷ older) at = in_front other older at (λ rest. in_log older rest)
-in_log (Asked request ∷ older) at = in_more (in_log older at)
-in_log (Promised a k b r ∷ older) at = in_more (in_log older at)
-in_log (Took a k b r ∷ older) at = in_more (in_log older at)
-in_log (Dropped a k t ∷ older) at = in_more (in_log older at)
-in_log (Entered p e ∷ older) at = in_more (in_log older at)
+in_log (other ∷ older) at = in_more (in_log older at)
 
 pub stands_in_log : (log : List Happening) {mark : Mark} → Stands mark (marks_of log) → Stands (Marked mark) log
 stands_in_log log s = let found = in_log log s.at in record { older = found.older; at = found.at }
 
 pub part_of : {happening : Happening} {older log : List Happening} → At happening older log → IsOlderPart (marks_of older) (marks_of log)
 part_of {happening = Marked mark} here = later whole
-part_of {happening = Asked request} here = whole
-part_of {happening = Promised a k b r} here = whole
-part_of {happening = Took a k b r} here = whole
-part_of {happening = Dropped a k t} here = whole
-part_of {happening = Entered p e} here = whole
+part_of {happening = other} here = whole
 part_of (past {y = Marked mark} at) = later (part_of at)
-part_of (past {y = Asked request} at) = part_of at
-part_of (past {y = Promised a k b r} at) = part_of at
-part_of (past {y = Took a k b r} at) = part_of at
-part_of (past {y = Dropped a k t} at) = part_of at
-part_of (past {y = Entered p e} at) = part_of at
+part_of (past {y = other} at) = part_of at
 
 -- ---- the laws of marks
 pub proposal_law : (cluster : Cluster) {log older : List Happening} {p : Proposal} → Lawful cluster log → At (Marked (Proposed p)) older log → MayPropose cluster older p

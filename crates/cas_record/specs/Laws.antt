@@ -10,7 +10,7 @@ use Rattle.cas_record.specs.Places.{Stands, IsOlderPart, IsPrefix}
 use Rattle.cas_record.specs.Chain.{has_opening, chain_of, settled_of}
 use Rattle.cas_record.specs.Legal.{IsLegal}
 use Rattle.cas_record.specs.Happening.{Happening, marks_of}
-use Rattle.cas_record.specs.Lawful.{Cluster, NeighboursMeet, Lawful, MayVote}
+use Rattle.cas_record.specs.Lawful.{Cluster, ClusterMeets, Lawful, MayVote}
 
 -- the proposal was chosen: an accept quorum of its era took its ballot
 pub record IsChosen (cluster : Cluster) (log : List Happening) (p : Proposal) : Type 0 where
@@ -21,7 +21,7 @@ pub record IsChosen (cluster : Cluster) (log : List Happening) (p : Proposal) : 
 
 -- the history of a chosen ballot begins that of each greater proposal of its key
 abbrev pub ChainsExtend : Type 0
-ChainsExtend = (cluster : Cluster) → NeighboursMeet cluster → (log : List Happening) → Lawful cluster log
+ChainsExtend = (cluster : Cluster) → ClusterMeets cluster → (log : List Happening) → Lawful cluster log
     → (chosen p : Proposal) → IsChosen cluster log chosen → Stands (Proposed p) (marks_of log) → p.key ≡ chosen.key → BallotLess chosen.ballot p.ballot
     → IsPrefix (chain_of p.key chosen.ballot (marks_of log)) (chain_of p.key p.ballot (marks_of log))
 
@@ -31,12 +31,12 @@ OpeningsAreEmpty = (marks : List Mark) (key : List ℕ) (ballot : Ballot) → ha
 
 -- what was settled at an earlier time begins what is settled
 abbrev pub SettledGrows : Type 0
-SettledGrows = (cluster : Cluster) → NeighboursMeet cluster → (log : List Happening) → Lawful cluster log
+SettledGrows = (cluster : Cluster) → ClusterMeets cluster → (log : List Happening) → Lawful cluster log
     → (earlier : List Mark) → IsOlderPart earlier (marks_of log) → (key : List ℕ) → IsPrefix (settled_of key earlier) (settled_of key (marks_of log))
 
 -- the marks of a lawful log are a legal record
 abbrev pub LawfulIsLegal : Type 0
-LawfulIsLegal = (cluster : Cluster) → NeighboursMeet cluster → (log : List Happening) → Lawful cluster log → IsLegal (marks_of log)
+LawfulIsLegal = (cluster : Cluster) → ClusterMeets cluster → (log : List Happening) → Lawful cluster log → IsLegal (marks_of log)
 
 -- a legal record was legal at each earlier time
 abbrev pub EarlierIsLegal : Type 0

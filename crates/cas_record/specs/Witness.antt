@@ -17,7 +17,7 @@ use Rattle.cas_record.specs.declared.mark.Mark.TheVariants.{Begun, Proposed, Vot
 use Rattle.cas_record.specs.Chain.{settled_of}
 use Rattle.cas_record.specs.Replay.{replay}
 use Rattle.cas_record.specs.Happening.{Happening, Marked, Promised, Took, Dropped, Entered, marks_of}
-use Rattle.cas_record.specs.Lawful.{Cluster, NeighboursMeet, Lawful}
+use Rattle.cas_record.specs.Lawful.{Cluster, ClusterMeets, Lawful}
 
 -- ---- the cluster
 abbrev pub three : List ℕ
@@ -27,6 +27,10 @@ abbrev pub four : List ℕ
 four = 1 ∷ 2 ∷ 3 ∷ 4 ∷ []
 
 -- acceptor 4 joins acceptors 1 to 3: first as one that accepts, and then as one that promises too
+abbrev pub members_in : ℕ → List ℕ
+members_in zero = three
+members_in (suc era) = four
+
 abbrev pub prepares_of : ℕ → List ℕ → Bool
 prepares_of zero = has_quorum 2 three
 prepares_of (suc zero) = has_quorum 2 three
@@ -37,7 +41,7 @@ accepts_of zero = has_quorum 2 three
 accepts_of (suc era) = has_quorum 3 four
 
 abbrev pub small_cluster : Cluster
-small_cluster = record { greatest = 2; prepares = prepares_of; accepts = accepts_of }
+small_cluster = record { greatest = 2; members = members_in; prepares = prepares_of; accepts = accepts_of }
 
 -- ---- the log, the oldest first
 abbrev pub key_a : List ℕ
@@ -87,7 +91,7 @@ happened =
 
 -- the quorums of the cluster meet, the log is lawful, and six changes stand and leave the number 10
 pub record WitnessStands : Type 0 where
-  pub meet : NeighboursMeet small_cluster
+  pub meet : ClusterMeets small_cluster
   pub lawful : Lawful small_cluster (reverse happened)
   pub settled : length (settled_of key_a (marks_of (reverse happened))) ≡ 6
   pub state : replay (settled_of key_a (marks_of (reverse happened))) ≡ Held 1 (Number (pos 10))

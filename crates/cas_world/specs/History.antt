@@ -45,7 +45,7 @@ abbrev pub three : List ℕ
 three = 1 ∷ 2 ∷ 3 ∷ []
 
 abbrev pub cluster : Cluster
-cluster = record { greatest = 1; prepares = λ era. has_quorum 2 three; accepts = λ era. has_quorum 2 three }
+cluster = record { greatest = 1; members = λ era. three; prepares = λ era. has_quorum 2 three; accepts = λ era. has_quorum 2 three }
 
 -- ---- states
 -- the key's ballot was proposed in the era, and its history leaves this state
