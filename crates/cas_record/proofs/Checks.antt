@@ -90,10 +90,10 @@ less a b = is_lt (ballot_cmp a b)
 less_of : {a b : Ballot} → less a b ≡ true → BallotLess a b
 less_of e = less_tells e
 
-le_tells : {a b : ℕ} → nat_le a b ≡ true → a ≤ b
+pub le_tells : {a b : ℕ} → nat_le a b ≡ true → a ≤ b
 le_tells {a} {b} e = elim (leb_tells a b) [ inl low ↦ low.1 | inr high ↦ absurd (not_both (nat_le a b) e high.0) ]
 
-le_is : {a b : ℕ} → a ≤ b → nat_le a b ≡ true
+pub le_is : {a b : ℕ} → a ≤ b → nat_le a b ≡ true
 le_is {a} {b} h = elim (leb_tells a b) [ inl low ↦ low.0 | inr high ↦ absurd (omega (arith, high.1)) ]
 
 -- ---- acceptors

@@ -18,3 +18,6 @@ pub mod Orders
 pub mod Grants
 pub mod Floors
 pub mod LinkLemmas
+pub mod Listings
+pub mod Leaving
+pub mod Clusters
