@@ -21,3 +21,4 @@ pub mod LinkLemmas
 pub mod Listings
 pub mod Leaving
 pub mod Clusters
+pub mod Reasons
