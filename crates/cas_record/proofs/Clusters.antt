@@ -1,7 +1,6 @@
 -- When eras are added, nothing that happened becomes unlawful: a log stays lawful and orderly in a cluster with more
 -- members and quorums.
-use Rattle.std.proofs.Common.{◌≡◌, ℕ, ◌≤◌, List, [], ◌∷◌, Option, None, Some, sym, subst}
-use Rattle.std.specs.Prelude.{◌⊎◌, IfSome}
+use Rattle.std.proofs.Common.{ℕ, ◌≤◌, List, [], ◌∷◌, sym, subst}
 use mathlib.Core.Logic.{inl, inr}
 use Rattle.cas_ballot.specs.declared.ballot.Ballot.{Ballot}
 use Rattle.cas_slot.specs.declared.message.Ask.{Ask}
@@ -11,8 +10,8 @@ use Rattle.cas_record.specs.declared.mark.Mark.{Mark}
 use Rattle.cas_record.specs.declared.mark.Mark.TheVariants.{Proposed, Acked}
 use Rattle.cas_record.specs.declared.mark.Proposal.{Proposal}
 use Rattle.cas_record.specs.declared.mark.Acknowledgment.{Acknowledgment}
-use Rattle.cas_record.specs.Happening.{Happening, Marked, Asked, Entered, Drew, Promised, Took, Dropped, Replied, marks_of}
-use Rattle.cas_record.specs.Lawful.{Cluster, IsWidened, AllEntered, IsRescanned, MayLeave, MayEnter, MayPropose, MayAck, MayMark, May, Lawful}
+use Rattle.cas_record.specs.Happening.{Happening, Marked, Asked, Entered, Drew}
+use Rattle.cas_record.specs.Lawful.{Cluster, IsWidened, AllEntered, IsRescanned, MayLeave, MayPropose, MayAck, MayMark, May, Lawful}
 use Rattle.cas_record.specs.Orderly.{MayDraw, MayAskFor, MayAsk, HasReason, Orderly}
 
 -- ---- lawful

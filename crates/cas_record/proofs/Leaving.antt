@@ -1,13 +1,12 @@
 -- What may be left may be left later, as long as the proposer has not left it.
 use Rattle.std.proofs.Common.{◌≡◌, ℕ, suc, ◌<◌, List, ◌∷◌, arith, sym}
-use Rattle.std.specs.Prelude.{◌⊎◌}
 use mathlib.Core.Logic.{inl, inr}
 use Rattle.cas_record.specs.declared.mark.Mark.{Mark}
 use Rattle.cas_record.specs.declared.mark.Mark.TheVariants.{Proposed}
 use Rattle.cas_record.specs.declared.mark.Proposal.{Proposal}
-use Rattle.cas_record.specs.Places.{At, Stands, IsOlderPart, whole, later}
+use Rattle.cas_record.specs.Places.{Stands, IsOlderPart, whole, later}
 use Rattle.cas_record.specs.Happening.{Happening, Entered, marks_of}
-use Rattle.cas_record.specs.Lawful.{Cluster, Lawful, AllEntered, IsRescanned, IsCollected, MayLeave}
+use Rattle.cas_record.specs.Lawful.{Cluster, Lawful, AllEntered, IsRescanned, MayLeave}
 use Rattle.cas_record.proofs.PlaceLemmas.{stands_at, at_part, stands_part, newest_or}
 use Rattle.cas_record.proofs.LogLemmas.{mark_at, in_log}
 use Rattle.cas_record.proofs.Listings.{marks_part, proposed_before}

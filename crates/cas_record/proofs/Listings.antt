@@ -1,24 +1,23 @@
 -- A complete listing of an era gives the stepping stones of that era: each key that was proposed in an earlier era is
 -- rescanned in it, or collected.
-use Rattle.std.proofs.Common.{◌≡◌, ℕ, suc, ◌<◌, ◌≤◌, true, false, List, [], ◌∷◌, arith, refl, sym, ap, ◌∙◌, subst}
+use Rattle.std.proofs.Common.{◌≡◌, ℕ, suc, ◌<◌, ◌≤◌, true, false, List, [], ◌∷◌, arith, refl, sym, ap, subst}
 use Rattle.std.specs.Prelude.{◌⊎◌, ◌&&◌, nat_lt}
 use mathlib.Core.Logic.{inl, inr}
 use Rattle.cas_base.proofs.Tests.{true_or_false, both_true, not_both, and_left, and_right}
 use Rattle.cas_ballot.specs.declared.ballot.Ballot.{Ballot}
-use Rattle.cas_ballot.specs.Ballot.{zero_ballot, BallotAtMost, BallotLess}
+use Rattle.cas_ballot.specs.Ballot.{BallotAtMost}
 use Rattle.cas_ballot.specs.Members.{has_member}
 use Rattle.cas_ballot.proofs.BallotLemmas.{at_most_refl, at_most_trans, at_most_antisym, at_most_or_less, at_most_of_less, less_not_at_most, zero_at_most}
 use Rattle.cas_change.specs.declared.state.State.{State}
-use Rattle.cas_quorum.specs.Quorum.{Shared}
 use Rattle.cas_record.specs.declared.mark.Mark.{Mark}
 use Rattle.cas_record.specs.declared.mark.Mark.TheVariants.{Proposed, Floor}
 use Rattle.cas_record.specs.declared.mark.Proposal.{Proposal}
 use Rattle.cas_record.specs.Places.{At, Stands, IsOlderPart, here, past, whole, later}
 use Rattle.cas_record.specs.Chain.{is_key}
-use Rattle.cas_record.specs.Happening.{Happening, Marked, Dropped, marks_of}
-use Rattle.cas_record.specs.Lawful.{Cluster, ClusterMeets, Lawful, HasSeen, SlotTold, slot_told, MayPropose, MayDrop, MayEnter, AllEntered, IsRescanned, IsCollected, Granted}
+use Rattle.cas_record.specs.Happening.{Happening, Marked, marks_of}
+use Rattle.cas_record.specs.Lawful.{Cluster, ClusterMeets, Lawful, HasSeen, SlotTold, MayPropose, MayDrop, AllEntered, IsRescanned, IsCollected, Granted}
 use Rattle.cas_record.specs.Listing.{no_slot_told, WasAbsent}
-use Rattle.cas_record.proofs.PlaceLemmas.{none_at_nil, deeper, stands_at, stands_deeper, stands_part, part_at, newest_or}
+use Rattle.cas_record.proofs.PlaceLemmas.{none_at_nil, deeper, stands_at, stands_part, part_at, newest_or}
 use Rattle.cas_record.proofs.Tests.{key_same, key_is}
 use Rattle.cas_record.proofs.LogLemmas.{law, lawful_older, mark_at, in_log, part_of, proposal_law, one_place}
 use Rattle.cas_record.proofs.LegalLemmas.{lawful_part}

@@ -1,12 +1,12 @@
 -- A checker of reasons: where its tests pass, the log is orderly. It is for witnesses: logs that are checked by
 -- computation.
-use Rattle.std.proofs.Common.{◌≡◌, ℕ, ◌≤◌, ◌<◌, Bool, true, false, not, List, [], ◌∷◌, Option, None, Some, arith, refl, sym, ap, ◌∙◌, subst, rules}
-use Rattle.std.specs.Prelude.{◌&&◌, ◌||◌, ◌==◌, nat_le, nat_lt, Decides, IfSome, IsTrue, unwrap_or}
+use Rattle.std.proofs.Common.{◌≡◌, ℕ, Bool, true, false, not, List, [], ◌∷◌, Option, None, Some, refl, ap, ◌∙◌, subst, rules}
+use Rattle.std.specs.Prelude.{◌&&◌, ◌==◌, nat_le, nat_lt, Decides, IfSome, unwrap_or}
 use Rattle.std.specs.List.{list_any}
 use mathlib.Core.Logic.{inl, inr}
 use Rattle.cas_base.proofs.Tests.{if_true, if_false, true_or_false, and_left, and_right, both_true, not_of_false, not_tells, not_both}
 use Rattle.cas_ballot.specs.declared.ballot.Ballot.{Ballot}
-use Rattle.cas_ballot.specs.Ballot.{zero_ballot, BallotAtMost, BallotLess}
+use Rattle.cas_ballot.specs.Ballot.{zero_ballot, BallotAtMost}
 use Rattle.cas_ballot.specs.Members.{has_member}
 use Rattle.cas_ballot.proofs.BallotLemmas.{not_lt_of_at_most}
 use Rattle.cas_change.specs.declared.state.State.{State}
@@ -24,17 +24,16 @@ use Rattle.cas_slot.specs.Message.{phase_of, tag_of}
 use Rattle.cas_slot.specs.Rules.{key_of}
 use Rattle.cas_slot.specs.Slot.{accepted_ballot}
 use Rattle.cas_record.specs.declared.mark.Mark.{Mark}
-use Rattle.cas_record.specs.declared.mark.Mark.TheVariants.{Floor, Voted}
-use Rattle.cas_record.specs.Places.{At, Stands, here, past}
+use Rattle.cas_record.specs.Places.{At, Stands}
 use Rattle.cas_record.specs.Chain.{is_key, is_ballot, has_proposal}
 use Rattle.cas_record.specs.Happening.{Happening, Asked, Promised, Took, Dropped, Drew, Replied, marks_of}
 use Rattle.cas_record.specs.Lawful.{Cluster, SlotTold, slot_told, is_slot}
 use Rattle.cas_record.specs.Listing.{no_slot_told}
-use Rattle.cas_record.specs.Orderly.{age_told, IsAboveFloors, MayDraw, IsRoundAsk, MayAskFor, MayRide, IsAgedOut, MayAsk, WasAsked, MayPromiseBy, MayTakeBy, MayDropBy, IsTombstoneTold, IsTold, MayReply, HasReason, Orderly}
+use Rattle.cas_record.specs.Orderly.{age_told, IsAboveFloors, MayDraw, IsRoundAsk, MayAskFor, MayRide, IsAgedOut, MayAsk, WasAsked, MayPromiseBy, MayTakeBy, MayDropBy, IsTold, MayReply, HasReason, Orderly}
 use Rattle.cas_record.proofs.PlaceLemmas.{stands_at}
 use Rattle.cas_record.proofs.Tests.{key_same, key_is, key_refl, ballot_same, ballot_is, nat_same, nat_is, slot_same}
 use Rattle.cas_record.proofs.ChainLemmas.{has_proposal_tells}
-use Rattle.cas_record.proofs.Checks.{each_place, some_place, Found, each_at, found, some_is, implies, use_implies, at_most, at_most_tells, less, less_of, le_tells, le_is, is_floor_at, floor_by, check_in, in_checked, up_to, up_to_at, is_above_floor, is_vote, vote_by}
+use Rattle.cas_record.proofs.Checks.{each_place, some_place, each_at, found, some_is, implies, use_implies, at_most, at_most_tells, less, less_of, le_tells, is_floor_at, floor_by, check_in, in_checked, up_to, up_to_at, is_above_floor, is_vote, vote_by}
 
 at_most_is : {a b : Ballot} → BallotAtMost a b → at_most a b ≡ true
 at_most_is low = not_of_false _ (not_lt_of_at_most low)

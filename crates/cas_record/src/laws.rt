@@ -6,7 +6,7 @@
 //! first.
 
 ghost use Rattle.cas_record.specs.Laws.{ChainsExtend, OpeningsAreEmpty, SettledGrows, LawfulIsLegal, EarlierIsLegal, DrawnOnce, AnswersAboveRemovals, DrawsAreGranted, FloorsAreTold, LinksAreRead, ListingsGiveStones, LeavingStays, WiderStaysLawful};
-ghost use Rattle.cas_record.specs.Witness.{WitnessStands};
+ghost use Rattle.cas_record.specs.Witness.{WitnessStands, WitnessIsOrderly};
 
 /// Agreement: in a lawful log the history of a ballot that an accept quorum of its era took begins the history of each
 /// greater proposal of the key, whatever promises rode along, floors were made and eras entered, provided that the
@@ -85,4 +85,10 @@ pub fn more_eras_stay_lawful()
 /// and two changes of era is lawful, in a cluster whose quorums meet.
 pub fn a_log_is_lawful()
     ensures { WitnessStands }
+{}
+
+/// The same log is orderly: its ballots are drawn, its requests asked, its answers true, among them those of a listing, of
+/// a probe, of ages raised and of slots removed.
+pub fn a_log_is_orderly()
+    ensures { WitnessIsOrderly }
 {}
