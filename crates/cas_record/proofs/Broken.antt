@@ -1,6 +1,6 @@
 -- Records that are not legal, one for each rule: what a store would show that breaks just it. Two rules follow from
 -- others and cannot be broken alone; their records are marked.
-use Rattle.std.proofs.Common.{◌≡◌, ℕ, ◌≤◌, List, [], ◌∷◌, arith, refl}
+use Rattle.std.proofs.Common.{◌≡◌, ℕ, ◌≤◌, List, [], ◌∷◌, ◌++◌, arith, refl, sym, ap, ◌∙◌}
 use mathlib.Core.Logic.{inl, inr}
 use Rattle.cas_ballot.specs.declared.ballot.Ballot.{Ballot}
 use Rattle.cas_ballot.specs.Ballot.{zero_ballot}
@@ -13,10 +13,11 @@ use Rattle.cas_record.specs.declared.mark.Mark.TheVariants.{Begun, Proposed, Vot
 use Rattle.cas_record.specs.declared.mark.Proposal.{Proposal}
 use Rattle.cas_record.specs.declared.mark.Acknowledgment.{Acknowledgment}
 use Rattle.cas_record.specs.Places.{At, Stands, here, past, whole, later}
-use Rattle.cas_record.specs.Chain.{keep_always}
+use Rattle.cas_record.specs.Chain.{keep_always, settled_of}
 use Rattle.cas_record.specs.Legal.{IsLegal}
 use Rattle.cas_record.specs.Witness.{key_a, at}
 use Rattle.cas_record.proofs.PlaceLemmas.{none_at_nil}
+use Rattle.cas_record.proofs.ChainLemmas.{nil_not}
 
 abbrev begins : ℕ → ℕ → Mark
 begins caller call = Begun caller call key_a keep_always
@@ -66,6 +67,22 @@ not_growing legal =
     let prefix = legal.only_grows whole (later (later (later whole))) key_a in
     let same : ◌≡◌ {A = ℕ} 2 1 = first_same _ _ _ _ prefix.joins in
     absurd (omega arith)
+
+-- done_stands: a change at the ballot of an opening floor, whose history is empty
+abbrev opened : List Mark
+opened = acks (at 1 1) [] ∷ proposes 1 (at 1 1) zero_ballot ∷ begins 1 1 ∷ Floor key_a (at 1 1) Empty ∷ []
+
+of_key_a : {p : Proposal} {older : List Mark} → At (Proposed p) older opened → p.key ≡ key_a
+of_key_a (past here) = refl
+of_key_a (past (past (past (past p)))) = absurd (none_at_nil p)
+
+not_opened : IsLegal (done 1 (at 1 1) ∷ opened) → ⊥
+not_opened legal =
+    let stands = legal.done_stands here in
+    let entry : Entry = record { caller = 1; call = 1; program = stands.program } in
+    let place : [] ≡ stands.before ++ entry ∷ stands.after =
+    ap (λ (key : List ℕ). settled_of key opened) (sym (of_key_a stands.proposed.at)) ∙ stands.place in
+    nil_not stands.before entry stands.after place
 
 -- after_seen, and with it only_grows: an answered change stands before what was settled when it began
 not_after : IsLegal (done 2 (at 2 2) ∷ lost) → ⊥

@@ -10,28 +10,28 @@ use Rattle.cas_record.specs.declared.mark.Proposal.{Proposal}
 use Rattle.cas_record.specs.Places.{At, Stands}
 use Rattle.cas_record.specs.Chain.{floor_below, link_of}
 use Rattle.cas_record.specs.Happening.{Happening, Marked, Took, Entered, marks_of}
-use Rattle.cas_record.specs.Lawful.{Cluster, NeighboursMeet, Lawful, MayTake, MayEnter, MayLeave, MayMarkEra, HasSeen, in_promise, in_take, in_ride, AllEntered, IsRescanned, Granted, by_promise, by_ride}
+use Rattle.cas_record.specs.Lawful.{Cluster, ClusterMeets, Lawful, MayTake, MayEnter, MayLeave, MayMarkEra, HasSeen, in_promise, in_take, in_ride, AllEntered, IsRescanned, Granted, by_promise, by_ride}
 use Rattle.cas_record.proofs.PlaceLemmas.{deeper, stands_deeper, stands_at, stands_part, older_than, newer_than, at_one, order}
 use Rattle.cas_record.proofs.ChainLemmas.{at_most_floor_below}
-use Rattle.cas_record.proofs.LogLemmas.{made_proposed, law, lawful_older, mark_at, in_log, part_of, proposal_law, ack_law, AckedAt, acked_at, acked_deeper, one_place, link_below}
+use Rattle.cas_record.proofs.LogLemmas.{made_proposed, law, lawful_older, mark_at, in_log, part_of, proposal_law, ack_law, AckedAt, acked_at, one_place, link_below}
 use Rattle.cas_record.proofs.Agreement.{Seam, took_before_grant, under_shared, took_of_acked, place_of}
 
 pub le_or_lt : (a b : ℕ) → (a ≤ b) ⊎ (suc b ≤ a)
 le_or_lt a b = grind arith
 
 -- ---- entries
-enter_law : (cluster : Cluster) {log older : List Happening} {proposer era : ℕ} → Lawful cluster log → At (Entered proposer era) older log → MayEnter cluster older proposer era
+pub enter_law : (cluster : Cluster) {log older : List Happening} {proposer era : ℕ} → Lawful cluster log → At (Entered proposer era) older log → MayEnter cluster older proposer era
 enter_law cluster lawful at = law cluster lawful at
 
 -- who is marked as in an era entered it
-entered_of_mark : (cluster : Cluster) (log : List Happening) {proposer era : ℕ} → Lawful cluster log → Stands (EraEntered proposer era) (marks_of log) → Stands (Entered proposer era) log
+pub entered_of_mark : (cluster : Cluster) (log : List Happening) {proposer era : ℕ} → Lawful cluster log → Stands (EraEntered proposer era) (marks_of log) → Stands (Entered proposer era) log
 entered_of_mark cluster log {proposer} {era} lawful s =
     let found = in_log log s.at in
     let may : MayMarkEra found.older proposer era = law cluster lawful found.at in
     stands_deeper may.entered found.at
 
 -- who entered an era entered all that come before it
-entered_by : (cluster : Cluster) (n : ℕ) {log : List Happening} {proposer era : ℕ} (earlier : ℕ) → era ≤ n → Lawful cluster log → Stands (Entered proposer era) log
+pub entered_by : (cluster : Cluster) (n : ℕ) {log : List Happening} {proposer era : ℕ} (earlier : ℕ) → era ≤ n → Lawful cluster log → Stands (Entered proposer era) log
     → 0 < earlier → earlier ≤ era → Stands (Entered proposer earlier) log
 entered_by cluster zero earlier fuel lawful s some low = absurd (omega arith)
 entered_by cluster (suc n) {log} {proposer} {era} earlier fuel lawful s some low =
@@ -47,7 +47,7 @@ entered_by cluster (suc n) {log} {proposer} {era} earlier fuel lawful s some low
     ]
 
 -- once all proposers are marked as in an era, nothing is proposed in an earlier one
-before_all_entered : (cluster : Cluster) {happening : Happening} {log older place : List Happening} {q : Proposal} {era : ℕ} → Lawful cluster log → At happening place log
+pub before_all_entered : (cluster : Cluster) {happening : Happening} {log older place : List Happening} {q : Proposal} {era : ℕ} → Lawful cluster log → At happening place log
     → AllEntered cluster era (marks_of place) → At (Marked (Proposed q)) older log → q.era < era → (happening ≡ Marked (Proposed q) → ⊥) → At (Marked (Proposed q)) older place
 before_all_entered cluster {older = older} {place = place} {q = q} {era = era} lawful at entered q_at early other = elim (order q_at at) [
   | older_than before ↦ before
@@ -74,11 +74,11 @@ entered_once cluster {xs = xs} {ys = ys} {proposer = proposer} {era = era} lawfu
 
 -- ---- grants
 -- who granted a ballot has seen it
-granted_seen : {log : List Happening} {acceptor : ℕ} {p : Proposal} → Granted log acceptor p → HasSeen log acceptor p.key p.ballot
+pub granted_seen : {log : List Happening} {acceptor : ℕ} {p : Proposal} → Granted log acceptor p → HasSeen log acceptor p.key p.ballot
 granted_seen (by_promise told place low is_in) = in_promise told place
 granted_seen {p = p} (by_ride place is_in) = in_ride p.read place
 
-seen_deeper : {happening : Happening} {older log : List Happening} {acceptor : ℕ} {key : List ℕ} {ballot : Ballot} → HasSeen older acceptor key ballot → At happening older log → HasSeen log acceptor key ballot
+pub seen_deeper : {happening : Happening} {older log : List Happening} {acceptor : ℕ} {key : List ℕ} {ballot : Ballot} → HasSeen older acceptor key ballot → At happening older log → HasSeen log acceptor key ballot
 seen_deeper (in_promise told s) at = in_promise told (stands_deeper s at)
 seen_deeper (in_take ride s) at = in_take ride (stands_deeper s at)
 seen_deeper (in_ride taken s) at = in_ride taken (stands_deeper s at)
@@ -93,7 +93,7 @@ pub record RescanAt (cluster : Cluster) (era : ℕ) (key : List ℕ) (log : List
   pub entered : AllEntered cluster era (marks_of older)
   pub acked : AckedAt key proposal.ballot log
 
-rescan_at : (cluster : Cluster) (log : List Happening) {era : ℕ} {key : List ℕ} → IsRescanned cluster era key (marks_of log) → RescanAt cluster era key log
+pub rescan_at : (cluster : Cluster) (log : List Happening) {era : ℕ} {key : List ℕ} → IsRescanned cluster era key (marks_of log) → RescanAt cluster era key log
 rescan_at cluster log {era} r =
     let found = in_log log r.proposed in
     record {
@@ -106,17 +106,6 @@ rescan_at cluster log {era} r =
       acked = acked_at log r.acked;
     }
 
-rescan_deeper : {cluster : Cluster} {era : ℕ} {key : List ℕ} {happening : Happening} {older log : List Happening} → RescanAt cluster era key older → At happening older log → RescanAt cluster era key log
-rescan_deeper r at = record {
-  proposal = r.proposal;
-  older = r.older;
-  at = deeper r.at at;
-  same_key = r.same_key;
-  same_era = r.same_era;
-  entered = r.entered;
-  acked = acked_deeper r.acked at;
-}
-
 -- the era of an acknowledgment is that of its proposal
 acked_era : (cluster : Cluster) {log older : List Happening} {p : Proposal} → Lawful cluster log → (a : AckedAt p.key p.ballot log) → At (Marked (Proposed p)) older log → a.acknowledgment.era ≡ p.era
 acked_era cluster lawful a at =
@@ -126,7 +115,7 @@ acked_era cluster lawful a at =
     sym votes.same_era ∙ ap (λ (x : Proposal). x.era) one.same
 
 -- a proposal of the era before that stands before the rescan is at most the rescan
-above_by : (cluster : Cluster) → NeighboursMeet cluster → {log older before : List Happening} {p q : Proposal} → Lawful cluster log → At (Marked (Proposed p)) older log → AckedAt p.key p.ballot log
+above_by : (cluster : Cluster) → ClusterMeets cluster → {log older before : List Happening} {p q : Proposal} → Lawful cluster log → At (Marked (Proposed p)) older log → AckedAt p.key p.ballot log
     → At (Marked (Proposed q)) before older → q.key ≡ p.key → q.era ≤ suc p.era → p.era ≤ suc q.era → BallotAtMost q.ballot p.ballot
 above_by cluster meet {log} {older} {before} {p} {q} lawful at acked q_at same_key low high =
     let era = acked_era cluster lawful acked at in
@@ -162,7 +151,7 @@ no_entry : {proposer era : ℕ} {p : Proposal} → Entered proposer era ≡ Mark
 no_entry e = cc
 
 -- a rescan is above every proposal of an earlier era
-rescan_above : (cluster : Cluster) → NeighboursMeet cluster → (n : ℕ) {log older : List Happening} {era : ℕ} {key : List ℕ} {q : Proposal} → era ≤ n → Lawful cluster log
+pub rescan_above : (cluster : Cluster) → ClusterMeets cluster → (n : ℕ) {log older : List Happening} {era : ℕ} {key : List ℕ} {q : Proposal} → era ≤ n → Lawful cluster log
     → (r : RescanAt cluster era key log) → At (Marked (Proposed q)) older log → q.key ≡ key → q.era < era → BallotAtMost q.ballot r.proposal.ballot
 rescan_above cluster meet zero fuel lawful r q_at same_key early = absurd (omega arith)
 rescan_above cluster meet (suc n) {log} {older} {era} {key} {q} fuel lawful r q_at same_key early =
@@ -211,7 +200,7 @@ after_entry cluster {p = p} {acceptor = acceptor} {taken = taken} {ride = ride} 
 ]
 
 -- a proposal of an era two or more before another's is under the other's link
-far_below : (cluster : Cluster) → NeighboursMeet cluster → {log older before : List Happening} {p q : Proposal} → Lawful cluster log → At (Marked (Proposed p)) older log
+far_below : (cluster : Cluster) → ClusterMeets cluster → {log older before : List Happening} {p q : Proposal} → Lawful cluster log → At (Marked (Proposed p)) older log
     → At (Marked (Proposed q)) before log → q.key ≡ p.key → suc (suc q.era) ≤ p.era → BallotAtMost q.ballot (link_of (marks_of older) p)
 far_below cluster meet {log} {older} {before} {p} {q} lawful at q_at same_key far =
     let entry = entered_at cluster lawful at (omega arith) in
@@ -243,7 +232,7 @@ far_below cluster meet {log} {older} {before} {p} {q} lawful at q_at same_key fa
           (at_most_trans (at_most_floor_below floor.at ((proposal_law cluster lawful at).above_floors floor)) (at_most_greater_right p.read (floor_below p.key p.ballot (marks_of older))))
     ]
 
-under_acked : (cluster : Cluster) → NeighboursMeet cluster → {log older : List Happening} {p : Proposal} {ballot : Ballot} → Lawful cluster log → (a : AckedAt p.key ballot log) → At (Marked (Proposed p)) older log
+under_acked : (cluster : Cluster) → ClusterMeets cluster → {log older : List Happening} {p : Proposal} {ballot : Ballot} → Lawful cluster log → (a : AckedAt p.key ballot log) → At (Marked (Proposed p)) older log
     → BallotLess ballot p.ballot → BallotAtMost ballot (link_of (marks_of older) p)
 under_acked cluster meet {log} {older} {p} {ballot} lawful a at less =
     let votes = (ack_law cluster lawful a.at).votes in
@@ -265,5 +254,5 @@ under_acked cluster meet {log} {older} {p} {ballot} lawful a at less =
       ]
     ]
 
-pub seam_of : (cluster : Cluster) → NeighboursMeet cluster → (log : List Happening) → Lawful cluster log → Seam log
+pub seam_of : (cluster : Cluster) → ClusterMeets cluster → (log : List Happening) → Lawful cluster log → Seam log
 seam_of cluster meet log lawful = record { under = λ {p} {older} {ballot} a at less. under_acked cluster meet lawful a at less }

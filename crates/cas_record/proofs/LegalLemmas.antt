@@ -16,12 +16,12 @@ use Rattle.cas_record.specs.declared.mark.Proposal.{Proposal}
 use Rattle.cas_record.specs.Places.{At, Stands, IsOlderPart, IsPrefix, here, past, whole, later}
 use Rattle.cas_record.specs.Chain.{has_proposal, link_of, entry_of, program_of, chain_of, top_of, settled_of}
 use Rattle.cas_record.specs.Legal.{calls_of, IsBegun, IsProposed, IsEnded, IsFirstProposal, IsFirstEnd, IsNumbered, DoesStand, RefusedNever, harms_due, harms_of, WasBegun, HasVotes, IsAcked, IsFloor, IsLegal}
-use Rattle.cas_record.specs.Happening.{Happening, Marked, Asked, Promised, Took, Dropped, Entered, marks_of}
+use Rattle.cas_record.specs.Happening.{Happening, Marked, marks_of}
 use Rattle.cas_record.specs.Lawful.{Cluster, Lawful, MayEnd, MayBeDone}
 use Rattle.cas_record.proofs.PlaceLemmas.{deeper, stands_at, at_part, part_at, older_than, newer_than, at_one, order, prefix_same, length-prefix}
-use Rattle.cas_record.proofs.Tests.{false_of_not}
+use Rattle.cas_base.proofs.Tests.{false_of_not}
 use Rattle.cas_record.proofs.ChainLemmas.{chain-none, chain-at, has_proposal_tells, entry_place, acked_at_most_top}
-use Rattle.cas_record.proofs.LogLemmas.{law, lawful_older, mark_at, in_log, InLog, part_of, proposal_law, ack_law, floor_law, not_zero, AckedAt, acked_at, proposal_of_acked, above_opening, opening_deeper, has_none_zero, chain_whole, link_begins}
+use Rattle.cas_record.proofs.LogLemmas.{law, lawful_older, mark_at, in_log, InLog, part_of, proposal_law, ack_law, floor_law, not_zero, proposal_placed, not_opened, AckedAt, acked_at, proposal_of_acked, above_opening, opening_deeper, has_none_zero, chain_whole, link_begins}
 use Rattle.cas_record.proofs.Agreement.{Seam, Settles, by_ack, by_opening, settles_deeper, settles_begins, settles_top, agree, grows, settled_begins, overtake}
 use Rattle.cas_record.proofs.CallLemmas.{IsCounted, counted_part, begun_once, program_of_begun}
 
@@ -45,11 +45,7 @@ part_front other older (later q) rest = part_more (rest q)
 pub part_in_log : (log : List Happening) {part : List Mark} → IsOlderPart part (marks_of log) → LogPart part log
 part_in_log [] q = record { older = []; is = part_nil q; is_part = whole }
 part_in_log (Marked other ∷ older) q = part_front other older q (λ rest. part_in_log older rest)
-part_in_log (Asked request ∷ older) q = part_more (part_in_log older q)
-part_in_log (Promised a k b r ∷ older) q = part_more (part_in_log older q)
-part_in_log (Took a k b r ∷ older) q = part_more (part_in_log older q)
-part_in_log (Dropped a k t ∷ older) q = part_more (part_in_log older q)
-part_in_log (Entered p e ∷ older) q = part_more (part_in_log older q)
+part_in_log (other ∷ older) q = part_more (part_in_log older q)
 
 -- a part is the whole, or stands behind something
 pub data IsPart {A : Type 0} (part all : List A) : Type 0 where
@@ -145,7 +141,7 @@ stands_behind cluster log {p} {older} lawful seam at acked =
     let fresh : has_proposal p.key p.ballot (marks_of found.older) ≡ false =
     false_of_not _ (λ e. (proposal_law cluster lawful found.at).first.fresh (has_proposal_tells p.key p.ballot (marks_of found.older) e)) in
     let own : chain_of p.key p.ballot (marks_of log) ≡ chain_of p.key (link_of older p) older ++ entry_of older p ∷ [] =
-    chain-at at (subst (λ marks. has_proposal p.key p.ballot marks ≡ false) (sym found.is) fresh) (not_zero cluster lawful found.at) in
+    chain-at at (subst (λ marks. has_proposal p.key p.ballot marks ≡ false) (sym found.is) fresh) (not_zero cluster lawful found.at) (not_opened cluster lawful (proposal_placed found.at)) in
     let begins = settled_begins cluster lawful seam (by_ack acked) (acked_low acked) in
     record {
       after = begins.rest;

@@ -10,13 +10,13 @@ use Rattle.cas_record.specs.declared.mark.Mark.TheVariants.{Proposed, Acked, Flo
 use Rattle.cas_record.specs.declared.mark.Proposal.{Proposal}
 use Rattle.cas_record.specs.declared.mark.Acknowledgment.{Acknowledgment}
 use Rattle.cas_record.specs.Places.{At, Stands, IsOlderPart, here, past, whole, later}
-use Rattle.cas_record.specs.Chain.{has_proposal, floor_below, link_of, entry_of, chain_of}
-use Rattle.cas_record.specs.Legal.{HasProposal, HasFloor, IsAcked, IsOpening, IsFloor}
-use Rattle.cas_record.specs.Happening.{Happening, Marked, Asked, Promised, Took, Dropped, Entered, marks_of}
+use Rattle.cas_record.specs.Chain.{has_proposal, has_calls, has_opening, floor_below, link_of, entry_of, chain_of}
+use Rattle.cas_record.specs.Legal.{HasProposal, HasFloor, IsAcked, NoneBegun, IsOpening, IsFloor}
+use Rattle.cas_record.specs.Happening.{Happening, Marked, marks_of}
 use Rattle.cas_record.specs.Lawful.{IsMade, Cluster, May, Lawful, MayPropose, MayAck}
 use Rattle.cas_record.proofs.PlaceLemmas.{deeper, stands_deeper, stands_at, older_than, newer_than, at_one, order, none_at_nil}
-use Rattle.cas_record.proofs.Tests.{false_of_not}
-use Rattle.cas_record.proofs.ChainLemmas.{floor_below_cases, has_proposal_tells, has_proposal_is, chain-none, chain-later, chain-at}
+use Rattle.cas_base.proofs.Tests.{false_of_not}
+use Rattle.cas_record.proofs.ChainLemmas.{floor_below_cases, has_proposal_tells, has_proposal_is, opening_tells, no_calls, chain-none, chain-later, chain-at}
 
 -- ---- laws
 pub law : (cluster : Cluster) {happening : Happening} {older log : List Happening} → Lawful cluster log → At happening older log → May cluster older happening
@@ -31,11 +31,7 @@ lawful_older cluster lawful (past at) = lawful_older cluster lawful.0 at
 pub mark_at : {mark : Mark} {older log : List Happening} → At (Marked mark) older log → At mark (marks_of older) (marks_of log)
 mark_at here = here
 mark_at (past {y = Marked other} at) = past (mark_at at)
-mark_at (past {y = Asked request} at) = mark_at at
-mark_at (past {y = Promised a k b r} at) = mark_at at
-mark_at (past {y = Took a k b r} at) = mark_at at
-mark_at (past {y = Dropped a k t} at) = mark_at at
-mark_at (past {y = Entered p e} at) = mark_at at
+mark_at (past {y = other} at) = mark_at at
 
 pub mark_stands : {mark : Mark} {log : List Happening} → Stands (Marked mark) log → Stands mark (marks_of log)
 mark_stands s = record { older = marks_of s.older; at = mark_at s.at }
@@ -57,28 +53,16 @@ in_front other older (past at) rest = in_more (rest at)
 pub in_log : (log : List Happening) {mark : Mark} {marks : List Mark} → At mark marks (marks_of log) → InLog mark marks log
 in_log [] at = absurd (none_at_nil at)
 in_log (Marked other ∷ older) at = in_front other older at (λ rest. in_log older rest)
-in_log (Asked request ∷ older) at = in_more (in_log older at)
-in_log (Promised a k b r ∷ older) at = in_more (in_log older at)
-in_log (Took a k b r ∷ older) at = in_more (in_log older at)
-in_log (Dropped a k t ∷ older) at = in_more (in_log older at)
-in_log (Entered p e ∷ older) at = in_more (in_log older at)
+in_log (other ∷ older) at = in_more (in_log older at)
 
 pub stands_in_log : (log : List Happening) {mark : Mark} → Stands mark (marks_of log) → Stands (Marked mark) log
 stands_in_log log s = let found = in_log log s.at in record { older = found.older; at = found.at }
 
 pub part_of : {happening : Happening} {older log : List Happening} → At happening older log → IsOlderPart (marks_of older) (marks_of log)
 part_of {happening = Marked mark} here = later whole
-part_of {happening = Asked request} here = whole
-part_of {happening = Promised a k b r} here = whole
-part_of {happening = Took a k b r} here = whole
-part_of {happening = Dropped a k t} here = whole
-part_of {happening = Entered p e} here = whole
+part_of {happening = other} here = whole
 part_of (past {y = Marked mark} at) = later (part_of at)
-part_of (past {y = Asked request} at) = part_of at
-part_of (past {y = Promised a k b r} at) = part_of at
-part_of (past {y = Took a k b r} at) = part_of at
-part_of (past {y = Dropped a k t} at) = part_of at
-part_of (past {y = Entered p e} at) = part_of at
+part_of (past {y = other} at) = part_of at
 
 -- ---- the laws of marks
 pub proposal_law : (cluster : Cluster) {log older : List Happening} {p : Proposal} → Lawful cluster log → At (Marked (Proposed p)) older log → MayPropose cluster older p
@@ -108,6 +92,9 @@ pub proposed_at : (log : List Happening) {key : List ℕ} {ballot : Ballot} → 
 proposed_at log h =
     let found = in_log log h.stands.at in
     record { proposal = h.proposal; older = found.older; at = found.at; same_key = h.same_key; same_ballot = h.same_ballot }
+
+pub proposal_placed : {p : Proposal} {older log : List Happening} → At (Marked (Proposed p)) older log → ProposedAt p.key p.ballot log
+proposal_placed {p} {older} at = record { proposal = p; older = older; at = at; same_key = refl; same_ballot = refl }
 
 pub has_of : {key : List ℕ} {ballot : Ballot} {log : List Happening} → ProposedAt key ballot log → HasProposal key ballot (marks_of log)
 has_of p = record { proposal = p.proposal; stands = stands_at (mark_at p.at); same_key = p.same_key; same_ballot = p.same_ballot }
@@ -169,15 +156,29 @@ opening_deeper o at = record { state = o.state; older = o.older; at = deeper o.a
 no_floor : (key : List ℕ) (floor : Ballot) (state : State) (p : Proposal) → Marked (Floor key floor state) ≡ Marked (Proposed p) → ⊥
 no_floor key floor state p e = cc
 
-pub above_opening : (cluster : Cluster) {log older : List Happening} {p : Proposal} {floor : Ballot} → Lawful cluster log → At (Marked (Proposed p)) older log
-    → OpeningAt p.key floor log → BallotLess floor p.ballot
-above_opening cluster {p = p} {floor = floor} lawful p_at o = elim (order o.at p_at) [
+above_first : (cluster : Cluster) {log older place : List Happening} {p : Proposal} {floor : Ballot} {state : State} → Lawful cluster log → At (Marked (Proposed p)) older log
+    → At (Marked (Floor p.key floor state)) place log → NoneBegun (marks_of place) → BallotLess floor p.ballot
+above_first cluster {p = p} {floor = floor} {state = state} lawful p_at at none_begun = elim (order at p_at) [
   | older_than before ↦ (proposal_law cluster lawful p_at).above_floors (stands_at (mark_at before))
   | newer_than after ↦
       let begun = (proposal_law cluster lawful p_at).first.begun in
-      absurd (o.opening.none_begun p.caller p.call p.key begun.program (stands_deeper begun.stands (mark_at after)))
-  | at_one same older_same ↦ absurd (no_floor p.key floor o.state p same)
+      absurd (none_begun p.caller p.call p.key begun.program (stands_deeper begun.stands (mark_at after)))
+  | at_one same older_same ↦ absurd (no_floor p.key floor state p same)
 ]
+
+pub above_opening : (cluster : Cluster) {log older : List Happening} {p : Proposal} {floor : Ballot} → Lawful cluster log → At (Marked (Proposed p)) older log
+    → OpeningAt p.key floor log → BallotLess floor p.ballot
+above_opening cluster lawful p_at o = above_first cluster lawful p_at o.at o.opening.none_begun
+
+-- so no proposal is at one
+pub not_opened : (cluster : Cluster) {log : List Happening} {key : List ℕ} {ballot : Ballot} → Lawful cluster log → ProposedAt key ballot log → has_opening key ballot (marks_of log) ≡ false
+not_opened cluster {log} {key} {ballot} lawful proposed = false_of_not _ (λ e.
+    let o = opening_tells key ballot (marks_of log) e in
+    let found = in_log log o.at in
+    let p = proposed.proposal in
+    let at : At (Marked (Floor p.key ballot o.state)) found.older log = subst (λ k. At (Marked (Floor k ballot o.state)) found.older log) (sym proposed.same_key) found.at in
+    let none : NoneBegun (marks_of found.older) = λ caller call k program s. no_calls (subst (λ xs. has_calls xs ≡ false) found.is o.none) s.at in
+    less_irreflexive (subst (BallotLess ballot) proposed.same_ballot (above_first cluster lawful proposed.at at none)))
 
 -- ---- the link of a proposal
 -- a ballot from which a history goes on: zero, one that was proposed, or an opening floor
@@ -252,7 +253,7 @@ chain_whole cluster {older = older} {log = log} {key = key} {ballot = ballot} la
     let before = lawful_older cluster lawful at in
     elim begins [
       | at_zero z ↦ chain-none key ballot (marks_of older) (has_none_zero cluster older key before z) ∙ sym (chain-none key ballot (marks_of log) (has_none_zero cluster log key lawful z))
-      | at_proposal p ↦ sym (chain-later key ballot (part_of at) (is_proposed cluster before p))
+      | at_proposal p ↦ sym (chain-later key ballot (part_of at) (is_proposed cluster before p) (not_opened cluster lawful (proposed_deeper p at)))
       | at_opening o ↦ chain-none key ballot (marks_of older) (has_none_opening cluster before o) ∙ sym (chain-none key ballot (marks_of log) (has_none_opening cluster lawful (opening_deeper o at)))
     ]
 
@@ -262,5 +263,5 @@ pub chain_of_proposal : (cluster : Cluster) {log older : List Happening} {p : Pr
 chain_of_proposal cluster {log = log} {older = older} {p = p} lawful at =
     let fresh : has_proposal p.key p.ballot (marks_of older) ≡ false =
     false_of_not _ (λ e. (proposal_law cluster lawful at).first.fresh (has_proposal_tells p.key p.ballot (marks_of older) e)) in
-    chain-at (mark_at at) fresh (not_zero cluster lawful at)
+    chain-at (mark_at at) fresh (not_zero cluster lawful at) (not_opened cluster lawful (proposal_placed at))
     ∙ ap (λ before. before ++ entry_of (marks_of older) p ∷ []) (chain_whole cluster lawful at (link_begins cluster lawful at))

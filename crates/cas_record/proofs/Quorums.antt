@@ -3,7 +3,7 @@ use Rattle.std.proofs.Common.{◌≡◌, ℕ, suc, zero, true, List, length, ari
 use Rattle.cas_ballot.specs.Members.{members_where, union_of}
 use Rattle.cas_quorum.specs.Quorum.{has_quorum, Shared}
 use Rattle.cas_quorum.proofs.Counting.{sizes_share}
-use Rattle.cas_record.specs.Lawful.{NeighboursMeet}
+use Rattle.cas_record.specs.Lawful.{ClusterMeets}
 use Rattle.cas_record.specs.Witness.{three, four, small_cluster}
 
 -- two of three and two of three, two of three and three of four, three and three of four
@@ -28,7 +28,7 @@ two_three p a e f = sizes_share three four 2 3 (omega (arith, union_three_four))
 three_three : (p a : List ℕ) → has_quorum 3 four p ≡ true → has_quorum 3 four a ≡ true → Shared p a
 three_three p a e f = sizes_share four four 3 3 (omega (arith, union_four)) p a e f
 
-pub small_meet : NeighboursMeet small_cluster
+pub small_meet : ClusterMeets small_cluster
 small_meet zero zero low high p a e f = two_two p a e f
 small_meet zero (suc n) low high p a e f = two_three p a e f
 small_meet (suc zero) zero low high p a e f = two_two p a e f

@@ -1,18 +1,15 @@
 -- A history is replayed entry by entry.
-use Rattle.std.proofs.Common.{◌≡◌, ℕ, true, not, List, [], ◌∷◌, ◌++◌, refl, ap, ◌∙◌}
-use Rattle.std.specs.Prelude.{◌&&◌}
+use Rattle.std.proofs.Common.{◌≡◌, List, [], ◌∷◌, ◌++◌, refl, ap, ◌∙◌}
 use Rattle.cas_change.specs.declared.state.State.{State}
 use Rattle.cas_change.specs.Outcome.{outcome_of}
 use Rattle.cas_record.specs.declared.entry.Entry.{Entry}
-use Rattle.cas_record.specs.declared.mark.Mark.{Mark}
-use Rattle.cas_record.specs.declared.mark.Mark.TheVariants.{Proposed, Floor}
+use Rattle.cas_record.specs.declared.mark.Mark.TheVariants.{Proposed}
 use Rattle.cas_record.specs.declared.mark.Proposal.{Proposal}
 use Rattle.cas_record.specs.Places.{At}
-use Rattle.cas_record.specs.Chain.{is_key, link_of, entry_of, chain_of}
-use Rattle.cas_record.specs.Replay.{replay_from, has_calls, opening_state}
+use Rattle.cas_record.specs.Chain.{link_of, entry_of, chain_of}
+use Rattle.cas_record.specs.Replay.{replay_from}
 use Rattle.cas_record.specs.Happening.{Happening, Marked, marks_of}
 use Rattle.cas_record.specs.Lawful.{Cluster, Lawful}
-use Rattle.cas_record.proofs.Tests.{if_false, right_false, not_of_true}
 use Rattle.cas_record.proofs.LogLemmas.{chain_of_proposal}
 
 pub replay-append : (state : State) (xs ys : List Entry) → replay_from state (xs ++ ys) ≡ replay_from (replay_from state xs) ys
@@ -29,8 +26,3 @@ pub replay_of_proposal : (cluster : Cluster) {log older : List Happening} {p : P
 replay_of_proposal cluster {log} {older} {p} state lawful at =
     ap (λ (xs : List Entry). replay_from state xs) (chain_of_proposal cluster lawful at)
     ∙ replay-push state (chain_of p.key (link_of (marks_of older) p) (marks_of log)) (entry_of (marks_of older) p)
-
--- once a call was begun, the state with which a history starts stays
-pub opening_stays : (key : List ℕ) (mark : Mark) (older : List Mark) → has_calls older ≡ true → opening_state key (mark ∷ older) ≡ opening_state key older
-opening_stays key (Floor k floor state) older e = if_false (is_key k key && not (has_calls older)) state (opening_state key older) (right_false (is_key k key) (not (has_calls older)) (not_of_true (has_calls older) e))
-opening_stays key mark older e = refl

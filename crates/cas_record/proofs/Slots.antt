@@ -1,6 +1,6 @@
 -- The slot that the log tells of an acceptor bounds what the acceptor saw, so that its own comparison of ballots is what
 -- the rules ask of a promise and of an acceptance. What it saw before it removed a slot is under the tombstone.
-use Rattle.std.proofs.Common.{◌≡◌, ℕ, Bool, true, false, List, [], ◌∷◌, cond, refl, sym, subst}
+use Rattle.std.proofs.Common.{◌≡◌, ℕ, Bool, true, false, List, [], ◌∷◌, cond, refl, sym, ap, ◌∙◌, subst}
 use Rattle.std.specs.Prelude.{◌⊎◌, ◌==◌}
 use mathlib.Core.Logic.{inl, inr}
 use Rattle.std.specs.Ordering.{is_lt}
@@ -9,10 +9,11 @@ use Rattle.cas_ballot.specs.Ballot.{ballot_cmp, zero_ballot, greater_of, BallotA
 use Rattle.cas_ballot.proofs.BallotLemmas.{at_most_or_less, at_most_refl, at_most_trans, at_most_greater_left, at_most_greater_right, greater_at_most, at_most_of_less}
 use Rattle.cas_record.specs.Places.{At, Stands, here, past}
 use Rattle.cas_record.specs.Chain.{is_key}
-use Rattle.cas_record.specs.Happening.{Happening, Marked, Asked, Promised, Took, Dropped, Entered, marks_of}
+use Rattle.cas_record.specs.Happening.{Happening, Promised, Took, Dropped, marks_of}
 use Rattle.cas_record.specs.Lawful.{Cluster, IsMade, Lawful, HasSeen, in_promise, in_take, in_ride, MayPromise, MayTake, MayDrop, SlotTold, promised_slot, slot_told, is_slot}
-use Rattle.cas_record.proofs.PlaceLemmas.{none_at_nil, stands_part}
-use Rattle.cas_record.proofs.Tests.{less_is, both_true, not_both, key_is, nat_is, slot_same}
+use Rattle.cas_record.proofs.PlaceLemmas.{none_at_nil, newest_or, stands_part}
+use Rattle.cas_base.proofs.Tests.{if_true, if_false, true_or_false, both_true, not_both}
+use Rattle.cas_record.proofs.Tests.{less_is, key_is, nat_is, slot_same}
 use Rattle.cas_record.proofs.LogLemmas.{law, part_of}
 
 -- the acceptor removed the key's slot at a tombstone that is at or above the ballot
@@ -31,22 +32,15 @@ pub record SlotBounds (slot : SlotTold) (acceptor : ℕ) (key : List ℕ) (log :
   pub took : (ballot ride : Ballot) → Stands (Took acceptor key ballot ride) log → BallotAtMost ballot slot.accepted ⊎ IsDropped acceptor key ballot log
 
 -- ---- the newest happening and the older ones
-head_or : {x h : Happening} {older : List Happening} → Stands x (h ∷ older) → (x ≡ h) ⊎ Stands x older
-head_or s = go s.at
-  where
-    go : {x h : Happening} {xs older : List Happening} → At x xs (h ∷ older) → (x ≡ h) ⊎ Stands x older
-    go here = inl refl
-    go {xs = xs} (past at) = inr (record { older = xs; at = at })
-
 data SeenNow (h : Happening) (acceptor : ℕ) (key : List ℕ) (ballot : Ballot) : Type 0 where
   now_promise : (told : Ballot) → Promised acceptor key ballot told ≡ h → SeenNow h acceptor key ballot
   now_take : (ride : Ballot) → Took acceptor key ballot ride ≡ h → SeenNow h acceptor key ballot
   now_ride : (taken : Ballot) → Took acceptor key taken ballot ≡ h → SeenNow h acceptor key ballot
 
 seen_head : {h : Happening} {older : List Happening} {acceptor : ℕ} {key : List ℕ} {ballot : Ballot} → HasSeen (h ∷ older) acceptor key ballot → SeenNow h acceptor key ballot ⊎ HasSeen older acceptor key ballot
-seen_head (in_promise told s) = elim (head_or s) [ inl e ↦ inl (now_promise told e) | inr older ↦ inr (in_promise told older) ]
-seen_head (in_take ride s) = elim (head_or s) [ inl e ↦ inl (now_take ride e) | inr older ↦ inr (in_take ride older) ]
-seen_head (in_ride taken s) = elim (head_or s) [ inl e ↦ inl (now_ride taken e) | inr older ↦ inr (in_ride taken older) ]
+seen_head (in_promise told s) = elim (newest_or s) [ inl e ↦ inl (now_promise told e) | inr older ↦ inr (in_promise told older) ]
+seen_head (in_take ride s) = elim (newest_or s) [ inl e ↦ inl (now_take ride e) | inr older ↦ inr (in_take ride older) ]
+seen_head (in_ride taken s) = elim (newest_or s) [ inl e ↦ inl (now_ride taken e) | inr older ↦ inr (in_ride taken older) ]
 
 -- ---- a happening that is none of the slot's
 -- the happening is of another slot, or tells nothing of slots
@@ -60,13 +54,13 @@ bounds_elsewhere e b = record {
     | inl now ↦ absurd (e.no_seen ballot now)
     | inr older ↦ elim (b.seen ballot older) [ inl low ↦ inl low | inr dropped ↦ inr (dropped_more dropped) ]
   ];
-  took = λ ballot ride s. elim (head_or s) [
+  took = λ ballot ride s. elim (newest_or s) [
     | inl now ↦ absurd (e.no_take ballot ride now)
     | inr older ↦ elim (b.took ballot ride older) [ inl low ↦ inl low | inr dropped ↦ inr (dropped_more dropped) ]
   ];
 }
 
-slot_of : {acceptor a : ℕ} {key k : List ℕ} → acceptor ≡ a → key ≡ k → is_slot acceptor key a k ≡ true
+pub slot_of : {acceptor a : ℕ} {key k : List ℕ} → acceptor ≡ a → key ≡ k → is_slot acceptor key a k ≡ true
 slot_of {acceptor} {a} {key} {k} p q = both_true (a == acceptor) (is_key k key) (nat_is (sym p)) (key_is (sym q))
 
 -- a happening that is no promise and no acceptance shows nothing
@@ -104,7 +98,7 @@ bounds_promise : {slot : SlotTold} {acceptor a : ℕ} {key k : List ℕ} {b told
     → SlotBounds (record { promise = b; accepted = slot.accepted }) acceptor key (Promised a k b told ∷ log)
 bounds_promise {slot} {acceptor} {a} {key} {k} {b} {told} {log} p q may bounds = record {
   seen = λ ballot s. inl (at_most_trans (low ballot (seen_head s)) (at_most_greater_left b slot.accepted));
-  took = λ ballot ride s. elim (head_or s) [
+  took = λ ballot ride s. elim (newest_or s) [
     | inl now ↦ absurd cc
     | inr older ↦ elim (bounds.took ballot ride older) [ inl low ↦ inl low | inr dropped ↦ inr (dropped_more dropped) ]
   ];
@@ -124,7 +118,7 @@ bounds_again : {slot : SlotTold} {acceptor a : ℕ} {key k : List ℕ} {b told :
     → SlotBounds slot acceptor key (Promised a k b told ∷ log)
 bounds_again {slot} {acceptor} {a} {key} {k} {b} {told} {log} seen bounds = record {
   seen = λ ballot s. low ballot (seen_head s);
-  took = λ ballot ride s. elim (head_or s) [
+  took = λ ballot ride s. elim (newest_or s) [
     | inl now ↦ absurd cc
     | inr older ↦ elim (bounds.took ballot ride older) [ inl low ↦ inl low | inr dropped ↦ inr (dropped_more dropped) ]
   ];
@@ -149,7 +143,7 @@ bounds_take : {acceptor a : ℕ} {key k : List ℕ} {b r : Ballot} {log : List H
     → SlotBounds (record { promise = r; accepted = b }) acceptor key (Took a k b r ∷ log)
 bounds_take {acceptor} {a} {key} {k} {b} {r} {log} p q may = record {
   seen = λ ballot s. inl (low ballot (seen_head s));
-  took = λ ballot ride s. inl (elim (head_or s) [
+  took = λ ballot ride s. inl (elim (newest_or s) [
     | inl now ↦ let same : ballot ≡ b = cc in subst (λ x. BallotAtMost x b) (sym same) (at_most_refl b)
     | inr older ↦ may.seen ballot (moved ballot (in_take ride older))
   ]);
@@ -171,7 +165,7 @@ bounds_drop {slot} {acceptor} {a} {key} {k} {t} {log} p q holds promise bounds =
     | inl now ↦ absurd (drop_shows_none now)
     | inr older ↦ elim (bounds.seen ballot older) [ inl low ↦ dropped ballot (at_most_trans low all_low) | inr before ↦ dropped_more before ]
   ]);
-  took = λ ballot ride s. inr (elim (head_or s) [
+  took = λ ballot ride s. inr (elim (newest_or s) [
     | inl now ↦ absurd cc
     | inr older ↦ elim (bounds.took ballot ride older) [ inl low ↦ dropped ballot (subst (BallotAtMost ballot) holds low) | inr before ↦ dropped_more before ]
   ]);
@@ -215,11 +209,7 @@ slot_bounds cluster (Dropped a k t ∷ older) acceptor key lawful =
     let promise : BallotAtMost (slot_told older acceptor key).promise t = subst (λ x. BallotAtMost (slot_told older x key).promise t) same.0 (subst (λ x. BallotAtMost (slot_told older a x).promise t) same.1 may.promise) in
     bounds_drop {slot = slot_told older acceptor key} same.0 same.1 holds promise before)
     (λ e. bounds_elsewhere drop_elsewhere before)
-slot_bounds cluster (Marked mark ∷ older) acceptor key lawful =
-    bounds_elsewhere (silent (λ ballot t e. absurd cc) (λ ballot ride e. absurd cc)) (slot_bounds cluster older acceptor key lawful.0)
-slot_bounds cluster (Asked request ∷ older) acceptor key lawful =
-    bounds_elsewhere (silent (λ ballot t e. absurd cc) (λ ballot ride e. absurd cc)) (slot_bounds cluster older acceptor key lawful.0)
-slot_bounds cluster (Entered proposer era ∷ older) acceptor key lawful =
+slot_bounds cluster (other ∷ older) acceptor key lawful =
     bounds_elsewhere (silent (λ ballot t e. absurd cc) (λ ballot ride e. absurd cc)) (slot_bounds cluster older acceptor key lawful.0)
 
 -- ---- what the acceptor's own comparison allows
@@ -263,3 +253,45 @@ may_take cluster log acceptor key ballot lawful dropped made promise accepted = 
   made = made;
   seen = under_slot cluster log acceptor key ballot lawful dropped promise accepted;
 }
+
+-- ---- what the slot accepted
+promised_keeps : (t : Bool) (slot : SlotTold) (ballot : Ballot) → (cond t (record slot { promise = ballot }) slot).accepted ≡ slot.accepted
+promised_keeps true slot ballot = refl
+promised_keeps false slot ballot = refl
+
+same_accepted : (t : Bool) (x y : SlotTold) → x.accepted ≡ y.accepted → (cond t x y).accepted ≡ y.accepted
+same_accepted true x y p = p
+same_accepted false x y p = refl
+
+-- a promise leaves what the slot accepted
+pub promise_keeps : (log : List Happening) (acceptor : ℕ) (key : List ℕ) (a : ℕ) (k : List ℕ) (ballot told : Ballot)
+    → (slot_told (Promised a k ballot told ∷ log) acceptor key).accepted ≡ (slot_told log acceptor key).accepted
+promise_keeps log acceptor key a k ballot told =
+    let slot = slot_told log acceptor key in
+    same_accepted (is_slot acceptor key a k) (promised_slot slot ballot) slot (promised_keeps (is_lt (ballot_cmp (greater_of slot.promise slot.accepted) ballot)) slot ballot)
+
+take_more : {happening : Happening} {log : List Happening} {acceptor : ℕ} {key : List ℕ} {ballot : Ballot} → (ride : Ballot) × Stands (Took acceptor key ballot ride) log
+    → (ride : Ballot) × Stands (Took acceptor key ballot ride) (happening ∷ log)
+take_more rest = (rest.0, record { older = rest.1.older; at = past rest.1.at })
+
+-- what a slot accepted was taken
+pub took_tells : (log : List Happening) (acceptor : ℕ) (key : List ℕ) (ballot : Ballot) → (slot_told log acceptor key).accepted ≡ ballot → (ballot ≡ zero_ballot → ⊥)
+    → (ride : Ballot) × Stands (Took acceptor key ballot ride) log
+took_tells [] acceptor key ballot e some = absurd (some (sym e))
+took_tells (Promised a k b told ∷ older) acceptor key ballot e some = take_more (took_tells older acceptor key ballot (sym (promise_keeps older acceptor key a k b told) ∙ e) some)
+took_tells (Took a k b ride ∷ older) acceptor key ballot e some = elim (true_or_false (is_slot acceptor key a k)) [
+  | inl own ↦
+      let at = slot_same {acceptor = acceptor} {a = a} {key = key} {k = k} own in
+      let b_is : b ≡ ballot = ap (λ (s : SlotTold). s.accepted) (sym (if_true (is_slot acceptor key a k) _ _ own)) ∙ e in (
+        ride,
+        subst (λ x. Stands (Took x key ballot ride) (Took a k b ride ∷ older)) at.0
+            (subst (λ x. Stands (Took a x ballot ride) (Took a k b ride ∷ older)) at.1
+            (subst (λ x. Stands (Took a k x ride) (Took a k b ride ∷ older)) b_is (record { older = older; at = here }))),
+      )
+  | inr other ↦ take_more (took_tells older acceptor key ballot (ap (λ (s : SlotTold). s.accepted) (sym (if_false (is_slot acceptor key a k) _ _ other)) ∙ e) some)
+]
+took_tells (Dropped a k tombstone ∷ older) acceptor key ballot e some = elim (true_or_false (is_slot acceptor key a k)) [
+  | inl own ↦ absurd (some (sym e ∙ ap (λ (s : SlotTold). s.accepted) (if_true (is_slot acceptor key a k) _ _ own)))
+  | inr other ↦ take_more (took_tells older acceptor key ballot (ap (λ (s : SlotTold). s.accepted) (sym (if_false (is_slot acceptor key a k) _ _ other)) ∙ e) some)
+]
+took_tells (other ∷ older) acceptor key ballot e some = take_more (took_tells older acceptor key ballot e some)

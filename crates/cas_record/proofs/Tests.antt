@@ -7,6 +7,7 @@ use Rattle.std.specs.Ordering.{is_lt, is_eq, MatchOrdering}
 use Rattle.std.proofs.lemmas.Bool.Decides.{eqb_tells}
 use mathlib.Core.Logic.{inl, inr}
 use lib.Pointwise.{bytes_decides}
+use Rattle.cas_base.proofs.Tests.{and_left, and_right, both_true, not_of_false, not_tells, not_both, false_of_not}
 use Rattle.cas_ballot.specs.declared.ballot.Ballot.{Ballot}
 use Rattle.cas_ballot.specs.Ballot.{ballot_cmp, zero_ballot, greater_of, BallotAtMost, BallotLess}
 use Rattle.cas_ballot.proofs.BallotLemmas.{compared, cmp_refl, at_most_refl, at_most_greater_left, at_most_greater_right, greater_cases, cmp_of_less}
@@ -15,69 +16,21 @@ use Rattle.cas_record.specs.Chain.{is_key, is_ballot, is_proposal, is_call}
 use Rattle.cas_record.specs.Lawful.{is_slot}
 
 -- ---- choices
-pub if_true : {A : Type 0} (b : Bool) (x y : A) → b ≡ true → cond b x y ≡ x
-if_true true x y e = refl
-if_true false x y e = absurd cc
+pub if_both : {A : Type 0} (b : Bool) (x y z : A) → x ≡ z → y ≡ z → cond b x y ≡ z
+if_both true x y z e f = e
+if_both false x y z e f = f
 
-pub if_false : {A : Type 0} (b : Bool) (x y : A) → b ≡ false → cond b x y ≡ y
-if_false true x y e = absurd cc
-if_false false x y e = refl
+pub neither : (a b : Bool) → a ≡ false → b ≡ false → (a || b) ≡ false
+neither true b e f = e
+neither false b e f = f
 
-pub true_or_false : (b : Bool) → (b ≡ true) ⊎ (b ≡ false)
-true_or_false true = inl refl
-true_or_false false = inr refl
+pub neither_left : (a b : Bool) → (a || b) ≡ false → a ≡ false
+neither_left true b e = e
+neither_left false b e = refl
 
-pub and_left : (a b : Bool) → (a && b) ≡ true → a ≡ true
-and_left true b e = refl
-and_left false b e = e
-
-pub and_right : (a b : Bool) → (a && b) ≡ true → b ≡ true
-and_right true b e = e
-and_right false b e = absurd cc
-
-pub both_true : (a b : Bool) → a ≡ true → b ≡ true → (a && b) ≡ true
-both_true true b p q = q
-both_true false b p q = p
-
-pub left_false : (a b : Bool) → a ≡ false → (a && b) ≡ false
-left_false true b p = absurd cc
-left_false false b p = refl
-
-pub right_false : (a b : Bool) → b ≡ false → (a && b) ≡ false
-right_false true b p = p
-right_false false b p = refl
-
-pub or_cases : (a b : Bool) → (a || b) ≡ true → (a ≡ true) ⊎ (b ≡ true)
-or_cases true b e = inl refl
-or_cases false b e = inr e
-
-pub or_left : (a b : Bool) → a ≡ true → (a || b) ≡ true
-or_left true b e = refl
-or_left false b e = absurd cc
-
-pub or_right : (a b : Bool) → b ≡ true → (a || b) ≡ true
-or_right true b e = refl
-or_right false b e = e
-
-pub not_of_true : (a : Bool) → a ≡ true → not a ≡ false
-not_of_true true e = refl
-not_of_true false e = absurd cc
-
-pub not_of_false : (a : Bool) → a ≡ false → not a ≡ true
-not_of_false true e = absurd cc
-not_of_false false e = refl
-
-pub not_tells : (a : Bool) → not a ≡ true → a ≡ false
-not_tells true e = absurd cc
-not_tells false e = refl
-
-pub not_both : (a : Bool) → a ≡ true → a ≡ false → ⊥
-not_both true p q = cc
-not_both false p q = cc
-
-pub false_of_not : (a : Bool) → (a ≡ true → ⊥) → a ≡ false
-false_of_not true n = absurd (n refl)
-false_of_not false n = refl
+pub neither_right : (a b : Bool) → (a || b) ≡ false → b ≡ false
+neither_right true b e = absurd cc
+neither_right false b e = e
 
 -- ---- keys, ballots and calls
 pub key_same : {a b : List ℕ} → is_key a b ≡ true → a ≡ b

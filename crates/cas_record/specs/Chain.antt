@@ -1,6 +1,6 @@
 -- The history of a key, as the record tells it: which proposal changed which, and which stand. The marks are read
 -- newest first.
-use Rattle.std.specs.Prelude.{ℕ, Bool, false, not, ◌&&◌, ◌||◌, ◌==◌, nat_eq, if◌then◌else◌, List, [], ◌∷◌, ◌++◌}
+use Rattle.std.specs.Prelude.{ℕ, Bool, true, false, not, ◌&&◌, ◌||◌, ◌==◌, nat_eq, if◌then◌else◌, List, [], ◌∷◌, ◌++◌}
 use Rattle.std.specs.Cmp.Lexicographic.{pointwise}
 use Rattle.std.specs.Ordering.{is_lt, is_eq}
 use Rattle.cas_ballot.specs.declared.ballot.Ballot.{Ballot}
@@ -45,6 +45,22 @@ link_of older p = greater_of p.read (floor_below p.key p.ballot older)
 abbrev pub keep_always : List Clause
 keep_always = record { guard = Always; act = Keep } ∷ []
 
+-- whether any call was begun
+abbrev pub has_calls : List Mark → Bool
+has_calls [] = false
+has_calls (Begun caller call key program ∷ older) = true
+has_calls (mark ∷ older) = has_calls older
+
+-- whether the mark is a floor of the key at the ballot with which its history opens: it was made before any call began
+abbrev pub opens_at : List ℕ → Ballot → Mark → List Mark → Bool
+opens_at key ballot (Floor k floor state) older = is_key k key && (is_ballot floor ballot && not (has_calls older))
+opens_at key ballot other older = false
+
+-- whether the ballot is that of an opening floor of the key
+abbrev pub has_opening : List ℕ → Ballot → List Mark → Bool
+has_opening key ballot [] = false
+has_opening key ballot (mark ∷ older) = opens_at key ballot mark older || has_opening key ballot older
+
 -- whether these are the numbers of the call
 abbrev pub is_call : ℕ → ℕ → ℕ → ℕ → Bool
 is_call caller call c n = (c == caller) && (n == call)
@@ -66,13 +82,15 @@ program_of caller call (mark ∷ older) = program_of caller call older
 abbrev pub entry_of : List Mark → Proposal → Entry
 entry_of older p = record { caller = p.caller; call = p.call; program = program_of p.caller p.call older }
 
--- the history up to a ballot: by the ballot's first proposal, the history up to its link, and then its entry
+-- the history up to a ballot: that of an opening floor is empty; by any other's first proposal it is the history up to
+-- the proposal's link, and then its entry
 abbrev pub chain_of : List ℕ → Ballot → List Mark → List Entry
 chain_of key ballot [] = []
 chain_of key ballot (Proposed p ∷ older) =
-    if is_proposal key ballot p && not (has_proposal key ballot older)
+    if is_proposal key ballot p && not (has_proposal key ballot older || has_opening key ballot older)
     then chain_of key (link_of older p) older ++ entry_of older p ∷ []
     else chain_of key ballot older
+chain_of key ballot (Floor k floor state ∷ older) = if opens_at key ballot (Floor k floor state) older then [] else chain_of key ballot older
 chain_of key ballot (mark ∷ older) = chain_of key ballot older
 
 -- the greatest ballot of the key that was acknowledged or made a floor, or zero

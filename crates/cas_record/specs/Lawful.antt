@@ -18,19 +18,27 @@ use Rattle.cas_record.specs.Places.{At, Stands}
 use Rattle.cas_record.specs.Chain.{is_key, link_of, entry_of, chain_of}
 use Rattle.cas_record.specs.Replay.{replay_from, opening_state}
 use Rattle.cas_record.specs.Legal.{calls_of, IsProposed, HasProposal, HasFloor, IsFirstProposal, IsFirstEnd, tells_refused, tells_unsettled, harms_due, harms_of, HasVotes, IsAcked, IsFloor}
-use Rattle.cas_record.specs.Happening.{Happening, Marked, Asked, Promised, Took, Dropped, Entered, marks_of}
+use Rattle.cas_record.specs.Happening.{Happening, Marked, Promised, Took, Dropped, Entered, marks_of}
 
 -- ---- the cluster
--- the proposers, numbered from 0 up to the greatest, and the quorums of each era
+-- the proposers, numbered from 0 up to the greatest, and the members and the quorums of each era
 pub record Cluster : Type 0 where
   pub greatest : ℕ
+  pub members : ℕ → List ℕ
   pub prepares : ℕ → List ℕ → Bool
   pub accepts : ℕ → List ℕ → Bool
 
 -- a prepare quorum and an accept quorum of one era, or of two eras that follow each other, share an acceptor
-abbrev pub NeighboursMeet : Cluster → Type 0
-NeighboursMeet cluster = (m n : ℕ) → m ≤ suc n → n ≤ suc m → (prepared accepted : List ℕ)
+abbrev pub ClusterMeets : Cluster → Type 0
+ClusterMeets cluster = (m n : ℕ) → m ≤ suc n → n ≤ suc m → (prepared accepted : List ℕ)
     → cluster.prepares m prepared ≡ true → cluster.accepts n accepted ≡ true → Shared prepared accepted
+
+-- the second cluster has the same proposers, and in each era all members and quorums of the first, and maybe more
+pub record IsWidened (old new : Cluster) : Type 0 where
+  pub greatest : new.greatest ≡ old.greatest
+  pub members : (era acceptor : ℕ) → has_member (old.members era) acceptor ≡ true → has_member (new.members era) acceptor ≡ true
+  pub prepares : (era : ℕ) (by : List ℕ) → old.prepares era by ≡ true → new.prepares era by ≡ true
+  pub accepts : (era : ℕ) (by : List ℕ) → old.accepts era by ≡ true → new.accepts era by ≡ true
 
 -- ---- acceptors
 -- the acceptor had seen the ballot for the key: it promised it, took it, or let it ride on one that it took
@@ -208,14 +216,14 @@ MayMark cluster log (Ended caller call rounds answer) = MayEnd (marks_of log) ca
 MayMark cluster log (Harmed caller call down) = ⊤
 MayMark cluster log (Told asked answer) = ⊤
 
--- it may happen next
+-- it may happen next; no rule speaks of what is drawn, asked and answered
 abbrev pub May : Cluster → List Happening → Happening → Type 0
 May cluster log (Marked mark) = MayMark cluster log mark
-May cluster log (Asked request) = ⊤
 May cluster log (Promised acceptor key ballot told) = MayPromise log acceptor key ballot told
 May cluster log (Took acceptor key ballot ride) = MayTake log acceptor key ballot
 May cluster log (Dropped acceptor key tombstone) = MayDrop log acceptor key tombstone
 May cluster log (Entered proposer era) = MayEnter cluster log proposer era
+May cluster log other = ⊤
 
 -- each happening was allowed by what had happened before
 abbrev pub Lawful : Cluster → List Happening → Type 0

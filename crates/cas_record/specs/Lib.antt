@@ -5,6 +5,8 @@ pub mod Replay
 pub mod Legal
 pub mod Happening
 pub mod Lawful
+pub mod Listing
+pub mod Orderly
 pub mod Laws
 pub mod Scan
 pub mod Witness

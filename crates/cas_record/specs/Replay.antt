@@ -1,12 +1,12 @@
 -- What a register holds after a history, and with what its history starts.
-use Rattle.std.specs.Prelude.{ℕ, Bool, true, false, not, ◌&&◌, if◌then◌else◌, List, [], ◌∷◌}
+use Rattle.std.specs.Prelude.{ℕ, not, ◌&&◌, if◌then◌else◌, List, [], ◌∷◌}
 use Rattle.cas_change.specs.declared.state.State.{State}
 use Rattle.cas_change.specs.declared.state.State.TheVariants.{Empty}
 use Rattle.cas_change.specs.Outcome.{outcome_of}
 use Rattle.cas_record.specs.declared.entry.Entry.{Entry}
 use Rattle.cas_record.specs.declared.mark.Mark.{Mark}
-use Rattle.cas_record.specs.declared.mark.Mark.TheVariants.{Begun, Floor}
-use Rattle.cas_record.specs.Chain.{is_key}
+use Rattle.cas_record.specs.declared.mark.Mark.TheVariants.{Floor}
+use Rattle.cas_record.specs.Chain.{is_key, has_calls}
 
 -- the state after the programs have acted in turn
 abbrev pub replay_from : State → List Entry → State
@@ -16,12 +16,6 @@ replay_from state (entry ∷ later) = replay_from (outcome_of entry.program stat
 -- the state after a whole history, of a register that was empty
 abbrev pub replay : List Entry → State
 replay entries = replay_from Empty entries
-
--- whether a call was begun
-abbrev pub has_calls : List Mark → Bool
-has_calls [] = false
-has_calls (Begun caller call key program ∷ older) = true
-has_calls (mark ∷ older) = has_calls older
 
 -- the state with which the key's history starts: that of its opening floor, made before any call began, or empty
 abbrev pub opening_state : List ℕ → List Mark → State

@@ -2,7 +2,8 @@
 use Rattle.std.specs.Prelude.{◌≡◌, ℕ, true, false, List, [], ◌∷◌, ◌++◌, Option, Some, None}
 use Rattle.cas_ballot.specs.declared.ballot.Ballot.{Ballot}
 use Rattle.cas_change.specs.declared.program.Clause.{Clause}
-use Rattle.cas_record.specs.declared.history.Link.{Link}
+use Rattle.cas_record.specs.declared.history.Step.{Step}
+use Rattle.cas_record.specs.declared.history.Step.TheVariants.{Stays, Opens, GoesOn}
 use Rattle.cas_record.specs.declared.mark.Mark.{Mark}
 use Rattle.cas_record.specs.Chain.{has_begun, program_of, keep_always, chain_of}
 
@@ -11,8 +12,8 @@ abbrev pub IsProgramSoFar : ℕ → ℕ → List Mark → Option (List Clause) �
 IsProgramSoFar caller call marks None = (has_begun caller call marks ≡ false) × (program_of caller call marks ≡ keep_always)
 IsProgramSoFar caller call marks (Some program) = (has_begun caller call marks ≡ true) × (program_of caller call marks ≡ program)
 
--- the history of the ballot, by the newest mark: the mark is its proposal, which goes on from a link, or it says nothing
--- of it
-abbrev pub GoesOn : List ℕ → Ballot → Mark → List Mark → Option Link → Type 0
-GoesOn key ballot mark older None = chain_of key ballot (mark ∷ older) ≡ chain_of key ballot older
-GoesOn key ballot mark older (Some link) = chain_of key ballot (mark ∷ older) ≡ chain_of key link.ballot older ++ link.entry ∷ []
+-- the history up to the ballot, by the newest mark: it stays, it opens there, or it goes on from a link
+abbrev pub IsStep : List ℕ → Ballot → Mark → List Mark → Step → Type 0
+IsStep key ballot mark older Stays = chain_of key ballot (mark ∷ older) ≡ chain_of key ballot older
+IsStep key ballot mark older Opens = chain_of key ballot (mark ∷ older) ≡ []
+IsStep key ballot mark older (GoesOn entry link) = chain_of key ballot (mark ∷ older) ≡ chain_of key link older ++ entry ∷ []

@@ -5,9 +5,10 @@
 ghost use Rattle.std.specs.Prelude.{◌≡◌, true, List, ◌∷◌, reverse, if◌then◌else◌, IfOk};
 ghost use Rattle.cas_ballot.specs.Ballot.{greater_of};
 ghost use Rattle.cas_record.specs.declared.mark.Mark.{Mark};
-ghost use Rattle.cas_record.specs.Chain.{is_ballot, is_proposal, has_proposal, floor_below, link_of, keep_always, is_call, program_of, entry_of, chain_of, top_of, settled_of};
+ghost use Rattle.cas_record.specs.declared.mark.Mark.TheVariants.{Proposed};
+ghost use Rattle.cas_record.specs.Chain.{is_ballot, is_proposal, has_proposal, has_calls, opens_at, has_opening, floor_below, link_of, keep_always, is_call, program_of, entry_of, chain_of, top_of, settled_of};
 ghost use Rattle.cas_record.specs.Replay.{replay};
-ghost use Rattle.cas_record.specs.Scan.{IsProgramSoFar, GoesOn};
+ghost use Rattle.cas_record.specs.Scan.{IsProgramSoFar, IsStep};
 
 use crate::entry::Entry;
 use crate::mark::{Mark, Proposal};
@@ -15,11 +16,15 @@ use cas_ballot::Ballot;
 use cas_change::{Act, Clause, Guard, Key, Program, State, apply};
 use std::alloc::{AllocError, Global};
 
-/// What a proposal adds to a history: its entry, behind the history up to a ballot.
+/// What a mark says of the history up to a ballot.
 #[derive(Drop)]
-pub struct Link {
-    entry: Entry,
-    ballot: Ballot,
+pub enum Step {
+    /// Nothing.
+    Stays,
+    /// The history opens with the ballot, and is empty.
+    Opens,
+    /// It is the ballot's proposal: the history is that up to the link, and then the entry.
+    GoesOn { entry: Entry, link: Ballot },
 }
 
 fn is_ballot(a: Ballot, b: Ballot) -> bool
@@ -59,6 +64,48 @@ fn has_proposal(marks: &[Mark], key: &Key, ballot: Ballot) -> bool
     let mut found = false;
     for mark in marks {
         found = found || proposes(mark, key, ballot);
+    }
+    found
+}
+
+fn begins(mark: &Mark) -> bool
+    ensures { (older : List Mark) → has_calls (mark.now ∷ older) ≡ (if result then true else has_calls older) }
+{
+    match mark {
+        Mark::Begun { .. } => true,
+        _ => false,
+    }
+}
+
+fn has_calls(marks: &[Mark]) -> bool
+    ensures { result ≡ has_calls (reverse marks.now) }
+{
+    let mut found = false;
+    for mark in marks {
+        found = found || begins(mark);
+    }
+    found
+}
+
+fn opens_at(older: &[Mark], mark: &Mark, key: &Key, ballot: Ballot) -> bool
+    ensures { result ≡ opens_at key.now ballot mark.now (reverse older.now) }
+{
+    match mark {
+        Mark::Floor {
+            key: other,
+            ballot: made,
+            ..
+        } => other == key && is_ballot(*made, ballot) && !has_calls(older),
+        _ => false,
+    }
+}
+
+fn has_opening(marks: &[Mark], key: &Key, ballot: Ballot) -> bool
+    ensures { result ≡ has_opening key.now ballot (reverse marks.now) }
+{
+    let mut found = false;
+    for at in 0..marks.len() {
+        found = opens_at(&marks[..at], &marks[at], key, ballot) || found;
     }
     found
 }
@@ -179,25 +226,42 @@ fn link_of(older: &[Mark], proposal: &Proposal) -> Ballot
     )
 }
 
-fn link_at(
+fn step_by(
+    alloc: Global,
+    older: &[Mark],
+    proposal: &Proposal,
+    key: &Key,
+    ballot: Ballot,
+) -> Result<Step, AllocError>
+    ensures { IfOk result (λ step. IsStep key.now ballot (Proposed proposal.now) (reverse older.now) step) }
+{
+    let first = is_proposal(proposal, key, ballot)
+        && !(has_proposal(older, key, ballot) || has_opening(older, key, ballot));
+    if first {
+        Ok(Step::GoesOn {
+            entry: entry_of(alloc, older, proposal)?,
+            link: link_of(older, proposal),
+        })
+    } else {
+        Ok(Step::Stays)
+    }
+}
+
+fn step_at(
     alloc: Global,
     older: &[Mark],
     mark: &Mark,
     key: &Key,
     ballot: Ballot,
-) -> Result<Option<Link>, AllocError>
-    ensures { IfOk result (λ link. GoesOn key.now ballot mark.now (reverse older.now) link) }
+) -> Result<Step, AllocError>
+    ensures { IfOk result (λ step. IsStep key.now ballot mark.now (reverse older.now) step) }
 {
-    let Mark::Proposed(proposal) = mark else {
-        return Ok(None);
-    };
-    if is_proposal(proposal, key, ballot) && !has_proposal(older, key, ballot) {
-        Ok(Some(Link {
-            entry: entry_of(alloc, older, proposal)?,
-            ballot: link_of(older, proposal),
-        }))
-    } else {
-        Ok(None)
+    if opens_at(older, mark, key, ballot) {
+        return Ok(Step::Opens);
+    }
+    match mark {
+        Mark::Proposed(proposal) => step_by(alloc, older, proposal, key, ballot),
+        _ => Ok(Step::Stays),
     }
 }
 
@@ -212,9 +276,13 @@ fn chain_of(
     let mut from = ballot;
     let mut entries = Vec::new(alloc);
     for at in (0..marks.len()).rev() {
-        if let Some(link) = link_at(alloc, &marks[..at], &marks[at], key, from)? {
-            entries.push(link.entry)?;
-            from = link.ballot;
+        match step_at(alloc, &marks[..at], &marks[at], key, from)? {
+            Step::Stays => {}
+            Step::Opens => from = Ballot::ZERO,
+            Step::GoesOn { entry, link } => {
+                entries.push(entry)?;
+                from = link;
+            }
         }
     }
     entries.reverse();

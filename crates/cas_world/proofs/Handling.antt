@@ -14,8 +14,9 @@ use Rattle.cas_record.specs.Places.{Stands, here, past}
 use Rattle.cas_record.specs.Chain.{is_key}
 use Rattle.cas_record.specs.Happening.{Happening, Marked, Asked, Promised, Took, Dropped, Entered, marks_of}
 use Rattle.cas_record.specs.Lawful.{Lawful, SlotTold, slot_told, promised_slot, is_slot, MayPromise, MayTake}
-use Rattle.cas_record.proofs.Tests.{if_true, if_false, true_or_false, both_true, false_of_not, less_is, key_is, key_same, key_refl, nat_is, slot_same}
-use Rattle.cas_record.proofs.Slots.{IsAboveDropped, may_promise, may_take}
+use Rattle.cas_base.proofs.Tests.{if_true, if_false, true_or_false, both_true, false_of_not}
+use Rattle.cas_record.proofs.Tests.{less_is, key_is, key_same, key_refl, nat_is, slot_same}
+use Rattle.cas_record.proofs.Slots.{IsAboveDropped, may_promise, may_take, took_tells}
 use Rattle.cas_record.proofs.LogLemmas.{proposed_at, not_zero}
 use Rattle.cas_slot.specs.declared.slot.Slot.{Slot}
 use Rattle.cas_slot.specs.declared.slot.Accepted.{Accepted}
@@ -260,50 +261,6 @@ prepare_handled log x request key ballot ask h =
     prepare_by log x request key ballot (ballot_cmp seen ballot) ask h refl (compared seen ballot)
 
 -- ---- accept
--- what a slot accepted was taken
-took_tells : (log : List Happening) (acceptor : ℕ) (key : List ℕ) (ballot : Ballot) → (slot_told log acceptor key).accepted ≡ ballot → (ballot ≡ zero_ballot → ⊥)
-    → (ride : Ballot) × Stands (Took acceptor key ballot ride) log
-took_tells [] acceptor key ballot e some = absurd (some (sym e))
-took_tells (Promised a k b told ∷ older) acceptor key ballot e some =
-    let rest = took_tells older acceptor key ballot (same (is_slot acceptor key a k) _ _ (kept (is_lt (ballot_cmp (greater_of (slot_told older acceptor key).promise (slot_told older acceptor key).accepted) b)) (slot_told older acceptor key) b) e) some in
-    (rest.0, record { older = rest.1.older; at = past rest.1.at })
-  where
-    kept : (t : Bool) (slot : SlotTold) (b : Ballot) → (cond t (record slot { promise = b }) slot).accepted ≡ slot.accepted
-    kept true slot b = refl
-    kept false slot b = refl
-
-    same : (t : Bool) (x y : SlotTold) → x.accepted ≡ y.accepted → (cond t x y).accepted ≡ ballot → y.accepted ≡ ballot
-    same true x y p e = sym p ∙ e
-    same false x y p e = e
-took_tells (Took a k b ride ∷ older) acceptor key ballot e some = elim (true_or_false (is_slot acceptor key a k)) [
-  | inl own ↦
-      let at = slot_same {acceptor = acceptor} {a = a} {key = key} {k = k} own in
-      let b_is : b ≡ ballot = ap (λ (s : SlotTold). s.accepted) (sym (if_true (is_slot acceptor key a k) _ _ own)) ∙ e in (
-        ride,
-        subst (λ x. Stands (Took x key ballot ride) (Took a k b ride ∷ older)) at.0
-            (subst (λ x. Stands (Took a x ballot ride) (Took a k b ride ∷ older)) at.1
-            (subst (λ x. Stands (Took a k x ride) (Took a k b ride ∷ older)) b_is (record { older = older; at = here }))),
-      )
-  | inr other ↦
-      let rest = took_tells older acceptor key ballot (ap (λ (s : SlotTold). s.accepted) (sym (if_false (is_slot acceptor key a k) _ _ other)) ∙ e) some in
-      (rest.0, record { older = rest.1.older; at = past rest.1.at })
-]
-took_tells (Dropped a k tombstone ∷ older) acceptor key ballot e some = elim (true_or_false (is_slot acceptor key a k)) [
-  | inl own ↦ absurd (some (sym e ∙ ap (λ (s : SlotTold). s.accepted) (if_true (is_slot acceptor key a k) _ _ own)))
-  | inr other ↦
-      let rest = took_tells older acceptor key ballot (ap (λ (s : SlotTold). s.accepted) (sym (if_false (is_slot acceptor key a k) _ _ other)) ∙ e) some in
-      (rest.0, record { older = rest.1.older; at = past rest.1.at })
-]
-took_tells (Marked mark ∷ older) acceptor key ballot e some =
-    let rest = took_tells older acceptor key ballot e some in
-    (rest.0, record { older = rest.1.older; at = past rest.1.at })
-took_tells (Asked request ∷ older) acceptor key ballot e some =
-    let rest = took_tells older acceptor key ballot e some in
-    (rest.0, record { older = rest.1.older; at = past rest.1.at })
-took_tells (Entered proposer era ∷ older) acceptor key ballot e some =
-    let rest = took_tells older acceptor key ballot e some in
-    (rest.0, record { older = rest.1.older; at = past rest.1.at })
-
 -- a ballot that was proposed is not zero
 some_ballot : (log : List Happening) {key : List ℕ} {ballot : Ballot} {era : ℕ} {state : State} → Lawful cluster log → IsProposedState (marks_of log) key ballot era state → ballot ≡ zero_ballot → ⊥
 some_ballot log lawful s z =

@@ -2,13 +2,13 @@
 use Rattle.std.proofs.Common.{subst}
 use Rattle.std.specs.Prelude.{reverse}
 use Rattle.cas_record.specs.Legal.{IsLegal}
-use Rattle.cas_record.specs.Lawful.{NeighboursMeet}
+use Rattle.cas_record.specs.Lawful.{ClusterMeets}
 use Rattle.cas_record.proofs.Quorums.{two_two}
 use Rattle.cas_record.proofs.LawLemmas.{lawful_is_legal}
 use Rattle.cas_world.specs.History.{cluster, HasHistory}
 use Rattle.cas_world.specs.View.{View}
 
-any_two_meet : NeighboursMeet cluster
+any_two_meet : ClusterMeets cluster
 any_two_meet m n low high p a e f = two_two p a e f
 
 pub legal_record : (world : View) → HasHistory world → IsLegal (reverse world.marks)
