@@ -104,7 +104,7 @@ tells gives room old new source new_source Stops held result g is tell = record 
 
 -- a line is told where its newline is there
 pub tells_line : (bytes rest : List ℕ) (line : LineState) (stop : Option Taken) → rest ≡ drop (length (take_through 10 bytes)) bytes → line.bytes ≡ text_of bytes
-    → ((stop ≡ None) × (has_newline bytes ≡ true)) ⊎ ((stop ≡ Some End) × (has_newline bytes ≡ false)) → Tells bytes stop (Ok (Some line)) rest
+    → ((stop ≡ None) × (has_newline bytes ≡ true)) ⊎ ((stop ≡ Some End) × (has_newline bytes ≡ false) × (0 < length bytes)) → Tells bytes stop (Ok (Some line)) rest
 tells_line bytes rest line stop left text why = ((text, left ∙ drop-length-take_through bytes), why)
 
 -- the room for a line, and behind the last one

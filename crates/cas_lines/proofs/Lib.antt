@@ -5,4 +5,5 @@ pub mod FirstLines
 pub mod LineMisfits
 pub mod Newlines
 pub mod Pieces
+pub mod Told
 pub mod WholeRuns

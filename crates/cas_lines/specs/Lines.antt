@@ -124,11 +124,11 @@ abbrev pub IsTextOf : List ℕ → List ℕ → List ℕ → Type 0
 IsTextOf bytes line rest = (line ≡ text_of bytes) × (rest ≡ drop_through 10 bytes)
 
 -- what a reader tells by the bytes ahead and by what stopped its source, and which bytes it holds then: a line whose
--- newline is there or behind which the input ended, the end of the input, or a fault, which is the source's exactly where
--- that one failed
+-- newline is there or behind whose bytes the input ended, the end of the input, or a fault, which is the source's exactly
+-- where that one failed
 abbrev pub Tells : List ℕ → Option Taken → Result (Option LineState) LineFault → List ℕ → Type 0
 Tells bytes stop (Ok (Some line)) rest =
-    IsTextOf bytes line.bytes rest × (((stop ≡ None) × (has_newline bytes ≡ true)) ⊎ ((stop ≡ Some End) × (has_newline bytes ≡ false)))
+    IsTextOf bytes line.bytes rest × (((stop ≡ None) × (has_newline bytes ≡ true)) ⊎ ((stop ≡ Some End) × (has_newline bytes ≡ false) × (0 < length bytes)))
 Tells bytes stop (Ok None) rest = (stop ≡ Some End) × (bytes ≡ []) × (rest ≡ [])
 Tells bytes stop (Err fault) rest = (stop ≡ Some Fault ↔ fault ≡ ReadFault) × (rest ≡ bytes)
 
@@ -148,3 +148,27 @@ pub record HasRead (input : List ℕ) (lines : List (List ℕ)) (rest : List ℕ
 -- the same of a reader, where it is known what the input was
 abbrev pub HasHandedOut : Option (List ℕ) → List (List ℕ) → LinesState → Option (List ℕ) → Type 0
 HasHandedOut start lines reader left = IfSome start (λ input. IsSomeAnd (ahead reader left) (λ rest. HasRead input lines rest))
+
+-- ---- what a source told in a whole run
+-- by the ends that it told a source ended these lines, and it gave these bytes since the last of them
+pub data HasTold {S : Type 0} (gives : S → Taken → S → Type 0) (old : S) : List (List ℕ) → List ℕ → S → Type 0 where
+  told_nothing : HasTold gives old [] [] old
+  told_bytes : {lines : List (List ℕ)} {bytes more : List ℕ} {mid new : S} → HasTold gives old lines bytes mid → gives mid (Bytes more) new → HasTold gives old lines (bytes ++ more) new
+  told_end : {lines : List (List ℕ)} {bytes : List ℕ} {mid new : S} → HasTold gives old lines bytes mid → gives mid End new → HasTold gives old (lines ++ lines_of bytes) [] new
+
+-- these lines end within the bytes, whatever follows, and the rest has no newline
+pub record EndWithin (bytes : List ℕ) (lines : List (List ℕ)) (rest : List ℕ) : Type 0 where
+  pub split : (later : List ℕ) → lines_of (bytes ++ later) ≡ lines ++ lines_of (rest ++ later)
+  pub none : has_newline rest ≡ false
+
+-- the last call of a source failed, and these are all lines whose end it told before, be it a newline or the end of the input
+pub record FailsBehind {S : Type 0} (gives : S → Taken → S → Type 0) (old new : S) (lines : List (List ℕ)) : Type 0 where
+  pub told : List (List ℕ)
+  pub bytes : List ℕ
+  pub mid : S
+  pub calls : HasTold gives old told bytes mid
+  pub fails : gives mid Fault new
+  pub ended : List (List ℕ)
+  pub rest : List ℕ
+  pub within : EndWithin bytes ended rest
+  pub all : lines ≡ told ++ ended

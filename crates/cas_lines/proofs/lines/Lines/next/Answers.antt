@@ -165,8 +165,9 @@ returns-in_ok-hand_out-in-End-2-clause-at_once g c =
     let old : LinesState = record { held = s.held.items; handed = s.handed } in
     let out = c.in_ok-hand_out-in-End-2.ensures in
     let none = (c.in_ok-fill.ensures.end (ap Ok c.in-End-2.is)).0 in
+    let some : 0 < length c.fill.new.held.items = grind (arith, common_steps) in
     rw (← c.self.view_is) (tells _ LINE_LIMIT old c.hand_out-in-End-2.new.self _ _ _ held _ (rw c.in-End-2.is at c.in_ok-fill.ensures.asks) (room_for_line s.handed c.if-self-eq-MOST_LINES.false)
-    (λ stop stops. tells_line held c.hand_out-in-End-2.new.self.held c.in_ok-hand_out-in-End-2.field-0 stop out.held out.text (inr (stops, none))))
+    (λ stop stops. tells_line held c.hand_out-in-End-2.new.self.held c.in_ok-hand_out-in-End-2.field-0 stop out.held out.text (inr (stops, none, some))))
 
 pub returns-in_ok-hand_out-in-Beyond-clause-at_once : goal.returns-in_ok-hand_out-in-Beyond-clause-at_once
 returns-in_ok-hand_out-in-Beyond-clause-at_once g c =
