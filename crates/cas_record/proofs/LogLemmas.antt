@@ -15,7 +15,7 @@ use Rattle.cas_record.specs.Legal.{HasProposal, HasFloor, IsAcked, NoneBegun, Is
 use Rattle.cas_record.specs.Happening.{Happening, Marked, marks_of}
 use Rattle.cas_record.specs.Lawful.{IsMade, Cluster, May, Lawful, MayPropose, MayAck}
 use Rattle.cas_record.proofs.PlaceLemmas.{deeper, stands_deeper, stands_at, older_than, newer_than, at_one, order, none_at_nil}
-use Rattle.cas_base.proofs.Tests.{false_of_not}
+use Rattle.cas_base.proofs.Bools.{false_of_not}
 use Rattle.cas_record.proofs.ChainLemmas.{floor_below_cases, has_proposal_tells, has_proposal_is, opening_tells, no_calls, chain-none, chain-later, chain-at}
 
 -- ---- laws

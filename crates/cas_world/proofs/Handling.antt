@@ -14,7 +14,7 @@ use Rattle.cas_record.specs.Places.{here}
 use Rattle.cas_record.specs.Chain.{is_key}
 use Rattle.cas_record.specs.Happening.{Happening, Marked, Promised, Took, marks_of}
 use Rattle.cas_record.specs.Lawful.{Lawful, SlotTold, slot_told, promised_slot, is_slot, MayPromise, MayTake}
-use Rattle.cas_base.proofs.Tests.{if_true, if_false, true_or_false, both_true, false_of_not}
+use Rattle.cas_base.proofs.Bools.{if_true, if_false, true_or_false, both_true, false_of_not}
 use Rattle.cas_record.proofs.Tests.{less_is, key_is, key_same, key_refl, nat_is, slot_same}
 use Rattle.cas_record.proofs.Slots.{IsAboveDropped, may_promise, may_take, took_tells}
 use Rattle.cas_record.proofs.LogLemmas.{proposed_at, not_zero}
