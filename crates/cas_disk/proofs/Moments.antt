@@ -46,3 +46,13 @@ module _ {D : Type 0} (moment : D → ℕ) (left_since : D → ℕ → List ℕ 
     later = omega (arith, same, run.later);
     each = λ c left. run.each c (subst (λ (t : ℕ). left_since new t c) (sym same) left);
   }
+
+  -- A crash of a disk that was crashed and then only read leaves what a crash might have left before, when the past was forgotten.
+  pub reread : (may_leave : D → List ℕ → Type 0) (old began mid new : D) (seen : List ℕ) → moment began ≡ moment old → ((c : List ℕ) → may_leave began c → may_leave old c) → ((c : List ℕ) → left_since began (moment began) c → may_leave began c)
+      → Elapses (moment began) (moment mid) (left_since began) (left_since mid) (may_leave mid) → may_leave began seen → Only seen (may_leave mid) → ContinuesOnly moment left_since mid new (λ c. c ≡ seen) → LeavesOnly moment left_since old new (may_leave old)
+  reread may_leave old began mid new seen same outcomes now time image settled read =
+      let here : (c : List ℕ) → c ≡ seen → may_leave old c = λ c is. subst (λ (l : List ℕ). may_leave old l) (sym is) (outcomes seen image) in
+      from_there old began new (may_leave old) same
+      (then_on began mid new (may_leave old)
+      (goes_on began began mid (may_leave old) (may_leave mid) (started began (may_leave old) (λ c left. outcomes c (now c left))) time (λ c left. here c (settled c left)))
+      (weaker mid new (λ c. c ≡ seen) (may_leave old) here read))

@@ -12,11 +12,11 @@ use Rattle.cas_slot.specs.declared.slot.Slot.{Slot}
 use Rattle.cas_slot.specs.declared.ages.Ages.{Ages}
 use Rattle.cas_slot.specs.Contents.{Contents, with_kept, without_kept}
 use Rattle.cas_slot.specs.Limits.{SlotBallotsFit, AllBallotsFit}
-use Rattle.cas_slot.specs.Shelf.{LeavesOnly, IsOldOrNew}
+use Rattle.cas_slot.specs.Shelf.{IsOldOrNew}
 use Rattle.cas_slot.specs.Slots.{slot_count}
 use Rattle.cas_slot.proofs.LimitLemmas.{put_fits, removal_fits}
 use Rattle.cas_wire.specs.Spelling.{FitsAccepted}
-use Rattle.cas_disk.specs.Disk.{LeavesOnly as DiskLeavesOnly}
+use Rattle.cas_disk.specs.Disk.{ContinuesOnly as DiskContinuesOnly}
 use Rattle.cas_cells.specs.Format.{count_in, count_told, with_count, grown, IsBeforeOrAfter}
 use Rattle.cas_cells.specs.Held.{IsRow}
 use Rattle.cas_cells.specs.Cells as cells
@@ -26,7 +26,7 @@ use Rattle.cas_disk_shelf.specs.Head.{head_spelling, FitsHead}
 use Rattle.cas_disk_shelf.specs.HeadLaws.{count-told, other-count}
 use Rattle.cas_disk_shelf.specs.Cell.{cell_spelling, FitsSlot}
 use Rattle.cas_disk_shelf.specs.Memory.{cell_of, is_free, AreOf, IsMemoryOf, moved, removed, freed, taken}
-use Rattle.cas_disk_shelf.specs.Shelf.{disk_of, contents_of, moment_of, LeftSince, IsUp}
+use Rattle.cas_disk_shelf.specs.Shelf.{disk_of, contents_of, ContinuesOnly, IsUp}
 use Rattle.cas_disk_shelf.specs.ShelfLaws.{by_key, spelled, up_spells}
 use Rattle.cas_disk_shelf.proofs.Leaving.{reads_only, at_rest}
 use Rattle.cas_disk_shelf.proofs.Changing.{count_behind, grow_are}
@@ -115,55 +115,59 @@ pub same_cells : (cells : List (Option (List ℕ))) (head : List ℕ) → count_
 same_cells [] head told row = absurd row
 same_cells (c ∷ cells) head told row = told
 
-module _ {D : Type 0} (tells : Type 0) (seen : D → List ℕ) (may_leave : D → List ℕ → Type 0) (moment : D → ℕ) (left_since : D → ℕ → List ℕ → Type 0) (old new : DiskShelf D) (up : IsUp tells seen may_leave old) where
-  abbrev row_of : List (Option (List ℕ))
-  row_of = cells.cells_of old.cells
+module _ {D : Type 0} (tells : Type 0) (seen : D → List ℕ) (may_leave : D → List ℕ → Type 0) (moment : D → ℕ) (left_since : D → ℕ → List ℕ → Type 0) (old : DiskShelf D) (new : D) (up : IsUp tells seen may_leave old) where
+  abbrev row_before : List (Option (List ℕ))
+  row_before = cells.cells_of old.cells
 
-  pub put_moment : (key : List ℕ) (slot : Slot) (payload : List ℕ) (i : ℕ) → IsKey key → FitsSlot slot → payload ≡ cell_spelling (Some (key, slot)) → cell_of old.memory key ≡ Some i → DiskLeavesOnly moment left_since (disk_of old) (disk_of new) (IsBeforeOrAfter row_of (set row_of i (Some payload)))
-      → LeavesOnly (moment_of moment) (LeftSince left_since) old new (IsOldOrNew (contents_of old) (with_kept (contents_of old) key slot))
+  pub put_moment : (key : List ℕ) (slot : Slot) (payload : List ℕ) (i : ℕ) → IsKey key → FitsSlot slot → payload ≡ cell_spelling (Some (key, slot)) → cell_of old.memory key ≡ Some i → DiskContinuesOnly moment left_since (disk_of old) new (IsBeforeOrAfter row_before (set row_before i (Some payload)))
+      → ContinuesOnly moment left_since (disk_of old) new (IsOldOrNew (contents_of old) (with_kept (contents_of old) key slot))
   put_moment key slot payload i named fits spells own run =
-      let within = own_within row_of (contents_of old) _ _ up.memory.shown.in_step up.row.row key i own in
-      old_or_new tells seen may_leave moment left_since old new (set row_of i (Some payload)) (with_kept (contents_of old) key slot) _ _ up (row_behind row_of i (Some payload) within.0 up.row.row)
-      (rewritten row_of (contents_of old) _ _ up.memory.shown up.row.row key slot payload i named fits spells own) run
+      let within = own_within row_before (contents_of old) _ _ up.memory.shown.in_step up.row.row key i own in
+      old_or_new tells seen may_leave moment left_since old new (set row_before i (Some payload)) (with_kept (contents_of old) key slot) _ _ up (row_behind row_before i (Some payload) within.0 up.row.row)
+      (rewritten row_before (contents_of old) _ _ up.memory.shown up.row.row key slot payload i named fits spells own) run
 
-  pub add_moment : (key : List ℕ) (slot : Slot) (payload : List ℕ) (i : ℕ) → IsKey key → FitsSlot slot → payload ≡ cell_spelling (Some (key, slot)) → cell_of old.memory key ≡ None → is_free old.memory i ≡ true → DiskLeavesOnly moment left_since (disk_of old) (disk_of new) (IsBeforeOrAfter row_of (set row_of i (Some payload)))
-      → LeavesOnly (moment_of moment) (LeftSince left_since) old new (IsOldOrNew (contents_of old) (with_kept (contents_of old) key slot))
+  pub add_moment : (key : List ℕ) (slot : Slot) (payload : List ℕ) (i : ℕ) → IsKey key → FitsSlot slot → payload ≡ cell_spelling (Some (key, slot)) → cell_of old.memory key ≡ None → is_free old.memory i ≡ true → DiskContinuesOnly moment left_since (disk_of old) new (IsBeforeOrAfter row_before (set row_before i (Some payload)))
+      → ContinuesOnly moment left_since (disk_of old) new (IsOldOrNew (contents_of old) (with_kept (contents_of old) key slot))
   add_moment key slot payload i named fits spells none free run =
-      let within = free_within row_of (contents_of old) _ _ up.memory.shown.in_step up.row.row i free in
-      old_or_new tells seen may_leave moment left_since old new (set row_of i (Some payload)) (with_kept (contents_of old) key slot) _ _ up (row_behind row_of i (Some payload) within.0 up.row.row)
-      (added row_of (contents_of old) _ _ up.memory.shown up.row.row key slot payload i named fits spells none free) run
+      let within = free_within row_before (contents_of old) _ _ up.memory.shown.in_step up.row.row i free in
+      old_or_new tells seen may_leave moment left_since old new (set row_before i (Some payload)) (with_kept (contents_of old) key slot) _ _ up (row_behind row_before i (Some payload) within.0 up.row.row)
+      (added row_before (contents_of old) _ _ up.memory.shown up.row.row key slot payload i named fits spells none free) run
 
-  pub drop_moment : (key payload : List ℕ) (i : ℕ) → payload ≡ cell_spelling None → cell_of old.memory key ≡ Some i → DiskLeavesOnly moment left_since (disk_of old) (disk_of new) (IsBeforeOrAfter row_of (set row_of i (Some payload)))
-      → LeavesOnly (moment_of moment) (LeftSince left_since) old new (IsOldOrNew (contents_of old) (without_kept (contents_of old) key))
+  pub drop_moment : (key payload : List ℕ) (i : ℕ) → payload ≡ cell_spelling None → cell_of old.memory key ≡ Some i → DiskContinuesOnly moment left_since (disk_of old) new (IsBeforeOrAfter row_before (set row_before i (Some payload)))
+      → ContinuesOnly moment left_since (disk_of old) new (IsOldOrNew (contents_of old) (without_kept (contents_of old) key))
   drop_moment key payload i spells own run =
-      let within = own_within row_of (contents_of old) _ _ up.memory.shown.in_step up.row.row key i own in
-      old_or_new tells seen may_leave moment left_since old new (set row_of i (Some payload)) (without_kept (contents_of old) key) _ _ up (row_behind row_of i (Some payload) within.0 up.row.row)
-      (dropped row_of (contents_of old) _ _ up.memory.shown up.row.row key payload i spells own) run
+      let within = own_within row_before (contents_of old) _ _ up.memory.shown.in_step up.row.row key i own in
+      old_or_new tells seen may_leave moment left_since old new (set row_before i (Some payload)) (without_kept (contents_of old) key) _ _ up (row_behind row_before i (Some payload) within.0 up.row.row)
+      (dropped row_before (contents_of old) _ _ up.memory.shown up.row.row key payload i spells own) run
 
-  pub raise_moment : (ages : Ages) (payload : List ℕ) → FitsHead (record { count = count_in row_of; ages = ages }) → payload ≡ head_spelling (record { count = count_in row_of; ages = ages }) → DiskLeavesOnly moment left_since (disk_of old) (disk_of new) (IsBeforeOrAfter row_of (set row_of 0 (Some payload)))
-      → LeavesOnly (moment_of moment) (LeftSince left_since) old new (IsOldOrNew (contents_of old) (record (contents_of old) { ages = ages }))
+  pub raise_moment : (ages : Ages) (payload : List ℕ) → FitsHead (record { count = count_in row_before; ages = ages }) → payload ≡ head_spelling (record { count = count_in row_before; ages = ages }) → DiskContinuesOnly moment left_since (disk_of old) new (IsBeforeOrAfter row_before (set row_before 0 (Some payload)))
+      → ContinuesOnly moment left_since (disk_of old) new (IsOldOrNew (contents_of old) (record (contents_of old) { ages = ages }))
   raise_moment ages payload fits spells run =
-      let told : count_told payload ≡ count_in row_of = ap count_told spells ∙ count-told _ fits in
-      old_or_new tells seen may_leave moment left_since old new (set row_of 0 (Some payload)) (record (contents_of old) { ages = ages }) _ _ up (row_first row_of payload told up.row.row)
-      (raised row_of (contents_of old) _ _ up.memory.shown up.row.row ages payload fits spells) run
+      let told : count_told payload ≡ count_in row_before = ap count_told spells ∙ count-told _ fits in
+      old_or_new tells seen may_leave moment left_since old new (set row_before 0 (Some payload)) (record (contents_of old) { ages = ages }) _ _ up (row_first row_before payload told up.row.row)
+      (raised row_before (contents_of old) _ _ up.memory.shown up.row.row ages payload fits spells) run
 
-  pub grow_moment : count_in row_of < 4096 → DiskLeavesOnly moment left_since (disk_of old) (disk_of new) (IsBeforeOrAfter row_of (grown row_of)) → LeavesOnly (moment_of moment) (LeftSince left_since) old new (λ left. left ≡ Ok (contents_of old))
+  pub grow_moment : count_in row_before < 4096 → DiskContinuesOnly moment left_since (disk_of old) new (IsBeforeOrAfter row_before (grown row_before)) → ContinuesOnly moment left_since (disk_of old) new (λ left. left ≡ Ok (contents_of old))
   grow_moment room run =
-      reads_only moment left_since old new (IsBeforeOrAfter row_of (grown row_of)) (λ left. left ≡ Ok (contents_of old))
+      reads_only moment left_since (disk_of old) new (IsBeforeOrAfter row_before (grown row_before)) (λ left. left ≡ Ok (contents_of old))
       (λ c either. ⊎_elim
-      (λ before. spelled row_of (contents_of old) _ _ c up.row.row up.memory.shown before)
-      (λ grew. spelled (grown row_of) (contents_of old) _ _ c (row_grown row_of (more_cells row_of (contents_of old) _ _ up.memory.shown up.row.row room) up.row.row) (grow_are row_of (contents_of old) _ _ up.memory.shown up.row.row room) grew)
+      (λ before. spelled row_before (contents_of old) _ _ c up.row.row up.memory.shown before)
+      (λ grew. spelled (grown row_before) (contents_of old) _ _ c (row_grown row_before (more_cells row_before (contents_of old) _ _ up.memory.shown up.row.row room) up.row.row) (grow_are row_before (contents_of old) _ _ up.memory.shown up.row.row room) grew)
       either)
       run
 
   -- the disk was not touched
-  pub still : disk_of new ≡ disk_of old → ((c : List ℕ) → left_since (disk_of old) (moment (disk_of old)) c → may_leave (disk_of old) c) → tells → LeavesOnly (moment_of moment) (LeftSince left_since) old new (λ left. left ≡ Ok (contents_of old))
-  still same now t = at_rest moment left_since old new may_leave (λ left. left ≡ Ok (contents_of old)) same now (λ c left. up_spells tells seen may_leave old up t c left)
+  pub still : new ≡ disk_of old → ((c : List ℕ) → left_since (disk_of old) (moment (disk_of old)) c → may_leave (disk_of old) c) → tells → ContinuesOnly moment left_since (disk_of old) new (λ left. left ≡ Ok (contents_of old))
+  still same now t = at_rest moment left_since (disk_of old) new may_leave (λ left. left ≡ Ok (contents_of old)) same now (λ c left. up_spells tells seen may_leave old up t c left)
 
-  pub still_old : (after : Contents) → disk_of new ≡ disk_of old → ((c : List ℕ) → left_since (disk_of old) (moment (disk_of old)) c → may_leave (disk_of old) c) → tells → LeavesOnly (moment_of moment) (LeftSince left_since) old new (IsOldOrNew (contents_of old) after)
-  still_old after same now t = at_rest moment left_since old new may_leave (IsOldOrNew (contents_of old) after) same now (λ c left. inl (up_spells tells seen may_leave old up t c left))
+  pub still_old : (after : Contents) → new ≡ disk_of old → ((c : List ℕ) → left_since (disk_of old) (moment (disk_of old)) c → may_leave (disk_of old) c) → tells → ContinuesOnly moment left_since (disk_of old) new (IsOldOrNew (contents_of old) after)
+  still_old after same now t = at_rest moment left_since (disk_of old) new may_leave (IsOldOrNew (contents_of old) after) same now (λ c left. inl (up_spells tells seen may_leave old up t c left))
 
-  -- ---- the shelf is up again
+-- ---- the shelf is up again
+
+module _ {D : Type 0} (tells : Type 0) (seen : D → List ℕ) (may_leave : D → List ℕ → Type 0) (old new : DiskShelf D) (up : IsUp tells seen may_leave old) where
+  abbrev row_of : List (Option (List ℕ))
+  row_of = cells.cells_of old.cells
 
   none_beyond : (accepted : Option Accepted) → IfSome accepted FitsAccepted → IfSome accepted (λ a. FitsBallot a.ballot)
   none_beyond None fits = tt
@@ -224,6 +228,14 @@ module _ {D : Type 0} (tells : Type 0) (seen : D → List ℕ) (may_leave : D �
     memory = subst (λ (l : List (Option (List ℕ))). IsMemoryOf l new.memory) (sym same) (same_memory row_of old.memory new.memory held keys frees index_len free_len up.memory);
     fits = subst AllBallotsFit (sym held) up.fits;
   }
+
+-- the cells are as they were
+pub still_up : {D : Type 0} (tells : Type 0) (seen : D → List ℕ) (may_leave : D → List ℕ → Type 0) (old new : DiskShelf D) → IsUp tells seen may_leave old → cells.Stands tells seen may_leave new.cells → cells.cells_of new.cells ≡ cells.cells_of old.cells → new.memory ≡ old.memory → IsUp tells seen may_leave new
+still_up tells seen may_leave old new up stands same memory = record {
+  row = stands;
+  memory = subst (λ (m : Memory). IsMemoryOf (cells.cells_of new.cells) m) (sym memory) (subst (λ (l : List (Option (List ℕ))). IsMemoryOf l old.memory) (sym same) up.memory);
+  fits = subst (λ (m : Memory). AllBallotsFit m.held) (sym memory) up.fits;
+}
 
 -- a cell that was added to the free cells and taken back
 pub taken_back : (g : ℕ → Bool) (i : ℕ) → g i ≡ false → (j : ℕ) → taken (freed g i) i j ≡ g j

@@ -1,44 +1,36 @@
 -- What a run of a shelf's calls leaves, by what the run of its disk's calls leaves.
-use Rattle.std.proofs.Common.{◌≡◌, inl, inr, ⊎_elim, ℕ, List, Ok, sym, subst, arith}
+use Rattle.std.proofs.Common.{◌≡◌, inl, ℕ, List, Ok, sym, subst}
 use Rattle.cas_slot.specs.Contents.{Contents}
 use Rattle.cas_slot.specs.Shelf.{Left, LeavesOnly, IsOldOrNew}
-use Rattle.cas_disk.specs.Disk.{LeavesOnly as DiskLeavesOnly}
-use Rattle.cas_disk.proofs.Moments.{started}
+use Rattle.cas_disk.specs.Disk.{LeavesOnly as DiskLeavesOnly, ContinuesOnly as DiskContinuesOnly}
+use Rattle.cas_disk.proofs.Moments as disk
 use Rattle.cas_disk_shelf.specs.declared.shelf.DiskShelf.{DiskShelf}
 use Rattle.cas_disk_shelf.specs.Image.{left_on}
-use Rattle.cas_disk_shelf.specs.Shelf.{disk_of, moment_of, LeftSince}
+use Rattle.cas_disk_shelf.specs.Shelf.{disk_of, moment_of, LeftSince, ContinuesOnly}
 
 module _ {D : Type 0} (moment : D → ℕ) (left_since : D → ℕ → List ℕ → Type 0) where
   -- what is so of each image is so of what it is to a shelf
-  pub reads_only : (old new : DiskShelf D) (P : List ℕ → Type 0) (Q : Left → Type 0) → ((c : List ℕ) → P c → Q (left_on c)) → DiskLeavesOnly moment left_since (disk_of old) (disk_of new) P → LeavesOnly (moment_of moment) (LeftSince left_since) old new Q
-  reads_only old new P Q so run = record {
-    later = run.later;
-    each = λ left since. subst Q (sym since.2) (so since.0 (run.each since.0 since.1));
-    before = λ t left le since. ⊎_elim (λ was. inl (since.0, was, since.2)) (λ here. inr (subst Q (sym since.2) (so since.0 here))) (run.before t since.0 le since.1);
-  }
+  pub reads_only : (old new : D) (P : List ℕ → Type 0) (Q : Left → Type 0) → ((c : List ℕ) → P c → Q (left_on c)) → DiskContinuesOnly moment left_since old new P → ContinuesOnly moment left_since old new Q
+  reads_only old new P Q so run = disk.weaker moment left_since old new P (λ c. Q (left_on c)) so run
+
+  -- and so of a whole call
+  pub as_shelf : (old new : DiskShelf D) (P : List ℕ → Type 0) (Q : Left → Type 0) → ((c : List ℕ) → P c → Q (left_on c)) → DiskLeavesOnly moment left_since (disk_of old) (disk_of new) P → LeavesOnly (moment_of moment) (LeftSince left_since) old new Q
+  as_shelf old new P Q so run = record { later = run.later; each = λ left since. subst Q (sym since.2) (so since.0 (run.each since.0 since.1)) }
+
+  -- a call that goes on from where the past was forgotten
+  pub from_there : (old new : DiskShelf D) (mid : D) (Q : Left → Type 0) → moment mid ≡ moment (disk_of old) → ContinuesOnly moment left_since mid (disk_of new) Q → LeavesOnly (moment_of moment) (LeftSince left_since) old new Q
+  from_there old new mid Q same run = as_shelf old new (λ c. Q (left_on c)) Q (λ c q. q) (disk.from_there moment left_since (disk_of old) mid (disk_of new) (λ c. Q (left_on c)) same run)
 
   -- the disk was not touched
-  pub at_rest : (old new : DiskShelf D) (may_leave : D → List ℕ → Type 0) (Q : Left → Type 0) → disk_of new ≡ disk_of old → ((c : List ℕ) → left_since (disk_of old) (moment (disk_of old)) c → may_leave (disk_of old) c) → ((c : List ℕ) → may_leave (disk_of old) c → Q (left_on c)) → LeavesOnly (moment_of moment) (LeftSince left_since) old new Q
+  pub at_rest : (old new : D) (may_leave : D → List ℕ → Type 0) (Q : Left → Type 0) → new ≡ old → ((c : List ℕ) → left_since old (moment old) c → may_leave old c) → ((c : List ℕ) → may_leave old c → Q (left_on c)) → ContinuesOnly moment left_since old new Q
   at_rest old new may_leave Q same now so =
-      reads_only old new (λ c. Q (left_on c)) Q (λ c q. q)
-      (subst (λ (d : D). DiskLeavesOnly moment left_since (disk_of old) d (λ c. Q (left_on c))) (sym same) (started moment left_since (disk_of old) (λ c. Q (left_on c)) (λ c left. so c (now c left))))
-
-  -- one run after another
-  pub then_on : (old mid new : DiskShelf D) (P Q R : Left → Type 0) → ((left : Left) → P left → R left) → ((left : Left) → Q left → R left) → LeavesOnly (moment_of moment) (LeftSince left_since) old mid P → LeavesOnly (moment_of moment) (LeftSince left_since) mid new Q → LeavesOnly (moment_of moment) (LeftSince left_since) old new R
-  then_on old mid new P Q R p q first second = record {
-    later = omega (arith, first.later, second.later);
-    each = λ left since. ⊎_elim (λ was. p left (first.each left was)) (q left) (second.before (moment (disk_of old)) left first.later since);
-    before = λ t left le since. ⊎_elim (λ was. ⊎_elim (λ earlier. inl earlier) (λ here. inr (p left here)) (first.before t left le was)) (λ here. inr (q left here)) (second.before t left (omega (arith, le, first.later)) since);
-  }
-
-  -- a run that leaves the contents alone, and then a change of them
-  pub then_changed : (old mid new : DiskShelf D) (before after : Contents) → LeavesOnly (moment_of moment) (LeftSince left_since) old mid (λ left. left ≡ Ok before) → LeavesOnly (moment_of moment) (LeftSince left_since) mid new (IsOldOrNew before after) → LeavesOnly (moment_of moment) (LeftSince left_since) old new (IsOldOrNew before after)
-  then_changed old mid new before after first second = then_on old mid new (λ left. left ≡ Ok before) (IsOldOrNew before after) (IsOldOrNew before after) (λ left is. inl is) (λ left either. either) first second
+      subst (λ (d : D). DiskContinuesOnly moment left_since old d (λ c. Q (left_on c))) (sym same) (disk.started moment left_since old (λ c. Q (left_on c)) (λ c left. so c (now c left)))
 
   -- a run that leaves the contents alone
-  pub unchanged : (old new : DiskShelf D) (before after : Contents) → LeavesOnly (moment_of moment) (LeftSince left_since) old new (λ left. left ≡ Ok before) → LeavesOnly (moment_of moment) (LeftSince left_since) old new (IsOldOrNew before after)
-  unchanged old new before after run = record {
-    later = run.later;
-    each = λ left since. inl (run.each left since);
-    before = λ t left le since. ⊎_elim (λ was. inl was) (λ here. inr (inl here)) (run.before t left le since);
-  }
+  pub unchanged : (old new : D) (before after : Contents) → ContinuesOnly moment left_since old new (λ left. left ≡ Ok before) → ContinuesOnly moment left_since old new (IsOldOrNew before after)
+  unchanged old new before after run = disk.weaker moment left_since old new (λ c. left_on c ≡ Ok before) (λ c. IsOldOrNew before after (left_on c)) (λ c is. inl is) run
+
+  -- and then a change of them
+  pub then_changed : (old mid new : D) (before after : Contents) → ContinuesOnly moment left_since old mid (λ left. left ≡ Ok before) → ContinuesOnly moment left_since mid new (IsOldOrNew before after) → ContinuesOnly moment left_since old new (IsOldOrNew before after)
+  then_changed old mid new before after first second =
+      disk.then_on moment left_since old mid new (λ c. IsOldOrNew before after (left_on c)) (unchanged old mid before after first) second

@@ -13,9 +13,9 @@ use Rattle.cas_change.specs.Key.{IsKey}
 use Rattle.cas_slot.specs.declared.slot.Slot.{Slot}
 use Rattle.cas_slot.specs.declared.ages.Ages.{Ages}
 use Rattle.cas_slot.specs.Contents.{Contents, kept_at, with_kept, without_kept}
-use Rattle.cas_slot.specs.Shelf.{LeavesOnly, IsOldOrNew}
+use Rattle.cas_slot.specs.Shelf.{IsOldOrNew}
 use Rattle.cas_slot.specs.Slots.{Slots, slot_at, with_slot, without_slot, slot_count}
-use Rattle.cas_disk.specs.Disk.{LeavesOnly as DiskLeavesOnly}
+use Rattle.cas_disk.specs.Disk.{ContinuesOnly as DiskContinuesOnly}
 use Rattle.cas_cells.specs.Format.{count_in, count_told, grown, IsPayload, IsBeforeOrAfter}
 use Rattle.cas_cells.specs.Held.{IsRow}
 use Rattle.cas_cells.specs.Cells as cells
@@ -27,7 +27,7 @@ use Rattle.cas_disk_shelf.specs.HeadLaws.{length-head}
 use Rattle.cas_disk_shelf.specs.Cell.{cell_spelling, FitsSlot}
 use Rattle.cas_disk_shelf.specs.Image.{entry_held}
 use Rattle.cas_disk_shelf.specs.Memory.{cell_of, is_free, InStep, AreOf, IsMemoryOf, IsCounted, moved, removed, freed, taken}
-use Rattle.cas_disk_shelf.specs.Shelf.{disk_of, contents_of, moment_of, LeftSince, IsUp}
+use Rattle.cas_disk_shelf.specs.Shelf.{disk_of, contents_of, ContinuesOnly, IsUp}
 use Rattle.cas_disk_shelf.specs.ShelfLaws.{by_key, same_slots, put_other, take_same, take_other, spelled}
 use Rattle.cas_disk_shelf.proofs.Entries.{read_again, length-slot}
 use Rattle.cas_disk_shelf.proofs.Changing.{put_are, drop_are, raise_are}
@@ -147,10 +147,10 @@ none_dropped contents key none =
 
 module _ {D : Type 0} (tells : Type 0) (seen : D → List ℕ) (may_leave : D → List ℕ → Type 0) (moment : D → ℕ) (left_since : D → ℕ → List ℕ → Type 0) where
   -- a change of the cells of a shelf that is up leaves the contents from before or those from after it
-  pub old_or_new : (old new : DiskShelf D) (row' : List (Option (List ℕ))) (after : Contents) (f : List ℕ → Option ℕ) (g : ℕ → Bool) → IsUp tells seen may_leave old → IsRow row' → AreOf row' after f g
-      → DiskLeavesOnly moment left_since (disk_of old) (disk_of new) (IsBeforeOrAfter (cells.cells_of old.cells) row') → LeavesOnly (moment_of moment) (LeftSince left_since) old new (IsOldOrNew (contents_of old) after)
+  pub old_or_new : (old : DiskShelf D) (new : D) (row' : List (Option (List ℕ))) (after : Contents) (f : List ℕ → Option ℕ) (g : ℕ → Bool) → IsUp tells seen may_leave old → IsRow row' → AreOf row' after f g
+      → DiskContinuesOnly moment left_since (disk_of old) new (IsBeforeOrAfter (cells.cells_of old.cells) row') → ContinuesOnly moment left_since (disk_of old) new (IsOldOrNew (contents_of old) after)
   old_or_new old new row' after f g up row are run =
-      reads_only moment left_since old new (IsBeforeOrAfter (cells.cells_of old.cells) row') (IsOldOrNew (contents_of old) after)
+      reads_only moment left_since (disk_of old) new (IsBeforeOrAfter (cells.cells_of old.cells) row') (IsOldOrNew (contents_of old) after)
       (λ c either. ⊎_elim
       (λ before. inl (spelled (cells.cells_of old.cells) (contents_of old) _ _ c up.row.row up.memory.shown before))
       (λ changed. inr (spelled row' after f g c row are changed))

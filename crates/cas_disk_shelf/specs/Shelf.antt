@@ -3,6 +3,7 @@ use Rattle.std.specs.Prelude.{◌≡◌, ℕ, List}
 use Rattle.cas_slot.specs.Contents.{Contents}
 use Rattle.cas_slot.specs.Limits.{AllBallotsFit}
 use Rattle.cas_slot.specs.Shelf.{Left}
+use Rattle.cas_disk.specs.Disk as disk
 use Rattle.cas_cells.specs.Cells as cells
 use Rattle.cas_disk_shelf.specs.declared.shelf.DiskShelf.{DiskShelf}
 use Rattle.cas_disk_shelf.specs.Image.{left_on}
@@ -33,3 +34,7 @@ LeftSince left_since shelf t left = (c : List ℕ) × left_since (disk_of shelf)
 -- the moment of its disk
 abbrev pub moment_of : {D : Type 0} → (D → ℕ) → DiskShelf D → ℕ
 moment_of moment shelf = moment (disk_of shelf)
+
+-- a crash of a shelf's disk at any moment since old leaves what has P as a shelf, also in a run that began earlier
+abbrev pub ContinuesOnly : {D : Type 0} → (D → ℕ) → (D → ℕ → List ℕ → Type 0) → D → D → (Left → Type 0) → Type 0
+ContinuesOnly moment left_since old new P = disk.ContinuesOnly moment left_since old new (λ c. P (left_on c))

@@ -2,12 +2,12 @@
 ghost use Rattle.std.specs.Prelude.{◌≡◌, ◌≤◌, ◌<◌, ◌+◌, ◌*◌, ◌↔◌, ℕ, List, Ok, Err, Some, None, true, OnOk, OnErr, IsErrOf, IfOk};
 ghost use Rattle.cas_slot.specs.Contents.{nothing, kept_at, with_kept, without_kept, with_raised};
 ghost use Rattle.cas_slot.specs.Limits.{SlotBallotsFit};
-ghost use Rattle.cas_slot.specs.Shelf.{IsOldOrNew, LeavesOnly, HasShelfCause, IsNeitherFullNorForeign};
+ghost use Rattle.cas_slot.specs.Shelf.{IsOldOrNew, LeavesOnly, IsSettled, HasShelfCause, IsNeitherFullNorForeign};
 ghost use Rattle.cas_slot.specs.Slots.{IsFullFor, slot_count};
-ghost use Rattle.cas_disk.specs.Disk.{Only, LeavesOnly as DiskLeavesOnly};
+ghost use Rattle.cas_disk.specs.Disk.{Only, ContinuesOnly as DiskContinuesOnly};
 ghost use Rattle.cas_cells.specs.Cells.{cells_of};
 ghost use Rattle.cas_cells.specs.Format.{count_in};
-ghost use Rattle.cas_cells.specs.Length.{NotLonger};
+ghost use Rattle.cas_cells.specs.Length.{AllWithin, NotLonger};
 ghost use Rattle.cas_disk_shelf.specs.Image.{left_on};
 ghost use Rattle.cas_disk_shelf.specs.Length.{IsShort, StaysShort};
 ghost use Rattle.cas_disk_shelf.specs.Memory.{cell_of, is_free};
@@ -28,6 +28,9 @@ use std::alloc::{AllocError, Global};
 ///
 /// The disk is never longer than it was when the shelf took it, or than `1024 * (2 + s)` bytes, `s` being the greatest number of
 /// slots that the shelf ever had at once: `over` begins that, and each call keeps it, whatever it answers.
+///
+/// Each change and each reopening tells the disk to forget what was before it: what a clause says of any moment holds of the moments
+/// since its call began.
 #[derive(Drop)]
 pub struct DiskShelf<D: Disk> {
     alloc: Global,
@@ -36,13 +39,13 @@ pub struct DiskShelf<D: Disk> {
 }
 
 impl<D: Disk> DiskShelf<D> {
-    ghost use Rattle.cas_disk_shelf.specs.Shelf.{disk_of, contents_of, moment_of, IsUp, MayLeave, LeftSince};
+    ghost use Rattle.cas_disk_shelf.specs.Shelf.{disk_of, contents_of, IsUp, MayLeave, ContinuesOnly};
 
     /// A shelf on this disk. It touches nothing, and is started or reopened before it is changed.
     pub fn over(alloc: Global, disk: D) -> DiskShelf<D>
         ensures disk { disk_of result ≡ disk }
         ensures contents { contents_of result ≡ nothing }
-        ensures length { D.tells → IsShort D.moment D.left_since D.may_leave disk 0 result }
+        ensures length { (taken : ℕ) → AllWithin taken (D.may_leave disk) → IsShort D.may_leave taken 0 result }
     {
         DiskShelf {
             alloc,
@@ -61,6 +64,33 @@ impl<D: Disk> DiskShelf<D> {
         self.cells.into_disk()
     }
 
+    // Puts a slot.
+    fn keep(&mut self, key: &Key, slot: Slot) -> Result<(), ShelfFault>
+        requires up { IsUp D.tells D.seen D.may_leave self.old }
+        requires fits { SlotBallotsFit slot }
+        ensures ok { OnOk result (contents_of self.new ≡ with_kept (contents_of self.old) key.now slot) }
+        ensures err { OnErr result (contents_of self.new ≡ contents_of self.old) }
+        ensures up { OnOk result (IsUp D.tells D.seen D.may_leave self.new) }
+        ensures up_still { IsErrOf result ShelfFault.NoMemory → IsUp D.tells D.seen D.may_leave self.new }
+        ensures full { IsErrOf result ShelfFault.Full ↔ IsFullFor (contents_of self.old).slots key.now }
+        ensures up_when_full { IsErrOf result ShelfFault.Full → IsUp D.tells D.seen D.may_leave self.new }
+        ensures untouched_when_full { D.tells → IsErrOf result ShelfFault.Full → ContinuesOnly D.moment D.left_since (disk_of self.old) (disk_of self.new) (λ left. left ≡ Ok (contents_of self.old)) }
+        ensures not_foreign { (at : ℕ) → IsErrOf result (ShelfFault.Foreign at) → ⊥ }
+        ensures any_moment { D.tells → ContinuesOnly D.moment D.left_since (disk_of self.old) (disk_of self.new) (IsOldOrNew (contents_of self.old) (with_kept (contents_of self.old) key.now slot)) }
+        ensures length { D.tells → NotLonger D.moment D.left_since D.may_leave (disk_of self.old) (disk_of self.new) (1024 * (slot_count (contents_of self.old).slots + 2)) }
+        ensures cause { HasShelfCause result (D.fault_count (disk_of self.old)) (D.fault_count (disk_of self.new)) }
+    {
+        match self.memory.cell_of(key) {
+            Some(cell) => self.rewrite(cell, key, slot),
+            None => {
+                if self.memory.held.len() >= MOST_SLOTS {
+                    return Err(ShelfFault::Full);
+                }
+                self.add(key, slot)
+            }
+        }
+    }
+
     // Puts the slot of a key that has one.
     fn rewrite(&mut self, cell: u32, key: &Key, slot: Slot) -> Result<(), ShelfFault>
         requires up { IsUp D.tells D.seen D.may_leave self.old }
@@ -70,7 +100,7 @@ impl<D: Disk> DiskShelf<D> {
         ensures err { OnErr result (contents_of self.new ≡ contents_of self.old) }
         ensures up { OnOk result (IsUp D.tells D.seen D.may_leave self.new) }
         ensures up_still { IsErrOf result ShelfFault.NoMemory → IsUp D.tells D.seen D.may_leave self.new }
-        ensures any_moment { D.tells → LeavesOnly (moment_of D.moment) (LeftSince D.left_since) self.old self.new (IsOldOrNew (contents_of self.old) (with_kept (contents_of self.old) key.now slot)) }
+        ensures any_moment { D.tells → ContinuesOnly D.moment D.left_since (disk_of self.old) (disk_of self.new) (IsOldOrNew (contents_of self.old) (with_kept (contents_of self.old) key.now slot)) }
         ensures length { D.tells → NotLonger D.moment D.left_since D.may_leave (disk_of self.old) (disk_of self.new) 0 }
         ensures other { IsNeitherFullNorForeign result }
         ensures cause { HasShelfCause result (D.fault_count (disk_of self.old)) (D.fault_count (disk_of self.new)) }
@@ -93,7 +123,7 @@ impl<D: Disk> DiskShelf<D> {
         ensures err { OnErr result (contents_of self.new ≡ contents_of self.old) }
         ensures up { OnOk result (IsUp D.tells D.seen D.may_leave self.new) }
         ensures up_still { IsErrOf result ShelfFault.NoMemory → IsUp D.tells D.seen D.may_leave self.new }
-        ensures any_moment { D.tells → LeavesOnly (moment_of D.moment) (LeftSince D.left_since) self.old self.new (IsOldOrNew (contents_of self.old) (with_kept (contents_of self.old) key.now slot)) }
+        ensures any_moment { D.tells → ContinuesOnly D.moment D.left_since (disk_of self.old) (disk_of self.new) (IsOldOrNew (contents_of self.old) (with_kept (contents_of self.old) key.now slot)) }
         ensures length { D.tells → NotLonger D.moment D.left_since D.may_leave (disk_of self.old) (disk_of self.new) (1024 * (slot_count (contents_of self.old).slots + 2)) }
         ensures other { IsNeitherFullNorForeign result }
         ensures cause { HasShelfCause result (D.fault_count (disk_of self.old)) (D.fault_count (disk_of self.new)) }
@@ -112,7 +142,7 @@ impl<D: Disk> DiskShelf<D> {
         ensures err { OnErr result (contents_of self.new ≡ contents_of self.old) }
         ensures up { OnOk result (IsUp D.tells D.seen D.may_leave self.new) }
         ensures up_still { IsErrOf result ShelfFault.NoMemory → IsUp D.tells D.seen D.may_leave self.new }
-        ensures any_moment { D.tells → LeavesOnly (moment_of D.moment) (LeftSince D.left_since) self.old self.new (IsOldOrNew (contents_of self.old) (with_kept (contents_of self.old) key.now slot)) }
+        ensures any_moment { D.tells → ContinuesOnly D.moment D.left_since (disk_of self.old) (disk_of self.new) (IsOldOrNew (contents_of self.old) (with_kept (contents_of self.old) key.now slot)) }
         ensures length { D.tells → NotLonger D.moment D.left_since D.may_leave (disk_of self.old) (disk_of self.new) 0 }
         ensures other { IsNeitherFullNorForeign result }
         ensures cause { HasShelfCause result (D.fault_count (disk_of self.old)) (D.fault_count (disk_of self.new)) }
@@ -138,9 +168,10 @@ impl<D: Disk> DiskShelf<D> {
         ensures contents { contents_of self.new ≡ contents_of self.old }
         ensures index { self.new.memory.index ≡ self.old.memory.index }
         ensures free { IfOk result (λ cell. is_free self.new.memory cell ≡ true) }
+        ensures least { IfOk result (λ cell. (other : ℕ) → is_free self.old.memory other ≡ true → cell ≤ other) }
         ensures up { OnOk result (IsUp D.tells D.seen D.may_leave self.new) }
         ensures up_still { IsErrOf result ShelfFault.NoMemory → IsUp D.tells D.seen D.may_leave self.new }
-        ensures any_moment { D.tells → LeavesOnly (moment_of D.moment) (LeftSince D.left_since) self.old self.new (λ left. left ≡ Ok (contents_of self.old)) }
+        ensures any_moment { D.tells → ContinuesOnly D.moment D.left_since (disk_of self.old) (disk_of self.new) (λ left. left ≡ Ok (contents_of self.old)) }
         ensures length { D.tells → NotLonger D.moment D.left_since D.may_leave (disk_of self.old) (disk_of self.new) (1024 * (slot_count (contents_of self.old).slots + 2)) }
         ensures other { IsNeitherFullNorForeign result }
         ensures cause { HasShelfCause result (D.fault_count (disk_of self.old)) (D.fault_count (disk_of self.new)) }
@@ -160,7 +191,7 @@ impl<D: Disk> DiskShelf<D> {
         ensures free { IfOk result (λ cell. is_free self.new.memory cell ≡ true) }
         ensures up { OnOk result (IsUp D.tells D.seen D.may_leave self.new) }
         ensures up_still { IsErrOf result ShelfFault.NoMemory → IsUp D.tells D.seen D.may_leave self.new }
-        ensures any_moment { D.tells → LeavesOnly (moment_of D.moment) (LeftSince D.left_since) self.old self.new (λ left. left ≡ Ok (contents_of self.old)) }
+        ensures any_moment { D.tells → ContinuesOnly D.moment D.left_since (disk_of self.old) (disk_of self.new) (λ left. left ≡ Ok (contents_of self.old)) }
         ensures length { D.tells → NotLonger D.moment D.left_since D.may_leave (disk_of self.old) (disk_of self.new) (1024 * (count_in (cells_of self.old.cells) + 2)) }
         ensures other { IsNeitherFullNorForeign result }
         ensures cause { HasShelfCause result (D.fault_count (disk_of self.old)) (D.fault_count (disk_of self.new)) }
@@ -174,6 +205,24 @@ impl<D: Disk> DiskShelf<D> {
         Ok(cell)
     }
 
+    // Removes the slot of a key, if it has one.
+    fn release(&mut self, key: &Key) -> Result<(), ShelfFault>
+        requires { IsUp D.tells D.seen D.may_leave self.old }
+        ensures ok { OnOk result (contents_of self.new ≡ without_kept (contents_of self.old) key.now) }
+        ensures err { OnErr result (contents_of self.new ≡ contents_of self.old) }
+        ensures up { OnOk result (IsUp D.tells D.seen D.may_leave self.new) }
+        ensures up_still { IsErrOf result ShelfFault.NoMemory → IsUp D.tells D.seen D.may_leave self.new }
+        ensures other { IsNeitherFullNorForeign result }
+        ensures any_moment { D.tells → ContinuesOnly D.moment D.left_since (disk_of self.old) (disk_of self.new) (IsOldOrNew (contents_of self.old) (without_kept (contents_of self.old) key.now)) }
+        ensures length { D.tells → NotLonger D.moment D.left_since D.may_leave (disk_of self.old) (disk_of self.new) 0 }
+        ensures cause { HasShelfCause result (D.fault_count (disk_of self.old)) (D.fault_count (disk_of self.new)) }
+    {
+        match self.memory.cell_of(key) {
+            Some(cell) => self.free(cell, key),
+            None => Ok(()),
+        }
+    }
+
     // Removes the slot of a key that has one.
     fn free(&mut self, cell: u32, key: &Key) -> Result<(), ShelfFault>
         requires up { IsUp D.tells D.seen D.may_leave self.old }
@@ -182,7 +231,7 @@ impl<D: Disk> DiskShelf<D> {
         ensures err { OnErr result (contents_of self.new ≡ contents_of self.old) }
         ensures up { OnOk result (IsUp D.tells D.seen D.may_leave self.new) }
         ensures up_still { IsErrOf result ShelfFault.NoMemory → IsUp D.tells D.seen D.may_leave self.new }
-        ensures any_moment { D.tells → LeavesOnly (moment_of D.moment) (LeftSince D.left_since) self.old self.new (IsOldOrNew (contents_of self.old) (without_kept (contents_of self.old) key.now)) }
+        ensures any_moment { D.tells → ContinuesOnly D.moment D.left_since (disk_of self.old) (disk_of self.new) (IsOldOrNew (contents_of self.old) (without_kept (contents_of self.old) key.now)) }
         ensures length { D.tells → NotLonger D.moment D.left_since D.may_leave (disk_of self.old) (disk_of self.new) 0 }
         ensures other { IsNeitherFullNorForeign result }
         ensures cause { HasShelfCause result (D.fault_count (disk_of self.old)) (D.fault_count (disk_of self.new)) }
@@ -204,7 +253,7 @@ impl<D: Disk> DiskShelf<D> {
         ensures err { OnErr result (contents_of self.new ≡ contents_of self.old) }
         ensures up { OnOk result (IsUp D.tells D.seen D.may_leave self.new) }
         ensures up_still { IsErrOf result ShelfFault.NoMemory → IsUp D.tells D.seen D.may_leave self.new }
-        ensures any_moment { D.tells → LeavesOnly (moment_of D.moment) (LeftSince D.left_since) self.old self.new (IsOldOrNew (contents_of self.old) (record (contents_of self.old) { ages = ages })) }
+        ensures any_moment { D.tells → ContinuesOnly D.moment D.left_since (disk_of self.old) (disk_of self.new) (IsOldOrNew (contents_of self.old) (record (contents_of self.old) { ages = ages })) }
         ensures length { D.tells → NotLonger D.moment D.left_since D.may_leave (disk_of self.old) (disk_of self.new) 0 }
         ensures other { IsNeitherFullNorForeign result }
         ensures cause { HasShelfCause result (D.fault_count (disk_of self.old)) (D.fault_count (disk_of self.new)) }
@@ -223,9 +272,10 @@ impl<D: Disk> DiskShelf<D> {
     fn recover(&mut self) -> Result<(), ShelfFault>
         requires { D.tells → Only (D.seen (disk_of self.old)) (D.may_leave (disk_of self.old)) }
         ensures recovered { D.tells → OnOk result (left_on (D.seen (disk_of self.old)) ≡ Ok (contents_of self.new)) }
+        ensures err { OnErr result (contents_of self.new ≡ contents_of self.old) }
         ensures foreign { D.tells → (at : ℕ) → IsErrOf result (ShelfFault.Foreign at) → left_on (D.seen (disk_of self.old)) ≡ Err at }
         ensures up { OnOk result (IsUp D.tells D.seen D.may_leave self.new) }
-        ensures any_moment { D.tells → DiskLeavesOnly D.moment D.left_since (disk_of self.old) (disk_of self.new) (λ c. c ≡ D.seen (disk_of self.old)) }
+        ensures any_moment { D.tells → DiskContinuesOnly D.moment D.left_since (disk_of self.old) (disk_of self.new) (λ c. c ≡ D.seen (disk_of self.old)) }
         ensures not_full { IsErrOf result ShelfFault.Full → ⊥ }
         ensures cause { HasShelfCause result (D.fault_count (disk_of self.old)) (D.fault_count (disk_of self.new)) }
     {
@@ -265,6 +315,7 @@ impl<D: Disk> Shelf for DiskShelf<D> {
 
     fn start(&mut self) -> Result<(), ShelfFault>
         ensures started { OnOk result (contents_of self.new ≡ nothing) }
+        ensures err { OnErr result (contents_of self.new ≡ contents_of self.old) }
         ensures up { OnOk result (IsUp D.tells D.seen D.may_leave self.new) }
         ensures other { IsNeitherFullNorForeign result }
         ensures length { D.tells → StaysShort D.moment D.left_since D.may_leave self.old self.new }
@@ -285,6 +336,7 @@ impl<D: Disk> Shelf for DiskShelf<D> {
 
     fn reopen(&mut self) -> Result<(), ShelfFault>
         ensures reopened { D.tells → OnOk result (MayLeave D.may_leave self.old (Ok (contents_of self.new))) }
+        ensures err { OnErr result (contents_of self.new ≡ contents_of self.old) }
         ensures foreign { D.tells → (at : ℕ) → IsErrOf result (ShelfFault.Foreign at) → MayLeave D.may_leave self.old (Err at) }
         ensures up { OnOk result (IsUp D.tells D.seen D.may_leave self.new) }
         ensures any_moment { D.tells → LeavesOnly (moment_of D.moment) (LeftSince D.left_since) self.old self.new (MayLeave D.may_leave self.old) }
@@ -292,12 +344,13 @@ impl<D: Disk> Shelf for DiskShelf<D> {
         ensures length { D.tells → StaysShort D.moment D.left_since D.may_leave self.old self.new }
         ensures cause { HasShelfCause result (D.fault_count (disk_of self.old)) (D.fault_count (disk_of self.new)) }
     {
+        self.cells.forget_past();
         self.cells.crash();
         self.recover()
     }
 
     fn crash(&mut self)
-        ensures settled { D.tells → Only (D.seen (disk_of self.new)) (D.may_leave (disk_of self.new)) }
+        ensures settled { D.tells → IsSettled (MayLeave D.may_leave self.old) (MayLeave D.may_leave self.new) }
         ensures any_moment { D.tells → LeavesOnly (moment_of D.moment) (LeftSince D.left_since) self.old self.new (MayLeave D.may_leave self.old) }
         ensures length { D.tells → StaysShort D.moment D.left_since D.may_leave self.old self.new }
         ensures never_falls { D.fault_count (disk_of self.old) ≤ D.fault_count (disk_of self.new) }
@@ -332,15 +385,8 @@ impl<D: Disk> Shelf for DiskShelf<D> {
         ensures length { D.tells → StaysShort D.moment D.left_since D.may_leave self.old self.new }
         ensures cause { HasShelfCause result (D.fault_count (disk_of self.old)) (D.fault_count (disk_of self.new)) }
     {
-        match self.memory.cell_of(key) {
-            Some(cell) => self.rewrite(cell, key, slot),
-            None => {
-                if self.memory.held.len() >= MOST_SLOTS {
-                    return Err(ShelfFault::Full);
-                }
-                self.add(key, slot)
-            }
-        }
+        self.cells.forget_past();
+        self.keep(key, slot)
     }
 
     fn drop_slot(&mut self, key: &Key) -> Result<(), ShelfFault>
@@ -354,10 +400,8 @@ impl<D: Disk> Shelf for DiskShelf<D> {
         ensures length { D.tells → StaysShort D.moment D.left_since D.may_leave self.old self.new }
         ensures cause { HasShelfCause result (D.fault_count (disk_of self.old)) (D.fault_count (disk_of self.new)) }
     {
-        match self.memory.cell_of(key) {
-            Some(cell) => self.free(cell, key),
-            None => Ok(()),
-        }
+        self.cells.forget_past();
+        self.release(key)
     }
 
     fn raise_ages(&mut self, least: &Ages) -> Result<(), ShelfFault>
@@ -371,6 +415,7 @@ impl<D: Disk> Shelf for DiskShelf<D> {
         ensures length { D.tells → StaysShort D.moment D.left_since D.may_leave self.old self.new }
         ensures cause { HasShelfCause result (D.fault_count (disk_of self.old)) (D.fault_count (disk_of self.new)) }
     {
+        self.cells.forget_past();
         let mut ages = self.memory.held.ages();
         ages.raise(least);
         self.set_ages(ages)

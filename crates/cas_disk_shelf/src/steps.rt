@@ -1,7 +1,7 @@
 //! The change of one cell.
 ghost use Rattle.std.specs.Prelude.{◌≡◌, ◌≤◌, Some, OnOk, OnErr, IsErrOf, slice_set};
 ghost use Rattle.cas_slot.specs.Shelf.{HasShelfCause, IsNeitherFullNorForeign};
-ghost use Rattle.cas_disk.specs.Disk.{LeavesOnly};
+ghost use Rattle.cas_disk.specs.Disk.{ContinuesOnly};
 ghost use Rattle.cas_cells.specs.Cells.{Stands, cells_of, disk_of};
 ghost use Rattle.cas_cells.specs.Fault.{IsFaultOfDisk};
 ghost use Rattle.cas_cells.specs.Format.{count_in, count_told, IsPayload, IsBeforeOrAfter};
@@ -34,7 +34,7 @@ pub fn change<D: Disk>(cells: &mut Cells<D>, cell: u32, payload: &[u8]) -> Resul
     ensures same { OnErr result (cells_of cells.new ≡ cells_of cells.old) }
     ensures stands { OnOk result (Stands D.tells D.seen D.may_leave cells.new) }
     ensures after_no_memory { IsErrOf result ShelfFault.NoMemory → Stands D.tells D.seen D.may_leave cells.new }
-    ensures any_moment { D.tells → LeavesOnly D.moment D.left_since (disk_of cells.old) (disk_of cells.new) (IsBeforeOrAfter (cells_of cells.old) (slice_set (cells_of cells.old) cell (Some payload.now))) }
+    ensures any_moment { D.tells → ContinuesOnly D.moment D.left_since (disk_of cells.old) (disk_of cells.new) (IsBeforeOrAfter (cells_of cells.old) (slice_set (cells_of cells.old) cell (Some payload.now))) }
     ensures length { D.tells → NotLonger D.moment D.left_since D.may_leave (disk_of cells.old) (disk_of cells.new) 0 }
     ensures other { IsNeitherFullNorForeign result }
     ensures cause { HasShelfCause result (D.fault_count (disk_of cells.old)) (D.fault_count (disk_of cells.new)) }
@@ -58,7 +58,7 @@ fn change_in_steps<D: Disk>(
     ensures same { OnErr result (cells_of cells.new ≡ cells_of cells.old) }
     ensures stands { OnOk result (Stands D.tells D.seen D.may_leave cells.new) }
     ensures after_no_memory { IsErrOf result CellFault.NoMemory → Stands D.tells D.seen D.may_leave cells.new }
-    ensures any_moment { D.tells → LeavesOnly D.moment D.left_since (disk_of cells.old) (disk_of cells.new) (IsBeforeOrAfter (cells_of cells.old) (slice_set (cells_of cells.old) cell (Some payload.now))) }
+    ensures any_moment { D.tells → ContinuesOnly D.moment D.left_since (disk_of cells.old) (disk_of cells.new) (IsBeforeOrAfter (cells_of cells.old) (slice_set (cells_of cells.old) cell (Some payload.now))) }
     ensures length { D.tells → NotLonger D.moment D.left_since D.may_leave (disk_of cells.old) (disk_of cells.new) 0 }
     ensures cause { IsFaultOfDisk result (D.fault_count (disk_of cells.old)) (D.fault_count (disk_of cells.new)) }
 {

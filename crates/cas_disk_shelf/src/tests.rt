@@ -155,6 +155,19 @@ fn a_disk_stays_short(rt: HostRuntime) -> Result<(), Fail> {
     Ok(())
 }
 
+#[test]
+fn a_start_crashes_a_disk_that_stopped(rt: HostRuntime) -> Result<(), Fail> {
+    let alloc = rt.alloc();
+    for call in 1..5 {
+        let mut shelf = over(alloc, &[], &[(call, Trouble::Stop)], Image::Noise(call))?;
+        assert_eq!(rt; shelf.start(), Err(ShelfFault::DiskFault), "{call}");
+        shelf.start()?;
+        shelf.put(&key(alloc, 0)?, slot_at(0))?;
+        assert_eq!(rt; shelf.faults(), 1);
+    }
+    Ok(())
+}
+
 // Starts a shelf and puts four keys.
 fn put_four<S: Shelf>(alloc: Global, shelf: &mut S) -> Result<(), Fail>
     ensures { OnOk result (S.is_up shelf.new) }

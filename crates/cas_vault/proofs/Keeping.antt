@@ -5,8 +5,7 @@ use Rattle.std.proofs.Common.{Result, Ok, Err, Bool, true, false, cond, ltb, ◌
 use Rattle.std.proofs.lemmas.Bool.{ltb-true, ltb-false}
 use Rattle.std.proofs.lemmas.List.{nil_from_length}
 use Rattle.cas_base.proofs.Bools.{some_is}
-use Rattle.cas_disk.specs.Disk.{Only, Elapses, LeavesOnly, ContinuesOnly}
-use Rattle.cas_disk.proofs.Moments.{started, goes_on, weaker, then_on, from_there}
+use Rattle.cas_disk.specs.Disk.{Only, LeavesOnly}
 use Rattle.cas_cells.specs.Format.{StandsFor, head_in, count_told, cells_on, payload_at, payload_place, place_of, payload_in, frame_at, is_open, IsPayload}
 use Rattle.cas_cells.specs.Held.{IsRow}
 use Rattle.cas_cells.specs.Cells as cells
@@ -145,18 +144,6 @@ mapped_there (Some place) n is = refl
 pub place_there : (disk payload : List ℕ) → payload_at disk 0 ≡ Some payload → payload_place disk 0 ≡ Some (unwrap_or (payload_place disk 0) 0)
 place_there disk payload is =
     mapped_there (place_of (frame_at disk 0) (frame_at disk 1)) 0 (placed_there _ (is_open (frame_at disk 0)) (payload_in (frame_at disk 0)) (payload_in (frame_at disk 1)) payload is)
-
-module _ {D : Type 0} (moment : D → ℕ) (left_since : D → ℕ → List ℕ → Type 0) (may_leave : D → List ℕ → Type 0) where
-  -- A crash of a disk that was crashed and then only read leaves what a crash might have left before, when the past was forgotten.
-  pub reread : (old began mid new : D) (seen : List ℕ) → moment began ≡ moment old → ((c : List ℕ) → may_leave began c → may_leave old c) → ((c : List ℕ) → left_since began (moment began) c → may_leave began c)
-      → Elapses (moment began) (moment mid) (left_since began) (left_since mid) (may_leave mid) → may_leave began seen → Only seen (may_leave mid)
-      → ContinuesOnly moment left_since mid new (λ c. c ≡ seen) → LeavesOnly moment left_since old new (may_leave old)
-  reread old began mid new seen same outcomes now time image settled read =
-      let here : (c : List ℕ) → c ≡ seen → may_leave old c = λ c is. subst (λ (l : List ℕ). may_leave old l) (sym is) (outcomes seen image) in
-      from_there moment left_since old began new (may_leave old) same
-      (then_on moment left_since began mid new (may_leave old)
-      (goes_on moment left_since began began mid (may_leave old) (may_leave mid) (started moment left_since began (may_leave old) (λ c left. outcomes c (now c left))) time (λ c left. here c (settled c left)))
-      (weaker moment left_since mid new (λ c. c ≡ seen) (may_leave old) here read))
 
 -- what a vault was past, it is past over an image of its disk, if its counter is not below the bound there
 pub past_image : {D : Type 0} (may_leave : D → List ℕ → Type 0) (old new : Vault D) (seen : List ℕ) (n : ℕ) → may_leave (disk_of old) seen → Only seen (may_leave (disk_of new)) → ((kept : Kept) → KeptOn kept seen → n ≤ old.counter → n ≤ kept.bound → n ≤ new.counter) → IsPast may_leave n old → IsPast may_leave n new

@@ -51,7 +51,7 @@ returns-in-Err-clause-up_still g c no_memory =
     let old = contents_of c.args.self.now in
     let none = up.memory.shown.in_step.none c.args.key.now c.requires.new in
     let held = c.remove.ensures ∙ ap (λ (x : Contents). without_kept x c.args.key.now) (c.in_ok-insert.ensures.ok ∙ ap (λ (k : List ℕ). with_kept old k c.args.slot) c.in_ok-copy.ensures) ∙ put_back old c.args.key.now c.args.slot none in
-    same_up g.D.Disk.tells g.D.Disk.seen g.D.Disk.may_leave g.D.Disk.moment g.D.Disk.left_since _ _ up (c.change.ensures.after_no_memory (c.in-Err.is ∙ no_memory)) c.in-Err.ensures.same held
+    same_up g.D.Disk.tells g.D.Disk.seen g.D.Disk.may_leave _ _ up (c.change.ensures.after_no_memory (c.in-Err.is ∙ no_memory)) c.in-Err.ensures.same held
     (λ q. ap (λ es. lookup (pointwise nat_eq q) es) c.reserve.ensures.entries) (λ j. refl) (ap (λ es. length es) c.reserve.ensures.entries) refl
 
 pub returns-in-Err-clause-any_moment : goal.returns-in-Err-clause-any_moment
@@ -75,7 +75,7 @@ returns-clause-up g c =
     let reserved = λ (q : List ℕ). ap (λ es. lookup (pointwise nat_eq q) es) c.reserve.ensures.entries in
     let updates = on_ok c.insert-2.result _ c.if-prove.ensures.value c.insert-2.ensures.updates in
     let index_len = index_more c.insert-2.result _ _ _ c.if-prove.ensures.value c.insert-2.ensures.old (reserved c.in_ok-own.own ∙ ap (cell_of old) own ∙ c.requires.new) c.insert-2.ensures.len in
-    added_up g.D.Disk.tells g.D.Disk.seen g.D.Disk.may_leave g.D.Disk.moment g.D.Disk.left_since _ _ up
+    added_up g.D.Disk.tells g.D.Disk.seen g.D.Disk.may_leave _ _ up
     c.args.key.now c.args.slot _ c.args.cell c.spell_slot.ensures.key c.in_ok-payload.ensures.fits (c.deref.ensures.value ∙ c.in_ok-payload.ensures.spelled) c.requires.new c.requires.free c.in_default.ensures.stands c.in_default.ensures.changed
     (c.in_ok-insert.ensures.ok ∙ ap (λ (k : List ℕ). with_kept old.held k c.args.slot) copy)
     (λ q. updates.0 q ∙ ap (λ (o : Option ℕ). cond (pointwise nat_eq c.in_ok-own.own q) (Some c.args.cell) o) (reserved q) ∙ ap (λ (k : List ℕ). moved (cell_of old) k c.args.cell q) own)

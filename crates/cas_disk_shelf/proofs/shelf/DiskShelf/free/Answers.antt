@@ -33,7 +33,7 @@ returns-in-Err-clause-up_still g c no_memory =
     let unused = own_not_free old.held (cell_of old) (is_free old) (cells_of c.args.self.now.cells) up.memory.shown c.args.key.now c.args.cell c.requires.own in
     let more = one_more _ _ (is_free c.args.self.now.memory c.args.cell) c.in_ok-insert.field-0 unused c.in_ok-insert.ensures.added c.in_ok-insert.ensures.len in
     let less = one_less _ _ c.remove.result (c.remove.ensures.test ∙ c.in_ok-insert.ensures.updates.1) c.remove.ensures.len in
-    same_up g.D.Disk.tells g.D.Disk.seen g.D.Disk.may_leave g.D.Disk.moment g.D.Disk.left_since _ _ up (c.change.ensures.after_no_memory (c.in-Err.is ∙ no_memory)) c.in-Err.ensures.same refl (λ q. refl)
+    same_up g.D.Disk.tells g.D.Disk.seen g.D.Disk.may_leave _ _ up (c.change.ensures.after_no_memory (c.in-Err.is ∙ no_memory)) c.in-Err.ensures.same refl (λ q. refl)
     (λ j. c.remove.ensures.updates.0 j ∙ ap (λ (b : Bool). cond (is_eq (nat_cmp c.args.cell j)) false b) (c.in_ok-insert.ensures.updates.0 j) ∙ taken_back (is_free old) c.args.cell unused j)
     refl (omega (arith, more, less))
 
@@ -45,7 +45,7 @@ returns-clause-up g c =
     let unused = own_not_free old.held (cell_of old) (is_free old) (cells_of c.args.self.now.cells) up.memory.shown c.args.key.now c.args.cell own in
     let there = up.memory.shown.in_step.held c.args.key.now c.args.cell own in
     let more = one_more _ _ (is_free c.args.self.now.memory c.args.cell) c.in_ok-insert.field-0 unused c.in_ok-insert.ensures.added c.in_ok-insert.ensures.len in
-    dropped_up g.D.Disk.tells g.D.Disk.seen g.D.Disk.may_leave g.D.Disk.moment g.D.Disk.left_since _ _ up c.args.key.now _ c.args.cell refl own c.in_default.ensures.stands c.in_default.ensures.changed c.remove-2.ensures
+    dropped_up g.D.Disk.tells g.D.Disk.seen g.D.Disk.may_leave _ _ up c.args.key.now _ c.args.cell refl own c.in_default.ensures.stands c.in_default.ensures.changed c.remove-2.ensures
     (λ q. c.swap_remove.ensures.updates.0 q) (λ j. c.in_ok-insert.ensures.updates.0 j)
     (one_key_less _ _ c.swap_remove.result c.args.cell (c.swap_remove.ensures.value ∙ own) c.swap_remove.ensures.len) more
     (ap (λ (x : Contents). slot_count x.slots + 1) c.remove-2.ensures ∙ count_less old.held.slots c.args.key.now there.0 there.2)

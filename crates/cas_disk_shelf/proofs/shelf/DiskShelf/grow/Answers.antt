@@ -30,7 +30,7 @@ returns-in-Err-clause-up_still g c no_memory =
     let told = told_no_memory {T = ℕ} c.in-Err.fault c.fault_of.result c.fault_of.ensures c.grow.result c.in-Err.is no_memory in
     let more = one_more _ _ (is_free c.args.self.now.memory (c.count.result + 1)) c.in_ok-insert.field-0 unused c.in_ok-insert.ensures.added c.in_ok-insert.ensures.len in
     let less = one_less _ _ c.remove.result (c.remove.ensures.test ∙ c.in_ok-insert.ensures.updates.1) c.remove.ensures.len in
-    same_up g.D.Disk.tells g.D.Disk.seen g.D.Disk.may_leave g.D.Disk.moment g.D.Disk.left_since _ _ up (c.grow.ensures.after_no_memory told) c.in-Err.ensures.cells refl (λ q. refl)
+    same_up g.D.Disk.tells g.D.Disk.seen g.D.Disk.may_leave _ _ up (c.grow.ensures.after_no_memory told) c.in-Err.ensures.cells refl (λ q. refl)
     (λ j. c.remove.ensures.updates.0 j ∙ ap (λ (b : Bool). cond (is_eq (nat_cmp (c.count.result + 1) j)) false b) (c.in_ok-insert.ensures.updates.0 j) ∙ taken_back (is_free old) (c.count.result + 1) unused j)
     refl (omega (arith, more, less))
 
@@ -43,5 +43,5 @@ returns-clause-up g c =
     let last : c.count.result + 1 ≡ 1 + count_in row = omega (arith, c.count.ensures) in
     let unused = past_not_free old.held (cell_of old) (is_free old) row up.memory.shown up.row.row (c.count.result + 1) past in
     let more = one_more _ _ (is_free c.args.self.now.memory (c.count.result + 1)) c.in_ok-insert.field-0 unused c.in_ok-insert.ensures.added c.in_ok-insert.ensures.len in
-    grown_up g.D.Disk.tells g.D.Disk.seen g.D.Disk.may_leave g.D.Disk.moment g.D.Disk.left_since _ _ up c.requires.room c.in_default.ensures.stands c.in_default.ensures.grown refl refl
+    grown_up g.D.Disk.tells g.D.Disk.seen g.D.Disk.may_leave _ _ up c.requires.room c.in_default.ensures.stands c.in_default.ensures.grown refl refl
     (λ j. c.in_ok-insert.ensures.updates.0 j ∙ ap (λ (n : ℕ). freed (is_free old) n j) last) more

@@ -38,7 +38,7 @@ returns-clause-up g c =
     let there = up.memory.shown.in_step.held c.args.key.now c.args.cell c.requires.own in
     let put : c.insert.new.self ≡ with_kept old c.in_ok-own.own c.args.slot = on_ok c.insert.result _ c.if-prove.ensures.value c.insert.ensures.ok in
     let len : slot_count c.insert.new.self.slots ≡ slot_count old.slots + (if is_some (kept_at old c.in_ok-own.own) then 0 else 1) = on_ok c.insert.result _ c.if-prove.ensures.value c.insert.ensures.len in
-    rewritten_up g.D.Disk.tells g.D.Disk.seen g.D.Disk.may_leave g.D.Disk.moment g.D.Disk.left_since _ _ up
+    rewritten_up g.D.Disk.tells g.D.Disk.seen g.D.Disk.may_leave _ _ up
     c.args.key.now c.args.slot _ c.args.cell c.spell_slot.ensures.key c.in_ok-payload.ensures.fits (c.deref.ensures.value ∙ c.in_ok-payload.ensures.spelled) c.requires.own c.in_ok-change.ensures.stands c.in_ok-change.ensures.changed
     (put ∙ ap (λ (key : List ℕ). with_kept old key c.args.slot) own) refl refl (as_many _ _ (kept_at old c.in_ok-own.own) there.0 (ap (kept_at old) own ∙ there.2) len)
 

@@ -34,5 +34,5 @@ pub returns-clause-up : goal.returns-clause-up
 returns-clause-up g c =
     let row = cells_of c.args.self.now.cells in
     let fits : FitsHead (record { count = count_in row; ages = c.args.ages }) = record { count = c.requires.memory.shown.fits.count; long = c.in_ok-payload.ensures.long; small = c.in_ok-payload.ensures.small } in
-    raised_up g.D.Disk.tells g.D.Disk.seen g.D.Disk.may_leave g.D.Disk.moment g.D.Disk.left_since _ _ c.requires c.args.ages _ fits
+    raised_up g.D.Disk.tells g.D.Disk.seen g.D.Disk.may_leave _ _ c.requires c.args.ages _ fits
     (c.deref.ensures.value ∙ c.in_ok-payload.ensures.spelled ∙ ap (λ (n : ℕ). head_spelling (record { count = n; ages = c.args.ages })) c.count.ensures) c.in_ok-change.ensures.stands c.in_ok-change.ensures.changed c.set_ages.ensures refl refl

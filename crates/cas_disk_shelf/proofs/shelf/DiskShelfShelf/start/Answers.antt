@@ -23,8 +23,8 @@ returns-in-Err-clause-length g c tells =
     let old = c.args.self.now in
     let mid = cells.disk_of c.crash.new.self in
     let new = cells.disk_of c.format.new.self in
-    stays_short g.D.Disk.moment g.D.Disk.left_since g.D.Disk.may_leave old _ 1024
-    (λ t image later left. g.met.D.Disk.counts_now (disk_of old) t image tells later left) (omega arith)
+    stays_short g.D.Disk.moment g.D.Disk.left_since g.D.Disk.may_leave old _ (disk_of old) 1024 refl (λ image left. left)
+    (λ t image later left. g.met.D.Disk.counts_now new t image tells later left) (omega arith)
     (then_no_longer g.D.Disk.moment g.D.Disk.left_since g.D.Disk.may_leave (disk_of old) mid new 1024
     (λ image later left. g.met.D.Disk.counts_now mid _ image tells later left)
     (within_more g.D.Disk.moment g.D.Disk.left_since g.D.Disk.may_leave (disk_of old) mid 0 1024 (omega arith) (c.crash.ensures.length tells)) (c.format.ensures.length tells))
@@ -34,8 +34,8 @@ returns-clause-length g c tells =
     let old = c.args.self.now in
     let mid = cells.disk_of c.crash.new.self in
     let new = cells.disk_of c.format.new.self in
-    stays_short g.D.Disk.moment g.D.Disk.left_since g.D.Disk.may_leave old _ 1024
-    (λ t image later left. g.met.D.Disk.counts_now (disk_of old) t image tells later left) (omega arith)
+    stays_short g.D.Disk.moment g.D.Disk.left_since g.D.Disk.may_leave old _ (disk_of old) 1024 refl (λ image left. left)
+    (λ t image later left. g.met.D.Disk.counts_now new t image tells later left) (omega arith)
     (then_no_longer g.D.Disk.moment g.D.Disk.left_since g.D.Disk.may_leave (disk_of old) mid new 1024
     (λ image later left. g.met.D.Disk.counts_now mid _ image tells later left)
     (within_more g.D.Disk.moment g.D.Disk.left_since g.D.Disk.may_leave (disk_of old) mid 0 1024 (omega arith) (c.crash.ensures.length tells)) (c.format.ensures.length tells))

@@ -1,9 +1,10 @@
 use Rattle.std.proofs.Common.{◌≡◌, inr, Some, ◌∷◌, [], Option, ℕ, ◌+◌, List, ap, sym, subst, ◌∙◌, arith}
 use Rattle.std.specs.Prelude.{unwrap_or}
+use Rattle.cas_disk.proofs.Moments.{reread}
 use Rattle.cas_cells.specs.Cells.{cells_of, disk_of}
 use Rattle.cas_cells.specs.Format.{StandsFor}
 use Rattle.cas_vault.specs.Codec.{spelling}
-use Rattle.cas_vault.proofs.Keeping.{in_use, row_read, head_is, payload_there, place_there, reread, past_image, same_kept}
+use Rattle.cas_vault.proofs.Keeping.{in_use, row_read, head_is, payload_there, place_there, past_image, same_kept}
 use Rattle.cas_vault.specs.Vault.{KeptOn}
 use Rattle.cas_vault.specs.declared.kept.Kept.{Kept}
 use Rattle.cas_vault.proofs.vault.Vault.reopen.Goals as goal
