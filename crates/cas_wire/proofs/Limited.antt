@@ -76,7 +76,7 @@ IsBytes-zeros zero i = lit< tt
 IsBytes-zeros (suc n) zero = lit< tt
 IsBytes-zeros (suc n) (suc i) = IsBytes-zeros n i
 
-guard_is : {A : Type 0} (b : Bool) (m left : ℕ) (x : A × List ℕ) → cond b (Err m) (Ok x) ≡ Err left → (b ≡ true) × (m ≡ left)
+pub guard_is : {A : Type 0} (b : Bool) (m left : ℕ) (x : A × List ℕ) → cond b (Err m) (Ok x) ≡ Err left → (b ≡ true) × (m ≡ left)
 guard_is {A} true m left x e = (refl, left_is {A = A} m left e)
 guard_is false m left x e = absurd (not_err x left e)
 

@@ -1,6 +1,5 @@
 -- Reading values one after another, as a loop does.
 use Rattle.std.proofs.Common.{◌≡◌, ℕ, suc, ◌-◌, ◌+◌, ◌≤◌, ◌<◌, List, [], ◌∷◌, ◌++◌, length, take, Ok, Err, refl, sym, ap, ◌∙◌, append_assoc, arith}
-use Rattle.std.specs.Prelude.{replicate}
 use Rattle.std.specs.Int.{w64}
 use Rattle.std.proofs.Math.ListN.{set, length-set}
 use Rattle.std.proofs.lemmas.List.{append-nil, take_more_set, take_all}
@@ -55,9 +54,6 @@ module _ {A : Type 0} (r : List ℕ → Reading A) where
 pub record AgesRead (least rest bytes : List ℕ) (i : ℕ) : Type 0 where
   pub long : length least ≡ 17
   pub read : with_front (take i least) (list_at (number_at w64) (17 - i) rest) ≡ list_at (number_at w64) 17 bytes
-
-pub ages_begin : (bytes : List ℕ) → AgesRead (replicate 17 0) bytes bytes 0
-ages_begin bytes = record { long = refl; read = nothing_before (list_at (number_at w64) 17 bytes) }
 
 pub age_read : (least rest bytes : List ℕ) (i age : ℕ) (after : List ℕ) → i < 17 → AgesRead least rest bytes i → number_at w64 rest ≡ Ok (age, after) → AgesRead (set least i age) after bytes (i + 1)
 age_read least rest bytes i age after lt so_far e =

@@ -20,7 +20,7 @@ use Rattle.cas_wire.specs.Reading.{Reading, ◌>>=◌, pair_at, byte_where, numb
 use Rattle.cas_wire.specs.Spelling.{key_spelling, ballot_spelling, state_spelling, accepted_spelling, optional_spelling, FitsState, FitsAccepted}
 use Rattle.cas_wire.proofs.Limited.{IsLimit, limited_at, limited_format}
 use Rattle.cas_wire.proofs.Limits.{IsBytes-high_first, value-of_8, value-of_2}
-use Rattle.cas_wire.proofs.Formats.{IsBytes, IsBytes-rest, IsBytes-take, bind_ok, bind_err, ok_is, left_is, not_err, guard_err, stopped_ok, Takes, Takes-then, rest_shorter, IsFormat, byte_format, wide16, wide32, wide64, number_format, some_takes, some_again, pair_format, made_format, optional_format}
+use Rattle.cas_wire.proofs.Formats.{IsBytes, IsBytes-rest, bind_ok, bind_err, ok_is, left_is, not_err, guard_err, stopped_ok, Takes, Takes-then, rest_shorter, IsFormat, byte_format, wide16, wide32, wide64, number_format, some_takes, some_again, pair_format, made_format, optional_format}
 
 -- ---- keys
 
@@ -82,9 +82,6 @@ key_format = record { takes = key_takes; again = key_again; within = key_within 
 
 -- ---- numbers up to a limit
 
-IsBytes-front : (text rest : List ℕ) → IsBytes (text ++ rest) → IsBytes text
-IsBytes-front text rest fits = subst IsBytes (take_at text rest (length text) refl) (IsBytes-take (length text) (text ++ rest) fits)
-
 IsBytes-limit : IsBytes most_counter
 IsBytes-limit zero = lit< tt
 IsBytes-limit (suc zero) = lit< tt
@@ -134,7 +131,7 @@ length_format = limited_format w16 (2 ^ 16) 200 most_length length_limit
 
 -- ---- ballots
 
-ballot_parts : Ballot → ℕ × ℕ
+unfoldable pub ballot_parts : Ballot → ℕ × ℕ
 ballot_parts ballot = (ballot.counter, ballot.proposer)
 
 pub ballot_format : IsFormat ballot_spelling FitsBallot ballot_at
@@ -148,9 +145,6 @@ ballot_format =
     }
 
 -- ---- texts
-
-text_spelling : List ℕ → List ℕ
-text_spelling text = to_be_bytes w16 (length text) ++ text
 
 text_takes : (bytes : List ℕ) (x : List ℕ × List ℕ) → IsBytes bytes → text_at bytes ≡ Ok x → Takes bytes (to_be_bytes w16 (length x.0) ++ x.0) x.1 × IsText x.0
 unfolding text_at
@@ -243,7 +237,7 @@ state_format = record { takes = state_takes; again = state_again; within = state
 
 -- ---- what was accepted
 
-accepted_parts : Accepted → Ballot × (ℕ × State)
+unfoldable pub accepted_parts : Accepted → Ballot × (ℕ × State)
 accepted_parts accepted = (accepted.ballot, (accepted.era, accepted.state))
 
 pub accepted_format : IsFormat accepted_spelling FitsAccepted accepted_at

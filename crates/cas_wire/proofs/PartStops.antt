@@ -1,5 +1,5 @@
 -- Where reading a part stops.
-use Rattle.std.proofs.Common.{◌≡◌, ℕ, zero, suc, ◌-◌, ◌^◌, lit<, lit≤, ◌<◌, ◌≤◌, Bool, true, false, cond, not, ltb, leb, List, [], ◌∷◌, ◌++◌, length, get_or, take, drop, Some, None, Ok, Err, refl, sym, ap, subst, ◌∙◌, arith, inl, inr}
+use Rattle.std.proofs.Common.{◌≡◌, ℕ, zero, suc, ◌-◌, ◌^◌, lit<, lit≤, ◌<◌, ◌≤◌, true, not, ltb, leb, List, [], ◌∷◌, ◌++◌, length, get_or, take, drop, Some, None, Ok, Err, refl, sym, ap, subst, ◌∙◌, arith, inl, inr}
 use Rattle.std.specs.Prelude.{IfSome, replicate}
 use Rattle.std.specs.List.{All}
 use Rattle.std.specs.Int.{w16, w32, w64, to_be_bytes, cast_unsigned}
@@ -10,7 +10,6 @@ use Rattle.std.proofs.lemmas.List.Elements.{All-append, All-nil}
 use Rattle.std.proofs.lemmas.List.Quantifiers.{position-Some}
 use Rattle.std.proofs.Math.Facts.{sfits_to_z}
 use Rattle.std.proofs.Math.Seq.{get_or-append_seam}
-use Rattle.cas_ballot.specs.declared.ballot.Ballot.{Ballot}
 use Rattle.cas_ballot.specs.Ballot.{FitsBallot}
 use Rattle.cas_change.specs.Key.{IsKey, IsKeyByte, is_key_byte, first_bad_byte}
 use Rattle.cas_change.specs.Text.{IsText}
@@ -18,12 +17,11 @@ use Rattle.cas_change.specs.declared.state.State.{State}
 use Rattle.cas_change.specs.declared.state.State.TheVariants.{Empty, Held}
 use Rattle.cas_change.specs.declared.state.Body.TheVariants.{Number, Text}
 use Rattle.cas_change.proofs.Keys.{passing_byte, byte_passing, key_bytes}
-use Rattle.cas_slot.specs.declared.slot.Accepted.{Accepted}
 use Rattle.cas_wire.specs.Reading.{Reading, pair_at, byte_where, number_at, some_at, is_key_length, key_bytes_at, key_at, counter_at, is_proposer, ballot_of, ballot_at, most_length, text_at, number_state, text_state, state_at, accepted_of, accepted_at, optional_at}
 use Rattle.cas_wire.specs.Spelling.{key_spelling, ballot_spelling, state_spelling, accepted_spelling, optional_spelling, FitsState, FitsAccepted}
 use Rattle.cas_wire.proofs.Formats.{IsBytes-rest, bind_err, left_is, not_err, byte_format, wide32, wide64, number_format}
-use Rattle.cas_wire.proofs.Limited.{limited_at, limited_stops, stopped_err, number_stops}
-use Rattle.cas_wire.proofs.PartFormats.{key_length_of, both, length_format, counter_format, ballot_format, small_bits, counter_limit, length_limit}
+use Rattle.cas_wire.proofs.Limited.{guard_is, limited_at, limited_stops, stopped_err, number_stops}
+use Rattle.cas_wire.proofs.PartFormats.{key_length_of, both, length_format, counter_format, ballot_format, small_bits, counter_limit, length_limit, ballot_parts, accepted_parts}
 use Rattle.cas_wire.proofs.Stops.{StopsAt, Stops, stops_first, stops_second, pair_stops, made_stops, ended, not_first, behind_first, byte_stops, optional_stops}
 
 -- the same of values that are said otherwise
@@ -43,10 +41,6 @@ said_stops t G spelled to from stops bytes left fits e =
     }
 
 -- ---- so many bytes, of which there are fewer
-
-guard_is : {A : Type 0} (b : Bool) (m left : ℕ) (x : A × List ℕ) → cond b (Err m) (Ok x) ≡ Err left → (b ≡ true) × (m ≡ left)
-guard_is {A} true m left x e = (refl, left_is {A = A} m left e)
-guard_is false m left x e = absurd (not_err x left e)
 
 some_short : (n : ℕ) (bytes : List ℕ) (left : ℕ) → some_at n bytes ≡ Err left → (length bytes < n) × (0 ≡ left)
 some_short n bytes left e =
@@ -179,9 +173,6 @@ counter_stops : Stops (to_be_bytes w64) (λ n. n ≤ 2 ^ 48) counter_at
 unfolding counter_at
 counter_stops = limited_stops w64 (2 ^ 64) (2 ^ 48) _ counter_limit
 
-ballot_parts : Ballot → ℕ × ℕ
-ballot_parts ballot = (ballot.counter, ballot.proposer)
-
 pub ballot_stops : Stops ballot_spelling FitsBallot ballot_at
 unfolding ballot_at ballot_spelling ballot_parts
 ballot_stops =
@@ -267,9 +258,6 @@ state_stops (suc (suc (suc b)) ∷ bytes) left fits e =
     not_first state_spelling FitsState (suc (suc (suc b))) bytes left all Empty tt (λ state rest h is. no_kind b state rest is)
 
 -- ---- what was accepted
-
-accepted_parts : Accepted → Ballot × (ℕ × State)
-accepted_parts accepted = (accepted.ballot, (accepted.era, accepted.state))
 
 accepted_stops : Stops accepted_spelling FitsAccepted accepted_at
 unfolding accepted_at accepted_spelling accepted_parts

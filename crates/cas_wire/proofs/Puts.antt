@@ -1,8 +1,8 @@
 -- Writing values one after another, as a loop does.
-use Rattle.std.proofs.Common.{◌≡◌, ℕ, ◌+◌, ◌*◌, ◌<◌, ◌≤◌, List, [], ◌∷◌, ◌++◌, length, get_or, take, sym, ap, subst, ◌∙◌, append_assoc, arith}
+use Rattle.std.proofs.Common.{◌≡◌, ℕ, ◌+◌, ◌*◌, ◌<◌, List, [], ◌∷◌, ◌++◌, length, get_or, take, sym, ap, subst, ◌∙◌, append_assoc, arith}
 use Rattle.std.specs.Global.{Vec}
 use Rattle.std.specs.List.{flat_map, AllByRecursion}
-use Rattle.std.proofs.lemmas.List.{append-nil, take_more, flat_map_more, take_all}
+use Rattle.std.proofs.lemmas.List.{take_more, flat_map_more}
 use Rattle.cas_wire.specs.Writing.{Puts}
 
 -- each of the first values is put
@@ -13,12 +13,6 @@ pub record PutsFront {A : Type 0} (spelling : A → List ℕ) (Fits : A → Type
 all_more : {A : Type 0} (P : A → Type 0) (xs : List A) (x : A) → AllByRecursion P xs → P x → AllByRecursion P (xs ++ x ∷ [])
 all_more P [] x h p = (p, tt)
 all_more P (y ∷ ys) x h p = (h.0, all_more P ys x h.1 p)
-
-pub none_put : {A : Type 0} (spelling : A → List ℕ) (Fits : A → Type 0) (most : ℕ) (out : Vec ℕ) (values : List A) → PutsFront spelling Fits most out out values 0
-none_put spelling Fits most out values = record {
-  put = record { items = sym (append-nil out.items); len = omega arith; capacity = omega arith };
-  fits = tt;
-}
 
 pub one_more : {A : Type 0} (spelling : A → List ℕ) (Fits : A → Type 0) (most : ℕ) (old mid new : Vec ℕ) (values : List A) (i : ℕ) (x : A) → i < length values → x ≡ get_or values i x
     → PutsFront spelling Fits most old mid values i → Puts mid new (spelling x) most → Fits x → PutsFront spelling Fits most old new values (i + 1)
@@ -33,13 +27,6 @@ one_more spelling Fits most old mid new values i x lt is front put fits =
       };
       fits = subst (AllByRecursion Fits) (sym taken) (all_more Fits (take i values) x front.fits fits);
     }
-
-pub all_put : {A : Type 0} (spelling : A → List ℕ) (Fits : A → Type 0) (most : ℕ) (old new : Vec ℕ) (values : List A) (i : ℕ) → length values ≤ i → i ≤ length values → PutsFront spelling Fits most old new values i
-    → Puts old new (flat_map spelling values) (most * length values) × AllByRecursion Fits values
-all_put spelling Fits most old new values i ge le front =
-    let whole : take i values ≡ values = take_all i values ge in
-    let same : i ≡ length values = omega arith in
-    (subst (λ n. Puts old new (flat_map spelling values) (most * n)) same (subst (λ xs. Puts old new (flat_map spelling xs) (most * i)) whole front.put), subst (AllByRecursion Fits) whole front.fits)
 
 -- ---- one behind the other
 
