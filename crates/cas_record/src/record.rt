@@ -70,7 +70,8 @@ impl Record {
     }
 
     /// The history of the key that stands, the oldest entry first: what the greatest ballot that was acknowledged or
-    /// made a floor goes on from, and its entry. In memory from the record's allocator.
+    /// made a floor goes on from, and its entry. It is empty where there is none such, and where that is the floor with
+    /// which the key opens. In memory from the record's allocator; an `Err` comes where there is none.
     pub fn settled(&self, key: &Key) -> Result<Vec<Entry>, AllocError>
         ensures { IfOk result (λ entries. entries.items ≡ settled_of key.now (reverse self.now.marks)) }
     {
