@@ -1,56 +1,35 @@
 -- The rules of one slot and the acceptor's table say the same.
-use Rattle.std.proofs.Common.{◌≡◌, ℕ, Bool, true, false, cond, List, Some, None, inl, inr, ap, subst, refl}
+use Rattle.std.proofs.Common.{◌≡◌, ℕ, Bool, true, false, cond, List, Some, None, inl, inr, ap, refl}
 use Rattle.std.specs.Prelude.{Option, IsSomeAnd, IsSome, ◌&&◌}
 use Rattle.std.specs.Borrow.{Bor}
-use Rattle.std.specs.Cmp.{first_so, second_so}
-use Rattle.std.specs.Ordering.{match_ordering, is_eq, is_lt, is_le, MatchOrdering}
+use Rattle.std.specs.Ordering.{is_eq, is_lt, is_le, MatchOrdering}
 use Rattle.std.specs.declared.cmp.Ordering.{Ordering}
 use Rattle.std.specs.declared.cmp.Ordering.TheVariants.{Less, Equal, Greater}
 use Rattle.cas_ballot.specs.declared.ballot.Ballot.{Ballot}
 use Rattle.cas_ballot.specs.Ballot.{ballot_cmp, BallotLess, BallotAtMost}
-use Rattle.cas_ballot.proofs.BallotLemmas.{compared, cmp_refl, cmp_of_less, at_most_refl, at_most_of_less, at_most_or_less, not_lt_of_at_most, less_not_at_most}
+use Rattle.cas_ballot.proofs.BallotLemmas.{compared, cmp_refl, cmp_of_less, at_most_or_less, not_lt_of_at_most, less_not_at_most}
 use Rattle.cas_change.specs.declared.state.State.{State}
-use Rattle.cas_change.specs.declared.state.State.TheVariants.{Empty, Held}
-use Rattle.cas_slot.specs.declared.ages.Ages.{Ages}
+use Rattle.cas_change.specs.declared.state.State.TheVariants.{Empty}
 use Rattle.cas_slot.specs.declared.slot.Accepted.{Accepted}
 use Rattle.cas_slot.specs.declared.slot.Slot.{Slot}
-use Rattle.cas_slot.specs.declared.rules.PrepareRule.TheVariants as prepare
 use Rattle.cas_slot.specs.declared.rules.AcceptRule.TheVariants as accept
 use Rattle.cas_slot.specs.declared.rules.RemoveRule.TheVariants as remove
 use Rattle.cas_slot.specs.declared.message.Ask.TheVariants as ask
 use Rattle.cas_slot.specs.declared.message.Tell.{Tell}
 use Rattle.cas_slot.specs.declared.message.Tell.TheVariants as tell
 use Rattle.cas_slot.specs.Contents.{Contents, kept_at}
-use Rattle.cas_slot.specs.Rules.{prepare_rule, accept_rule, remove_rule, is_accepted_at, is_empty, is_empty_at, is_tombstone, tell_by_prepare, tell_by_accept}
+use Rattle.cas_slot.specs.Rules.{accept_rule, remove_rule, is_accepted_at, is_empty_at, is_tombstone, tell_by_accept}
 use Rattle.cas_slot.specs.Slot.{accepted_of, promise_of}
 use Rattle.cas_slot.specs.Table.{seen_at, accepted_at, IsRepeat}
 use Rattle.cas_acceptor.specs.Change.{Decides}
-use Rattle.cas_acceptor.specs.Decide.{put_by_prepare, put_by_accept, put_of, tell_by_probe, IsListing}
-use Rattle.cas_acceptor.specs.declared.change.Change.TheVariants.{Nothing, Remove, Raise}
-
--- ---- a prepare
-prepare_by : (o : Ordering) (old : Contents) (key : Bor (List ℕ)) (ballot : Ballot)
-    → MatchOrdering o (BallotLess (seen_at old key.now) ballot) (seen_at old key.now ≡ ballot) (BallotLess ballot (seen_at old key.now))
-    → Decides old (ask.Prepare key.now ballot) (tell_by_prepare (match_ordering o prepare.Promise prepare.Again (prepare.Met (seen_at old key.now))) (kept_at old key.now))
-    (put_of key (put_by_prepare (match_ordering o prepare.Promise prepare.Again (prepare.Met (seen_at old key.now))) (kept_at old key.now) ballot))
-prepare_by Less old key ballot h = record { room = λ fits. (refl, inr (h, fits, refl)); none = λ full. (h, full, refl) }
-prepare_by Equal old key ballot h = record { room = λ _. (refl, inl (h, refl)); none = λ full. absurd full }
-prepare_by Greater old key ballot h = record { room = λ _. (refl, h, refl); none = λ full. absurd full }
-
-pub prepare_decides : (old : Contents) (key : Bor (List ℕ)) (ballot : Ballot)
-    → Decides old (ask.Prepare key.now ballot) (tell_by_prepare (prepare_rule (kept_at old key.now) ballot) (kept_at old key.now)) (put_of key (put_by_prepare (prepare_rule (kept_at old key.now) ballot) (kept_at old key.now) ballot))
-prepare_decides old key ballot = prepare_by (ballot_cmp (seen_at old key.now) ballot) old key ballot (compared (seen_at old key.now) ballot)
+use Rattle.cas_acceptor.specs.Decide.{put_by_accept, put_of, tell_by_probe, IsListing}
+use Rattle.cas_acceptor.specs.declared.change.Change.TheVariants.{Nothing}
 
 -- ---- comparisons
 equal_is : (o : Ordering) (a b : Ballot) → MatchOrdering o (BallotLess a b) (a ≡ b) (BallotLess b a) → is_eq o ≡ true → a ≡ b
 equal_is Less a b h e = absurd cc
 equal_is Equal a b h e = h
 equal_is Greater a b h e = absurd cc
-
-most_is : (o : Ordering) (a b : Ballot) → MatchOrdering o (BallotLess a b) (a ≡ b) (BallotLess b a) → is_le o ≡ true → BallotAtMost a b
-most_is Less a b h e = at_most_of_less h
-most_is Equal a b h e = subst (λ (x : Ballot). BallotAtMost a x) h (at_most_refl a)
-most_is Greater a b h e = absurd cc
 
 is_le-at_most : (o : Ordering) (a b : Ballot) → MatchOrdering o (BallotLess a b) (a ≡ b) (BallotLess b a) → BallotAtMost a b → is_le o ≡ true
 is_le-at_most Less a b h m = refl
@@ -89,30 +68,12 @@ accept_decides old key ballot era ride state =
     (repeated (accepted_at old key.now) ballot) (not_repeated (accepted_at old key.now) ballot) (below_is ballot (seen_at old key.now)) (not_below ballot (seen_at old key.now))
 
 -- ---- a removal
-empty_is : (state : State) → is_empty state ≡ true → state ≡ Empty
-empty_is Empty e = refl
-empty_is (Held version body) e = absurd cc
-
-empty_at : (o : Option Accepted) (tomb : Ballot) → is_empty_at o tomb ≡ true → IsSomeAnd o (λ accepted. (accepted.ballot ≡ tomb) × (accepted.state ≡ Empty))
-empty_at None tomb e = absurd cc
-empty_at (Some accepted) tomb e = (
-  equal_is (ballot_cmp accepted.ballot tomb) accepted.ballot tomb (compared accepted.ballot tomb) (second_so (is_empty accepted.state) (is_eq (ballot_cmp accepted.ballot tomb)) e),
-  empty_is accepted.state (first_so (is_empty accepted.state) (is_eq (ballot_cmp accepted.ballot tomb)) e),
-)
-
 at_empty : (o : Option Accepted) (tomb : Ballot) → IsSomeAnd o (λ accepted. (accepted.ballot ≡ tomb) × (accepted.state ≡ Empty)) → is_empty_at o tomb ≡ true
 at_empty None tomb h = absurd h
 at_empty (Some accepted) tomb h = rw (h.0, h.1, cmp_refl) refl
 
 both : (a b : Bool) → a ≡ true → b ≡ true → (a && b) ≡ true
 both a b p q = rw (p, q) refl
-
-tombstone_is : (slot : Slot) (tomb : Ballot) → is_tombstone slot tomb ≡ true
-    → IsSomeAnd slot.accepted (λ accepted. (accepted.ballot ≡ tomb) × (accepted.state ≡ Empty)) × BallotAtMost slot.promise tomb
-tombstone_is slot tomb e = (
-  empty_at slot.accepted tomb (first_so (is_empty_at slot.accepted tomb) (is_le (ballot_cmp slot.promise tomb)) e),
-  most_is (ballot_cmp slot.promise tomb) slot.promise tomb (compared slot.promise tomb) (second_so (is_empty_at slot.accepted tomb) (is_le (ballot_cmp slot.promise tomb)) e),
-)
 
 is_tombstone-from : (slot : Slot) (tomb : Ballot)
     → IsSomeAnd slot.accepted (λ accepted. (accepted.ballot ≡ tomb) × (accepted.state ≡ Empty)) × BallotAtMost slot.promise tomb → is_tombstone slot tomb ≡ true
@@ -122,17 +83,9 @@ is_tombstone-from slot tomb h =
 abbrev IsTombstoneOf : Option Slot → Ballot → Type 0
 IsTombstoneOf slot tomb = IsSomeAnd (accepted_of slot) (λ accepted. (accepted.ballot ≡ tomb) × (accepted.state ≡ Empty)) × BallotAtMost (promise_of slot) tomb
 
-remove_is : (b : Bool) (slot : Slot) (tomb : Ballot) → is_tombstone slot tomb ≡ b → cond b remove.Remove remove.Keep ≡ remove.Remove → IsTombstoneOf (Some slot) tomb
-remove_is true slot tomb e h = tombstone_is slot tomb e
-remove_is false slot tomb e h = absurd cc
-
 keep_is : (b : Bool) (slot : Slot) (tomb : Ballot) → is_tombstone slot tomb ≡ b → cond b remove.Remove remove.Keep ≡ remove.Keep → IsTombstoneOf (Some slot) tomb → ⊥
 keep_is true slot tomb e h t = absurd cc
 keep_is false slot tomb e h t = let yes = is_tombstone-from slot tomb t in absurd cc
-
-removing : (slot : Option Slot) (tomb : Ballot) → remove_rule slot tomb ≡ remove.Remove → IsTombstoneOf slot tomb
-removing None tomb h = absurd cc
-removing (Some slot) tomb h = remove_is (is_tombstone slot tomb) slot tomb refl h
 
 absent : (slot : Option Slot) (tomb : Ballot) → remove_rule slot tomb ≡ remove.Absent → slot ≡ None
 absent None tomb h = refl
@@ -142,19 +95,10 @@ keeping : (slot : Option Slot) (tomb : Ballot) → remove_rule slot tomb ≡ rem
 keeping None tomb h = absurd cc
 keeping (Some slot) tomb h = (refl, keep_is (is_tombstone slot tomb) slot tomb refl h)
 
-pub removes : (old : Contents) (key : Bor (List ℕ)) (tomb : Ballot) → remove_rule (kept_at old key.now) tomb ≡ remove.Remove → Decides old (ask.Remove key.now tomb) tell.Removed (Remove key)
-removes old key tomb h = record { room = λ _. inr (removing (kept_at old key.now) tomb h, refl); none = λ full. absurd full }
-
-pub finds_none : (old : Contents) (key : Bor (List ℕ)) (tomb : Ballot) → remove_rule (kept_at old key.now) tomb ≡ remove.Absent → Decides old (ask.Remove key.now tomb) tell.Removed Nothing
-finds_none old key tomb h = record { room = λ _. inl (absent (kept_at old key.now) tomb h, refl); none = λ full. absurd full }
-
 pub keeps : (old : Contents) (key : Bor (List ℕ)) (tomb : Ballot) → remove_rule (kept_at old key.now) tomb ≡ remove.Keep → Decides old (ask.Remove key.now tomb) tell.Kept Nothing
 keeps old key tomb h = let k = keeping (kept_at old key.now) tomb h in record { room = λ _. (k.0, k.1, refl); none = λ full. absurd full }
 
 -- ---- the others
-pub raises : (old : Contents) (tag : Ballot) (least : Bor Ages) → Decides old (ask.Ages tag least.now) tell.AgesSet (Raise least)
-raises old tag least = record { room = λ _. refl; none = λ full. absurd full }
-
 pub probes : (old : Contents) (tag : Ballot) (key : List ℕ) → Decides old (ask.Probe tag key) (tell_by_probe (kept_at old key)) Nothing
 probes old tag key = record { room = λ _. (refl, refl, refl); none = λ full. absurd full }
 

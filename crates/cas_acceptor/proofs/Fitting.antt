@@ -6,27 +6,16 @@ use Rattle.cas_ballot.specs.declared.ballot.Ballot.{Ballot}
 use Rattle.cas_ballot.specs.Ballot.{FitsBallot}
 use Rattle.cas_slot.specs.declared.slot.Accepted.{Accepted}
 use Rattle.cas_slot.specs.declared.slot.Slot.{Slot}
-use Rattle.cas_slot.specs.declared.rules.PrepareRule.{PrepareRule}
-use Rattle.cas_slot.specs.declared.rules.PrepareRule.TheVariants as prepare
 use Rattle.cas_slot.specs.declared.rules.AcceptRule.{AcceptRule}
 use Rattle.cas_slot.specs.declared.rules.AcceptRule.TheVariants as accept
 use Rattle.cas_slot.specs.Limits.{SlotBallotsFit}
-use Rattle.cas_slot.proofs.LimitLemmas.{zero_fits, accepted_fits}
+use Rattle.cas_slot.proofs.LimitLemmas.{zero_fits}
 use Rattle.cas_acceptor.specs.Change.{ChangeBallotsFit}
-use Rattle.cas_acceptor.specs.Decide.{put_by_prepare, put_by_accept, put_of}
+use Rattle.cas_acceptor.specs.Decide.{put_by_accept, put_of}
 
 put_fits : (key : Bor (List ℕ)) (put : Option Slot) → IfSome put SlotBallotsFit → ChangeBallotsFit (put_of key put)
 put_fits key None fits = tt
 put_fits key (Some slot) fits = fits
-
-prepared_fits : (rule : PrepareRule) (slot : Option Slot) (ballot : Ballot) → IfSome slot SlotBallotsFit → FitsBallot ballot → IfSome (put_by_prepare rule slot ballot) SlotBallotsFit
-prepared_fits prepare.Promise slot ballot all fits = record { promise = fits; accepted = accepted_fits slot all }
-prepared_fits prepare.Again slot ballot all fits = tt
-prepared_fits (prepare.Met seen) slot ballot all fits = tt
-
-pub prepare_fits : (key : Bor (List ℕ)) (rule : PrepareRule) (slot : Option Slot) (ballot : Ballot) → IfSome slot SlotBallotsFit → FitsBallot ballot
-    → ChangeBallotsFit (put_of key (put_by_prepare rule slot ballot))
-prepare_fits key rule slot ballot all fits = put_fits key (put_by_prepare rule slot ballot) (prepared_fits rule slot ballot all fits)
 
 taken_fits : (rule : AcceptRule) (accepted : Accepted) (ride : Option Ballot) → FitsBallot accepted.ballot → IfSome ride FitsBallot → IfSome (put_by_accept rule accepted ride) SlotBallotsFit
 taken_fits accept.Take accepted None fits rides = record { promise = zero_fits; accepted = fits }

@@ -1,5 +1,5 @@
 -- What a crash leaves within an answer.
-use Rattle.std.proofs.Common.{◌≡◌, ℕ, ◌≤◌, inl, inr, sym, subst, arith, Ok}
+use Rattle.std.proofs.Common.{ℕ, ◌≤◌, inl, inr, sym, subst, arith, Ok}
 use Rattle.cas_slot.specs.Contents.{Contents}
 use Rattle.cas_slot.specs.declared.message.Request.{Request}
 use Rattle.cas_slot.specs.declared.message.Tell.{Tell}
@@ -18,7 +18,6 @@ module _ {S : Type 0} (moment : S → ℕ) (left_since : S → ℕ → Left → 
   leaves_weaker old new P Q f h = record {
     later = h.later;
     each = λ left since. f left (h.each left since);
-    before = λ t left le since. elim (h.before t left le since) [ inl past ↦ inl past | inr now ↦ inr (f left now) ];
   }
 
   -- a shelf that was not touched
@@ -28,7 +27,6 @@ module _ {S : Type 0} (moment : S → ℕ) (left_since : S → ℕ → Left → 
   leaves_same may_leave contents shelf P only kept holds = record {
     later = omega arith;
     each = λ left since. subst P (sym (kept left (only left since))) holds;
-    before = λ t left le since. inl since;
   }
 
 not_aged : (old : Contents) (question : Ask) (least : ℕ) (new : Contents) → Answers old question (tell.Aged least) new → ⊥
@@ -56,9 +54,6 @@ handled old request (tell.Probed promise accepted) new old_enough h = (old_enoug
 pub by_table : (old new : Contents) (request : Request) (answer : Tell) → Handles old request answer new → (left : Left) → IsOldOrNew old new left → LeavesByTable old request left
 by_table old new request answer row left (inl same) = inl same
 by_table old new request answer row left (inr other) = inr (answer, new, row, other)
-
-pub by_table_old : (old : Contents) (request : Request) (left : Left) → left ≡ Ok old → LeavesByTable old request left
-by_table_old old request left same = inl same
 
 -- a crash within a change for which there is room
 pub leaves_by_table : {S : Type 0} (moment : S → ℕ) (left_since : S → ℕ → Left → Type 0) (before after : S) (old : Contents) (request : Request) (answer : Tell) (change : Change)

@@ -1,10 +1,10 @@
 //! One acceptor over its shelf.
 
-ghost use Rattle.std.specs.Prelude.{◌≡◌, ◌⊎◌, ◌≤◌, ◌↔◌, true, false, Ok, Err, IsTrue, IfOk, OnOk, OnErr, IsErrOf};
+ghost use Rattle.std.specs.Prelude.{◌≡◌, ◌⊎◌, ◌≤◌, ◌↔◌, ℕ, true, false, Ok, Err, IsTrue, IfOk, OnOk, OnErr, IsErrOf};
 ghost use Rattle.cas_base.specs.Faults.{Rose};
 ghost use Rattle.cas_slot.specs.Contents.{nothing};
 ghost use Rattle.cas_slot.specs.Limits.{AskBallotsFit, TellFits};
-ghost use Rattle.cas_slot.specs.Shelf.{OnlyLeaves, LeavesOnly, HasShelfCause};
+ghost use Rattle.cas_slot.specs.Shelf.{OnlyLeaves, LeavesOnly, IsSettled, HasShelfCause};
 ghost use Rattle.cas_slot.specs.Table.{IsAnswered, Handles};
 ghost use Rattle.cas_acceptor.specs.Acceptor.{LeavesByTable};
 
@@ -99,7 +99,8 @@ impl<S: Shelf> Acceptor<S> {
     /// Answers a request by the acceptor's table. The request's proposer is at most 16, and its ballots have counters up to 2^48
     /// and proposers up to 16; so have those of the reply, whose listing is in order.
     ///
-    /// What a reply says is so in what any crash from then on leaves, until a further request changes it. A crash within the
+    /// What a reply says is so in what any crash from then on leaves, until a further request changes it: of an acceptor that is
+    /// up, also after [`HandleFault::NoMemory`], a crash leaves what its shelf holds and nothing else. A crash within the
     /// call leaves what was kept before, or what the table makes of that. [`HandleFault::Down`] comes only where the acceptor
     /// was down, or its shelf's count of faults rose; the acceptor is down then, and is restarted before it answers again.
     /// Whatever the error, the shelf holds what it held.
@@ -108,11 +109,12 @@ impl<S: Shelf> Acceptor<S> {
         requires fits { AskBallotsFit request.now.ask }
         ensures table { IfOk result (λ reply. IsAnswered self.old.id (S.contents self.old.shelf) request.now reply (S.contents self.new.shelf)) }
         ensures told { IfOk result (λ reply. TellFits reply.tell) }
-        ensures kept { S.tells → OnOk result (OnlyLeaves (S.contents self.new.shelf) (S.may_leave self.new.shelf)) }
+        ensures kept { S.tells → self.new.down ≡ false → OnlyLeaves (S.contents self.new.shelf) (S.may_leave self.new.shelf) }
         ensures any_moment { S.tells → self.old.down ≡ false → LeavesOnly S.moment S.left_since self.old.shelf self.new.shelf (LeavesByTable (S.contents self.old.shelf) request.now) }
         ensures err { OnErr result (S.contents self.new.shelf ≡ S.contents self.old.shelf) }
         ensures was_down { IsTrue self.old.down → (result ≡ Err HandleFault.Down) × (self.new ≡ self.old) }
         ensures down { IsErrOf result HandleFault.Down ↔ IsTrue self.new.down }
+        ensures up { self.new.down ≡ false → S.is_up self.new.shelf }
         ensures cause { IsErrOf result HandleFault.Down → IsTrue self.old.down ⊎ Rose (S.fault_count self.old.shelf) (S.fault_count self.new.shelf) }
         ensures never_falls { S.fault_count self.old.shelf ≤ S.fault_count self.new.shelf }
         ensures same { (self.new.id ≡ self.old.id) × (self.new.started ≡ self.old.started) }
@@ -131,9 +133,10 @@ impl<S: Shelf> Acceptor<S> {
         })
     }
 
-    /// Crashes. The acceptor is down until it is restarted.
+    /// Crashes. The acceptor is down until it is restarted, and nothing is pending on its shelf's disk.
     pub fn crash(&mut self)
         ensures down { IsTrue self.new.down }
+        ensures settled { S.tells → IsSettled (S.may_leave self.old.shelf) (S.may_leave self.new.shelf) }
         ensures any_moment { S.tells → LeavesOnly S.moment S.left_since self.old.shelf self.new.shelf (S.may_leave self.old.shelf) }
         ensures never_falls { S.fault_count self.old.shelf ≤ S.fault_count self.new.shelf }
         ensures same { (self.new.id ≡ self.old.id) × (self.new.started ≡ self.old.started) }
@@ -144,16 +147,24 @@ impl<S: Shelf> Acceptor<S> {
 
     /// Starts the shelf where no start ever succeeded, and reopens it otherwise. One that is up stays as it is.
     ///
-    /// The acceptor is up after `Ok`. The errors are those of the shelf, which come by their causes, and never
-    /// [`ShelfFault::Full`]; the acceptor stays down.
+    /// The acceptor is up after `Ok`, and a crash leaves what its shelf holds and nothing else. After an error it stays down,
+    /// its shelf holds what it held, and of one that was started nothing is lost: a crash leaves nothing that it might not leave
+    /// before. [`ShelfFault::DiskFault`] comes only where the shelf's count of faults rose; [`ShelfFault::Foreign`] only from a
+    /// reopening, where a crash may leave what is no shelf, with its first wrong byte there; [`ShelfFault::Full`] never.
     pub fn restart(&mut self) -> Result<(), ShelfFault>
         ensures up { OnOk result (self.new.down ≡ false) }
+        ensures shelf_up { self.new.down ≡ false → S.is_up self.new.shelf }
+        ensures kept { S.tells → self.new.down ≡ false → OnlyLeaves (S.contents self.new.shelf) (S.may_leave self.new.shelf) }
         ensures still_down { OnErr result (IsTrue self.new.down) }
         ensures unchanged { self.old.down ≡ false → (result ≡ Ok tt) × (self.new ≡ self.old) }
         ensures started { OnOk result (IsTrue self.new.started) }
         ensures not_started { OnErr result (self.new.started ≡ self.old.started) }
         ensures afresh { IsTrue self.old.down → self.old.started ≡ false → OnOk result (S.contents self.new.shelf ≡ nothing) }
         ensures reopened { S.tells → IsTrue self.old.down → IsTrue self.old.started → OnOk result (S.may_leave self.old.shelf (Ok (S.contents self.new.shelf))) }
+        ensures any_moment { S.tells → IsTrue self.old.started → LeavesOnly S.moment S.left_since self.old.shelf self.new.shelf (S.may_leave self.old.shelf) }
+        ensures err { OnErr result (S.contents self.new.shelf ≡ S.contents self.old.shelf) }
+        ensures foreign { S.tells → (at : ℕ) → IsErrOf result (ShelfFault.Foreign at) → S.may_leave self.old.shelf (Err at) }
+        ensures start_not_foreign { self.old.started ≡ false → (at : ℕ) → IsErrOf result (ShelfFault.Foreign at) → ⊥ }
         ensures not_full { IsErrOf result ShelfFault.Full → ⊥ }
         ensures cause { HasShelfCause result (S.fault_count self.old.shelf) (S.fault_count self.new.shelf) }
         ensures same { self.new.id ≡ self.old.id }

@@ -1,11 +1,10 @@
 -- What the calls of a cache leave of its entries.
-use Rattle.std.specs.Prelude.{is_some, nat_eq, slice_get}
-use Rattle.std.specs.Cmp.{IsEquivalence}
+use Rattle.std.specs.Prelude.{is_some, nat_eq}
 use Rattle.std.specs.Cmp.Lexicographic.{pointwise, nat_list_eq_equiv}
 use Rattle.std.specs.List.{IsDistinct}
 use Rattle.std.specs.Map.{lookup, lookup_entry, remove_entry, set_value, keys_of}
 use Rattle.std.specs.Option.{option_map_or}
-use Rattle.std.proofs.Common.{◌≡◌, ◌⊎◌, inl, inr, ⊎_elim, ℕ, zero, suc, ◌+◌, ◌-◌, ◌<◌, ◌≤◌, Bool, true, false, cond, ◌&&◌, List, [], ◌∷◌, length, take, Option, Some, None, refl, sym, ap, subst, ◌∙◌, arith}
+use Rattle.std.proofs.Common.{◌≡◌, ℕ, zero, suc, ◌+◌, ◌-◌, ◌<◌, ◌≤◌, Bool, true, false, cond, ◌&&◌, List, [], ◌∷◌, length, take, Option, Some, None, refl, sym, ap, subst, ◌∙◌, arith}
 use Rattle.std.proofs.lemmas.List.{take_all, length-take}
 use Rattle.std.proofs.lemmas.Map.{lookup-remove_entry}
 use Rattle.std.proofs.lemmas.Slice.Eq.{bytes_eq-Decides}
@@ -40,11 +39,6 @@ pub kept_row : (es : List Entry) → all_kept es ≡ true → is_row es ≡ true
 kept_row [] kept = refl
 kept_row ((k, None) ∷ es) kept = absurd (cc)
 kept_row ((k, Some ready) ∷ es) kept = kept
-
-pub kept_place : (es : List Entry) → all_kept es ≡ true → place_in es ≡ None
-kept_place [] kept = refl
-kept_place ((k, None) ∷ es) kept = absurd (cc)
-kept_place ((k, Some ready) ∷ es) kept = refl
 
 pub length_kept : (es : List Entry) → all_kept es ≡ true → length es ≡ length (promises_in es)
 length_kept [] kept = refl

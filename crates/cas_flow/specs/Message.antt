@@ -5,6 +5,7 @@ use Rattle.cas_fate.specs.declared.fate.Leg.TheVariants as leg
 use Rattle.cas_slot.specs.declared.message.Phase.{Phase}
 use Rattle.cas_slot.specs.declared.message.Phase.TheVariants as phase
 use Rattle.cas_slot.specs.Message.{phase_of}
+use Rattle.cas_wire.specs.Frame.{FitsRequest, FitsReply, CanBeAsked, CanBeTold}
 use Rattle.cas_flow.specs.declared.message.Message.{Message}
 use Rattle.cas_flow.specs.declared.message.Message.TheVariants.{Request, Reply}
 
@@ -21,3 +22,12 @@ leg_of_phase phase.Probe = leg.Probe
 abbrev pub head_of : Message → Leg × ℕ
 head_of (Request request) = (leg_of_phase (phase_of request.ask), request.to)
 head_of (Reply reply) = (leg.Reply, reply.from)
+
+-- a message is within its limits, and so it may be sent, and handed to whom it is for
+abbrev pub FitsMessage : Message → Type 0
+FitsMessage (Request request) = FitsRequest request
+FitsMessage (Reply reply) = FitsReply reply
+
+abbrev pub CanBeSent : Message → Type 0
+CanBeSent (Request request) = CanBeAsked request
+CanBeSent (Reply reply) = CanBeTold reply

@@ -1,7 +1,7 @@
 //! One frame as bytes.
 ghost use Rattle.std.specs.Prelude.{◌≡◌, Some, None, IfOk, IsSome, is_none, option_map};
 ghost use Rattle.cas_wire.specs.Frame.{CanBeAsked, CanBeTold};
-ghost use Rattle.cas_flow.specs.Message.{head_of};
+ghost use Rattle.cas_flow.specs.Message.{head_of, FitsMessage, CanBeSent};
 ghost use Rattle.cas_flow.specs.declared.message.Message.TheVariants as message;
 
 use crate::message::{Message, leg_of_phase};
@@ -85,10 +85,12 @@ impl Frame {
         self.head = Head::Told { from: reply.from };
     }
 
-    /// The message of a frame that is not blank. The frame stays.
+    /// The message of a frame that is not blank. It is within its limits, so it may be handed on, and sent again. The frame stays.
     pub fn read(&self, alloc: Global) -> Result<Message, AllocError>
         requires { IsSome self.now }
-        ensures { IfOk result (λ message. Some message ≡ self.now) }
+        ensures message { IfOk result (λ message. Some message ≡ self.now) }
+        ensures fits { IfOk result FitsMessage }
+        ensures sent { IfOk result CanBeSent }
     {
         match self.head {
             Head::Asked { .. } => match decode_request(alloc, &self.bytes)? {

@@ -1,5 +1,5 @@
 -- Every plan of the table is lawful, and how the steps that are left go on.
-use Rattle.std.proofs.Common.{◌≡◌, ℕ, ◌+◌, suc, ◌≤◌, Bool, true, false, List, [], ◌∷◌, length, refl, sym, subst, ap}
+use Rattle.std.proofs.Common.{◌≡◌, ℕ, ◌+◌, suc, ◌≤◌, List, [], ◌∷◌, length, refl, sym, subst}
 use Rattle.std.specs.Prelude.{All, Option, Some, None, option_to_list}
 use Rattle.std.proofs.lemmas.List.Elements.{All-cons, All-nil, All-tail}
 use Rattle.cas_ballot.specs.Members.{with_member, without_member, IsMemberSet}
@@ -9,8 +9,7 @@ use Rattle.cas_ballot.proofs.CountLemmas.{length-with_member-le, le-length-witho
 use Rattle.cas_quorum.specs.declared.era.Era.{Era}
 use Rattle.cas_quorum.specs.Era.{era_of_majorities, majority_era, Meet}
 use Rattle.cas_quorum.proofs.Counting.{IsNear, grows, shrinks, IsNear-same, majorities_meet}
-use Rattle.cas_members.specs.Steps.{steps_left}
-use Rattle.cas_members.specs.Plan.{HasMajorities, IsLawfulCourse, eras_of, eras_in}
+use Rattle.cas_members.specs.Plan.{HasMajorities, IsLawfulCourse, eras_of}
 
 -- ---- the eras of the table
 -- eras with majorities of near sets meet
@@ -136,9 +135,3 @@ pub enters_whole : (from next : Era) (h w a b : Option Era) → h ≡ None → w
     → IsLawfulCourse from (eras_of h w) → IsLawfulCourse next (eras_of a b)
 enters_whole from next h w a b eh ew ea eb course =
     rw (ea, eb) (course_from from next [] (rw (eh, ew) at course))
-
--- ---- the steps that are left
-pub eras_in-steps_left : (settled : Bool) (eras : List Era) → eras_in (steps_left settled eras) ≡ eras
-eras_in-steps_left settled [] = refl
-eras_in-steps_left true (era ∷ later) = ap (λ x. era ∷ x) (eras_in-steps_left false later)
-eras_in-steps_left false (era ∷ later) = ap (λ x. era ∷ x) (eras_in-steps_left false later)

@@ -11,7 +11,7 @@ use Rattle.cas_vault.specs.Vault.{counter_of, kept_of, kept_to_draw, Stands}
 use Rattle.cas_proposer.specs.declared.began.Began.{Began}
 use Rattle.cas_proposer.specs.declared.began.Began.TheVariants.{Prepare, Accept}
 use Rattle.cas_proposer.specs.declared.round.Round.{Round}
-use Rattle.cas_proposer.specs.Round.{IsAbout, IsPreparing, IsAccepting, is_preparing, may_keep}
+use Rattle.cas_proposer.specs.Round.{IsAbout, IsPreparing, IsAccepting, is_preparing, has_quorum, may_keep}
 
 -- the proposer's number, its vault, the promises that it may use with their keys, the open round, and whether it is down
 pub record DeskView (V : Type 0) : Type 0 where
@@ -58,6 +58,11 @@ IsOpened key era (Accept ready) round = IsAbout key era ready.ballot round × Is
 abbrev pub may_ride : Option Round → Bool
 may_ride None = false
 may_ride (Some round) = not (is_preparing round.phase) && is_none round.ride
+
+-- whether a round is open in its prepare phase, and a quorum promised
+abbrev pub may_read : Option Round → Bool
+may_read None = false
+may_read (Some round) = is_preparing round.phase && has_quorum round.phase
 
 -- whether a round is open in its prepare phase
 abbrev pub is_in_prepare : Option Round → Bool

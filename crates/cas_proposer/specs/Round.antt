@@ -1,5 +1,6 @@
 -- An open round, and the replies that arrived at it.
-use Rattle.std.specs.Prelude.{◌≡◌, ℕ, Bool, true, false, ◌&&◌, if◌then◌else◌, List, [], ◌∷◌, ◌++◌, Option, None, Some}
+use Rattle.std.specs.Prelude.{◌≡◌, ℕ, Bool, true, false, not, nat_eq, ◌&&◌, if◌then◌else◌, List, [], ◌∷◌, ◌++◌, Option, None, Some}
+use Rattle.std.specs.Cmp.Lexicographic.{pointwise}
 use Rattle.std.specs.Ordering.{is_eq}
 use Rattle.cas_ballot.specs.declared.ballot.Ballot.{Ballot}
 use Rattle.cas_ballot.specs.Ballot.{ballot_cmp, BallotAtMost}
@@ -12,7 +13,7 @@ use Rattle.cas_slot.specs.declared.message.Reply.{Reply}
 use Rattle.cas_slot.specs.declared.message.Tell.{Tell}
 use Rattle.cas_round.specs.declared.verdict.RoundVerdict.{RoundVerdict}
 use Rattle.cas_round.specs.Replies.{is_prepare, is_accept, heard, mets_of, met_by, promisers_of, accepters_of}
-use Rattle.cas_round.specs.Round.{GreatestOf, IsPrepareAfter, IsAcceptAfter, IsPrepareVerdict, IsAcceptVerdict, IsRead}
+use Rattle.cas_round.specs.Round.{GreatestOf, IsPrepareAfter, IsAcceptAfter, IsPrepareVerdict, IsAcceptVerdict, IsRead, promised_in, is_promised, accepted_in, is_accepted}
 use Rattle.cas_round.specs.Tally.{greatest_met}
 use Rattle.cas_proposer.specs.declared.round.Round.{Round}
 use Rattle.cas_proposer.specs.declared.round.OpenPhase.{OpenPhase}
@@ -101,11 +102,25 @@ abbrev pub IsReadOf : Round → Option Accepted → Type 0
 IsReadOf round read = (replies : List Reply) → IsPreparing replies round → IsRead round.ballot replies read
 
 -- ---- the promise that rode along
+-- the acceptors that confirmed in the open phase so far, and whether they hold its quorum
+abbrev pub confirmed_in : OpenPhase → List ℕ
+confirmed_in (Prepare phase) = promised_in phase
+confirmed_in (Accept phase) = accepted_in phase
+
+abbrev pub has_quorum : OpenPhase → Bool
+has_quorum (Prepare phase) = is_promised phase
+has_quorum (Accept phase) = is_accepted phase
+
 -- whether a ballot rode along, and it is this one
 abbrev pub rode : Option Ballot → Ballot → Bool
 rode None ballot = false
 rode (Some ride) ballot = is_eq (ballot_cmp ride ballot)
 
--- whether what a round offers is kept: its ballot rode along, and those that confirmed hold a prepare quorum
+-- whether what a round offers is the promise that its own acceptances made: its ballot rode along, what is read at it is what they
+-- accepted, and they are those that hold it
+abbrev pub is_own : Round → Ready → Bool
+is_own round ready = rode round.ride ready.ballot && is_eq (ballot_cmp ready.read round.ballot) && pointwise nat_eq ready.by (confirmed_in round.phase)
+
+-- whether it is kept: an accept quorum accepted, the promise is the round's own, and those that hold it are a prepare quorum
 abbrev pub may_keep : Round → Ready → Bool
-may_keep round ready = rode round.ride ready.ballot && holds_prep round.era ready.by
+may_keep round ready = (not (is_preparing round.phase) && has_quorum round.phase) && is_own round ready && holds_prep round.era ready.by

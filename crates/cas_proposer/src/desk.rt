@@ -10,7 +10,7 @@ ghost use Rattle.cas_vault.specs.Vault.{disk_of, counter_of, kept_of, kept_to_dr
 
 use crate::began::Began;
 use crate::round::Round;
-use cas_ballot::{Ballot, Members, ProposerId};
+use cas_ballot::{Ballot, LAST_COUNTER, Members, ProposerId};
 use cas_cache::{Cache, Ready};
 use cas_change::Key;
 use cas_disk::Disk;
@@ -20,9 +20,6 @@ use cas_slot::{Accepted, Reply};
 use cas_vault::{Vault, VaultError};
 use std::alloc::{AllocError, Global};
 use std::marker::Model;
-
-/// The end of counters and ages.
-const LAST: u64 = 1 << 48;
 
 /// The desk of one proposer (Rystsov 2018, sections 2.1 and 2.2): its vault, its cache of promises, and at most one open round.
 ///
@@ -50,9 +47,9 @@ impl<V: Disk> Model for Desk<V> {
 }
 
 impl<V: Disk> Desk<V> {
-    ghost use Rattle.cas_proposer.specs.Desk.{cache_after, cache_without, counter_without, promise_used, IsOpened, is_in_prepare, may_ride, with_ride, met_counter, Draws, DrawsFor, ShowsTheSame, GoesDown, IsCrashed};
+    ghost use Rattle.cas_proposer.specs.Desk.{cache_after, cache_without, counter_without, promise_used, IsOpened, is_in_prepare, may_read, may_ride, with_ride, met_counter, Draws, DrawsFor, ShowsTheSame, GoesDown, IsCrashed};
     ghost use Rattle.cas_proposer.specs.declared.round.Round.{Round as ARound};
-    ghost use Rattle.cas_proposer.specs.Round.{Hears, IsVerdictOf, IsConfirmersOf, TurnsToAccept, IsReadOf};
+    ghost use Rattle.cas_proposer.specs.Round.{Hears, IsVerdictOf, IsConfirmersOf, confirmed_in, has_quorum, TurnsToAccept, IsReadOf};
 
     /// The desk of that proposer over a vault that is in use, with an empty cache and no open round. It is up. Where no memory was
     /// found the vault comes back.
@@ -78,8 +75,9 @@ impl<V: Disk> Desk<V> {
     }
 
     /// Opens a round of the key in this era: in its accept phase exactly where the key has a promise, which is then used up, and
-    /// otherwise in its prepare phase at a ballot that is drawn. `Spent` comes where there is no promise and the counter is 2^48. The
-    /// desk is down after `VaultFault`; after each error no round is open and the promises are as before.
+    /// otherwise in its prepare phase at a ballot that is drawn. `Spent` comes exactly where there is no promise and the counter is
+    /// 2^48, if memory is found. The desk is down after `VaultFault`; after each error no round is open and the promises are as
+    /// before. While the desk is up, a crash of its vault leaves bound, age and era as they are.
     pub fn begin(&mut self, era: &Era, key: &Key) -> Result<Began, VaultError>
         requires up { self.old.down ≡ false }
         requires idle { self.old.round ≡ None }
@@ -88,6 +86,7 @@ impl<V: Disk> Desk<V> {
         ensures phase { IfOk result (λ began. is_in_prepare self.new.round ≡ is_none (promise_used began)) }
         ensures vault { IfOk result (DrawsFor self.old.id self.old.vault self.new.vault) }
         ensures desk { OnOk result (self.new ≡ record self.old { vault = self.new.vault; cache = without key.now self.old.cache; round = self.new.round }) }
+        ensures stands { self.new.down ≡ false → Stands V.tells V.seen V.may_leave self.new.vault }
 
         // The vault is then past the ballot that was drawn, and still past each number that it was past.
         ensures past { V.tells → IfOk result (λ began. promise_used began ≡ None → IsPast V.may_leave (counter_of self.new.vault) self.new.vault) }
@@ -95,6 +94,7 @@ impl<V: Disk> Desk<V> {
         ensures any_moment { V.tells → LeavesOnly V.moment V.left_since (disk_of self.old.vault) (disk_of self.new.vault) (IsBeforeOrAfter (kept_of self.old.vault) (kept_to_draw (counter_of self.old.vault) (kept_of self.old.vault))) }
 
         ensures spent { IsErrOf result VaultError.Spent → (promise_at key.now self.old.cache ≡ None) × (counter_of self.old.vault ≡ 2 ^ 48) }
+        ensures spent_or_no_memory { promise_at key.now self.old.cache ≡ None → counter_of self.old.vault ≡ 2 ^ 48 → IsErrOf result VaultError.Spent ⊎ IsErrOf result VaultError.NoMemory }
         ensures not_foreign { IsNotForeign result }
         ensures refused { OnErr result (self.new ≡ record self.old { vault = self.new.vault; down = self.new.down }) }
         ensures same_vault { OnErr result (ShowsTheSame self.old.vault self.new.vault) }
@@ -145,7 +145,8 @@ impl<V: Disk> Desk<V> {
     /// How the open phase ends, should no other reply arrive.
     pub fn verdict(&self) -> RoundVerdict
         requires { IsSome self.now.round }
-        ensures { (round : ARound) → self.now.round ≡ Some round → IsVerdictOf round result }
+        ensures verdict { (round : ARound) → self.now.round ≡ Some round → IsVerdictOf round result }
+        ensures quorum { (round : ARound) → self.now.round ≡ Some round → ((result ≡ RoundVerdict.Quorum) ↔ (has_quorum round.phase ≡ true)) }
     {
         match &self.round {
             Some(round) => round.verdict(),
@@ -156,7 +157,8 @@ impl<V: Disk> Desk<V> {
     /// The acceptors that confirmed in the open phase.
     pub fn confirmers(&self) -> Members
         requires { IsSome self.now.round }
-        ensures { (round : ARound) → self.now.round ≡ Some round → IsConfirmersOf round result }
+        ensures confirmers { (round : ARound) → self.now.round ≡ Some round → IsConfirmersOf round result }
+        ensures shown { (round : ARound) → self.now.round ≡ Some round → result ≡ confirmed_in round.phase }
     {
         match &self.round {
             Some(round) => round.confirmers(),
@@ -165,9 +167,9 @@ impl<V: Disk> Desk<V> {
     }
 
     /// Ends the prepare phase of the open round and opens its accept phase. Answers what was read: of all that was told as accepted,
-    /// that of the greatest ballot. It is called once the prepare phase has a quorum.
+    /// that of the greatest ballot. It is called once the prepare phase has a quorum, which [`Desk::verdict`] tells.
     pub fn read(&mut self) -> Option<Accepted>
-        requires { IsTrue (is_in_prepare self.old.round) }
+        requires { IsTrue (may_read self.old.round) }
         ensures desk { self.new ≡ record self.old { round = self.new.round } }
         ensures turns { (old : ARound) → self.old.round ≡ Some old → IsSomeAnd self.new.round (TurnsToAccept old) }
         ensures may_ride { IsTrue (may_ride self.new.round) }
@@ -188,6 +190,7 @@ impl<V: Disk> Desk<V> {
         ensures drawn { (ballot : ABallot) → result ≡ Ok (Some ballot) → Draws self.old.id self.old.vault self.new.vault ballot }
         ensures rides { (ballot : ABallot) → result ≡ Ok (Some ballot) → self.new ≡ record self.old { vault = self.new.vault; round = with_ride self.old.round ballot } }
         ensures not_drawn { (self.old.id ≡ 0) ⊎ (counter_of self.old.vault ≡ 2 ^ 48) → result ≡ Ok None }
+        ensures stands { self.new.down ≡ false → Stands V.tells V.seen V.may_leave self.new.vault }
 
         // The vault is then past the ballot that was drawn, and still past each number that it was past.
         ensures past { V.tells → (ballot : ABallot) → result ≡ Ok (Some ballot) → IsPast V.may_leave ballot.counter self.new.vault }
@@ -200,7 +203,7 @@ impl<V: Disk> Desk<V> {
         ensures fault { IsErrOf result VaultError.VaultFault → GoesDown self.old self.new }
         ensures cause { HasVaultCause result (V.fault_count (disk_of self.old.vault)) (V.fault_count (disk_of self.new.vault)) }
     {
-        if self.id.number() == 0 || self.vault.counter() == LAST {
+        if self.id.number() == 0 || self.vault.counter() == LAST_COUNTER {
             return Ok(None);
         }
         let ballot = self.tag()?;
@@ -211,14 +214,16 @@ impl<V: Disk> Desk<V> {
     }
 
     /// Ends the open round, and moves the counter up to that of the greatest ballot that was met in either phase. Once its change is
-    /// acknowledged, a round offers the promise that rode along; it is kept exactly where that ballot was drawn for this round and
-    /// those that confirmed hold a prepare quorum. It takes no memory.
+    /// acknowledged, a round offers the promise that rode along. It is kept exactly where an accept quorum accepted, its ballot was
+    /// drawn for this round, it names the round's ballot as read and those that accepted as the ones that hold it, and these are a
+    /// prepare quorum. It takes no memory.
     pub fn end(&mut self, kept: Option<Ready>)
         requires { IsSome self.old.round }
         ensures desk { (round : ARound) → self.old.round ≡ Some round → self.new ≡ record self.old { vault = self.new.vault; cache = cache_after round kept self.old.cache; round = None } }
         ensures counter { counter_of self.new.vault ≡ counter_without self.old.round (counter_of self.old.vault) }
         ensures kept { kept_of self.new.vault ≡ kept_of self.old.vault }
         ensures disk { disk_of self.new.vault ≡ disk_of self.old.vault }
+        ensures stands { self.new.down ≡ false → Stands V.tells V.seen V.may_leave self.new.vault }
         ensures still_past { (n : ℕ) → IsPast V.may_leave n self.old.vault → IsPast V.may_leave n self.new.vault }
     {
         let Some(round) = self.round.take() else {
@@ -240,6 +245,7 @@ impl<V: Disk> Desk<V> {
         ensures desk { OnOk result (self.new ≡ record self.old { vault = self.new.vault; cache = without key.now (cache_without self.old.round self.old.cache); round = None }) }
         ensures counter { IsErrOf result VaultError.Spent ⊎ (counter_of self.new.vault ≡ max (counter_of self.old.vault) tomb.counter) }
         ensures kept { OnOk result (kept_of self.new.vault ≡ kept_one_older (max (counter_of self.old.vault) tomb.counter) (kept_of self.old.vault)) }
+        ensures stands { self.new.down ≡ false → Stands V.tells V.seen V.may_leave self.new.vault }
 
         // The vault is then past the tombstone, and still past each number that it was past.
         ensures past { V.tells → OnOk result (IsPast V.may_leave tomb.counter self.new.vault) }
@@ -254,7 +260,7 @@ impl<V: Disk> Desk<V> {
         ensures not_foreign { IsNotForeign result }
         ensures cause { HasVaultCause result (V.fault_count (disk_of self.old.vault)) (V.fault_count (disk_of self.new.vault)) }
     {
-        if self.vault.age() == LAST {
+        if self.vault.age() == LAST_COUNTER {
             return Err(VaultError::Spent);
         }
         match grow_older(&mut self.vault, tomb.counter) {
@@ -278,6 +284,7 @@ impl<V: Disk> Desk<V> {
         ensures desk { OnOk result (self.new ≡ record self.old { vault = self.new.vault; cache = []; round = None }) }
         ensures counter { counter_of self.new.vault ≡ counter_of self.old.vault }
         ensures kept { OnOk result (kept_of self.new.vault ≡ kept_in_era era.now.number (kept_of self.old.vault)) }
+        ensures stands { self.new.down ≡ false → Stands V.tells V.seen V.may_leave self.new.vault }
         ensures still_past { V.tells → (n : ℕ) → IsPast V.may_leave n self.old.vault → IsPast V.may_leave n self.new.vault }
         ensures any_moment { V.tells → LeavesOnly V.moment V.left_since (disk_of self.old.vault) (disk_of self.new.vault) (IsBeforeOrAfter (kept_of self.old.vault) (kept_in_era era.now.number (kept_of self.old.vault))) }
         ensures not_spent { IsErrOf result VaultError.Spent → ⊥ }
@@ -307,6 +314,7 @@ impl<V: Disk> Desk<V> {
         requires up { self.old.down ≡ false }
         ensures drawn { IfOk result (Draws self.old.id self.old.vault self.new.vault) }
         ensures desk { OnOk result (self.new ≡ record self.old { vault = self.new.vault }) }
+        ensures stands { self.new.down ≡ false → Stands V.tells V.seen V.may_leave self.new.vault }
 
         // The vault is then past the ballot that was drawn, and still past each number that it was past.
         ensures past { V.tells → IfOk result (λ ballot. IsPast V.may_leave ballot.counter self.new.vault) }
@@ -351,11 +359,12 @@ impl<V: Disk> Desk<V> {
     pub fn restart(&mut self) -> Result<(), VaultError>
         ensures up { self.old.down ≡ false → (result ≡ Ok tt) × (self.new ≡ self.old) }
         ensures desk { OnOk result (self.new ≡ record self.old { vault = self.new.vault; down = false }) }
+        ensures stands { self.new.down ≡ false → Stands V.tells V.seen V.may_leave self.new.vault }
         ensures counter { IsTrue self.old.down → OnOk result (counter_of self.new.vault ≡ (kept_of self.new.vault).bound) }
         ensures image { V.tells → IsTrue self.old.down → V.may_leave (disk_of self.old.vault) (V.seen (disk_of self.new.vault)) }
         ensures reopened { V.tells → IsTrue self.old.down → OnOk result (KeptOn (kept_of self.new.vault) (V.seen (disk_of self.new.vault))) }
         ensures any_moment { V.tells → IsTrue self.old.down → LeavesOnly V.moment V.left_since (disk_of self.old.vault) (disk_of self.new.vault) (V.may_leave (disk_of self.old.vault)) }
-        ensures still_past { V.tells → (n : ℕ) → IsPast V.may_leave n self.old.vault → OnOk result (IsPast V.may_leave n self.new.vault) }
+        ensures still_past { V.tells → (n : ℕ) → IsPast V.may_leave n self.old.vault → IsPast V.may_leave n self.new.vault }
         ensures foreign { V.tells → (at : ℕ) → IsErrOf result (VaultError.Foreign at) → IsForeignAt (V.seen (disk_of self.new.vault)) at }
         ensures not_spent { IsErrOf result VaultError.Spent → ⊥ }
         ensures refused { OnErr result (self.new ≡ record self.old { vault = self.new.vault }) }

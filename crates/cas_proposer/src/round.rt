@@ -1,6 +1,6 @@
 //! An open round.
-ghost use Rattle.std.specs.Prelude.{◌≡◌, true, [], None};
-ghost use Rattle.cas_proposer.specs.Round.{is_of, is_preparing, IsAbout, IsPreparing, IsAccepting, Hears, is_heard_at, met_after, TurnsToAccept, IsReadOf, IsVerdictOf, IsConfirmersOf, rode, may_keep};
+ghost use Rattle.std.specs.Prelude.{◌≡◌, ◌↔◌, ◌&&◌, not, true, [], None};
+ghost use Rattle.cas_proposer.specs.Round.{is_of, is_preparing, IsAbout, IsPreparing, IsAccepting, Hears, is_heard_at, met_after, TurnsToAccept, IsReadOf, IsVerdictOf, IsConfirmersOf, confirmed_in, has_quorum, rode, is_own, may_keep};
 
 use cas_ballot::{Ballot, Members};
 use cas_cache::Ready;
@@ -102,7 +102,8 @@ impl Round {
 
     /// How the open phase ends, should no other reply arrive.
     pub fn verdict(&self) -> RoundVerdict
-        ensures { IsVerdictOf self.now result }
+        ensures verdict { IsVerdictOf self.now result }
+        ensures quorum { (result ≡ RoundVerdict.Quorum) ↔ (has_quorum self.now.phase ≡ true) }
     {
         match &self.phase {
             OpenPhase::Prepare(phase) => phase.verdict(),
@@ -112,7 +113,8 @@ impl Round {
 
     /// The acceptors that confirmed in the open phase.
     pub fn confirmers(&self) -> Members
-        ensures { IsConfirmersOf self.now result }
+        ensures confirmers { IsConfirmersOf self.now result }
+        ensures shown { result ≡ confirmed_in self.now.phase }
     {
         match &self.phase {
             OpenPhase::Prepare(phase) => phase.confirmers(),
@@ -120,11 +122,30 @@ impl Round {
         }
     }
 
-    /// Whether the promise that the round offers is kept: its ballot rode along, and those that confirmed hold a prepare quorum.
+    /// Whether the promise that the round offers is kept: an accept quorum accepted, the promise is the round's own, and those that
+    /// hold it are a prepare quorum.
     pub fn may_keep(&self, ready: &Ready) -> bool
         ensures { result ≡ may_keep self.now ready.now }
     {
-        rode(self.ride, ready.ballot) && self.era.holds_prep(&ready.by)
+        self.is_settled() && self.is_own(ready) && self.era.holds_prep(&ready.by)
+    }
+
+    /// Whether it is in its accept phase, and an accept quorum accepted.
+    fn is_settled(&self) -> bool
+        ensures { result ≡ (not (is_preparing self.now.phase) && has_quorum self.now.phase) }
+    {
+        match &self.phase {
+            OpenPhase::Prepare(_) => false,
+            OpenPhase::Accept(phase) => phase.verdict() == RoundVerdict::Quorum,
+        }
+    }
+
+    /// Whether a promise is the one that rode along: at its ballot, with what was accepted as what is to be read, and held by those
+    /// that accepted.
+    fn is_own(&self, ready: &Ready) -> bool
+        ensures { result ≡ is_own self.now ready.now }
+    {
+        rode(self.ride, ready.ballot) && ready.read == self.ballot && ready.by == self.confirmers()
     }
 
     /// Whether a reply answers a request of the open phase.

@@ -3,6 +3,7 @@ use Rattle.std.proofs.Common.{◌≡◌, ℕ, suc, zero, ◌<◌, Bool, true, fa
 use Rattle.std.specs.Prelude.{Option, None, Some, cond, ◌||◌, ◌⊎◌, filter, Contains}
 use Rattle.std.specs.List.{filter_map, list_any, cons_option}
 use mathlib.Core.Logic.{inl, inr}
+use Rattle.cas_base.proofs.Tests.{or_right}
 
 -- x stands in the list
 abbrev pub Has : {X : Type 0} → X → List X → Type 0
@@ -81,10 +82,6 @@ map_has f y [] h = absurd h
 map_has f y (z ∷ zs) h = picked f y z (f z) zs refl (map_has f y zs) h
 
 -- ---- whether any passes
-or_right : (a b : Bool) → b ≡ true → (a || b) ≡ true
-or_right true b e = refl
-or_right false b e = e
-
 pub has_any : {X : Type 0} (p : X → Bool) (x : X) (xs : List X) → Has x xs → p x ≡ true → list_any p xs ≡ true
 has_any p x [] h e = absurd h
 has_any p x (y ∷ ys) (inl same) e = rw (ap p same ∙ e) refl

@@ -14,6 +14,7 @@ use Rattle.cas_round.specs.declared.verdict.RoundVerdict.{RoundVerdict}
 use Rattle.cas_round.specs.declared.verdict.RoundVerdict.TheVariants.{Quorum, Met, Aged, Full, Short}
 use Rattle.cas_round.specs.Replies.{heard, is_prepare, is_accept, is_promise, is_acceptance, confirmers_of, met_by, age_by, mets_of, ages_of, fulls_of, accepteds_of}
 use Rattle.cas_round.specs.Round.{IsGreatest, AgeAtMost, IsNoLess, AcceptedAtMost, GreatestOf, IsVerdict}
+use Rattle.cas_base.proofs.Tests.{some_is}
 use Rattle.cas_round.specs.Laws.{SameReplies, OneVerdict, OneRead}
 use Rattle.cas_round.proofs.Lists.{Has, has, contains, IsWithin, within_filter, within_map, same_any, nothing_within}
 
@@ -118,9 +119,20 @@ read_same xs ys there back (Some a) None p q = absurd (none_there AcceptedAtMost
 read_same xs ys there back (Some a) (Some b) p q =
     ap Some (at_most_antisym (most_there AcceptedAtMost xs ys a b there p q) (most_there AcceptedAtMost ys xs b a back q p))
 
+state_same : (xs ys : List Accepted) → IsWithin ys xs → (a b : Option Accepted) → GreatestOf AcceptedAtMost xs a → GreatestOf AcceptedAtMost ys b
+    → option_map (λ (read : Accepted). read.ballot) a ≡ option_map (λ (read : Accepted). read.ballot) b
+    → ((p q : Accepted) → Contains xs p → Contains xs q → p.ballot ≡ q.ballot → p ≡ q) → a ≡ b
+state_same xs ys back None None p q same one = refl
+state_same xs ys back None (Some b) p q same one = absurd (cc)
+state_same xs ys back (Some a) None p q same one = absurd (cc)
+state_same xs ys back (Some a) (Some b) p q same one =
+    ap Some (one a b p.stands (contains b xs (back.all b (has b ys q.stands))) (some_is a.ballot b.ballot same))
+
 pub one_read : OneRead
 one_read ballot xs ys same a b p q =
-    read_same (accepteds_of (heard is_prepare ballot xs)) (accepteds_of (heard is_prepare ballot ys))
-    (within_map _ (heard is_prepare ballot xs) (heard is_prepare ballot ys) (within_filter _ xs ys (there_of xs ys same)))
-    (within_map _ (heard is_prepare ballot ys) (heard is_prepare ballot xs) (within_filter _ ys xs (back_of xs ys same)))
-    a b p q
+    let told = accepteds_of (heard is_prepare ballot xs) in
+    let told' = accepteds_of (heard is_prepare ballot ys) in
+    let there : IsWithin told told' = within_map _ (heard is_prepare ballot xs) (heard is_prepare ballot ys) (within_filter _ xs ys (there_of xs ys same)) in
+    let back : IsWithin told' told = within_map _ (heard is_prepare ballot ys) (heard is_prepare ballot xs) (within_filter _ ys xs (back_of xs ys same)) in
+    let ballots : option_map (λ (read : Accepted). read.ballot) a ≡ option_map (λ (read : Accepted). read.ballot) b = read_same told told' there back a b p q in
+    (ballots, λ one. state_same told told' back a b p q ballots one)

@@ -5,6 +5,7 @@ use Rattle.cas_quorum.specs.declared.era.Era.{Era}
 use Rattle.cas_slot.specs.declared.slot.Accepted.{Accepted}
 use Rattle.cas_slot.specs.declared.message.Reply.{Reply}
 use Rattle.cas_round.specs.declared.verdict.RoundVerdict.{RoundVerdict}
+use Rattle.cas_round.specs.Replies.{is_prepare, heard, accepteds_of}
 use Rattle.cas_round.specs.Round.{IsPrepareVerdict, IsAcceptVerdict, IsRead}
 
 -- each reply of either list is in the other
@@ -18,7 +19,12 @@ OneVerdict = (era : Era) (ballot : Ballot) (xs ys : List Reply) → SameReplies 
     → (IsPrepareVerdict era ballot xs v → IsPrepareVerdict era ballot ys w → v ≡ w)
     × (IsAcceptVerdict era ballot xs v → IsAcceptVerdict era ballot ys w → v ≡ w)
 
--- by the same replies there is one ballot that is read, or none
+-- what the replies tell as accepted at one ballot is one state
+abbrev pub HasOneStateEach : Ballot → List Reply → Type 0
+HasOneStateEach ballot replies = (p q : Accepted) → Contains (accepteds_of (heard is_prepare ballot replies)) p → Contains (accepteds_of (heard is_prepare ballot replies)) q
+    → p.ballot ≡ q.ballot → p ≡ q
+
+-- by the same replies there is one ballot that is read, or none; and one state, where the replies tell one for each ballot
 abbrev pub OneRead : Type 0
 OneRead = (ballot : Ballot) (xs ys : List Reply) → SameReplies xs ys → (a b : Option Accepted) → IsRead ballot xs a → IsRead ballot ys b
-    → option_map (λ read. read.ballot) a ≡ option_map (λ read. read.ballot) b
+    → (option_map (λ read. read.ballot) a ≡ option_map (λ read. read.ballot) b) × (HasOneStateEach ballot xs → a ≡ b)

@@ -4,6 +4,7 @@ use Rattle.std.specs.Ordering.{is_lt}
 use Rattle.cas_ballot.specs.declared.ballot.Ballot.{Ballot}
 use Rattle.cas_ballot.specs.Ballot.{ballot_cmp, BallotAtMost}
 use Rattle.cas_quorum.specs.declared.era.Era.{Era}
+use Rattle.cas_quorum.specs.Era.{holds_prep, holds_acc}
 use Rattle.cas_quorum.specs.Quorum.{count_in, has_quorum}
 use Rattle.cas_slot.specs.declared.slot.Accepted.{Accepted}
 use Rattle.cas_slot.specs.declared.message.Reply.{Reply}
@@ -90,3 +91,17 @@ pub record IsAcceptAfter (era : Era) (ballot : Ballot) (replies : List Reply) (r
   pub same_era : round.era ≡ era
   pub same_ballot : round.ballot ≡ ballot
   pub tally : IsTallyOf is_acceptance (heard is_accept ballot replies) round.tally
+
+-- ---- what a phase shows
+-- the acceptors that confirmed so far, and whether they hold a quorum of the phase
+abbrev pub promised_in : PrepareRound → List ℕ
+promised_in round = round.tally.confirmed
+
+abbrev pub is_promised : PrepareRound → Bool
+is_promised round = holds_prep round.era (promised_in round)
+
+abbrev pub accepted_in : AcceptRound → List ℕ
+accepted_in round = round.tally.confirmed
+
+abbrev pub is_accepted : AcceptRound → Bool
+is_accepted round = holds_acc round.era (accepted_in round)

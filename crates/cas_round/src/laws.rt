@@ -8,7 +8,8 @@ pub fn one_verdict()
     ensures { OneVerdict }
 {}
 
-/// What is read depends on nothing but which replies arrived: by the same replies the same ballot is read, or nothing.
+/// What is read depends on nothing but which replies arrived: by the same replies the same ballot is read, or nothing. Where what
+/// they tell as accepted at one ballot is one state, as acceptors of this store do, the same state is read too.
 pub fn one_read()
     ensures { OneRead }
 {}

@@ -1,11 +1,11 @@
 //! The prepare phase and the accept phase of a round (Rystsov 2018, section 2.2).
 
-ghost use Rattle.std.specs.Prelude.{◌≡◌, false, List, [], ◌∷◌};
+ghost use Rattle.std.specs.Prelude.{◌≡◌, ◌↔◌, true, false, List, [], ◌∷◌};
 ghost use Rattle.cas_quorum.specs.declared.era.Era.{Era as AnEra};
 ghost use Rattle.cas_ballot.specs.declared.ballot.Ballot.{Ballot as ABallot};
 ghost use Rattle.cas_slot.specs.declared.message.Reply.{Reply as AReply};
 ghost use Rattle.cas_round.specs.Replies.{is_prepare, is_accept, is_heard, promisers_of, accepters_of, is_promise, is_acceptance, accepted_by};
-ghost use Rattle.cas_round.specs.Round.{IsPrepareAfter, IsAcceptAfter, IsPrepareVerdict, IsAcceptVerdict, IsRead, latest_of};
+ghost use Rattle.cas_round.specs.Round.{IsPrepareAfter, IsAcceptAfter, IsPrepareVerdict, IsAcceptVerdict, IsRead, latest_of, promised_in, is_promised, accepted_in, is_accepted};
 
 use crate::tally::Tally;
 use crate::verdict::RoundVerdict;
@@ -59,8 +59,9 @@ impl PrepareRound {
 
     /// How the phase ends, should no other reply arrive.
     pub fn verdict(&self) -> RoundVerdict
-        ensures { (era : AnEra) (ballot : ABallot) (replies : List AReply) → IsPrepareAfter era ballot replies self.now
+        ensures verdict { (era : AnEra) (ballot : ABallot) (replies : List AReply) → IsPrepareAfter era ballot replies self.now
             → IsPrepareVerdict era ballot replies result }
+        ensures quorum { (result ≡ RoundVerdict.Quorum) ↔ (is_promised self.now ≡ true) }
     {
         let quorum = self.era.holds_prep(&self.tally.confirmed);
         self.tally
@@ -69,8 +70,9 @@ impl PrepareRound {
 
     /// The acceptors that confirmed.
     pub fn confirmers(&self) -> Members
-        ensures { (era : AnEra) (ballot : ABallot) (replies : List AReply) → IsPrepareAfter era ballot replies self.now
+        ensures confirmers { (era : AnEra) (ballot : ABallot) (replies : List AReply) → IsPrepareAfter era ballot replies self.now
             → result ≡ promisers_of ballot replies }
+        ensures shown { result ≡ promised_in self.now }
     {
         self.tally.confirmed
     }
@@ -128,8 +130,9 @@ impl AcceptRound {
 
     /// How the phase ends, should no other reply arrive.
     pub fn verdict(&self) -> RoundVerdict
-        ensures { (era : AnEra) (ballot : ABallot) (replies : List AReply) → IsAcceptAfter era ballot replies self.now
+        ensures verdict { (era : AnEra) (ballot : ABallot) (replies : List AReply) → IsAcceptAfter era ballot replies self.now
             → IsAcceptVerdict era ballot replies result }
+        ensures quorum { (result ≡ RoundVerdict.Quorum) ↔ (is_accepted self.now ≡ true) }
     {
         let quorum = self.era.holds_acc(&self.tally.confirmed);
         self.tally.verdict(quorum, &self.era.acc, self.era.need_acc)
@@ -137,8 +140,9 @@ impl AcceptRound {
 
     /// The acceptors that confirmed.
     pub fn confirmers(&self) -> Members
-        ensures { (era : AnEra) (ballot : ABallot) (replies : List AReply) → IsAcceptAfter era ballot replies self.now
+        ensures confirmers { (era : AnEra) (ballot : ABallot) (replies : List AReply) → IsAcceptAfter era ballot replies self.now
             → result ≡ accepters_of ballot replies }
+        ensures shown { result ≡ accepted_in self.now }
     {
         self.tally.confirmed
     }

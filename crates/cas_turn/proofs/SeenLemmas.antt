@@ -1,5 +1,5 @@
 -- What was seen of a list stays seen while the list grows, and of two beginnings of one list the longer has seen more.
-use Rattle.std.proofs.Common.{◌≡◌, ℕ, ◌<◌, ◌≤◌, ◌≢◌, Bool, true, false, if◌then◌else◌, nat_lt, List, [], ◌∷◌, ◌++◌, length, drop, refl, sym, ap, ◌∙◌, subst, arith, append_assoc, length-append, ltb-true, ltb-false}
+use Rattle.std.proofs.Common.{◌≡◌, ℕ, ◌<◌, ◌≤◌, ◌≢◌, Bool, true, false, if◌then◌else◌, nat_lt, List, [], ◌∷◌, ◌++◌, length, drop, refl, sym, ap, ◌∙◌, subst, arith, append_assoc, ltb-true, ltb-false}
 use Rattle.std.specs.Prelude.{Option, Some}
 use Rattle.std.proofs.lemmas.List.Elements.{All-append, All-nil, All-cons, All-head, All-tail, All-weaker}
 use Rattle.cas_turn.specs.Seen.{Begins, NoneOwned, HasSeen, OnlyOwnedBy, added_to, longer_of}
@@ -32,17 +32,11 @@ module _ {I : Type 0} where
   pub begins_grows : (a l new : List I) → Begins a l → Begins a (l ++ new)
   begins_grows a l new b = record { behind = b.behind ++ new; whole = sym (append_assoc a b.behind new) ∙ ap (λ t. t ++ new) b.whole }
 
-  pub begins_length : (a l : List I) → Begins a l → length a ≤ length l
-  begins_length a l b = omega (arith, length-append a b.behind, ap length b.whole)
-
   -- a beginning as long as the whole is the whole
   all_of : (a m : List I) → length (a ++ m) ≤ length a → a ++ m ≡ a
   all_of [] [] l = refl
   all_of [] (x ∷ m) l = absurd (omega arith)
   all_of (x ∷ a) m l = ap (λ t. x ∷ t) (all_of a m (omega arith))
-
-  pub begins_whole : (a l : List I) → Begins a l → length l ≤ length a → a ≡ l
-  begins_whole a l b shorter = let e = ap length b.whole in sym (all_of a b.behind (omega (arith, e))) ∙ b.whole
 
   by_test : (a b : List I) (P : List I → Type 0) (t : Bool) → nat_lt (length a) (length b) ≡ t → (length a < length b → P b) → (length b ≤ length a → P a) → P (if t then b else a)
   by_test a b P true e less more = less (ltb-true (length a) (length b) e)
@@ -50,10 +44,6 @@ module _ {I : Type 0} where
 
   longer_cases : (a b : List I) (P : List I → Type 0) → (length a < length b → P b) → (length b ≤ length a → P a) → P (longer_of a b)
   longer_cases a b P less more = by_test a b P (nat_lt (length a) (length b)) refl less more
-
-  -- where b has all of a, the longer of both is as long as b, or is a and as long
-  pub longer_is : (a b : List I) → Begins a b → longer_of a b ≡ b
-  longer_is a b begins = longer_cases a b (λ l. l ≡ b) (λ _. refl) (λ more. begins_whole a b begins more)
 
 module _ {I : Type 0} (owner : I → Option ℕ) (n : ℕ) where
   abbrev others : I → Type 0

@@ -1,8 +1,5 @@
-use Rattle.std.proofs.Common.{◌≡◌, ◌∷◌, ◌∙◌, ap, sym, arith, List, ℕ, length, take}
-use Rattle.std.proofs.lemmas.List.{take_all}
-use Rattle.lru.specs.LruCache.{LruCache}
+use Rattle.std.proofs.Common.{◌∙◌, ap, arith}
 use Rattle.cas_cache.specs.Entries.{promises_in}
-use Rattle.cas_cache.specs.declared.ready.Ready.{Ready}
 use Rattle.cas_cache.proofs.Rows.{Lru, keeps, keeps_but_last, taken_promises, kept_all}
 use Rattle.cas_cache.proofs.cache.Cache.keep.Goals as goal
 

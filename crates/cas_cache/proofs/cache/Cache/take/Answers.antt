@@ -1,10 +1,10 @@
 use Rattle.std.specs.Prelude.{OnOk, OnErr, is_some, nat_eq}
 use Rattle.std.specs.Cmp.Lexicographic.{pointwise}
 use Rattle.std.specs.Map.{lookup, set_value}
-use Rattle.std.proofs.Common.{◌≡◌, ◌∷◌, ◌∙◌, Result, Ok, Err, Option, Some, true, false, None, ap, subst, sym, arith, List, ℕ}
+use Rattle.std.proofs.Common.{◌≡◌, ◌∙◌, Result, Ok, Err, Option, Some, true, ap, subst, sym, List}
 use Rattle.lru.specs.LruCache.{lru_cache}
 use Rattle.cas_cache.specs.declared.ready.Ready.{Ready}
-use Rattle.cas_cache.specs.Entries.{promises_in, place_in, without, promise_at}
+use Rattle.cas_cache.specs.Entries.{promises_in, place_in, promise_at}
 use Rattle.cas_cache.proofs.Rows.{Lru, Entry, takes_some, IsCache, none_is, same_cache, opens, opens_cache, unremoved, absent, takes_cache, takes_promise, takes_promises, takes_out, takes_all}
 use Rattle.cas_cache.proofs.cache.Cache.take.Goals as goal
 
