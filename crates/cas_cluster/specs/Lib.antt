@@ -1,0 +1,3 @@
+pub mod Acceptors
+pub mod Laws
+pub mod View
