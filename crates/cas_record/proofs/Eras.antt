@@ -20,18 +20,18 @@ pub le_or_lt : (a b : ℕ) → (a ≤ b) ⊎ (suc b ≤ a)
 le_or_lt a b = grind arith
 
 -- ---- entries
-enter_law : (cluster : Cluster) {log older : List Happening} {proposer era : ℕ} → Lawful cluster log → At (Entered proposer era) older log → MayEnter cluster older proposer era
+pub enter_law : (cluster : Cluster) {log older : List Happening} {proposer era : ℕ} → Lawful cluster log → At (Entered proposer era) older log → MayEnter cluster older proposer era
 enter_law cluster lawful at = law cluster lawful at
 
 -- who is marked as in an era entered it
-entered_of_mark : (cluster : Cluster) (log : List Happening) {proposer era : ℕ} → Lawful cluster log → Stands (EraEntered proposer era) (marks_of log) → Stands (Entered proposer era) log
+pub entered_of_mark : (cluster : Cluster) (log : List Happening) {proposer era : ℕ} → Lawful cluster log → Stands (EraEntered proposer era) (marks_of log) → Stands (Entered proposer era) log
 entered_of_mark cluster log {proposer} {era} lawful s =
     let found = in_log log s.at in
     let may : MayMarkEra found.older proposer era = law cluster lawful found.at in
     stands_deeper may.entered found.at
 
 -- who entered an era entered all that come before it
-entered_by : (cluster : Cluster) (n : ℕ) {log : List Happening} {proposer era : ℕ} (earlier : ℕ) → era ≤ n → Lawful cluster log → Stands (Entered proposer era) log
+pub entered_by : (cluster : Cluster) (n : ℕ) {log : List Happening} {proposer era : ℕ} (earlier : ℕ) → era ≤ n → Lawful cluster log → Stands (Entered proposer era) log
     → 0 < earlier → earlier ≤ era → Stands (Entered proposer earlier) log
 entered_by cluster zero earlier fuel lawful s some low = absurd (omega arith)
 entered_by cluster (suc n) {log} {proposer} {era} earlier fuel lawful s some low =
@@ -47,7 +47,7 @@ entered_by cluster (suc n) {log} {proposer} {era} earlier fuel lawful s some low
     ]
 
 -- once all proposers are marked as in an era, nothing is proposed in an earlier one
-before_all_entered : (cluster : Cluster) {happening : Happening} {log older place : List Happening} {q : Proposal} {era : ℕ} → Lawful cluster log → At happening place log
+pub before_all_entered : (cluster : Cluster) {happening : Happening} {log older place : List Happening} {q : Proposal} {era : ℕ} → Lawful cluster log → At happening place log
     → AllEntered cluster era (marks_of place) → At (Marked (Proposed q)) older log → q.era < era → (happening ≡ Marked (Proposed q) → ⊥) → At (Marked (Proposed q)) older place
 before_all_entered cluster {older = older} {place = place} {q = q} {era = era} lawful at entered q_at early other = elim (order q_at at) [
   | older_than before ↦ before
@@ -74,11 +74,11 @@ entered_once cluster {xs = xs} {ys = ys} {proposer = proposer} {era = era} lawfu
 
 -- ---- grants
 -- who granted a ballot has seen it
-granted_seen : {log : List Happening} {acceptor : ℕ} {p : Proposal} → Granted log acceptor p → HasSeen log acceptor p.key p.ballot
+pub granted_seen : {log : List Happening} {acceptor : ℕ} {p : Proposal} → Granted log acceptor p → HasSeen log acceptor p.key p.ballot
 granted_seen (by_promise told place low is_in) = in_promise told place
 granted_seen {p = p} (by_ride place is_in) = in_ride p.read place
 
-seen_deeper : {happening : Happening} {older log : List Happening} {acceptor : ℕ} {key : List ℕ} {ballot : Ballot} → HasSeen older acceptor key ballot → At happening older log → HasSeen log acceptor key ballot
+pub seen_deeper : {happening : Happening} {older log : List Happening} {acceptor : ℕ} {key : List ℕ} {ballot : Ballot} → HasSeen older acceptor key ballot → At happening older log → HasSeen log acceptor key ballot
 seen_deeper (in_promise told s) at = in_promise told (stands_deeper s at)
 seen_deeper (in_take ride s) at = in_take ride (stands_deeper s at)
 seen_deeper (in_ride taken s) at = in_ride taken (stands_deeper s at)
@@ -93,7 +93,7 @@ pub record RescanAt (cluster : Cluster) (era : ℕ) (key : List ℕ) (log : List
   pub entered : AllEntered cluster era (marks_of older)
   pub acked : AckedAt key proposal.ballot log
 
-rescan_at : (cluster : Cluster) (log : List Happening) {era : ℕ} {key : List ℕ} → IsRescanned cluster era key (marks_of log) → RescanAt cluster era key log
+pub rescan_at : (cluster : Cluster) (log : List Happening) {era : ℕ} {key : List ℕ} → IsRescanned cluster era key (marks_of log) → RescanAt cluster era key log
 rescan_at cluster log {era} r =
     let found = in_log log r.proposed in
     record {
@@ -105,17 +105,6 @@ rescan_at cluster log {era} r =
       entered = subst (AllEntered cluster era) found.is r.entered;
       acked = acked_at log r.acked;
     }
-
-rescan_deeper : {cluster : Cluster} {era : ℕ} {key : List ℕ} {happening : Happening} {older log : List Happening} → RescanAt cluster era key older → At happening older log → RescanAt cluster era key log
-rescan_deeper r at = record {
-  proposal = r.proposal;
-  older = r.older;
-  at = deeper r.at at;
-  same_key = r.same_key;
-  same_era = r.same_era;
-  entered = r.entered;
-  acked = acked_deeper r.acked at;
-}
 
 -- the era of an acknowledgment is that of its proposal
 acked_era : (cluster : Cluster) {log older : List Happening} {p : Proposal} → Lawful cluster log → (a : AckedAt p.key p.ballot log) → At (Marked (Proposed p)) older log → a.acknowledgment.era ≡ p.era
@@ -162,7 +151,7 @@ no_entry : {proposer era : ℕ} {p : Proposal} → Entered proposer era ≡ Mark
 no_entry e = cc
 
 -- a rescan is above every proposal of an earlier era
-rescan_above : (cluster : Cluster) → ClusterMeets cluster → (n : ℕ) {log older : List Happening} {era : ℕ} {key : List ℕ} {q : Proposal} → era ≤ n → Lawful cluster log
+pub rescan_above : (cluster : Cluster) → ClusterMeets cluster → (n : ℕ) {log older : List Happening} {era : ℕ} {key : List ℕ} {q : Proposal} → era ≤ n → Lawful cluster log
     → (r : RescanAt cluster era key log) → At (Marked (Proposed q)) older log → q.key ≡ key → q.era < era → BallotAtMost q.ballot r.proposal.ballot
 rescan_above cluster meet zero fuel lawful r q_at same_key early = absurd (omega arith)
 rescan_above cluster meet (suc n) {log} {older} {era} {key} {q} fuel lawful r q_at same_key early =

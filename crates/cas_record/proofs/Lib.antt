@@ -14,3 +14,7 @@ pub mod WitnessLemmas
 pub mod Broken
 pub mod Slots
 pub mod Replays
+pub mod Orders
+pub mod Grants
+pub mod Floors
+pub mod LinkLemmas

@@ -17,6 +17,14 @@ stands_deeper s q = record { older = s.older; at = deeper s.at q }
 pub stands_at : {A : Type 0} {x : A} {xs all : List A} → At x xs all → Stands x all
 stands_at {xs = xs} p = record { older = xs; at = p }
 
+-- what stands in a list is the newest, or stands behind it
+pub newest_or : {A : Type 0} {x h : A} {older : List A} → Stands x (h ∷ older) → (x ≡ h) ⊎ Stands x older
+newest_or s = go s.at
+  where
+    go : {A : Type 0} {x h : A} {xs older : List A} → At x xs (h ∷ older) → (x ≡ h) ⊎ Stands x older
+    go here = inl refl
+    go {xs = xs} (past at) = inr (stands_at at)
+
 -- two that stand in a list are in one order or are one
 pub data Placed {A : Type 0} (x : A) (xs : List A) (y : A) (ys : List A) : Type 0 where
   older_than : At x xs ys → Placed x xs y ys

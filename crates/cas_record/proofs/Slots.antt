@@ -11,7 +11,7 @@ use Rattle.cas_record.specs.Places.{At, Stands, here, past}
 use Rattle.cas_record.specs.Chain.{is_key}
 use Rattle.cas_record.specs.Happening.{Happening, Promised, Took, Dropped, marks_of}
 use Rattle.cas_record.specs.Lawful.{Cluster, IsMade, Lawful, HasSeen, in_promise, in_take, in_ride, MayPromise, MayTake, MayDrop, SlotTold, promised_slot, slot_told, is_slot}
-use Rattle.cas_record.proofs.PlaceLemmas.{none_at_nil, stands_part}
+use Rattle.cas_record.proofs.PlaceLemmas.{none_at_nil, newest_or, stands_part}
 use Rattle.cas_base.proofs.Tests.{if_true, if_false, true_or_false, both_true, not_both}
 use Rattle.cas_record.proofs.Tests.{less_is, key_is, nat_is, slot_same}
 use Rattle.cas_record.proofs.LogLemmas.{law, part_of}
@@ -32,22 +32,15 @@ pub record SlotBounds (slot : SlotTold) (acceptor : ℕ) (key : List ℕ) (log :
   pub took : (ballot ride : Ballot) → Stands (Took acceptor key ballot ride) log → BallotAtMost ballot slot.accepted ⊎ IsDropped acceptor key ballot log
 
 -- ---- the newest happening and the older ones
-head_or : {x h : Happening} {older : List Happening} → Stands x (h ∷ older) → (x ≡ h) ⊎ Stands x older
-head_or s = go s.at
-  where
-    go : {x h : Happening} {xs older : List Happening} → At x xs (h ∷ older) → (x ≡ h) ⊎ Stands x older
-    go here = inl refl
-    go {xs = xs} (past at) = inr (record { older = xs; at = at })
-
 data SeenNow (h : Happening) (acceptor : ℕ) (key : List ℕ) (ballot : Ballot) : Type 0 where
   now_promise : (told : Ballot) → Promised acceptor key ballot told ≡ h → SeenNow h acceptor key ballot
   now_take : (ride : Ballot) → Took acceptor key ballot ride ≡ h → SeenNow h acceptor key ballot
   now_ride : (taken : Ballot) → Took acceptor key taken ballot ≡ h → SeenNow h acceptor key ballot
 
 seen_head : {h : Happening} {older : List Happening} {acceptor : ℕ} {key : List ℕ} {ballot : Ballot} → HasSeen (h ∷ older) acceptor key ballot → SeenNow h acceptor key ballot ⊎ HasSeen older acceptor key ballot
-seen_head (in_promise told s) = elim (head_or s) [ inl e ↦ inl (now_promise told e) | inr older ↦ inr (in_promise told older) ]
-seen_head (in_take ride s) = elim (head_or s) [ inl e ↦ inl (now_take ride e) | inr older ↦ inr (in_take ride older) ]
-seen_head (in_ride taken s) = elim (head_or s) [ inl e ↦ inl (now_ride taken e) | inr older ↦ inr (in_ride taken older) ]
+seen_head (in_promise told s) = elim (newest_or s) [ inl e ↦ inl (now_promise told e) | inr older ↦ inr (in_promise told older) ]
+seen_head (in_take ride s) = elim (newest_or s) [ inl e ↦ inl (now_take ride e) | inr older ↦ inr (in_take ride older) ]
+seen_head (in_ride taken s) = elim (newest_or s) [ inl e ↦ inl (now_ride taken e) | inr older ↦ inr (in_ride taken older) ]
 
 -- ---- a happening that is none of the slot's
 -- the happening is of another slot, or tells nothing of slots
@@ -61,7 +54,7 @@ bounds_elsewhere e b = record {
     | inl now ↦ absurd (e.no_seen ballot now)
     | inr older ↦ elim (b.seen ballot older) [ inl low ↦ inl low | inr dropped ↦ inr (dropped_more dropped) ]
   ];
-  took = λ ballot ride s. elim (head_or s) [
+  took = λ ballot ride s. elim (newest_or s) [
     | inl now ↦ absurd (e.no_take ballot ride now)
     | inr older ↦ elim (b.took ballot ride older) [ inl low ↦ inl low | inr dropped ↦ inr (dropped_more dropped) ]
   ];
@@ -105,7 +98,7 @@ bounds_promise : {slot : SlotTold} {acceptor a : ℕ} {key k : List ℕ} {b told
     → SlotBounds (record { promise = b; accepted = slot.accepted }) acceptor key (Promised a k b told ∷ log)
 bounds_promise {slot} {acceptor} {a} {key} {k} {b} {told} {log} p q may bounds = record {
   seen = λ ballot s. inl (at_most_trans (low ballot (seen_head s)) (at_most_greater_left b slot.accepted));
-  took = λ ballot ride s. elim (head_or s) [
+  took = λ ballot ride s. elim (newest_or s) [
     | inl now ↦ absurd cc
     | inr older ↦ elim (bounds.took ballot ride older) [ inl low ↦ inl low | inr dropped ↦ inr (dropped_more dropped) ]
   ];
@@ -125,7 +118,7 @@ bounds_again : {slot : SlotTold} {acceptor a : ℕ} {key k : List ℕ} {b told :
     → SlotBounds slot acceptor key (Promised a k b told ∷ log)
 bounds_again {slot} {acceptor} {a} {key} {k} {b} {told} {log} seen bounds = record {
   seen = λ ballot s. low ballot (seen_head s);
-  took = λ ballot ride s. elim (head_or s) [
+  took = λ ballot ride s. elim (newest_or s) [
     | inl now ↦ absurd cc
     | inr older ↦ elim (bounds.took ballot ride older) [ inl low ↦ inl low | inr dropped ↦ inr (dropped_more dropped) ]
   ];
@@ -150,7 +143,7 @@ bounds_take : {acceptor a : ℕ} {key k : List ℕ} {b r : Ballot} {log : List H
     → SlotBounds (record { promise = r; accepted = b }) acceptor key (Took a k b r ∷ log)
 bounds_take {acceptor} {a} {key} {k} {b} {r} {log} p q may = record {
   seen = λ ballot s. inl (low ballot (seen_head s));
-  took = λ ballot ride s. inl (elim (head_or s) [
+  took = λ ballot ride s. inl (elim (newest_or s) [
     | inl now ↦ let same : ballot ≡ b = cc in subst (λ x. BallotAtMost x b) (sym same) (at_most_refl b)
     | inr older ↦ may.seen ballot (moved ballot (in_take ride older))
   ]);
@@ -172,7 +165,7 @@ bounds_drop {slot} {acceptor} {a} {key} {k} {t} {log} p q holds promise bounds =
     | inl now ↦ absurd (drop_shows_none now)
     | inr older ↦ elim (bounds.seen ballot older) [ inl low ↦ dropped ballot (at_most_trans low all_low) | inr before ↦ dropped_more before ]
   ]);
-  took = λ ballot ride s. inr (elim (head_or s) [
+  took = λ ballot ride s. inr (elim (newest_or s) [
     | inl now ↦ absurd cc
     | inr older ↦ elim (bounds.took ballot ride older) [ inl low ↦ dropped ballot (subst (BallotAtMost ballot) holds low) | inr before ↦ dropped_more before ]
   ]);

@@ -1,7 +1,7 @@
 -- That each happening has its reason: a ballot is drawn once, what is asked was drawn, an acceptor does what it was asked
 -- and answers what it did. Beside the rules of the protocol this is what the messages under way and the proposers need.
 -- Logs and marks are read newest first.
-use Rattle.std.specs.Prelude.{◌≡◌, ⊤, ℕ, ◌<◌, ◌≤◌, ◌==◌, max, if◌then◌else◌, List, [], ◌∷◌, Option, None, Some, IfSome, unwrap_or, Bool, true, false, IsTrue}
+use Rattle.std.specs.Prelude.{◌≡◌, ⊤, ℕ, ◌<◌, ◌≤◌, ◌==◌, max, if◌then◌else◌, List, [], ◌∷◌, Option, None, Some, IfSome, unwrap_or, Bool, true, false, IsTrue, ◌⊎◌}
 use Rattle.std.specs.List.{list_any}
 use Rattle.cas_ballot.specs.declared.ballot.Ballot.{Ballot}
 use Rattle.cas_ballot.specs.Members.{has_member}
@@ -20,6 +20,7 @@ use Rattle.cas_slot.specs.Slot.{accepted_ballot}
 use Rattle.cas_slot.specs.Slots.{is_above}
 use Rattle.cas_record.specs.declared.mark.Mark.{Mark}
 use Rattle.cas_record.specs.declared.mark.Mark.TheVariants.{Floor, Voted}
+use Rattle.cas_record.specs.declared.mark.Proposal.{Proposal}
 use Rattle.cas_record.specs.Places.{Stands}
 use Rattle.cas_record.specs.Chain.{is_key}
 use Rattle.cas_record.specs.Legal.{HasProposal, HasFloor}
@@ -160,6 +161,15 @@ pub data IsClear (log : List Happening) (acceptor : ℕ) (key : List ℕ) (floor
   took_it : (ride : Ballot) → Stands (Took acceptor key floor ride) log → IsClear log acceptor key floor
   never_asked : ((request : Request) → Stands (Asked request) log → request.to ≡ acceptor → IsRoundAsk request.ask → key_of request.ask ≡ key → BallotLess floor (tag_of request.ask))
       → IsClear log acceptor key floor
+
+-- nothing, or a ballot at or above the floor
+abbrev pub IsNoneOrAbove : Ballot → Ballot → Type 0
+IsNoneOrAbove floor ballot = (ballot ≡ zero_ballot) ⊎ BallotAtMost floor ballot
+
+-- what a proposal read was told to its ballot by one of those that it prepared, or is nothing
+pub data WasRead (log : List Happening) (p : Proposal) : Type 0 where
+  nothing_read : p.read ≡ zero_ballot → WasRead log p
+  read_from : (acceptor : ℕ) → has_member p.prepared_by acceptor ≡ true → Stands (Promised acceptor p.key p.ballot p.read) log → WasRead log p
 
 -- ---- the whole
 -- the happening has its reason in what happened before
