@@ -1,0 +1,4 @@
+pub mod Answered
+pub mod Deeds
+pub mod Pages
+pub mod SlotChanges
