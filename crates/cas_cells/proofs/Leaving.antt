@@ -1,7 +1,7 @@
 -- What the steps of a change leave of a disk.
 use Rattle.std.specs.Prelude.{OnOk}
 use Rattle.std.proofs.Common.{Result, Ok, Err, ◌≡◌, inl, inr, ⊎_elim, ℕ, true, false, Option, Some, List, [], ◌∷◌, length, get_or, drop, refl, sym, ◌∙◌, ap, subst, arith}
-use Rattle.cas_disk.specs.Disk.{Only, Keeps, LeavesOnly}
+use Rattle.cas_disk.specs.Disk.{Only, Keeps, ContinuesOnly}
 use Rattle.cas_disk.proofs.Moments.{weaker, then_on}
 use Rattle.cas_cells.specs.Format.{frame_at, next, IsPayload}
 use Rattle.cas_cells.specs.Torn.{Others, GateTorn, TailTorn}
@@ -120,8 +120,8 @@ module _ (cell : Cell) (old : List ℕ) (i : ℕ) (held : CellHeld old i cell) w
 -- the three steps of one cell after one another, in which a crash leaves its old payload or the new
 pub three_steps : {D : Type 0} (moment : D → ℕ) (left_since : D → ℕ → List ℕ → Type 0) (d0 d1 d2 d3 : D) (old mid1 mid2 p : List ℕ) (i j : ℕ) (cell cell1 : Cell) → Shuts cell cell1 → CellHeld mid2 i cell1 → IsPayload p → HoldsTail mid2 i cell1 p → j ≡ frame_of i (other cell1.side)
     → Others (frame_of i (other cell.side)) old mid1 → Others (frame_of i (other cell1.side)) mid1 mid2
-    → LeavesOnly moment left_since d0 d1 (Leaves (frame_of i (other cell.side)) old i (payload_held cell)) → LeavesOnly moment left_since d1 d2 (Leaves (frame_of i (other cell1.side)) mid1 i (payload_held cell1)) → LeavesOnly moment left_since d2 d3 (GateTorn j mid2)
-    → LeavesOnly moment left_since d0 d3 (MayOpen (frame_of i (other cell.side)) old i (payload_held cell) p)
+    → ContinuesOnly moment left_since d0 d1 (Leaves (frame_of i (other cell.side)) old i (payload_held cell)) → ContinuesOnly moment left_since d1 d2 (Leaves (frame_of i (other cell1.side)) mid1 i (payload_held cell1)) → ContinuesOnly moment left_since d2 d3 (GateTorn j mid2)
+    → ContinuesOnly moment left_since d0 d3 (MayOpen (frame_of i (other cell.side)) old i (payload_held cell) p)
 three_steps moment left_since d0 d1 d2 d3 old mid1 mid2 p i j cell cell1 shuts held fits staged is_j others1 others2 first second third =
     let k = frame_of i (other cell.side) in
     let k1 = frame_of i (other cell1.side) in

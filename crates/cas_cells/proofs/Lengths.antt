@@ -1,12 +1,11 @@
 -- What calls leave of the length of a disk. The crates above may cite it.
-use Rattle.std.specs.Prelude.{max}
 use Rattle.std.proofs.Common.{◌≡◌, ◌≢◌, ℕ, ◌+◌, ◌*◌, ◌/◌, ◌≤◌, Option, List, length, drop, ap, arith, length-take, length-drop}
-use Rattle.cas_disk.specs.Disk.{Only, LeavesOnly}
+use Rattle.cas_disk.specs.Disk.{ContinuesOnly}
 use Rattle.cas_disk.proofs.Moments.{then_on, weaker}
 use Rattle.cas_cells.specs.Format.{frame_at}
 use Rattle.cas_cells.specs.Torn.{Others}
 use Rattle.cas_cells.specs.Held.{CellHeld, Leaves, MayOpen, frame_of, other}
-use Rattle.cas_cells.specs.Length.{AllWithin, NotLonger}
+use Rattle.cas_cells.specs.Length.{NotLonger}
 use Rattle.cas_cells.specs.declared.cell.Cell.{Cell}
 use Rattle.cas_cells.proofs.Tearing.{frame_within}
 use Rattle.cas_cells.proofs.Leaving.{spare_whole}
@@ -21,19 +20,6 @@ others_short k old c whole others =
     omega (arith, same, length-take 512 (drop (512 * j) c), length-drop (512 * j) c, length-take 512 (drop (512 * j) old), length-drop (512 * j) old)
 
 module _ {D : Type 0} (moment : D → ℕ) (left_since : D → ℕ → List ℕ → Type 0) (may_leave : D → List ℕ → Type 0) where
-  -- nothing that a crash may leave afterwards is longer
-  pub kept_within : (old new : D) (bytes limit : ℕ) → ((c : List ℕ) → moment old ≤ moment new → may_leave new c → left_since new (moment old) c)
-      → NotLonger moment left_since may_leave old new bytes → bytes ≤ limit → AllWithin limit (may_leave old) → AllWithin limit (may_leave new)
-  kept_within old new bytes limit counts run low all c left =
-      let within : LeavesOnly moment left_since old new (λ c. length c ≤ limit) = run.within limit low all in
-      within.each c (counts c within.later left)
-
-  -- what a read gives is no longer than what it gave before, when nothing was pending, or than so many bytes
-  pub seen_within : (old new : D) (bytes : ℕ) (before now : List ℕ) → Only before (may_leave old) → left_since new (moment old) now
-      → NotLonger moment left_since may_leave old new bytes → length now ≤ max (length before) bytes
-  seen_within old new bytes before now only left run =
-      (run.within (max (length before) bytes) (omega arith) (λ c may. omega (arith, ap length (only c may)))).each now left
-
   -- so many bytes are no more than these
   pub within_more : (old new : D) (less more : ℕ) → less ≤ more → NotLonger moment left_since may_leave old new less → NotLonger moment left_since may_leave old new more
   within_more old new less more le run = record { within = λ limit low all. run.within limit (omega (arith, le, low)) all }
@@ -43,26 +29,26 @@ module _ {D : Type 0} (moment : D → ℕ) (left_since : D → ℕ → List ℕ 
       → NotLonger moment left_since may_leave old mid bytes → NotLonger moment left_since may_leave mid new bytes → NotLonger moment left_since may_leave old new bytes
   then_no_longer old mid new bytes counts first second = record {
     within = λ limit low all.
-        let run : LeavesOnly moment left_since old mid (λ c. length c ≤ limit) = first.within limit low all in
+        let run : ContinuesOnly moment left_since old mid (λ c. length c ≤ limit) = first.within limit low all in
         then_on moment left_since old mid new (λ c. length c ≤ limit) run (second.within limit low (λ c left. run.each c (counts c run.later left)));
   }
 
   -- a run in which a crash leaves nothing longer than what a read gave before
-  pub no_longer_than_seen : (old new : D) (seen : List ℕ) (P : List ℕ → Type 0) → may_leave old seen → ((c : List ℕ) → P c → length c ≤ length seen) → LeavesOnly moment left_since old new P → NotLonger moment left_since may_leave old new 0
+  pub no_longer_than_seen : (old new : D) (seen : List ℕ) (P : List ℕ → Type 0) → may_leave old seen → ((c : List ℕ) → P c → length c ≤ length seen) → ContinuesOnly moment left_since old new P → NotLonger moment left_since may_leave old new 0
   no_longer_than_seen old new seen P stays short run = record {
     within = λ limit low all. weaker moment left_since old new P (λ c. length c ≤ limit) (λ c is. omega (arith, short c is, all seen stays)) run;
   }
 
   -- a step of a cell
   pub step_no_longer : (old new : D) (seen : List ℕ) (i : ℕ) (cell : Cell) (pay : Option (List ℕ)) → may_leave old seen → CellHeld seen i cell
-      → LeavesOnly moment left_since old new (Leaves (frame_of i (other cell.side)) seen i pay) → NotLonger moment left_since may_leave old new 0
+      → ContinuesOnly moment left_since old new (Leaves (frame_of i (other cell.side)) seen i pay) → NotLonger moment left_since may_leave old new 0
   step_no_longer old new seen i cell pay stays held run =
       let k = frame_of i (other cell.side) in
       no_longer_than_seen old new seen (Leaves k seen i pay) stays (λ c leaves. others_short k seen c (spare_whole cell seen i held) leaves.others) run
 
   -- the step that opens its spare
   pub opening_no_longer : (old new : D) (seen : List ℕ) (i : ℕ) (cell : Cell) (pay : Option (List ℕ)) (p : List ℕ) → may_leave old seen → CellHeld seen i cell
-      → LeavesOnly moment left_since old new (MayOpen (frame_of i (other cell.side)) seen i pay p) → NotLonger moment left_since may_leave old new 0
+      → ContinuesOnly moment left_since old new (MayOpen (frame_of i (other cell.side)) seen i pay p) → NotLonger moment left_since may_leave old new 0
   opening_no_longer old new seen i cell pay p stays held run =
       let k = frame_of i (other cell.side) in
       no_longer_than_seen old new seen (MayOpen k seen i pay p) stays (λ c opens. others_short k seen c (spare_whole cell seen i held) opens.others) run

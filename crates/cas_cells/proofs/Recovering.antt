@@ -9,7 +9,7 @@ use Rattle.cas_cells.specs.declared.cell.Side.{Side}
 use Rattle.cas_cells.specs.declared.cell.Side.TheVariants.{First, Second}
 use Rattle.cas_cells.specs.declared.cell.Cell.{Cell}
 use Rattle.cas_cells.proofs.Frames.{right_of, frame_of_right, shut_of}
-use Rattle.cas_disk.specs.Disk.{Keeps, LeavesOnly}
+use Rattle.cas_disk.specs.Disk.{Keeps, ContinuesOnly}
 use Rattle.cas_disk.proofs.Moments.{weaker, then_on}
 use Rattle.cas_cells.specs.Reading.{OnlyRead}
 use Rattle.cas_cells.proofs.Rows.{cell_sound}
@@ -142,7 +142,7 @@ made (Ok cell) Q p side n o pay is_side number spare make = make cell pay is_sid
 made (Err e) Q p side n o pay is_side number spare make = pay
 
 -- one read more
-pub read_more : {D : Type 0} (moment : D → ℕ) (left_since : D → ℕ → List ℕ → Type 0) (seen : D → List ℕ) (may_leave : D → List ℕ → Type 0) (old mid new : D) → OnlyRead moment left_since seen may_leave old mid → Keeps (seen mid) (seen new) (may_leave mid) (may_leave new) → LeavesOnly moment left_since mid new (λ c. c ≡ seen mid)
+pub read_more : {D : Type 0} (moment : D → ℕ) (left_since : D → ℕ → List ℕ → Type 0) (seen : D → List ℕ) (may_leave : D → List ℕ → Type 0) (old mid new : D) → OnlyRead moment left_since seen may_leave old mid → Keeps (seen mid) (seen new) (may_leave mid) (may_leave new) → ContinuesOnly moment left_since mid new (λ c. c ≡ seen mid)
     → OnlyRead moment left_since seen may_leave old new
 read_more moment left_since seen may_leave old mid new so_far keeps run = record {
   content = keeps.content ∙ so_far.content;

@@ -1,7 +1,7 @@
 //! A row of cells on a disk.
 ghost use Rattle.std.specs.Prelude.{◌≡◌, ◌≢◌, ◌<◌, ◌≤◌, ◌+◌, ◌*◌, ◌∷◌, ◌++◌, [], ℕ, List, IsTrue, IfSome, IfOk, vec_len, vec_capacity, map, length, slice_get, slice_set, Some, None, OnOk, OnErr, IsErrOf};
 ghost use Rattle.std.specs.Option.{option_copied};
-ghost use Rattle.cas_disk.specs.Disk.{LeavesOnly, Only, Elapses};
+ghost use Rattle.cas_disk.specs.Disk.{ContinuesOnly, Only, Keeps, Elapses};
 ghost use Rattle.cas_cells.specs.Fault.{HasCellCause, IsFaultOfDisk};
 ghost use Rattle.cas_cells.specs.Format.{count_in, count_told, is_head, head_in, with_count, grown, foreign_at, payload_place, IsPayload, StandsFor, IsBeforeOrAfter};
 ghost use Rattle.cas_cells.specs.Length.{NotLonger};
@@ -94,7 +94,7 @@ impl<D: Disk> Cells<D> {
         ensures cells { cells_of self.new ≡ cells_of self.old }
         ensures stands { OnOk result (Stands D.tells D.seen D.may_leave self.new) }
         ensures after_no_memory { IsErrOf result CellFault.NoMemory → Stands D.tells D.seen D.may_leave self.new }
-        ensures any_moment { D.tells → LeavesOnly D.moment D.left_since (disk_of self.old) (disk_of self.new) (StandsFor (cells_of self.old)) }
+        ensures any_moment { D.tells → ContinuesOnly D.moment D.left_since (disk_of self.old) (disk_of self.new) (StandsFor (cells_of self.old)) }
         ensures length { D.tells → NotLonger D.moment D.left_since D.may_leave (disk_of self.old) (disk_of self.new) 0 }
         ensures cause { IsFaultOfDisk result (D.fault_count (disk_of self.old)) (D.fault_count (disk_of self.new)) }
     {
@@ -120,7 +120,7 @@ impl<D: Disk> Cells<D> {
         ensures cells { cells_of self.new ≡ cells_of self.old }
         ensures stands { OnOk result (Stands D.tells D.seen D.may_leave self.new) }
         ensures after_no_memory { IsErrOf result CellFault.NoMemory → Stands D.tells D.seen D.may_leave self.new }
-        ensures any_moment { D.tells → LeavesOnly D.moment D.left_since (disk_of self.old) (disk_of self.new) (StandsFor (cells_of self.old)) }
+        ensures any_moment { D.tells → ContinuesOnly D.moment D.left_since (disk_of self.old) (disk_of self.new) (StandsFor (cells_of self.old)) }
         ensures length { D.tells → NotLonger D.moment D.left_since D.may_leave (disk_of self.old) (disk_of self.new) 0 }
         ensures cause { IsFaultOfDisk result (D.fault_count (disk_of self.old)) (D.fault_count (disk_of self.new)) }
     {
@@ -148,7 +148,7 @@ impl<D: Disk> Cells<D> {
         ensures cells { OnErr result (cells_of self.new ≡ cells_of self.old) }
         ensures stands { OnOk result (Stands D.tells D.seen D.may_leave self.new) }
         ensures after_no_memory { IsErrOf result CellFault.NoMemory → Stands D.tells D.seen D.may_leave self.new }
-        ensures any_moment { D.tells → LeavesOnly D.moment D.left_since (disk_of self.old) (disk_of self.new) (IsBeforeOrAfter (cells_of self.old) (slice_set (cells_of self.old) cell (Some (staged_of self.old)))) }
+        ensures any_moment { D.tells → ContinuesOnly D.moment D.left_since (disk_of self.old) (disk_of self.new) (IsBeforeOrAfter (cells_of self.old) (slice_set (cells_of self.old) cell (Some (staged_of self.old)))) }
         ensures length { D.tells → NotLonger D.moment D.left_since D.may_leave (disk_of self.old) (disk_of self.new) 0 }
         ensures cause { IsFaultOfDisk result (D.fault_count (disk_of self.old)) (D.fault_count (disk_of self.new)) }
     {
@@ -183,7 +183,7 @@ impl<D: Disk> Cells<D> {
         ensures cells { OnErr result (cells_of self.new ≡ cells_of self.old) }
         ensures stands { OnOk result (Stands D.tells D.seen D.may_leave self.new) }
         ensures after_no_memory { IsErrOf result CellFault.NoMemory → Stands D.tells D.seen D.may_leave self.new }
-        ensures any_moment { D.tells → LeavesOnly D.moment D.left_since (disk_of self.old) (disk_of self.new) (IsBeforeOrAfter (cells_of self.old) (grown (cells_of self.old))) }
+        ensures any_moment { D.tells → ContinuesOnly D.moment D.left_since (disk_of self.old) (disk_of self.new) (IsBeforeOrAfter (cells_of self.old) (grown (cells_of self.old))) }
         ensures length { D.tells → NotLonger D.moment D.left_since D.may_leave (disk_of self.old) (disk_of self.new) (1024 * (count_in (cells_of self.old) + 2)) }
         ensures cause { IsFaultOfDisk result (D.fault_count (disk_of self.old)) (D.fault_count (disk_of self.new)) }
     {
@@ -254,6 +254,18 @@ impl<D: Disk> Cells<D> {
         ensures never_falls { D.fault_count (disk_of self.old) ≤ D.fault_count (disk_of self.new) }
     {
         self.disk.crash();
+    }
+
+    /// Tells the disk that nobody will ask of moments before this one. All that is seen is as before.
+    pub fn forget_past(&mut self)
+        ensures kept { D.tells → Keeps (D.seen (disk_of self.old)) (D.seen (disk_of self.new)) (D.may_leave (disk_of self.old)) (D.may_leave (disk_of self.new)) }
+        ensures now { D.tells → D.moment (disk_of self.new) ≡ D.moment (disk_of self.old) }
+        ensures cells { cells_of self.new ≡ cells_of self.old }
+        ensures change { change_of self.new ≡ change_of self.old }
+        ensures stands { Stands D.tells D.seen D.may_leave self.old → Stands D.tells D.seen D.may_leave self.new }
+        ensures faults { D.fault_count (disk_of self.new) ≡ D.fault_count (disk_of self.old) }
+    {
+        self.disk.forget_past();
     }
 
     /// How often the disk has failed.

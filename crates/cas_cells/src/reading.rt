@@ -1,6 +1,6 @@
 //! Reads cells from a disk, and finds the first byte that is not as the format demands. Nothing here writes.
 ghost use Rattle.std.specs.Prelude.{◌≡◌, ◌<◌, ◌≤◌, ◌+◌, ◌*◌, ◌==◌, true, false, ℕ, List, Some, None, length, map, take, IfOk, OnOk, IsErrOf, MatchOption};
-ghost use Rattle.cas_disk.specs.Disk.{Only, Keeps, LeavesOnly};
+ghost use Rattle.cas_disk.specs.Disk.{Only, Keeps, ContinuesOnly};
 ghost use Rattle.cas_cells.specs.Fault.{HasCellCause};
 ghost use Rattle.cas_cells.specs.Format.{wrong_in_cell, wrong_at, wrong_from, foreign_at, count_told, is_open, number_of, next, payload_in};
 ghost use Rattle.cas_cells.specs.Reading.{OnlyRead};
@@ -69,7 +69,7 @@ fn read_cell<D: Disk>(disk: &mut D, alloc: Global, index: u32) -> Result<Cell, C
     ensures held { D.tells → IfOk result (CellHeld (D.seen disk.old) index) }
     ensures foreign { D.tells → (at : ℕ) → IsErrOf result (CellFault.Foreign at) → (wrong_at (D.seen disk.old) index < 1024) × (at ≡ 1024 * index + wrong_at (D.seen disk.old) index) }
     ensures kept { D.tells → Keeps (D.seen disk.old) (D.seen disk.new) (D.may_leave disk.old) (D.may_leave disk.new) }
-    ensures any_moment { D.tells → Only (D.seen disk.old) (D.may_leave disk.old) → LeavesOnly D.moment D.left_since disk.old disk.new (λ c. c ≡ D.seen disk.old) }
+    ensures any_moment { D.tells → Only (D.seen disk.old) (D.may_leave disk.old) → ContinuesOnly D.moment D.left_since disk.old disk.new (λ c. c ≡ D.seen disk.old) }
     ensures cause { HasCellCause result (D.fault_count disk.old) (D.fault_count disk.new) }
 {
     let mut bytes = [0; 1024];

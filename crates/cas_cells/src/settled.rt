@@ -1,6 +1,6 @@
 //! Writes that are on the disk when they return: some bytes, the gate of a frame, and what stands behind a gate.
 ghost use Rattle.std.specs.Prelude.{◌≡◌, ◌≤◌, ◌+◌, ◌*◌, ◌<◌, ◌∷◌, [], ℕ, length, drop, slice_index, OnOk, IsErrOf};
-ghost use Rattle.cas_disk.specs.Disk.{Holds, Torn, Only, Keeps, LeavesOnly, HasCause};
+ghost use Rattle.cas_disk.specs.Disk.{Holds, Torn, Only, Keeps, ContinuesOnly, HasCause};
 ghost use Rattle.cas_disk.specs.declared.disk.DiskFault.TheVariants.{NoMemory};
 ghost use Rattle.cas_cells.specs.Format.{frame_at};
 ghost use Rattle.cas_cells.specs.Torn.{Others, GateTorn, TailTorn, SameBelow};
@@ -14,7 +14,7 @@ pub fn put<D: Disk>(disk: &mut D, at: u64, bytes: &[u8]) -> Result<(), DiskFault
     requires room { D.tells → at ≤ length (D.seen disk.old) }
     ensures held { D.tells → OnOk result (Holds (D.seen disk.old) at bytes.now (D.seen disk.new)) }
     ensures durable { D.tells → OnOk result (Only (D.seen disk.new) (D.may_leave disk.new)) }
-    ensures any_moment { D.tells → Only (D.seen disk.old) (D.may_leave disk.old) → LeavesOnly D.moment D.left_since disk.old disk.new (Torn at (length bytes.now) (D.seen disk.old)) }
+    ensures any_moment { D.tells → Only (D.seen disk.old) (D.may_leave disk.old) → ContinuesOnly D.moment D.left_since disk.old disk.new (Torn at (length bytes.now) (D.seen disk.old)) }
     ensures length { D.tells → NotLonger D.moment D.left_since D.may_leave disk.old disk.new (at + length bytes.now) }
     ensures unchanged { D.tells → IsErrOf result NoMemory → Keeps (D.seen disk.old) (D.seen disk.new) (D.may_leave disk.old) (D.may_leave disk.new) }
     ensures cause { HasCause result (D.fault_count disk.old) (D.fault_count disk.new) }
@@ -32,7 +32,7 @@ pub fn write_gate<D: Disk>(disk: &mut D, frame: u64, gate: u8) -> Result<(), Dis
     ensures held { D.tells → OnOk result (frame_at (D.seen disk.new) frame ≡ gate ∷ drop 1 (frame_at (D.seen disk.old) frame)) }
     ensures others { D.tells → OnOk result (Others frame (D.seen disk.old) (D.seen disk.new)) }
     ensures durable { D.tells → OnOk result (Only (D.seen disk.new) (D.may_leave disk.new)) }
-    ensures any_moment { D.tells → LeavesOnly D.moment D.left_since disk.old disk.new (GateTorn frame (D.seen disk.old)) }
+    ensures any_moment { D.tells → ContinuesOnly D.moment D.left_since disk.old disk.new (GateTorn frame (D.seen disk.old)) }
     ensures unchanged { D.tells → IsErrOf result NoMemory → Keeps (D.seen disk.old) (D.seen disk.new) (D.may_leave disk.old) (D.may_leave disk.new) }
     ensures cause { HasCause result (D.fault_count disk.old) (D.fault_count disk.new) }
 {
@@ -48,7 +48,7 @@ pub fn write_tail<D: Disk>(disk: &mut D, frame: u64, tail: &[u8]) -> Result<(), 
     ensures held { D.tells → OnOk result (drop 1 (frame_at (D.seen disk.new) frame) ≡ tail.now) }
     ensures torn { D.tells → OnOk result (TailTorn frame (D.seen disk.old) (D.seen disk.new)) }
     ensures durable { D.tells → OnOk result (Only (D.seen disk.new) (D.may_leave disk.new)) }
-    ensures any_moment { D.tells → LeavesOnly D.moment D.left_since disk.old disk.new (TailTorn frame (D.seen disk.old)) }
+    ensures any_moment { D.tells → ContinuesOnly D.moment D.left_since disk.old disk.new (TailTorn frame (D.seen disk.old)) }
     ensures unchanged { D.tells → IsErrOf result NoMemory → Keeps (D.seen disk.old) (D.seen disk.new) (D.may_leave disk.old) (D.may_leave disk.new) }
     ensures cause { HasCause result (D.fault_count disk.old) (D.fault_count disk.new) }
 {
@@ -62,7 +62,7 @@ pub fn write_blank<D: Disk>(disk: &mut D, index: u32) -> Result<(), DiskFault>
     ensures blank { D.tells → OnOk result (IsShut (frame_at (D.seen disk.new) (2 * index)) × IsShut (frame_at (D.seen disk.new) (2 * index + 1))) }
     ensures below { D.tells → OnOk result (SameBelow (2 * index) (D.seen disk.old) (D.seen disk.new)) }
     ensures durable { D.tells → OnOk result (Only (D.seen disk.new) (D.may_leave disk.new)) }
-    ensures any_moment { D.tells → Only (D.seen disk.old) (D.may_leave disk.old) → LeavesOnly D.moment D.left_since disk.old disk.new (SameBelow (2 * index) (D.seen disk.old)) }
+    ensures any_moment { D.tells → Only (D.seen disk.old) (D.may_leave disk.old) → ContinuesOnly D.moment D.left_since disk.old disk.new (SameBelow (2 * index) (D.seen disk.old)) }
     ensures length { D.tells → NotLonger D.moment D.left_since D.may_leave disk.old disk.new (1024 * (index + 1)) }
     ensures unchanged { D.tells → IsErrOf result NoMemory → Keeps (D.seen disk.old) (D.seen disk.new) (D.may_leave disk.old) (D.may_leave disk.new) }
     ensures cause { HasCause result (D.fault_count disk.old) (D.fault_count disk.new) }
@@ -79,7 +79,7 @@ fn write_zeros<D: Disk>(disk: &mut D, index: u32, zeros: &[u8]) -> Result<(), Di
     ensures blank { D.tells → OnOk result (IsShut (frame_at (D.seen disk.new) (2 * index)) × IsShut (frame_at (D.seen disk.new) (2 * index + 1))) }
     ensures below { D.tells → OnOk result (SameBelow (2 * index) (D.seen disk.old) (D.seen disk.new)) }
     ensures durable { D.tells → OnOk result (Only (D.seen disk.new) (D.may_leave disk.new)) }
-    ensures any_moment { D.tells → Only (D.seen disk.old) (D.may_leave disk.old) → LeavesOnly D.moment D.left_since disk.old disk.new (SameBelow (2 * index) (D.seen disk.old)) }
+    ensures any_moment { D.tells → Only (D.seen disk.old) (D.may_leave disk.old) → ContinuesOnly D.moment D.left_since disk.old disk.new (SameBelow (2 * index) (D.seen disk.old)) }
     ensures length { D.tells → NotLonger D.moment D.left_since D.may_leave disk.old disk.new (1024 * (index + 1)) }
     ensures unchanged { D.tells → IsErrOf result NoMemory → Keeps (D.seen disk.old) (D.seen disk.new) (D.may_leave disk.old) (D.may_leave disk.new) }
     ensures cause { HasCause result (D.fault_count disk.old) (D.fault_count disk.new) }

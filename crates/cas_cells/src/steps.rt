@@ -1,6 +1,6 @@
 //! The three steps of a change of one cell, on the disk and in memory.
 ghost use Rattle.std.specs.Prelude.{◌≡◌, ◌<◌, ◌≤◌, true, false, length, drop, OnOk, OnErr, IsErrOf, is_some, Some, None};
-ghost use Rattle.cas_disk.specs.Disk.{Only, Keeps, LeavesOnly, HasCause};
+ghost use Rattle.cas_disk.specs.Disk.{Only, Keeps, ContinuesOnly, HasCause};
 ghost use Rattle.cas_disk.specs.declared.disk.DiskFault.TheVariants.{NoMemory};
 ghost use Rattle.cas_cells.specs.Format.{frame_at, next, IsPayload};
 ghost use Rattle.cas_cells.specs.Torn.{Others};
@@ -44,7 +44,7 @@ pub fn shut_spare<D: Disk>(disk: &mut D, cell: &mut Cell, index: u32) -> Result<
     ensures others { D.tells → OnOk result (Others (frame_of index (other cell.old.side)) (D.seen disk.old) (D.seen disk.new)) }
     ensures tail { D.tells → OnOk result (drop 1 (frame_at (D.seen disk.new) (frame_of index (other cell.old.side))) ≡ drop 1 (frame_at (D.seen disk.old) (frame_of index (other cell.old.side)))) }
     ensures durable { D.tells → OnOk result (Only (D.seen disk.new) (D.may_leave disk.new)) }
-    ensures any_moment { D.tells → LeavesOnly D.moment D.left_since disk.old disk.new (Leaves (frame_of index (other cell.old.side)) (D.seen disk.old) index (payload_held cell.old)) }
+    ensures any_moment { D.tells → ContinuesOnly D.moment D.left_since disk.old disk.new (Leaves (frame_of index (other cell.old.side)) (D.seen disk.old) index (payload_held cell.old)) }
     ensures unchanged { D.tells → IsErrOf result NoMemory → Keeps (D.seen disk.old) (D.seen disk.new) (D.may_leave disk.old) (D.may_leave disk.new) }
     ensures cause { HasCause result (D.fault_count disk.old) (D.fault_count disk.new) }
 {
@@ -72,7 +72,7 @@ pub fn write_spare<D: Disk>(
     ensures others { D.tells → OnOk result (Others (frame_of index (other cell.now.side)) (D.seen disk.old) (D.seen disk.new)) }
     ensures tail { D.tells → OnOk result (drop 1 (frame_at (D.seen disk.new) (frame_of index (other cell.now.side))) ≡ tail.now) }
     ensures durable { D.tells → OnOk result (Only (D.seen disk.new) (D.may_leave disk.new)) }
-    ensures any_moment { D.tells → LeavesOnly D.moment D.left_since disk.old disk.new (Leaves (frame_of index (other cell.now.side)) (D.seen disk.old) index (payload_held cell.now)) }
+    ensures any_moment { D.tells → ContinuesOnly D.moment D.left_since disk.old disk.new (Leaves (frame_of index (other cell.now.side)) (D.seen disk.old) index (payload_held cell.now)) }
     ensures unchanged { D.tells → IsErrOf result NoMemory → Keeps (D.seen disk.old) (D.seen disk.new) (D.may_leave disk.old) (D.may_leave disk.new) }
     ensures cause { HasCause result (D.fault_count disk.old) (D.fault_count disk.new) }
 {
@@ -98,7 +98,7 @@ pub fn keep_staged<D: Disk>(
     ensures others { D.tells → OnOk result (Others (frame_of index (other cell.now.side)) (D.seen disk.old) (D.seen disk.new)) }
     ensures staged { D.tells → OnOk result (HoldsTail (D.seen disk.new) index cell.now payload.now) }
     ensures durable { D.tells → OnOk result (Only (D.seen disk.new) (D.may_leave disk.new)) }
-    ensures any_moment { D.tells → LeavesOnly D.moment D.left_since disk.old disk.new (Leaves (frame_of index (other cell.now.side)) (D.seen disk.old) index (payload_held cell.now)) }
+    ensures any_moment { D.tells → ContinuesOnly D.moment D.left_since disk.old disk.new (Leaves (frame_of index (other cell.now.side)) (D.seen disk.old) index (payload_held cell.now)) }
     ensures unchanged { D.tells → IsErrOf result NoMemory → Keeps (D.seen disk.old) (D.seen disk.new) (D.may_leave disk.old) (D.may_leave disk.new) }
     ensures kept { OnErr result (kept.new ≡ kept.old) }
     ensures cause { HasCause result (D.fault_count disk.old) (D.fault_count disk.new) }
@@ -130,7 +130,7 @@ pub fn open_spare<D: Disk>(
     ensures opened { D.tells → OnOk result ((after : Cell) → Opens payload.now cell.now after → CellHeld (D.seen disk.new) index after) }
     ensures others { D.tells → OnOk result (Others (frame_of index (other cell.now.side)) (D.seen disk.old) (D.seen disk.new)) }
     ensures durable { D.tells → OnOk result (Only (D.seen disk.new) (D.may_leave disk.new)) }
-    ensures any_moment { D.tells → LeavesOnly D.moment D.left_since disk.old disk.new (MayOpen (frame_of index (other cell.now.side)) (D.seen disk.old) index (payload_held cell.now) payload.now) }
+    ensures any_moment { D.tells → ContinuesOnly D.moment D.left_since disk.old disk.new (MayOpen (frame_of index (other cell.now.side)) (D.seen disk.old) index (payload_held cell.now) payload.now) }
     ensures still { D.tells → IsErrOf result NoMemory → Still (D.seen disk.old) (D.seen disk.new) (D.may_leave disk.new) index cell.now cell.now }
     ensures staged { D.tells → IsErrOf result NoMemory → kept.new ≡ true → HoldsTail (D.seen disk.new) index cell.now payload.now }
     ensures cause { HasCause result (D.fault_count disk.old) (D.fault_count disk.new) }
@@ -155,7 +155,7 @@ pub fn change_cell<D: Disk>(
     ensures held { D.tells → OnOk result (CellHeld (D.seen disk.new) index cell.new) }
     ensures others { D.tells → OnOk result (Others (frame_of index (other cell.old.side)) (D.seen disk.old) (D.seen disk.new)) }
     ensures durable { D.tells → OnOk result (Only (D.seen disk.new) (D.may_leave disk.new)) }
-    ensures any_moment { D.tells → LeavesOnly D.moment D.left_since disk.old disk.new (MayOpen (frame_of index (other cell.old.side)) (D.seen disk.old) index (payload_held cell.old) payload.items) }
+    ensures any_moment { D.tells → ContinuesOnly D.moment D.left_since disk.old disk.new (MayOpen (frame_of index (other cell.old.side)) (D.seen disk.old) index (payload_held cell.old) payload.items) }
     ensures same { OnErr result (payload_held cell.new ≡ payload_held cell.old) }
     ensures shut { OnErr result (cell.old.spare_open ≡ false → cell.new.spare_open ≡ false) }
     ensures still { D.tells → IsErrOf result NoMemory → Still (D.seen disk.old) (D.seen disk.new) (D.may_leave disk.new) index cell.old cell.new }

@@ -1,7 +1,7 @@
 -- How the past of a disk in memory grows.
-use Rattle.std.proofs.Common.{◌≡◌, ◌⊎◌, inl, inr, ⊎_elim, ℕ, zero, suc, ◌<◌, ◌≤◌, List, [], ◌∷◌, ◌++◌, length, drop, refl, sym, ◌∙◌, ap, subst, arith, length-append}
+use Rattle.std.proofs.Common.{◌≡◌, ◌⊎◌, inl, inr, ⊎_elim, ℕ, ◌+◌, ◌-◌, zero, suc, ◌<◌, ◌≤◌, List, [], ◌∷◌, ◌++◌, length, drop, refl, sym, ◌∙◌, ap, subst, arith, length-append}
 use Rattle.cas_disk.specs.Disk.{Elapses}
-use Rattle.cas_disk.specs.Medium.{undone, IsImage, started_with, content_before, WasLeft, MayLeave, LeftSince, Closes}
+use Rattle.cas_disk.specs.Medium.{undone, IsImage, started_with, content_before, WasLeft, MayLeave, LeftSince, LeftAfter, Closes}
 use Rattle.cas_disk.specs.declared.medium.Write.{Write}
 use Rattle.cas_disk.specs.declared.medium.Before.{Before}
 use Rattle.cas_disk.specs.declared.medium.Epoch.{Epoch}
@@ -81,6 +81,17 @@ elapses_close past (w ∷ pending) before past' old new closes same none =
     ∙ same
     ∙ ap (λ (ws : List Write). undone ws old) (sym closes.2) in
     subst P closes.2 (subst (λ (l : List Epoch). Elapses (length past) (length l) (LeftSince past e.writes.items old) (LeftSince l [] new) (MayLeave [] new)) (sym closes.1) (elapses_push past e old new starts))
+
+-- the same, counted on after moments that were forgotten
+pub elapses_after : (forgotten : ℕ) (past past' : List Epoch) (pending pending' : List Write) (old new : List ℕ) → Elapses (length past) (length past') (LeftSince past pending old) (LeftSince past' pending' new) (MayLeave pending' new)
+    → Elapses (forgotten + length past) (forgotten + length past') (LeftAfter forgotten past pending old) (LeftAfter forgotten past' pending' new) (MayLeave pending' new)
+elapses_after forgotten past past' pending pending' old new time = record {
+  later = omega (arith, time.later);
+  nothing_else = λ t c le left. ⊎_elim
+      (λ lost. inl (inl lost))
+      (λ since. ⊎_elim (λ was. inl (inr was)) (λ now. inr now) (time.nothing_else (t - forgotten) c (omega arith) since)) left;
+  keeps = λ t c le left. ⊎_elim (λ lost. inl lost) (λ since. inr (time.keeps (t - forgotten) c (omega arith) since)) left;
+}
 
 -- writes were closed into a record of them
 pub closes_some : (past : List Epoch) (pending : List Write) (before : Before) (past' : List Epoch) (e : Epoch) → 0 < length pending → past' ≡ past ++ e ∷ [] → e.writes.items ≡ pending → e.before ≡ before → Closes past pending before past'

@@ -38,7 +38,12 @@ pub record Elapses (before now : ℕ) (past since : ℕ → List ℕ → Type 0)
 pub record LeavesOnly {D : Type 0} (moment : D → ℕ) (left_since : D → ℕ → List ℕ → Type 0) (old new : D) (P : List ℕ → Type 0) : Type 0 where
   pub later : moment old ≤ moment new
   pub each : (c : List ℕ) → left_since new (moment old) c → P c
-  -- for a run that began earlier
+
+-- The same, and it goes on from what came before: in a run that began earlier, a crash leaves what it might have left by old, or a
+-- content that has P.
+pub record ContinuesOnly {D : Type 0} (moment : D → ℕ) (left_since : D → ℕ → List ℕ → Type 0) (old new : D) (P : List ℕ → Type 0) : Type 0 where
+  pub later : moment old ≤ moment new
+  pub each : (c : List ℕ) → left_since new (moment old) c → P c
   pub before : (t : ℕ) (c : List ℕ) → t ≤ moment old → left_since new t c → left_since old t c ⊎ P c
 
 -- the count of faults does not fall, and `Failed` comes only where it rose

@@ -3,3 +3,4 @@ pub mod File
 pub mod Medium
 pub mod MediumLaws
 pub mod Memory
+pub mod Moments

@@ -1,5 +1,5 @@
 -- What a disk in memory keeps of its writes: enough to say which contents a crash could leave at each moment so far.
-use Rattle.std.specs.Prelude.{◌≡◌, ◌⊎◌, ℕ, ◌+◌, Bool, true, ◌&&◌, ◌||◌, ◌==◌, nat_le, List, [], ◌∷◌, ◌++◌, length, take, drop}
+use Rattle.std.specs.Prelude.{◌≡◌, ◌⊎◌, ℕ, ◌+◌, ◌-◌, ◌<◌, Bool, true, ◌&&◌, ◌||◌, ◌==◌, nat_le, List, [], ◌∷◌, ◌++◌, length, take, drop}
 use Rattle.cas_disk.specs.Disk.{Torn}
 use Rattle.cas_disk.specs.declared.medium.Write.{Write}
 use Rattle.cas_disk.specs.declared.medium.Before.{Before}
@@ -52,6 +52,10 @@ MayLeave pending content c = IsImage (undone pending content) pending c
 -- a crash since the start of epoch t might have left this
 abbrev pub LeftSince : List Epoch → List Write → List ℕ → ℕ → List ℕ → Type 0
 LeftSince past pending content t c = MayLeave pending content c ⊎ WasLeft (drop t past) (undone pending content) c
+
+-- the same of moments that are counted on after so many that were forgotten, of which nothing is known
+abbrev pub LeftAfter : ℕ → List Epoch → List Write → List ℕ → ℕ → List ℕ → Type 0
+LeftAfter forgotten past pending content t c = (t < forgotten) ⊎ LeftSince past pending content (t - forgotten) c
 
 -- the epoch of these writes is over and recorded; where there are none, none is
 abbrev pub Closes : List Epoch → List Write → Before → List Epoch → Type 0

@@ -1,11 +1,11 @@
 -- Laws of what a disk in memory tells.
 use Rattle.std.specs.Prelude.{◌≡◌, ◌⊎◌, ℕ, ◌+◌, ◌-◌, ◌≤◌, IsTrue, List, [], ◌∷◌, ◌++◌, length, take, drop, refl}
-use Rattle.std.proofs.Common.{inl, inr, sym, ◌∙◌, arith, length-append, length-drop}
+use Rattle.std.proofs.Common.{inl, inr, sym, subst, ◌∙◌, arith, length-append, length-drop}
 use Rattle.std.proofs.lemmas.List.{take_at, drop_at, drop_all, take-append-le, length-take-le}
 use Rattle.std.proofs.lemmas.Bool.{and_parts}
 use Rattle.std.proofs.lemmas.Bool.Decides.{nat_tests}
 use Rattle.cas_disk.specs.Disk.{Torn}
-use Rattle.cas_disk.specs.Medium.{undo, undone, fits, all_fit, MayLeave, LeftSince, WasLeft}
+use Rattle.cas_disk.specs.Medium.{undo, undone, fits, all_fit, MayLeave, LeftSince, LeftAfter, WasLeft}
 use Rattle.cas_disk.specs.declared.medium.Write.{Write}
 use Rattle.cas_disk.specs.declared.medium.Epoch.{Epoch}
 
@@ -56,3 +56,10 @@ none_left (e ∷ past) now c left = none_left past now c left
 pub since_now : (past : List Epoch) (pending : List Write) (bytes c : List ℕ) → LeftSince past pending bytes (length past) c → MayLeave pending bytes c
 since_now past pending bytes c (inl now) = now
 since_now past pending bytes c (inr left) = absurd (none_left past (undone pending bytes) c left)
+
+-- and so where moments were forgotten before
+pub after_now : (forgotten : ℕ) (past : List Epoch) (pending : List Write) (bytes c : List ℕ) → LeftAfter forgotten past pending bytes (forgotten + length past) c → MayLeave pending bytes c
+after_now forgotten past pending bytes c (inl lost) = absurd (omega arith)
+after_now forgotten past pending bytes c (inr left) =
+    let here : (forgotten + length past) - forgotten ≡ length past = omega arith in
+    since_now past pending bytes c (subst (λ (t : ℕ). LeftSince past pending bytes t c) here left)

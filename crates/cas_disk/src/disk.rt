@@ -48,7 +48,8 @@ pub trait Disk {
     /// The moment, as a number that does not fall.
     ghost moment: { Self → ℕ };
 
-    /// What a crash at some moment from that one on might have left, during a call or between two.
+    /// What a crash at some moment from that one on might have left, during a call or between two. Of a moment before the last
+    /// `forget_past` nothing is known: it may be everything.
     ghost left_since: { Self → ℕ → List ℕ → Type 0 };
 
     /// How often the disk has failed. At the greatest `u64` the count stands still.
@@ -96,6 +97,13 @@ pub trait Disk {
         ensures settled { tells → Only (seen self.new) (may_leave self.new) }
         ensures time { tells → Elapses (moment self.old) (moment self.new) (left_since self.old) (left_since self.new) (may_leave self.new) }
         ensures never_falls { fault_count self.old ≤ fault_count self.new };
+
+    /// Tells that nobody will ask of moments before this one, so that the disk need not keep what speaks of them. The content, what
+    /// a crash may leave and the moment stay.
+    fn forget_past(&mut self)
+        ensures kept { tells → Keeps (seen self.old) (seen self.new) (may_leave self.old) (may_leave self.new) }
+        ensures now { tells → moment self.new ≡ moment self.old }
+        ensures faults { fault_count self.new ≡ fault_count self.old };
 
     /// How often the disk has failed.
     fn faults(&self) -> u64

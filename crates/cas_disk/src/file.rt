@@ -1,6 +1,7 @@
 //! A real file as a disk. It tells nothing of its content or of crashes: no proof can speak of what a real file keeps.
-ghost use Rattle.std.specs.Prelude.{◌≡◌, ◌≤◌, [], length, IfOk, OnErr, MatchResult};
-ghost use Rattle.cas_base.specs.Faults.{Rose};
+ghost use Rattle.std.specs.Prelude.{◌≡◌, ◌≤◌, [], length, None, Err, IfOk, OnErr, IsErrOf, MatchResult};
+ghost use Rattle.cas_base.specs.Faults.{Rose, FailsByCount};
+ghost use Rattle.cas_disk.specs.Disk.{HasCause};
 
 use crate::{Disk, DiskFault};
 use cas_base::raised;
@@ -58,6 +59,8 @@ fn read_front(file: &File, at: u64, buf: &mut [u8]) -> io::Result<usize>
 }
 
 impl Disk for FileDisk {
+    ghost use Rattle.cas_disk.specs.File.{file_of, faults_of};
+
     ghost tells = { ⊥ };
 
     ghost seen = { λ _. [] };
@@ -76,7 +79,11 @@ impl Disk for FileDisk {
 
     ghost only_now = { λ _ _ tells _. absurd tells };
 
-    fn len(&mut self) -> Result<u64, DiskFault> {
+    fn len(&mut self) -> Result<u64, DiskFault>
+        ensures file { file_of self.new ≡ file_of self.old }
+        ensures no_file { file_of self.old ≡ None → result ≡ Err DiskFault.Failed }
+        ensures cause { HasCause result (faults_of self.old) (faults_of self.new) }
+    {
         let answer = match &self.file {
             Some(file) => file.metadata().ok().map(|about| about.len()),
             None => None,
@@ -84,7 +91,12 @@ impl Disk for FileDisk {
         counted(&mut self.faults, answer)
     }
 
-    fn read(&mut self, at: u64, buf: &mut [u8]) -> Result<usize, DiskFault> {
+    fn read(&mut self, at: u64, buf: &mut [u8]) -> Result<usize, DiskFault>
+        ensures within { IfOk result (λ n. n ≤ length buf.old) }
+        ensures file { file_of self.new ≡ file_of self.old }
+        ensures no_file { file_of self.old ≡ None → result ≡ Err DiskFault.Failed }
+        ensures cause { HasCause result (faults_of self.old) (faults_of self.new) }
+    {
         let answer = match &self.file {
             Some(file) => read_front(file, at, buf).ok(),
             None => None,
@@ -92,7 +104,11 @@ impl Disk for FileDisk {
         counted(&mut self.faults, answer)
     }
 
-    fn write_at(&mut self, at: u64, bytes: &[u8]) -> Result<(), DiskFault> {
+    fn write_at(&mut self, at: u64, bytes: &[u8]) -> Result<(), DiskFault>
+        ensures file { file_of self.new ≡ file_of self.old }
+        ensures no_file { file_of self.old ≡ None → result ≡ Err DiskFault.Failed }
+        ensures cause { HasCause result (faults_of self.old) (faults_of self.new) }
+    {
         let answer = match &self.file {
             Some(file) => file.write_all_at(bytes, at).ok(),
             None => None,
@@ -100,7 +116,12 @@ impl Disk for FileDisk {
         counted(&mut self.faults, answer)
     }
 
-    fn sync(&mut self) -> Result<(), DiskFault> {
+    fn sync(&mut self) -> Result<(), DiskFault>
+        ensures file { file_of self.new ≡ file_of self.old }
+        ensures no_file { file_of self.old ≡ None → result ≡ Err DiskFault.Failed }
+        ensures failed { IsErrOf result DiskFault.NoMemory → ⊥ }
+        ensures cause { FailsByCount result (faults_of self.old) (faults_of self.new) }
+    {
         let answer = match &self.file {
             Some(file) => file.sync_data().ok(),
             None => None,
@@ -109,6 +130,8 @@ impl Disk for FileDisk {
     }
 
     fn crash(&mut self) {}
+
+    fn forget_past(&mut self) {}
 
     fn faults(&self) -> u64 {
         self.faults

@@ -1,8 +1,8 @@
 //! What a disk in memory holds: its bytes, the writes since the last sync, and what is needed to say which contents a crash
-//! could leave at each moment so far. Which calls fail, and when the disk crashes, is decided elsewhere.
-ghost use Rattle.std.specs.Prelude.{◌≡◌, ◌⊎◌, [], ◌∷◌, ◌++◌, ◌<◌, ◌≤◌, ◌+◌, IsTrue, OnOk, OnErr, length, take, drop, vec_len, vec_capacity};
+//! could leave at each moment that is not forgotten. Which calls fail, and when the disk crashes, is decided elsewhere.
+ghost use Rattle.std.specs.Prelude.{◌≡◌, ◌⊎◌, [], ◌∷◌, ◌++◌, ◌<◌, ◌≤◌, ◌+◌, ◌^◌, IsTrue, OnOk, OnErr, length, take, drop, vec_len, vec_capacity};
 ghost use Rattle.cas_disk.specs.Disk.{Holds, Torn, Follows, Elapses};
-ghost use Rattle.cas_disk.specs.Medium.{undo, undone, fits, all_fit, IsImage, started_with, Closes, MayLeave, LeftSince};
+ghost use Rattle.cas_disk.specs.Medium.{undo, undone, fits, all_fit, IsImage, started_with, Closes};
 
 use rand_core::SeedableRng;
 use rand_core::utils::NextWord;
@@ -47,18 +47,22 @@ pub struct Epoch {
     pub before: Before,
 }
 
-/// Bytes, the writes since the last sync or crash with the newest first, and the epochs before with the oldest first.
+/// Bytes, the writes since the last sync or crash with the newest first, the epochs before with the oldest first, and how many
+/// epochs before these were forgotten.
 #[derive(Drop)]
 pub struct Medium {
     alloc: Global,
     pub bytes: Vec<u8>,
     pub pending: Vec<Write>,
     pub past: Vec<Epoch>,
+    pub forgotten: u64,
     ghost fit: { IsTrue (all_fit pending.items bytes.items) },
     ghost room: { 0 < length pending.items → length past.items < vec_capacity past },
 }
 
 impl Medium {
+    ghost use Rattle.cas_disk.specs.Moments.{durable_in, moment_in, may_leave_in, left_in};
+
     /// A medium with these bytes, all of them durable.
     pub fn new(alloc: Global, bytes: Vec<u8>) -> Medium
         ensures bytes { result.bytes.items ≡ bytes.items }
@@ -70,6 +74,20 @@ impl Medium {
             bytes,
             pending: Vec::new(alloc),
             past: Vec::new(alloc),
+            forgotten: 0,
+        }
+    }
+
+    /// Lets go of the epochs that are over. Where their number would not fit in a `u64`, they are kept.
+    pub fn forget(&mut self)
+        ensures bytes { self.new.bytes.items ≡ self.old.bytes.items }
+        ensures pending { self.new.pending.items ≡ self.old.pending.items }
+        ensures moment { moment_in self.new ≡ moment_in self.old }
+        ensures forgotten { moment_in self.old < 2 ^ 64 → self.new.past.items ≡ [] }
+    {
+        if let Some(forgotten) = self.forgotten.checked_add(self.past.len() as u64) {
+            self.past.clear();
+            self.forgotten = forgotten;
         }
     }
 
@@ -77,8 +95,9 @@ impl Medium {
     pub fn write(&mut self, at: usize, piece: &[u8]) -> Result<(), AllocError>
         requires { at ≤ length self.old.bytes.items }
         ensures held { OnOk result (Holds self.old.bytes.items at piece.now self.new.bytes.items) }
-        ensures crash { Follows (Torn at (length piece.now)) (MayLeave self.old.pending.items self.old.bytes.items) (MayLeave self.new.pending.items self.new.bytes.items) }
-        ensures time { Elapses (length self.old.past.items) (length self.new.past.items) (LeftSince self.old.past.items self.old.pending.items self.old.bytes.items) (LeftSince self.new.past.items self.new.pending.items self.new.bytes.items) (MayLeave self.new.pending.items self.new.bytes.items) }
+        ensures crash { Follows (Torn at (length piece.now)) (may_leave_in self.old) (may_leave_in self.new) }
+        ensures durable { durable_in self.new ≡ durable_in self.old }
+        ensures time { Elapses (moment_in self.old) (moment_in self.new) (left_in self.old) (left_in self.new) (may_leave_in self.new) }
         ensures bytes_err { OnErr result (self.new.bytes.items ≡ self.old.bytes.items) }
         ensures pending_err { OnErr result (self.new.pending.items ≡ self.old.pending.items) }
     {
@@ -100,7 +119,7 @@ impl Medium {
     pub fn settle(&mut self)
         ensures bytes { self.new.bytes.items ≡ self.old.bytes.items }
         ensures pending { self.new.pending.items ≡ [] }
-        ensures time { Elapses (length self.old.past.items) (length self.new.past.items) (LeftSince self.old.past.items self.old.pending.items self.old.bytes.items) (LeftSince self.new.past.items self.new.pending.items self.new.bytes.items) (MayLeave self.new.pending.items self.new.bytes.items) }
+        ensures time { Elapses (moment_in self.old) (moment_in self.new) (left_in self.old) (left_in self.new) (may_leave_in self.new) }
     {
         close(
             self.alloc,
@@ -112,11 +131,11 @@ impl Medium {
 
     /// Leaves of the writes since the last sync what the image says.
     pub fn crash(&mut self, image: Image)
-        ensures image { MayLeave self.old.pending.items self.old.bytes.items self.new.bytes.items }
-        ensures old { image ≡ Image.Old → self.new.bytes.items ≡ undone self.old.pending.items self.old.bytes.items }
+        ensures image { may_leave_in self.old self.new.bytes.items }
+        ensures old { image ≡ Image.Old → self.new.bytes.items ≡ durable_in self.old }
         ensures new { image ≡ Image.New → self.new.bytes.items ≡ self.old.bytes.items }
         ensures pending { self.new.pending.items ≡ [] }
-        ensures time { Elapses (length self.old.past.items) (length self.new.past.items) (LeftSince self.old.past.items self.old.pending.items self.old.bytes.items) (LeftSince self.new.past.items self.new.pending.items self.new.bytes.items) (MayLeave self.new.pending.items self.new.bytes.items) }
+        ensures time { Elapses (moment_in self.old) (moment_in self.new) (left_in self.old) (left_in self.new) (may_leave_in self.new) }
     {
         let before = redraw(self.alloc, &mut self.bytes, &self.pending, image);
         close(self.alloc, &mut self.past, &mut self.pending, before);

@@ -50,6 +50,60 @@ fn a_crash_leaves_its_image(rt: HostRuntime) -> Result<(), Fail> {
 }
 
 #[test]
+fn a_disk_that_stops_at_a_write_leaves_its_image(rt: HostRuntime) -> Result<(), Fail> {
+    let alloc = rt.alloc();
+    let old: &[u8] = &[1, 2, 3];
+    let new: &[u8] = &[1, 7, 8, 9];
+    // The length is the first call, and the write the second.
+    for (trouble, image, want) in [
+        (Trouble::Stop, Image::Old, old),
+        (Trouble::Stop, Image::New, new),
+        (Trouble::Fail, Image::Old, old),
+        (Trouble::Fail, Image::New, old),
+        (Trouble::Fail, Image::Noise(5), old),
+    ] {
+        let mut disk = memory(alloc, &[(2, trouble)], image)?;
+        assert_eq!(rt; put(&mut disk, 1, &[7, 8, 9]), Err(DiskFault::Failed));
+        disk.crash();
+        assert_eq!(rt; disk.bytes(), want, "{trouble:?} {image:?}");
+        assert_eq!(rt; disk.faults(), 1);
+    }
+    Ok(())
+}
+
+#[test]
+fn a_write_is_torn_where_the_disk_stops_at_it(rt: HostRuntime) -> Result<(), Fail> {
+    let alloc = rt.alloc();
+    let mut differ = false;
+    for seed in 0..8 {
+        let mut disk = memory(alloc, &[(2, Trouble::Stop)], Image::Noise(seed))?;
+        assert_eq!(rt; put(&mut disk, 1, &[7]), Err(DiskFault::Failed));
+        assert_eq!(rt; put(&mut disk, 0, &[9]), Err(DiskFault::Failed));
+        disk.crash();
+        let bytes = disk.bytes();
+        assert_eq!(rt; bytes.len(), 3);
+        assert_eq!(rt; (bytes[0], bytes[2]), (1, 3));
+        differ = differ || bytes[1] != 2 && bytes[1] != 7;
+    }
+    assert!(rt; differ);
+    Ok(())
+}
+
+#[test]
+fn what_is_pending_outlasts_a_forgotten_past(rt: HostRuntime) -> Result<(), Fail> {
+    let alloc = rt.alloc();
+    let mut disk = memory(alloc, &[], Image::Old)?;
+    put(&mut disk, 0, &[4])?;
+    disk.sync()?;
+    put(&mut disk, 1, &[5])?;
+    disk.forget_past();
+    assert_eq!(rt; disk.bytes(), [4, 5, 3].as_slice());
+    disk.crash();
+    assert_eq!(rt; disk.bytes(), [4, 2, 3].as_slice());
+    Ok(())
+}
+
+#[test]
 fn noise_stays_in_its_ranges(rt: HostRuntime) -> Result<(), Fail> {
     let alloc = rt.alloc();
     let mut differ = false;

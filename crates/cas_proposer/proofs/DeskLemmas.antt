@@ -7,7 +7,6 @@ use Rattle.std.proofs.Common.{◌≡◌, inl, ℕ, ◌≤◌, ◌^◌, Bool, tru
 use Rattle.cas_ballot.specs.declared.ballot.Ballot.{Ballot}
 use Rattle.cas_ballot.specs.Ballot.{ballot_cmp}
 use Rattle.cas_disk.specs.Disk.{LeavesOnly}
-use Rattle.cas_disk.proofs.Moments.{started}
 use Rattle.cas_slot.specs.declared.message.Reply.{Reply}
 use Rattle.cas_slot.specs.declared.message.Tell.{Tell}
 use Rattle.cas_round.specs.Replies.{met_by}
@@ -96,4 +95,4 @@ module _ {V : Type 0} (tells : Type 0) (seen : V → List ℕ) (may_leave : V �
     -- a vault that was not touched
     pub untouched : (vault : Vault V) (after : Kept) → Stands tells seen may_leave vault → tells → ((c : List ℕ) → left_since (disk_of vault) (moment (disk_of vault)) c → may_leave (disk_of vault) c)
         → LeavesOnly moment left_since (disk_of vault) (disk_of vault) (IsBeforeOrAfter (kept_of vault) after)
-    untouched vault after stands t now = started moment left_since (disk_of vault) (IsBeforeOrAfter (kept_of vault) after) (λ c left. inl (stands.images t c (now c left)))
+    untouched vault after stands t now = record { later = omega arith; each = λ c left. inl (stands.images t c (now c left)) }

@@ -42,27 +42,27 @@ abbrev pub some_place : {A : Type 0} → (A → List A → Bool) → List A → 
 some_place test [] = false
 some_place test (x ∷ older) = test x older || some_place test older
 
-record Found {A : Type 0} (test : A → List A → Bool) (all : List A) : Type 0 where
-  x : A
-  older : List A
-  at : At x older all
-  passes : test x older ≡ true
+pub record Found {A : Type 0} (test : A → List A → Bool) (all : List A) : Type 0 where
+  pub x : A
+  pub older : List A
+  pub at : At x older all
+  pub passes : test x older ≡ true
 
-each_at : {A : Type 0} (test : A → List A → Bool) {x : A} {older all : List A} → each_place test all ≡ true → At x older all → test x older ≡ true
+pub each_at : {A : Type 0} (test : A → List A → Bool) {x : A} {older all : List A} → each_place test all ≡ true → At x older all → test x older ≡ true
 each_at test {x} {older} e here = and_left (test x older) (each_place test older) e
 each_at test e (past {y = y} {rest = rest} at) = each_at test (and_right (test y rest) (each_place test rest) e) at
 
 found_more : {A : Type 0} (test : A → List A → Bool) {y : A} {rest : List A} → Found test rest → Found test (y ∷ rest)
 found_more test f = record { x = f.x; older = f.older; at = past f.at; passes = f.passes }
 
-found : {A : Type 0} (test : A → List A → Bool) (all : List A) → some_place test all ≡ true → Found test all
+pub found : {A : Type 0} (test : A → List A → Bool) (all : List A) → some_place test all ≡ true → Found test all
 found test [] e = absurd cc
 found test (x ∷ older) e = elim (or_cases (test x older) (some_place test older) e) [
   | inl first ↦ record { x = x; older = older; at = here; passes = first }
   | inr rest ↦ found_more test (found test older rest)
 ]
 
-some_is : {A : Type 0} (test : A → List A → Bool) {x : A} {older all : List A} → At x older all → test x older ≡ true → some_place test all ≡ true
+pub some_is : {A : Type 0} (test : A → List A → Bool) {x : A} {older all : List A} → At x older all → test x older ≡ true → some_place test all ≡ true
 some_is test {x} {older} here e = or_left (test x older) (some_place test older) e
 some_is test (past {y = y} {rest = rest} at) e = or_right (test y rest) (some_place test rest) (some_is test at e)
 
@@ -70,7 +70,7 @@ some_is test (past {y = y} {rest = rest} at) e = or_right (test y rest) (some_pl
 abbrev pub implies : Bool → Bool → Bool
 implies a b = not a || b
 
-use_implies : (a b : Bool) → implies a b ≡ true → a ≡ true → b ≡ true
+pub use_implies : (a b : Bool) → implies a b ≡ true → a ≡ true → b ≡ true
 use_implies true b e p = e
 use_implies false b e p = absurd cc
 
@@ -78,7 +78,7 @@ use_implies false b e p = absurd cc
 abbrev pub at_most : Ballot → Ballot → Bool
 at_most a b = not (is_lt (ballot_cmp b a))
 
-at_most_tells : {a b : Ballot} → at_most a b ≡ true → BallotAtMost a b
+pub at_most_tells : {a b : Ballot} → at_most a b ≡ true → BallotAtMost a b
 at_most_tells {a} {b} e = elim (at_most_or_less a b) [
   | inl low ↦ low
   | inr high ↦ absurd (not_both (is_lt (ballot_cmp b a)) (less_is high) (not_tells (is_lt (ballot_cmp b a)) e))
@@ -87,13 +87,13 @@ at_most_tells {a} {b} e = elim (at_most_or_less a b) [
 abbrev pub less : Ballot → Ballot → Bool
 less a b = is_lt (ballot_cmp a b)
 
-less_of : {a b : Ballot} → less a b ≡ true → BallotLess a b
+pub less_of : {a b : Ballot} → less a b ≡ true → BallotLess a b
 less_of e = less_tells e
 
-le_tells : {a b : ℕ} → nat_le a b ≡ true → a ≤ b
+pub le_tells : {a b : ℕ} → nat_le a b ≡ true → a ≤ b
 le_tells {a} {b} e = elim (leb_tells a b) [ inl low ↦ low.1 | inr high ↦ absurd (not_both (nat_le a b) e high.0) ]
 
-le_is : {a b : ℕ} → a ≤ b → nat_le a b ≡ true
+pub le_is : {a b : ℕ} → a ≤ b → nat_le a b ≡ true
 le_is {a} {b} h = elim (leb_tells a b) [ inl low ↦ low.0 | inr high ↦ absurd (omega (arith, high.1)) ]
 
 -- ---- acceptors
@@ -162,7 +162,7 @@ abbrev pub is_floor_at : List ℕ → Ballot → Mark → List Mark → Bool
 is_floor_at key ballot (Floor k floor state) older = is_key k key && is_ballot floor ballot
 is_floor_at key ballot other older = false
 
-floor_by : {key : List ℕ} {ballot : Ballot} {all : List Mark} (mark : Mark) (older : List Mark) → At mark older all → is_floor_at key ballot mark older ≡ true → HasFloor key ballot all
+pub floor_by : {key : List ℕ} {ballot : Ballot} {all : List Mark} (mark : Mark) (older : List Mark) → At mark older all → is_floor_at key ballot mark older ≡ true → HasFloor key ballot all
 floor_by {key} {ballot} {all} (Floor k floor state) older at e = record {
   state = state;
   stands = stands_at (subst (λ x. At (Floor key x state) older all) (ballot_same (and_right (is_key k key) (is_ballot floor ballot) e))
@@ -218,7 +218,7 @@ entered_by h older at t = absurd cc
 abbrev pub check_in : List Happening → ℕ → ℕ → Bool
 check_in log proposer era = (era == 0) || some_place (entered_now proposer era) log
 
-in_checked : (log : List Happening) (proposer era : ℕ) → check_in log proposer era ≡ true → IsIn log proposer era
+pub in_checked : (log : List Happening) (proposer era : ℕ) → check_in log proposer era ≡ true → IsIn log proposer era
 in_checked log proposer era e = elim (or_cases (era == 0) (some_place (entered_now proposer era) log) e) [
   | inl first ↦ inl (nat_same {a = era} {b = 0} first)
   | inr entered ↦ let f = found (entered_now proposer era) log entered in inr (entered_by f.x f.older f.at f.passes)
@@ -245,7 +245,7 @@ abbrev pub up_to : ℕ → (ℕ → Bool) → Bool
 up_to zero test = test 0
 up_to (suc n) test = test (suc n) && up_to n test
 
-up_to_at : (n : ℕ) (test : ℕ → Bool) (i : ℕ) → up_to n test ≡ true → i ≤ n → test i ≡ true
+pub up_to_at : (n : ℕ) (test : ℕ → Bool) (i : ℕ) → up_to n test ≡ true → i ≤ n → test i ≡ true
 up_to_at zero test i e low = subst (λ (x : ℕ). test x ≡ true) (omega arith) e
 up_to_at (suc n) test i e low = elim (le_or_last i n low) [
   | inl below ↦ up_to_at n test i (and_right (test (suc n)) (up_to n test) e) below
@@ -547,7 +547,7 @@ abbrev pub is_vote : List ℕ → Ballot → ℕ → Mark → List Mark → Bool
 is_vote key ballot acceptor (Voted a k b) older = is_slot acceptor key a k && is_ballot b ballot
 is_vote key ballot acceptor other older = false
 
-vote_by : {acceptor : ℕ} {key : List ℕ} {ballot : Ballot} {all : List Mark} (m : Mark) (older : List Mark) → At m older all → is_vote key ballot acceptor m older ≡ true → Stands (Voted acceptor key ballot) all
+pub vote_by : {acceptor : ℕ} {key : List ℕ} {ballot : Ballot} {all : List Mark} (m : Mark) (older : List Mark) → At m older all → is_vote key ballot acceptor m older ≡ true → Stands (Voted acceptor key ballot) all
 vote_by {acceptor} {key} {ballot} {all} (Voted a k b) older at e =
     let slot = slot_same {acceptor = acceptor} {a = a} {key = key} {k = k} (and_left (is_slot acceptor key a k) _ e) in
     stands_at (subst (λ x. At (Voted acceptor key x) older all) (ballot_same (and_right (is_slot acceptor key a k) (is_ballot b ballot) e))

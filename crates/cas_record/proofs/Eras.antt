@@ -13,7 +13,7 @@ use Rattle.cas_record.specs.Happening.{Happening, Marked, Took, Entered, marks_o
 use Rattle.cas_record.specs.Lawful.{Cluster, ClusterMeets, Lawful, MayTake, MayEnter, MayLeave, MayMarkEra, HasSeen, in_promise, in_take, in_ride, AllEntered, IsRescanned, Granted, by_promise, by_ride}
 use Rattle.cas_record.proofs.PlaceLemmas.{deeper, stands_deeper, stands_at, stands_part, older_than, newer_than, at_one, order}
 use Rattle.cas_record.proofs.ChainLemmas.{at_most_floor_below}
-use Rattle.cas_record.proofs.LogLemmas.{made_proposed, law, lawful_older, mark_at, in_log, part_of, proposal_law, ack_law, AckedAt, acked_at, acked_deeper, one_place, link_below}
+use Rattle.cas_record.proofs.LogLemmas.{made_proposed, law, lawful_older, mark_at, in_log, part_of, proposal_law, ack_law, AckedAt, acked_at, one_place, link_below}
 use Rattle.cas_record.proofs.Agreement.{Seam, took_before_grant, under_shared, took_of_acked, place_of}
 
 pub le_or_lt : (a b : ℕ) → (a ≤ b) ⊎ (suc b ≤ a)

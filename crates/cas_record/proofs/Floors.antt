@@ -1,17 +1,14 @@
 -- What an acceptor tells after a floor: nothing accepted, or a ballot at or above the floor.
-use Rattle.std.proofs.Common.{◌≡◌, ℕ, true, false, List, [], ◌∷◌, refl, sym, ap, ◌∙◌, subst}
-use Rattle.std.specs.Prelude.{◌⊎◌}
+use Rattle.std.proofs.Common.{◌≡◌, ℕ, List, [], ◌∷◌, refl, sym, ap, subst}
 use mathlib.Core.Logic.{inl, inr}
 use Rattle.cas_base.proofs.Tests.{if_true, if_false, true_or_false, not_both}
 use Rattle.cas_ballot.specs.declared.ballot.Ballot.{Ballot}
-use Rattle.cas_ballot.specs.Ballot.{zero_ballot, BallotAtMost, BallotLess}
+use Rattle.cas_ballot.specs.Ballot.{BallotAtMost, BallotLess}
 use Rattle.cas_ballot.proofs.BallotLemmas.{at_most_refl, at_most_of_less, less_not_at_most}
 use Rattle.cas_slot.specs.declared.message.Ask.{Ask}
-use Rattle.cas_slot.specs.declared.message.Ask.TheVariants as ask
-use Rattle.cas_slot.specs.declared.message.Request.{Request}
 use Rattle.cas_slot.specs.Message.{tag_of}
 use Rattle.cas_slot.specs.Rules.{key_of}
-use Rattle.cas_record.specs.Places.{At, Stands, here, past}
+use Rattle.cas_record.specs.Places.{At, Stands, here}
 use Rattle.cas_record.specs.Happening.{Happening, Promised, Took, Dropped}
 use Rattle.cas_record.specs.Lawful.{Cluster, Lawful, SlotTold, slot_told, is_slot, MayTake, in_take, in_promise}
 use Rattle.cas_record.specs.Orderly.{IsRoundAsk, MayPromiseBy, MayTakeBy, IsClear, took_it, never_asked, IsNoneOrAbove, Orderly}

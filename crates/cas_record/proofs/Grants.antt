@@ -1,11 +1,10 @@
 -- What was promised, and what rode along, is granted: it was drawn, and so its proposer was in its era before.
-use Rattle.std.proofs.Common.{◌≡◌, ℕ, List, Option, None, Some, sym, ◌∙◌, subst}
+use Rattle.std.proofs.Common.{◌≡◌, ℕ, List, Option, None, Some, sym, subst}
 use Rattle.std.specs.Prelude.{IfSome, unwrap_or}
 use mathlib.Core.Logic.{inl, inr}
 use Rattle.cas_ballot.specs.declared.ballot.Ballot.{Ballot}
 use Rattle.cas_ballot.specs.Ballot.{zero_ballot, BallotAtMost}
 use Rattle.cas_slot.specs.declared.message.Ask.TheVariants as ask
-use Rattle.cas_slot.specs.declared.message.Request.{Request}
 use Rattle.cas_record.specs.declared.mark.Proposal.{Proposal}
 use Rattle.cas_record.specs.Places.{At, Stands}
 use Rattle.cas_record.specs.Happening.{Happening, Promised, Took, Drew}

@@ -18,3 +18,7 @@ pub mod Orders
 pub mod Grants
 pub mod Floors
 pub mod LinkLemmas
+pub mod Listings
+pub mod Leaving
+pub mod Clusters
+pub mod Reasons

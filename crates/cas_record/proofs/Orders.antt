@@ -1,20 +1,17 @@
 -- What follows from the reasons of happenings: a ballot is drawn once, ages only grow, and what an acceptor answers is
 -- above the tombstones that it removed.
-use Rattle.std.proofs.Common.{◌≡◌, ℕ, ◌<◌, ◌≤◌, max, Bool, true, false, cond, List, [], ◌∷◌, arith, refl, sym, ap, ◌∙◌, subst}
-use Rattle.std.specs.Prelude.{◌⊎◌, ◌==◌}
+use Rattle.std.proofs.Common.{◌≡◌, ℕ, ◌<◌, ◌≤◌, max, Bool, true, false, cond, List, ◌∷◌, arith, refl, sym, ap, ◌∙◌, subst}
+use Rattle.std.specs.Prelude.{◌==◌}
 use mathlib.Core.Logic.{inl, inr}
 use Rattle.cas_ballot.specs.declared.ballot.Ballot.{Ballot}
-use Rattle.cas_ballot.specs.Ballot.{BallotAtMost, BallotLess}
+use Rattle.cas_ballot.specs.Ballot.{BallotLess}
 use Rattle.cas_ballot.proofs.BallotLemmas.{at_most_or_less}
-use Rattle.cas_change.specs.declared.state.State.{State}
 use Rattle.cas_slot.specs.declared.message.Ask.{Ask}
 use Rattle.cas_slot.specs.declared.message.Ask.TheVariants as ask
 use Rattle.cas_slot.specs.declared.message.Request.{Request}
 use Rattle.cas_slot.specs.Ages.{least_age}
 use Rattle.cas_slot.specs.Message.{tag_of}
 use Rattle.cas_slot.specs.Rules.{key_of}
-use Rattle.cas_record.specs.declared.mark.Mark.{Mark}
-use Rattle.cas_record.specs.declared.mark.Mark.TheVariants.{Floor}
 use Rattle.cas_record.specs.Places.{At, Stands, here, past}
 use Rattle.cas_record.specs.Legal.{HasFloor}
 use Rattle.cas_record.specs.Happening.{Happening, Asked, Dropped, Drew, Raised, marks_of}

@@ -1,8 +1,9 @@
--- The witness stands.
+-- The witness stands, and is orderly.
 use Rattle.std.proofs.Common.{refl, reverse}
 use Rattle.cas_ballot.specs.Members.{members_where}
-use Rattle.cas_record.specs.Witness.{small_cluster, happened, WitnessStands}
+use Rattle.cas_record.specs.Witness.{small_cluster, happened, WitnessStands, WitnessIsOrderly}
 use Rattle.cas_record.proofs.Checks.{lawful_checked}
+use Rattle.cas_record.proofs.Reasons.{orderly_checked}
 use Rattle.cas_record.proofs.Quorums.{small_meet}
 
 pub witness_stands : WitnessStands
@@ -13,3 +14,6 @@ witness_stands = record {
   settled = refl;
   state = refl;
 }
+
+pub witness_is_orderly : WitnessIsOrderly
+witness_is_orderly = orderly_checked small_cluster (reverse happened) refl

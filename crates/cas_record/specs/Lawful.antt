@@ -33,6 +33,13 @@ abbrev pub ClusterMeets : Cluster → Type 0
 ClusterMeets cluster = (m n : ℕ) → m ≤ suc n → n ≤ suc m → (prepared accepted : List ℕ)
     → cluster.prepares m prepared ≡ true → cluster.accepts n accepted ≡ true → Shared prepared accepted
 
+-- the second cluster has the same proposers, and in each era all members and quorums of the first, and maybe more
+pub record IsWidened (old new : Cluster) : Type 0 where
+  pub greatest : new.greatest ≡ old.greatest
+  pub members : (era acceptor : ℕ) → has_member (old.members era) acceptor ≡ true → has_member (new.members era) acceptor ≡ true
+  pub prepares : (era : ℕ) (by : List ℕ) → old.prepares era by ≡ true → new.prepares era by ≡ true
+  pub accepts : (era : ℕ) (by : List ℕ) → old.accepts era by ≡ true → new.accepts era by ≡ true
+
 -- ---- acceptors
 -- the acceptor had seen the ballot for the key: it promised it, took it, or let it ride on one that it took
 pub data HasSeen (log : List Happening) (acceptor : ℕ) (key : List ℕ) (ballot : Ballot) : Type 0 where

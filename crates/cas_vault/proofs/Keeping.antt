@@ -4,8 +4,9 @@ use Rattle.std.specs.Option.{option_map}
 use Rattle.std.proofs.Common.{Result, Ok, Err, Bool, true, false, cond, ltb, ◌≡◌, ⊎_elim, ℕ, ◌+◌, ◌^◌, ◌≤◌, Option, Some, None, List, [], ◌∷◌, length, refl, sym, ap, subst, ◌∙◌, arith}
 use Rattle.std.proofs.lemmas.Bool.{ltb-true, ltb-false}
 use Rattle.std.proofs.lemmas.List.{nil_from_length}
-use Rattle.cas_disk.specs.Disk.{Only, Elapses, LeavesOnly}
-use Rattle.cas_disk.proofs.Moments.{started, goes_on, weaker, then_on}
+use Rattle.cas_base.proofs.Tests.{some_is}
+use Rattle.cas_disk.specs.Disk.{Only, Elapses, LeavesOnly, ContinuesOnly}
+use Rattle.cas_disk.proofs.Moments.{started, goes_on, weaker, then_on, from_there}
 use Rattle.cas_cells.specs.Format.{StandsFor, head_in, count_told, cells_on, payload_at, payload_place, place_of, payload_in, frame_at, is_open, IsPayload}
 use Rattle.cas_cells.specs.Held.{IsRow}
 use Rattle.cas_cells.specs.Cells as cells
@@ -68,6 +69,12 @@ module _ {D : Type 0} (tells : Type 0) (seen : D → List ℕ) (may_leave : D �
     images = cells_keep vault.cells vault.kept fits row held;
   }
 
+  -- so it is where its cells were left as they were
+  pub still_in_use : (old new : Vault D) → Stands tells seen may_leave old → cells.Stands tells seen may_leave new.cells → cells.cells_of new.cells ≡ cells.cells_of old.cells → new.kept ≡ old.kept → new.counter ≡ old.counter → Stands tells seen may_leave new
+  still_in_use old new is row same kept counter =
+      let held = same ∙ is.held ∙ ap (λ (k : Kept). Some (spelling k) ∷ []) (sym kept) in
+      in_use new row held (subst IsKept (sym kept) is.fits) (omega (arith, counter, is.counter))
+
   -- A change after which the bound is not lower, and the counter neither, keeps the vault past what it was past.
   pub past_along : (moment : D → ℕ) (left_since : D → ℕ → List ℕ → Type 0) (old new : Vault D) (after : Kept) (n : ℕ) → Stands tells seen may_leave old → tells
       → may_leave (disk_of old) (seen (disk_of old))
@@ -108,9 +115,6 @@ row_head [] is = absurd is
 row_head (None ∷ rest) is = absurd is
 row_head (Some head ∷ rest) is = refl
 
-some_is : {X : Type 0} (x y : X) → Some x ≡ Some y → x ≡ y
-some_is x y same = cc
-
 -- the payload of cell 0 of a row
 pub head_is : (row : List (Option (List ℕ))) (payload : List ℕ) → IsRow row → ((p : List ℕ) → slice_get row 0 ≡ Some (Some p) → Some payload ≡ Some p) → payload ≡ head_in row
 head_is row payload is held = some_is payload (head_in row) (held (head_in row) (row_head row is))
@@ -143,14 +147,16 @@ place_there disk payload is =
     mapped_there (place_of (frame_at disk 0) (frame_at disk 1)) 0 (placed_there _ (is_open (frame_at disk 0)) (payload_in (frame_at disk 0)) (payload_in (frame_at disk 1)) payload is)
 
 module _ {D : Type 0} (moment : D → ℕ) (left_since : D → ℕ → List ℕ → Type 0) (may_leave : D → List ℕ → Type 0) where
-  -- A crash of a disk that was crashed and then only read leaves what a crash might have left before.
-  pub reread : (old mid new : D) (seen : List ℕ) → ((c : List ℕ) → left_since old (moment old) c → may_leave old c) → Elapses (moment old) (moment mid) (left_since old) (left_since mid) (may_leave mid) → may_leave old seen → Only seen (may_leave mid)
-      → LeavesOnly moment left_since mid new (λ c. c ≡ seen) → LeavesOnly moment left_since old new (may_leave old)
-  reread old mid new seen now time image settled read =
-      let here : (c : List ℕ) → c ≡ seen → may_leave old c = λ c is. subst (λ (l : List ℕ). may_leave old l) (sym is) image in
-      then_on moment left_since old mid new (may_leave old)
-      (goes_on moment left_since old old mid (may_leave old) (may_leave mid) (started moment left_since old (may_leave old) now) time (λ c left. here c (settled c left)))
-      (weaker moment left_since mid new (λ c. c ≡ seen) (may_leave old) here read)
+  -- A crash of a disk that was crashed and then only read leaves what a crash might have left before, when the past was forgotten.
+  pub reread : (old began mid new : D) (seen : List ℕ) → moment began ≡ moment old → ((c : List ℕ) → may_leave began c → may_leave old c) → ((c : List ℕ) → left_since began (moment began) c → may_leave began c)
+      → Elapses (moment began) (moment mid) (left_since began) (left_since mid) (may_leave mid) → may_leave began seen → Only seen (may_leave mid)
+      → ContinuesOnly moment left_since mid new (λ c. c ≡ seen) → LeavesOnly moment left_since old new (may_leave old)
+  reread old began mid new seen same outcomes now time image settled read =
+      let here : (c : List ℕ) → c ≡ seen → may_leave old c = λ c is. subst (λ (l : List ℕ). may_leave old l) (sym is) (outcomes seen image) in
+      from_there moment left_since old began new (may_leave old) same
+      (then_on moment left_since began mid new (may_leave old)
+      (goes_on moment left_since began began mid (may_leave old) (may_leave mid) (started moment left_since began (may_leave old) (λ c left. outcomes c (now c left))) time (λ c left. here c (settled c left)))
+      (weaker moment left_since mid new (λ c. c ≡ seen) (may_leave old) here read))
 
 -- what a vault was past, it is past over an image of its disk, if its counter is not below the bound there
 pub past_image : {D : Type 0} (may_leave : D → List ℕ → Type 0) (old new : Vault D) (seen : List ℕ) (n : ℕ) → may_leave (disk_of old) seen → Only seen (may_leave (disk_of new)) → ((kept : Kept) → KeptOn kept seen → n ≤ old.counter → n ≤ kept.bound → n ≤ new.counter) → IsPast may_leave n old → IsPast may_leave n new

@@ -4,6 +4,7 @@ ghost use Rattle.cas_vault.specs.Vault.{Stands};
 use super::*;
 use crate::codec::{read, spell};
 use crate::kept::Kept;
+use cas_ballot::LAST_COUNTER;
 use cas_disk::{Disk, FileDisk, Image, MemoryDisk, Trouble};
 use std::alloc::Global;
 use std::process::Abort;
@@ -48,7 +49,7 @@ fn reopened<V: Disk>(vault: &mut Vault<V>) -> Result<(), VaultError>
 fn a_record_has_its_bytes(rt: HostRuntime) {
     let kept = Kept {
         bound: 100,
-        age: 1 << 48,
+        age: LAST_COUNTER,
         era: 258,
     };
     let bytes = spell(&kept);
@@ -133,6 +134,19 @@ fn a_bound_is_written_once_for_a_hundred_numbers(rt: HostRuntime) -> Result<(), 
 }
 
 #[test]
+fn a_start_crashes_a_disk_that_stopped(rt: HostRuntime) -> Result<(), Fail> {
+    let alloc = rt.alloc();
+    for call in 1..5 {
+        let mut vault = over(alloc, &[], &[(call, Trouble::Stop)], Image::Noise(call))?;
+        assert_eq!(rt; vault.start(), Err(VaultError::VaultFault), "{call}");
+        vault.start()?;
+        assert_eq!(rt; draw_last(&mut vault, 2)?, 2);
+        assert_eq!(rt; vault.faults(), 1);
+    }
+    Ok(())
+}
+
+#[test]
 fn a_counter_goes_on_from_the_bound(rt: HostRuntime) -> Result<(), Fail> {
     let mut vault = over(rt.alloc(), &[], &[], Image::Old)?;
     vault.start()?;
@@ -155,7 +169,7 @@ fn a_counter_goes_on_from_the_bound(rt: HostRuntime) -> Result<(), Fail> {
 #[test]
 fn a_counter_and_an_age_have_an_end(rt: HostRuntime) -> Result<(), Fail> {
     let alloc = rt.alloc();
-    let last = 1 << 48;
+    let last = LAST_COUNTER;
     let mut vault = over(alloc, &[], &[], Image::Old)?;
     vault.start()?;
     vault.forward(last - 1);

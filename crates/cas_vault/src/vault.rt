@@ -1,6 +1,6 @@
 //! A vault on a disk.
 ghost use Rattle.std.specs.Prelude.{◌≡◌, ◌+◌, ◌^◌, ◌≤◌, ◌↔◌, ℕ, List, max, IfOk, OnOk, OnErr, IsErrOf};
-ghost use Rattle.cas_disk.specs.Disk.{LeavesOnly, Only, Elapses};
+ghost use Rattle.cas_disk.specs.Disk.{LeavesOnly, ContinuesOnly, Only, Elapses};
 ghost use Rattle.cas_vault.specs.Codec.{IsKept};
 ghost use Rattle.cas_vault.specs.Error.{HasVaultCause, IsNotForeign};
 ghost use Rattle.cas_vault.specs.declared.kept.Kept.{Kept};
@@ -8,12 +8,10 @@ ghost use Rattle.cas_vault.specs.declared.kept.Kept.{Kept};
 use crate::VaultError;
 use crate::codec::{read, spell};
 use crate::kept::Kept;
+use cas_ballot::LAST_COUNTER;
 use cas_cells::Cells;
 use cas_disk::Disk;
 use std::alloc::Global;
-
-/// The end of counters and ages.
-const LAST: u64 = 1 << 48;
 
 /// How many numbers a bound lies above the number for which it was written.
 const AHEAD: u64 = 99;
@@ -22,6 +20,9 @@ const AHEAD: u64 = 99;
 ///
 /// The counter is in memory alone. No number is drawn above the bound, which is on the disk, so after a crash the counter goes on
 /// from there. The vault is started or reopened before it is used, and reopened again after `VaultFault`.
+///
+/// Each call that changes the disk, and `reopen`, tells the disk to forget what was before it: what a clause says of any moment
+/// holds of the moments since its call began.
 #[derive(Drop)]
 pub struct Vault<V: Disk> {
     cells: Cells<V>,
@@ -51,6 +52,10 @@ impl<V: Disk> Vault<V> {
 
     /// Makes the disk that of a new vault, of which all numbers are 0. It crashes the disk first, so that nothing is pending on it.
     /// After an `Err` what is seen is as before, and it may be called again.
+    ///
+    /// The counter begins at 0 again, so this must be called only where no number was drawn yet, by no vault of this proposer on any
+    /// disk: for a proposer whose name is new, and until `start` has answered `Ok` and a number was drawn. Anything else would draw
+    /// numbers a second time. A vault whose disk holds a record is reopened instead.
     pub fn start(&mut self) -> Result<(), VaultError>
         ensures counter { OnOk result (counter_of self.new ≡ 0) }
         ensures kept { OnOk result (kept_of self.new ≡ fresh) }
@@ -93,6 +98,7 @@ impl<V: Disk> Vault<V> {
         ensures same { OnErr result (kept_of self.new ≡ kept_of self.old) }
         ensures cause { HasVaultCause result (V.fault_count (disk_of self.old)) (V.fault_count (disk_of self.new)) }
     {
+        self.cells.forget_past();
         self.cells.crash();
         self.cells.recover()?;
         let Some(payload) = self.cells.payload(0) else {
@@ -136,7 +142,7 @@ impl<V: Disk> Vault<V> {
         ensures same { OnErr result (kept_of self.new ≡ kept_of self.old) }
         ensures cause { HasVaultCause result (V.fault_count (disk_of self.old)) (V.fault_count (disk_of self.new)) }
     {
-        if self.counter == LAST {
+        if self.counter == LAST_COUNTER {
             return Err(VaultError::Spent);
         }
         let number = self.counter + 1;
@@ -178,7 +184,7 @@ impl<V: Disk> Vault<V> {
         ensures same { OnErr result (kept_of self.new ≡ kept_of self.old) }
         ensures cause { HasVaultCause result (V.fault_count (disk_of self.old)) (V.fault_count (disk_of self.new)) }
     {
-        if self.kept.age == LAST {
+        if self.kept.age == LAST_COUNTER {
             return Err(VaultError::Spent);
         }
         let kept = Kept {
@@ -278,13 +284,13 @@ impl<V: Disk> Vault<V> {
             return Ok(());
         }
         let kept = Kept {
-            bound: (number + AHEAD).min(LAST),
+            bound: (number + AHEAD).min(LAST_COUNTER),
             ..self.kept
         };
         self.keep(kept)
     }
 
-    // Changes what is kept, in the three steps of a cell.
+    // Changes what is kept. The disk need not keep what was before this.
     fn keep(&mut self, kept: Kept) -> Result<(), VaultError>
         requires stands { Stands V.tells V.seen V.may_leave self.old }
         requires fits { IsKept kept }
@@ -292,6 +298,24 @@ impl<V: Disk> Vault<V> {
         ensures counter { counter_of self.new ≡ counter_of self.old }
         ensures stands { OnOk result (Stands V.tells V.seen V.may_leave self.new) }
         ensures any_moment { V.tells → LeavesOnly V.moment V.left_since (disk_of self.old) (disk_of self.new) (IsBeforeOrAfter (kept_of self.old) kept) }
+        ensures after_no_memory { IsErrOf result VaultError.NoMemory → Stands V.tells V.seen V.may_leave self.new }
+        ensures not_spent { IsErrOf result VaultError.Spent → ⊥ }
+        ensures not_foreign { IsNotForeign result }
+        ensures same { OnErr result (kept_of self.new ≡ kept_of self.old) }
+        ensures cause { HasVaultCause result (V.fault_count (disk_of self.old)) (V.fault_count (disk_of self.new)) }
+    {
+        self.cells.forget_past();
+        self.write(kept)
+    }
+
+    // Changes what is kept, in the three steps of a cell.
+    fn write(&mut self, kept: Kept) -> Result<(), VaultError>
+        requires stands { Stands V.tells V.seen V.may_leave self.old }
+        requires fits { IsKept kept }
+        ensures kept { OnOk result (kept_of self.new ≡ kept) }
+        ensures counter { counter_of self.new ≡ counter_of self.old }
+        ensures stands { OnOk result (Stands V.tells V.seen V.may_leave self.new) }
+        ensures any_moment { V.tells → ContinuesOnly V.moment V.left_since (disk_of self.old) (disk_of self.new) (IsBeforeOrAfter (kept_of self.old) kept) }
         ensures after_no_memory { IsErrOf result VaultError.NoMemory → Stands V.tells V.seen V.may_leave self.new }
         ensures not_spent { IsErrOf result VaultError.Spent → ⊥ }
         ensures not_foreign { IsNotForeign result }

@@ -17,6 +17,7 @@ use Rattle.cas_record.specs.Replay.{replay_from, opening_state}
 use Rattle.cas_record.specs.Legal.{calls_of}
 use Rattle.cas_record.specs.Happening.{Happening, Marked, Asked, Promised, Dropped, Entered, marks_of}
 use Rattle.cas_record.specs.Lawful.{Cluster, Lawful, SlotTold, slot_told, MayEnd}
+use Rattle.cas_record.specs.Witness.{three}
 use Rattle.cas_slot.specs.declared.slot.Slot.{Slot}
 use Rattle.cas_slot.specs.declared.slot.Accepted.{Accepted}
 use Rattle.cas_slot.specs.declared.message.Ask.{Ask}
@@ -41,9 +42,6 @@ use Rattle.cas_world.specs.View.{View}
 
 -- ---- the cluster
 -- proposer 1, and three acceptors of which any two are a quorum
-abbrev pub three : List ℕ
-three = 1 ∷ 2 ∷ 3 ∷ []
-
 abbrev pub cluster : Cluster
 cluster = record { greatest = 1; members = λ era. three; prepares = λ era. has_quorum 2 three; accepts = λ era. has_quorum 2 three }
 

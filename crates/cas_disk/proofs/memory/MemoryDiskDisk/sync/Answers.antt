@@ -6,7 +6,7 @@ use Rattle.cas_disk.specs.declared.medium.Write.{Write}
 use Rattle.cas_disk.proofs.memory.MemoryDiskDisk.sync.Goals as goal
 
 pub returns-clause-crash : goal.returns-clause-crash
-returns-clause-crash c tells image left =
+returns-clause-crash c image left =
     let bytes = c.begin.new.self.medium.bytes.items in
     let pending = c.args.self.now.medium.pending.items in
     let same : bytes ≡ c.args.self.now.medium.bytes.items = ap (λ (m : Medium). m.bytes.items) c.begin.ensures.medium in

@@ -10,12 +10,12 @@ use Rattle.cas_vault.proofs.vault.Vault.reopen.Goals as goal
 
 pub returns-in-Ok-clause-any_moment : goal.returns-in-Ok-clause-any_moment
 returns-in-Ok-clause-any_moment g c tells =
-    reread g.V.Disk.moment g.V.Disk.left_since g.V.Disk.may_leave _ _ _ _ (λ image left. g.met.V.Disk.only_now _ image tells left)
+    reread g.V.Disk.moment g.V.Disk.left_since g.V.Disk.may_leave _ _ _ _ _ (c.forget_past.ensures.now tells) (c.forget_past.ensures.kept tells).outcomes (λ image left. g.met.V.Disk.only_now _ image tells left)
     (c.crash.ensures.time tells) (c.crash.ensures.image tells) (c.crash.ensures.settled tells) (c.recover.ensures.read tells).any_moment
 
 pub returns-in-Err-clause-any_moment : goal.returns-in-Err-clause-any_moment
 returns-in-Err-clause-any_moment g c tells =
-    reread g.V.Disk.moment g.V.Disk.left_since g.V.Disk.may_leave _ _ _ _ (λ image left. g.met.V.Disk.only_now _ image tells left)
+    reread g.V.Disk.moment g.V.Disk.left_since g.V.Disk.may_leave _ _ _ _ _ (c.forget_past.ensures.now tells) (c.forget_past.ensures.kept tells).outcomes (λ image left. g.met.V.Disk.only_now _ image tells left)
     (c.crash.ensures.time tells) (c.crash.ensures.image tells) (c.crash.ensures.settled tells) (c.recover.ensures.read tells).any_moment
 
 pub returns-in-Ok-clause-reopened : goal.returns-in-Ok-clause-reopened
@@ -48,5 +48,5 @@ returns-in-Ok-clause-past g c tells n past =
     let read = c.recover.ensures.read tells in
     let held = row_read (cells_of c.recover.new.self) c.in-Some.payload.now c.in-Ok.kept c.in_ok-recover.ensures.stands.row c.in-Some.ensures.held c.in-Ok.ensures.found in
     let here : KeptOn c.in-Ok.kept mid = record { fits = c.in-Ok.ensures.found.fits; row = subst (λ row. StandsFor row mid) held (c.in_ok-recover.ensures.recovered tells) } in
-    past_image g.V.Disk.may_leave c.args.self.now _ mid n (c.crash.ensures.image tells) (λ image left. read.durable image left ∙ read.content)
+    past_image g.V.Disk.may_leave c.args.self.now _ mid n ((c.forget_past.ensures.kept tells).outcomes mid (c.crash.ensures.image tells)) (λ image left. read.durable image left ∙ read.content)
     (λ kept there was bound. omega (arith, bound, ap (λ (k : Kept). k.bound) (same_kept kept c.in-Ok.kept mid there here))) past

@@ -1,0 +1,5 @@
+use Rattle.cas_record.proofs.WitnessLemmas.{witness_is_orderly}
+use Rattle.cas_record.proofs.laws.a_log_is_orderly.Goals as goal
+
+pub returns : goal.returns
+returns c = witness_is_orderly
