@@ -140,7 +140,7 @@ accepted_is old new key ballot era ride state row = elim row [
     repeated (Some a) h = h
 
 -- a ballot that was proposed is not zero
-made_not_zero : (cluster : Cluster) (log : List Happening) {key : List ℕ} {ballot : Ballot} {era : ℕ} {state : State} → Lawful cluster log → IsMadeState (marks_of log) key ballot era state → ballot ≡ zero_ballot → ⊥
+pub made_not_zero : (cluster : Cluster) (log : List Happening) {key : List ℕ} {ballot : Ballot} {era : ℕ} {state : State} → Lawful cluster log → IsMadeState (marks_of log) key ballot era state → ballot ≡ zero_ballot → ⊥
 made_not_zero cluster log lawful made zero =
     let place = stands_in_log log made.stands in
     not_zero cluster lawful place.at (made.same_ballot ∙ zero)
@@ -243,16 +243,21 @@ pub answers : (cluster : Cluster) {log : List Happening} (old new : Contents) (r
 answers cluster {log} old new request reply on asked state known is =
     let did = deeds cluster request old new request.ask reply.tell refl on asked state known is.row in
     let vote = voted cluster request old new request.ask reply.tell on did state is.row in
-    let log' = votes_of request.to request.ask reply.tell ++ (deeds_of request.to old request.ask reply.tell ++ log) in
-    (did, record {
-      lawful = (vote.lawful, tt);
-      orderly = (vote.orderly, record {
-        asked = behind (votes_of request.to request.ask reply.tell) (behind (deeds_of request.to old request.ask reply.tell) asked);
-        from = is.from;
-        to = is.to;
-        phase = is.phase;
-        tag = is.tag;
-        told = told_so cluster request old new request.ask reply.tell on did state is.row;
-      });
-      tells = record { slots = vote.tells.slots; ages = vote.tells.ages; states = vote.tells.states };
-    })
+    let log' = votes_of request.to request.ask reply.tell ++ (deeds_of request.to old request.ask reply.tell ++ log) in (
+      did,
+      record {
+        lawful = (vote.lawful, tt);
+        orderly = (
+          vote.orderly,
+          record {
+            asked = behind (votes_of request.to request.ask reply.tell) (behind (deeds_of request.to old request.ask reply.tell) asked);
+            from = is.from;
+            to = is.to;
+            phase = is.phase;
+            tag = is.tag;
+            told = told_so cluster request old new request.ask reply.tell on did state is.row;
+          },
+        );
+        tells = record { slots = vote.tells.slots; ages = vote.tells.ages; states = vote.tells.states };
+      },
+    )

@@ -47,9 +47,9 @@ promises cluster {log} request old new key ballot accepted is on was same low te
     let told : slot_told log request.to key ≡ told_of slot = on.tells.slots key in
     let round : IsRoundAsk request.ask = subst IsRoundAsk (sym is) tt in
     let may : MayPromise log request.to key ballot (slot_told log request.to key).accepted =
-        may_promise cluster log request.to key ballot on.lawful (dropped_below cluster key ballot on.orderly was round (ap key_of is) (ap tag_of is))
-        (subst (λ (s : SlotTold). BallotAtMost s.promise ballot) (sym told) (low_promise slot ballot low))
-        (subst (λ (s : SlotTold). BallotAtMost s.accepted ballot) (sym told) (low_accepted slot ballot low)) in
+    may_promise cluster log request.to key ballot on.lawful (dropped_below cluster key ballot on.orderly was round (ap key_of is) (ap tag_of is))
+    (subst (λ (s : SlotTold). BallotAtMost s.promise ballot) (sym told) (low_promise slot ballot low))
+    (subst (λ (s : SlotTold). BallotAtMost s.accepted ballot) (sym told) (low_accepted slot ballot low)) in
     let told_is : (slot_told log request.to key).accepted ≡ accepted_ballot accepted = ap (λ (s : SlotTold). s.accepted) told ∙ ap accepted_ballot (sym same) in
     record {
       lawful = (on.lawful, subst (MayPromise log request.to key ballot) told_is may);
@@ -90,9 +90,12 @@ takes cluster {log} request old key ballot era rides state is on was low made =
     let accept : MayAsk cluster was.asked.older request (ask.Accept key ballot era rides state) = subst (MayAsk cluster was.asked.older request) is may_ask in
     let proposed : HasProposal key ballot (marks_of log) = record { proposal = made.proposal; stands = made.stands; same_key = made.same_key; same_ballot = made.same_ballot } in
     record {
-      lawful = (on.lawful, may_take cluster log request.to key ballot on.lawful (dropped_below cluster key ballot on.orderly was round (ap key_of is) (ap tag_of is)) (inl proposed)
-          (subst (λ (s : SlotTold). BallotAtMost s.promise ballot) (sym told) (low_promise slot ballot low))
-          (subst (λ (s : SlotTold). BallotAtMost s.accepted ballot) (sym told) (low_accepted slot ballot low)));
+      lawful = (
+        on.lawful,
+        may_take cluster log request.to key ballot on.lawful (dropped_below cluster key ballot on.orderly was round (ap key_of is) (ap tag_of is)) (inl proposed)
+            (subst (λ (s : SlotTold). BallotAtMost s.promise ballot) (sym told) (low_promise slot ballot low))
+            (subst (λ (s : SlotTold). BallotAtMost s.accepted ballot) (sym told) (low_accepted slot ballot low)),
+      );
       orderly = (on.orderly, record { request = request; was_asked = was; era = era; rides = rides; state = state; is = is; ride_is = refl });
       tells = record {
         slots = slots_put old new_slot (take_changes log request.to key ballot (unwrap_or rides zero_ballot)) refl on.tells.slots;
@@ -125,12 +128,15 @@ drops cluster {log} request old key tomb is on was holds promise =
     let may_ask : MayAsk cluster was.asked.older request request.ask = reason cluster on.orderly was.asked.at in
     let remove : HasFloor key tomb (marks_of was.asked.older) × IsAgedOut was.asked.older request.to key tomb = subst (MayAsk cluster was.asked.older request) is may_ask in
     record {
-      lawful = (on.lawful, record {
-        state = remove.0.state;
-        floor = stands_part remove.0.stands (part_of was.asked.at);
-        holds = ap (λ (s : SlotTold). s.accepted) told ∙ holds;
-        promise = subst (λ (s : SlotTold). BallotAtMost s.promise tomb) (sym told) promise;
-      });
+      lawful = (
+        on.lawful,
+        record {
+          state = remove.0.state;
+          floor = stands_part remove.0.stands (part_of was.asked.at);
+          holds = ap (λ (s : SlotTold). s.accepted) told ∙ holds;
+          promise = subst (λ (s : SlotTold). BallotAtMost s.promise tomb) (sym told) promise;
+        },
+      );
       orderly = (on.orderly, record { request = request; was_asked = was; is = is });
       tells = record {
         slots = slots_dropped old (drop_changes log request.to key tomb) on.tells.slots;

@@ -1,4 +1,7 @@
 pub mod Answered
 pub mod Deeds
+pub mod Growing
 pub mod Pages
+pub mod Proposes
+pub mod Proposing
 pub mod SlotChanges

@@ -1,14 +1,23 @@
 -- What is true of every cluster.
-use Rattle.std.specs.Prelude.{◌≡◌, ℕ, ◌≤◌, List}
+use Rattle.std.specs.Prelude.{◌≡◌, ℕ, ◌≤◌, true, List, Option}
+use Rattle.cas_round.specs.Replies.{promisers_of, accepters_of}
+use Rattle.cas_round.specs.Round.{IsRead}
 use Rattle.cas_slot.specs.declared.message.Request.{Request}
+use Rattle.cas_slot.specs.declared.slot.Accepted.{Accepted}
+use Rattle.cas_slot.specs.Slot.{accepted_ballot}
+use Rattle.cas_record.specs.declared.mark.Proposal.{Proposal}
+use Rattle.cas_record.specs.declared.mark.Acknowledgment.{Acknowledgment}
+use Rattle.cas_record.specs.Chain.{chain_of, link_of}
+use Rattle.cas_record.specs.Replay.{replay_from, opening_state}
 use Rattle.cas_slot.specs.declared.message.Reply.{Reply}
 use Rattle.cas_slot.specs.Contents.{Contents}
 use Rattle.cas_slot.specs.Table.{IsAnswered}
 use Rattle.cas_record.specs.Happening.{Happening, Asked, marks_of}
-use Rattle.cas_record.specs.Lawful.{Cluster, Lawful}
+use Rattle.cas_record.specs.Lawful.{Cluster, Lawful, MayPropose, MayAck}
 use Rattle.cas_record.specs.Orderly.{Orderly}
 use Rattle.cas_record.specs.Places.{Stands}
 use Rattle.cas_cluster.specs.Acceptors.{Tells, IsAskState, done_log, answered_log}
+use Rattle.cas_cluster.specs.Proposers.{AreRepliesTrue, IsOpenRound, IsProposedIn, AreFloorsClear, state_read}
 
 -- the log is lawful and each happening has its reason, and it tells what the acceptor keeps
 pub record GoesOn (cluster : Cluster) (log : List Happening) (id : ℕ) (kept : Contents) : Type 0 where
@@ -24,3 +33,23 @@ AcceptorsAnswerLawfully = (cluster : Cluster) (log : List Happening) (old new : 
     → IsAnswered request.to old request reply new
     → GoesOn cluster (done_log request.to old request reply.tell log) request.to new
     × GoesOn cluster (answered_log request.to old request reply log) request.to new
+
+-- what is read is the state that the history up to the proposal's link leaves
+abbrev pub IsStateRead : List Happening → Proposal → Option Accepted → Type 0
+IsStateRead log p read = state_read read ≡ replay_from (opening_state p.key (marks_of log)) (chain_of p.key (link_of (marks_of log) p) (marks_of log))
+
+-- A proposer whose prepare phase has a quorum may propose at its ballot what it makes of the state that it read: the one of the
+-- greatest ballot that those who promised told, which is the state that the history leaves from which the proposal goes on.
+abbrev pub ProposersProposeLawfully : Type 0
+ProposersProposeLawfully = (cluster : Cluster) (log : List Happening) (p : Proposal) (replies : List Reply) (read : Option Accepted)
+    → Lawful cluster log → Orderly cluster log → IsOpenRound log p.caller p.call p.key p.ballot p.era
+    → AreRepliesTrue log replies → p.prepared_by ≡ promisers_of p.ballot replies → cluster.prepares p.era p.prepared_by ≡ true
+    → IsRead p.ballot replies read → p.read ≡ accepted_ballot read → AreFloorsClear log p.key p.ballot p.prepared_by
+    → MayPropose cluster log p × IsStateRead log p read
+
+-- A proposer whose accept phase has a quorum may have its proposal acknowledged by those that accepted.
+abbrev pub ProposersCountLawfully : Type 0
+ProposersCountLawfully = (cluster : Cluster) (log : List Happening) (a : Acknowledgment) (replies : List Reply)
+    → Lawful cluster log → Orderly cluster log → IsProposedIn log a
+    → AreRepliesTrue log replies → a.by ≡ accepters_of a.ballot replies → cluster.accepts a.era a.by ≡ true
+    → MayAck cluster log a
