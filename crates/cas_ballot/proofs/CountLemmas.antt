@@ -4,7 +4,7 @@ use Rattle.std.specs.Prelude.{cond, ◌==◌, ◌&&◌, ◌||◌, filter}
 use Rattle.std.specs.List.{range_with_len}
 use Rattle.std.proofs.lemmas.Bool.Decides.{nat_tests, eqb_tells}
 use mathlib.Core.Logic.{inl, inr}
-use Rattle.cas_base.proofs.Tests.{or_right, and_right}
+use Rattle.cas_base.proofs.Bools.{or_right, and_right}
 use Rattle.cas_ballot.specs.Members.{members_where, has_member, with_member, without_member, union_of, IsMemberSet}
 use Rattle.cas_ballot.proofs.MemberLemmas.{has-members_where, members_where_same}
 

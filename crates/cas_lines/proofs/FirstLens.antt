@@ -1,5 +1,5 @@
 -- Lemmas on a reader that hands out the first line of what is ahead, or finds that it is too long.
-use Rattle.std.proofs.Common.{◌≡◌, ℕ, zero, suc, ◌+◌, ◌<◌, ◌≤◌, true, false, ◌||◌, ◌==◌, not, cond, List, [], ◌∷◌, ◌++◌, length, get_or, take, drop, Option, Some, None, refl, sym, ap, ◌∙◌, subst, arith, take-append-drop, length-append, append_assoc, append-nil}
+use Rattle.std.proofs.Common.{◌≡◌, ℕ, zero, suc, ◌+◌, ◌<◌, ◌≤◌, true, false, ◌||◌, ◌==◌, not, cond, List, [], ◌∷◌, ◌++◌, length, get_or, take, drop, Option, Some, None, refl, sym, ap, ◌∙◌, subst, arith, take-append-drop, length-append, append-nil}
 use Rattle.std.proofs.lemmas.List.{take-append-le, drop-append-le}
 use Rattle.std.proofs.lemmas.List.Folds.{list_any-append}
 use Rattle.std.proofs.lemmas.List.Sums.{prefix_len-le-length}
@@ -62,6 +62,17 @@ newline_within zero bytes some = absurd cc
 newline_within (suc n) [] some = absurd cc
 newline_within (suc n) (byte ∷ bytes) some = omega arith
 
+-- a newline ends the first line, whatever follows
+pub first_line_ends : (bytes later : List ℕ) → has_newline bytes ≡ true → lines_of (bytes ++ later) ≡ text_of bytes ∷ lines_of (drop_through 10 bytes ++ later)
+first_line_ends bytes later some =
+    let count = length (take_through 10 bytes) in
+    let more : 0 < length (bytes ++ later) = omega (arith, newline_some bytes some, length-append bytes later) in
+    lines_of-some (bytes ++ later) more
+    ∙ ap (λ t. t ∷ lines_of (drop (length (take_through 10 (bytes ++ later))) (bytes ++ later))) (text_of-append bytes later some)
+    ∙ ap (λ l. text_of bytes ∷ lines_of (drop (length l) (bytes ++ later))) (take_through-append bytes later some)
+    ∙ ap (λ l. text_of bytes ∷ lines_of l) (drop-append-le count bytes later (length-take_through-le bytes))
+    ∙ ap (λ rest. text_of bytes ∷ lines_of (rest ++ later)) (drop-length-take_through bytes)
+
 -- a line whose newline is held goes out
 takes_first : (n : ℕ) (held left : List ℕ) → n ≡ LINE_LIMIT → has_newline (take (suc n) held) ≡ true
     → IsFirstLine (held ++ left) (drop (length (take_through 10 held)) held ++ left) (text_of held)
@@ -71,10 +82,7 @@ takes_first n held left is some =
     let more : 0 < length (held ++ left) = omega (arith, newline_some held here, length-append held left) in
     let fits : first_len (held ++ left) ≤ n = first_len-le n (held ++ left) (newline_kept (suc n) held left some) in
     record {
-      first = lines_of-some (held ++ left) more
-          ∙ ap (λ t. t ∷ lines_of (drop (length (take_through 10 (held ++ left))) (held ++ left))) (text_of-append held left here)
-          ∙ ap (λ l. text_of held ∷ lines_of (drop (length l) (held ++ left))) (take_through-append held left here)
-          ∙ ap (λ l. text_of held ∷ lines_of l) (drop-append-le count held left (length-take_through-le held));
+      first = first_line_ends held left here ∙ ap (λ rest. text_of held ∷ lines_of (rest ++ left)) (sym (drop-length-take_through held));
       behind = sym (drop-append-le count held left (length-take_through-le held))
           ∙ ap (λ l. drop (length l) (held ++ left)) (sym (take_through-append held left here))
           ∙ drop-length-take_through (held ++ left);

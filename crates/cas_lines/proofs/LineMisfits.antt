@@ -1,27 +1,26 @@
 -- The first word of a line that does not fit.
-use Rattle.std.proofs.Common.{◌≡◌, ℕ, ◌≤◌, ◌<◌, Bool, true, false, List, [], ◌∷◌, ◌++◌, length, Option, Some, None, Result, Ok, Err, refl, sym, ap, subst, ◌∙◌, arith, inl, inr}
-use Rattle.std.specs.Prelude.{◌≢◌, ◌||◌, ◌==◌, codes, nat_lt, if◌then◌else◌, IfErr, ℤ}
+use Rattle.std.proofs.Common.{◌≡◌, ℕ, ◌≤◌, Bool, true, false, List, ◌∷◌, length, Some, None, Result, Ok, Err, refl, sym, ap, subst, ◌∙◌}
+use Rattle.std.specs.Prelude.{◌||◌, ◌==◌, codes, nat_lt, if◌then◌else◌}
 use Rattle.std.specs.Option.{ok_or, is_some}
 use Rattle.std.proofs.lemmas.Bool.{le-leb, le-ltb}
 use Rattle.cas_change.specs.Key.{IsKey, first_bad_byte}
 use Rattle.cas_change.specs.declared.key.TheConstants.{LONGEST_KEY}
 use Rattle.cas_change.specs.declared.program.TheConstants.{MOST_CLAUSES}
-use Rattle.cas_change.specs.declared.program.Clause.{Clause}
 use Rattle.cas_change_text.specs.declared.refusal.Why.TheVariants as why
 use Rattle.cas_change_text.specs.declared.refusal.TextRefusal.{TextRefusal}
 use Rattle.cas_change_text.specs.Decimal.{u64_of}
 use Rattle.cas_change_text.specs.Misfit.{IsFirstMisfit}
-use Rattle.cas_change_text.specs.Reading.{◌>>=◌, Read, version_at, number_at, text_at, clauses_at, GivesInMemory}
+use Rattle.cas_change_text.specs.Reading.{◌>>=◌, version_at, number_at, text_at, clauses_at}
 use Rattle.cas_change_text.specs.Words.{Word, WordsLeft, words_of, all_of}
-use Rattle.cas_change_text.proofs.BothWays.{bind_ok, from, clauses_found}
-use Rattle.cas_change_text.proofs.Misfits.{said, said_reader, ok_or_err, version_reader, number_reader, text_reader, clauses_whole}
-use Rattle.cas_change_text.proofs.Stopping.{IsReader, IsWhole, Repeats, read_as, after, one_word, one_word_reader, reads_nothing, to_end, whole_to_end, whole_after, made_whole, first_misfit}
+use Rattle.cas_change_text.proofs.BothWays.{bind_ok, clauses_found}
+use Rattle.cas_change_text.proofs.Misfits.{said_reader, ok_or_err, version_reader, number_reader, text_reader, clauses_whole}
+use Rattle.cas_change_text.proofs.Stopping.{IsReader, IsWhole, read_as, after, one_word_reader, reads_nothing, to_end, whole_to_end, whole_after, made_whole, first_misfit}
 use Rattle.cas_lines.specs.declared.command.TheConstants.{LONGEST_LINE}
 use Rattle.cas_lines.specs.declared.command.Command.{Command}
 use Rattle.cas_lines.specs.declared.command.Command.TheVariants.{Get, Set, Num, Init, Add, Cas, CasNum, Del, DelVersion, Do}
 use Rattle.cas_lines.specs.declared.command.CommandName.{CommandName}
 use Rattle.cas_lines.specs.declared.command.CommandName.TheVariants as names
-use Rattle.cas_lines.specs.Command.{IsCaller, IsForm, IsCommand, IsUnlimited, AreCommand, AreUnlimited, is_remark}
+use Rattle.cas_lines.specs.Command.{IsCaller, IsCommand, IsUnlimited, AreCommand, AreUnlimited, is_remark}
 use Rattle.cas_lines.specs.Reading.{begins_with_digit, within, caller_in, caller_at, command_name, name_at, key_in, key_at, command_of, command_at, words_in, line_in}
 use Rattle.cas_lines.proofs.Commands.{command_word, form, front_at, front_found, command_of-found, command_again}
 

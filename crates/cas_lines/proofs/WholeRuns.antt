@@ -1,11 +1,10 @@
 -- Lemmas on a reader of lines over its whole run.
-use Rattle.std.proofs.Common.{◌≡◌, ℕ, suc, ◌+◌, ◌<◌, ◌≤◌, ◌==◌, List, [], ◌∷◌, ◌++◌, length, true, false, Option, Some, None, IfSome, refl, sym, ap, ◌∙◌, arith, length-append, append_assoc, append-nil}
-use Rattle.std.specs.Prelude.{nat_lt}
+use Rattle.std.proofs.Common.{◌≡◌, ℕ, suc, ◌+◌, ◌<◌, ◌≤◌, List, [], ◌∷◌, ◌++◌, length, Option, Some, None, IfSome, refl, sym, ap, ◌∙◌, arith, length-append, append_assoc, append-nil}
 use Rattle.std.specs.Io.BufRead.{drop_through}
 use Rattle.std.specs.Io.KnownBytes.{IsAtEnd}
 use Rattle.std.proofs.lemmas.Bool.Decides.{nat_tests}
 use Rattle.cas_lines.specs.declared.lines.TheConstants.{LINE_LIMIT, MOST_LINES}
-use Rattle.cas_lines.specs.Lines.{lines_of, line_lens, first_len, Ending, Whole, TooMany, TooLong, ending_from, ending_of, LinesState, ahead, IsFirstLine, HandsOut, IsLongLine, HasMore, HasRead, HasHandedOut}
+use Rattle.cas_lines.specs.Lines.{lines_of, line_lens, first_len, Whole, TooMany, TooLong, ending_from, ending_of, LinesState, ahead, HandsOut, IsLongLine, HasMore, HasHandedOut}
 use Rattle.cas_lines.proofs.FirstLines.{line_lens-first}
 
 -- ---- where an input ends

@@ -1,4 +1,5 @@
 pub mod Command
+pub mod Filling
 pub mod Lines
 pub mod Reading
 pub mod Sink

@@ -1,8 +1,11 @@
 -- The lines of an input, and what a reader of lines has before it.
-use Rattle.std.specs.Prelude.{◌≡◌, ℕ, suc, ◌+◌, ◌<◌, ◌≤◌, Bool, false, ◌&&◌, ◌==◌, nat_lt, if◌then◌else◌, List, [], ◌∷◌, ◌++◌, length, Option, IfSome, IsSomeAnd}
+use Rattle.std.specs.Prelude.{◌≡◌, ◌⊎◌, ◌↔◌, ℕ, suc, ◌+◌, ◌<◌, ◌≤◌, Bool, true, false, ◌&&◌, ◌==◌, nat_lt, if◌then◌else◌, List, [], ◌∷◌, ◌++◌, length, Option, Some, None, Result, Ok, Err, IfSome, IsSomeAnd}
 use Rattle.std.specs.List.{list_any, position_or_len}
 use Rattle.std.specs.Io.BufRead.{drop_through}
 use Rattle.std.specs.Io.KnownBytes.{prepend_known}
+use Rattle.cas_lines.specs.Source.{Taken, Bytes, End, Fault}
+use Rattle.cas_lines.specs.declared.lines.LineFault.{LineFault}
+use Rattle.cas_lines.specs.declared.lines.LineFault.TheVariants.{ReadFault}
 use Rattle.cas_lines.specs.declared.lines.TheConstants.{LINE_LIMIT, MOST_LINES}
 
 -- some byte is a newline
@@ -97,6 +100,45 @@ IsLongLine reader left = IfSome (ahead reader left) (λ bytes. LINE_LIMIT < firs
 abbrev pub HasMore : LinesState → Option (List ℕ) → Type 0
 HasMore reader left = IfSome (ahead reader left) (λ bytes. 0 < length bytes)
 
+-- ---- what the source is asked
+-- how many bytes may be held while it is open what comes next: those of a line, or none behind the last line that may be
+abbrev pub room_behind : ℕ → ℕ
+room_behind handed = if handed == MOST_LINES then 0 else LINE_LIMIT
+
+-- it is open what comes next: no newline is there, and no byte beyond the room
+abbrev pub IsOpen : ℕ → List ℕ → Type 0
+IsOpen room bytes = (has_newline bytes ≡ false) × (length bytes ≤ room)
+
+-- a source was asked for what follows the bytes held, each time only while it was open what comes next. It gave these
+pub data Asked {S : Type 0} (gives : S → Taken → S → Type 0) (room : ℕ) (held : List ℕ) (old : S) : List ℕ → S → Type 0 where
+  not_asked : Asked gives room held old [] old
+  asked : {more bytes : List ℕ} {mid new : S} → Asked gives room held old more mid → IsOpen room (held ++ more) → gives mid (Bytes bytes) new → Asked gives room held old (more ++ bytes) new
+
+-- the same up to the end of the input or a fault, where the last call told one
+pub data Heard {S : Type 0} (gives : S → Taken → S → Type 0) (room : ℕ) (held : List ℕ) (old : S) : List ℕ → Option Taken → S → Type 0 where
+  going : {more : List ℕ} {new : S} → Asked gives room held old more new → Heard gives room held old more None new
+  stopped : {more : List ℕ} {mid new : S} {last : Taken} → Asked gives room held old more mid → IsOpen room (held ++ more) → gives mid last new → Heard gives room held old more (Some last) new
+
+-- the text of the first line of the bytes, and what follows it
+abbrev pub IsTextOf : List ℕ → List ℕ → List ℕ → Type 0
+IsTextOf bytes line rest = (line ≡ text_of bytes) × (rest ≡ drop_through 10 bytes)
+
+-- what a reader tells by the bytes ahead and by what stopped its source, and which bytes it holds then: a line whose
+-- newline is there or behind whose bytes the input ended, the end of the input, or a fault, which is the source's exactly
+-- where that one failed
+abbrev pub Tells : List ℕ → Option Taken → Result (Option LineState) LineFault → List ℕ → Type 0
+Tells bytes stop (Ok (Some line)) rest =
+    IsTextOf bytes line.bytes rest × (((stop ≡ None) × (has_newline bytes ≡ true)) ⊎ ((stop ≡ Some End) × (has_newline bytes ≡ false) × (0 < length bytes)))
+Tells bytes stop (Ok None) rest = (stop ≡ Some End) × (bytes ≡ []) × (rest ≡ [])
+Tells bytes stop (Err fault) rest = (stop ≡ Some Fault ↔ fault ≡ ReadFault) × (rest ≡ bytes)
+
+-- what a reader tells after it asked its source only while it was open what comes next
+pub record TellsAtOnce {S : Type 0} (gives : S → Taken → S → Type 0) (old : LinesState) (old_source : S) (result : Result (Option LineState) LineFault) (new : LinesState) (new_source : S) : Type 0 where
+  pub more : List ℕ
+  pub stop : Option Taken
+  pub heard : Heard gives (room_behind old.handed) old.held old_source more stop new_source
+  pub tells : Tells (old.held ++ more) stop result new.held
+
 -- ---- whole runs
 -- of an input these lines were handed out, and these bytes are still ahead
 pub record HasRead (input : List ℕ) (lines : List (List ℕ)) (rest : List ℕ) : Type 0 where
@@ -106,3 +148,27 @@ pub record HasRead (input : List ℕ) (lines : List (List ℕ)) (rest : List ℕ
 -- the same of a reader, where it is known what the input was
 abbrev pub HasHandedOut : Option (List ℕ) → List (List ℕ) → LinesState → Option (List ℕ) → Type 0
 HasHandedOut start lines reader left = IfSome start (λ input. IsSomeAnd (ahead reader left) (λ rest. HasRead input lines rest))
+
+-- ---- what a source told in a whole run
+-- by the ends that it told a source ended these lines, and it gave these bytes since the last of them
+pub data HasTold {S : Type 0} (gives : S → Taken → S → Type 0) (old : S) : List (List ℕ) → List ℕ → S → Type 0 where
+  told_nothing : HasTold gives old [] [] old
+  told_bytes : {lines : List (List ℕ)} {bytes more : List ℕ} {mid new : S} → HasTold gives old lines bytes mid → gives mid (Bytes more) new → HasTold gives old lines (bytes ++ more) new
+  told_end : {lines : List (List ℕ)} {bytes : List ℕ} {mid new : S} → HasTold gives old lines bytes mid → gives mid End new → HasTold gives old (lines ++ lines_of bytes) [] new
+
+-- these lines end within the bytes, whatever follows, and the rest has no newline
+pub record EndWithin (bytes : List ℕ) (lines : List (List ℕ)) (rest : List ℕ) : Type 0 where
+  pub split : (later : List ℕ) → lines_of (bytes ++ later) ≡ lines ++ lines_of (rest ++ later)
+  pub none : has_newline rest ≡ false
+
+-- the last call of a source failed, and these are all lines whose end it told before, be it a newline or the end of the input
+pub record FailsBehind {S : Type 0} (gives : S → Taken → S → Type 0) (old new : S) (lines : List (List ℕ)) : Type 0 where
+  pub told : List (List ℕ)
+  pub bytes : List ℕ
+  pub mid : S
+  pub calls : HasTold gives old told bytes mid
+  pub fails : gives mid Fault new
+  pub ended : List (List ℕ)
+  pub rest : List ℕ
+  pub within : EndWithin bytes ended rest
+  pub all : lines ≡ told ++ ended

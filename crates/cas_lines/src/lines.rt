@@ -7,7 +7,9 @@ ghost use Rattle.std.specs.Io.{StartsWith};
 ghost use Rattle.std.specs.Io.KnownBytes.{Keeps, IsAtEnd, prepend_known};
 ghost use Rattle.std.specs.Io.BufRead.{take_through};
 ghost use Rattle.cas_base.specs.Faults.{Rose};
-ghost use Rattle.cas_lines.specs.Lines.{has_newline, text_of, ahead, HandsOut, IsLongLine, HasMore};
+ghost use Rattle.cas_lines.specs.Source.{Bytes, End, Fault};
+ghost use Rattle.cas_lines.specs.Filling.{GrowsBy, StopsFilling, StopsAtEnd};
+ghost use Rattle.cas_lines.specs.Lines.{has_newline, text_of, ahead, HandsOut, IsLongLine, HasMore, TellsAtOnce};
 ghost use Rattle.cas_lines.specs.declared.lines.LineFault.TheVariants.{ReadFault, NoMemory};
 
 use crate::source::{Failed, Source};
@@ -175,6 +177,10 @@ fn take_piece<S: Source>(
     ensures end { IfOk result (λ count. count ≡ 0 → IsAtEnd (S.remaining source.new)) }
     ensures bound { vec_len held.new ≤ max room (vec_len held.old + 1) }
     ensures err { OnErr result (held.new.items ≡ held.old.items) }
+    ensures bytes { IfOk result (λ count. count ≢ 0 → S.take_gives source.old (Bytes (drop (length held.old.items) held.new.items)) source.new) }
+    ensures ended { IfOk result (λ count. count ≡ 0 → S.take_gives source.old End source.new) }
+    ensures failed { IsErrOf result LineFault.ReadFault → S.take_gives source.old Fault source.new }
+    ensures not_asked { IsErrOf result LineFault.NoMemory → source.new ≡ source.old }
     ensures read_fault { IsErrOf result LineFault.ReadFault → Rose (S.faults_of source.old) (S.faults_of source.new) }
     ensures not_endless { (line : ℕ) → result ≢ Err (LineFault.Endless line) }
     ensures not_too_many { result ≢ Err LineFault.TooManyLines }
@@ -208,6 +214,7 @@ fn fill<S: Source>(source: &mut S, held: &mut Vec<u8>, room: usize) -> Result<Su
     ensures beyond { result ≡ Ok Supply.Beyond → (has_newline (take room held.new.items) ≡ false) × (room < vec_len held.new) }
     ensures bound { vec_len held.new ≤ max (vec_len held.old) (room + 1) }
     ensures ready { has_newline (take room held.old.items) ≡ true → source.new ≡ source.old }
+    ensures asks { GrowsBy S.take_gives room held.old.items source.old (StopsFilling result) held.new.items source.new }
     ensures read_fault { IsErrOf result LineFault.ReadFault → Rose (S.faults_of source.old) (S.faults_of source.new) }
     ensures not_endless { (line : ℕ) → result ≢ Err (LineFault.Endless line) }
     ensures not_too_many { result ≢ Err LineFault.TooManyLines }
@@ -292,6 +299,7 @@ impl Lines {
         ensures err { OnErr result (Keeps (ahead self.old (S.remaining source.old)) (ahead self.new (S.remaining source.new))) }
         ensures handed { self.new.handed ≡ self.old.handed }
         ensures ready { 0 < length self.old.held → source.new ≡ source.old }
+        ensures asks { GrowsBy S.take_gives 0 self.old.held source.old (StopsAtEnd result) self.new.held source.new }
         ensures never_falls { S.faults_of source.old ≤ S.faults_of source.new }
     {
         if !self.held.is_empty() {
@@ -323,6 +331,8 @@ impl Lines {
         ensures read { IfOk result (λ next. IfNone next (IsAtEnd (S.remaining source.new))) }
         ensures ended { IfOk result (λ next. IfNone next (self.new ≡ self.old)) }
 
+        // The source is asked only while it is open what comes next. What its calls gave decides what is told.
+        ensures at_once { TellsAtOnce S.take_gives self.old source.old result self.new source.new }
         // A line whose newline was taken before is handed out with no call of the source.
         ensures ready { has_newline (take LINE_LIMIT self.old.held) ≡ true → source.new ≡ source.old }
 

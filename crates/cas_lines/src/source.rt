@@ -6,7 +6,7 @@
 ghost use Rattle.std.specs.Prelude.{◌≡◌, ℕ, ◌+◌, ◌≤◌, ◌↔◌, ◌++◌, List, Option, Some, None, length, take, drop, min, IsErr, IfOk, Contains};
 ghost use Rattle.std.specs.Io.KnownBytes.{ReadConsumes};
 ghost use Rattle.cas_base.specs.Faults.{FailsByCount};
-ghost use Rattle.cas_lines.specs.Source.{call_after};
+ghost use Rattle.cas_lines.specs.Source.{Taken, taken_of, call_after, CountsFaults, GivesNext};
 
 use cas_base::raised;
 use std::error::Error;
@@ -34,12 +34,16 @@ pub trait Source {
     // how many faults there were. It never falls, and stands still at the greatest u64
     ghost faults_of: { Self → ℕ };
 
+    // what a call may give: the source before it, its answer, and the source after it. Only a call shows that it holds
+    ghost take_gives: { Self → Taken → Self → Type 0 };
+
     /// Puts the next bytes into the front of `buf`, and answers how many. 0 for a buffer with room is the end of the
     /// input. `Failed` comes only where the count of faults rose, and takes no byte.
     fn take(&mut self, buf: &mut [u8]) -> Result<usize, Failed>
         ensures bound { IfOk result (λ count. count ≤ length buf.old) }
         ensures bytes { ReadConsumes (remaining self.old) (remaining self.new) result buf.new }
-        ensures by_count { FailsByCount result (faults_of self.old) (faults_of self.new) };
+        ensures by_count { FailsByCount result (faults_of self.old) (faults_of self.new) }
+        ensures gives { take_gives self.old (taken_of result buf.new) self.new };
 
     /// How many faults there were.
     fn faults(&self) -> u64
@@ -105,12 +109,15 @@ impl Source for MemorySource {
 
     ghost faults_of = { λ s. s.faults };
 
+    ghost take_gives = { GivesNext };
+
     /// Fails exactly at the calls that were named, and else gives as many bytes as there are, as `buf` takes and as a
     /// piece has.
     fn take(&mut self, buf: &mut [u8]) -> Result<usize, Failed>
         ensures bound { IfOk result (λ count. count ≤ length buf.old) }
         ensures bytes { ReadConsumes (Some self.old.left) (Some self.new.left) result buf.new }
         ensures by_count { FailsByCount result self.old.faults self.new.faults }
+        ensures gives { GivesNext self.old (taken_of result buf.new) self.new }
         ensures fails { IsErr result ↔ Contains self.old.failing (call_after self.old.calls) }
         ensures count { IfOk result (λ count. count ≡ min self.old.piece (min (length buf.old) (length self.old.left))) }
         ensures counted { self.new.calls ≡ call_after self.old.calls }
@@ -166,6 +173,8 @@ impl<R: Read> Source for StdSource<R> {
 
     ghost faults_of = { λ s. s.faults };
 
+    ghost take_gives = { λ old taken new. CountsFaults old.faults taken new.faults };
+
     fn take(&mut self, buf: &mut [u8]) -> Result<usize, Failed> {
         match read_whole_call(&mut self.reader, buf) {
             Ok(count) => Ok(count),
@@ -213,6 +222,37 @@ mod tests {
         let mut source = MemorySource::new(Vec::new(rt.alloc()), 1, Vec::new(rt.alloc()));
         assert_eq!(rt; source.take(&mut [0; 4]), Ok(0));
         Ok(())
+    }
+
+    /// A reader into which a signal cuts before it gives its byte.
+    #[derive(Drop)]
+    struct Interrupted {
+        cuts: u32,
+    }
+
+    impl Read for Interrupted {
+        fn read(&mut self, buf: &mut [u8]) -> io::Result<usize> {
+            if self.cuts > 0 {
+                self.cuts -= 1;
+                return Err(ErrorKind::Interrupted.into());
+            }
+            match buf {
+                [first, ..] => {
+                    *first = b'a';
+                    Ok(1)
+                }
+                [] => Ok(0),
+            }
+        }
+    }
+
+    #[test]
+    fn reads_again_where_a_signal_cuts_in(rt: HostRuntime) {
+        let mut source = StdSource::over(Interrupted { cuts: 3 });
+        let mut buf = [0; 2];
+        assert_eq!(rt; source.take(&mut buf), Ok(1));
+        assert_eq!(rt; buf[0], b'a');
+        assert_eq!(rt; source.faults(), 0);
     }
 
     #[test]

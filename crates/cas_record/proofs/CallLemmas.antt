@@ -9,7 +9,7 @@ use Rattle.cas_record.specs.Places.{At, Stands, IsOlderPart, here, past}
 use Rattle.cas_record.specs.Chain.{is_call, has_begun, program_of}
 use Rattle.cas_record.specs.Legal.{calls_of}
 use Rattle.cas_record.proofs.PlaceLemmas.{at_part, older_than, newer_than, at_one, order}
-use Rattle.cas_base.proofs.Tests.{if_true, if_false, both_true, right_false, or_cases, or_left, or_right, not_of_true, not_of_false, false_of_not}
+use Rattle.cas_base.proofs.Bools.{if_true, if_false, both_true, right_false, or_cases, or_left, or_right, not_of_true, not_of_false, false_of_not}
 use Rattle.cas_record.proofs.Tests.{nat_is, call_same, call_is, step_up}
 
 -- the calls of each caller are numbered as they begin

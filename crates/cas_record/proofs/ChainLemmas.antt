@@ -17,7 +17,7 @@ use Rattle.cas_record.specs.Places.{At, IsOlderPart, here, past, whole, later}
 use Rattle.cas_record.specs.Chain.{is_key, is_ballot, is_proposal, has_proposal, has_calls, opens_at, has_opening, floor_below, link_of, entry_of, chain_of, top_of}
 use Rattle.cas_record.specs.Legal.{HasProposal, HasFloor, IsAcked}
 use Rattle.cas_record.proofs.PlaceLemmas.{last_or_in}
-use Rattle.cas_base.proofs.Tests.{if_true, if_false, true_or_false, and_left, and_right, both_true, left_false, right_false, or_cases, or_left, or_right, not_of_true, not_of_false, not_tells}
+use Rattle.cas_base.proofs.Bools.{if_true, if_false, true_or_false, and_left, and_right, both_true, left_false, right_false, or_cases, or_left, or_right, not_of_true, not_of_false, not_tells}
 use Rattle.cas_record.proofs.Tests.{if_both, neither, neither_left, neither_right, key_same, key_refl, ballot_same, less_tells, less_is, IsProposalOf, proposal_tells, proposal_is, step_right, step_left, step_cases}
 
 -- ---- which ballots have a proposal

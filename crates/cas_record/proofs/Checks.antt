@@ -28,7 +28,7 @@ use Rattle.cas_record.specs.Legal.{HasFloor, calls_of, IsBegun, IsProposed, IsEn
 use Rattle.cas_record.specs.Happening.{Happening, Marked, Promised, Took, Dropped, Entered, marks_of}
 use Rattle.cas_record.specs.Lawful.{Cluster, IsMade, in_promise, in_take, in_ride, HasSeenAtMost, IsFloored, MayPromise, MayTake, slot_told, is_slot, MayDrop, IsIn, AllEntered, IsRescanned, IsCollected, MayLeave, MayEnter, Granted, by_promise, by_ride, MayPropose, MayVote, MayAck, MayBeDone, MayAnswer, MayEnd, MayMarkEra, MayMark, May, Lawful}
 use Rattle.cas_record.proofs.PlaceLemmas.{stands_at}
-use Rattle.cas_base.proofs.Tests.{and_left, and_right, or_cases, or_left, or_right, both_true, not_tells, not_both}
+use Rattle.cas_base.proofs.Bools.{and_left, and_right, or_cases, or_left, or_right, both_true, not_tells, not_both}
 use Rattle.cas_record.proofs.Tests.{key_same, key_is, key_refl, ballot_same, ballot_is, less_tells, less_is, nat_same, nat_is, call_same, call_is, slot_same}
 use Rattle.cas_record.proofs.ChainLemmas.{has_proposal_tells, has_proposal_is}
 

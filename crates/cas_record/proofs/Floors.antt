@@ -1,7 +1,7 @@
 -- What an acceptor tells after a floor: nothing accepted, or a ballot at or above the floor.
 use Rattle.std.proofs.Common.{◌≡◌, ℕ, List, [], ◌∷◌, refl, sym, ap, subst}
 use mathlib.Core.Logic.{inl, inr}
-use Rattle.cas_base.proofs.Tests.{if_true, if_false, true_or_false, not_both}
+use Rattle.cas_base.proofs.Bools.{if_true, if_false, true_or_false, not_both}
 use Rattle.cas_ballot.specs.declared.ballot.Ballot.{Ballot}
 use Rattle.cas_ballot.specs.Ballot.{BallotAtMost, BallotLess}
 use Rattle.cas_ballot.proofs.BallotLemmas.{at_most_refl, at_most_of_less, less_not_at_most}

@@ -13,7 +13,7 @@ use Rattle.cas_record.specs.Happening.{Happening, Marked, marks_of}
 use Rattle.cas_record.specs.Lawful.{Cluster, Lawful, MayVote}
 use Rattle.cas_record.specs.Laws.{ChainsExtend, SettledGrows, LawfulIsLegal, EarlierIsLegal}
 use Rattle.cas_record.proofs.PlaceLemmas.{stands_part, at_part, part_part}
-use Rattle.cas_base.proofs.Tests.{or_cases, or_left, or_right}
+use Rattle.cas_base.proofs.Bools.{or_cases, or_left, or_right}
 use Rattle.cas_record.proofs.Tests.{nat_same, nat_is}
 use Rattle.cas_record.proofs.LogLemmas.{ProposedAt, stands_in_log}
 use Rattle.cas_record.proofs.Agreement.{Settles, by_ack, agree_whole}

@@ -19,7 +19,7 @@ use Rattle.cas_record.specs.Legal.{calls_of, IsBegun, IsProposed, IsEnded, IsFir
 use Rattle.cas_record.specs.Happening.{Happening, Marked, marks_of}
 use Rattle.cas_record.specs.Lawful.{Cluster, Lawful, MayEnd, MayBeDone}
 use Rattle.cas_record.proofs.PlaceLemmas.{deeper, stands_at, at_part, part_at, older_than, newer_than, at_one, order, prefix_same, length-prefix}
-use Rattle.cas_base.proofs.Tests.{false_of_not}
+use Rattle.cas_base.proofs.Bools.{false_of_not}
 use Rattle.cas_record.proofs.ChainLemmas.{chain-none, chain-at, has_proposal_tells, entry_place, acked_at_most_top}
 use Rattle.cas_record.proofs.LogLemmas.{law, lawful_older, mark_at, in_log, InLog, part_of, proposal_law, ack_law, floor_law, not_zero, proposal_placed, not_opened, AckedAt, acked_at, proposal_of_acked, above_opening, opening_deeper, has_none_zero, chain_whole, link_begins}
 use Rattle.cas_record.proofs.Agreement.{Seam, Settles, by_ack, by_opening, settles_deeper, settles_begins, settles_top, agree, grows, settled_begins, overtake}

@@ -3,7 +3,7 @@
 use Rattle.std.proofs.Common.{◌≡◌, ℕ, suc, ◌<◌, ◌≤◌, true, false, List, [], ◌∷◌, arith, refl, sym, ap, subst}
 use Rattle.std.specs.Prelude.{◌⊎◌, ◌&&◌, nat_lt}
 use mathlib.Core.Logic.{inl, inr}
-use Rattle.cas_base.proofs.Tests.{true_or_false, both_true, not_both, and_left, and_right}
+use Rattle.cas_base.proofs.Bools.{true_or_false, both_true, not_both, and_left, and_right}
 use Rattle.cas_ballot.specs.declared.ballot.Ballot.{Ballot}
 use Rattle.cas_ballot.specs.Ballot.{BallotAtMost}
 use Rattle.cas_ballot.specs.Members.{has_member}

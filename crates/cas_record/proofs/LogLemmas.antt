@@ -15,7 +15,7 @@ use Rattle.cas_record.specs.Legal.{HasProposal, HasFloor, IsAcked, NoneBegun, Is
 use Rattle.cas_record.specs.Happening.{Happening, Marked, marks_of}
 use Rattle.cas_record.specs.Lawful.{IsMade, Cluster, May, Lawful, MayPropose, MayAck}
 use Rattle.cas_record.proofs.PlaceLemmas.{deeper, stands_deeper, stands_at, older_than, newer_than, at_one, order, none_at_nil}
-use Rattle.cas_base.proofs.Tests.{false_of_not}
+use Rattle.cas_base.proofs.Bools.{false_of_not}
 use Rattle.cas_record.proofs.ChainLemmas.{floor_below_cases, has_proposal_tells, has_proposal_is, opening_tells, no_calls, chain-none, chain-later, chain-at}
 
 -- ---- laws
@@ -95,9 +95,6 @@ proposed_at log h =
 
 pub proposal_placed : {p : Proposal} {older log : List Happening} → At (Marked (Proposed p)) older log → ProposedAt p.key p.ballot log
 proposal_placed {p} {older} at = record { proposal = p; older = older; at = at; same_key = refl; same_ballot = refl }
-
-pub has_of : {key : List ℕ} {ballot : Ballot} {log : List Happening} → ProposedAt key ballot log → HasProposal key ballot (marks_of log)
-has_of p = record { proposal = p.proposal; stands = stands_at (mark_at p.at); same_key = p.same_key; same_ballot = p.same_ballot }
 
 pub proposed_deeper : {key : List ℕ} {ballot : Ballot} {happening : Happening} {older log : List Happening} → ProposedAt key ballot older → At happening older log → ProposedAt key ballot log
 proposed_deeper p at = record { proposal = p.proposal; older = p.older; at = deeper p.at at; same_key = p.same_key; same_ballot = p.same_ballot }

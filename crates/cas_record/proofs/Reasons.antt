@@ -4,7 +4,7 @@ use Rattle.std.proofs.Common.{◌≡◌, ℕ, Bool, true, false, not, List, [], 
 use Rattle.std.specs.Prelude.{◌&&◌, ◌==◌, nat_le, nat_lt, Decides, IfSome, unwrap_or}
 use Rattle.std.specs.List.{list_any}
 use mathlib.Core.Logic.{inl, inr}
-use Rattle.cas_base.proofs.Tests.{if_true, if_false, true_or_false, and_left, and_right, both_true, not_of_false, not_tells, not_both}
+use Rattle.cas_base.proofs.Bools.{if_true, if_false, true_or_false, and_left, and_right, both_true, not_of_false, not_tells, not_both}
 use Rattle.cas_ballot.specs.declared.ballot.Ballot.{Ballot}
 use Rattle.cas_ballot.specs.Ballot.{zero_ballot, BallotAtMost}
 use Rattle.cas_ballot.specs.Members.{has_member}

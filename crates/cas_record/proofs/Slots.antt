@@ -12,7 +12,7 @@ use Rattle.cas_record.specs.Chain.{is_key}
 use Rattle.cas_record.specs.Happening.{Happening, Promised, Took, Dropped, marks_of}
 use Rattle.cas_record.specs.Lawful.{Cluster, IsMade, Lawful, HasSeen, in_promise, in_take, in_ride, MayPromise, MayTake, MayDrop, SlotTold, promised_slot, slot_told, is_slot}
 use Rattle.cas_record.proofs.PlaceLemmas.{none_at_nil, newest_or, stands_part}
-use Rattle.cas_base.proofs.Tests.{if_true, if_false, true_or_false, both_true, not_both}
+use Rattle.cas_base.proofs.Bools.{if_true, if_false, true_or_false, both_true, not_both}
 use Rattle.cas_record.proofs.Tests.{less_is, key_is, nat_is, slot_same}
 use Rattle.cas_record.proofs.LogLemmas.{law, part_of}
 

@@ -7,7 +7,7 @@ use Rattle.std.specs.Ordering.{is_lt, is_eq, MatchOrdering}
 use Rattle.std.proofs.lemmas.Bool.Decides.{eqb_tells}
 use mathlib.Core.Logic.{inl, inr}
 use lib.Pointwise.{bytes_decides}
-use Rattle.cas_base.proofs.Tests.{and_left, and_right, both_true, not_of_false, not_tells, not_both, false_of_not}
+use Rattle.cas_base.proofs.Bools.{and_left, and_right, both_true, not_of_false, not_tells, not_both, false_of_not}
 use Rattle.cas_ballot.specs.declared.ballot.Ballot.{Ballot}
 use Rattle.cas_ballot.specs.Ballot.{ballot_cmp, zero_ballot, greater_of, BallotAtMost, BallotLess}
 use Rattle.cas_ballot.proofs.BallotLemmas.{compared, cmp_refl, at_most_refl, at_most_greater_left, at_most_greater_right, greater_cases, cmp_of_less}

@@ -3,7 +3,7 @@ use Rattle.std.proofs.Common.{◌≡◌, ℕ, suc, zero, ◌<◌, Bool, true, fa
 use Rattle.std.specs.Prelude.{Option, None, Some, cond, ◌||◌, ◌⊎◌, filter, Contains}
 use Rattle.std.specs.List.{filter_map, list_any, cons_option}
 use mathlib.Core.Logic.{inl, inr}
-use Rattle.cas_base.proofs.Tests.{or_right}
+use Rattle.cas_base.proofs.Bools.{or_right}
 
 -- x stands in the list
 abbrev pub Has : {X : Type 0} → X → List X → Type 0

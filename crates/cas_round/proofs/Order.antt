@@ -14,7 +14,7 @@ use Rattle.cas_round.specs.declared.verdict.RoundVerdict.{RoundVerdict}
 use Rattle.cas_round.specs.declared.verdict.RoundVerdict.TheVariants.{Quorum, Met, Aged, Full, Short}
 use Rattle.cas_round.specs.Replies.{heard, is_prepare, is_accept, is_promise, is_acceptance, confirmers_of, met_by, age_by, mets_of, ages_of, fulls_of, accepteds_of}
 use Rattle.cas_round.specs.Round.{IsGreatest, AgeAtMost, IsNoLess, AcceptedAtMost, GreatestOf, IsVerdict}
-use Rattle.cas_base.proofs.Tests.{some_is}
+use Rattle.cas_base.proofs.Bools.{some_is}
 use Rattle.cas_round.specs.Laws.{SameReplies, OneVerdict, OneRead}
 use Rattle.cas_round.proofs.Lists.{Has, has, contains, IsWithin, within_filter, within_map, same_any, nothing_within}
 

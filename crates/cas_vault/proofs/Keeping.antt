@@ -4,7 +4,7 @@ use Rattle.std.specs.Option.{option_map}
 use Rattle.std.proofs.Common.{Result, Ok, Err, Bool, true, false, cond, ltb, ◌≡◌, ⊎_elim, ℕ, ◌+◌, ◌^◌, ◌≤◌, Option, Some, None, List, [], ◌∷◌, length, refl, sym, ap, subst, ◌∙◌, arith}
 use Rattle.std.proofs.lemmas.Bool.{ltb-true, ltb-false}
 use Rattle.std.proofs.lemmas.List.{nil_from_length}
-use Rattle.cas_base.proofs.Tests.{some_is}
+use Rattle.cas_base.proofs.Bools.{some_is}
 use Rattle.cas_disk.specs.Disk.{Only, Elapses, LeavesOnly, ContinuesOnly}
 use Rattle.cas_disk.proofs.Moments.{started, goes_on, weaker, then_on, from_there}
 use Rattle.cas_cells.specs.Format.{StandsFor, head_in, count_told, cells_on, payload_at, payload_place, place_of, payload_in, frame_at, is_open, IsPayload}

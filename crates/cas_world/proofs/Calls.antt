@@ -13,7 +13,7 @@ use Rattle.cas_world.specs.declared.message.Message.{Message}
 use Rattle.cas_world.specs.declared.message.Message.TheVariants as message
 use Rattle.cas_world.specs.Acceptor.{AcceptorView}
 use Rattle.cas_world.specs.Desk.{DeskView, confirmed, phase_at, is_same_phase, is_reply_to, round_after, is_preparing, is_accepting}
-use Rattle.cas_world.specs.Step.{turns_left, after_request, after_frame, after_turn, after_proposal, after_propose}
+use Rattle.cas_world.specs.Step.{turns_left, after_request, after_frame, after_turn}
 use Rattle.cas_world.specs.View.{View}
 
 -- a reply leaves a round in its phase
@@ -57,19 +57,6 @@ by_frame world (message.Reply reply ∷ rest) = record {
 
 pub turn_keeps : (world : View) → KeepsPhase world.desk (after_turn world).desk
 turn_keeps world = by_frame world world.frames
-
--- a proposal turns the round to its accept phase
-pub record TurnsToAccept (old new : DeskView) : Type 0 where
-  pub accepting : is_accepting new.round ≡ true
-  pub calls : new.calls ≡ old.calls
-
-by_stage : (world : View) (caller : ℕ) (round : Round) (stage : Stage) → is_same_phase (phase_at stage) phase.Prepare ≡ true → TurnsToAccept world.desk (after_proposal world caller round stage).desk
-by_stage world caller round (Preparing by read) p = record { accepting = refl; calls = refl }
-by_stage world caller round (Accepting outcome by) p = absurd cc
-
-pub propose_turns : (world : View) (caller : ℕ) (round : Option Round) → is_preparing round ≡ true → TurnsToAccept world.desk (after_propose world caller round).desk
-propose_turns world caller None p = absurd cc
-propose_turns world caller (Some round) p = by_stage world caller round round.stage p
 
 -- where turns are left a message waits, and where none is left none does
 pub some_wait : (frames : List Message) (n : ℕ) → turns_left frames ≡ suc n → frames ≢ []

@@ -1,5 +1,5 @@
 -- What an acceptor does with a request that was made is allowed, and leaves the log and its slots in agreement.
-use Rattle.std.proofs.Common.{◌≡◌, ℕ, Bool, true, false, cond, List, [], ◌∷◌, ◌++◌, refl, sym, ap, ◌∙◌, subst}
+use Rattle.std.proofs.Common.{◌≡◌, ℕ, true, false, List, ◌∷◌, ◌++◌, refl, sym, ap, ◌∙◌, subst}
 use Rattle.std.specs.Prelude.{Option, None, Some, unwrap_or, ◌==◌}
 use Rattle.std.specs.declared.cmp.Ordering.{Ordering}
 use Rattle.std.specs.declared.cmp.Ordering.TheVariants.{Less, Equal, Greater}
@@ -10,11 +10,11 @@ use Rattle.cas_ballot.specs.Ballot.{ballot_cmp, zero_ballot, greater_of, BallotA
 use Rattle.cas_ballot.proofs.BallotLemmas.{compared, at_most_refl, at_most_trans, at_most_of_less, at_most_or_less, at_most_greater_left, at_most_greater_right, not_lt_of_at_most}
 use Rattle.cas_change.specs.declared.state.State.{State}
 use Rattle.cas_record.specs.declared.mark.Mark.TheVariants.{Voted}
-use Rattle.cas_record.specs.Places.{Stands, here, past}
+use Rattle.cas_record.specs.Places.{here}
 use Rattle.cas_record.specs.Chain.{is_key}
-use Rattle.cas_record.specs.Happening.{Happening, Marked, Asked, Promised, Took, Dropped, Entered, marks_of}
+use Rattle.cas_record.specs.Happening.{Happening, Marked, Promised, Took, marks_of}
 use Rattle.cas_record.specs.Lawful.{Lawful, SlotTold, slot_told, promised_slot, is_slot, MayPromise, MayTake}
-use Rattle.cas_base.proofs.Tests.{if_true, if_false, true_or_false, both_true, false_of_not}
+use Rattle.cas_base.proofs.Bools.{if_true, if_false, true_or_false, both_true, false_of_not}
 use Rattle.cas_record.proofs.Tests.{less_is, key_is, key_same, key_refl, nat_is, slot_same}
 use Rattle.cas_record.proofs.Slots.{IsAboveDropped, may_promise, may_take, took_tells}
 use Rattle.cas_record.proofs.LogLemmas.{proposed_at, not_zero}

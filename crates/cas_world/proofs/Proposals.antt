@@ -21,6 +21,7 @@ use Rattle.cas_record.specs.Replay.{replay_from, opening_state}
 use Rattle.cas_record.specs.Legal.{calls_of, IsBegun, IsProposed, IsEnded}
 use Rattle.cas_record.specs.Happening.{Happening, Marked, Asked, marks_of}
 use Rattle.cas_record.specs.Lawful.{Lawful, MayPropose, MayAck, MayEnd, by_promise, IsMade}
+use Rattle.cas_record.specs.Witness.{three}
 use Rattle.cas_record.proofs.PlaceLemmas.{stands_at}
 use Rattle.cas_record.proofs.ChainLemmas.{chain-none, floor_below_cases}
 use Rattle.cas_record.proofs.LogLemmas.{chain_whole, has_none_zero, link_begins}
@@ -38,7 +39,7 @@ use Rattle.cas_world.specs.Desk.{ballot_at, state_of, is_accepting, closed, tell
 use Rattle.cas_world.specs.Sound.{Each}
 use Rattle.cas_world.specs.Step.{accept_request, after_proposal, after_accepting, after_end}
 use Rattle.cas_world.specs.View.{View}
-use Rattle.cas_world.specs.History.{cluster, three, IsProposedState, IsAcceptedState, IsAcceptorTold, IsMessageTrue, IsPlain, IsWithin, IsNoEnd, IsBefore, IsOwnAsk, IsPrepareTrue, IsAcceptTrue, IsStageTrue, IsRoundTrue, HasHistory}
+use Rattle.cas_world.specs.History.{cluster, IsProposedState, IsAcceptedState, IsAcceptorTold, IsMessageTrue, IsPlain, IsWithin, IsNoEnd, IsBefore, IsOwnAsk, IsPrepareTrue, IsAcceptTrue, IsStageTrue, IsRoundTrue, HasHistory}
 use Rattle.cas_world.proofs.Lists.{Each-map}
 use Rattle.cas_world.proofs.Growth.{Grows, each_stands, each_mark, opens_empty, grows_trans, grows_one, mark_grows, message_grows, accept_grows, within_grows}
 use Rattle.cas_world.proofs.Asking.{asks, asks_each, asks_marks, asks_lawful, asks_grows, asks_told, asks_messages, told_more}

@@ -14,7 +14,7 @@ use Rattle.cas_record.specs.declared.mark.Mark.TheVariants.{Voted}
 use Rattle.cas_record.specs.Places.{Stands}
 use Rattle.cas_record.specs.Legal.{calls_of}
 use Rattle.cas_record.specs.Happening.{Happening, Asked, marks_of}
-use Rattle.cas_base.proofs.Tests.{true_or_false, or_cases, and_left, if_true, if_false}
+use Rattle.cas_base.proofs.Bools.{true_or_false, or_cases, and_left, if_true, if_false}
 use Rattle.cas_record.proofs.Tests.{ballot_same, nat_same, less_is, less_tells}
 use Rattle.cas_slot.specs.declared.slot.Accepted.{Accepted}
 use Rattle.cas_slot.specs.declared.message.Request.{Request}

@@ -8,7 +8,6 @@ use Rattle.cas_change.specs.declared.program.Clause.{Clause}
 use Rattle.cas_change.specs.declared.state.State.{State}
 use Rattle.cas_change.specs.declared.state.State.TheVariants.{Empty}
 use Rattle.cas_change.specs.declared.outcome.Outcome.{Outcome}
-use Rattle.cas_change.specs.Outcome.{outcome_of}
 use Rattle.cas_record.specs.declared.answer.Answer.{Answer}
 use Rattle.cas_record.specs.declared.answer.Answer.TheVariants as answer
 use Rattle.cas_record.specs.declared.mark.Acknowledgment.{Acknowledgment}
@@ -93,11 +92,6 @@ is_preparing (Some round) = is_same_phase (phase_at round.stage) phase.Prepare
 abbrev pub is_accepting : Option Round → Bool
 is_accepting None = false
 is_accepting (Some round) = is_same_phase (phase_at round.stage) phase.Accept
-
--- what the round of a prepare phase proposes: the outcome of its program on the state read
-abbrev pub outcome_at_stage : Round → Stage → Outcome
-outcome_at_stage round (Preparing by read) = outcome_of round.program (state_of read)
-outcome_at_stage round (Accepting outcome by) = outcome
 
 -- the round has proposed that outcome, and nobody has accepted it yet
 abbrev pub proposing : Option Round → Outcome → Option Round

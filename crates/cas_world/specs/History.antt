@@ -1,6 +1,6 @@
 -- That the world has a history: a lawful log of all that happened in it, whose marks are the record, and which agrees
 -- with the slots of the acceptors, the messages under way and the proposer. Logs and marks are read newest first here.
-use Rattle.std.specs.Prelude.{◌≡◌, ⊤, ℕ, true, List, [], ◌∷◌, reverse, Option, None, Some, IfSome}
+use Rattle.std.specs.Prelude.{◌≡◌, ⊤, ℕ, true, List, reverse, Option, None, Some, IfSome}
 use Rattle.cas_ballot.specs.declared.ballot.Ballot.{Ballot}
 use Rattle.cas_ballot.specs.Ballot.{zero_ballot, BallotAtMost, BallotLess}
 use Rattle.cas_ballot.specs.Members.{has_member}

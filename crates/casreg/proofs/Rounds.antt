@@ -6,7 +6,7 @@ use Rattle.std.proofs.Common.{arith, ap, subst, sym}
 use Rattle.cas_record.specs.declared.answer.Answer.{Answer}
 use Rattle.cas_record.specs.declared.answer.Answer.TheVariants.{RecordFull, NoMemory}
 use Rattle.cas_world.specs.View.{View}
-use Rattle.casreg.specs.Changes.{IsRefused, full, no_memory}
+use Rattle.casreg.specs.Changes.{HasRoom, IsRefused, full, no_memory}
 
 pub on_err : {T E P : Type 0} (r : Result T E) → is_err r ≡ true → OnErr r P → P
 on_err (Ok x) e p = absurd cc
@@ -32,3 +32,10 @@ refused_by {T} world refusal cause which = elim which [
     other full_is is =
         let same : refusal ≡ RecordFull = cc in
         cc
+
+-- a call that is begun has the room for a round
+pub room_of : {T : Type 0} {x : T} (world : View) → (IsErrOf {E = Answer} (Ok x) RecordFull ↔ (1000000 < length world.marks + 20)) → HasRoom world
+room_of world cause = grind (arith, λ (over : 1000000 < length world.marks + 20). other (cause.1 over))
+  where
+    other : {T : Type 0} {x : T} → IsErrOf {E = Answer} (Ok x) RecordFull → ⊥
+    other is = cc

@@ -1,18 +1,21 @@
 -- A script's run, up to some line.
 use Rattle.std.proofs.Common.{◌≡◌, ℕ, suc, ◌+◌, ◌<◌, List, [], ◌∷◌, ◌++◌, length, arith, length-append, append_assoc, refl, sym, ap, ◌∙◌, subst}
-use Rattle.std.specs.Prelude.{Option, Some, None, IfSome}
+use Rattle.std.specs.Prelude.{Option, Some, None, Ok, IfSome}
 use Rattle.std.specs.Io.KnownBytes.{IsAtEnd, Appends}
 use Rattle.std.proofs.lemmas.List.{append-nil}
 use Rattle.cas_lines.specs.declared.lines.TheConstants.{MOST_LINES}
-use Rattle.cas_lines.specs.Lines.{Whole, TooMany, TooLong, ending_of, LinesState, ahead, HandsOut, HasMore, IsLongLine, HasHandedOut}
+use Rattle.cas_lines.specs.Lines.{Whole, TooMany, TooLong, ending_of, LineState, LinesState, ahead, HandsOut, HasMore, IsLongLine, TellsAtOnce, HasHandedOut}
+use Rattle.cas_lines.specs.Source.{Taken}
+use Rattle.cas_lines.proofs.Told.{HandsOutTold, hands_nothing, hands_told}
 use Rattle.cas_lines.proofs.WholeRuns.{HasHandedOut-nothing, HasHandedOut-line, HasHandedOut-end, HasHandedOut-too_many, HasHandedOut-endless}
 use Rattle.cas_world.specs.View.{View, opened}
 use Rattle.casreg.specs.Script.{LineAnswer, IsAnswered, ScriptRun, none, one_more, text_of, transcript_of}
 
 -- some lines of the input were handed out, and as many were counted, run and answered
-pub record IsMidway (input : Option (List ℕ)) (reader : LinesState) (left old new : Option (List ℕ)) (world : View) : Type 0 where
+pub record IsMidway {S : Type 0} (gives : S → Taken → S → Type 0) (start source : S) (input : Option (List ℕ)) (reader : LinesState) (left old new : Option (List ℕ)) (world : View) : Type 0 where
   pub lines : List (List ℕ)
   pub handed_out : HasHandedOut input lines reader left
+  pub told : HandsOutTold gives start lines reader.held source
   pub counted : reader.handed ≡ length lines
   pub answers : List LineAnswer
   pub run : ScriptRun opened lines answers world
@@ -51,11 +54,12 @@ appends_both (Some xs) (Some ys) None first second p q = absurd q
 appends_both (Some xs) (Some ys) (Some zs) first second p q = q ∙ ap (λ front. front ++ second) p ∙ append_assoc xs first second
 
 -- ---- midway
-pub midway-nothing : (input : Option (List ℕ)) (reader : LinesState) (held : Option (List ℕ)) (world : View) → reader.held ≡ [] → reader.handed ≡ 0 → world ≡ opened
-    → IsMidway input reader input held held world
-midway-nothing input reader held world empty handed new = record {
+pub midway-nothing : {S : Type 0} (gives : S → Taken → S → Type 0) (start : S) (input : Option (List ℕ)) (reader : LinesState) (held : Option (List ℕ)) (world : View) → reader.held ≡ [] → reader.handed ≡ 0 → world ≡ opened
+    → IsMidway gives start start input reader input held held world
+midway-nothing gives start input reader held world empty handed new = record {
   lines = [];
   handed_out = HasHandedOut-nothing input reader empty;
+  told = hands_nothing gives start reader.held empty;
   counted = handed;
   answers = [];
   run = subst (ScriptRun opened [] []) (sym new) none;
@@ -63,20 +67,24 @@ midway-nothing input reader held world empty handed new = record {
 }
 
 -- the next line, which is still to be run
-pub record IsNextLine (input : Option (List ℕ)) (reader : LinesState) (left old held : Option (List ℕ)) (world : View) (line : List ℕ) (number : ℕ) : Type 0 where
+pub record IsNextLine {S : Type 0} (gives : S → Taken → S → Type 0) (start source : S) (input : Option (List ℕ)) (reader : LinesState) (left old held : Option (List ℕ)) (world : View) (line : List ℕ) (number : ℕ) : Type 0 where
   pub lines : List (List ℕ)
   pub handed_out : HasHandedOut input (lines ++ line ∷ []) reader left
+  pub told : HandsOutTold gives start (lines ++ line ∷ []) reader.held source
   pub counted : number ≡ length lines + 1
   pub handed : reader.handed ≡ number
   pub answers : List LineAnswer
   pub run : ScriptRun opened lines answers world
   pub written : Appends old held (transcript_of 1 answers)
 
-pub midway-next : (input left new_left held_old held : Option (List ℕ)) (old new : LinesState) (world : View) (line : List ℕ) (number : ℕ) → IsMidway input old left held_old held world
-    → HandsOut old new left new_left line → old.handed < MOST_LINES → number ≡ old.handed + 1 → new.handed ≡ number → IsNextLine input new new_left held_old held world line number
-midway-next input left new_left held_old held old new world line number m out few number_is handed = record {
+pub midway-next : {S : Type 0} (gives : S → Taken → S → Type 0) (start source new_source : S) (input left new_left held_old held : Option (List ℕ)) (old new : LinesState) (world : View) (line : LineState)
+    → IsMidway gives start source input old left held_old held world
+    → HandsOut old new left new_left line.bytes → TellsAtOnce gives old source (Ok (Some line)) new new_source → old.handed < MOST_LINES → line.number ≡ old.handed + 1 → new.handed ≡ line.number
+    → IsNextLine gives start new_source input new new_left held_old held world line.bytes line.number
+midway-next gives start source new_source input left new_left held_old held old new world line m out at_once few number_is handed = record {
   lines = m.lines;
-  handed_out = HasHandedOut-line input left new_left m.lines old new line m.handed_out out (omega (arith, few, m.counted));
+  told = hands_told gives start m.lines old new line source new_source m.told at_once;
+  handed_out = HasHandedOut-line input left new_left m.lines old new line.bytes m.handed_out out (omega (arith, few, m.counted));
   counted = omega (arith, number_is, m.counted);
   handed = handed;
   answers = m.answers;
@@ -84,12 +92,13 @@ midway-next input left new_left held_old held old new world line number m out fe
   written = m.written;
 }
 
-pub midway-line : (input left old held new : Option (List ℕ)) (reader : LinesState) (world after : View) (line : List ℕ) (number : ℕ) (answer : LineAnswer) (text : List ℕ)
-    → IsNextLine input reader left old held world line number → IsAnswered world line answer after → text ≡ text_of number answer → Appends held new text
-    → IsMidway input reader left old new after
-midway-line input left old held new reader world after line number answer text n is text_is appended = record {
+pub midway-line : {S : Type 0} (gives : S → Taken → S → Type 0) (start source : S) (input left old held new : Option (List ℕ)) (reader : LinesState) (world after : View) (line : List ℕ) (number : ℕ) (answer : LineAnswer) (text : List ℕ)
+    → IsNextLine gives start source input reader left old held world line number → IsAnswered world line answer after → text ≡ text_of number answer → Appends held new text
+    → IsMidway gives start source input reader left old new after
+midway-line gives start source input left old held new reader world after line number answer text n is text_is appended = record {
   lines = n.lines ++ line ∷ [];
   handed_out = n.handed_out;
+  told = n.told;
   counted = omega (arith, n.handed, n.counted, length-append n.lines (line ∷ []));
   answers = n.answers ++ answer ∷ [];
   run = one_more line answer n.run is;
@@ -97,17 +106,17 @@ midway-line input left old held new reader world after line number answer text n
       (appends_both old held new (transcript_of 1 n.answers) text n.written appended);
 }
 
-pub midway-end : (input left old new : Option (List ℕ)) (reader : LinesState) (world : View) → IsMidway input reader left old new world → IsAtEnd (ahead reader left)
+pub midway-end : {S : Type 0} (gives : S → Taken → S → Type 0) (start source : S) (input left old new : Option (List ℕ)) (reader : LinesState) (world : View) → IsMidway gives start source input reader left old new world → IsAtEnd (ahead reader left)
     → IfSome input (λ bytes. ending_of bytes ≡ Whole)
-midway-end None left old new reader world m end = tt
-midway-end (Some bytes) left old new reader world m end = (HasHandedOut-end (Some bytes) left m.lines reader m.handed_out end).0
+midway-end gives start source None left old new reader world m end = tt
+midway-end gives start source (Some bytes) left old new reader world m end = (HasHandedOut-end (Some bytes) left m.lines reader m.handed_out end).0
 
-pub midway-too_many : (input left old new : Option (List ℕ)) (reader : LinesState) (world : View) → IsMidway input reader left old new world → (reader.handed ≡ MOST_LINES) × HasMore reader left
+pub midway-too_many : {S : Type 0} (gives : S → Taken → S → Type 0) (start source : S) (input left old new : Option (List ℕ)) (reader : LinesState) (world : View) → IsMidway gives start source input reader left old new world → (reader.handed ≡ MOST_LINES) × HasMore reader left
     → IfSome input (λ bytes. ending_of bytes ≡ TooMany)
-midway-too_many input left old new reader world m full =
+midway-too_many gives start source input left old new reader world m full =
     HasHandedOut-too_many input left m.lines reader m.handed_out (omega (arith, m.counted, full.0)) full.1
 
-pub midway-endless : (input left old new : Option (List ℕ)) (reader : LinesState) (world : View) (number : ℕ) → IsMidway input reader left old new world
+pub midway-endless : {S : Type 0} (gives : S → Taken → S → Type 0) (start source : S) (input left old new : Option (List ℕ)) (reader : LinesState) (world : View) (number : ℕ) → IsMidway gives start source input reader left old new world
     → (number ≡ reader.handed + 1) × (reader.handed < MOST_LINES) × IsLongLine reader left → IfSome input (λ bytes. ending_of bytes ≡ TooLong number)
-midway-endless input left old new reader world number m long =
+midway-endless gives start source input left old new reader world number m long =
     HasHandedOut-endless input left m.lines reader number m.handed_out (omega (arith, long.1, m.counted)) long.2 (omega (arith, long.0, m.counted))

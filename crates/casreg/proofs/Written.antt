@@ -1,13 +1,15 @@
 -- What was written by the end of a run.
 use Rattle.std.proofs.Common.{◌≡◌, ℕ, suc, ◌+◌, ◌<◌, List, [], ◌∷◌, ◌++◌, length, take, drop, arith, append_assoc, refl, sym, ap, ◌∙◌, subst, Err}
-use Rattle.std.specs.Prelude.{◌⊎◌, ⊤, Option, Some, None, Result, IfErr, IfSome}
+use Rattle.std.specs.Prelude.{◌⊎◌, Option, Some, None, Result, IfErr, IfSome}
 use mathlib.Core.Logic.{inl, inr}
 use Rattle.std.specs.Io.KnownBytes.{IsAtEnd}
 use Rattle.std.proofs.lemmas.List.{append-nil, take-append-drop}
 use Rattle.cas_lines.specs.declared.lines.LineFault.{LineFault}
 use Rattle.cas_lines.specs.declared.lines.LineFault.TheVariants as fault
 use Rattle.cas_lines.specs.declared.lines.TheConstants.{MOST_LINES}
-use Rattle.cas_lines.specs.Lines.{lines_of, Ending, Whole, TooMany, TooLong, ending_of, LinesState, ahead, HasHandedOut, HasMore, IsLongLine}
+use Rattle.cas_lines.specs.Lines.{lines_of, Ending, Whole, TooMany, TooLong, ending_of, LinesState, ahead, HasHandedOut, HasMore, IsLongLine, TellsAtOnce, FailsBehind}
+use Rattle.cas_lines.specs.Source.{Taken}
+use Rattle.cas_lines.proofs.Told.{fails_told}
 use Rattle.cas_lines.specs.Sink.{AppendsFront}
 use Rattle.cas_lines.proofs.WholeRuns.{HasHandedOut-end}
 use Rattle.cas_world.specs.View.{View, opened}
@@ -39,9 +41,9 @@ handed_all None left lines reader h end = tt
 handed_all (Some bytes) left lines reader h end = (HasHandedOut-end (Some bytes) left lines reader h end).1
 
 -- ---- ends
-midway_to : (P : List (List ℕ) → Type 0) (input left old new : Option (List ℕ)) (reader : LinesState) (world : View) → (m : IsMidway input reader left old new world) → P m.lines
+midway_to : {S : Type 0} (gives : S → Taken → S → Type 0) (start source : S) (P : List (List ℕ) → Type 0) (input left old new : Option (List ℕ)) (reader : LinesState) (world : View) → (m : IsMidway gives start source input reader left old new world) → P m.lines
     → AnswersTo P input old new world
-midway_to P input left old new reader world m holds = record {
+midway_to gives start source P input left old new reader world m holds = record {
   lines = m.lines;
   of_input = handed_first input left m.lines reader m.handed_out;
   are = holds;
@@ -50,22 +52,24 @@ midway_to P input left old new reader world m holds = record {
   written = m.written;
 }
 
-pub wrote_all : (input left old new : Option (List ℕ)) (reader : LinesState) (world : View) → IsMidway input reader left old new world → IsAtEnd (ahead reader left)
-    → WroteIn input old new world status.Ok
-wrote_all input left old new reader world m end =
-    midway_to (λ lines. IfSome input (λ bytes. lines ≡ lines_of bytes)) input left old new reader world m (handed_all input left m.lines reader m.handed_out end)
+pub wrote_all : {S : Type 0} (gives : S → Taken → S → Type 0) (start source : S) (input left old new : Option (List ℕ)) (reader : LinesState) (world : View) → IsMidway gives start source input reader left old new world → IsAtEnd (ahead reader left)
+    → AnswersTo (λ lines. IfSome input (λ bytes. lines ≡ lines_of bytes)) input old new world
+wrote_all gives start source input left old new reader world m end =
+    midway_to gives start source (λ lines. IfSome input (λ bytes. lines ≡ lines_of bytes)) input left old new reader world m (handed_all input left m.lines reader m.handed_out end)
 
 -- the next line could not be read
-pub wrote_fault : (input left old new : Option (List ℕ)) (reader : LinesState) (world : View) (f : LineFault) → IsMidway input reader left old new world
+pub wrote_fault : {S : Type 0} (gives : S → Taken → S → Type 0) (start source new_source : S) (input left old new : Option (List ℕ)) (reader new_reader : LinesState) (world : View) (f : LineFault) → IsMidway gives start source input reader left old new world
     → (f ≡ fault.TooManyLines → (reader.handed ≡ MOST_LINES) × HasMore reader left)
     → ((line : ℕ) → f ≡ fault.Endless line → (line ≡ reader.handed + 1) × (reader.handed < MOST_LINES) × IsLongLine reader left)
-    → WroteIn input old new world (status_of_fault f)
-wrote_fault input left old new reader world fault.ReadFault m many endless = midway_to (λ lines. ⊤) input left old new reader world m tt
-wrote_fault input left old new reader world fault.TooManyLines m many endless =
-    midway_to (λ lines. length lines ≡ MOST_LINES) input left old new reader world m (omega (arith, (many refl).0, m.counted))
-wrote_fault input left old new reader world (fault.Endless line) m many endless =
-    midway_to (λ lines. suc (length lines) ≡ line) input left old new reader world m (omega (arith, (endless line refl).0, m.counted))
-wrote_fault input left old new reader world fault.NoMemory m many endless = record {
+    → TellsAtOnce gives reader source (Err f) new_reader new_source
+    → WroteIn (FailsBehind gives start new_source) input old new world (status_of_fault f)
+wrote_fault gives start source new_source input left old new reader new_reader world fault.ReadFault m many endless at_once = midway_to gives start source (FailsBehind gives start new_source) input left old new reader world m
+    (fails_told gives start m.lines reader new_reader source new_source m.told at_once)
+wrote_fault gives start source new_source input left old new reader new_reader world fault.TooManyLines m many endless at_once =
+    midway_to gives start source (λ lines. length lines ≡ MOST_LINES) input left old new reader world m (omega (arith, (many refl).0, m.counted))
+wrote_fault gives start source new_source input left old new reader new_reader world (fault.Endless line) m many endless at_once =
+    midway_to gives start source (λ lines. suc (length lines) ≡ line) input left old new reader world m (omega (arith, (endless line refl).0, m.counted))
+wrote_fault gives start source new_source input left old new reader new_reader world fault.NoMemory m many endless at_once = record {
   lines = m.lines;
   of_input = handed_first input left m.lines reader m.handed_out;
   answers = m.answers;
@@ -77,9 +81,9 @@ wrote_fault input left old new reader world fault.NoMemory m many endless = reco
 }
 
 -- there was no memory for the answer of the next line
-pub wrote_no_answer : (input left old new : Option (List ℕ)) (reader : LinesState) (world after : View) (line : List ℕ) (number : ℕ) → IsNextLine input reader left old new world line number
+pub wrote_no_answer : {S : Type 0} (gives : S → Taken → S → Type 0) (start source : S) (input left old new : Option (List ℕ)) (reader : LinesState) (world after : View) (line : List ℕ) (number : ℕ) → IsNextLine gives start source input reader left old new world line number
     → RanOrNot world line after → AnswersFront input old new after
-wrote_no_answer input left old new reader world after line number n (not_run same) = record {
+wrote_no_answer gives start source input left old new reader world after line number n (not_run same) = record {
   lines = n.lines;
   of_input = front_first input n.lines line (handed_first input left (n.lines ++ line ∷ []) reader n.handed_out);
   answers = n.answers;
@@ -89,7 +93,7 @@ wrote_no_answer input left old new reader world after line number n (not_run sam
   is_front = sym (append-nil (transcript_of 1 n.answers));
   written = n.written;
 }
-wrote_no_answer input left old new reader world after line number n (ran answer is) = record {
+wrote_no_answer gives start source input left old new reader world after line number n (ran answer is) = record {
   lines = n.lines ++ line ∷ [];
   of_input = handed_first input left (n.lines ++ line ∷ []) reader n.handed_out;
   answers = n.answers ++ answer ∷ [];
@@ -101,9 +105,9 @@ wrote_no_answer input left old new reader world after line number n (ran answer 
 }
 
 -- the answer of the next line could not be written whole
-pub wrote_front : (input left old held new : Option (List ℕ)) (reader : LinesState) (world after : View) (line : List ℕ) (number : ℕ) (text : List ℕ)
-    → IsNextLine input reader left old held world line number → AnswersLine world line number text after → AppendsFront held new text → AnswersFront input old new after
-wrote_front input left old held new reader world after line number text n a part = record {
+pub wrote_front : {S : Type 0} (gives : S → Taken → S → Type 0) (start source : S) (input left old held new : Option (List ℕ)) (reader : LinesState) (world after : View) (line : List ℕ) (number : ℕ) (text : List ℕ)
+    → IsNextLine gives start source input reader left old held world line number → AnswersLine world line number text after → AppendsFront held new text → AnswersFront input old new after
+wrote_front gives start source input left old held new reader world after line number text n a part = record {
   lines = n.lines ++ line ∷ [];
   of_input = handed_first input left (n.lines ++ line ∷ []) reader n.handed_out;
   answers = n.answers ++ a.answer ∷ [];
@@ -134,24 +138,24 @@ wrote_nothing input held = record {
 
 -- ---- causes
 -- the end of an input that a fault of its reader tells
-pub fault_ends : (input left old new : Option (List ℕ)) (reader : LinesState) (world : View) (f : LineFault) → IsMidway input reader left old new world
+pub fault_ends : {S : Type 0} (gives : S → Taken → S → Type 0) (start source : S) (input left old new : Option (List ℕ)) (reader : LinesState) (world : View) (f : LineFault) → IsMidway gives start source input reader left old new world
     → (f ≡ fault.TooManyLines → (reader.handed ≡ MOST_LINES) × HasMore reader left)
     → ((line : ℕ) → f ≡ fault.Endless line → (line ≡ reader.handed + 1) × (reader.handed < MOST_LINES) × IsLongLine reader left)
     → (ending : Ending) → status_of_fault f ≡ status_of ending → IfSome input (λ bytes. ending_of bytes ≡ ending)
-fault_ends input left old new reader world fault.ReadFault m many endless Whole is = absurd cc
-fault_ends input left old new reader world fault.ReadFault m many endless TooMany is = absurd cc
-fault_ends input left old new reader world fault.ReadFault m many endless (TooLong line) is = absurd cc
-fault_ends input left old new reader world fault.TooManyLines m many endless Whole is = absurd cc
-fault_ends input left old new reader world fault.TooManyLines m many endless TooMany is = midway-too_many input left old new reader world m (many refl)
-fault_ends input left old new reader world fault.TooManyLines m many endless (TooLong line) is = absurd cc
-fault_ends input left old new reader world (fault.Endless number) m many endless Whole is = absurd cc
-fault_ends input left old new reader world (fault.Endless number) m many endless TooMany is = absurd cc
-fault_ends input left old new reader world (fault.Endless number) m many endless (TooLong line) is =
+fault_ends gives start source input left old new reader world fault.ReadFault m many endless Whole is = absurd cc
+fault_ends gives start source input left old new reader world fault.ReadFault m many endless TooMany is = absurd cc
+fault_ends gives start source input left old new reader world fault.ReadFault m many endless (TooLong line) is = absurd cc
+fault_ends gives start source input left old new reader world fault.TooManyLines m many endless Whole is = absurd cc
+fault_ends gives start source input left old new reader world fault.TooManyLines m many endless TooMany is = midway-too_many gives start source input left old new reader world m (many refl)
+fault_ends gives start source input left old new reader world fault.TooManyLines m many endless (TooLong line) is = absurd cc
+fault_ends gives start source input left old new reader world (fault.Endless number) m many endless Whole is = absurd cc
+fault_ends gives start source input left old new reader world (fault.Endless number) m many endless TooMany is = absurd cc
+fault_ends gives start source input left old new reader world (fault.Endless number) m many endless (TooLong line) is =
     let same : number ≡ line = cc in
-    subst (λ n. IfSome input (λ bytes. ending_of bytes ≡ TooLong n)) same (midway-endless input left old new reader world number m (endless number refl))
-fault_ends input left old new reader world fault.NoMemory m many endless Whole is = absurd cc
-fault_ends input left old new reader world fault.NoMemory m many endless TooMany is = absurd cc
-fault_ends input left old new reader world fault.NoMemory m many endless (TooLong line) is = absurd cc
+    subst (λ n. IfSome input (λ bytes. ending_of bytes ≡ TooLong n)) same (midway-endless gives start source input left old new reader world number m (endless number refl))
+fault_ends gives start source input left old new reader world fault.NoMemory m many endless Whole is = absurd cc
+fault_ends gives start source input left old new reader world fault.NoMemory m many endless TooMany is = absurd cc
+fault_ends gives start source input left old new reader world fault.NoMemory m many endless (TooLong line) is = absurd cc
 
 -- no end of an input makes a write fault or leaves no memory
 pub no_ending : (s : Status) → (s ≡ status.WriteFault) ⊎ (s ≡ status.NoMemory) → (ending : Ending) → s ≡ status_of ending → ⊥

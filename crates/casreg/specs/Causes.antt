@@ -56,18 +56,18 @@ pub record AnswersFront (input old new : Option (List ℕ)) (world : View) : Typ
   pub written : Appends old new front
 
 -- what was written by the end of a run in this world: to all lines of the input, to as many as there may be, to those
--- before the one that is too long, to those that were read, or a front
-abbrev pub WroteIn : Option (List ℕ) → Option (List ℕ) → Option (List ℕ) → View → Status → Type 0
-WroteIn input old new world status.Ok = AnswersTo (λ lines. IfSome input (λ bytes. lines ≡ lines_of bytes)) input old new world
-WroteIn input old new world status.Usage = ⊤
-WroteIn input old new world status.ReadFault = AnswersTo (λ lines. ⊤) input old new world
-WroteIn input old new world status.WriteFault = AnswersFront input old new world
-WroteIn input old new world status.TooManyLines = AnswersTo (λ lines. length lines ≡ MOST_LINES) input old new world
-WroteIn input old new world status.NoMemory = AnswersFront input old new world
-WroteIn input old new world (status.Endless line) = AnswersTo (λ lines. suc (length lines) ≡ line) input old new world
+-- before the one that is too long, to those that had ended when the source failed, or a front
+abbrev pub WroteIn : (List (List ℕ) → Type 0) → Option (List ℕ) → Option (List ℕ) → Option (List ℕ) → View → Status → Type 0
+WroteIn HadEnded input old new world status.Ok = AnswersTo (λ lines. IfSome input (λ bytes. lines ≡ lines_of bytes)) input old new world
+WroteIn HadEnded input old new world status.Usage = ⊤
+WroteIn HadEnded input old new world status.ReadFault = AnswersTo HadEnded input old new world
+WroteIn HadEnded input old new world status.WriteFault = AnswersFront input old new world
+WroteIn HadEnded input old new world status.TooManyLines = AnswersTo (λ lines. length lines ≡ MOST_LINES) input old new world
+WroteIn HadEnded input old new world status.NoMemory = AnswersFront input old new world
+WroteIn HadEnded input old new world (status.Endless line) = AnswersTo (λ lines. suc (length lines) ≡ line) input old new world
 
 -- what was written by the end, by a run in a world whose record is legal
-pub record Wrote (input old new : Option (List ℕ)) (result : Status) : Type 0 where
+pub record Wrote (HadEnded : List (List ℕ) → Type 0) (input old new : Option (List ℕ)) (result : Status) : Type 0 where
   pub world : View
-  pub wrote : WroteIn input old new world result
+  pub wrote : WroteIn HadEnded input old new world result
   pub legal : IsLegal (reverse world.marks)

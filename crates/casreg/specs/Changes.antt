@@ -37,16 +37,20 @@ pub data IsRound (old : View) : View → Type 0 where
   unaccepted : {prepared proposed new : View} → AllTurned old prepared → Step prepared (Propose 1) proposed → FailsToTurn proposed new → IsRound old new
 
 -- ---- a change
--- the answers of a call that is not begun: the record is full, exactly where the marks of a round would not fit, or there
--- was no memory
+-- the marks of a round fit into the record
+abbrev pub HasRoom : View → Type 0
+HasRoom world = length world.marks + ROUND_MARKS ≤ MOST_MARKS
+
+-- the answers of a call that is not begun: the record is full, exactly where the marks of a round do not fit, or there was
+-- no memory
 pub data IsRefused (world : View) : Answer → Type 0 where
   full : MOST_MARKS < length world.marks + ROUND_MARKS → IsRefused world RecordFull
-  no_memory : length world.marks + ROUND_MARKS ≤ MOST_MARKS → IsRefused world (NoMemory false)
+  no_memory : HasRoom world → IsRefused world (NoMemory false)
 
 -- a change as the next call of caller 1, with its answer
 pub data IsChange (old : View) (key : List ℕ) (program : List Clause) : Answer → View → Type 0 where
   -- it is not begun, and changes nothing
   refused : {answer : Answer} → IsRefused old answer → IsChange old key program answer old
-  -- it is begun, has its round, and ends with the answer that the round told
-  ended : {begun told new : View} {answer : Answer} → Step old (Begin 1 (old.desk.calls + 1) key program) begun → IsRound begun told → told.desk.told ≡ Some answer
+  -- there is room for the marks of a round: it is begun, has its round, and ends with the answer that the round told
+  ended : {begun told new : View} {answer : Answer} → HasRoom old → Step old (Begin 1 (old.desk.calls + 1) key program) begun → IsRound begun told → told.desk.told ≡ Some answer
       → Step told (End 1 (old.desk.calls + 1) answer) new → IsChange old key program answer new

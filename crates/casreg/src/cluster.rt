@@ -4,7 +4,7 @@ ghost use Rattle.std.specs.Prelude.{◌≡◌, ◌≢◌, ℕ, ◌+◌, ◌-◌,
 ghost use Rattle.std.specs.Io.KnownBytes.{IsAtEnd};
 ghost use Rattle.cas_base.specs.Faults.{Rose};
 ghost use Rattle.cas_lines.specs.Command.{IsLine};
-ghost use Rattle.cas_lines.specs.Lines.{Ending, Whole, ending_of};
+ghost use Rattle.cas_lines.specs.Lines.{Ending, Whole, ending_of, FailsBehind};
 ghost use Rattle.cas_world.specs.View.{opened};
 ghost use Rattle.casreg.specs.Answers.{bad_line};
 ghost use Rattle.casreg.specs.Causes.{Causes, Wrote, WroteIn, status_of};
@@ -37,7 +37,8 @@ pub fn cluster<R, S: Source, K: Sink>(
     sink: &mut K,
 ) -> Status
     // What was written is the transcript of a script run over the lines of the input, and the record of that run is legal.
-    ensures wrote { Wrote (S.remaining source.old) (K.contents sink.old) (K.contents sink.new) result }
+    // Where the source failed these are all lines that had ended by then, and no others.
+    ensures wrote { Wrote (FailsBehind S.take_gives source.old source.new) (S.remaining source.old) (K.contents sink.old) (K.contents sink.new) result }
     ensures causes { Causes (map string_bytes words.now) (S.remaining source.old)
         (S.faults_of source.old) (S.faults_of source.new) (K.faults_of sink.old) (K.faults_of sink.new) result }
     ensures read { result ≡ Status.Ok → IsAtEnd (S.remaining source.new) }
@@ -76,7 +77,7 @@ fn run_script<S: Source, K: Sink>(
     sink: &mut K,
 ) -> Status
     requires { world ≡ opened }
-    ensures wrote { Wrote (S.remaining source.old) (K.contents sink.old) (K.contents sink.new) result }
+    ensures wrote { Wrote (FailsBehind S.take_gives source.old source.new) (S.remaining source.old) (K.contents sink.old) (K.contents sink.new) result }
     ensures read { result ≡ Status.Ok → IsAtEnd (S.remaining source.new) }
     ensures usage { result ≢ Status.Usage }
     ensures read_fault { result ≡ Status.ReadFault → Rose (S.faults_of source.old) (S.faults_of source.new) }
@@ -99,8 +100,8 @@ fn answer_lines<S: Source, K: Sink>(
     sink: &mut K,
 ) -> Result<(), Status>
     requires { world.old ≡ opened }
-    ensures all { OnOk result (WroteIn (S.remaining source.old) (K.contents sink.old) (K.contents sink.new) world.new Status.Ok) }
-    ensures wrote { IfErr result (λ status. WroteIn (S.remaining source.old) (K.contents sink.old) (K.contents sink.new) world.new status) }
+    ensures all { OnOk result (WroteIn (FailsBehind S.take_gives source.old source.new) (S.remaining source.old) (K.contents sink.old) (K.contents sink.new) world.new Status.Ok) }
+    ensures wrote { IfErr result (λ status. WroteIn (FailsBehind S.take_gives source.old source.new) (S.remaining source.old) (K.contents sink.old) (K.contents sink.new) world.new status) }
     ensures read { OnOk result (IsAtEnd (S.remaining source.new)) }
     ensures whole { OnOk result (IfSome (S.remaining source.old) (λ input. ending_of input ≡ Whole)) }
     ensures fails { IfErr result (λ status. (status ≢ Status.Ok) × (status ≢ Status.Usage)) }

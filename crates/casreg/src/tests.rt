@@ -182,6 +182,11 @@ fn stops_where_the_outside_fails(rt: HostRuntime) -> Result<(), Fail> {
     let source = run(&rt, SCRIPT, b"1 add a 5\n", 4096, (2, 0))?;
     assert_eq!(rt; source.status, Status::ReadFault);
     assert_eq!(rt; source.written.as_slice(), answer.as_slice());
+    let two = b"1 add a 5\n1 add a 2\n1 get a";
+    let source = run(&rt, SCRIPT, two, 4096, (2, 0))?;
+    assert_eq!(rt; source.status, Status::ReadFault);
+    let answers = b"1: done v0 num 5 at 1.1\n1: done v1 num 7 at 2.1\n";
+    assert_eq!(rt; source.written.as_slice(), answers.as_slice());
     let sink = run(&rt, SCRIPT, b"1 add a 5\n", 4096, (0, 1))?;
     assert_eq!(rt; sink.status, Status::WriteFault);
     assert_eq!(rt; sink.written.as_slice(), b"".as_slice());

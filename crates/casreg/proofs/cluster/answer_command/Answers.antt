@@ -1,11 +1,10 @@
-use Rattle.std.proofs.Common.{◌≡◌, ℕ, List, subst, string_bytes, Some}
+use Rattle.std.proofs.Common.{◌≡◌, ℕ, List, subst, string_bytes}
 use Rattle.std.proofs.lemmas.Result.{IfOk-weaker}
 use Rattle.cas_change.specs.declared.program.Clause.{Clause}
-use Rattle.cas_lines.specs.Command.{IsLine, key_of, program_of}
+use Rattle.cas_lines.specs.Command.{key_of, program_of}
 use Rattle.casreg.specs.Answers.{change_line}
 use Rattle.casreg.specs.Changes.{IsChange}
 use Rattle.casreg.specs.Script.{Changed, AnswersLine, ran}
-use Rattle.casreg.specs.declared.cluster.TheConstants.{PROPOSERS}
 use Rattle.casreg.proofs.Rounds.{on_err_of}
 use Rattle.casreg.proofs.cluster.answer_command.Goals as goal
 

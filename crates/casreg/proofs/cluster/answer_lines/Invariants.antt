@@ -6,7 +6,7 @@ use Rattle.casreg.proofs.cluster.answer_lines.Given as goal
 
 abbrev pub invariant-loop-lines : goal.invariant-loop-lines
 invariant-loop-lines g l = record {
-  midway : IsMidway (g.S.Source.remaining l.initial.source) l.lines (g.S.Source.remaining l.source) (g.K.Sink.contents l.initial.sink) (g.K.Sink.contents l.sink) l.world;
+  midway : IsMidway g.S.Source.take_gives l.initial.source l.source (g.S.Source.remaining l.initial.source) l.lines (g.S.Source.remaining l.source) (g.K.Sink.contents l.initial.sink) (g.K.Sink.contents l.sink) l.world;
   counted : l.calls ≡ l.world.desk.calls;
   few : l.calls ≤ l.lines.handed;
   no_round : l.world.desk.round ≡ None;

@@ -1,4 +1,4 @@
--- What tests tell, and that a constructor is told apart.
+-- What tests tell, and that constructors are told apart.
 use Rattle.std.proofs.Common.{◌≡◌, Bool, true, false, not, cond, Some, refl, inl, inr}
 use Rattle.std.specs.Prelude.{◌⊎◌, ◌&&◌, ◌||◌}
 
