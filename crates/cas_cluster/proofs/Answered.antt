@@ -2,7 +2,7 @@
 use Rattle.std.proofs.Common.{◌≡◌, ℕ, ◌≤◌, ◌<◌, Bool, true, false, List, [], ◌∷◌, ◌++◌, Option, Some, None, refl, sym, ap, subst, ◌∙◌, inl, inr, arith}
 use Rattle.std.specs.Prelude.{◌⊎◌, ◌==◌, cond, IsTrue, IsSome, IsSomeAnd, is_some, unwrap_or, take, length}
 use Rattle.std.specs.Ordering.{is_eq}
-use Rattle.cas_base.proofs.Tests.{if_true, if_false, false_of_not}
+use Rattle.cas_base.proofs.Bools.{if_true, if_false, false_of_not}
 use Rattle.cas_ballot.specs.declared.ballot.Ballot.{Ballot}
 use Rattle.cas_ballot.specs.Ballot.{zero_ballot, BallotAtMost, BallotLess}
 use Rattle.cas_ballot.proofs.BallotLemmas.{cmp_refl, at_most_refl, at_most_of_less, at_most_trans, at_most_greater_right}

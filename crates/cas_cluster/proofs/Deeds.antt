@@ -1,7 +1,7 @@
 -- What an acceptor does goes on with the log lawfully, has its reason, and leaves what the log tells then.
 use Rattle.std.proofs.Common.{◌≡◌, ℕ, ◌≤◌, Bool, true, false, List, [], ◌∷◌, Option, Some, None, refl, sym, ap, subst, ◌∙◌, inl, inr, arith}
 use Rattle.std.specs.Prelude.{◌⊎◌, ◌==◌, max, unwrap_or}
-use Rattle.cas_base.proofs.Tests.{if_true, if_false}
+use Rattle.cas_base.proofs.Bools.{if_true, if_false}
 use Rattle.cas_ballot.specs.declared.ballot.Ballot.{Ballot}
 use Rattle.cas_ballot.specs.Ballot.{zero_ballot, BallotAtMost, BallotLess}
 use Rattle.cas_ballot.proofs.BallotLemmas.{at_most_refl, at_most_of_less}

@@ -1,7 +1,7 @@
 -- What stays so when the log goes on.
 use Rattle.std.proofs.Common.{◌≡◌, ℕ, Bool, true, false, not, List, [], ◌∷◌, ◌++◌, Option, Some, None, refl, sym, ap, subst, ◌∙◌, inl, inr}
 use Rattle.std.specs.Prelude.{◌⊎◌, ◌&&◌}
-use Rattle.cas_base.proofs.Tests.{if_false, right_false, not_of_true, true_or_false}
+use Rattle.cas_base.proofs.Bools.{if_false, right_false, not_of_true, true_or_false}
 use Rattle.cas_ballot.specs.declared.ballot.Ballot.{Ballot}
 use Rattle.cas_change.specs.declared.state.State.{State}
 use Rattle.cas_slot.specs.declared.slot.Accepted.{Accepted}

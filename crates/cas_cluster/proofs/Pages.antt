@@ -10,7 +10,7 @@ use Rattle.std.specs.Cmp.Lexicographic.{slice_cmp, nat_list_cmp_total}
 use Rattle.std.specs.BTreeMap.Comparable.{le_lt_trans}
 use Rattle.std.proofs.lemmas.List.{take_all}
 use Rattle.std.specs.FinMap as map
-use Rattle.cas_base.proofs.Tests.{and_left, and_right, or_cases, or_left, or_right, not_both}
+use Rattle.cas_base.proofs.Bools.{and_left, and_right, or_cases, or_left, or_right, not_both}
 use Rattle.cas_slot.specs.declared.slot.Slot.{Slot}
 use Rattle.cas_slot.specs.Contents.{Contents, kept_at}
 use Rattle.cas_slot.specs.Slots.{Slots, is_above, keys_above, rises}

@@ -2,7 +2,7 @@
 use Rattle.std.proofs.Common.{◌≡◌, ◌<◌, ℕ, Bool, true, false, List, [], ◌∷◌, Option, Some, None, refl, sym, ap, subst, ◌∙◌, inl, inr}
 use Rattle.std.specs.Prelude.{◌⊎◌, ◌==◌, ◌&&◌, not, Contains, IfSome}
 use Rattle.std.specs.List.{filter_map}
-use Rattle.cas_base.proofs.Tests.{and_left, and_right, both_true, or_left, or_right, if_false, not_both, not_tells, not_of_false, false_of_not}
+use Rattle.cas_base.proofs.Bools.{and_left, and_right, both_true, or_left, or_right, if_false, not_both, not_tells, not_of_false, false_of_not}
 use Rattle.cas_ballot.specs.declared.ballot.Ballot.{Ballot}
 use Rattle.cas_ballot.specs.Ballot.{zero_ballot, ballot_cmp, BallotAtMost, BallotLess}
 use Rattle.cas_ballot.specs.Members.{has_member}

@@ -2,7 +2,7 @@
 use Rattle.std.proofs.Common.{◌≡◌, ℕ, Bool, true, false, List, [], ◌∷◌, Option, Some, None, refl, sym, ap, subst, ◌∙◌, inl, inr}
 use Rattle.std.specs.Prelude.{◌⊎◌, ◌==◌, ◌&&◌, Contains}
 use Rattle.std.specs.Ordering.{is_eq}
-use Rattle.cas_base.proofs.Tests.{and_left, and_right, true_or_false}
+use Rattle.cas_base.proofs.Bools.{and_left, and_right, true_or_false}
 use Rattle.cas_ballot.specs.declared.ballot.Ballot.{Ballot}
 use Rattle.cas_ballot.specs.Ballot.{zero_ballot, ballot_cmp, BallotAtMost, BallotLess}
 use Rattle.cas_ballot.specs.Members.{has_member}

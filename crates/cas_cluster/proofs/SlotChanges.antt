@@ -2,7 +2,7 @@
 use Rattle.std.proofs.Common.{◌≡◌, ℕ, Bool, true, false, cond, List, [], ◌∷◌, Option, Some, None, refl, sym, ap, subst, ◌∙◌, inl, inr}
 use Rattle.std.specs.Prelude.{◌⊎◌, ◌==◌}
 use Rattle.std.specs.Ordering.{is_lt}
-use Rattle.cas_base.proofs.Tests.{if_true, if_false, both_true, not_both, true_or_false, false_of_not}
+use Rattle.cas_base.proofs.Bools.{if_true, if_false, both_true, not_both, true_or_false, false_of_not}
 use Rattle.cas_ballot.specs.declared.ballot.Ballot.{Ballot}
 use Rattle.cas_ballot.specs.Ballot.{zero_ballot, ballot_cmp, greater_of, BallotAtMost, BallotLess}
 use Rattle.cas_ballot.proofs.BallotLemmas.{at_most_refl, at_most_trans, at_most_greater_left, at_most_greater_right, not_lt_of_at_most}
