@@ -1,10 +1,10 @@
 -- An acceptor's answer goes on with the log lawfully: what it did, its vote, and its reply.
-use Rattle.std.proofs.Common.{◌≡◌, ℕ, ◌≤◌, ◌<◌, Bool, true, false, List, [], ◌∷◌, ◌++◌, Option, Some, None, refl, sym, ap, subst, ◌∙◌, inl, inr, arith}
-use Rattle.std.specs.Prelude.{◌⊎◌, ◌==◌, cond, IsTrue, IsSome, IsSomeAnd, is_some, unwrap_or, take, length}
+use Rattle.std.proofs.Common.{◌≡◌, ℕ, ◌≤◌, Bool, true, false, List, [], ◌∷◌, ◌++◌, Option, Some, None, refl, sym, ap, subst, ◌∙◌, inl, inr, arith}
+use Rattle.std.specs.Prelude.{cond, IsSomeAnd, is_some, unwrap_or}
 use Rattle.std.specs.Ordering.{is_eq}
-use Rattle.cas_base.proofs.Bools.{if_true, if_false, false_of_not}
+use Rattle.cas_base.proofs.Bools.{false_of_not}
 use Rattle.cas_ballot.specs.declared.ballot.Ballot.{Ballot}
-use Rattle.cas_ballot.specs.Ballot.{zero_ballot, BallotAtMost, BallotLess}
+use Rattle.cas_ballot.specs.Ballot.{zero_ballot, BallotAtMost}
 use Rattle.cas_ballot.proofs.BallotLemmas.{cmp_refl, at_most_refl, at_most_of_less, at_most_trans, at_most_greater_right}
 use Rattle.cas_change.specs.declared.state.State.{State}
 use Rattle.cas_change.specs.declared.state.State.TheVariants.{Empty}
@@ -17,21 +17,21 @@ use Rattle.cas_slot.specs.declared.message.Tell.TheVariants as tell
 use Rattle.cas_slot.specs.declared.slot.Accepted.{Accepted}
 use Rattle.cas_slot.specs.declared.slot.Slot.{Slot}
 use Rattle.cas_slot.specs.Ages.{least_age}
-use Rattle.cas_slot.specs.Contents.{Contents, kept_at, with_kept, without_kept, with_raised}
+use Rattle.cas_slot.specs.Contents.{Contents, kept_at}
 use Rattle.cas_slot.specs.Rules.{is_accepted_at}
-use Rattle.cas_slot.specs.Slot.{promise_of, accepted_of, accepted_ballot, seen_of}
+use Rattle.cas_slot.specs.Slot.{accepted_of, accepted_ballot, seen_of}
 use Rattle.cas_slot.proofs.SlotsLemmas.{slot_at-with_slot_same, slot_at-without_slot_same}
-use Rattle.cas_slot.specs.Table.{Handles, Answers, IsAnswered, IsRepeat, IsTombstone, seen_at, accepted_at, promised_at}
+use Rattle.cas_slot.specs.Table.{Handles, Answers, IsAnswered, IsTombstone, seen_at, accepted_at, promised_at}
 use Rattle.cas_record.specs.declared.mark.Mark.{Mark}
 use Rattle.cas_record.specs.declared.mark.Mark.TheVariants.{Voted}
 use Rattle.cas_record.proofs.LogLemmas.{stands_in_log, not_zero}
 use Rattle.cas_record.proofs.Slots.{took_tells}
-use Rattle.cas_record.specs.Happening.{Happening, Marked, Asked, Promised, Took, Dropped, Raised, Replied, marks_of}
+use Rattle.cas_record.specs.Happening.{Happening, Marked, Asked, Promised, Took, Dropped, marks_of}
 use Rattle.cas_record.specs.Lawful.{Cluster, Lawful, SlotTold, slot_told}
 use Rattle.cas_record.specs.Chain.{chain_of}
 use Rattle.cas_record.specs.Replay.{replay_from, opening_state}
-use Rattle.cas_record.specs.Orderly.{Orderly, WasAsked, IsTold, IsTombstoneTold, age_told}
-use Rattle.cas_record.specs.Places.{Stands, At, here, past}
+use Rattle.cas_record.specs.Orderly.{WasAsked, IsTold, IsTombstoneTold}
+use Rattle.cas_record.specs.Places.{Stands, here, past}
 use Rattle.cas_record.proofs.Tests.{ballot_same}
 use Rattle.cas_cluster.specs.Acceptors.{told_of, Tells, IsMadeState, IsAcceptedState, IsAskState, IsEmptyAt, deeds_of, votes_of, done_log, answered_log}
 use Rattle.cas_cluster.specs.Laws.{GoesOn}
@@ -170,6 +170,22 @@ votes cluster {log} id kept key ballot on holds some =
         states = λ q. state_voted (marks_of log) (Voted id key ballot) q (accepted_of (kept_at kept q)) id key ballot refl (on.tells.states q);
       };
     }
+
+-- no deed is a mark
+pub deeds_marks : (id : ℕ) (old : Contents) (log : List Happening) (question : Ask) (answer : Tell) → marks_of (deeds_of id old question answer ++ log) ≡ marks_of log
+deeds_marks id old log (ask.Prepare key ballot) (tell.Promised accepted) = refl
+deeds_marks id old log (ask.Accept key ballot era ride state) tell.Accepted = by_test (is_accepted_at (accepted_at old key) ballot)
+  where
+    by_test : (b : Bool) → marks_of (cond b [] (Took id key ballot (unwrap_or ride zero_ballot) ∷ []) ++ log) ≡ marks_of log
+    by_test true = refl
+    by_test false = refl
+deeds_marks id old log (ask.Ages tag least) tell.AgesSet = refl
+deeds_marks id old log (ask.Remove key tomb) tell.Removed = by_test (is_some (kept_at old key))
+  where
+    by_test : (b : Bool) → marks_of (cond b (Dropped id key tomb ∷ []) [] ++ log) ≡ marks_of log
+    by_test true = refl
+    by_test false = refl
+deeds_marks id old log question answer = refl
 
 -- the log with what the acceptor did and its vote
 pub voted : (cluster : Cluster) {log : List Happening} (request : Request) (old new : Contents) (question : Ask) (answer : Tell)

@@ -1,27 +1,26 @@
 -- What an acceptor does goes on with the log lawfully, has its reason, and leaves what the log tells then.
-use Rattle.std.proofs.Common.{◌≡◌, ℕ, ◌≤◌, Bool, true, false, List, [], ◌∷◌, Option, Some, None, refl, sym, ap, subst, ◌∙◌, inl, inr, arith}
-use Rattle.std.specs.Prelude.{◌⊎◌, ◌==◌, max, unwrap_or}
-use Rattle.cas_base.proofs.Bools.{if_true, if_false}
+use Rattle.std.proofs.Common.{◌≡◌, ℕ, List, ◌∷◌, Option, Some, refl, sym, ap, subst, ◌∙◌, inl, arith}
+use Rattle.std.specs.Prelude.{◌==◌, max, unwrap_or}
+use Rattle.cas_base.proofs.Bools.{if_true}
 use Rattle.cas_ballot.specs.declared.ballot.Ballot.{Ballot}
 use Rattle.cas_ballot.specs.Ballot.{zero_ballot, BallotAtMost, BallotLess}
-use Rattle.cas_ballot.proofs.BallotLemmas.{at_most_refl, at_most_of_less}
 use Rattle.cas_change.specs.declared.state.State.{State}
 use Rattle.cas_slot.specs.declared.ages.Ages.{Ages}
 use Rattle.cas_slot.specs.declared.message.Ask.TheVariants as ask
 use Rattle.cas_slot.specs.declared.message.Request.{Request}
 use Rattle.cas_slot.specs.declared.slot.Accepted.{Accepted}
 use Rattle.cas_slot.specs.declared.slot.Slot.{Slot}
-use Rattle.cas_slot.specs.Ages.{least_age, raised}
+use Rattle.cas_slot.specs.Ages.{least_age}
 use Rattle.cas_slot.specs.Contents.{Contents, kept_at, with_kept, without_kept, with_raised}
 use Rattle.cas_slot.specs.Message.{tag_of}
 use Rattle.cas_slot.specs.Rules.{key_of}
-use Rattle.cas_slot.specs.Slot.{promise_of, accepted_of, accepted_ballot, seen_of}
+use Rattle.cas_slot.specs.Slot.{accepted_ballot}
 use Rattle.cas_slot.specs.Table.{seen_at, accepted_at, promised_at}
 use Rattle.cas_slot.proofs.AgeLemmas.{least_age-raised}
-use Rattle.cas_record.specs.Happening.{Happening, Asked, Promised, Took, Dropped, Raised, marks_of}
-use Rattle.cas_record.specs.Lawful.{Cluster, Lawful, SlotTold, slot_told, promised_slot, MayPromise, MayTake, MayDrop}
+use Rattle.cas_record.specs.Happening.{Happening, Promised, Took, Dropped, Raised, marks_of}
+use Rattle.cas_record.specs.Lawful.{Cluster, SlotTold, slot_told, promised_slot, MayPromise}
 use Rattle.cas_record.specs.Legal.{HasProposal, HasFloor}
-use Rattle.cas_record.specs.Orderly.{Orderly, WasAsked, IsRoundAsk, MayAsk, MayAskFor, MayRide, IsAgedOut, age_told}
+use Rattle.cas_record.specs.Orderly.{Orderly, WasAsked, IsRoundAsk, MayAsk, IsAgedOut, age_told}
 use Rattle.cas_record.proofs.LogLemmas.{part_of}
 use Rattle.cas_record.proofs.Orders.{reason, above_dropped}
 use Rattle.cas_record.proofs.PlaceLemmas.{stands_part}

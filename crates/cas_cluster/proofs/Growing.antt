@@ -1,6 +1,6 @@
 -- What stays so when the log goes on.
-use Rattle.std.proofs.Common.{◌≡◌, ℕ, Bool, true, false, not, List, [], ◌∷◌, ◌++◌, Option, Some, None, refl, sym, ap, subst, ◌∙◌, inl, inr}
-use Rattle.std.specs.Prelude.{◌⊎◌, ◌&&◌}
+use Rattle.std.proofs.Common.{◌≡◌, ℕ, true, not, List, ◌∷◌, Option, Some, None, refl, sym, ap, ◌∙◌, inl, inr}
+use Rattle.std.specs.Prelude.{◌&&◌}
 use Rattle.cas_base.proofs.Bools.{if_false, right_false, not_of_true, true_or_false}
 use Rattle.cas_ballot.specs.declared.ballot.Ballot.{Ballot}
 use Rattle.cas_change.specs.declared.state.State.{State}
@@ -11,12 +11,12 @@ use Rattle.cas_slot.specs.declared.message.Tell.{Tell}
 use Rattle.cas_slot.specs.declared.message.Tell.TheVariants as tell
 use Rattle.cas_record.specs.declared.entry.Entry.{Entry}
 use Rattle.cas_record.specs.declared.mark.Mark.{Mark}
-use Rattle.cas_record.specs.declared.mark.Mark.TheVariants.{Floor, Begun, Proposed}
+use Rattle.cas_record.specs.declared.mark.Mark.TheVariants.{Floor}
 use Rattle.cas_record.specs.Chain.{is_key, has_calls, chain_of}
 use Rattle.cas_record.specs.Replay.{replay_from, opening_state}
 use Rattle.cas_record.specs.Happening.{Happening, Marked, marks_of}
 use Rattle.cas_record.specs.Lawful.{Cluster, Lawful}
-use Rattle.cas_record.specs.Places.{Stands, At, here, past}
+use Rattle.cas_record.specs.Places.{here, past}
 use Rattle.cas_record.proofs.ChainLemmas.{no_calls}
 use Rattle.cas_record.proofs.LogLemmas.{ProposedAt, proposed_at, at_proposal, proposal_law, chain_whole, part_of}
 use Rattle.cas_record.proofs.PlaceLemmas.{stands_part}

@@ -5,3 +5,4 @@ pub mod Pages
 pub mod Proposes
 pub mod Proposing
 pub mod SlotChanges
+pub mod Staying

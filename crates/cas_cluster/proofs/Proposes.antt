@@ -1,12 +1,11 @@
 -- A proposer with a quorum proposes lawfully, and what it read is the state from which its proposal goes on.
-use Rattle.std.proofs.Common.{◌≡◌, ◌<◌, ℕ, Bool, true, false, List, [], ◌∷◌, Option, Some, None, refl, sym, ap, subst, ◌∙◌, inl, inr}
-use Rattle.std.specs.Prelude.{◌⊎◌, ◌==◌, ◌&&◌, not, Contains, IfSome}
-use Rattle.std.specs.List.{filter_map}
+use Rattle.std.proofs.Common.{◌≡◌, ◌<◌, ℕ, true, false, List, [], ◌∷◌, Option, Some, None, refl, sym, ap, subst, ◌∙◌, inl, inr}
+use Rattle.std.specs.Prelude.{◌⊎◌, ◌==◌, ◌&&◌, not, Contains}
 use Rattle.cas_base.proofs.Bools.{and_left, and_right, both_true, or_left, or_right, if_false, not_both, not_tells, not_of_false, false_of_not}
 use Rattle.cas_ballot.specs.declared.ballot.Ballot.{Ballot}
-use Rattle.cas_ballot.specs.Ballot.{zero_ballot, ballot_cmp, BallotAtMost, BallotLess}
+use Rattle.cas_ballot.specs.Ballot.{zero_ballot, BallotAtMost, BallotLess}
 use Rattle.cas_ballot.specs.Members.{has_member}
-use Rattle.cas_ballot.proofs.BallotLemmas.{zero_at_most, at_most_refl, at_most_antisym, at_most_or_less}
+use Rattle.cas_ballot.proofs.BallotLemmas.{zero_at_most, at_most_antisym, at_most_or_less}
 use Rattle.cas_ballot.proofs.MemberLemmas.{members_where_tells, has-members_where}
 use Rattle.cas_change.specs.declared.state.State.{State}
 use Rattle.cas_change.specs.declared.state.State.TheVariants.{Empty}
@@ -21,14 +20,13 @@ use Rattle.cas_round.proofs.Lists.{Has, has, contains, filter_has, has_filter, h
 use Rattle.cas_record.specs.declared.mark.Mark.{Mark}
 use Rattle.cas_record.specs.declared.mark.Mark.TheVariants.{Voted, Floor}
 use Rattle.cas_record.specs.declared.mark.Proposal.{Proposal}
-use Rattle.cas_record.specs.declared.mark.Acknowledgment.{Acknowledgment}
 use Rattle.cas_record.specs.declared.entry.Entry.{Entry}
 use Rattle.cas_record.specs.Chain.{is_key, chain_of, link_of, has_calls, has_opening, opens_at}
 use Rattle.cas_record.specs.Replay.{replay_from, opening_state}
 use Rattle.cas_record.specs.Happening.{Happening, Promised, Drew, marks_of}
-use Rattle.cas_record.specs.Lawful.{Cluster, Lawful, IsIn, IsMade, Granted, MayPropose, MayAck}
+use Rattle.cas_record.specs.Lawful.{Cluster, Lawful, IsIn, IsMade, Granted, MayPropose}
 use Rattle.cas_record.specs.Legal.{HasProposal, HasFloor}
-use Rattle.cas_record.specs.Orderly.{Orderly, MayDraw, IsAboveFloors, WasRead, nothing_read, read_from}
+use Rattle.cas_record.specs.Orderly.{Orderly, MayDraw, WasRead, nothing_read, read_from}
 use Rattle.cas_record.specs.Places.{Stands, At, here, past}
 use Rattle.cas_record.proofs.ChainLemmas.{chain_zero, OpensAt}
 use Rattle.cas_record.proofs.LogLemmas.{ProposedAt, proposed_at, not_opened}
@@ -37,11 +35,11 @@ use Rattle.cas_record.proofs.LinkLemmas.{link_read}
 use Rattle.cas_record.proofs.Orders.{reason}
 use Rattle.cas_record.proofs.PlaceLemmas.{stands_deeper}
 use Rattle.cas_record.proofs.Tests.{nat_same, nat_is, key_same, key_refl, ballot_is}
-use Rattle.cas_cluster.specs.Acceptors.{IsMadeState, IsAcceptedState, IsEmptyAt}
+use Rattle.cas_cluster.specs.Acceptors.{IsAcceptedState, IsEmptyAt}
 use Rattle.cas_cluster.specs.Laws.{IsStateRead, ProposersProposeLawfully, ProposersCountLawfully}
-use Rattle.cas_cluster.specs.Proposers.{IsReplyTrue, AreRepliesTrue, IsOpenRound, IsProposedIn, AreFloorsClear, state_read}
+use Rattle.cas_cluster.specs.Proposers.{AreRepliesTrue, IsOpenRound, AreFloorsClear, state_read}
 use Rattle.cas_cluster.proofs.Answered.{made_not_zero}
-use Rattle.cas_cluster.proofs.Proposing.{IsPromiseTell, promise_told, acceptance_told, HasPromised, promise_heard, vote_heard}
+use Rattle.cas_cluster.proofs.Proposing.{promise_told, acceptance_told, HasPromised, promise_heard, vote_heard}
 
 -- ---- who promised
 -- the reply by which an acceptor promised

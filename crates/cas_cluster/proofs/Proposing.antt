@@ -1,18 +1,12 @@
 -- What a proposer's replies tell of the log: who promised and what was read, and who accepted.
-use Rattle.std.proofs.Common.{◌≡◌, ℕ, Bool, true, false, List, [], ◌∷◌, Option, Some, None, refl, sym, ap, subst, ◌∙◌, inl, inr}
-use Rattle.std.specs.Prelude.{◌⊎◌, ◌==◌, ◌&&◌, Contains}
+use Rattle.std.proofs.Common.{◌≡◌, ℕ, true, List, Option, refl, sym, ap, subst, ◌∙◌}
 use Rattle.std.specs.Ordering.{is_eq}
-use Rattle.cas_base.proofs.Bools.{and_left, and_right, true_or_false}
+use Rattle.cas_base.proofs.Bools.{and_left, and_right}
 use Rattle.cas_ballot.specs.declared.ballot.Ballot.{Ballot}
-use Rattle.cas_ballot.specs.Ballot.{zero_ballot, ballot_cmp, BallotAtMost, BallotLess}
-use Rattle.cas_ballot.specs.Members.{has_member}
-use Rattle.cas_ballot.proofs.BallotLemmas.{at_most_refl, at_most_antisym, at_most_or_less}
-use Rattle.cas_ballot.proofs.MemberLemmas.{members_where_tells}
+use Rattle.cas_ballot.specs.Ballot.{ballot_cmp, BallotAtMost}
 use Rattle.cas_change.specs.declared.state.State.{State}
 use Rattle.cas_slot.specs.declared.message.Ask.{Ask}
 use Rattle.cas_slot.specs.declared.message.Ask.TheVariants as ask
-use Rattle.cas_slot.specs.declared.message.Phase.{Phase}
-use Rattle.cas_slot.specs.declared.message.Phase.TheVariants as phase
 use Rattle.cas_slot.specs.declared.message.Request.{Request}
 use Rattle.cas_slot.specs.declared.message.Reply.{Reply}
 use Rattle.cas_slot.specs.declared.message.Tell.{Tell}
@@ -20,19 +14,18 @@ use Rattle.cas_slot.specs.declared.message.Tell.TheVariants as tell
 use Rattle.cas_slot.specs.declared.slot.Accepted.{Accepted}
 use Rattle.cas_slot.specs.Message.{phase_of, tag_of}
 use Rattle.cas_slot.specs.Slot.{accepted_ballot}
-use Rattle.cas_round.specs.Replies.{is_prepare, is_accept, is_heard, heard, is_promise, is_acceptance, accepted_by, accepteds_of, promisers_of, accepters_of}
-use Rattle.cas_round.proofs.Lists.{Has, has, contains, Passes, filter_has, has_map, any_has}
+use Rattle.cas_round.specs.Replies.{is_prepare, is_accept, is_heard, is_promise, is_acceptance}
 use Rattle.cas_record.specs.declared.mark.Mark.TheVariants.{Voted}
-use Rattle.cas_record.specs.Happening.{Happening, Asked, Promised, Drew, Replied, marks_of}
-use Rattle.cas_record.specs.Lawful.{Cluster, Lawful}
+use Rattle.cas_record.specs.Happening.{Happening, Asked, Promised, Drew, marks_of}
+use Rattle.cas_record.specs.Lawful.{Cluster}
 use Rattle.cas_record.specs.Orderly.{Orderly, MayAsk, MayAskFor, MayReply, IsTold}
 use Rattle.cas_record.specs.Places.{Stands}
 use Rattle.cas_record.proofs.LogLemmas.{part_of}
-use Rattle.cas_record.proofs.Orders.{reason, orderly_older, drawn_once}
-use Rattle.cas_record.proofs.PlaceLemmas.{deeper, stands_deeper, stands_part}
-use Rattle.cas_record.proofs.Tests.{ballot_same, nat_same}
+use Rattle.cas_record.proofs.Orders.{reason, drawn_once}
+use Rattle.cas_record.proofs.PlaceLemmas.{stands_deeper, stands_part}
+use Rattle.cas_record.proofs.Tests.{ballot_same}
 use Rattle.cas_cluster.specs.Acceptors.{IsTellState, IsAcceptedState}
-use Rattle.cas_cluster.specs.Proposers.{IsReplyTrue, AreRepliesTrue}
+use Rattle.cas_cluster.specs.Proposers.{IsReplyTrue}
 
 -- ---- a reply that is heard
 -- what is asked in a prepare phase is a prepare, with the ballot as its tag

@@ -1,15 +1,15 @@
 -- What the log tells of the slots once one of them changed.
-use Rattle.std.proofs.Common.{◌≡◌, ℕ, Bool, true, false, cond, List, [], ◌∷◌, Option, Some, None, refl, sym, ap, subst, ◌∙◌, inl, inr}
-use Rattle.std.specs.Prelude.{◌⊎◌, ◌==◌}
+use Rattle.std.proofs.Common.{◌≡◌, ℕ, true, false, List, ◌∷◌, Option, Some, None, refl, sym, ap, subst, ◌∙◌, inl, inr}
+use Rattle.std.specs.Prelude.{◌==◌}
 use Rattle.std.specs.Ordering.{is_lt}
 use Rattle.cas_base.proofs.Bools.{if_true, if_false, both_true, not_both, true_or_false, false_of_not}
 use Rattle.cas_ballot.specs.declared.ballot.Ballot.{Ballot}
-use Rattle.cas_ballot.specs.Ballot.{zero_ballot, ballot_cmp, greater_of, BallotAtMost, BallotLess}
+use Rattle.cas_ballot.specs.Ballot.{ballot_cmp, greater_of, BallotAtMost, BallotLess}
 use Rattle.cas_ballot.proofs.BallotLemmas.{at_most_refl, at_most_trans, at_most_greater_left, at_most_greater_right, not_lt_of_at_most}
 use Rattle.cas_slot.specs.declared.slot.Accepted.{Accepted}
 use Rattle.cas_slot.specs.declared.slot.Slot.{Slot}
 use Rattle.cas_slot.specs.Contents.{Contents, kept_at, with_kept, without_kept}
-use Rattle.cas_slot.specs.Slot.{promise_of, accepted_of, accepted_ballot, seen_of}
+use Rattle.cas_slot.specs.Slot.{accepted_of, seen_of}
 use Rattle.cas_slot.proofs.SlotsLemmas.{slot_at-with_slot_same, slot_at-with_slot_other, slot_at-without_slot_same, slot_at-without_slot_other}
 use Rattle.cas_record.specs.Chain.{is_key}
 use Rattle.cas_record.specs.Happening.{Happening, Promised, Took, Dropped}

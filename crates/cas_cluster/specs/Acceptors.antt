@@ -1,5 +1,5 @@
 -- That an acceptor is as the log tells, and what it adds to the log when it answers.
-use Rattle.std.specs.Prelude.{◌≡◌, ◌⊎◌, ⊤, ℕ, ◌≤◌, Bool, true, false, List, [], ◌∷◌, ◌++◌, Option, None, Some, Ok, unwrap_or, is_some, if◌then◌else◌}
+use Rattle.std.specs.Prelude.{◌≡◌, ◌⊎◌, ⊤, ℕ, ◌≤◌, true, false, List, [], ◌∷◌, ◌++◌, Option, None, Some, Ok, unwrap_or, is_some, if◌then◌else◌}
 use Rattle.cas_ballot.specs.declared.ballot.Ballot.{Ballot}
 use Rattle.cas_ballot.specs.Ballot.{zero_ballot}
 use Rattle.cas_change.specs.declared.state.State.{State}
@@ -73,10 +73,18 @@ pub record Tells (log : List Happening) (id : ℕ) (kept : Contents) : Type 0 wh
   pub ages : (proposer : ℕ) → proposer ≤ 16 → age_told log id proposer ≤ least_age kept.ages proposer
   pub states : (key : List ℕ) → IsAcceptedState (marks_of log) key (accepted_of (kept_at kept key))
 
+-- a request that the acceptor was asked, and may have been answered so when it stopped
+pub record IsHalfDone (log : List Happening) (id : ℕ) (kept new : Contents) : Type 0 where
+  pub request : Request
+  pub answer : Tell
+  pub was_asked : WasAsked log id request
+  pub known : request.from ≤ 16
+  pub state : IsAskState (marks_of log) request.ask
+  pub row : Handles kept request answer new
+
 -- a crash leaves what is kept, or what the answer to a request that the acceptor was asked would make of it
 abbrev pub IsLeft : List Happening → ℕ → Contents → Left → Type 0
-IsLeft log id kept left = (left ≡ Ok kept)
-    ⊎ ((request : Request) × WasAsked log id request × ((answer : Tell) × (new : Contents) × Handles kept request answer new × (left ≡ Ok new)))
+IsLeft log id kept left = (left ≡ Ok kept) ⊎ ((new : Contents) × IsHalfDone log id kept new × (left ≡ Ok new))
 
 -- the acceptor stopped: whatever a crash leaves goes on from what the log tells
 pub record IsStopped (log : List Happening) (id : ℕ) (may_leave : Left → Type 0) : Type 0 where
@@ -94,6 +102,15 @@ pub record IsAcceptorTrue {S : Type 0} (contents : S → Contents) (is_up : S �
   pub up : a.down ≡ false → is_up a.shelf × Tells log a.id (contents a.shelf)
   pub stopped : a.down ≡ true → a.started ≡ true → IsStopped log a.id (may_leave a.shelf)
   pub untold : a.started ≡ false → IsUntold log a.id
+
+-- ---- what happens elsewhere
+-- the happening is no deed of this acceptor
+abbrev pub IsElsewhere : ℕ → Happening → Type 0
+IsElsewhere id (Promised acceptor key ballot told) = acceptor ≡ id → ⊥
+IsElsewhere id (Took acceptor key ballot ride) = acceptor ≡ id → ⊥
+IsElsewhere id (Dropped acceptor key tombstone) = acceptor ≡ id → ⊥
+IsElsewhere id (Raised acceptor least) = acceptor ≡ id → ⊥
+IsElsewhere id other = ⊤
 
 -- ---- what an answer adds to the log
 -- what the acceptor does: it promises, takes, raises its least ages, removes a slot, or none of these
