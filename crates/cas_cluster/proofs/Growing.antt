@@ -1,0 +1,71 @@
+-- What stays so when the log goes on.
+use Rattle.std.proofs.Common.{◌≡◌, ℕ, true, not, List, ◌∷◌, Option, Some, None, refl, sym, ap, ◌∙◌, inl, inr}
+use Rattle.std.specs.Prelude.{◌&&◌}
+use Rattle.cas_base.proofs.Bools.{if_false, right_false, not_of_true, true_or_false}
+use Rattle.cas_ballot.specs.declared.ballot.Ballot.{Ballot}
+use Rattle.cas_change.specs.declared.state.State.{State}
+use Rattle.cas_slot.specs.declared.slot.Accepted.{Accepted}
+use Rattle.cas_slot.specs.declared.message.Ask.{Ask}
+use Rattle.cas_slot.specs.declared.message.Ask.TheVariants as ask
+use Rattle.cas_slot.specs.declared.message.Tell.{Tell}
+use Rattle.cas_slot.specs.declared.message.Tell.TheVariants as tell
+use Rattle.cas_record.specs.declared.entry.Entry.{Entry}
+use Rattle.cas_record.specs.declared.mark.Mark.{Mark}
+use Rattle.cas_record.specs.declared.mark.Mark.TheVariants.{Floor}
+use Rattle.cas_record.specs.Chain.{is_key, has_calls, chain_of}
+use Rattle.cas_record.specs.Replay.{replay_from, opening_state}
+use Rattle.cas_record.specs.Happening.{Happening, Marked, marks_of}
+use Rattle.cas_record.specs.Lawful.{Cluster, Lawful}
+use Rattle.cas_record.specs.Places.{here, past}
+use Rattle.cas_record.proofs.ChainLemmas.{no_calls}
+use Rattle.cas_record.proofs.LogLemmas.{ProposedAt, proposed_at, at_proposal, proposal_law, chain_whole, part_of}
+use Rattle.cas_record.proofs.PlaceLemmas.{stands_part}
+use Rattle.cas_cluster.specs.Acceptors.{IsMadeState, IsAcceptedState, IsAskState, IsTellState}
+
+-- once a call was begun, the state with which a history starts stays
+opening_stays : (key : List ℕ) (mark : Mark) (older : List Mark) → has_calls older ≡ true → opening_state key (mark ∷ older) ≡ opening_state key older
+opening_stays key (Floor k floor state) older e = if_false (is_key k key && not (has_calls older)) state (opening_state key older) (right_false (is_key k key) (not (has_calls older)) (not_of_true (has_calls older) e))
+opening_stays key mark older e = refl
+
+-- a key that was proposed has a call that was begun
+calls_begun : (cluster : Cluster) (log : List Happening) {key : List ℕ} {ballot : Ballot} → Lawful cluster log → ProposedAt key ballot log → has_calls (marks_of log) ≡ true
+calls_begun cluster log lawful made =
+    let begun = (proposal_law cluster lawful made.at).first.begun in
+    let stands = stands_part begun.stands (part_of made.at) in
+    elim (true_or_false (has_calls (marks_of log))) [ inl some ↦ some | inr none ↦ absurd (no_calls none stands.at) ]
+
+-- ---- states
+-- the state of a proposal stays
+pub made_grows : (cluster : Cluster) (h : Happening) (log : List Happening) {key : List ℕ} {ballot : Ballot} {era : ℕ} {state : State} → Lawful cluster (h ∷ log)
+    → IsMadeState (marks_of log) key ballot era state → IsMadeState (marks_of (h ∷ log)) key ballot era state
+made_grows cluster (Marked mark) log {key} {ballot} lawful s =
+    let made : ProposedAt key ballot log = proposed_at log (record { proposal = s.proposal; stands = s.stands; same_key = s.same_key; same_ballot = s.same_ballot }) in
+    let chain : chain_of key ballot (marks_of log) ≡ chain_of key ballot (mark ∷ marks_of log) = chain_whole cluster {happening = Marked mark} lawful here (at_proposal made) in
+    let opening : opening_state key (mark ∷ marks_of log) ≡ opening_state key (marks_of log) = opening_stays key mark (marks_of log) (calls_begun cluster log lawful.0 made) in
+    record {
+      proposal = s.proposal;
+      stands = record { older = s.stands.older; at = past s.stands.at };
+      same_key = s.same_key;
+      same_ballot = s.same_ballot;
+      same_era = s.same_era;
+      state_is = s.state_is ∙ ap (λ (xs : List Entry). replay_from (opening_state key (marks_of log)) xs) chain ∙ ap (λ (o : State). replay_from o (chain_of key ballot (mark ∷ marks_of log))) (sym opening);
+    }
+made_grows cluster other log lawful s = s
+
+pub accepted_grows : (cluster : Cluster) (h : Happening) (log : List Happening) (key : List ℕ) (accepted : Option Accepted) → Lawful cluster (h ∷ log)
+    → IsAcceptedState (marks_of log) key accepted → IsAcceptedState (marks_of (h ∷ log)) key accepted
+accepted_grows cluster h log key None lawful s = tt
+accepted_grows cluster h log key (Some accepted) lawful s = made_grows cluster h log lawful s
+
+pub ask_grows : (cluster : Cluster) (h : Happening) (log : List Happening) (question : Ask) → Lawful cluster (h ∷ log) → IsAskState (marks_of log) question → IsAskState (marks_of (h ∷ log)) question
+ask_grows cluster h log (ask.Accept key ballot era ride state) lawful s = made_grows cluster h log lawful s
+ask_grows cluster h log (ask.Remove key tomb) lawful s = (s.0, made_grows cluster h log lawful s.1)
+ask_grows cluster h log (ask.Prepare key ballot) lawful s = tt
+ask_grows cluster h log (ask.Ages tag least) lawful s = tt
+ask_grows cluster h log (ask.List tag after) lawful s = tt
+ask_grows cluster h log (ask.Probe tag key) lawful s = tt
+
+pub tell_grows : (cluster : Cluster) (h : Happening) (log : List Happening) (question : Ask) (answer : Tell) → Lawful cluster (h ∷ log) → IsTellState (marks_of log) question answer → IsTellState (marks_of (h ∷ log)) question answer
+tell_grows cluster h log (ask.Prepare key ballot) (tell.Promised accepted) lawful s = accepted_grows cluster h log key accepted lawful s
+tell_grows cluster h log (ask.Probe tag key) (tell.Probed promise accepted) lawful s = accepted_grows cluster h log key accepted lawful s
+tell_grows cluster h log question answer lawful s = s

@@ -1,0 +1,79 @@
+-- What is true of every cluster.
+use Rattle.std.specs.Prelude.{◌≡◌, ℕ, ◌≤◌, true, List, ◌∷◌, ◌++◌, Option, Ok}
+use Rattle.cas_ballot.specs.declared.ballot.Ballot.{Ballot}
+use Rattle.cas_ballot.specs.Ballot.{BallotAtMost, BallotLess}
+use Rattle.cas_round.specs.Replies.{promisers_of, accepters_of}
+use Rattle.cas_round.specs.Round.{IsRead}
+use Rattle.cas_slot.specs.declared.message.Request.{Request}
+use Rattle.cas_slot.specs.declared.slot.Accepted.{Accepted}
+use Rattle.cas_slot.specs.Slot.{accepted_ballot}
+use Rattle.cas_record.specs.declared.mark.Proposal.{Proposal}
+use Rattle.cas_record.specs.declared.mark.Acknowledgment.{Acknowledgment}
+use Rattle.cas_record.specs.Chain.{chain_of, link_of}
+use Rattle.cas_record.specs.Replay.{replay_from, opening_state}
+use Rattle.cas_slot.specs.declared.message.Reply.{Reply}
+use Rattle.cas_slot.specs.Contents.{Contents}
+use Rattle.cas_slot.specs.Shelf.{Left}
+use Rattle.cas_slot.specs.Table.{IsAnswered, accepted_at}
+use Rattle.cas_acceptor.specs.Acceptor.{LeavesByTable}
+use Rattle.cas_record.specs.Happening.{Happening, Asked, Took, Dropped, marks_of}
+use Rattle.cas_record.specs.Lawful.{Cluster, Lawful, MayPropose, MayAck}
+use Rattle.cas_record.specs.Orderly.{Orderly}
+use Rattle.cas_record.specs.Places.{Stands}
+use Rattle.cas_cluster.specs.Acceptors.{Tells, IsAskState, IsElsewhere, IsLeft, done_log, answered_log}
+use Rattle.cas_cluster.specs.Proposers.{AreRepliesTrue, IsOpenRound, IsProposedIn, AreFloorsClear, state_read}
+
+-- the log is lawful and each happening has its reason, and it tells what the acceptor keeps
+pub record GoesOn (cluster : Cluster) (log : List Happening) (id : ℕ) (kept : Contents) : Type 0 where
+  pub lawful : Lawful cluster log
+  pub orderly : Orderly cluster log
+  pub tells : Tells log id kept
+
+-- An acceptor keeps what the log tells, and handles a request that it was asked. Then it keeps what the log tells once it goes on with
+-- what the acceptor did, and once it also goes on with its vote and its reply.
+abbrev pub AcceptorsAnswerLawfully : Type 0
+AcceptorsAnswerLawfully = (cluster : Cluster) (log : List Happening) (old new : Contents) (request : Request) (reply : Reply)
+    → GoesOn cluster log request.to old → Stands (Asked request) log → IsAskState (marks_of log) request.ask → request.from ≤ 16
+    → IsAnswered request.to old request reply new
+    → GoesOn cluster (done_log request.to old request reply.tell log) request.to new
+    × GoesOn cluster (answered_log request.to old request reply log) request.to new
+
+-- What others do changes nothing of what the log tells of an acceptor, be it up or stopped.
+abbrev pub OthersChangeNothing : Type 0
+OthersChangeNothing = (cluster : Cluster) (h : Happening) (log : List Happening) (id : ℕ) → Lawful cluster (h ∷ log) → IsElsewhere id h
+    → ((kept : Contents) → Tells log id kept → Tells (h ∷ log) id kept) × ((kept : Contents) (left : Left) → IsLeft log id kept left → IsLeft (h ∷ log) id kept left)
+
+-- An acceptor that stops within a request leaves what the log tells or what the answer would make of it; and whichever a later crash
+-- leaves, the log goes on with it lawfully, although nobody was answered.
+abbrev pub AcceptorsStopLawfully : Type 0
+AcceptorsStopLawfully = (cluster : Cluster) (log : List Happening) (id : ℕ) (kept : Contents) → GoesOn cluster log id kept
+    → ((request : Request) (left : Left) → Stands (Asked request) log → request.to ≡ id → IsAskState (marks_of log) request.ask → request.from ≤ 16
+    → LeavesByTable kept request left → IsLeft log id kept left)
+    × ((new : Contents) → IsLeft log id kept (Ok new) → (deeds : List Happening) × GoesOn cluster (deeds ++ log) id new × (marks_of (deeds ++ log) ≡ marks_of log))
+
+-- What an acceptor took for a key stays: as long as it did not remove the slot at a tombstone at or above it, the key's accepted ballot
+-- is at least that.
+abbrev pub WhatWasTakenStays : Type 0
+WhatWasTakenStays = (cluster : Cluster) (log : List Happening) (id : ℕ) (kept : Contents) (key : List ℕ) (ballot ride : Ballot) → GoesOn cluster log id kept
+    → Stands (Took id key ballot ride) log → ((tomb : Ballot) → Stands (Dropped id key tomb) log → BallotLess tomb ballot)
+    → BallotAtMost ballot (accepted_ballot (accepted_at kept key))
+
+-- what is read is the state that the history up to the proposal's link leaves
+abbrev pub IsStateRead : List Happening → Proposal → Option Accepted → Type 0
+IsStateRead log p read = state_read read ≡ replay_from (opening_state p.key (marks_of log)) (chain_of p.key (link_of (marks_of log) p) (marks_of log))
+
+-- A proposer whose prepare phase has a quorum may propose at its ballot what it makes of the state that it read: the one of the
+-- greatest ballot that those who promised told, which is the state that the history leaves from which the proposal goes on.
+abbrev pub ProposersProposeLawfully : Type 0
+ProposersProposeLawfully = (cluster : Cluster) (log : List Happening) (p : Proposal) (replies : List Reply) (read : Option Accepted)
+    → Lawful cluster log → Orderly cluster log → IsOpenRound log p.caller p.call p.key p.ballot p.era
+    → AreRepliesTrue log replies → p.prepared_by ≡ promisers_of p.ballot replies → cluster.prepares p.era p.prepared_by ≡ true
+    → IsRead p.ballot replies read → p.read ≡ accepted_ballot read → AreFloorsClear log p.key p.ballot p.prepared_by
+    → MayPropose cluster log p × IsStateRead log p read
+
+-- A proposer whose accept phase has a quorum may have its proposal acknowledged by those that accepted.
+abbrev pub ProposersCountLawfully : Type 0
+ProposersCountLawfully = (cluster : Cluster) (log : List Happening) (a : Acknowledgment) (replies : List Reply)
+    → Lawful cluster log → Orderly cluster log → IsProposedIn log a
+    → AreRepliesTrue log replies → a.by ≡ accepters_of a.ballot replies → cluster.accepts a.era a.by ≡ true
+    → MayAck cluster log a

@@ -1,0 +1,4 @@
+pub mod Acceptors
+pub mod Laws
+pub mod Proposers
+pub mod View
