@@ -19,7 +19,8 @@ use Rattle.cas_cells.specs.declared.change.Step.TheVariants.{Closed, Written}
 use Rattle.cas_cells.proofs.Sound.{both_shut}
 use Rattle.cas_cells.proofs.Tearing.{frame_within}
 use Rattle.cas_cells.proofs.Rows.{AllSound, at_frames, all_sound, cell_sound, row_set, stands, frames_apart, get_set_same, get_set_other}
-use Rattle.cas_cells.proofs.Using.{row_length, leaves_stand}
+use Rattle.cas_cells.proofs.Counting.{row_length}
+use Rattle.cas_cells.proofs.Using.{leaves_stand}
 
 -- a cell in which nothing is wrong has two whole frames in which nothing is wrong
 pub split_whole : (f g : List ℕ) → wrong_in_cell f g ≡ 1024 → length f ≤ 512 → length g ≤ 512 → (first_wrong None f ≡ 512) × (first_wrong (if is_open f then Some (number_of f) else None) g ≡ 512)

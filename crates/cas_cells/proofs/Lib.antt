@@ -1,3 +1,4 @@
+pub mod Counting
 mod Frames
 mod Growing
 mod Leaving

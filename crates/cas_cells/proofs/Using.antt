@@ -18,6 +18,7 @@ use Rattle.cas_cells.specs.declared.cells.Cells.{Cells}
 use Rattle.cas_cells.specs.declared.change.Change.{Change}
 use Rattle.cas_cells.specs.declared.fault.CellFault.{CellFault}
 use Rattle.cas_cells.specs.declared.fault.CellFault.TheVariants.{NoMemory}
+use Rattle.cas_cells.proofs.Counting.{row_length}
 use Rattle.cas_cells.proofs.Rows.{map_set, all_sound, row_kept, row_set, stands}
 
 -- the disk's want of memory is the only one that the cells tell
@@ -29,17 +30,16 @@ pub told_no_memory : {T : Type 0} (r : Result T CellFault) (e : DiskFault) → I
 told_no_memory (Ok x) e gives is = absurd (cc)
 told_no_memory (Err f) e gives is = no_memory_of_disk e (let same : f ≡ NoMemory = cc in sym gives ∙ same)
 
-pub row_length : (cells : List (Option (List ℕ))) → IsRow cells → length cells ≡ 1 + count_in cells
-row_length [] row = absurd row
-row_length (None ∷ cells) row = absurd row
-row_length (Some head ∷ cells) row = omega (arith, row)
-
 -- a cell that the row has is there in memory
 pub within_row : (cells : List Cell) (i : ℕ) → IsRow (map payload_held cells) → i ≤ count_in (map payload_held cells) → i < length cells
 within_row cells i row within = omega (arith, row_length (map payload_held cells) row, length-map cells payload_held)
 
 pub at_index : (cells : List Cell) (i : ℕ) (cell : Cell) → IsRow (map payload_held cells) → i ≤ count_in (map payload_held cells) → cell ≡ get_or cells i cell → slice_get cells i ≡ Some cell
 at_index cells i cell row within is = slice_get_read cells (length cells) i cell refl (within_row cells i row within) is
+
+-- cell 0 of a row that was read where it stands again
+pub first_there : (cells read : List Cell) (cell : Cell) → IsRow (map payload_held cells) → read ≡ cells → cell ≡ get_or read 0 cell → slice_get cells 0 ≡ Some cell
+first_there cells read cell row same is = at_index cells 0 cell row (omega arith) (subst (λ (l : List Cell). cell ≡ get_or l 0 cell) same is)
 
 pub set_own : {X : Type 0} (xs : List X) (i : ℕ) (x : X) → slice_get xs i ≡ Some x → set xs i x ≡ xs
 set_own [] i x is = refl

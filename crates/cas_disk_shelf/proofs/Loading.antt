@@ -6,6 +6,7 @@ use Rattle.std.specs.Cmp.Lexicographic.{slice_cmp}
 use Rattle.std.proofs.Common.{◌≡◌, ℕ, zero, suc, ◌+◌, ◌*◌, ◌<◌, Bool, true, false, List, [], ◌∷◌, ◌++◌, length, take, drop, Option, Some, None, Result, Ok, Err, refl, sym, ap, subst, ◌∙◌, arith}
 use Rattle.std.proofs.lemmas.List.{take_all, length-take}
 use Rattle.std.proofs.lemmas.Option.{slice_get_within}
+use Rattle.cas_base.proofs.Tests.{some_is}
 use Rattle.cas_slot.specs.declared.slot.Slot.{Slot}
 use Rattle.cas_slot.specs.declared.ages.Ages.{Ages}
 use Rattle.cas_slot.specs.Contents.{Contents, kept_at, with_kept}
@@ -21,12 +22,9 @@ use Rattle.cas_disk_shelf.specs.Image.{entry_held, with_cell, with_cells, with_a
 use Rattle.cas_disk_shelf.specs.Loading.{IsLoaded, IsHeadOf, read_on}
 use Rattle.cas_disk_shelf.specs.Memory.{cell_of, is_free, moved, freed, InStep, IsMemoryOf, IsCounted}
 use Rattle.cas_disk_shelf.proofs.Stepping.{free_in_step, slot_in_step}
-use Rattle.cas_disk_shelf.proofs.Using.{row_length}
+use Rattle.cas_cells.proofs.Counting.{row_length}
 
 -- ---- the head
-
-some_is : {X : Type 0} (x y : X) → Some x ≡ Some y → x ≡ y
-some_is x y e = cc
 
 -- the payload of cell 0 of a row
 pub head_is : (row : List (Option (List ℕ))) (payload : List ℕ) → IsRow row → ((p : List ℕ) → slice_get row 0 ≡ Some (Some p) → Some payload ≡ Some p) → payload ≡ head_in row

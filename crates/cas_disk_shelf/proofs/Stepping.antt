@@ -12,6 +12,7 @@ use Rattle.std.proofs.lemmas.Cmp.{tied_itself}
 use Rattle.std.proofs.lemmas.List.{length-append}
 use Rattle.std.proofs.lemmas.Option.{slice_get_within}
 use Rattle.std.proofs.Math.ListN.{set}
+use Rattle.cas_base.proofs.Tests.{some_is}
 use Rattle.cas_slot.specs.declared.slot.Slot.{Slot}
 use Rattle.cas_slot.specs.Contents.{Contents, with_kept, without_kept}
 use Rattle.cas_disk_shelf.specs.Cell.{Entry}
@@ -62,9 +63,6 @@ removed_other : (cell_of : List ℕ → Option ℕ) (key q : List ℕ) → key �
 removed_other cell_of key q other = ap (λ (t : Bool). cond t None (cell_of q)) (not_same key q other)
 
 -- ---- cells
-
-some_is : {X : Type 0} (x y : X) → Some x ≡ Some y → x ≡ y
-some_is x y e = cc
 
 no_number : (i : ℕ) → Some i ≡ None → ⊥
 no_number i e = cc

@@ -16,6 +16,8 @@ use Rattle.cas_slot.specs.Contents.{Contents, kept_at, with_kept, without_kept}
 use Rattle.cas_slot.specs.Shelf.{IsOldOrNew}
 use Rattle.cas_slot.specs.Slots.{Slots, slot_at, with_slot, without_slot, slot_count}
 use Rattle.cas_disk.specs.Disk.{ContinuesOnly as DiskContinuesOnly}
+use Rattle.cas_base.proofs.Tests.{some_is}
+use Rattle.cas_cells.proofs.Counting.{row_length}
 use Rattle.cas_cells.specs.Format.{count_in, count_told, grown, IsPayload, IsBeforeOrAfter}
 use Rattle.cas_cells.specs.Held.{IsRow}
 use Rattle.cas_cells.specs.Cells as cells
@@ -35,11 +37,6 @@ use Rattle.cas_disk_shelf.proofs.Leaving.{reads_only}
 use Rattle.cas_disk_shelf.proofs.Stepping.{not_free, one_key as key_of_cell}
 
 -- ---- rows
-
-pub row_length : (cells : List (Option (List ℕ))) → IsRow cells → length cells ≡ 1 + count_in cells
-row_length [] row = absurd row
-row_length (None ∷ cells) row = absurd row
-row_length (Some head ∷ cells) row = omega (arith, row)
 
 pub row_behind : (cells : List (Option (List ℕ))) (i : ℕ) (cell : Option (List ℕ)) → 0 < i → IsRow cells → IsRow (set cells i cell)
 row_behind [] i cell pos row = absurd row
@@ -70,9 +67,6 @@ free_within cells contents f g is row i free =
     let cell = is.free i free in
     let within : i < length cells = slice_get_within cells i cell.cell cell.there in
     (cell.behind, omega (arith, within, row_length cells row))
-
-some_is : (x y : ℕ) → Some x ≡ Some y → x ≡ y
-some_is x y e = cc
 
 -- ---- payloads
 

@@ -5,6 +5,7 @@ use Rattle.std.specs.Ordering.{nat_cmp}
 use Rattle.std.specs.Cmp.Lexicographic.{slice_cmp, nat_list_cmp_total, pointwise, same_text, other_text, texts_ties, nat_list_eq_equiv}
 use Rattle.std.proofs.Common.{◌≡◌, ◌≢◌, inl, inr, ℕ, suc, ◌+◌, ◌-◌, ◌*◌, ◌<◌, ◌≤◌, Bool, true, false, cond, List, [], ◌∷◌, Option, Some, None, Result, Ok, Err, refl, sym, ap, ◌∙◌, arith}
 use Rattle.std.proofs.lemmas.Bool.{cases_lt}
+use Rattle.cas_base.proofs.Tests.{some_is}
 use Rattle.cas_slot.specs.declared.slot.Slot.{Slot}
 use Rattle.cas_slot.specs.Contents.{Contents, kept_at}
 use Rattle.cas_slot.specs.Shelf.{OnlyLeaves}
@@ -66,9 +67,6 @@ same_slots m n is = map.same_map nat_list_cmp_total (map.slice_cmp-IsAntisymmetr
 pub record AreBelow (cell_of : List ℕ → Option ℕ) (slots : Slots) (i : ℕ) (below : Slots) : Type 0 where
   pub front : (key : List ℕ) (n : ℕ) → cell_of key ≡ Some n → n < i → slot_at below key ≡ slot_at slots key
   pub rest : (key : List ℕ) → ((n : ℕ) → cell_of key ≡ Some n → i ≤ n) → slot_at below key ≡ None
-
-some_is : {X : Type 0} (x y : X) → Some x ≡ Some y → x ≡ y
-some_is x y e = cc
 
 read_is : (x y : Option Entry) (r : Result (Option Entry) ℕ) → r ≡ Ok x → r ≡ Ok y → x ≡ y
 read_is x y r e f = cc

@@ -1,7 +1,7 @@
 use Rattle.std.specs.Prelude.{slice_get, IsTrue}
-use Rattle.std.proofs.Common.{◌≡◌, inl, ◌+◌, ◌*◌, ◌<◌, ◌≤◌, ◌++◌, ◌∷◌, [], Some, Err, Option, map, length, get_or, refl, sym, ◌∙◌, ap, subst, arith, ℕ, List}
+use Rattle.std.proofs.Common.{◌≡◌, inl, ◌+◌, ◌*◌, ◌<◌, ◌≤◌, ◌++◌, ◌∷◌, [], Some, Err, Option, map, length, refl, sym, ◌∙◌, ap, subst, arith, ℕ, List}
 use Rattle.std.proofs.Math.ListN.{set, length-set}
-use Rattle.std.proofs.lemmas.List.{length-map, map-append}
+use Rattle.std.proofs.lemmas.List.{map-append}
 use Rattle.cas_disk.specs.declared.disk.DiskFault.{DiskFault}
 use Rattle.cas_disk.proofs.Moments.{at_rest, weaker, then_on}
 use Rattle.cas_cells.specs.Format.{frame_at, count_in, is_head, head_in, with_count, grown, IsBeforeOrAfter}
@@ -10,8 +10,9 @@ use Rattle.cas_cells.specs.UnderWay.{change_held}
 use Rattle.cas_cells.specs.Held.{MayOpen, IsShut, IsRow, OnDisk, CellHeld, payload_held, frame_of, other}
 use Rattle.cas_cells.specs.Cells.{cells_of, Agrees, IsUnderWay}
 use Rattle.cas_cells.specs.declared.cell.Cell.{Cell}
+use Rattle.cas_cells.proofs.Counting.{number_behind}
 use Rattle.cas_cells.proofs.Rows.{disk_set, map_set, frame_of_apart}
-use Rattle.cas_cells.proofs.Using.{told_no_memory, row_length, at_index, view_same, stands_kept, stands_now, blank_stands}
+use Rattle.cas_cells.proofs.Using.{told_no_memory, first_there, view_same, stands_kept, stands_now, blank_stands}
 use Rattle.cas_cells.proofs.Growing.{room_behind, on_below, below_stands, disk_push, grown_is, grown_row, growing_stands, blank_behind, frame_below, still_under_way}
 use Rattle.cas_cells.proofs.Lengths.{within_more, then_no_longer, opening_no_longer}
 use Rattle.cas_cells.proofs.cells.Cells.grow.Goals as goal
@@ -42,7 +43,6 @@ write_blank-requires-clause-room g c tells =
     let view = map payload_held cells in
     let old = g.D.Disk.seen c.args.self.now.disk in
     let count_is : c.count_of-count.result ≡ count_in view = c.count_of-count.ensures ∙ ap (λ (l : List Cell). count_in (map payload_held l)) c.deref.ensures.value in
-    let index : c.count_of-count.result + 1 ≡ length cells = omega (arith, count_is, row_length view s.row, length-map cells payload_held) in
     subst (λ (n : ℕ). 1024 * (n + 1) ≤ length old) (sym count_is) (room_behind old cells (s.on_disk tells) s.row)
 
 pub returns-in_err-write_blank-clause-after_no_memory : goal.returns-in_err-write_blank-clause-after_no_memory
@@ -57,8 +57,7 @@ returns-in_err-write_blank-clause-any_moment g c tells =
     let cells = c.args.self.now.cells.items in
     let view = map payload_held cells in
     let old = g.D.Disk.seen c.args.self.now.disk in
-    let count_is : c.count_of-count.result ≡ count_in view = c.count_of-count.ensures ∙ ap (λ (l : List Cell). count_in (map payload_held l)) c.deref.ensures.value in
-    let index : c.count_of-count.result + 1 ≡ length cells = omega (arith, count_is, row_length view s.row, length-map cells payload_held) in
+    let index : c.count_of-count.result + 1 ≡ length cells = number_behind cells _ _ s.row c.count_of-count.ensures c.deref.ensures.value in
     weaker g.D.Disk.moment g.D.Disk.left_since c.args.self.now.disk c.write_blank.new.disk (SameBelow (2 * (c.count_of-count.result + 1)) old) (IsBeforeOrAfter view (grown view))
     (λ image below. inl (below_stands cells old image (c.count_of-count.result + 1) (omega (arith, index)) (s.on_disk tells) s.row below)) (c.write_blank.ensures.any_moment tells (s.durable tells))
 
@@ -66,13 +65,11 @@ pub change_cell-requires-clause-held : goal.change_cell-requires-clause-held
 change_cell-requires-clause-held g c tells =
     let s = c.requires.stands in
     let cells = c.args.self.now.cells.items in
-    let view = map payload_held cells in
     let old = g.D.Disk.seen c.args.self.now.disk in
-    let count_is : c.count_of-count.result ≡ count_in view = c.count_of-count.ensures ∙ ap (λ (l : List Cell). count_in (map payload_held l)) c.deref.ensures.value in
-    let index : c.count_of-count.result + 1 ≡ length cells = omega (arith, count_is, row_length view s.row, length-map cells payload_held) in
+    let index : c.count_of-count.result + 1 ≡ length cells = number_behind cells _ _ s.row c.count_of-count.ensures c.deref.ensures.value in
     let mid = g.D.Disk.seen c.write_blank.new.disk in
     let cell = c.index_mut.result.now in
-    let is : slice_get cells 0 ≡ Some cell = at_index cells 0 cell s.row (omega arith) (subst (λ (l : List Cell). cell ≡ get_or l 0 cell) c.reserve.ensures.items c.index_mut.ensures.value) in
+    let is : slice_get cells 0 ≡ Some cell = first_there cells _ cell s.row c.reserve.ensures.items c.index_mut.ensures.value in
     on_below cells old mid (c.count_of-count.result + 1) (omega (arith, index)) (s.on_disk tells) (c.in_ok-write_blank.ensures.below tells) 0 cell is
 
 pub returns-in_err-change_cell-clause-after_no_memory : goal.returns-in_err-change_cell-clause-after_no_memory
@@ -81,11 +78,10 @@ returns-in_err-change_cell-clause-after_no_memory g c no_memory =
     let cells = c.args.self.now.cells.items in
     let view = map payload_held cells in
     let old = g.D.Disk.seen c.args.self.now.disk in
-    let count_is : c.count_of-count.result ≡ count_in view = c.count_of-count.ensures ∙ ap (λ (l : List Cell). count_in (map payload_held l)) c.deref.ensures.value in
-    let index : c.count_of-count.result + 1 ≡ length cells = omega (arith, count_is, row_length view s.row, length-map cells payload_held) in
+    let index : c.count_of-count.result + 1 ≡ length cells = number_behind cells _ _ s.row c.count_of-count.ensures c.deref.ensures.value in
     let mid = g.D.Disk.seen c.write_blank.new.disk in
     let cell = c.index_mut.result.now in
-    let is : slice_get cells 0 ≡ Some cell = at_index cells 0 cell s.row (omega arith) (subst (λ (l : List Cell). cell ≡ get_or l 0 cell) c.reserve.ensures.items c.index_mut.ensures.value) in
+    let is : slice_get cells 0 ≡ Some cell = first_there cells _ cell s.row c.reserve.ensures.items c.index_mut.ensures.value in
     let new = g.D.Disk.seen c.change_cell.new.disk in
     let m1 = c.change_cell.new.cell in
     let fault = told_no_memory c.from_residual-in_err-change_cell.result c.in_err-change_cell.field-0.0 c.from_residual-in_err-change_cell.ensures.1 no_memory in
@@ -117,10 +113,10 @@ returns-in_err-change_cell-clause-any_moment g c tells =
     let view = map payload_held cells in
     let old = g.D.Disk.seen c.args.self.now.disk in
     let count_is : c.count_of-count.result ≡ count_in view = c.count_of-count.ensures ∙ ap (λ (l : List Cell). count_in (map payload_held l)) c.deref.ensures.value in
-    let index : c.count_of-count.result + 1 ≡ length cells = omega (arith, count_is, row_length view s.row, length-map cells payload_held) in
+    let index : c.count_of-count.result + 1 ≡ length cells = number_behind cells _ _ s.row c.count_of-count.ensures c.deref.ensures.value in
     let mid = g.D.Disk.seen c.write_blank.new.disk in
     let cell = c.index_mut.result.now in
-    let is : slice_get cells 0 ≡ Some cell = at_index cells 0 cell s.row (omega arith) (subst (λ (l : List Cell). cell ≡ get_or l 0 cell) c.reserve.ensures.items c.index_mut.ensures.value) in
+    let is : slice_get cells 0 ≡ Some cell = first_there cells _ cell s.row c.reserve.ensures.items c.index_mut.ensures.value in
     let head = with_count (head_in view) (count_in view + 1) in
     let head_is : c.in_ok-head.head.items ≡ head =
     c.in_ok-head.ensures.head
@@ -143,10 +139,10 @@ returns-clause-any_moment g c tells =
     let view = map payload_held cells in
     let old = g.D.Disk.seen c.args.self.now.disk in
     let count_is : c.count_of-count.result ≡ count_in view = c.count_of-count.ensures ∙ ap (λ (l : List Cell). count_in (map payload_held l)) c.deref.ensures.value in
-    let index : c.count_of-count.result + 1 ≡ length cells = omega (arith, count_is, row_length view s.row, length-map cells payload_held) in
+    let index : c.count_of-count.result + 1 ≡ length cells = number_behind cells _ _ s.row c.count_of-count.ensures c.deref.ensures.value in
     let mid = g.D.Disk.seen c.write_blank.new.disk in
     let cell = c.index_mut.result.now in
-    let is : slice_get cells 0 ≡ Some cell = at_index cells 0 cell s.row (omega arith) (subst (λ (l : List Cell). cell ≡ get_or l 0 cell) c.reserve.ensures.items c.index_mut.ensures.value) in
+    let is : slice_get cells 0 ≡ Some cell = first_there cells _ cell s.row c.reserve.ensures.items c.index_mut.ensures.value in
     let head = with_count (head_in view) (count_in view + 1) in
     let head_is : c.in_ok-head.head.items ≡ head =
     c.in_ok-head.ensures.head
@@ -169,10 +165,10 @@ returns-clause-stands g c =
     let view = map payload_held cells in
     let old = g.D.Disk.seen c.args.self.now.disk in
     let count_is : c.count_of-count.result ≡ count_in view = c.count_of-count.ensures ∙ ap (λ (l : List Cell). count_in (map payload_held l)) c.deref.ensures.value in
-    let index : c.count_of-count.result + 1 ≡ length cells = omega (arith, count_is, row_length view s.row, length-map cells payload_held) in
+    let index : c.count_of-count.result + 1 ≡ length cells = number_behind cells _ _ s.row c.count_of-count.ensures c.deref.ensures.value in
     let mid = g.D.Disk.seen c.write_blank.new.disk in
     let cell = c.index_mut.result.now in
-    let is : slice_get cells 0 ≡ Some cell = at_index cells 0 cell s.row (omega arith) (subst (λ (l : List Cell). cell ≡ get_or l 0 cell) c.reserve.ensures.items c.index_mut.ensures.value) in
+    let is : slice_get cells 0 ≡ Some cell = first_there cells _ cell s.row c.reserve.ensures.items c.index_mut.ensures.value in
     let head = with_count (head_in view) (count_in view + 1) in
     let head_is : c.in_ok-head.head.items ≡ head =
     c.in_ok-head.ensures.head
@@ -217,9 +213,9 @@ returns-in_err-change_cell-clause-length g c tells =
     let mid = c.write_blank.new.disk in
     let new = c.change_cell.new.disk in
     let count_is : c.count_of-count.result ≡ count_in view = c.count_of-count.ensures ∙ ap (λ (l : List Cell). count_in (map payload_held l)) c.deref.ensures.value in
-    let index : c.count_of-count.result + 1 ≡ length cells = omega (arith, count_is, row_length view s.row, length-map cells payload_held) in
+    let index : c.count_of-count.result + 1 ≡ length cells = number_behind cells _ _ s.row c.count_of-count.ensures c.deref.ensures.value in
     let cell = c.index_mut.result.now in
-    let is : slice_get cells 0 ≡ Some cell = at_index cells 0 cell s.row (omega arith) (subst (λ (l : List Cell). cell ≡ get_or l 0 cell) c.reserve.ensures.items c.index_mut.ensures.value) in
+    let is : slice_get cells 0 ≡ Some cell = first_there cells _ cell s.row c.reserve.ensures.items c.index_mut.ensures.value in
     let held = on_below cells (g.D.Disk.seen disk) (g.D.Disk.seen mid) (c.count_of-count.result + 1) (omega (arith, index)) (s.on_disk tells) (c.in_ok-write_blank.ensures.below tells) 0 cell is in
     then_no_longer g.D.Disk.moment g.D.Disk.left_since g.D.Disk.may_leave disk mid new (1024 * (count_in view + 2))
     (λ image later left. g.met.D.Disk.counts_now mid (g.D.Disk.moment disk) image tells later left)
@@ -237,9 +233,9 @@ returns-clause-length g c tells =
     let mid = c.write_blank.new.disk in
     let new = c.change_cell.new.disk in
     let count_is : c.count_of-count.result ≡ count_in view = c.count_of-count.ensures ∙ ap (λ (l : List Cell). count_in (map payload_held l)) c.deref.ensures.value in
-    let index : c.count_of-count.result + 1 ≡ length cells = omega (arith, count_is, row_length view s.row, length-map cells payload_held) in
+    let index : c.count_of-count.result + 1 ≡ length cells = number_behind cells _ _ s.row c.count_of-count.ensures c.deref.ensures.value in
     let cell = c.index_mut.result.now in
-    let is : slice_get cells 0 ≡ Some cell = at_index cells 0 cell s.row (omega arith) (subst (λ (l : List Cell). cell ≡ get_or l 0 cell) c.reserve.ensures.items c.index_mut.ensures.value) in
+    let is : slice_get cells 0 ≡ Some cell = first_there cells _ cell s.row c.reserve.ensures.items c.index_mut.ensures.value in
     let held = on_below cells (g.D.Disk.seen disk) (g.D.Disk.seen mid) (c.count_of-count.result + 1) (omega (arith, index)) (s.on_disk tells) (c.in_ok-write_blank.ensures.below tells) 0 cell is in
     then_no_longer g.D.Disk.moment g.D.Disk.left_since g.D.Disk.may_leave disk mid new (1024 * (count_in view + 2))
     (λ image later left. g.met.D.Disk.counts_now mid (g.D.Disk.moment disk) image tells later left)
