@@ -16,7 +16,7 @@ use Rattle.cas_slot.specs.Contents.{Contents, kept_at, with_kept, without_kept}
 use Rattle.cas_slot.specs.Shelf.{IsOldOrNew}
 use Rattle.cas_slot.specs.Slots.{Slots, slot_at, with_slot, without_slot, slot_count}
 use Rattle.cas_disk.specs.Disk.{ContinuesOnly as DiskContinuesOnly}
-use Rattle.cas_base.proofs.Tests.{some_is}
+use Rattle.cas_base.proofs.Bools.{some_is}
 use Rattle.cas_cells.proofs.Counting.{row_length}
 use Rattle.cas_cells.specs.Format.{count_in, count_told, grown, IsPayload, IsBeforeOrAfter}
 use Rattle.cas_cells.specs.Held.{IsRow}
