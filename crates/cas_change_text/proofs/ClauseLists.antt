@@ -9,10 +9,6 @@ use Rattle.cas_change_text.specs.Reading.{◌>>=◌, clause_at, semicolon_at, cl
 abbrev pub with_front : List Clause → Result (List Clause) TextRefusal → Result (List Clause) TextRefusal
 with_front front read = read >>= λ clauses. Ok (front ++ clauses)
 
-pub with_front-nothing : (read : Result (List Clause) TextRefusal) → with_front [] read ≡ read
-with_front-nothing (Ok clauses) = refl
-with_front-nothing (Err refusal) = refl
-
 -- one more that may come
 one_more : (most at : ℕ) → at < most → most - at ≡ suc (most - (at + 1))
 one_more most at below = omega arith

@@ -1,5 +1,5 @@
 -- Lemmas on numbers that are read digit by digit.
-use Rattle.std.proofs.Common.{◌≡◌, ℕ, ◌+◌, ◌-◌, ◌*◌, ◌<◌, ◌≤◌, List, [], ◌∷◌, length, get_or, drop, sym, ◌∙◌, ap, arith}
+use Rattle.std.proofs.Common.{◌≡◌, ℕ, ◌+◌, ◌-◌, ◌*◌, ◌<◌, ◌≤◌, List, [], ◌∷◌, length, get_or, drop, arith}
 use Rattle.std.proofs.lemmas.List.{at_drop_more}
 use Rattle.cas_change_text.specs.Decimal.{number_after}
 
@@ -7,12 +7,6 @@ use Rattle.cas_change_text.specs.Decimal.{number_after}
 pub number_after-ge : (n : ℕ) (digits : List ℕ) → n ≤ number_after n digits
 number_after-ge n [] = omega arith
 number_after-ge n (digit ∷ digits) = omega (arith, number_after-ge (n * 10 + (digit - 48)) digits)
-
--- one digit more
-pub number_step : (digits : List ℕ) (at number next : ℕ) → at < length digits → next ≡ number * 10 + (get_or digits at 0 - 48)
-    → number_after next (drop (at + 1) digits) ≡ number_after number (drop at digits)
-number_step digits at number next inside is =
-    ap (λ n. number_after n (drop (at + 1) digits)) is ∙ sym (at_drop_more (λ ds. number_after number ds) digits at 0 inside)
 
 -- what is too great with one digit more is too great in the end
 pub number_beyond : (digits : List ℕ) (at number least : ℕ) → at < length digits → least ≤ number * 10 + (get_or digits at 0 - 48)

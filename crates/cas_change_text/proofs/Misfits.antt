@@ -1,13 +1,12 @@
 -- The first word of a program or a state that does not fit.
-use Rattle.std.proofs.Common.{◌≡◌, ℕ, zero, suc, ◌+◌, Bool, true, false, List, [], ◌∷◌, ◌++◌, length, Option, Some, None, Result, Ok, Err, refl, sym, ap, subst, ◌∙◌, append-nil, arith, inl, inr}
-use Rattle.std.specs.Prelude.{◌≢◌, codes, nat_le, if◌then◌else◌, IfErr, ℤ, pos}
+use Rattle.std.proofs.Common.{◌≡◌, ℕ, zero, suc, ◌+◌, Bool, true, false, List, [], ◌∷◌, length, Option, Some, None, Result, Ok, Err, refl, sym, ap, ◌∙◌, append-nil, arith, inl, inr}
+use Rattle.std.specs.Prelude.{◌≢◌, codes, nat_le, if◌then◌else◌, IfErr, pos}
 use Rattle.std.specs.Option.{ok_or}
 use Rattle.std.specs.Str.{bytes_eq}
 use Rattle.cas_change.specs.declared.text.TheConstants.{LONGEST_TEXT}
 use Rattle.cas_change.specs.declared.program.TheConstants.{MOST_CLAUSES}
 use Rattle.cas_change.specs.declared.program.Guard.{Guard}
 use Rattle.cas_change.specs.declared.program.Guard.TheVariants.{Always, IsEmpty, VersionIs, NumberBelow, TextIs}
-use Rattle.cas_change.specs.declared.program.Act.{Act}
 use Rattle.cas_change.specs.declared.program.Act.TheVariants.{Keep, PutText, PutNumber, Add, Clear}
 use Rattle.cas_change.specs.declared.program.Clause.{Clause}
 use Rattle.cas_change.specs.declared.state.Body.{Body}
@@ -23,11 +22,10 @@ use Rattle.cas_change_text.specs.declared.names.ActName.{ActName}
 use Rattle.cas_change_text.specs.declared.names.ActName.TheVariants as acts
 use Rattle.cas_change_text.specs.Decimal.{u64_of, i64_of}
 use Rattle.cas_change_text.specs.Escapes.{text_of}
-use Rattle.cas_change_text.specs.Grammar.{IsClauses}
 use Rattle.cas_change_text.specs.Misfit.{IsFirstMisfit, AreProgram, AreClauses, AreState}
-use Rattle.cas_change_text.specs.Reading.{◌>>=◌, Read, word_at, word_from, refusal_at, version_at, number_at, text_in, text_at, guard_name, guard_of, guard_at, act_name, act_of, act_at, clause_at, semicolon_at, semicolon_from, clauses_at, program_at, body_of, body_at, after_v, held_at, state_at, whole_state, GivesInMemory}
+use Rattle.cas_change_text.specs.Reading.{◌>>=◌, Read, word_at, word_from, refusal_at, version_at, number_at, text_in, text_at, guard_name, guard_of, guard_at, act_name, act_of, act_at, clause_at, semicolon_at, clauses_at, program_at, body_of, body_at, after_v, held_at, state_at, whole_state, GivesInMemory}
 use Rattle.cas_change_text.specs.Words.{Word, WordsLeft, all_of}
-use Rattle.cas_change_text.proofs.BothWays.{from, clauses_found, clauses_again, program_again, whole_state-found, whole_state-again}
+use Rattle.cas_change_text.proofs.BothWays.{from, clauses_found, program_again, whole_state-found, whole_state-again}
 use Rattle.cas_change_text.proofs.Stopping.{IsReader, IsWhole, StopsWhole, Repeats, starts, same_reader, one_word, one_word_reader, read_as, after, then_reader, reads_nothing, made_reader, to_end, whole_to_end, whole_after, first_misfit, bind_err}
 
 -- ---- words that say something

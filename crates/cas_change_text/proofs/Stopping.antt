@@ -1,11 +1,11 @@
 -- Where readers of words stop: a refusal depends on no word behind the one that is refused, and the words before it can be
 -- gone on with.
-use Rattle.std.proofs.Common.{◌≡◌, ℕ, ◌+◌, List, [], ◌∷◌, ◌++◌, length, Result, Ok, Err, refl, sym, ap, subst, ◌∙◌, append_assoc, append-nil, length-append, arith, inl, inr}
+use Rattle.std.proofs.Common.{◌≡◌, ℕ, ◌+◌, List, [], ◌∷◌, ◌++◌, length, Result, Ok, Err, refl, sym, ap, ◌∙◌, append_assoc, append-nil, length-append, arith, inl, inr}
 use Rattle.std.specs.Prelude.{◌⊎◌, ⊤}
 use Rattle.cas_change_text.specs.declared.refusal.Why.TheVariants as why
 use Rattle.cas_change_text.specs.declared.refusal.TextRefusal.{TextRefusal}
 use Rattle.cas_change_text.specs.Misfit.{BreaksOff, IsFirstMisfit}
-use Rattle.cas_change_text.specs.Reading.{◌>>=◌, Read, word_from, word_at, end_from, end_at}
+use Rattle.cas_change_text.specs.Reading.{◌>>=◌, Read, word_at, end_from, end_at}
 use Rattle.cas_change_text.specs.Words.{Word, WordsLeft, all_of}
 use Rattle.cas_change_text.proofs.BothWays.{bind_ok, from}
 

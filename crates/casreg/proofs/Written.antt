@@ -157,15 +157,6 @@ fault_ends gives start source input left old new reader world fault.NoMemory m m
 fault_ends gives start source input left old new reader world fault.NoMemory m many endless TooMany is = absurd cc
 fault_ends gives start source input left old new reader world fault.NoMemory m many endless (TooLong line) is = absurd cc
 
--- no end of an input makes a write fault or leaves no memory
-pub no_ending : (s : Status) → (s ≡ status.WriteFault) ⊎ (s ≡ status.NoMemory) → (ending : Ending) → s ≡ status_of ending → ⊥
-no_ending s (inl write) Whole is = cc
-no_ending s (inl write) TooMany is = cc
-no_ending s (inl write) (TooLong line) is = cc
-no_ending s (inr memory) Whole is = cc
-no_ending s (inr memory) TooMany is = cc
-no_ending s (inr memory) (TooLong line) is = cc
-
 -- a run that nothing hinders ends by its input, or finds no memory
 pub completes_of : (input : Option (List ℕ)) (result : Status) (read wrote : Type 0) → (result ≡ status.Usage → ⊥) → (result ≡ status.ReadFault → read) → (result ≡ status.WriteFault → wrote)
     → ((ending : Ending) → result ≡ status_of ending → IfSome input (λ bytes. ending_of bytes ≡ ending)) → (read → ⊥) → (wrote → ⊥)
