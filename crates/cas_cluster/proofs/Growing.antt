@@ -10,15 +10,16 @@ use Rattle.cas_slot.specs.declared.message.Ask.TheVariants as ask
 use Rattle.cas_slot.specs.declared.message.Tell.{Tell}
 use Rattle.cas_slot.specs.declared.message.Tell.TheVariants as tell
 use Rattle.cas_record.specs.declared.entry.Entry.{Entry}
+use Rattle.cas_record.specs.declared.mark.Proposal.{Proposal}
 use Rattle.cas_record.specs.declared.mark.Mark.{Mark}
-use Rattle.cas_record.specs.declared.mark.Mark.TheVariants.{Floor}
+use Rattle.cas_record.specs.declared.mark.Mark.TheVariants.{Proposed, Floor}
 use Rattle.cas_record.specs.Chain.{is_key, has_calls, chain_of}
 use Rattle.cas_record.specs.Replay.{replay_from, opening_state}
 use Rattle.cas_record.specs.Happening.{Happening, Marked, marks_of}
 use Rattle.cas_record.specs.Lawful.{Cluster, Lawful}
-use Rattle.cas_record.specs.Places.{here, past}
+use Rattle.cas_record.specs.Places.{At, here, past}
 use Rattle.cas_record.proofs.ChainLemmas.{no_calls}
-use Rattle.cas_record.proofs.LogLemmas.{ProposedAt, proposed_at, at_proposal, proposal_law, chain_whole, part_of}
+use Rattle.cas_record.proofs.LogLemmas.{proposal_placed, ProposedAt, proposed_at, at_proposal, proposal_law, chain_whole, part_of}
 use Rattle.cas_record.proofs.PlaceLemmas.{stands_part}
 use Rattle.cas_cluster.specs.Acceptors.{IsMadeState, IsAcceptedState, IsAskState, IsTellState}
 
@@ -33,6 +34,21 @@ calls_begun cluster log lawful made =
     let begun = (proposal_law cluster lawful made.at).first.begun in
     let stands = stands_part begun.stands (part_of made.at) in
     elim (true_or_false (has_calls (marks_of log))) [ inl some ↦ some | inr none ↦ absurd (no_calls none stands.at) ]
+
+-- from a proposal on the state with which a history starts stays
+pub opening_later : (cluster : Cluster) {p : Proposal} {older log : List Happening} → Lawful cluster log → At (Marked (Proposed p)) older log → opening_state p.key (marks_of log) ≡ opening_state p.key (marks_of older)
+opening_later cluster {p} {older} {log} lawful here = opening_stays p.key (Proposed p) (marks_of older) (calls_of_proposal cluster lawful)
+  where
+    calls_of_proposal : (cluster : Cluster) → Lawful cluster (Marked (Proposed p) ∷ older) → has_calls (marks_of older) ≡ true
+    calls_of_proposal cluster lawful =
+        let begun = lawful.1.first.begun in
+        elim (true_or_false (has_calls (marks_of older))) [ inl some ↦ some | inr none ↦ absurd (no_calls none begun.stands.at) ]
+opening_later cluster {p} {older} {log} lawful (past {y = h} {rest = rest} at) = later_by h rest lawful at (opening_later cluster lawful.0 at)
+  where
+    later_by : (h : Happening) (rest : List Happening) → Lawful cluster (h ∷ rest) → At (Marked (Proposed p)) older rest → opening_state p.key (marks_of rest) ≡ opening_state p.key (marks_of older)
+        → opening_state p.key (marks_of (h ∷ rest)) ≡ opening_state p.key (marks_of older)
+    later_by (Marked mark) rest lawful at before = opening_stays p.key mark (marks_of rest) (calls_begun cluster rest lawful.0 (proposal_placed at)) ∙ before
+    later_by other rest lawful at before = before
 
 -- ---- states
 -- the state of a proposal stays

@@ -4,5 +4,6 @@ pub mod Growing
 pub mod Pages
 pub mod Proposes
 pub mod Proposing
+pub mod Rides
 pub mod SlotChanges
 pub mod Staying

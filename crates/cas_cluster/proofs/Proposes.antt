@@ -140,7 +140,7 @@ read_stands : (log : List Happening) (key : List ℕ) (read : Option Accepted) �
 read_stands log key None made = inl refl
 read_stands log key (Some a) made = inr (inl (record { proposal = made.proposal; stands = made.stands; same_key = made.same_key; same_ballot = made.same_ballot }))
 
-in_still : {log : List Happening} {older : List Happening} {happening : Happening} {proposer era : ℕ} → IsIn older proposer era → At happening older log → IsIn log proposer era
+pub in_still : {log : List Happening} {older : List Happening} {happening : Happening} {proposer era : ℕ} → IsIn older proposer era → At happening older log → IsIn log proposer era
 in_still is_in at = elim is_in [ inl first ↦ inl first | inr entered ↦ inr (stands_deeper entered at) ]
 
 was_read : (cluster : Cluster) {log : List Happening} (p : Proposal) (replies : List Reply) (read : Option Accepted) → Orderly cluster log → Stands (Drew p.ballot p.key p.era) log → AreRepliesTrue log replies

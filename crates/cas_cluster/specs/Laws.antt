@@ -1,7 +1,12 @@
 -- What is true of every cluster.
-use Rattle.std.specs.Prelude.{◌≡◌, ℕ, ◌≤◌, true, List, ◌∷◌, ◌++◌, Option, Ok}
+use Rattle.std.specs.Prelude.{◌≡◌, ℕ, ◌+◌, ◌≤◌, true, List, ◌∷◌, ◌++◌, Option, Ok}
 use Rattle.cas_ballot.specs.declared.ballot.Ballot.{Ballot}
 use Rattle.cas_ballot.specs.Ballot.{BallotAtMost, BallotLess}
+use Rattle.cas_cache.specs.declared.ready.Ready.{Ready}
+use Rattle.cas_change.specs.declared.outcome.Outcome.{Outcome}
+use Rattle.cas_change.specs.declared.program.Clause.{Clause}
+use Rattle.cas_change.specs.declared.state.State.{State}
+use Rattle.cas_change.specs.Outcome.{outcome_of}
 use Rattle.cas_round.specs.Replies.{promisers_of, accepters_of}
 use Rattle.cas_round.specs.Round.{IsRead}
 use Rattle.cas_slot.specs.declared.message.Request.{Request}
@@ -16,11 +21,15 @@ use Rattle.cas_slot.specs.Contents.{Contents}
 use Rattle.cas_slot.specs.Shelf.{Left}
 use Rattle.cas_slot.specs.Table.{IsAnswered, accepted_at}
 use Rattle.cas_acceptor.specs.Acceptor.{LeavesByTable}
-use Rattle.cas_record.specs.Happening.{Happening, Asked, Took, Dropped, marks_of}
-use Rattle.cas_record.specs.Lawful.{Cluster, Lawful, MayPropose, MayAck}
-use Rattle.cas_record.specs.Orderly.{Orderly}
-use Rattle.cas_record.specs.Places.{Stands}
+use Rattle.cas_record.specs.declared.answer.Answer.TheVariants as answer
+use Rattle.cas_record.specs.declared.mark.Mark.TheVariants.{Begun, Proposed}
+use Rattle.cas_record.specs.Happening.{Happening, Marked, Asked, Took, Dropped, marks_of}
+use Rattle.cas_record.specs.Legal.{IsEnded, IsAcked}
+use Rattle.cas_record.specs.Lawful.{Cluster, Lawful, MayPropose, MayAck, MayEnd}
+use Rattle.cas_record.specs.Orderly.{Orderly, MayDraw}
+use Rattle.cas_record.specs.Places.{Stands, At}
 use Rattle.cas_cluster.specs.Acceptors.{Tells, IsAskState, IsElsewhere, IsLeft, done_log, answered_log}
+use Rattle.cas_cluster.specs.Desks.{IsRiding, IsPastAll}
 use Rattle.cas_cluster.specs.Proposers.{AreRepliesTrue, IsOpenRound, IsProposedIn, AreFloorsClear, state_read}
 
 -- the log is lawful and each happening has its reason, and it tells what the acceptor keeps
@@ -77,3 +86,27 @@ ProposersCountLawfully = (cluster : Cluster) (log : List Happening) (a : Acknowl
     → Lawful cluster log → Orderly cluster log → IsProposedIn log a
     → AreRepliesTrue log replies → a.by ≡ accepters_of a.ballot replies → cluster.accepts a.era a.by ≡ true
     → MayAck cluster log a
+
+-- A proposer with a promise that rode along may propose at its ballot what it makes of the state that was accepted with it, without
+-- asking anybody; that state is the one that the history leaves from which the proposal goes on.
+abbrev pub RidersProposeLawfully : Type 0
+RidersProposeLawfully = (cluster : Cluster) (log : List Happening) (p : Proposal) (ready : Ready)
+    → Lawful cluster log → Orderly cluster log → IsOpenRound log p.caller p.call p.key p.ballot p.era → IsRiding cluster log p.key p.era ready
+    → p.ballot ≡ ready.ballot → p.read ≡ ready.read → p.prepared_by ≡ ready.by
+    → MayPropose cluster log p
+    × (ready.state ≡ replay_from (opening_state p.key (marks_of log)) (chain_of p.key (link_of (marks_of log) p) (marks_of log)))
+
+-- The ballot after its counter is one that a proposer may draw, whatever it drew before and wherever it stopped.
+abbrev pub ProposersDrawLawfully : Type 0
+ProposersDrawLawfully = (cluster : Cluster) (log : List Happening) (proposer era counter : ℕ) (key : List ℕ) → IsPastAll cluster log proposer era counter key
+    → MayDraw cluster log (record { counter = counter + 1; proposer = proposer }) key era
+
+-- Once its proposal is acknowledged, a call that is open may be answered Done, with what its program made of the state from which its
+-- proposal went on.
+abbrev pub CallsAreDoneLawfully : Type 0
+CallsAreDoneLawfully = (cluster : Cluster) (log older : List Happening) (p : Proposal) (program : List Clause) (state : State) (outcome : Outcome)
+    → Lawful cluster log → At (Marked (Proposed p)) older log → IsAcked p.key p.ballot (marks_of log) → (IsEnded p.caller p.call (marks_of log) → ⊥)
+    → Stands (Begun p.caller p.call p.key program) (marks_of older)
+    → state ≡ replay_from (opening_state p.key (marks_of older)) (chain_of p.key (link_of (marks_of older) p) (marks_of older))
+    → outcome ≡ outcome_of program state
+    → MayEnd (marks_of log) p.caller p.call (answer.Done outcome.state outcome.took p.ballot)

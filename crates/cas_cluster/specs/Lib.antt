@@ -1,4 +1,5 @@
 pub mod Acceptors
+pub mod Desks
 pub mod Laws
 pub mod Proposers
 pub mod View
