@@ -8,12 +8,10 @@ use Rattle.std.proofs.lemmas.List.{take_at, take_all, take-append-drop, length-a
 use Rattle.std.proofs.Math.ListN.{get_or-append}
 use Rattle.std.proofs.lemmas.Nat.{be_bytes_4, be_bytes_8, from_be_bytes-to_be_bytes_4, from_be_bytes-to_be_bytes_8}
 use Rattle.std.proofs.Math.Nat.{div-eq_of_lt}
+use Rattle.cas_base.proofs.Bytes.{IsBytes}
 use Rattle.cas_vault.specs.Codec.{IsKept, spelling, Spells, BeginsOne, IsFirstWrong}
 use Rattle.cas_vault.specs.Places.{head, may_stand, AllStand}
 use Rattle.cas_vault.specs.declared.kept.Kept.{Kept}
-
-abbrev pub IsBytes : List ℕ → Type 0
-IsBytes bytes = (i : ℕ) → get_or bytes i 0 < 256
 
 -- every byte of a record's length may stand where it does
 abbrev pub EachStands : List ℕ → Type 0

@@ -7,7 +7,8 @@ use Rattle.cas_wire.specs.FrameReading.{whole_of, request_at, reply_at}
 use Rattle.cas_wire.specs.Reading.{Reading}
 use Rattle.cas_slot.specs.declared.message.Request.{Request}
 use Rattle.cas_slot.specs.declared.message.Reply.{Reply}
-use Rattle.cas_wire.proofs.Formats.{IsBytes, ok_is, not_err, IsFormat}
+use Rattle.cas_base.proofs.Bytes.{IsBytes}
+use Rattle.cas_wire.proofs.Formats.{ok_is, not_err, IsFormat}
 use Rattle.cas_wire.proofs.ReplyFormats.{reply_format}
 use Rattle.cas_wire.proofs.RequestFormats.{request_format}
 

@@ -5,7 +5,8 @@ use Rattle.std.specs.Int.{Width, byte_len, to_be_bytes, from_be_bytes}
 use Rattle.std.proofs.lemmas.Bool.{ltb-true, ltb-false}
 use Rattle.std.proofs.lemmas.List.{append-nil, length-append, length-replicate}
 use Rattle.cas_wire.specs.Reading.{Reading, number_at, stopped_at, rise_at, one_later}
-use Rattle.cas_wire.proofs.Formats.{IsBytes, left_is, not_err, stopped_ok, Takes, IsFormat, IsWide, number_takes, number_again, number_within}
+use Rattle.cas_base.proofs.Bytes.{IsBytes}
+use Rattle.cas_wire.proofs.Formats.{left_is, not_err, stopped_ok, Takes, IsFormat, IsWide, number_takes, number_again, number_within}
 use Rattle.cas_wire.proofs.Limits.{value, not_risen, risen_by, rise_le, le_rise}
 use Rattle.cas_wire.proofs.Stops.{StopsAt, Stops, ended}
 

@@ -5,7 +5,8 @@ use Rattle.std.specs.Int.{w16, w64, byte_at, bytes_high_first, from_be_bytes}
 use Rattle.std.proofs.lemmas.Bool.{ltb-true, ltb-false}
 use Rattle.std.proofs.Math.Nat.{mul-le-mul_right, pow-succ', mod-lt}
 use Rattle.cas_wire.specs.Reading.{rise_at, one_later}
-use Rattle.cas_wire.proofs.Formats.{IsBytes, IsBytes-rest}
+use Rattle.cas_base.proofs.Bytes.{IsBytes}
+use Rattle.cas_wire.proofs.Formats.{IsBytes-rest}
 
 -- the number of these bytes
 abbrev pub value : List ℕ → ℕ

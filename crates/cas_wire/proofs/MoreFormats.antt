@@ -7,7 +7,8 @@ use Rattle.std.proofs.lemmas.List.Concat.{flat_map-cons}
 use Rattle.cas_wire.specs.FrameReading.{then_at, where_at, list_at, known, named_at}
 use Rattle.cas_wire.specs.Kinds.{named}
 use Rattle.cas_wire.specs.Reading.{Reading, ◌>>=◌, made_at}
-use Rattle.cas_wire.proofs.Formats.{IsBytes, IsBytes-rest, bind_ok, bind_err, ok_is, left_is, not_err, Takes, Takes-then, rest_shorter, IsFormat}
+use Rattle.cas_base.proofs.Bytes.{IsBytes}
+use Rattle.cas_wire.proofs.Formats.{IsBytes-rest, bind_ok, bind_err, ok_is, left_is, not_err, Takes, Takes-then, rest_shorter, IsFormat}
 
 -- ---- a value that one before it says how to read
 

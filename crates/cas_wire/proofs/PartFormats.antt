@@ -20,7 +20,8 @@ use Rattle.cas_wire.specs.Reading.{Reading, ◌>>=◌, pair_at, byte_where, numb
 use Rattle.cas_wire.specs.Spelling.{key_spelling, ballot_spelling, state_spelling, accepted_spelling, optional_spelling, FitsState, FitsAccepted}
 use Rattle.cas_wire.proofs.Limited.{IsLimit, limited_at, limited_format}
 use Rattle.cas_wire.proofs.Limits.{IsBytes-high_first, value-of_8, value-of_2}
-use Rattle.cas_wire.proofs.Formats.{IsBytes, IsBytes-rest, bind_ok, bind_err, ok_is, left_is, not_err, guard_err, stopped_ok, Takes, Takes-then, rest_shorter, IsFormat, byte_format, wide16, wide32, wide64, number_format, some_takes, some_again, pair_format, made_format, optional_format}
+use Rattle.cas_base.proofs.Bytes.{IsBytes}
+use Rattle.cas_wire.proofs.Formats.{IsBytes-rest, bind_ok, bind_err, ok_is, left_is, not_err, guard_err, stopped_ok, Takes, Takes-then, rest_shorter, IsFormat, byte_format, wide16, wide32, wide64, number_format, some_takes, some_again, pair_format, made_format, optional_format}
 
 -- ---- keys
 

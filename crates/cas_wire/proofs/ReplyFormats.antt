@@ -22,7 +22,8 @@ use Rattle.cas_wire.specs.FrameReading.{then_at, list_at, named_at, is_format, i
 use Rattle.cas_wire.specs.Kinds.{named, kinds, kind_byte, kind_of, phase_byte, flags, flag_byte}
 use Rattle.cas_wire.specs.Reading.{Reading, ◌>>=◌, pair_at, byte_where, is_proposer, key_at, ballot_at, accepted_at, optional_at}
 use Rattle.cas_wire.specs.Spelling.{key_spelling, ballot_spelling, accepted_spelling, optional_spelling, FitsAccepted}
-use Rattle.cas_wire.proofs.Formats.{IsBytes, Takes, ok_is, left_is, not_err, IsFormat, byte_format, wide64, number_format, pair_format, made_format, optional_format}
+use Rattle.cas_base.proofs.Bytes.{IsBytes}
+use Rattle.cas_wire.proofs.Formats.{Takes, ok_is, left_is, not_err, IsFormat, byte_format, wide64, number_format, pair_format, made_format, optional_format}
 use Rattle.cas_wire.proofs.MoreFormats.{then_format, where_format, said_format, list_format, named_format, variant_takes, variant_again, variant_within}
 use Rattle.cas_wire.proofs.PartFormats.{key_format, ballot_format, accepted_or_none_format}
 use Rattle.cas_wire.proofs.RequestFormats.{phase_format}

@@ -20,7 +20,8 @@ use Rattle.cas_wire.specs.FrameReading.{named_at, is_format, is_acceptor, prepar
 use Rattle.cas_wire.specs.Kinds.{named, phases, phase_byte}
 use Rattle.cas_wire.specs.Reading.{pair_at, number_at, is_proposer, key_at, ballot_at, state_at, optional_at}
 use Rattle.cas_wire.specs.Spelling.{key_spelling, ballot_spelling, state_spelling, optional_spelling, FitsState}
-use Rattle.cas_wire.proofs.Formats.{IsBytes, Takes, IsFormat, byte_format, wide32, wide64, number_format, pair_format, made_format, optional_format}
+use Rattle.cas_base.proofs.Bytes.{IsBytes}
+use Rattle.cas_wire.proofs.Formats.{Takes, IsFormat, byte_format, wide32, wide64, number_format, pair_format, made_format, optional_format}
 use Rattle.cas_wire.proofs.MoreFormats.{then_format, list_format, named_format, variant_takes, variant_again, variant_within}
 use Rattle.cas_wire.proofs.PartFormats.{key_format, ballot_format, state_format}
 

@@ -5,7 +5,8 @@ use Rattle.std.proofs.lemmas.List.{take_at, append-nil, length-append}
 use Rattle.cas_wire.specs.Part.{IsFirstWrong}
 use Rattle.cas_wire.specs.Reading.{Reading, ◌>>=◌, pair_at, made_at, byte_where, optional_at}
 use Rattle.cas_wire.specs.Spelling.{optional_spelling}
-use Rattle.cas_wire.proofs.Formats.{IsBytes, IsBytes-rest, bind_err, ok_is, left_is, not_err, IsFormat}
+use Rattle.cas_base.proofs.Bytes.{IsBytes}
+use Rattle.cas_wire.proofs.Formats.{IsBytes-rest, bind_err, ok_is, left_is, not_err, IsFormat}
 
 pub record StopsAt {A : Type 0} (s : A → List ℕ) (F : A → Type 0) (bytes : List ℕ) (left : ℕ) : Type 0 where
   pub front : List ℕ

@@ -4,7 +4,8 @@ use Rattle.std.proofs.lemmas.List.{take_at, drop_at, length-append}
 use Rattle.cas_wire.specs.Part.{IsPart, IsSpelledPart, StopsAtFirst}
 use Rattle.cas_wire.specs.Reading.{Reading}
 use Rattle.cas_wire.specs.declared.parts.Part.TheVariants as part
-use Rattle.cas_wire.proofs.Formats.{IsBytes, IsFormat, Takes, not_err, rest_shorter}
+use Rattle.cas_base.proofs.Bytes.{IsBytes}
+use Rattle.cas_wire.proofs.Formats.{IsFormat, Takes, not_err, rest_shorter}
 use Rattle.cas_wire.proofs.Stops.{Stops, first_wrong}
 
 used_is : {A : Type 0} (s : A → List ℕ) (bytes rest : List ℕ) (value : A) → Takes bytes (s value) rest → length bytes - length rest ≡ length (s value)
