@@ -13,10 +13,6 @@ use Rattle.cas_wire.specs.declared.reading.ReadError.TheVariants.{NoMemory, Wron
 abbrev pub with_front : {A : Type 0} → List A → Reading (List A) → Reading (List A)
 with_front front read = read >>= λ x. Ok (front ++ x.0, x.1)
 
-pub nothing_before : {A : Type 0} (read : Reading (List A)) → with_front [] read ≡ read
-nothing_before (Ok x) = refl
-nothing_before (Err left) = refl
-
 module _ {A : Type 0} (r : List ℕ → Reading A) where
   regroup : (front : List A) (a : A) (read : Reading (List A)) → with_front front (read >>= λ others. Ok (a ∷ others.0, others.1)) ≡ with_front (front ++ a ∷ []) read
   regroup front a (Ok x) = ap (λ (xs : List A). Ok (xs, x.1)) (simp append_assoc)

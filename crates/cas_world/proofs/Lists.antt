@@ -17,10 +17,6 @@ pub Each-left : {A : Type 0} (P : A → Type 0) (xs ys : List A) → Each P (xs 
 Each-left P [] ys p = tt
 Each-left P (x ∷ xs) ys p = (p.0, Each-left P xs ys p.1)
 
-pub Each-right : {A : Type 0} (P : A → Type 0) (xs ys : List A) → Each P (xs ++ ys) → Each P ys
-Each-right P [] ys p = p
-Each-right P (x ∷ xs) ys p = Each-right P xs ys p.1
-
 pub Each-map : {A : Type 0} (P Q : A → Type 0) (xs : List A) → ((x : A) → P x → Q x) → Each P xs → Each Q xs
 Each-map P Q [] f p = tt
 Each-map P Q (x ∷ xs) f p = (f x p.0, Each-map P Q xs f p.1)
