@@ -50,9 +50,6 @@ above old c at n p torn over =
     ∙ drop-drop (p - (at + n)) (at + n) old
     ∙ ap (λ (k : ℕ). drop k old) split
 
-pub torn_length : (old c : List ℕ) (at n : ℕ) → Torn at n old c → at + n ≤ length old → length c ≡ length old
-torn_length old c at n torn within = omega (arith, torn.no_shorter, torn.no_longer)
-
 -- the frames below a torn range stay
 pub frames_below : (old c : List ℕ) (at n j : ℕ) → Torn at n old c → 512 * j + 512 ≤ at → frame_at c j ≡ frame_at old j
 frames_below old c at n j torn under = below old c at n (512 * j) 512 torn under
@@ -131,10 +128,6 @@ tail_held k tail old new whole long holds =
 -- the frames below a cell stay while the cell is written
 pub same_below : (i n : ℕ) (old c : List ℕ) → Torn (1024 * i) n old c → SameBelow (2 * i) old c
 same_below i n old c torn j less = frames_below old c (1024 * i) n j torn (omega arith)
-
--- so many bytes were written
-pub holds_of : (old new z : List ℕ) (at n : ℕ) → length z ≡ n → new ≡ take at old ++ z ++ drop (at + n) old → Holds old at z new
-holds_of old new z at n long is = is ∙ ap (λ (k : ℕ). take at old ++ z ++ drop (at + k) old) (sym long)
 
 -- zeros were written over a cell
 pub blank_held : (i : ℕ) (old new z : List ℕ) → length z ≡ 1024 → ((o : ℕ) → o < 1024 → get_or z o 0 ≡ 0) → 1024 * i ≤ length old → Holds old (1024 * i) z new → IsShut (frame_at new (2 * i)) × IsShut (frame_at new (2 * i + 1))

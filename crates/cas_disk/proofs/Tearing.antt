@@ -1,34 +1,13 @@
--- How a range is torn byte by byte, and the images that a crash leaves of several writes.
+-- The images that a crash leaves of several writes, and how one write is undone.
 use Rattle.std.specs.Prelude.{IsTrue, min}
-use Rattle.std.proofs.Common.{◌≡◌, ℕ, ◌+◌, ◌-◌, ◌<◌, ◌≤◌, take-append-drop, List, [], ◌∷◌, ◌++◌, length, take, drop, refl, sym, ◌∙◌, ap, subst, arith, length-append, length-take, length-drop, append_assoc}
-use Rattle.std.proofs.Math.ListN.{set, length-set}
-use Rattle.std.proofs.lemmas.List.{take_at, drop_at, drop_all, take-append-le, length-take-le, take-set-le, drop-set-lt, take_min, drop-drop}
+use Rattle.std.proofs.Common.{◌≡◌, ℕ, ◌+◌, ◌-◌, ◌≤◌, take-append-drop, List, [], ◌∷◌, ◌++◌, length, take, drop, refl, sym, ◌∙◌, ap, subst, arith, length-append, length-take, length-drop, append_assoc}
+use Rattle.std.proofs.lemmas.List.{take_at, drop_at, take-append-le, length-take-le, take_min, drop-drop}
 use Rattle.std.proofs.lemmas.Bool.{and_from}
 use Rattle.std.proofs.lemmas.Bool.Decides.{nat_tests}
 use Rattle.cas_disk.specs.Disk.{Torn, Holds}
 use Rattle.cas_disk.specs.Medium.{undo, undone, fits, all_fit, IsImage}
 use Rattle.cas_disk.specs.declared.medium.Write.{Write}
 use Rattle.cas_disk.proofs.Moments.{torn_nothing}
-
--- one byte more in the range
-pub torn_set : (at n : ℕ) (old c : List ℕ) (k x : ℕ) → Torn at n old c → k < n → Torn at n old (set c (at + k) x)
-torn_set at n old c k x torn inside = record {
-  before = take-set-le at c (at + k) x (omega arith) ∙ torn.before;
-  after = drop-set-lt (at + n) c (at + k) x (omega arith) ∙ torn.after;
-  no_shorter = omega (arith, torn.no_shorter, length-set c (at + k) x);
-  no_longer = omega (arith, torn.no_longer, length-set c (at + k) x);
-}
-
--- one byte more past the end
-pub torn_push : (at n : ℕ) (old c : List ℕ) (k x : ℕ) → Torn at n old c → k < n → at ≤ length c → k ≡ length c - at → Torn at n old (c ++ x ∷ [])
-torn_push at n old c k x torn inside reached here = record {
-  before = take-append-le at c (x ∷ []) (omega arith) ∙ torn.before;
-  after =
-      drop_all (at + n) (c ++ x ∷ []) (omega (arith, length-append c (x ∷ [])))
-      ∙ sym (drop_all (at + n) old (omega (arith, torn.no_shorter)));
-  no_shorter = omega (arith, torn.no_shorter, length-append c (x ∷ []));
-  no_longer = omega (arith, torn.no_longer, length-append c (x ∷ []));
-}
 
 -- none of the writes is there
 pub image_of_none : (durable : List ℕ) (writes : List Write) → IsImage durable writes durable

@@ -18,7 +18,7 @@ use Rattle.cas_disk_shelf.specs.declared.memory.Memory.{Memory}
 use Rattle.cas_disk_shelf.specs.Head.{head_spelling, head_of, FitsHead, IsSpelledHead}
 use Rattle.cas_disk_shelf.specs.HeadLaws.{count-told}
 use Rattle.cas_disk_shelf.specs.Cell.{Entry}
-use Rattle.cas_disk_shelf.specs.Image.{entry_held, with_cell, with_cells, with_ages, left_behind, left_in}
+use Rattle.cas_disk_shelf.specs.Image.{entry_held, with_cell, with_cells}
 use Rattle.cas_disk_shelf.specs.Loading.{IsLoaded, IsHeadOf, read_on}
 use Rattle.cas_disk_shelf.specs.Memory.{cell_of, is_free, moved, freed, InStep, IsMemoryOf, IsCounted}
 use Rattle.cas_disk_shelf.proofs.Stepping.{free_in_step, slot_in_step}
@@ -31,11 +31,6 @@ pub head_is : (row : List (Option (List ℕ))) (payload : List ℕ) → IsRow ro
 head_is [] payload is held = absurd is
 head_is (None ∷ rest) payload is held = absurd is
 head_is (Some head ∷ rest) payload is held = some_is payload head (held head refl)
-
-pub not_blank : (row : List (Option (List ℕ))) → IsRow row → ((p : List ℕ) → slice_get row 0 ≡ Some (Some p) → None ≡ Some p) → ⊥
-not_blank [] is held = absurd is
-not_blank (None ∷ rest) is held = absurd is
-not_blank (Some head ∷ rest) is held = let none : None ≡ Some head = held head refl in absurd (cc)
 
 count_is : (row : List (Option (List ℕ))) → IsRow row → count_in row ≡ count_told (head_in row)
 count_is [] is = absurd is
@@ -51,11 +46,6 @@ head_read row payload head is same spells read =
       read = ap head_of (sym same) ∙ sym read;
       count = count_is row is ∙ ap count_told (sym same ∙ spells.bytes_are) ∙ count-told head spells.fits;
     }
-
-pub wrong_head : (place : ℕ → ℕ) (row : List (Option (List ℕ))) (payload : List ℕ) (wrong : ℕ) → IsRow row → payload ≡ head_in row → Err wrong ≡ head_of payload → left_in place row ≡ Err (place 0 + wrong)
-wrong_head place [] payload wrong is same read = absurd is
-wrong_head place (None ∷ rest) payload wrong is same read = absurd is
-wrong_head place (Some head ∷ rest) payload wrong is same read = ap (left_behind place rest) (ap head_of (sym same) ∙ sym read)
 
 -- ---- one cell
 
@@ -182,12 +172,6 @@ all_loaded cells head memory n row is last loaded ages =
       };
       counted = subst (IsCounted memory) last loaded.counted;
     }
-
--- a cell that is wrong makes the disk foreign
-pub cells_wrong : (place : ℕ → ℕ) (cells : List (Option (List ℕ))) (head : Head) (at : ℕ) → IsRow cells → head_of (head_in cells) ≡ Ok head → with_cells place 1 (drop 1 cells) (Ok no_slots) ≡ Err at → left_in place cells ≡ Err at
-cells_wrong place [] head at row read wrong = absurd row
-cells_wrong place (None ∷ cells) head at row read wrong = absurd row
-cells_wrong place (Some h ∷ cells) head at row read wrong = ap (left_behind place cells) read ∙ ap (with_ages head.ages) wrong
 
 absent : (o : Option ℕ) → is_some o ≡ false → o ≡ None
 absent None e = refl

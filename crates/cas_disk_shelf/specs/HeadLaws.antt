@@ -174,15 +174,6 @@ count-told head fits =
     let is : is_head (head_spelling head) ≡ true = (λ t. long t && few t) in
     ap (λ (b : Bool). cond b (number_told (head_spelling head)) 0) is ∙ told
 
--- a head tells cells
-pub spelled-is_head : (head : Head) → FitsHead head → is_head (head_spelling head) ≡ true
-spelled-is_head head fits =
-    let back : from_be_bytes w32 (to_be_bytes w32 head.count) ≡ head.count = from_be_bytes-to_be_bytes_4 head.count (omega (arith, fits.count)) in
-    let told : number_told (head_spelling head) ≡ head.count = omega (arith, back) in
-    let few : leb (number_told (head_spelling head)) 4096 ≡ true = le-leb _ _ (omega (arith, told, fits.count)) in
-    let long : leb 13 (length (head_spelling head)) ≡ true = le-leb _ _ (omega (arith, length-numbers head.ages.0)) in
-    (λ t. long t && few t)
-
 IsBytes-four : (a b : ℕ) → a < 256 → b < 256 → IsBytes (0 ∷ 0 ∷ a ∷ b ∷ [])
 IsBytes-four a b low low' zero = lit< tt
 IsBytes-four a b low low' (suc zero) = lit< tt

@@ -2,11 +2,11 @@
 use Rattle.std.specs.Prelude.{IsErrAnd, slice_get, unwrap_or}
 use Rattle.std.specs.Option.{option_map}
 use Rattle.std.proofs.Common.{Result, Ok, Err, Bool, true, false, cond, ltb, ◌≡◌, ⊎_elim, ℕ, ◌+◌, ◌^◌, ◌≤◌, Option, Some, None, List, [], ◌∷◌, length, refl, sym, ap, subst, ◌∙◌, arith}
-use Rattle.std.proofs.lemmas.Bool.{ltb-true, ltb-false}
+use Rattle.std.proofs.lemmas.Bool.{ltb-true}
 use Rattle.std.proofs.lemmas.List.{nil_from_length}
 use Rattle.cas_base.proofs.Bools.{some_is}
 use Rattle.cas_disk.specs.Disk.{Only, LeavesOnly}
-use Rattle.cas_cells.specs.Format.{StandsFor, head_in, count_told, cells_on, payload_at, payload_place, place_of, payload_in, frame_at, is_open, IsPayload}
+use Rattle.cas_cells.specs.Format.{StandsFor, head_in, count_told, cells_on, payload_at, payload_place, place_of, payload_in, frame_at, is_open}
 use Rattle.cas_cells.specs.Held.{IsRow}
 use Rattle.cas_cells.specs.Cells as cells
 use Rattle.cas_cells.specs.declared.cells.Cells.{Cells}
@@ -20,7 +20,7 @@ use Rattle.cas_vault.specs.Codec.{IsKept, spelling, Spells}
 use Rattle.cas_vault.specs.Vault.{disk_of, KeptOn, IsBeforeOrAfter, Stands, IsPast, kept_to_draw}
 use Rattle.cas_vault.specs.declared.kept.Kept.{Kept}
 use Rattle.cas_vault.specs.declared.vault.Vault.{Vault}
-use Rattle.cas_vault.proofs.Spellings.{same_spelling, length-spelling}
+use Rattle.cas_vault.proofs.Spellings.{same_spelling}
 
 -- a disk keeps one record
 pub same_kept : (kept kept' : Kept) (disk : List ℕ) → KeptOn kept disk → KeptOn kept' disk → kept ≡ kept'
@@ -38,10 +38,7 @@ pub told_no_memory : {T : Type 0} (r : Result T VaultError) (e : CellFault) → 
 told_no_memory (Ok x) e gives is = absurd (cc)
 told_no_memory (Err f) e gives is = no_memory_of_cells e (let same : f ≡ NoMemory = cc in sym gives ∙ same)
 
--- a record can be a payload, and tells no further cells
-pub spelling_fits : (kept : Kept) → IsPayload (spelling kept)
-spelling_fits kept = record { not_empty = omega (arith, length-spelling kept); fits = omega (arith, length-spelling kept) }
-
+-- a record tells no further cells
 pub tells_no_cells : (kept : Kept) → count_told (spelling kept) ≡ 0
 tells_no_cells kept = refl
 
@@ -100,11 +97,6 @@ chosen_bound false kept kept' n here there = there refl
 pub bound_to_draw : (counter : ℕ) (kept : Kept) → kept.bound ≤ 2 ^ 48 → kept.bound ≤ (kept_to_draw counter kept).bound
 bound_to_draw counter kept low =
     chosen_bound (ltb kept.bound (counter + 1)) _ kept kept.bound (λ is. omega (arith, ltb-true kept.bound (counter + 1) is)) (λ is. omega arith)
-
--- and the number is not above it
-pub bound_drawn : (counter : ℕ) (kept : Kept) → counter + 1 ≤ 2 ^ 48 → counter + 1 ≤ (kept_to_draw counter kept).bound
-bound_drawn counter kept low =
-    chosen_bound (ltb kept.bound (counter + 1)) _ kept (counter + 1) (λ is. omega arith) (λ is. omega (arith, ltb-false kept.bound (counter + 1) is))
 
 -- ---- reopening
 
