@@ -10,7 +10,8 @@ use Rattle.std.proofs.lemmas.Nat.{be_bytes_4, be_bytes_8, from_be_bytes-to_be_by
 use Rattle.cas_slot.specs.declared.ages.Ages.{Ages}
 use Rattle.cas_cells.specs.Format.{is_head, number_told, count_told, with_count}
 use Rattle.cas_wire.specs.Reading.{rise_at, one_later}
-use Rattle.cas_wire.proofs.Formats.{IsBytes, IsBytes-drop, IsBytes-take, wide64}
+use Rattle.cas_base.proofs.Bytes.{IsBytes}
+use Rattle.cas_wire.proofs.Formats.{IsBytes-drop, IsBytes-take, wide64}
 use Rattle.cas_wire.proofs.Limits.{value, rise_le, le_rise}
 use Rattle.cas_disk_shelf.specs.declared.codec.Head.{Head}
 use Rattle.cas_disk_shelf.specs.Head.{head_front, numbers_spelling, head_spelling, unlike_at, number_from, ages_in, most_cells, rest_of_head, head_by, head_of, FitsHead, IsSpelledHead}
