@@ -1,6 +1,6 @@
 //! What is true of every cluster. Each law is the contract of a function that does nothing.
 
-ghost use Rattle.cas_cluster.specs.Laws.{AcceptorsAnswerLawfully, AcceptorsStopLawfully, OthersChangeNothing, WhatWasTakenStays, ProposersDrawLawfully, ProposersProposeLawfully, RidersProposeLawfully, ProposersCountLawfully, CallsAreDoneLawfully};
+ghost use Rattle.cas_cluster.specs.Laws.{AcceptorsAnswerLawfully, AcceptorsStopLawfully, OthersChangeNothing, WhatWasTakenStays, ProposersDrawLawfully, ProposersProposeLawfully, ProposalsMakeStates, RidersProposeLawfully, PromisesRideLawfully, ProposersCountLawfully, CallsAreDoneLawfully, RepliesAreTrue, WhatIsKnownStays, TombstonesAreFloors};
 
 /// An acceptor that keeps what the log tells, and answers a request that it was asked, keeps what the log tells then: what it
 /// promised, took, raised or removed, its vote and its reply go on with the log lawfully, and each has its reason.
@@ -51,4 +51,31 @@ pub fn riders_propose_lawfully()
 /// on.
 pub fn calls_are_done_lawfully()
     ensures { CallsAreDoneLawfully }
+{}
+
+/// The reply of an acceptor that keeps what the log tells is true, and a state that it tells is that of a proposal.
+pub fn replies_are_true()
+    ensures { RepliesAreTrue }
+{}
+
+/// Whatever happens lawfully, and however late a frame arrives, what it bears is still so: the state that a request asks for or a
+/// reply tells is that of a proposal. A promise that rode along stays good unless a floor is made above what it read.
+pub fn what_is_known_stays()
+    ensures { WhatIsKnownStays }
+{}
+
+/// What a proposal makes of the state from which it goes on is the state of its ballot, the one that acceptors may be asked to accept.
+pub fn proposals_make_states()
+    ensures { ProposalsMakeStates }
+{}
+
+/// Where whoever was asked to accept a proposal was asked to promise a later ballot by the same act, and a prepare quorum accepted, a
+/// round may begin at that ballot without asking anybody.
+pub fn promises_ride_lawfully()
+    ensures { PromisesRideLawfully }
+{}
+
+/// The empty state that was acknowledged may be made a floor of its key, and whoever took it is clear of what was below.
+pub fn tombstones_are_floors()
+    ensures { TombstonesAreFloors }
 {}
