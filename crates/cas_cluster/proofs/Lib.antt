@@ -1,6 +1,7 @@
 pub mod Answered
 pub mod Deeds
 pub mod Growing
+pub mod Held
 pub mod Known
 pub mod Pages
 pub mod Proposes

@@ -107,7 +107,7 @@ stops cluster log id kept on request left asked to state known (inr row) = elim 
 left_is : (a b : Contents) → ◌≡◌ {A = Left} (Ok a) (Ok b) → a ≡ b
 left_is a b e = cc
 
-goes_on_from : (cluster : Cluster) (log : List Happening) (id : ℕ) (kept : Contents) → GoesOn cluster log id kept → (new : Contents) → IsLeft log id kept (Ok new)
+pub goes_on_from : (cluster : Cluster) (log : List Happening) (id : ℕ) (kept : Contents) → GoesOn cluster log id kept → (new : Contents) → IsLeft log id kept (Ok new)
     → (done : List Happening) × GoesOn cluster (done ++ log) id new × (marks_of (done ++ log) ≡ marks_of log)
 goes_on_from cluster log id kept on new (inl same) = ([], subst (GoesOn cluster log id) (left_is kept new (sym same)) on, refl)
 goes_on_from cluster log id kept on new (inr half) =

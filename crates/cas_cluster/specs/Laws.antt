@@ -1,5 +1,5 @@
 -- What is true of every cluster.
-use Rattle.std.specs.Prelude.{◌≡◌, ℕ, ◌+◌, ◌≤◌, ◌<◌, true, List, ◌∷◌, ◌++◌, Option, Ok}
+use Rattle.std.specs.Prelude.{◌≡◌, ℕ, ◌+◌, ◌≤◌, ◌<◌, true, List, [], ◌∷◌, ◌++◌, Option, Ok, ◌⊎◌}
 use Rattle.cas_ballot.specs.declared.ballot.Ballot.{Ballot}
 use Rattle.cas_ballot.specs.Ballot.{BallotAtMost, BallotLess}
 use Rattle.cas_cache.specs.declared.ready.Ready.{Ready}
@@ -16,7 +16,7 @@ use Rattle.cas_slot.specs.declared.slot.Accepted.{Accepted}
 use Rattle.cas_slot.specs.Slot.{accepted_ballot}
 use Rattle.cas_record.specs.declared.mark.Proposal.{Proposal}
 use Rattle.cas_record.specs.declared.mark.Acknowledgment.{Acknowledgment}
-use Rattle.cas_record.specs.Chain.{chain_of, link_of}
+use Rattle.cas_record.specs.Chain.{chain_of, link_of, top_of, settled_of}
 use Rattle.cas_record.specs.Replay.{replay_from, opening_state}
 use Rattle.cas_slot.specs.declared.message.Reply.{Reply}
 use Rattle.cas_slot.specs.Contents.{Contents}
@@ -27,11 +27,12 @@ use Rattle.cas_record.specs.declared.answer.Answer.TheVariants as answer
 use Rattle.cas_record.specs.declared.mark.Mark.TheVariants.{Begun, Proposed, Floor}
 use Rattle.cas_record.specs.Happening.{Happening, Marked, Asked, Took, Dropped, Drew, marks_of}
 use Rattle.cas_record.specs.Legal.{IsEnded, IsAcked, HasFloor}
-use Rattle.cas_record.specs.Lawful.{Cluster, Lawful, MayPropose, MayAck, MayEnd}
-use Rattle.cas_record.specs.Orderly.{Orderly, MayDraw, IsClear}
+use Rattle.cas_record.specs.Lawful.{Cluster, ClusterMeets, Lawful, MayPropose, MayAck, MayEnd}
+use Rattle.cas_record.specs.Orderly.{Orderly, MayDraw, IsAboveFloors, IsClear}
 use Rattle.cas_record.specs.Places.{Stands, At}
 use Rattle.cas_cluster.specs.Acceptors.{Tells, IsMadeState, IsEmptyAt, IsAskState, IsElsewhere, IsLeft, done_log, answered_log}
 use Rattle.cas_cluster.specs.Desks.{IsRiding, IsPastAll}
+use Rattle.cas_cluster.specs.Held.{IsHeld}
 use Rattle.cas_cluster.specs.Proposers.{IsReplyTrue, AreRepliesTrue, IsOpenRound, IsProposedIn, AreFloorsClear, AllRide, state_read}
 
 -- the log is lawful and each happening has its reason, and it tells what the acceptor keeps
@@ -158,3 +159,13 @@ TombstonesAreFloors = (cluster : Cluster) (log : List Happening) (key : List ℕ
     → Lawful cluster (Marked (Floor key tomb Empty) ∷ log)
     × (IsEmptyAt (marks_of (Marked (Floor key tomb Empty) ∷ log)) key tomb
     × ((acceptor : ℕ) (ride : Ballot) → Stands (Took acceptor key tomb ride) log → IsClear (Marked (Floor key tomb Empty) ∷ log) acceptor key tomb))
+
+-- A ballot that was acknowledged is held by a quorum until a floor is made at or above it.
+abbrev pub WhatIsAckedIsHeld : Type 0
+WhatIsAckedIsHeld = (cluster : Cluster) → ClusterMeets cluster → (log : List Happening) (key : List ℕ) (ballot : Ballot) → Lawful cluster log → Orderly cluster log
+    → IsAcked key ballot (marks_of log) → IsAboveFloors (marks_of log) key ballot → IsHeld cluster log key ballot
+
+-- What is settled of a key is held by a quorum, unless nothing is, or the last that settled is a floor.
+abbrev pub WhatIsSettledIsHeld : Type 0
+WhatIsSettledIsHeld = (cluster : Cluster) → ClusterMeets cluster → (log : List Happening) (key : List ℕ) → Lawful cluster log → Orderly cluster log
+    → IsAboveFloors (marks_of log) key (top_of key (marks_of log)) → (settled_of key (marks_of log) ≡ []) ⊎ IsHeld cluster log key (top_of key (marks_of log))

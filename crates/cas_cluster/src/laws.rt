@@ -1,6 +1,6 @@
 //! What is true of every cluster. Each law is the contract of a function that does nothing.
 
-ghost use Rattle.cas_cluster.specs.Laws.{AcceptorsAnswerLawfully, AcceptorsStopLawfully, OthersChangeNothing, WhatWasTakenStays, ProposersDrawLawfully, ProposersProposeLawfully, ProposalsMakeStates, RidersProposeLawfully, PromisesRideLawfully, ProposersCountLawfully, CallsAreDoneLawfully, RepliesAreTrue, WhatIsKnownStays, TombstonesAreFloors};
+ghost use Rattle.cas_cluster.specs.Laws.{AcceptorsAnswerLawfully, AcceptorsStopLawfully, OthersChangeNothing, WhatWasTakenStays, ProposersDrawLawfully, ProposersProposeLawfully, ProposalsMakeStates, RidersProposeLawfully, PromisesRideLawfully, ProposersCountLawfully, CallsAreDoneLawfully, RepliesAreTrue, WhatIsKnownStays, TombstonesAreFloors, WhatIsAckedIsHeld, WhatIsSettledIsHeld};
 
 /// An acceptor that keeps what the log tells, and answers a request that it was asked, keeps what the log tells then: what it
 /// promised, took, raised or removed, its vote and its reply go on with the log lawfully, and each has its reason.
@@ -78,4 +78,16 @@ pub fn promises_ride_lawfully()
 /// The empty state that was acknowledged may be made a floor of its key, and whoever took it is clear of what was below.
 pub fn tombstones_are_floors()
     ensures { TombstonesAreFloors }
+{}
+
+/// A ballot that was acknowledged is held by an accept quorum until a floor is made at or above it. Whatever a crash leaves of what
+/// each of them keeps, the key's accepted ballot is at least that, and its history goes on from it.
+pub fn what_is_acknowledged_is_held()
+    ensures { WhatIsAckedIsHeld }
+{}
+
+/// What is settled of a key stands on the shelves of an accept quorum: whatever a crash leaves of what each of them keeps, the state
+/// is that of a history which the settled one begins.
+pub fn what_is_settled_is_held()
+    ensures { WhatIsSettledIsHeld }
 {}
