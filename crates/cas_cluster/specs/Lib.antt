@@ -3,4 +3,3 @@ pub mod Desks
 pub mod Held
 pub mod Laws
 pub mod Proposers
-pub mod View
