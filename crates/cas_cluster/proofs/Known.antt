@@ -69,7 +69,7 @@ replies cluster log old new request reply on asked state known small is = record
 }
 
 -- ---- what stays
-reply_stays : (cluster : Cluster) (h : Happening) (log : List Happening) → Lawful cluster (h ∷ log) → (reply : Reply) → IsReplyTrue log reply → IsReplyTrue (h ∷ log) reply
+pub reply_stays : (cluster : Cluster) (h : Happening) (log : List Happening) → Lawful cluster (h ∷ log) → (reply : Reply) → IsReplyTrue log reply → IsReplyTrue (h ∷ log) reply
 reply_stays cluster h log lawful reply was = record {
   from = was.from;
   request = was.request;

@@ -1,5 +1,6 @@
 pub mod Answered
 pub mod Deeds
+pub mod Events
 pub mod Growing
 pub mod Held
 pub mod Known

@@ -36,7 +36,7 @@ age_elsewhere : (h : Happening) (log : List Happening) (id proposer : ℕ) → I
 age_elsewhere (Raised a least) log id proposer other = if_false (a == id) _ _ (false_of_not _ (λ e. other (nat_same {a = a} {b = id} e)))
 age_elsewhere h log id proposer other = refl
 
-tells_still : (cluster : Cluster) (h : Happening) (log : List Happening) (id : ℕ) (kept : Contents) → Lawful cluster (h ∷ log) → IsElsewhere id h → Tells log id kept → Tells (h ∷ log) id kept
+pub tells_still : (cluster : Cluster) (h : Happening) (log : List Happening) (id : ℕ) (kept : Contents) → Lawful cluster (h ∷ log) → IsElsewhere id h → Tells log id kept → Tells (h ∷ log) id kept
 tells_still cluster h log id kept lawful other tells = record {
   slots = λ key. slot_elsewhere h log id key other ∙ tells.slots key;
   ages = λ proposer known. omega (arith, age_elsewhere h log id proposer other, tells.ages proposer known);

@@ -2,4 +2,5 @@ pub mod Acceptors
 pub mod Desks
 pub mod Held
 pub mod Laws
+pub mod Protocol
 pub mod Proposers

@@ -1,6 +1,7 @@
 //! What is true of every cluster. Each law is the contract of a function that does nothing.
 
 ghost use Rattle.cas_cluster.specs.Laws.{AcceptorsAnswerLawfully, AcceptorsStopLawfully, OthersChangeNothing, WhatWasTakenStays, ProposersDrawLawfully, ProposersProposeLawfully, ProposalsMakeStates, RidersProposeLawfully, PromisesRideLawfully, ProposersCountLawfully, CallsAreDoneLawfully, RepliesAreTrue, WhatIsKnownStays, TombstonesAreFloors, WhatIsAckedIsHeld, WhatIsSettledIsHeld};
+ghost use Rattle.cas_cluster.specs.Protocol.{EventsKeepHistory, RunsAreLegal};
 
 /// An acceptor that keeps what the log tells, and answers a request that it was asked, keeps what the log tells then: what it
 /// promised, took, raised or removed, its vote and its reply go on with the log lawfully, and each has its reason.
@@ -90,4 +91,17 @@ pub fn what_is_acknowledged_is_held()
 /// is that of a history which the settled one begins.
 pub fn what_is_settled_is_held()
     ensures { WhatIsSettledIsHeld }
+{}
+
+/// Whatever happens, a cluster with a history has one after it: each request that was ever made may be answered at any time, any
+/// number of times or never, and proposers go by whichever replies were ever made to them; acceptors stop within any request;
+/// promises ride along, tombstones become floors, slots are removed, and proposers enter new eras.
+pub fn events_keep_the_history()
+    ensures { EventsKeepHistory }
+{}
+
+/// After whatever happened from the opening on, a cluster has a history, and its record is legal: each register has one history,
+/// each change that was answered Done stands in it once, after all that was settled when its call began, and a refused one never.
+pub fn runs_are_legal()
+    ensures { RunsAreLegal }
 {}
