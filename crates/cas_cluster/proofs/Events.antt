@@ -1,5 +1,5 @@
 -- Whatever happens, a cluster with a history has one after it; so the record of every run is legal.
-use Rattle.std.proofs.Common.{◌≡◌, ◌<◌, ◌≤◌, ℕ, suc, Bool, true, false, List, [], ◌∷◌, ◌++◌, Option, Some, None, refl, sym, ap, subst, ◌∙◌, inl, inr, arith}
+use Rattle.std.proofs.Common.{◌≡◌, ◌<◌, ◌≤◌, ℕ, suc, Bool, true, false, List, [], ◌∷◌, ◌++◌, Option, None, refl, sym, ap, subst, ◌∙◌, inl, inr, arith}
 use Rattle.std.specs.Prelude.{⊤, ◌⊎◌, ◌==◌, cond, is_some, unwrap_or}
 use Rattle.std.specs.Cmp.Lexicographic.{slice_cmp}
 use Rattle.std.specs.FinMap as map
@@ -7,9 +7,7 @@ use Rattle.std.specs.Ordering.{nat_cmp}
 use Rattle.cas_base.proofs.Bools.{if_true, if_false, true_or_false, not_both}
 use Rattle.cas_ballot.specs.declared.ballot.Ballot.{Ballot}
 use Rattle.cas_ballot.specs.Ballot.{zero_ballot, BallotLess}
-use Rattle.cas_ballot.specs.Members.{has_member}
 use Rattle.cas_cache.specs.declared.ready.Ready.{Ready}
-use Rattle.cas_change.specs.declared.outcome.Outcome.{Outcome}
 use Rattle.cas_change.specs.declared.program.Clause.{Clause}
 use Rattle.cas_change.specs.declared.state.State.{State}
 use Rattle.cas_change.specs.declared.state.State.TheVariants.{Empty}
@@ -30,16 +28,15 @@ use Rattle.cas_slot.specs.Table.{Handles, IsAnswered, accepted_at}
 use Rattle.cas_record.specs.declared.answer.Answer.{Answer}
 use Rattle.cas_record.specs.declared.answer.Answer.TheVariants as answer
 use Rattle.cas_record.specs.declared.mark.Mark.{Mark}
-use Rattle.cas_record.specs.declared.mark.Mark.TheVariants.{Begun, Proposed, Voted, Acked, Floor, Ended}
+use Rattle.cas_record.specs.declared.mark.Mark.TheVariants.{Begun, Proposed, Acked, Floor, Ended}
 use Rattle.cas_record.specs.declared.mark.Proposal.{Proposal}
 use Rattle.cas_record.specs.Chain.{chain_of, link_of}
-use Rattle.cas_record.specs.Happening.{Happening, Marked, Asked, Took, Dropped, Drew, Entered, Replied, marks_of}
-use Rattle.cas_record.specs.Lawful.{Cluster, ClusterMeets, Lawful, May, MayPropose, MayEnter, MayLeave, MayAnswer, IsRescanned, IsCollected}
-use Rattle.cas_record.specs.Legal.{HasFloor, IsLegal}
+use Rattle.cas_record.specs.Happening.{Happening, Marked, Asked, Took, Dropped, Entered, Replied, marks_of}
+use Rattle.cas_record.specs.Lawful.{Cluster, ClusterMeets, Lawful, May, MayPropose, MayLeave, MayAnswer}
+use Rattle.cas_record.specs.Legal.{HasFloor}
 use Rattle.cas_record.specs.Orderly.{Orderly, HasReason, IsRoundAsk, MayAsk, MayAskFor, IsClear, took_it, never_asked}
-use Rattle.cas_record.specs.Places.{Stands, At, here, past}
+use Rattle.cas_record.specs.Places.{Stands, here, past}
 use Rattle.cas_record.specs.Replay.{replay_from, opening_state}
-use Rattle.cas_record.proofs.LegalLemmas.{counted}
 use Rattle.cas_record.proofs.Listings.{stones_of_listing}
 use Rattle.cas_record.proofs.Orders.{round_asked}
 use Rattle.cas_record.proofs.PlaceLemmas.{newest_or, none_at_nil}
@@ -49,7 +46,7 @@ use Rattle.cas_cluster.specs.Acceptors.{told_of, IsAcceptedState, Tells, IsMadeS
 use Rattle.cas_cluster.specs.Desks.{IsRiding}
 use Rattle.cas_cluster.specs.Laws.{GoesOn}
 use Rattle.cas_cluster.specs.Proposers.{IsReplyTrue, AreRepliesTrue, AreFloorsClear, state_read}
-use Rattle.cas_cluster.specs.Protocol.{Made, Net, kept_but, AllReplied, HasMade, IsMadeAsk, IsAskable, IsPrepared, IsPreparedByRide, IsAccepted, is_done, IsOtherEnd, IsGrave, IsListed, IsLeaving, Event, Begins, Draws, Asks, Answers, StopsWithin, Proposes, ProposesByRide, Counts, EndsDone, EndsElse, Harms, TellsOperator, Buries, Enters, MarksEra, after, Run, opened, then, IsMadeOf, Knows, HasHistory, EventsKeepHistory, RunsAreLegal}
+use Rattle.cas_cluster.specs.Protocol.{Made, Net, kept_but, AllReplied, HasMade, IsMadeAsk, IsPrepared, IsPreparedByRide, is_done, IsLeaving, Begins, Draws, Asks, Answers, StopsWithin, Proposes, ProposesByRide, Counts, EndsDone, EndsElse, Harms, TellsOperator, Buries, Enters, MarksEra, Run, opened, then, IsMadeOf, Knows, HasHistory, EventsKeepHistory, RunsAreLegal}
 use Rattle.cas_cluster.proofs.Answered.{answers, deeds}
 use Rattle.cas_cluster.proofs.Growing.{made_grows, ask_grows}
 use Rattle.cas_cluster.proofs.Known as known

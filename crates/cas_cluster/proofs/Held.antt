@@ -1,7 +1,7 @@
 -- What was acknowledged, and what is settled, stands on the shelves of a quorum.
-use Rattle.std.proofs.Common.{◌≡◌, ℕ, true, List, [], ◌∷◌, ◌++◌, Option, Some, None, Ok, refl, sym, ap, subst, ◌∙◌, inl, inr}
+use Rattle.std.proofs.Common.{ℕ, List, ◌++◌, Option, Some, None, Ok, sym, ap, subst, ◌∙◌, inl, inr}
 use Rattle.cas_ballot.specs.declared.ballot.Ballot.{Ballot}
-use Rattle.cas_ballot.specs.Ballot.{zero_ballot, BallotAtMost, BallotLess}
+use Rattle.cas_ballot.specs.Ballot.{BallotAtMost, BallotLess}
 use Rattle.cas_ballot.proofs.BallotLemmas.{at_most_antisym, at_most_or_less, less_irreflexive, none_below_zero}
 use Rattle.cas_slot.specs.declared.slot.Accepted.{Accepted}
 use Rattle.cas_slot.specs.Contents.{Contents}
@@ -11,18 +11,17 @@ use Rattle.cas_record.specs.declared.mark.Mark.{Mark}
 use Rattle.cas_record.specs.Chain.{chain_of, top_of}
 use Rattle.cas_record.specs.Happening.{Happening, Took, Dropped, marks_of}
 use Rattle.cas_record.specs.Lawful.{Cluster, ClusterMeets, Lawful, MayDrop}
-use Rattle.cas_record.specs.Legal.{IsAcked}
 use Rattle.cas_record.specs.Orderly.{Orderly, IsAboveFloors}
 use Rattle.cas_record.specs.Places.{Stands, IsPrefix}
-use Rattle.cas_record.proofs.Agreement.{Seam, Settles, by_ack, agree_whole, took_of_acked}
+use Rattle.cas_record.proofs.Agreement.{Seam, by_ack, agree_whole, took_of_acked}
 use Rattle.cas_record.proofs.ChainLemmas.{chain_zero, top_cases}
 use Rattle.cas_record.proofs.Eras.{seam_of}
 use Rattle.cas_record.proofs.LogLemmas.{law, ack_law, AckedAt, acked_at, proposed_at, part_of}
 use Rattle.cas_record.proofs.PlaceLemmas.{stands_deeper, stands_part, prefix_same}
 use Rattle.cas_cluster.specs.Acceptors.{Tells, IsAcceptedState, IsLeft}
-use Rattle.cas_cluster.specs.Held.{Holds, IsHeld}
+use Rattle.cas_cluster.specs.Held.{Holds}
 use Rattle.cas_cluster.specs.Laws.{GoesOn, WhatIsAckedIsHeld, WhatIsSettledIsHeld}
-use Rattle.cas_cluster.proofs.Answered.{made_not_zero, behind}
+use Rattle.cas_cluster.proofs.Answered.{behind}
 use Rattle.cas_cluster.proofs.Staying.{goes_on_from, taken}
 
 -- no slot of the key was removed at or above a ballot that is above its floors

@@ -1,5 +1,5 @@
 -- What is known of a state, a reply or a promise that rode along: how it comes to be so, and that it stays so.
-use Rattle.std.proofs.Common.{◌≡◌, ◌<◌, ◌≤◌, ℕ, true, List, [], ◌∷◌, ◌++◌, Option, Some, None, refl, sym, ap, subst, ◌∙◌, inl, inr}
+use Rattle.std.proofs.Common.{◌≡◌, ◌<◌, ℕ, List, ◌∷◌, ◌++◌, Option, Some, refl, sym, ap, subst, ◌∙◌, inl, inr}
 use Rattle.std.specs.Prelude.{unwrap_or}
 use Rattle.cas_ballot.specs.declared.ballot.Ballot.{Ballot}
 use Rattle.cas_ballot.specs.Ballot.{zero_ballot, BallotAtMost}
@@ -16,18 +16,15 @@ use Rattle.cas_slot.specs.declared.message.Request.{Request}
 use Rattle.cas_slot.specs.declared.message.Reply.{Reply}
 use Rattle.cas_slot.specs.declared.message.Tell.{Tell}
 use Rattle.cas_slot.specs.declared.message.Tell.TheVariants as tell
-use Rattle.cas_slot.specs.declared.slot.Accepted.{Accepted}
 use Rattle.cas_slot.specs.Contents.{Contents}
-use Rattle.cas_slot.specs.Table.{Handles, IsAnswered, accepted_at}
-use Rattle.cas_record.specs.declared.mark.Mark.{Mark}
+use Rattle.cas_slot.specs.Table.{Handles}
 use Rattle.cas_record.specs.declared.mark.Mark.TheVariants.{Proposed, Voted, Floor}
-use Rattle.cas_record.specs.declared.mark.Proposal.{Proposal}
 use Rattle.cas_record.specs.Chain.{chain_of, link_of, program_of}
 use Rattle.cas_record.specs.Happening.{Happening, Marked, Asked, Took, marks_of}
 use Rattle.cas_record.specs.Lawful.{Cluster, Lawful, MayVote}
 use Rattle.cas_record.specs.Legal.{HasFloor}
 use Rattle.cas_record.specs.Orderly.{Orderly, MayTakeBy, took_it}
-use Rattle.cas_record.specs.Places.{Stands, At, here, past}
+use Rattle.cas_record.specs.Places.{Stands, here, past}
 use Rattle.cas_record.specs.Replay.{replay_from, opening_state}
 use Rattle.cas_record.proofs.CallLemmas.{program_of_begun}
 use Rattle.cas_record.proofs.LegalLemmas.{counted}
@@ -35,9 +32,9 @@ use Rattle.cas_record.proofs.LogLemmas.{law, stands_in_log, chain_whole, link_be
 use Rattle.cas_record.proofs.Orders.{reason}
 use Rattle.cas_record.proofs.PlaceLemmas.{stands_deeper, newest_or}
 use Rattle.cas_record.proofs.Replays.{replay_of_proposal}
-use Rattle.cas_cluster.specs.Acceptors.{IsAskState, IsAcceptedState, IsTellState, deeds_of, votes_of, answered_log}
+use Rattle.cas_cluster.specs.Acceptors.{IsAcceptedState, IsTellState, deeds_of, votes_of}
 use Rattle.cas_cluster.specs.Desks.{IsRiding}
-use Rattle.cas_cluster.specs.Laws.{GoesOn, StaysKnown, RepliesAreTrue, WhatIsKnownStays, ProposalsMakeStates, PromisesRideLawfully, TombstonesAreFloors}
+use Rattle.cas_cluster.specs.Laws.{GoesOn, RepliesAreTrue, WhatIsKnownStays, ProposalsMakeStates, PromisesRideLawfully, TombstonesAreFloors}
 use Rattle.cas_cluster.specs.Proposers.{IsReplyTrue}
 use Rattle.cas_cluster.proofs.Growing.{opening_later, made_grows, ask_grows, tell_grows}
 use Rattle.cas_cluster.proofs.Proposes.{voter}

@@ -1,5 +1,5 @@
 -- That an acceptor is as the log tells, and what it adds to the log when it answers.
-use Rattle.std.specs.Prelude.{◌≡◌, ◌⊎◌, ⊤, ℕ, ◌≤◌, true, false, List, [], ◌∷◌, ◌++◌, Option, None, Some, Ok, unwrap_or, is_some, if◌then◌else◌}
+use Rattle.std.specs.Prelude.{◌≡◌, ◌⊎◌, ⊤, ℕ, ◌≤◌, List, [], ◌∷◌, ◌++◌, Option, None, Some, Ok, unwrap_or, is_some, if◌then◌else◌}
 use Rattle.cas_ballot.specs.declared.ballot.Ballot.{Ballot}
 use Rattle.cas_ballot.specs.Ballot.{zero_ballot}
 use Rattle.cas_change.specs.declared.state.State.{State}
