@@ -1,12 +1,13 @@
 -- A run: a call is begun, its round prepared by two acceptors and proposed; one acceptor stops within the accept and answers nobody,
--- is up again and answers the same request, the other answers too, and the call is Done.
+-- is up again and answers the same request, the other answers too, and the call is Done. A promise rode along with the accepts, and
+-- the next call is proposed by it, without asking anybody.
 use Rattle.std.proofs.Common.{◌≡◌, ℕ, Bool, true, false, List, [], ◌∷◌, Option, Some, None, refl, sym, ap, subst, ◌∙◌, inl, inr, arith}
-use Rattle.std.specs.Prelude.{IsSomeAnd, pos}
+use Rattle.std.specs.Prelude.{IsSomeAnd, pos, ◌==◌, not, nat_le, cond, suc, ◌++◌}
 use Rattle.std.specs.Cmp.Lexicographic.{slice_cmp}
 use Rattle.std.specs.FinMap as map
 use Rattle.std.specs.List.{list_any}
 use Rattle.std.specs.Ordering.{nat_cmp}
-use Rattle.cas_base.proofs.Bools.{not_both}
+use Rattle.cas_base.proofs.Bools.{not_both, not_of_false, true_or_false}
 use Rattle.cas_ballot.specs.declared.ballot.Ballot.{Ballot}
 use Rattle.cas_ballot.specs.Ballot.{zero_ballot, BallotAtMost, BallotLess}
 use Rattle.cas_ballot.specs.Members.{members_where, has_member}
@@ -28,25 +29,33 @@ use Rattle.cas_slot.specs.declared.message.Tell.TheVariants as tell
 use Rattle.cas_slot.specs.declared.slot.Slot.{Slot}
 use Rattle.cas_slot.specs.Contents.{Contents, nothing, kept_at, with_kept}
 use Rattle.cas_slot.specs.Message.{phase_of, tag_of}
+use Rattle.cas_slot.specs.Rules.{is_accepted_at}
 use Rattle.cas_slot.specs.Slot.{accepted_of, seen_of}
 use Rattle.cas_slot.specs.Slots.{no_slots, IsFullFor}
-use Rattle.cas_slot.specs.Table.{Handles, IsAnswered}
+use Rattle.cas_slot.specs.Table.{Handles, IsAnswered, accepted_at}
 use Rattle.cas_slot.proofs.SlotsLemmas.{slot_at-with_slot_same}
 use Rattle.cas_record.specs.declared.mark.Acknowledgment.{Acknowledgment}
 use Rattle.cas_record.specs.declared.mark.Mark.{Mark}
-use Rattle.cas_record.specs.declared.mark.Mark.TheVariants.{Begun, Proposed, Voted, Floor, Ended}
+use Rattle.cas_record.specs.declared.mark.Mark.TheVariants.{Begun, Proposed, Voted, Floor, Ended, Acked}
 use Rattle.cas_record.specs.declared.mark.Proposal.{Proposal}
-use Rattle.cas_record.specs.Happening.{Happening, Marked, Asked, Drew, Entered, Replied, marks_of}
-use Rattle.cas_record.specs.Legal.{IsEnded, IsAcked}
+use Rattle.cas_record.specs.Happening.{Happening, Marked, Asked, Took, Drew, Entered, Replied, marks_of}
+use Rattle.cas_record.specs.Legal.{IsEnded, IsAcked, calls_of}
+use Rattle.cas_record.specs.Chain.{is_ballot}
+use Rattle.cas_record.specs.declared.answer.Answer.TheVariants as answer
 use Rattle.cas_record.specs.Orderly.{MayAskFor, MayAsk}
 use Rattle.cas_record.specs.Places.{Stands, here, past}
 use Rattle.cas_record.specs.Witness.{small_cluster, members_in, key_a, at, ask_of}
 use Rattle.cas_record.proofs.PlaceLemmas.{newest_or, none_at_nil}
 use Rattle.cas_record.proofs.LogLemmas.{mark_stands}
-use Rattle.cas_record.proofs.Tests.{neither_left, neither_right}
+use Rattle.cas_record.proofs.Tests.{neither, neither_left, neither_right, ballot_same, ballot_is, nat_is}
+use Rattle.cas_record.proofs.Checks.{le_tells}
+use Rattle.cas_change.specs.declared.outcome.Took.TheVariants.{Clause as ByClause}
+use Rattle.cas_cache.specs.declared.ready.Ready.{Ready}
+use Rattle.cas_slot.specs.declared.message.Ask.{Ask}
 use Rattle.cas_cluster.specs.Acceptors.{deeds_of}
 use Rattle.cas_cluster.specs.Desks.{IsPastAll}
-use Rattle.cas_cluster.specs.Protocol.{Made, Net, opening, AllReplied, HasMade, IsPrepared, IsAccepted, Event, Begins, Draws, Asks, Answers, StopsWithin, Proposes, Counts, EndsDone, after, opened, then, SomeRunIsDone}
+use Rattle.cas_cluster.specs.Proposers.{AllRide}
+use Rattle.cas_cluster.specs.Protocol.{Made, Net, opening, AllReplied, HasMade, IsPrepared, IsAccepted, Event, Begins, Draws, Asks, Answers, StopsWithin, Proposes, Counts, EndsDone, after, opened, then, SomeRunIsDone, IsPreparedByRide, ProposesByRide}
 use Rattle.cas_cluster.proofs.Answered.{behind, deeds_marks}
 
 -- ---- what does not stand in a list
@@ -81,6 +90,9 @@ is_ended other = false
 abbrev one : Ballot
 one = at 1 0
 
+abbrev two : Ballot
+two = at 2 0
+
 abbrev five : State
 five = Held 0 (Number (pos 5))
 
@@ -88,7 +100,7 @@ abbrev promised : Contents
 promised = with_kept nothing key_a (record { promise = one; accepted = None })
 
 abbrev accepted : Contents
-accepted = with_kept promised key_a (record { promise = zero_ballot; accepted = Some (record { ballot = one; era = 0; state = five }) })
+accepted = with_kept promised key_a (record { promise = two; accepted = Some (record { ballot = one; era = 0; state = five }) })
 
 none_kept : kept_at nothing key_a ≡ None
 none_kept = map.get-empty (slice_cmp nat_cmp) key_a
@@ -96,8 +108,8 @@ none_kept = map.get-empty (slice_cmp nat_cmp) key_a
 promised_kept : kept_at promised key_a ≡ Some (record { promise = one; accepted = None })
 promised_kept = slot_at-with_slot_same no_slots key_a (record { promise = one; accepted = None })
 
-accepted_kept : kept_at accepted key_a ≡ Some (record { promise = zero_ballot; accepted = Some (record { ballot = one; era = 0; state = five }) })
-accepted_kept = slot_at-with_slot_same promised.slots key_a (record { promise = zero_ballot; accepted = Some (record { ballot = one; era = 0; state = five }) })
+accepted_kept : kept_at accepted key_a ≡ Some (record { promise = two; accepted = Some (record { ballot = one; era = 0; state = five }) })
+accepted_kept = slot_at-with_slot_same promised.slots key_a (record { promise = two; accepted = Some (record { ballot = one; era = 0; state = five }) })
 
 room : IsFullFor no_slots key_a → ⊥
 room full = omega (arith, full.no_room, map.len-empty (slice_cmp nat_cmp) Slot)
@@ -109,7 +121,7 @@ abbrev ask_prepare : ℕ → Request
 ask_prepare acceptor = ask_of acceptor 0 one (ask.Prepare key_a one)
 
 abbrev ask_accept : ℕ → Request
-ask_accept acceptor = ask_of acceptor 0 one (ask.Accept key_a one 0 None five)
+ask_accept acceptor = ask_of acceptor 0 one (ask.Accept key_a one 0 (Some two) five)
 
 promises : (acceptor : ℕ) → Handles nothing (ask_prepare acceptor) (tell.Promised None) promised
 promises acceptor = (
@@ -259,28 +271,55 @@ proposes = Proposes proposal program None begun_stands prepared
 abbrev proposed : Net
 proposed = after small_cluster promised_second proposes
 
+-- the next ballot is drawn, which is to ride along
+abbrev drew_high : Happening → Bool
+drew_high (Drew ballot key era) = not (nat_le ballot.counter 1)
+drew_high other = false
+
+past_one : IsPastAll small_cluster proposed.log 0 0 1 key_a
+past_one = record {
+  known = omega arith;
+  is_in = inl refl;
+  drawn = λ ballot key era stands own. elim (true_or_false (nat_le ballot.counter 1)) [
+    | inl low ↦ le_tells low
+    | inr high ↦ absurd (none drew_high proposed.log refl (not_of_false (nat_le ballot.counter 1) high) stands)
+  ];
+  floors = λ floor has. absurd (none is_floor (marks_of proposed.log) refl refl has.stands);
+}
+
+abbrev draws_ride : Event small_cluster proposed
+draws_ride = Draws 0 0 1 key_a past_one
+
+abbrev drawn_ride : Net
+drawn_ride = after small_cluster proposed draws_ride
+
 -- ---- it is accepted
-accepts : (log : List Happening) (request : Request) → request.ask ≡ ask.Accept key_a one 0 None five → MayAskFor small_cluster log request key_a one → Stands (Marked (Proposed proposal)) log
-    → MayAsk small_cluster log request (ask.Accept key_a one 0 None five)
-accepts log request is may stands = (may, record { proposal = proposal; stands = mark_stands stands; same_key = refl; same_ballot = refl }, tt)
+one_less : BallotLess one two
+one_less = record { counters = omega arith; proposers = λ same. absurd (omega (arith, same)) }
+
+accepts : (log : List Happening) (request : Request) → request.ask ≡ ask.Accept key_a one 0 (Some two) five → MayAskFor small_cluster log request key_a one → Stands (Marked (Proposed proposal)) log
+    → Stands (Drew two key_a 0) log → MayAsk small_cluster log request (ask.Accept key_a one 0 (Some two) five)
+accepts log request is may stands drawn =
+    (may, record { proposal = proposal; stands = mark_stands stands; same_key = refl; same_ballot = refl }, record { era = 0; drawn = drawn; above = one_less })
 
 made_five : HasMade (made ∷ []) key_a one 0 five
 made_five = record { made = made; stands = record { older = []; at = here }; same_key = refl; same_ballot = refl; same_era = refl; same_state = refl }
 
-abbrev asks_to_accept : Event small_cluster proposed
+abbrev asks_to_accept : Event small_cluster drawn_ride
 asks_to_accept = Asks (ask_accept 1) (record {
-  may = accepts proposed.log (ask_accept 1) refl (asks_for proposed.log (ask_accept 1) refl refl (record { older = begun.log; at = past drawn_stands.at }) refl) (record { older = promised_second.log; at = here });
+  may = accepts drawn_ride.log (ask_accept 1) refl (asks_for drawn_ride.log (ask_accept 1) refl refl (record { older = begun.log; at = past (past drawn_stands.at) }) refl)
+      (record { older = promised_second.log; at = past here }) (record { older = proposed.log; at = here });
   made = made_five;
   from = omega arith;
   to = omega arith;
 })
 
 abbrev asked_to_accept : Net
-asked_to_accept = after small_cluster proposed asks_to_accept
+asked_to_accept = after small_cluster drawn_ride asks_to_accept
 
 -- the first stops within it, and a crash leaves what it wrote
 abbrev stops_within : Event small_cluster asked_to_accept
-stops_within = StopsWithin (ask_accept 1) tell.Accepted accepted (record { older = proposed.log; at = here }) (takes 1)
+stops_within = StopsWithin (ask_accept 1) tell.Accepted accepted (record { older = drawn_ride.log; at = here }) (takes 1)
 
 abbrev stopped : Net
 stopped = after small_cluster asked_to_accept stops_within
@@ -289,7 +328,7 @@ abbrev wrote : List Happening
 wrote = deeds_of 1 promised (ask_accept 1).ask tell.Accepted
 
 asked_before : Stands (Asked (ask_accept 1)) stopped.log
-asked_before = behind wrote (record { older = proposed.log; at = here })
+asked_before = behind wrote (record { older = drawn_ride.log; at = here })
 
 abbrev third : Reply
 third = reply_to (ask_accept 1) tell.Accepted
@@ -312,10 +351,13 @@ again_has : {x : Happening} → Stands x stopped.log → Stands x accepted_again
 again_has stands = let deeper = behind wrote_again stands in record { older = deeper.older; at = past (past deeper.at) }
 
 drawn_still : Stands (Drew one key_a 0) accepted_again.log
-drawn_still = again_has (stopped_has (record { older = begun.log; at = past (past drawn_stands.at) }))
+drawn_still = again_has (stopped_has (record { older = begun.log; at = past (past (past drawn_stands.at)) }))
 
 proposed_still : Stands (Marked (Proposed proposal)) accepted_again.log
-proposed_still = again_has (stopped_has (record { older = promised_second.log; at = past here }))
+proposed_still = again_has (stopped_has (record { older = promised_second.log; at = past (past here) }))
+
+ride_still : Stands (Drew two key_a 0) accepted_again.log
+ride_still = again_has (stopped_has (record { older = proposed.log; at = past here }))
 
 marks_again : marks_of accepted_again.log ≡ Voted 1 key_a one ∷ marks_of asked_to_accept.log
 marks_again = ap (λ (marks : List Mark). Voted 1 key_a one ∷ marks)
@@ -323,7 +365,7 @@ marks_again = ap (λ (marks : List Mark). Voted 1 key_a one ∷ marks)
 
 abbrev asks_other : Event small_cluster accepted_again
 asks_other = Asks (ask_accept 2) (record {
-  may = accepts accepted_again.log (ask_accept 2) refl (asks_for accepted_again.log (ask_accept 2) refl refl drawn_still (ap (list_any is_floor) marks_again)) proposed_still;
+  may = accepts accepted_again.log (ask_accept 2) refl (asks_for accepted_again.log (ask_accept 2) refl refl drawn_still (ap (list_any is_floor) marks_again)) proposed_still ride_still;
   made = made_five;
   from = omega arith;
   to = omega arith;
@@ -404,9 +446,117 @@ ends = EndsDone made 1 (record { older = []; at = here }) is_acked not_ended
 abbrev ended : Net
 ended = after small_cluster counted ends
 
+-- ---- the next call is proposed by the promise that rode along
+abbrev proposes_two : Mark → Bool
+proposes_two (Proposed p) = is_ballot p.ballot two
+proposes_two other = false
+
+abbrev proposes_next : Mark → Bool
+proposes_next (Proposed p) = p.call == 2
+proposes_next other = false
+
+abbrev ends_next : Mark → Bool
+ends_next (Ended caller call rounds answer) = call == 2
+ends_next other = false
+
+abbrev begins_next : Event small_cluster ended
+begins_next = Begins 0 2 key_a program (ap (λ (marks : List Mark). suc (calls_of 0 marks)) (sym marks_other))
+
+abbrev begun_next : Net
+begun_next = after small_cluster ended begins_next
+
+ended_has : {x : Happening} → Stands x accepted_by_other.log → Stands x begun_next.log
+ended_has stands = record { older = stands.older; at = past (past (past stands.at)) }
+
+marks_next : (test : Mark → Bool) → list_any test (marks_of begun_next.log) ≡ list_any test (Begun 0 2 key_a program ∷ Ended 0 1 1 (answer.Done five (ByClause 0) one) ∷ Acked acknowledgment
+    ∷ Voted 2 key_a one ∷ Voted 1 key_a one ∷ marks_of asked_to_accept.log)
+marks_next test = ap (λ (marks : List Mark). list_any test (Begun 0 2 key_a program ∷ Ended 0 1 1 (answer.Done five (ByClause 0) one) ∷ Acked acknowledgment ∷ marks)) marks_other
+
+-- what an acceptor wrote does not pass the test, whether it wrote or not
+wrote_none : (test : Happening → Bool) (wrote_before : Bool) (h : Happening) (log : List Happening) → test h ≡ false → list_any test log ≡ false → list_any test (cond wrote_before [] (h ∷ []) ++ log) ≡ false
+wrote_none test true h log passes_not older = older
+wrote_none test false h log passes_not older = neither (test h) (list_any test log) passes_not older
+
+-- whoever was asked to accept was asked for the ride
+abbrev rides_not : Ask → Bool
+rides_not (ask.Accept key ballot era (Some ride) state) = not (is_ballot ride two)
+rides_not (ask.Accept key ballot era None state) = true
+rides_not other = false
+
+abbrev asks_no_ride : Happening → Bool
+asks_no_ride (Asked request) = rides_not request.ask
+asks_no_ride other = false
+
+abbrev wrote_at : Contents → Bool
+wrote_at old = is_accepted_at (accepted_at old key_a) one
+
+none_entered : list_any is_entered begun_next.log ≡ false
+none_entered = wrote_none is_entered (wrote_at promised) (Took 2 key_a one two) asked_other.log refl
+    (wrote_none is_entered (wrote_at accepted) (Took 1 key_a one two) stopped.log refl (wrote_none is_entered (wrote_at promised) (Took 1 key_a one two) asked_to_accept.log refl refl))
+
+all_ask_ride : list_any asks_no_ride begun_next.log ≡ false
+all_ask_ride = wrote_none asks_no_ride (wrote_at promised) (Took 2 key_a one two) asked_other.log refl
+    (wrote_none asks_no_ride (wrote_at accepted) (Took 1 key_a one two) stopped.log refl (wrote_none asks_no_ride (wrote_at promised) (Took 1 key_a one two) asked_to_accept.log refl refl))
+
+ride_is : (era : ℕ) (asked : Option Ballot) (state : State) → rides_not (ask.Accept key_a one era asked state) ≡ false → asked ≡ Some two
+ride_is era None state e = absurd (cc)
+ride_is era (Some ride) state e = elim (true_or_false (is_ballot ride two)) [
+  | inl same ↦ ap Some (ballot_same {a = ride} {b = two} same)
+  | inr other ↦ absurd (not_both (not (is_ballot ride two)) (not_of_false (is_ballot ride two) other) e)
+]
+
+all_ride : AllRide begun_next.log key_a one two
+all_ride = record {
+  rides = λ request era asked state stands is. elim (true_or_false (rides_not request.ask)) [
+    | inl wrong ↦ absurd (none asks_no_ride begun_next.log all_ask_ride wrong stands)
+    | inr right ↦ ride_is era asked state (ap rides_not (sym is) ∙ right)
+  ];
+}
+
+accepts_replied_still : AllReplied begun_next.log (third ∷ fourth ∷ [])
+accepts_replied_still reply stands = let was = accepts_replied reply stands in (was.0, ended_has was.1)
+
+abbrev next_proposal : Proposal
+next_proposal = record { caller = 0; call = 2; key = key_a; ballot = two; read = one; era = 0; prepared_by = 1 ∷ 2 ∷ [] }
+
+abbrev ready : Ready
+ready = record { ballot = two; state = five; read = one; by = 1 ∷ 2 ∷ [] }
+
+none_floored : {floor : Ballot} {state : State} → Stands (Floor key_a floor state) (marks_of begun_next.log) → ⊥
+none_floored s = none is_floor (marks_of begun_next.log) (marks_next is_floor) refl s
+
+prepared_by_ride : IsPreparedByRide small_cluster begun_next next_proposal ready
+prepared_by_ride = record {
+  round = record {
+    drawn = ended_has (other_has ride_still);
+    not_beyond = λ s. absurd (none is_entered begun_next.log none_entered refl s);
+    fresh = λ p. absurd (none proposes_two (marks_of begun_next.log) (marks_next proposes_two) (ballot_is {a = p.proposal.ballot} {b = two} p.same_ballot) p.stands);
+    above_floors = record { above = λ {floor} {state} s. absurd (none_floored s) };
+    begun = record { program = program; stands = record { older = marks_of ended.log; at = here } };
+    once = λ p. absurd (none proposes_next (marks_of begun_next.log) (marks_next proposes_next) (nat_is {a = p.proposal.call} {b = 2} p.same_call) p.stands);
+    open_yet = λ e. absurd (none ends_next (marks_of begun_next.log) (marks_next ends_next) refl e.stands);
+  };
+  same_ballot = refl;
+  same_read = refl;
+  by = refl;
+  drawn = ended_has (other_has drawn_still);
+  made = made_five;
+  replies = third ∷ fourth ∷ [];
+  replied = accepts_replied_still;
+  accepted_by = two_accepted;
+  quorum = two_are_enough;
+  above = one_less;
+  all = all_ride;
+  over_floors = λ floor has. absurd (none_floored has.stands);
+}
+
+abbrev proposes_by_ride : Event small_cluster begun_next
+proposes_by_ride = ProposesByRide next_proposal program ready (record { older = marks_of ended.log; at = here }) prepared_by_ride
+
 pub done : SomeRunIsDone
 done = record {
-  net = ended;
-  run = then counted (then accepted_by_other (then asked_other (then accepted_again (then stopped (then asked_to_accept (then proposed (then promised_second (then asked_second (then promised_first (then asked_first (then drawn (then begun (then opening opened begins) draws) asks_first) first_promises) asks_second) second_promises) proposes) asks_to_accept) stops_within) first_accepts) asks_other) other_accepts) counts) ends;
-  done = record { older = marks_of counted.log; at = here };
+  net = after small_cluster begun_next proposes_by_ride;
+  run = then begun_next (then ended (then counted (then accepted_by_other (then asked_other (then accepted_again (then stopped (then asked_to_accept (then drawn_ride (then proposed (then promised_second (then asked_second (then promised_first (then asked_first (then drawn (then begun (then opening opened begins) draws) asks_first) first_promises) asks_second) second_promises) proposes) draws_ride) asks_to_accept) stops_within) first_accepts) asks_other) other_accepts) counts) ends) begins_next) proposes_by_ride;
+  done = record { older = marks_of counted.log; at = past (past here) };
+  next = record { older = marks_of begun_next.log; at = here };
 }

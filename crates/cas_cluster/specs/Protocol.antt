@@ -40,7 +40,7 @@ use Rattle.cas_record.specs.Listing.{WasAbsent}
 use Rattle.cas_record.specs.Orderly.{Orderly, MayAsk, IsClear}
 use Rattle.cas_record.specs.Places.{Stands, At}
 use Rattle.cas_record.specs.Replay.{replay_from, opening_state}
-use Rattle.cas_record.specs.Witness.{small_cluster, at}
+use Rattle.cas_record.specs.Witness.{small_cluster, key_a, at}
 use Rattle.cas_cluster.specs.Acceptors.{Tells, IsMadeState, IsEmptyAt, IsAskState, done_log, answered_log}
 use Rattle.cas_cluster.specs.Desks.{IsPastAll}
 use Rattle.cas_cluster.specs.Proposers.{IsReplyTrue, IsOpenRound, IsProposedIn, AllRide, state_read}
@@ -257,8 +257,9 @@ EventsKeepHistory = (cluster : Cluster) → ClusterMeets cluster → (net : Net)
 abbrev pub RunsAreLegal : Type 0
 RunsAreLegal = (cluster : Cluster) → ClusterMeets cluster → (net : Net) → Run cluster net → HasHistory cluster net × IsLegal (marks_of net.log)
 
--- a run in which a call is answered Done with what it added to nothing
+-- a run in which a call is answered Done with what it added to nothing, and the next one is proposed by a promise that rode along
 pub record SomeRunIsDone : Type 0 where
   pub net : Net
   pub run : Run small_cluster net
   pub done : Stands (Ended 0 1 1 (answer.Done (Held 0 (Number (pos 5))) (ByClause 0) (at 1 0))) (marks_of net.log)
+  pub next : Stands (Proposed (record { caller = 0; call = 2; key = key_a; ballot = at 2 0; read = at 1 0; era = 0; prepared_by = 1 ∷ 2 ∷ [] })) (marks_of net.log)

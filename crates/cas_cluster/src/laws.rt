@@ -107,7 +107,7 @@ pub fn runs_are_legal()
 {}
 
 /// There is such a run: two acceptors promise, one of them stops within its accept and is asked the same again, the other accepts
-/// too, and the call is answered Done with the number that it added.
+/// too, and the call is answered Done with the number that it added. The next call is proposed by the promise that rode along.
 pub fn some_run_is_done()
     ensures { SomeRunIsDone }
 {}
