@@ -202,7 +202,7 @@ accepted_low None = at_most_refl zero_ballot
 accepted_low (Some slot) = at_most_greater_right slot.promise (accepted_ballot slot.accepted)
 
 -- what stands behind others stands
-behind : {x : Happening} (front : List Happening) {log : List Happening} → Stands x log → Stands x (front ++ log)
+pub behind : {x : Happening} (front : List Happening) {log : List Happening} → Stands x log → Stands x (front ++ log)
 behind [] s = s
 behind (y ∷ ys) s = let rest = behind ys s in record { older = rest.older; at = past rest.at }
 

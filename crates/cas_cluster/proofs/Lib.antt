@@ -1,6 +1,9 @@
 pub mod Answered
 pub mod Deeds
+pub mod Events
 pub mod Growing
+pub mod Held
+pub mod Known
 pub mod Pages
 pub mod Proposes
 pub mod Proposing

@@ -229,14 +229,14 @@ propose cluster log p replies read lawful orderly round true_ by quorum is_read 
 )
 
 -- ---- an acknowledgment
-record Voter (replies : List Reply) (ballot : Ballot) (acceptor : ℕ) : Type 0 where
-  reply : Reply
-  stands : Has reply replies
-  is_heard : is_heard is_accept ballot reply ≡ true
-  from : reply.from ≡ acceptor
-  tells : reply.tell ≡ tell.Accepted
+pub record Voter (replies : List Reply) (ballot : Ballot) (acceptor : ℕ) : Type 0 where
+  pub reply : Reply
+  pub stands : Has reply replies
+  pub is_heard : is_heard is_accept ballot reply ≡ true
+  pub from : reply.from ≡ acceptor
+  pub tells : reply.tell ≡ tell.Accepted
 
-voter : (replies : List Reply) (ballot : Ballot) (acceptor : ℕ) → has_member (accepters_of ballot replies) acceptor ≡ true → Voter replies ballot acceptor
+pub voter : (replies : List Reply) (ballot : Ballot) (acceptor : ℕ) → has_member (accepters_of ballot replies) acceptor ≡ true → Voter replies ballot acceptor
 voter replies ballot acceptor member =
     let any = any_has (λ reply. (reply.from == acceptor) && is_acceptance reply.tell) (heard is_accept ballot replies) (members_where_tells _ acceptor member) in
     let place = filter_has (is_heard is_accept ballot) any.one replies any.stands in

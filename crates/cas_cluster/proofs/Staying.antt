@@ -36,7 +36,7 @@ age_elsewhere : (h : Happening) (log : List Happening) (id proposer : ℕ) → I
 age_elsewhere (Raised a least) log id proposer other = if_false (a == id) _ _ (false_of_not _ (λ e. other (nat_same {a = a} {b = id} e)))
 age_elsewhere h log id proposer other = refl
 
-tells_still : (cluster : Cluster) (h : Happening) (log : List Happening) (id : ℕ) (kept : Contents) → Lawful cluster (h ∷ log) → IsElsewhere id h → Tells log id kept → Tells (h ∷ log) id kept
+pub tells_still : (cluster : Cluster) (h : Happening) (log : List Happening) (id : ℕ) (kept : Contents) → Lawful cluster (h ∷ log) → IsElsewhere id h → Tells log id kept → Tells (h ∷ log) id kept
 tells_still cluster h log id kept lawful other tells = record {
   slots = λ key. slot_elsewhere h log id key other ∙ tells.slots key;
   ages = λ proposer known. omega (arith, age_elsewhere h log id proposer other, tells.ages proposer known);
@@ -107,7 +107,7 @@ stops cluster log id kept on request left asked to state known (inr row) = elim 
 left_is : (a b : Contents) → ◌≡◌ {A = Left} (Ok a) (Ok b) → a ≡ b
 left_is a b e = cc
 
-goes_on_from : (cluster : Cluster) (log : List Happening) (id : ℕ) (kept : Contents) → GoesOn cluster log id kept → (new : Contents) → IsLeft log id kept (Ok new)
+pub goes_on_from : (cluster : Cluster) (log : List Happening) (id : ℕ) (kept : Contents) → GoesOn cluster log id kept → (new : Contents) → IsLeft log id kept (Ok new)
     → (done : List Happening) × GoesOn cluster (done ++ log) id new × (marks_of (done ++ log) ≡ marks_of log)
 goes_on_from cluster log id kept on new (inl same) = ([], subst (GoesOn cluster log id) (left_is kept new (sym same)) on, refl)
 goes_on_from cluster log id kept on new (inr half) =

@@ -1,5 +1,5 @@
 -- That an acceptor is as the log tells, and what it adds to the log when it answers.
-use Rattle.std.specs.Prelude.{◌≡◌, ◌⊎◌, ⊤, ℕ, ◌≤◌, true, false, List, [], ◌∷◌, ◌++◌, Option, None, Some, Ok, unwrap_or, is_some, if◌then◌else◌}
+use Rattle.std.specs.Prelude.{◌≡◌, ◌⊎◌, ⊤, ℕ, ◌≤◌, List, [], ◌∷◌, ◌++◌, Option, None, Some, Ok, unwrap_or, is_some, if◌then◌else◌}
 use Rattle.cas_ballot.specs.declared.ballot.Ballot.{Ballot}
 use Rattle.cas_ballot.specs.Ballot.{zero_ballot}
 use Rattle.cas_change.specs.declared.state.State.{State}
@@ -18,14 +18,12 @@ use Rattle.cas_slot.specs.Rules.{is_accepted_at}
 use Rattle.cas_slot.specs.Shelf.{Left}
 use Rattle.cas_slot.specs.Slot.{promise_of, accepted_of, accepted_ballot}
 use Rattle.cas_slot.specs.Table.{Handles, accepted_at}
-use Rattle.cas_acceptor.specs.Acceptor.{AcceptorView}
 use Rattle.cas_record.specs.declared.mark.Mark.{Mark}
 use Rattle.cas_record.specs.declared.mark.Mark.TheVariants.{Proposed, Voted}
 use Rattle.cas_record.specs.declared.mark.Proposal.{Proposal}
 use Rattle.cas_record.specs.Chain.{chain_of}
 use Rattle.cas_record.specs.Happening.{Happening, Marked, Promised, Took, Dropped, Raised, Replied, marks_of}
 use Rattle.cas_record.specs.Lawful.{SlotTold, slot_told}
-use Rattle.cas_record.specs.Listing.{no_slot_told}
 use Rattle.cas_record.specs.Orderly.{WasAsked, age_told}
 use Rattle.cas_record.specs.Places.{Stands}
 use Rattle.cas_record.specs.Replay.{replay_from, opening_state}
@@ -85,23 +83,6 @@ pub record IsHalfDone (log : List Happening) (id : ℕ) (kept new : Contents) : 
 -- a crash leaves what is kept, or what the answer to a request that the acceptor was asked would make of it
 abbrev pub IsLeft : List Happening → ℕ → Contents → Left → Type 0
 IsLeft log id kept left = (left ≡ Ok kept) ⊎ ((new : Contents) × IsHalfDone log id kept new × (left ≡ Ok new))
-
--- the acceptor stopped: whatever a crash leaves goes on from what the log tells
-pub record IsStopped (log : List Happening) (id : ℕ) (may_leave : Left → Type 0) : Type 0 where
-  pub kept : Contents
-  pub tells : Tells log id kept
-  pub left : (left : Left) → may_leave left → IsLeft log id kept left
-
--- nothing is told of the acceptor yet
-pub record IsUntold (log : List Happening) (id : ℕ) : Type 0 where
-  pub slots : (key : List ℕ) → slot_told log id key ≡ no_slot_told
-  pub ages : (proposer : ℕ) → age_told log id proposer ≡ 0
-
--- one that is up keeps what the log tells; one that stopped leaves it, or one answer more; one that was never started has nothing told
-pub record IsAcceptorTrue {S : Type 0} (contents : S → Contents) (is_up : S → Type 0) (may_leave : S → Left → Type 0) (log : List Happening) (a : AcceptorView S) : Type 0 where
-  pub up : a.down ≡ false → is_up a.shelf × Tells log a.id (contents a.shelf)
-  pub stopped : a.down ≡ true → a.started ≡ true → IsStopped log a.id (may_leave a.shelf)
-  pub untold : a.started ≡ false → IsUntold log a.id
 
 -- ---- what happens elsewhere
 -- the happening is no deed of this acceptor

@@ -1,5 +1,6 @@
 pub mod Acceptors
 pub mod Desks
+pub mod Held
 pub mod Laws
+pub mod Protocol
 pub mod Proposers
-pub mod View

@@ -5,6 +5,7 @@ use Rattle.cas_ballot.specs.Ballot.{BallotLess}
 use Rattle.cas_ballot.specs.Members.{has_member}
 use Rattle.cas_change.specs.declared.state.State.{State}
 use Rattle.cas_change.specs.declared.state.State.TheVariants.{Empty}
+use Rattle.cas_slot.specs.declared.message.Ask.TheVariants as ask
 use Rattle.cas_slot.specs.declared.message.Request.{Request}
 use Rattle.cas_slot.specs.declared.message.Reply.{Reply}
 use Rattle.cas_slot.specs.declared.slot.Accepted.{Accepted}
@@ -12,7 +13,7 @@ use Rattle.cas_record.specs.declared.mark.Mark.TheVariants.{Proposed}
 use Rattle.cas_record.specs.declared.mark.Proposal.{Proposal}
 use Rattle.cas_record.specs.declared.mark.Acknowledgment.{Acknowledgment}
 use Rattle.cas_record.specs.Legal.{HasProposal, HasFloor, IsBegun, IsProposed, IsEnded}
-use Rattle.cas_record.specs.Happening.{Happening, Entered, Drew, Replied, marks_of}
+use Rattle.cas_record.specs.Happening.{Happening, Asked, Entered, Drew, Replied, marks_of}
 use Rattle.cas_record.specs.Orderly.{IsAboveFloors, IsClear}
 use Rattle.cas_record.specs.Places.{Stands}
 use Rattle.cas_cluster.specs.Acceptors.{IsTellState, IsEmptyAt}
@@ -60,3 +61,8 @@ pub record IsProposedIn (log : List Happening) (a : Acknowledgment) : Type 0 whe
   pub same_key : proposal.key ≡ a.key
   pub same_ballot : proposal.ballot ≡ a.ballot
   pub same_era : proposal.era ≡ a.era
+
+-- ---- a ride
+-- whoever was asked to accept the ballot was asked to promise this one by the same act
+pub record AllRide (log : List Happening) (key : List ℕ) (ballot ride : Ballot) : Type 0 where
+  pub rides : (request : Request) (era : ℕ) (asked : Option Ballot) (state : State) → Stands (Asked request) log → request.ask ≡ ask.Accept key ballot era asked state → asked ≡ Some ride

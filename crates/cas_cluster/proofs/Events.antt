@@ -1,0 +1,392 @@
+-- Whatever happens, a cluster with a history has one after it; so the record of every run is legal.
+use Rattle.std.proofs.Common.{◌≡◌, ◌<◌, ◌≤◌, ℕ, suc, Bool, true, false, List, [], ◌∷◌, ◌++◌, Option, None, refl, sym, ap, subst, ◌∙◌, inl, inr, arith}
+use Rattle.std.specs.Prelude.{⊤, ◌⊎◌, ◌==◌, cond, is_some, unwrap_or}
+use Rattle.std.specs.Cmp.Lexicographic.{slice_cmp}
+use Rattle.std.specs.FinMap as map
+use Rattle.std.specs.Ordering.{nat_cmp}
+use Rattle.cas_base.proofs.Bools.{if_true, if_false, true_or_false, not_both}
+use Rattle.cas_ballot.specs.declared.ballot.Ballot.{Ballot}
+use Rattle.cas_ballot.specs.Ballot.{zero_ballot, BallotLess}
+use Rattle.cas_cache.specs.declared.ready.Ready.{Ready}
+use Rattle.cas_change.specs.declared.program.Clause.{Clause}
+use Rattle.cas_change.specs.declared.state.State.{State}
+use Rattle.cas_change.specs.declared.state.State.TheVariants.{Empty}
+use Rattle.cas_change.specs.Outcome.{outcome_of}
+use Rattle.cas_slot.specs.declared.message.Ask.{Ask}
+use Rattle.cas_slot.specs.declared.message.Ask.TheVariants as ask
+use Rattle.cas_slot.specs.declared.message.Request.{Request}
+use Rattle.cas_slot.specs.declared.message.Reply.{Reply}
+use Rattle.cas_slot.specs.declared.message.Tell.{Tell}
+use Rattle.cas_slot.specs.declared.message.Tell.TheVariants as tell
+use Rattle.cas_slot.specs.declared.slot.Accepted.{Accepted}
+use Rattle.cas_slot.specs.declared.slot.Slot.{Slot}
+use Rattle.cas_slot.specs.Contents.{Contents, nothing, kept_at}
+use Rattle.cas_slot.specs.Slot.{accepted_of}
+use Rattle.cas_slot.specs.Message.{tag_of}
+use Rattle.cas_slot.specs.Rules.{is_accepted_at, key_of}
+use Rattle.cas_slot.specs.Table.{Handles, IsAnswered, accepted_at}
+use Rattle.cas_record.specs.declared.answer.Answer.{Answer}
+use Rattle.cas_record.specs.declared.answer.Answer.TheVariants as answer
+use Rattle.cas_record.specs.declared.mark.Mark.{Mark}
+use Rattle.cas_record.specs.declared.mark.Mark.TheVariants.{Begun, Proposed, Acked, Floor, Ended}
+use Rattle.cas_record.specs.declared.mark.Proposal.{Proposal}
+use Rattle.cas_record.specs.Chain.{chain_of, link_of}
+use Rattle.cas_record.specs.Happening.{Happening, Marked, Asked, Took, Dropped, Entered, Replied, marks_of}
+use Rattle.cas_record.specs.Lawful.{Cluster, ClusterMeets, Lawful, May, MayPropose, MayLeave, MayAnswer}
+use Rattle.cas_record.specs.Legal.{HasFloor}
+use Rattle.cas_record.specs.Orderly.{Orderly, HasReason, IsRoundAsk, MayAsk, MayAskFor, IsClear, took_it, never_asked}
+use Rattle.cas_record.specs.Places.{Stands, here, past}
+use Rattle.cas_record.specs.Replay.{replay_from, opening_state}
+use Rattle.cas_record.proofs.Listings.{stones_of_listing}
+use Rattle.cas_record.proofs.Orders.{round_asked}
+use Rattle.cas_record.proofs.PlaceLemmas.{newest_or, none_at_nil}
+use Rattle.cas_record.proofs.Tests.{nat_same, nat_is}
+use Rattle.cas_record.proofs.LawLemmas.{lawful_is_legal}
+use Rattle.cas_cluster.specs.Acceptors.{told_of, IsAcceptedState, Tells, IsMadeState, IsEmptyAt, IsAskState, IsElsewhere, deeds_of, votes_of, done_log, answered_log}
+use Rattle.cas_cluster.specs.Desks.{IsRiding}
+use Rattle.cas_cluster.specs.Laws.{GoesOn}
+use Rattle.cas_cluster.specs.Proposers.{IsReplyTrue, AreRepliesTrue, AreFloorsClear, state_read}
+use Rattle.cas_cluster.specs.Protocol.{Made, Net, kept_but, AllReplied, HasMade, IsMadeAsk, IsPrepared, IsPreparedByRide, is_done, IsLeaving, Begins, Draws, Asks, Answers, StopsWithin, Proposes, ProposesByRide, Counts, EndsDone, EndsElse, Harms, TellsOperator, Buries, Enters, MarksEra, Run, opened, then, IsMadeOf, Knows, HasHistory, EventsKeepHistory, RunsAreLegal}
+use Rattle.cas_cluster.proofs.Answered.{answers, deeds}
+use Rattle.cas_cluster.proofs.Growing.{made_grows, ask_grows}
+use Rattle.cas_cluster.proofs.Known as known
+use Rattle.cas_cluster.proofs.Proposes.{propose, count}
+use Rattle.cas_cluster.proofs.Rides.{rides, draws, done}
+use Rattle.cas_cluster.proofs.Staying.{tells_still}
+
+-- ---- what is known goes on
+-- what must be so for the happening to add nothing unknown
+abbrev IsGood : List Happening → Happening → Type 0
+IsGood log (Asked request) = IsAskState (marks_of log) request.ask × ((request.from ≤ 16) × (request.to < 64))
+IsGood log (Replied request reply) = IsReplyTrue (Replied request reply ∷ log) reply
+IsGood log (Marked (Floor key floor state)) = IsEmptyAt (marks_of log) key floor × ((acceptor : ℕ) → IsClear log acceptor key floor)
+IsGood log other = ⊤
+
+-- a floor that stands then stood before, or is what happened
+floor_now : (h : Happening) (log : List Happening) (key : List ℕ) (floor : Ballot) → HasFloor key floor (marks_of (h ∷ log)) → ((state : State) × (Marked (Floor key floor state) ≡ h)) ⊎ HasFloor key floor (marks_of log)
+floor_now (Marked mark) log key floor has = elim (newest_or has.stands) [
+  | inl now ↦ inl (has.state, ap Marked now)
+  | inr before ↦ inr (record { state = has.state; stands = before })
+]
+floor_now h log key floor has = inr has
+
+-- who is clear of a floor stays so, as what is asked is above it
+clear_stays : (h : Happening) (log : List Happening) {acceptor : ℕ} {key : List ℕ} {floor : Ballot}
+    → ((request : Request) → Asked request ≡ h → IsRoundAsk request.ask → key_of request.ask ≡ key → BallotLess floor (tag_of request.ask)) → IsClear log acceptor key floor → IsClear (h ∷ log) acceptor key floor
+clear_stays h log above (took_it ride took) = took_it ride (record { older = took.older; at = past took.at })
+clear_stays h log above (never_asked never) = never_asked (λ request stands to round same. elim (newest_or stands) [
+  | inl now ↦ above request now round same
+  | inr before ↦ never request before to round same
+])
+
+not_asked : {request : Request} {key : List ℕ} {floor : Ballot} {state : State} → Asked request ≡ Marked (Floor key floor state) → ⊥
+not_asked e = cc
+
+-- what is asked once a floor stands is above it
+above_floor : (cluster : Cluster) (h : Happening) (log : List Happening) {key : List ℕ} {floor : Ballot} → Orderly cluster (h ∷ log) → HasFloor key floor (marks_of log) → (request : Request) → Asked request ≡ h
+    → IsRoundAsk request.ask → key_of request.ask ≡ key → BallotLess floor (tag_of request.ask)
+above_floor cluster h log {key} {floor} orderly has request now round same =
+    let may : MayAsk cluster log request request.ask = subst (HasReason cluster log) (sym now) orderly.1 in
+    let ask_for : MayAskFor cluster log request (key_of request.ask) (tag_of request.ask) = round_asked cluster log request request.ask round may in
+    ask_for.above.above (subst (λ k. Stands (Floor k floor has.state) (marks_of log)) (sym same) has.stands)
+
+knows_more : (cluster : Cluster) (h : Happening) (log : List Happening) (all : List Made) → Lawful cluster (h ∷ log) → Orderly cluster (h ∷ log) → IsGood log h → Knows log all → Knows (h ∷ log) all
+knows_more cluster h log all lawful orderly good knows = record {
+  asked = λ request stands. ask_grows cluster h log request.ask lawful (elim (newest_or stands) [ inl now ↦ (new_ask request now).0 | inr before ↦ knows.asked request before ]);
+  known = λ request stands. elim (newest_or stands) [ inl now ↦ (new_ask request now).1 | inr before ↦ knows.known request before ];
+  replied = λ request reply stands. elim (newest_or stands) [
+    | inl now ↦ subst (λ (x : Happening). IsReplyTrue (x ∷ log) reply) now (new_reply request reply now)
+    | inr before ↦ known.reply_stays cluster h log lawful reply (knows.replied request reply before)
+  ];
+  made = λ m stands. let was = knows.made m stands in record {
+    older = was.older;
+    at = past was.at;
+    program = was.program;
+    begun = was.begun;
+    state = was.state;
+    is_read = was.is_read;
+    same_outcome = was.same_outcome;
+    is_made = made_grows cluster h log lawful was.is_made;
+  };
+  floors = λ key floor has. elim (floor_now h log key floor has) [
+    | inl now ↦ let empty = (new_floor key floor now).0 in (empty.0, made_grows cluster h log lawful empty.1)
+    | inr before ↦ let empty = knows.floors key floor before in (empty.0, made_grows cluster h log lawful empty.1)
+  ];
+  clear = λ key floor acceptor has. elim (floor_now h log key floor has) [
+    | inl now ↦ clear_stays h log (λ request asked round same. absurd (not_asked (asked ∙ sym now.1))) ((new_floor key floor now).1 acceptor)
+    | inr before ↦ clear_stays h log (above_floor cluster h log orderly before) (knows.clear key floor acceptor before)
+  ];
+}
+  where
+    new_ask : (request : Request) → Asked request ≡ h → IsAskState (marks_of log) request.ask × ((request.from ≤ 16) × (request.to < 64))
+    new_ask request now = subst (IsGood log) (sym now) good
+
+    new_reply : (request : Request) (reply : Reply) → Replied request reply ≡ h → IsReplyTrue (Replied request reply ∷ log) reply
+    new_reply request reply now = subst (IsGood log) (sym now) good
+
+    new_floor : (key : List ℕ) (floor : Ballot) → (state : State) × (Marked (Floor key floor state) ≡ h) → IsEmptyAt (marks_of log) key floor × ((acceptor : ℕ) → IsClear log acceptor key floor)
+    new_floor key floor now = subst (IsGood log) (sym now.1) good
+
+-- ---- one happening
+-- the cluster after something that is no deed of an acceptor
+goes_on : (cluster : Cluster) (net : Net) (h : Happening) → HasHistory cluster net → May cluster net.log h → HasReason cluster net.log h → ((id : ℕ) → IsElsewhere id h) → IsGood net.log h
+    → HasHistory cluster (record { log = h ∷ net.log; kept = net.kept; made = net.made })
+goes_on cluster net h history may reason elsewhere good = record {
+  lawful = (history.lawful, may);
+  orderly = (history.orderly, reason);
+  tells = λ id. tells_still cluster h net.log id (net.kept id) (history.lawful, may) (elsewhere id) (history.tells id);
+  knows = knows_more cluster h net.log net.made (history.lawful, may) (history.orderly, reason) good history.knows;
+}
+
+-- replies that were made are true
+all_true : {cluster : Cluster} {net : Net} (replies : List Reply) → HasHistory cluster net → AllReplied net.log replies → AreRepliesTrue net.log replies
+all_true replies history replied reply stands = let made = replied reply stands in history.knows.replied made.0 reply made.1
+
+-- what was made is the state of its ballot
+has_made : {cluster : Cluster} {net : Net} {key : List ℕ} {ballot : Ballot} {era : ℕ} {state : State} → HasHistory cluster net → HasMade net.made key ballot era state → IsMadeState (marks_of net.log) key ballot era state
+has_made {cluster} {net} {key} {ballot} {era} {state} history has =
+    let of = (history.knows.made has.made has.stands).is_made in
+    subst (λ (s : State). IsMadeState (marks_of net.log) key ballot era s) has.same_state
+    (subst (λ (e : ℕ). IsMadeState (marks_of net.log) key ballot e has.made.outcome.state) has.same_era
+    (subst (λ (b : Ballot). IsMadeState (marks_of net.log) key b has.made.proposal.era has.made.outcome.state) has.same_ballot
+    (subst (λ (k : List ℕ). IsMadeState (marks_of net.log) k has.made.proposal.ballot has.made.proposal.era has.made.outcome.state) has.same_key of)))
+
+-- ---- requests
+ask_state : (cluster : Cluster) (net : Net) (request : Request) (question : Ask) → HasHistory cluster net → MayAsk cluster net.log request question → IsMadeAsk net.made question → IsAskState (marks_of net.log) question
+ask_state cluster net request (ask.Accept key ballot era ride state) history may made = has_made history made
+ask_state cluster net request (ask.Remove key tomb) history may made = history.knows.floors key tomb may.0
+ask_state cluster net request question history may made = tt
+
+-- ---- answers
+-- the happenings of a list add nothing unknown wherever they stand, and are no deeds of this acceptor
+abbrev AllPlain : List Happening → Type 0
+AllPlain [] = ⊤
+AllPlain (h ∷ front) = ((log : List Happening) → IsGood log h) × AllPlain front
+
+abbrev AllElsewhere : ℕ → List Happening → Type 0
+AllElsewhere id [] = ⊤
+AllElsewhere id (h ∷ front) = IsElsewhere id h × AllElsewhere id front
+
+knows_front : (cluster : Cluster) (front log : List Happening) (all : List Made) → AllPlain front → Lawful cluster (front ++ log) → Orderly cluster (front ++ log) → Knows log all → Knows (front ++ log) all
+knows_front cluster [] log all plain lawful orderly knows = knows
+knows_front cluster (h ∷ front) log all plain lawful orderly knows =
+    knows_more cluster h (front ++ log) all lawful orderly (plain.0 (front ++ log)) (knows_front cluster front log all plain.1 lawful.0 orderly.0 knows)
+
+tells_front : (cluster : Cluster) (front log : List Happening) (id : ℕ) (kept : Contents) → AllElsewhere id front → Lawful cluster (front ++ log) → Tells log id kept → Tells (front ++ log) id kept
+tells_front cluster [] log id kept elsewhere lawful tells = tells
+tells_front cluster (h ∷ front) log id kept elsewhere lawful tells =
+    tells_still cluster h (front ++ log) id kept lawful elsewhere.0 (tells_front cluster front log id kept elsewhere.1 lawful.0 tells)
+
+deeds_plain : (to : ℕ) (old : Contents) (question : Ask) (answer : Tell) → AllPlain (deeds_of to old question answer)
+deeds_plain to old (ask.Prepare key ballot) (tell.Promised accepted) = (λ log. tt, tt)
+deeds_plain to old (ask.Accept key ballot era ride state) tell.Accepted = by_test (is_accepted_at (accepted_at old key) ballot)
+  where
+    by_test : (b : Bool) → AllPlain (cond b [] (Took to key ballot (unwrap_or ride zero_ballot) ∷ []))
+    by_test true = tt
+    by_test false = (λ log. tt, tt)
+deeds_plain to old (ask.Ages tag least) tell.AgesSet = (λ log. tt, tt)
+deeds_plain to old (ask.Remove key tomb) tell.Removed = by_test (is_some (kept_at old key))
+  where
+    by_test : (b : Bool) → AllPlain (cond b (Dropped to key tomb ∷ []) [])
+    by_test true = (λ log. tt, tt)
+    by_test false = tt
+deeds_plain to old question answer = tt
+
+deeds_elsewhere : (id to : ℕ) (old : Contents) (question : Ask) (answer : Tell) → (to ≡ id → ⊥) → AllElsewhere id (deeds_of to old question answer)
+deeds_elsewhere id to old (ask.Prepare key ballot) (tell.Promised accepted) other = (other, tt)
+deeds_elsewhere id to old (ask.Accept key ballot era ride state) tell.Accepted other = by_test (is_accepted_at (accepted_at old key) ballot)
+  where
+    by_test : (b : Bool) → AllElsewhere id (cond b [] (Took to key ballot (unwrap_or ride zero_ballot) ∷ []))
+    by_test true = tt
+    by_test false = (other, tt)
+deeds_elsewhere id to old (ask.Ages tag least) tell.AgesSet other = (other, tt)
+deeds_elsewhere id to old (ask.Remove key tomb) tell.Removed other = by_test (is_some (kept_at old key))
+  where
+    by_test : (b : Bool) → AllElsewhere id (cond b (Dropped to key tomb ∷ []) [])
+    by_test true = (other, tt)
+    by_test false = tt
+deeds_elsewhere id to old question answer other = tt
+
+votes_plain : (to : ℕ) (question : Ask) (answer : Tell) → AllPlain (votes_of to question answer)
+votes_plain to (ask.Accept key ballot era ride state) tell.Accepted = (λ log. tt, tt)
+votes_plain to question answer = tt
+
+votes_elsewhere : (id to : ℕ) (question : Ask) (answer : Tell) → AllElsewhere id (votes_of to question answer)
+votes_elsewhere id to (ask.Accept key ballot era ride state) tell.Accepted = (tt, tt)
+votes_elsewhere id to question answer = tt
+
+-- what the log tells of each acceptor, where one keeps something new
+tells_but : (log : List Happening) (kept : ℕ → Contents) (to : ℕ) (new : Contents) → Tells log to new → ((id : ℕ) → (to ≡ id → ⊥) → Tells log id (kept id)) → (id : ℕ) → Tells log id (kept_but kept to new id)
+tells_but log kept to new own others id = elim (true_or_false (id == to)) [
+  | inl same ↦ subst (Tells log id) (sym (if_true (id == to) new (kept id) same)) (subst (λ (i : ℕ). Tells log i new) (sym (nat_same {a = id} {b = to} same)) own)
+  | inr other ↦ subst (Tells log id) (sym (if_false (id == to) new (kept id) other)) (others id (λ same. not_both (id == to) (nat_is {a = id} {b = to} (sym same)) other))
+]
+
+-- an acceptor stopped within a request
+stops_within : (cluster : Cluster) (net : Net) (request : Request) (tell : Tell) (new : Contents) → HasHistory cluster net → Stands (Asked request) net.log → Handles (net.kept request.to) request tell new
+    → HasHistory cluster (record { log = done_log request.to (net.kept request.to) request tell net.log; kept = kept_but net.kept request.to new; made = net.made })
+stops_within cluster net request tell new history asked row =
+    let to = request.to in
+    let old = net.kept to in
+    let on : GoesOn cluster net.log to old = record { lawful = history.lawful; orderly = history.orderly; tells = history.tells to } in
+    let did = deeds cluster request old new request.ask tell refl on asked (history.knows.asked request asked) (history.knows.known request asked).0 row in
+    record {
+      lawful = did.lawful;
+      orderly = did.orderly;
+      tells = tells_but (done_log to old request tell net.log) net.kept to new did.tells
+          (λ id other. tells_front cluster (deeds_of to old request.ask tell) net.log id (net.kept id) (deeds_elsewhere id to old request.ask tell other) did.lawful (history.tells id));
+      knows = knows_front cluster (deeds_of to old request.ask tell) net.log net.made (deeds_plain to old request.ask tell) did.lawful did.orderly history.knows;
+    }
+
+-- an acceptor answers
+answers_on : (cluster : Cluster) (net : Net) (request : Request) (reply : Reply) (new : Contents) → HasHistory cluster net → Stands (Asked request) net.log → IsAnswered request.to (net.kept request.to) request reply new
+    → HasHistory cluster (record { log = answered_log request.to (net.kept request.to) request reply net.log; kept = kept_but net.kept request.to new; made = net.made })
+answers_on cluster net request reply new history asked answered =
+    let to = request.to in
+    let old = net.kept to in
+    let on : GoesOn cluster net.log to old = record { lawful = history.lawful; orderly = history.orderly; tells = history.tells to } in
+    let state = history.knows.asked request asked in
+    let bounds = history.knows.known request asked in
+    let did = answers cluster old new request reply on asked state bounds.0 answered in
+    let votes = votes_of to request.ask reply.tell in
+    let acts = deeds_of to old request.ask reply.tell in
+    let true_ = known.replies cluster net.log old new request reply on asked state bounds.0 bounds.1 answered in
+    record {
+      lawful = did.1.lawful;
+      orderly = did.1.orderly;
+      tells = tells_but (answered_log to old request reply net.log) net.kept to new did.1.tells
+          (λ id other. tells_still cluster (Replied request reply) (votes ++ (acts ++ net.log)) id (net.kept id) did.1.lawful tt
+          (tells_front cluster votes (acts ++ net.log) id (net.kept id) (votes_elsewhere id to request.ask reply.tell) did.1.lawful.0
+          (tells_front cluster acts net.log id (net.kept id) (deeds_elsewhere id to old request.ask reply.tell other) did.0.lawful (history.tells id))));
+      knows = knows_more cluster (Replied request reply) (votes ++ (acts ++ net.log)) net.made did.1.lawful did.1.orderly true_
+          (knows_front cluster votes (acts ++ net.log) net.made (votes_plain to request.ask reply.tell) did.1.lawful.0 did.1.orderly.0
+          (knows_front cluster acts net.log net.made (deeds_plain to old request.ask reply.tell) did.0.lawful did.0.orderly history.knows));
+    }
+
+-- ---- proposals
+-- what a proposer makes of the state from which its proposal goes on
+proposes : (cluster : Cluster) (net : Net) (p : Proposal) (program : List Clause) (state : State) → HasHistory cluster net → Stands (Begun p.caller p.call p.key program) (marks_of net.log) → MayPropose cluster net.log p
+    → state ≡ replay_from (opening_state p.key (marks_of net.log)) (chain_of p.key (link_of (marks_of net.log) p) (marks_of net.log))
+    → HasHistory cluster (record { log = Marked (Proposed p) ∷ net.log; kept = net.kept; made = record { proposal = p; outcome = outcome_of program state } ∷ net.made })
+proposes cluster net p program state history begun may is_read =
+    let on = goes_on cluster net (Marked (Proposed p)) history may tt (λ id. tt) tt in
+    record {
+      lawful = on.lawful;
+      orderly = on.orderly;
+      tells = on.tells;
+      knows = record {
+        asked = on.knows.asked;
+        known = on.knows.known;
+        replied = on.knows.replied;
+        floors = on.knows.floors;
+        clear = on.knows.clear;
+        made = λ m stands. elim (newest_or stands) [
+          | inl now ↦ subst (IsMadeOf (Marked (Proposed p) ∷ net.log)) (sym now) own
+          | inr before ↦ on.knows.made m before
+        ];
+      };
+    }
+  where
+    own : IsMadeOf (Marked (Proposed p) ∷ net.log) (record { proposal = p; outcome = outcome_of program state })
+    own = record {
+      older = net.log;
+      at = here;
+      program = program;
+      begun = begun;
+      state = state;
+      is_read = is_read;
+      same_outcome = refl;
+      is_made = known.makes cluster net.log p program state (outcome_of program state) history.lawful may begun is_read refl;
+    }
+
+prepared : (cluster : Cluster) (net : Net) (p : Proposal) (program : List Clause) (read : Option Accepted) → HasHistory cluster net → Stands (Begun p.caller p.call p.key program) (marks_of net.log) → IsPrepared cluster net.log p read
+    → HasHistory cluster (record { log = Marked (Proposed p) ∷ net.log; kept = net.kept; made = record { proposal = p; outcome = outcome_of program (state_read read) } ∷ net.made })
+prepared cluster net p program read history begun is =
+    let clear : AreFloorsClear net.log p.key p.ballot p.prepared_by = record { empty = λ floor has. history.knows.floors p.key floor has; clear = λ acceptor floor member has less. history.knows.clear p.key floor acceptor has } in
+    let may = propose cluster net.log p is.replies read history.lawful history.orderly is.round (all_true is.replies history is.replied) is.by is.quorum is.is_read is.same_read clear in
+    proposes cluster net p program (state_read read) history begun may.0 may.1
+
+prepared_by_ride : (cluster : Cluster) (net : Net) (p : Proposal) (program : List Clause) (ready : Ready) → HasHistory cluster net → Stands (Begun p.caller p.call p.key program) (marks_of net.log) → IsPreparedByRide cluster net p ready
+    → HasHistory cluster (record { log = Marked (Proposed p) ∷ net.log; kept = net.kept; made = record { proposal = p; outcome = outcome_of program ready.state } ∷ net.made })
+prepared_by_ride cluster net p program ready history begun is =
+    let riding : IsRiding cluster net.log p.key p.era ready =
+    known.rides_along cluster net.log p.key p.era ready is.replies history.lawful history.orderly is.drawn (has_made history is.made) (all_true is.replies history is.replied) is.accepted_by is.quorum is.above is.all is.over_floors in
+    let may = rides cluster net.log p ready history.lawful history.orderly is.round riding is.same_ballot is.same_read is.by in
+    proposes cluster net p program ready.state history begun may.0 may.1
+
+-- ---- eras
+leaves : (cluster : Cluster) → ClusterMeets cluster → (log : List Happening) (proposer left : ℕ) → Lawful cluster log → IsLeaving cluster log proposer left → MayLeave cluster log proposer left
+leaves cluster meets log proposer left lawful is = record {
+  known = is.known;
+  once = is.once;
+  all_in = λ some. elim is.listed [
+    | inl none ↦ absurd (omega (arith, some, none))
+    | inr listed ↦ listed.all_in
+  ];
+  stones = λ {p} stands early. elim is.listed [
+    | inl none ↦ absurd (omega (arith, early, none))
+    | inr listed ↦ stones_of_listing cluster meets lawful listed.all_in listed.quorum listed.shown stands early
+  ];
+}
+
+-- ---- all events
+any_answer : (marks : List Mark) (caller call : ℕ) (answer : Answer) → is_done answer ≡ false → MayAnswer marks caller call answer
+any_answer marks caller call (answer.Done state took ballot) other = absurd (cc)
+any_answer marks caller call other not_done = tt
+
+pub keeps : EventsKeepHistory
+keeps cluster meets net history (Begins caller call key program numbered) = goes_on cluster net _ history numbered tt (λ id. tt) tt
+keeps cluster meets net history (Draws proposer era counter key all) = goes_on cluster net _ history tt (draws cluster net.log proposer era counter key all) (λ id. tt) tt
+keeps cluster meets net history (Asks request askable) =
+    goes_on cluster net (Asked request) history tt askable.may (λ id. tt) (ask_state cluster net request request.ask history askable.may askable.made, (askable.from, askable.to))
+keeps cluster meets net history (Answers request reply new asked answered) = answers_on cluster net request reply new history asked answered
+keeps cluster meets net history (StopsWithin request tell new asked row) = stops_within cluster net request tell new history asked row
+keeps cluster meets net history (Proposes p program read begun is) = prepared cluster net p program read history begun is
+keeps cluster meets net history (ProposesByRide p program ready begun is) = prepared_by_ride cluster net p program ready history begun is
+keeps cluster meets net history (Counts a is) =
+    goes_on cluster net (Marked (Acked a)) history (count cluster net.log a is.replies history.lawful history.orderly is.proposed (all_true is.replies history is.replied) is.by is.quorum) tt (λ id. tt) tt
+keeps cluster meets net history (EndsDone made rounds stands acked open_yet) =
+    let of = history.knows.made made stands in
+    goes_on cluster net (Marked (Ended made.proposal.caller made.proposal.call rounds (answer.Done made.outcome.state made.outcome.took made.proposal.ballot))) history
+    (done cluster net.log of.older made.proposal of.program of.state made.outcome history.lawful of.at acked open_yet of.begun of.is_read of.same_outcome) tt (λ id. tt) tt
+keeps cluster meets net history (EndsElse caller call rounds answer is) =
+    goes_on cluster net (Marked (Ended caller call rounds answer)) history
+    (record { first = is.first; answered = any_answer (marks_of net.log) caller call answer is.not_done; refused = is.refused; unsettled = is.unsettled; harmed = is.harmed }) tt (λ id. tt) tt
+keeps cluster meets net history (Harms caller call down) = goes_on cluster net _ history tt tt (λ id. tt) tt
+keeps cluster meets net history (TellsOperator asked told) = goes_on cluster net _ history tt tt (λ id. tt) tt
+keeps cluster meets net history (Buries key tomb grave) =
+    goes_on cluster net (Marked (Floor key tomb Empty)) history (inr (record { is_empty = refl; acked = grave.acked })) tt (λ id. tt) ((grave.era, has_made history grave.made), grave.clear)
+keeps cluster meets net history (Enters proposer left leaving) =
+    goes_on cluster net (Entered proposer (suc left)) history (record { left = left; next = refl; may_leave = leaves cluster meets net.log proposer left history.lawful leaving }) tt (λ id. tt) tt
+keeps cluster meets net history (MarksEra proposer era may) = goes_on cluster net _ history may tt (λ id. tt) tt
+
+-- ---- runs
+-- nothing is kept at first
+none_kept : (key : List ℕ) → kept_at nothing key ≡ None
+none_kept key = map.get-empty (slice_cmp nat_cmp) key
+
+opens : (cluster : Cluster) → HasHistory cluster (record { log = []; kept = λ id. nothing; made = [] })
+opens cluster = record {
+  lawful = tt;
+  orderly = tt;
+  tells = λ id. record {
+    slots = λ key. ap told_of (sym (none_kept key));
+    ages = λ proposer low. omega arith;
+    states = λ key. subst (λ (slot : Option Slot). IsAcceptedState [] key (accepted_of slot)) (sym (none_kept key)) tt;
+  };
+  knows = record {
+    asked = λ request stands. absurd (none_at_nil stands.at);
+    known = λ request stands. absurd (none_at_nil stands.at);
+    replied = λ request reply stands. absurd (none_at_nil stands.at);
+    made = λ m stands. absurd (none_at_nil stands.at);
+    floors = λ key floor has. absurd (none_at_nil has.stands.at);
+    clear = λ key floor acceptor has. absurd (none_at_nil has.stands.at);
+  };
+}
+
+has_history : (cluster : Cluster) → ClusterMeets cluster → (net : Net) → Run cluster net → HasHistory cluster net
+has_history cluster meets net opened = opens cluster
+has_history cluster meets net (then before run event) = keeps cluster meets before (has_history cluster meets before run) event
+
+pub runs : RunsAreLegal
+runs cluster meets net run = let history = has_history cluster meets net run in (history, lawful_is_legal cluster meets net.log history.lawful)

@@ -1,0 +1,255 @@
+-- The protocol whole: a cluster as the log of what happened in it and what each acceptor keeps, and all that may happen next, each
+-- by what its party knows. Frames are lost, repeated or late as they like: a request that was ever made may be answered now, any
+-- number of times or never, and a proposer goes by whichever replies were ever made to it. A proposer that stops is no event of
+-- its own: it does nothing for a while, and draws above all that it drew.
+use Rattle.std.specs.Prelude.{◌≡◌, ⊤, ℕ, suc, ◌<◌, ◌≤◌, ◌==◌, if◌then◌else◌, true, false, Bool, List, [], ◌∷◌, Option, Contains, ◌⊎◌, ◌+◌}
+use Rattle.cas_ballot.specs.declared.ballot.Ballot.{Ballot}
+use Rattle.cas_ballot.specs.Ballot.{BallotAtMost, BallotLess}
+use Rattle.cas_ballot.specs.Members.{has_member}
+use Rattle.cas_cache.specs.declared.ready.Ready.{Ready}
+use Rattle.cas_change.specs.declared.outcome.Outcome.{Outcome}
+use Rattle.cas_change.specs.declared.program.Clause.{Clause}
+use Rattle.cas_change.specs.declared.state.State.{State}
+use Rattle.cas_change.specs.declared.state.State.TheVariants.{Empty}
+use Rattle.cas_change.specs.Outcome.{outcome_of}
+use Rattle.cas_round.specs.Replies.{promisers_of, accepters_of}
+use Rattle.cas_round.specs.Round.{IsRead}
+use Rattle.cas_slot.specs.declared.message.Ask.{Ask}
+use Rattle.cas_slot.specs.declared.message.Ask.TheVariants as ask
+use Rattle.cas_slot.specs.declared.message.Request.{Request}
+use Rattle.cas_slot.specs.declared.message.Reply.{Reply}
+use Rattle.cas_slot.specs.declared.message.Tell.{Tell}
+use Rattle.cas_slot.specs.declared.slot.Accepted.{Accepted}
+use Rattle.cas_slot.specs.Contents.{Contents, nothing}
+use Rattle.cas_slot.specs.Slot.{accepted_ballot}
+use Rattle.cas_slot.specs.Table.{Handles, IsAnswered}
+use Rattle.cas_record.specs.declared.answer.Answer.{Answer}
+use Rattle.cas_record.specs.declared.answer.Answer.TheVariants as answer
+use Rattle.cas_record.specs.declared.operator.Asked.{Asked as OperatorAsked}
+use Rattle.cas_record.specs.declared.operator.OpAnswer.{OpAnswer}
+use Rattle.cas_record.specs.declared.mark.Acknowledgment.{Acknowledgment}
+use Rattle.cas_record.specs.declared.mark.Mark.TheVariants.{Begun, Proposed, Acked, Floor, EraEntered, Ended, Harmed, Told}
+use Rattle.cas_record.specs.declared.mark.Proposal.{Proposal}
+use Rattle.cas_record.specs.Chain.{chain_of, link_of}
+use Rattle.cas_record.specs.Happening.{Happening, Marked, Asked, Drew, Entered, Replied, marks_of}
+use Rattle.cas_record.specs.Lawful.{Cluster, ClusterMeets, Lawful, AllEntered, IsRescanned, MayMarkEra}
+use Rattle.cas_record.specs.Legal.{IsLegal, HasFloor, IsProposed, IsEnded, IsAcked, IsFirstEnd, calls_of, tells_refused, tells_unsettled, harms_due, harms_of}
+use Rattle.cas_record.specs.Listing.{WasAbsent}
+use Rattle.cas_record.specs.Orderly.{Orderly, MayAsk, IsClear}
+use Rattle.cas_record.specs.Places.{Stands, At}
+use Rattle.cas_record.specs.Replay.{replay_from, opening_state}
+use Rattle.cas_cluster.specs.Acceptors.{Tells, IsMadeState, IsEmptyAt, IsAskState, done_log, answered_log}
+use Rattle.cas_cluster.specs.Desks.{IsPastAll}
+use Rattle.cas_cluster.specs.Proposers.{IsReplyTrue, IsOpenRound, IsProposedIn, AllRide, state_read}
+
+-- ---- a cluster
+-- what a proposer made of what it read
+pub record Made : Type 0 where
+  pub proposal : Proposal
+  pub outcome : Outcome
+
+pub record Net : Type 0 where
+  -- newest first
+  pub log : List Happening
+  -- by the number of the acceptor
+  pub kept : ℕ → Contents
+  pub made : List Made
+
+-- nothing happened yet
+abbrev pub opening : Net
+opening = record { log = []; kept = λ id. nothing; made = [] }
+
+abbrev pub kept_but : (ℕ → Contents) → ℕ → Contents → ℕ → Contents
+kept_but kept acceptor new id = if id == acceptor then new else kept id
+
+-- ---- what parties know
+-- each of the replies was made
+abbrev pub AllReplied : List Happening → List Reply → Type 0
+AllReplied log replies = (reply : Reply) → Contains replies reply → (request : Request) × Stands (Replied request reply) log
+
+-- a proposer made this state at the key's ballot
+pub record HasMade (all : List Made) (key : List ℕ) (ballot : Ballot) (era : ℕ) (state : State) : Type 0 where
+  pub made : Made
+  pub stands : Stands made all
+  pub same_key : made.proposal.key ≡ key
+  pub same_ballot : made.proposal.ballot ≡ ballot
+  pub same_era : made.proposal.era ≡ era
+  pub same_state : made.outcome.state ≡ state
+
+-- what is asked to be accepted was made
+abbrev pub IsMadeAsk : List Made → Ask → Type 0
+IsMadeAsk all (ask.Accept key ballot era ride state) = HasMade all key ballot era state
+IsMadeAsk all other = ⊤
+
+pub record IsAskable (cluster : Cluster) (net : Net) (request : Request) : Type 0 where
+  pub may : MayAsk cluster net.log request request.ask
+  pub made : IsMadeAsk net.made request.ask
+  pub from : request.from ≤ 16
+  pub to : request.to < 64
+
+-- the prepare phase of the call's round has a quorum, and this is what was read
+pub record IsPrepared (cluster : Cluster) (log : List Happening) (p : Proposal) (read : Option Accepted) : Type 0 where
+  pub round : IsOpenRound log p.caller p.call p.key p.ballot p.era
+  pub replies : List Reply
+  pub replied : AllReplied log replies
+  pub by : p.prepared_by ≡ promisers_of p.ballot replies
+  pub quorum : cluster.prepares p.era p.prepared_by ≡ true
+  pub is_read : IsRead p.ballot replies read
+  pub same_read : p.read ≡ accepted_ballot read
+
+-- the call's round is at a ballot that was to be promised by whoever accepted what the proposer had made at the key's last one; a
+-- prepare quorum accepted that, and no floor was made above it
+pub record IsPreparedByRide (cluster : Cluster) (net : Net) (p : Proposal) (ready : Ready) : Type 0 where
+  pub round : IsOpenRound net.log p.caller p.call p.key p.ballot p.era
+  pub same_ballot : p.ballot ≡ ready.ballot
+  pub same_read : p.read ≡ ready.read
+  pub by : p.prepared_by ≡ ready.by
+  pub drawn : Stands (Drew ready.read p.key p.era) net.log
+  pub made : HasMade net.made p.key ready.read p.era ready.state
+  pub replies : List Reply
+  pub replied : AllReplied net.log replies
+  pub accepted_by : ready.by ≡ accepters_of ready.read replies
+  pub quorum : cluster.prepares p.era ready.by ≡ true
+  pub above : BallotLess ready.read ready.ballot
+  pub all : AllRide net.log p.key ready.read ready.ballot
+  pub over_floors : (floor : Ballot) → HasFloor p.key floor (marks_of net.log) → BallotAtMost floor ready.read
+
+-- the accept phase has a quorum
+pub record IsAccepted (cluster : Cluster) (log : List Happening) (a : Acknowledgment) : Type 0 where
+  pub proposed : IsProposedIn log a
+  pub replies : List Reply
+  pub replied : AllReplied log replies
+  pub by : a.by ≡ accepters_of a.ballot replies
+  pub quorum : cluster.accepts a.era a.by ≡ true
+
+abbrev pub is_done : Answer → Bool
+is_done (answer.Done state took ballot) = true
+is_done other = false
+
+-- an answer that is not Done: a refused change was not proposed, an unsettled one was, and what is short was harmed
+pub record IsOtherEnd (log : List Happening) (caller call : ℕ) (answer : Answer) : Type 0 where
+  pub first : IsFirstEnd caller call (marks_of log)
+  pub not_done : is_done answer ≡ false
+  pub refused : tells_refused answer ≡ true → IsProposed caller call (marks_of log) → ⊥
+  pub unsettled : tells_unsettled answer ≡ true → IsProposed caller call (marks_of log)
+  pub harmed : harms_due answer ≤ harms_of caller call (marks_of log)
+
+-- the empty state was made at the key's ballot and acknowledged; each acceptor took it, or was never asked at or below it
+pub record IsGrave (net : Net) (key : List ℕ) (tomb : Ballot) : Type 0 where
+  pub era : ℕ
+  pub made : HasMade net.made key tomb era Empty
+  pub acked : IsAcked key tomb (marks_of net.log)
+  pub clear : (acceptor : ℕ) → IsClear net.log acceptor key tomb
+
+-- an accept quorum of the era showed of each key that it had no slot once all were in the era, or the key was rescanned there
+pub record IsListed (cluster : Cluster) (log : List Happening) (era : ℕ) : Type 0 where
+  pub all_in : AllEntered cluster era (marks_of log)
+  pub by : List ℕ
+  pub quorum : cluster.accepts era by ≡ true
+  pub shown : (acceptor : ℕ) (key : List ℕ) → has_member by acceptor ≡ true → IsRescanned cluster era key (marks_of log) ⊎ WasAbsent cluster era log acceptor key
+
+-- a proposer that is known leaves this era for the next, once: era 0 as it likes, and any other when it is listed
+pub record IsLeaving (cluster : Cluster) (log : List Happening) (proposer left : ℕ) : Type 0 where
+  pub known : proposer ≤ cluster.greatest
+  pub once : Stands (Entered proposer (suc left)) log → ⊥
+  pub listed : (left ≡ 0) ⊎ IsListed cluster log left
+
+-- ---- what may happen
+pub data Event (cluster : Cluster) (net : Net) : Type 0 where
+  -- a caller's next call begins
+  Begins : (caller call : ℕ) (key : List ℕ) (program : List Clause) → call ≡ suc (calls_of caller (marks_of net.log)) → Event cluster net
+  -- a proposer draws the ballot after its counter
+  Draws : (proposer era counter : ℕ) (key : List ℕ) → IsPastAll cluster net.log proposer era counter key → Event cluster net
+  -- a request is made
+  Asks : (request : Request) → IsAskable cluster net request → Event cluster net
+  -- an acceptor handles a request that was once made, and answers it
+  Answers : (request : Request) (reply : Reply) (new : Contents) → Stands (Asked request) net.log → IsAnswered request.to (net.kept request.to) request reply new → Event cluster net
+  -- an acceptor stopped within such a request and answers nobody, but a crash left what the answer would have made
+  StopsWithin : (request : Request) (tell : Tell) (new : Contents) → Stands (Asked request) net.log → Handles (net.kept request.to) request tell new → Event cluster net
+  -- a proposer proposes what the program of the call makes of what its round read, or of what a promise rode on
+  Proposes : (p : Proposal) (program : List Clause) (read : Option Accepted) → Stands (Begun p.caller p.call p.key program) (marks_of net.log) → IsPrepared cluster net.log p read → Event cluster net
+  ProposesByRide : (p : Proposal) (program : List Clause) (ready : Ready) → Stands (Begun p.caller p.call p.key program) (marks_of net.log) → IsPreparedByRide cluster net p ready → Event cluster net
+  -- what was proposed is counted
+  Counts : (a : Acknowledgment) → IsAccepted cluster net.log a → Event cluster net
+  -- a call is answered Done with what was made, once that is acknowledged
+  EndsDone : (made : Made) (rounds : ℕ) → Stands made net.made → IsAcked made.proposal.key made.proposal.ballot (marks_of net.log)
+      → (IsEnded made.proposal.caller made.proposal.call (marks_of net.log) → ⊥) → Event cluster net
+  -- or anything else
+  EndsElse : (caller call rounds : ℕ) (answer : Answer) → IsOtherEnd net.log caller call answer → Event cluster net
+  -- a frame of a call was harmed
+  Harms : (caller call : ℕ) (down : Bool) → Event cluster net
+  -- the operator was told something
+  TellsOperator : (asked : OperatorAsked) (told : OpAnswer) → Event cluster net
+  -- a tombstone is made a floor
+  Buries : (key : List ℕ) (tomb : Ballot) → IsGrave net key tomb → Event cluster net
+  -- a proposer enters the era after the one that it leaves, and is marked as in it
+  Enters : (proposer left : ℕ) → IsLeaving cluster net.log proposer left → Event cluster net
+  MarksEra : (proposer era : ℕ) → MayMarkEra net.log proposer era → Event cluster net
+
+abbrev pub with_mark : Net → Happening → Net
+with_mark net happening = record net { log = happening ∷ net.log }
+
+abbrev pub with_proposal : Net → Proposal → Outcome → Net
+with_proposal net p outcome = record net { log = Marked (Proposed p) ∷ net.log; made = record { proposal = p; outcome = outcome } ∷ net.made }
+
+-- the cluster after it
+abbrev pub after : (cluster : Cluster) (net : Net) → Event cluster net → Net
+after cluster net (Begins caller call key program numbered) = with_mark net (Marked (Begun caller call key program))
+after cluster net (Draws proposer era counter key past) = with_mark net (Drew (record { counter = counter + 1; proposer = proposer }) key era)
+after cluster net (Asks request askable) = with_mark net (Asked request)
+after cluster net (Answers request reply new asked answered) =
+    record net { log = answered_log request.to (net.kept request.to) request reply net.log; kept = kept_but net.kept request.to new }
+after cluster net (StopsWithin request tell new asked row) = record net { log = done_log request.to (net.kept request.to) request tell net.log; kept = kept_but net.kept request.to new }
+after cluster net (Proposes p program read begun prepared) = with_proposal net p (outcome_of program (state_read read))
+after cluster net (ProposesByRide p program ready begun prepared) = with_proposal net p (outcome_of program ready.state)
+after cluster net (Counts a accepted) = with_mark net (Marked (Acked a))
+after cluster net (EndsDone made rounds stands acked open_yet) =
+    with_mark net (Marked (Ended made.proposal.caller made.proposal.call rounds (answer.Done made.outcome.state made.outcome.took made.proposal.ballot)))
+after cluster net (EndsElse caller call rounds answer other) = with_mark net (Marked (Ended caller call rounds answer))
+after cluster net (Harms caller call down) = with_mark net (Marked (Harmed caller call down))
+after cluster net (TellsOperator asked told) = with_mark net (Marked (Told asked told))
+after cluster net (Buries key tomb grave) = with_mark net (Marked (Floor key tomb Empty))
+after cluster net (Enters proposer left leaving) = with_mark net (Entered proposer (suc left))
+after cluster net (MarksEra proposer era may) = with_mark net (Marked (EraEntered proposer era))
+
+-- all that happened, from the opening on
+pub data Run (cluster : Cluster) : Net → Type 0 where
+  opened : Run cluster opening
+  then : (net : Net) → Run cluster net → (event : Event cluster net) → Run cluster (after cluster net event)
+
+-- ---- the history of a cluster
+-- what was made is what the program of its call made of the state from which its proposal went on; and that is the state of its ballot
+pub record IsMadeOf (log : List Happening) (m : Made) : Type 0 where
+  pub older : List Happening
+  pub at : At (Marked (Proposed m.proposal)) older log
+  pub program : List Clause
+  pub begun : Stands (Begun m.proposal.caller m.proposal.call m.proposal.key program) (marks_of older)
+  pub state : State
+  pub is_read : state ≡ replay_from (opening_state m.proposal.key (marks_of older)) (chain_of m.proposal.key (link_of (marks_of older) m.proposal) (marks_of older))
+  pub same_outcome : m.outcome ≡ outcome_of program state
+  pub is_made : IsMadeState (marks_of log) m.proposal.key m.proposal.ballot m.proposal.era m.outcome.state
+
+-- what requests ask for and replies tell is so, what was made is so, and each floor is empty and all acceptors are clear of it
+pub record Knows (log : List Happening) (all : List Made) : Type 0 where
+  pub asked : (request : Request) → Stands (Asked request) log → IsAskState (marks_of log) request.ask
+  pub known : (request : Request) → Stands (Asked request) log → (request.from ≤ 16) × (request.to < 64)
+  pub replied : (request : Request) (reply : Reply) → Stands (Replied request reply) log → IsReplyTrue log reply
+  pub made : (m : Made) → Stands m all → IsMadeOf log m
+  pub floors : (key : List ℕ) (floor : Ballot) → HasFloor key floor (marks_of log) → IsEmptyAt (marks_of log) key floor
+  pub clear : (key : List ℕ) (floor : Ballot) (acceptor : ℕ) → HasFloor key floor (marks_of log) → IsClear log acceptor key floor
+
+-- the log is lawful and each happening has its reason; it tells what each acceptor keeps; and what is known is so
+pub record HasHistory (cluster : Cluster) (net : Net) : Type 0 where
+  pub lawful : Lawful cluster net.log
+  pub orderly : Orderly cluster net.log
+  pub tells : (acceptor : ℕ) → Tells net.log acceptor (net.kept acceptor)
+  pub knows : Knows net.log net.made
+
+-- ---- laws
+-- Whatever happens, a cluster with a history has one after it.
+abbrev pub EventsKeepHistory : Type 0
+EventsKeepHistory = (cluster : Cluster) → ClusterMeets cluster → (net : Net) → HasHistory cluster net → (event : Event cluster net) → HasHistory cluster (after cluster net event)
+
+-- After whatever happened, from the opening on, a cluster has a history, and its record is legal.
+abbrev pub RunsAreLegal : Type 0
+RunsAreLegal = (cluster : Cluster) → ClusterMeets cluster → (net : Net) → Run cluster net → HasHistory cluster net × IsLegal (marks_of net.log)
