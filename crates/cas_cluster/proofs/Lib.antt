@@ -10,3 +10,4 @@ pub mod Proposing
 pub mod Rides
 pub mod SlotChanges
 pub mod Staying
+pub mod Witness

@@ -2,7 +2,7 @@
 -- by what its party knows. Frames are lost, repeated or late as they like: a request that was ever made may be answered now, any
 -- number of times or never, and a proposer goes by whichever replies were ever made to it. A proposer that stops is no event of
 -- its own: it does nothing for a while, and draws above all that it drew.
-use Rattle.std.specs.Prelude.{◌≡◌, ⊤, ℕ, suc, ◌<◌, ◌≤◌, ◌==◌, if◌then◌else◌, true, false, Bool, List, [], ◌∷◌, Option, Contains, ◌⊎◌, ◌+◌}
+use Rattle.std.specs.Prelude.{◌≡◌, ⊤, ℕ, suc, ◌<◌, ◌≤◌, ◌==◌, if◌then◌else◌, true, false, Bool, List, [], ◌∷◌, Option, Contains, ◌⊎◌, ◌+◌, pos}
 use Rattle.cas_ballot.specs.declared.ballot.Ballot.{Ballot}
 use Rattle.cas_ballot.specs.Ballot.{BallotAtMost, BallotLess}
 use Rattle.cas_ballot.specs.Members.{has_member}
@@ -10,7 +10,9 @@ use Rattle.cas_cache.specs.declared.ready.Ready.{Ready}
 use Rattle.cas_change.specs.declared.outcome.Outcome.{Outcome}
 use Rattle.cas_change.specs.declared.program.Clause.{Clause}
 use Rattle.cas_change.specs.declared.state.State.{State}
-use Rattle.cas_change.specs.declared.state.State.TheVariants.{Empty}
+use Rattle.cas_change.specs.declared.state.State.TheVariants.{Empty, Held}
+use Rattle.cas_change.specs.declared.state.Body.TheVariants.{Number}
+use Rattle.cas_change.specs.declared.outcome.Took.TheVariants.{Clause as ByClause}
 use Rattle.cas_change.specs.Outcome.{outcome_of}
 use Rattle.cas_round.specs.Replies.{promisers_of, accepters_of}
 use Rattle.cas_round.specs.Round.{IsRead}
@@ -38,6 +40,7 @@ use Rattle.cas_record.specs.Listing.{WasAbsent}
 use Rattle.cas_record.specs.Orderly.{Orderly, MayAsk, IsClear}
 use Rattle.cas_record.specs.Places.{Stands, At}
 use Rattle.cas_record.specs.Replay.{replay_from, opening_state}
+use Rattle.cas_record.specs.Witness.{small_cluster, at}
 use Rattle.cas_cluster.specs.Acceptors.{Tells, IsMadeState, IsEmptyAt, IsAskState, done_log, answered_log}
 use Rattle.cas_cluster.specs.Desks.{IsPastAll}
 use Rattle.cas_cluster.specs.Proposers.{IsReplyTrue, IsOpenRound, IsProposedIn, AllRide, state_read}
@@ -253,3 +256,9 @@ EventsKeepHistory = (cluster : Cluster) → ClusterMeets cluster → (net : Net)
 -- After whatever happened, from the opening on, a cluster has a history, and its record is legal.
 abbrev pub RunsAreLegal : Type 0
 RunsAreLegal = (cluster : Cluster) → ClusterMeets cluster → (net : Net) → Run cluster net → HasHistory cluster net × IsLegal (marks_of net.log)
+
+-- a run in which a call is answered Done with what it added to nothing
+pub record SomeRunIsDone : Type 0 where
+  pub net : Net
+  pub run : Run small_cluster net
+  pub done : Stands (Ended 0 1 1 (answer.Done (Held 0 (Number (pos 5))) (ByClause 0) (at 1 0))) (marks_of net.log)

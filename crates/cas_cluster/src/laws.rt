@@ -1,7 +1,7 @@
 //! What is true of every cluster. Each law is the contract of a function that does nothing.
 
 ghost use Rattle.cas_cluster.specs.Laws.{AcceptorsAnswerLawfully, AcceptorsStopLawfully, OthersChangeNothing, WhatWasTakenStays, ProposersDrawLawfully, ProposersProposeLawfully, ProposalsMakeStates, RidersProposeLawfully, PromisesRideLawfully, ProposersCountLawfully, CallsAreDoneLawfully, RepliesAreTrue, WhatIsKnownStays, TombstonesAreFloors, WhatIsAckedIsHeld, WhatIsSettledIsHeld};
-ghost use Rattle.cas_cluster.specs.Protocol.{EventsKeepHistory, RunsAreLegal};
+ghost use Rattle.cas_cluster.specs.Protocol.{EventsKeepHistory, RunsAreLegal, SomeRunIsDone};
 
 /// An acceptor that keeps what the log tells, and answers a request that it was asked, keeps what the log tells then: what it
 /// promised, took, raised or removed, its vote and its reply go on with the log lawfully, and each has its reason.
@@ -104,4 +104,10 @@ pub fn events_keep_the_history()
 /// each change that was answered Done stands in it once, after all that was settled when its call began, and a refused one never.
 pub fn runs_are_legal()
     ensures { RunsAreLegal }
+{}
+
+/// There is such a run: two acceptors promise, one of them stops within its accept and is asked the same again, the other accepts
+/// too, and the call is answered Done with the number that it added.
+pub fn some_run_is_done()
+    ensures { SomeRunIsDone }
 {}

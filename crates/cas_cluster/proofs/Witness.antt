@@ -1,0 +1,412 @@
+-- A run: a call is begun, its round prepared by two acceptors and proposed; one acceptor stops within the accept and answers nobody,
+-- is up again and answers the same request, the other answers too, and the call is Done.
+use Rattle.std.proofs.Common.{◌≡◌, ℕ, Bool, true, false, List, [], ◌∷◌, Option, Some, None, refl, sym, ap, subst, ◌∙◌, inl, inr, arith}
+use Rattle.std.specs.Prelude.{IsSomeAnd, pos}
+use Rattle.std.specs.Cmp.Lexicographic.{slice_cmp}
+use Rattle.std.specs.FinMap as map
+use Rattle.std.specs.List.{list_any}
+use Rattle.std.specs.Ordering.{nat_cmp}
+use Rattle.cas_base.proofs.Bools.{not_both}
+use Rattle.cas_ballot.specs.declared.ballot.Ballot.{Ballot}
+use Rattle.cas_ballot.specs.Ballot.{zero_ballot, BallotAtMost, BallotLess}
+use Rattle.cas_ballot.specs.Members.{members_where, has_member}
+use Rattle.cas_ballot.proofs.BallotLemmas.{at_most_refl}
+use Rattle.cas_change.specs.declared.program.Act.TheVariants.{Add}
+use Rattle.cas_change.specs.declared.program.Clause.{Clause}
+use Rattle.cas_change.specs.declared.program.Guard.TheVariants.{Always}
+use Rattle.cas_change.specs.declared.state.Body.TheVariants.{Number}
+use Rattle.cas_change.specs.declared.state.State.{State}
+use Rattle.cas_change.specs.declared.state.State.TheVariants.{Empty, Held}
+use Rattle.cas_change.specs.Outcome.{outcome_of}
+use Rattle.cas_round.proofs.Lists.{Has, has}
+use Rattle.cas_round.specs.Replies.{promisers_of, accepters_of}
+use Rattle.cas_slot.specs.declared.message.Ask.TheVariants as ask
+use Rattle.cas_slot.specs.declared.message.Request.{Request}
+use Rattle.cas_slot.specs.declared.message.Reply.{Reply}
+use Rattle.cas_slot.specs.declared.message.Tell.{Tell}
+use Rattle.cas_slot.specs.declared.message.Tell.TheVariants as tell
+use Rattle.cas_slot.specs.declared.slot.Slot.{Slot}
+use Rattle.cas_slot.specs.Contents.{Contents, nothing, kept_at, with_kept}
+use Rattle.cas_slot.specs.Message.{phase_of, tag_of}
+use Rattle.cas_slot.specs.Slot.{accepted_of, seen_of}
+use Rattle.cas_slot.specs.Slots.{no_slots, IsFullFor}
+use Rattle.cas_slot.specs.Table.{Handles, IsAnswered}
+use Rattle.cas_slot.proofs.SlotsLemmas.{slot_at-with_slot_same}
+use Rattle.cas_record.specs.declared.mark.Acknowledgment.{Acknowledgment}
+use Rattle.cas_record.specs.declared.mark.Mark.{Mark}
+use Rattle.cas_record.specs.declared.mark.Mark.TheVariants.{Begun, Proposed, Voted, Floor, Ended}
+use Rattle.cas_record.specs.declared.mark.Proposal.{Proposal}
+use Rattle.cas_record.specs.Happening.{Happening, Marked, Asked, Drew, Entered, Replied, marks_of}
+use Rattle.cas_record.specs.Legal.{IsEnded, IsAcked}
+use Rattle.cas_record.specs.Orderly.{MayAskFor, MayAsk}
+use Rattle.cas_record.specs.Places.{Stands, here, past}
+use Rattle.cas_record.specs.Witness.{small_cluster, members_in, key_a, at, ask_of}
+use Rattle.cas_record.proofs.PlaceLemmas.{newest_or, none_at_nil}
+use Rattle.cas_record.proofs.LogLemmas.{mark_stands}
+use Rattle.cas_record.proofs.Tests.{neither_left, neither_right}
+use Rattle.cas_cluster.specs.Acceptors.{deeds_of}
+use Rattle.cas_cluster.specs.Desks.{IsPastAll}
+use Rattle.cas_cluster.specs.Protocol.{Made, Net, opening, AllReplied, HasMade, IsPrepared, IsAccepted, Event, Begins, Draws, Asks, Answers, StopsWithin, Proposes, Counts, EndsDone, after, opened, then, SomeRunIsDone}
+use Rattle.cas_cluster.proofs.Answered.{behind, deeds_marks}
+
+-- ---- what does not stand in a list
+none : {A : Type 0} (test : A → Bool) (xs : List A) {x : A} → list_any test xs ≡ false → test x ≡ true → Stands x xs → ⊥
+none test [] e t s = none_at_nil s.at
+none test (y ∷ ys) {x} e t s = elim (newest_or s) [
+  | inl same ↦ not_both (test y) (ap test (sym same) ∙ t) (neither_left (test y) (list_any test ys) e)
+  | inr before ↦ none test ys (neither_right (test y) (list_any test ys) e) t before
+]
+
+abbrev is_drew : Happening → Bool
+is_drew (Drew ballot key era) = true
+is_drew other = false
+
+abbrev is_entered : Happening → Bool
+is_entered (Entered proposer era) = true
+is_entered other = false
+
+abbrev is_proposed : Mark → Bool
+is_proposed (Proposed p) = true
+is_proposed other = false
+
+abbrev is_floor : Mark → Bool
+is_floor (Floor key floor state) = true
+is_floor other = false
+
+abbrev is_ended : Mark → Bool
+is_ended (Ended caller call rounds answer) = true
+is_ended other = false
+
+-- ---- what acceptors answer
+abbrev one : Ballot
+one = at 1 0
+
+abbrev five : State
+five = Held 0 (Number (pos 5))
+
+abbrev promised : Contents
+promised = with_kept nothing key_a (record { promise = one; accepted = None })
+
+abbrev accepted : Contents
+accepted = with_kept promised key_a (record { promise = zero_ballot; accepted = Some (record { ballot = one; era = 0; state = five }) })
+
+none_kept : kept_at nothing key_a ≡ None
+none_kept = map.get-empty (slice_cmp nat_cmp) key_a
+
+promised_kept : kept_at promised key_a ≡ Some (record { promise = one; accepted = None })
+promised_kept = slot_at-with_slot_same no_slots key_a (record { promise = one; accepted = None })
+
+accepted_kept : kept_at accepted key_a ≡ Some (record { promise = zero_ballot; accepted = Some (record { ballot = one; era = 0; state = five }) })
+accepted_kept = slot_at-with_slot_same promised.slots key_a (record { promise = zero_ballot; accepted = Some (record { ballot = one; era = 0; state = five }) })
+
+room : IsFullFor no_slots key_a → ⊥
+room full = omega (arith, full.no_room, map.len-empty (slice_cmp nat_cmp) Slot)
+
+not_new : {x : Slot} → Some x ≡ None → ⊥
+not_new e = cc
+
+abbrev ask_prepare : ℕ → Request
+ask_prepare acceptor = ask_of acceptor 0 one (ask.Prepare key_a one)
+
+abbrev ask_accept : ℕ → Request
+ask_accept acceptor = ask_of acceptor 0 one (ask.Accept key_a one 0 None five)
+
+promises : (acceptor : ℕ) → Handles nothing (ask_prepare acceptor) (tell.Promised None) promised
+promises acceptor = (
+  omega arith,
+  (
+    ap accepted_of (sym none_kept),
+    inr (subst (λ (s : Option Slot). BallotLess (seen_of s) one) (sym none_kept) (record { counters = omega arith; proposers = λ same. absurd (omega (arith, same)) }), room, refl),
+  ),
+)
+
+takes : (acceptor : ℕ) → Handles promised (ask_accept acceptor) tell.Accepted accepted
+takes acceptor = (
+  omega arith,
+  inr (
+    (λ again. absurd (subst (λ (s : Option Slot). IsSomeAnd (accepted_of s) (λ a. a.ballot ≡ one)) promised_kept again)),
+    subst (λ (s : Option Slot). BallotAtMost (seen_of s) one) (sym promised_kept) (at_most_refl one),
+    (λ full. not_new (sym promised_kept ∙ full.new_key)),
+    refl,
+  ),
+)
+
+takes_again : (acceptor : ℕ) → Handles accepted (ask_accept acceptor) tell.Accepted accepted
+takes_again acceptor = (omega arith, inl (subst (λ (s : Option Slot). IsSomeAnd (accepted_of s) (λ a. a.ballot ≡ one)) (sym accepted_kept) refl, refl))
+
+abbrev reply_to : Request → Tell → Reply
+reply_to request told = record { from = request.to; to = request.from; phase = phase_of request.ask; tag = tag_of request.ask; tell = told }
+
+answered : {id : ℕ} {old new : Contents} (request : Request) (told : Tell) → request.to ≡ id → Handles old request told new → IsAnswered id old request (reply_to request told) new
+answered request told same row = record { from = same; to = refl; phase = refl; tag = refl; row = row }
+
+-- ---- the round is prepared
+abbrev program : List Clause
+program = record { guard = Always; act = Add (pos 5) } ∷ []
+
+abbrev begins : Event small_cluster opening
+begins = Begins 0 1 key_a program refl
+
+abbrev begun : Net
+begun = after small_cluster opening begins
+
+past_all : IsPastAll small_cluster begun.log 0 0 0 key_a
+past_all = record {
+  known = omega arith;
+  is_in = inl refl;
+  drawn = λ ballot key era stands own. absurd (none is_drew begun.log refl refl stands);
+  floors = λ floor has. absurd (none is_floor (marks_of begun.log) refl refl has.stands);
+}
+
+abbrev draws : Event small_cluster begun
+draws = Draws 0 0 0 key_a past_all
+
+abbrev drawn : Net
+drawn = after small_cluster begun draws
+
+-- what is asked for the ballot
+asks_for : (log : List Happening) (request : Request) → request.from ≡ 0 → has_member (members_in 0) request.to ≡ true → Stands (Drew one key_a 0) log → list_any is_floor (marks_of log) ≡ false
+    → MayAskFor small_cluster log request key_a one
+asks_for log request from member stands no_floor = record {
+  era = 0;
+  drawn = stands;
+  own = sym from;
+  member = member;
+  above = record { above = λ {floor} {state} floored. absurd (none is_floor (marks_of log) no_floor refl floored) };
+}
+
+abbrev asks_first : Event small_cluster drawn
+asks_first = Asks (ask_prepare 1) (record { may = asks_for drawn.log (ask_prepare 1) refl refl (record { older = begun.log; at = here }) refl; made = tt; from = omega arith; to = omega arith })
+
+abbrev asked_first : Net
+asked_first = after small_cluster drawn asks_first
+
+abbrev first : Reply
+first = reply_to (ask_prepare 1) (tell.Promised None)
+
+abbrev first_promises : Event small_cluster asked_first
+first_promises = Answers (ask_prepare 1) first promised (record { older = drawn.log; at = here }) (answered (ask_prepare 1) (tell.Promised None) refl (promises 1))
+
+abbrev promised_first : Net
+promised_first = after small_cluster asked_first first_promises
+
+abbrev asks_second : Event small_cluster promised_first
+asks_second = Asks (ask_prepare 2) (record { may = asks_for promised_first.log (ask_prepare 2) refl refl (record { older = begun.log; at = past (past (past here)) }) refl; made = tt; from = omega arith; to = omega arith })
+
+abbrev asked_second : Net
+asked_second = after small_cluster promised_first asks_second
+
+abbrev second : Reply
+second = reply_to (ask_prepare 2) (tell.Promised None)
+
+abbrev second_promises : Event small_cluster asked_second
+second_promises = Answers (ask_prepare 2) second promised (record { older = promised_first.log; at = here }) (answered (ask_prepare 2) (tell.Promised None) refl (promises 2))
+
+abbrev promised_second : Net
+promised_second = after small_cluster asked_second second_promises
+
+-- ---- it is proposed
+abbrev proposal : Proposal
+proposal = record { caller = 0; call = 1; key = key_a; ballot = one; read = zero_ballot; era = 0; prepared_by = 1 ∷ 2 ∷ [] }
+
+begun_stands : Stands (Begun 0 1 key_a program) (marks_of promised_second.log)
+begun_stands = record { older = []; at = here }
+
+abbrev drawn_stands : Stands (Drew one key_a 0) promised_second.log
+drawn_stands = record { older = begun.log; at = past (past (past (past (past (past here))))) }
+
+promises_replied : AllReplied promised_second.log (first ∷ second ∷ [])
+promises_replied reply stands = by_place (has reply (first ∷ second ∷ []) stands)
+  where
+    by_place : Has reply (first ∷ second ∷ []) → (request : Request) × Stands (Replied request reply) promised_second.log
+    by_place (inl is_first) = (ask_prepare 1, subst (λ (r : Reply). Stands (Replied (ask_prepare 1) r) promised_second.log) is_first (record { older = _; at = past (past (past here)) }))
+    by_place (inr (inl is_second)) = (ask_prepare 2, subst (λ (r : Reply). Stands (Replied (ask_prepare 2) r) promised_second.log) is_second (record { older = _; at = here }))
+    by_place (inr (inr nowhere)) = absurd nowhere
+
+two_promised : (1 ∷ 2 ∷ []) ≡ promisers_of one (first ∷ second ∷ [])
+unfolding members_where
+two_promised = refl
+
+two_are_enough : small_cluster.prepares 0 (1 ∷ 2 ∷ []) ≡ true
+unfolding members_where
+two_are_enough = refl
+
+prepared : IsPrepared small_cluster promised_second.log proposal None
+prepared = record {
+  round = record {
+    drawn = drawn_stands;
+    not_beyond = λ s. absurd (none is_entered promised_second.log refl refl s);
+    fresh = λ p. absurd (none is_proposed (marks_of promised_second.log) refl refl p.stands);
+    above_floors = record { above = λ {floor} {state} s. absurd (none is_floor (marks_of promised_second.log) refl refl s) };
+    begun = record { program = program; stands = begun_stands };
+    once = λ p. absurd (none is_proposed (marks_of promised_second.log) refl refl p.stands);
+    open_yet = λ e. absurd (none is_ended (marks_of promised_second.log) refl refl e.stands);
+  };
+  replies = first ∷ second ∷ [];
+  replied = promises_replied;
+  by = two_promised;
+  quorum = two_are_enough;
+  is_read = refl;
+  same_read = refl;
+}
+
+abbrev made : Made
+made = record { proposal = proposal; outcome = outcome_of program Empty }
+
+abbrev proposes : Event small_cluster promised_second
+proposes = Proposes proposal program None begun_stands prepared
+
+abbrev proposed : Net
+proposed = after small_cluster promised_second proposes
+
+-- ---- it is accepted
+accepts : (log : List Happening) (request : Request) → request.ask ≡ ask.Accept key_a one 0 None five → MayAskFor small_cluster log request key_a one → Stands (Marked (Proposed proposal)) log
+    → MayAsk small_cluster log request (ask.Accept key_a one 0 None five)
+accepts log request is may stands = (may, record { proposal = proposal; stands = mark_stands stands; same_key = refl; same_ballot = refl }, tt)
+
+made_five : HasMade (made ∷ []) key_a one 0 five
+made_five = record { made = made; stands = record { older = []; at = here }; same_key = refl; same_ballot = refl; same_era = refl; same_state = refl }
+
+abbrev asks_to_accept : Event small_cluster proposed
+asks_to_accept = Asks (ask_accept 1) (record {
+  may = accepts proposed.log (ask_accept 1) refl (asks_for proposed.log (ask_accept 1) refl refl (record { older = begun.log; at = past drawn_stands.at }) refl) (record { older = promised_second.log; at = here });
+  made = made_five;
+  from = omega arith;
+  to = omega arith;
+})
+
+abbrev asked_to_accept : Net
+asked_to_accept = after small_cluster proposed asks_to_accept
+
+-- the first stops within it, and a crash leaves what it wrote
+abbrev stops_within : Event small_cluster asked_to_accept
+stops_within = StopsWithin (ask_accept 1) tell.Accepted accepted (record { older = proposed.log; at = here }) (takes 1)
+
+abbrev stopped : Net
+stopped = after small_cluster asked_to_accept stops_within
+
+abbrev wrote : List Happening
+wrote = deeds_of 1 promised (ask_accept 1).ask tell.Accepted
+
+asked_before : Stands (Asked (ask_accept 1)) stopped.log
+asked_before = behind wrote (record { older = proposed.log; at = here })
+
+abbrev third : Reply
+third = reply_to (ask_accept 1) tell.Accepted
+
+-- and it is asked the same again
+abbrev first_accepts : Event small_cluster stopped
+first_accepts = Answers (ask_accept 1) third accepted asked_before (answered (ask_accept 1) tell.Accepted refl (takes_again 1))
+
+abbrev accepted_again : Net
+accepted_again = after small_cluster stopped first_accepts
+
+-- what stood before stands still
+stopped_has : {x : Happening} → Stands x asked_to_accept.log → Stands x stopped.log
+stopped_has stands = behind wrote stands
+
+abbrev wrote_again : List Happening
+wrote_again = deeds_of 1 accepted (ask_accept 1).ask tell.Accepted
+
+again_has : {x : Happening} → Stands x stopped.log → Stands x accepted_again.log
+again_has stands = let deeper = behind wrote_again stands in record { older = deeper.older; at = past (past deeper.at) }
+
+drawn_still : Stands (Drew one key_a 0) accepted_again.log
+drawn_still = again_has (stopped_has (record { older = begun.log; at = past (past drawn_stands.at) }))
+
+proposed_still : Stands (Marked (Proposed proposal)) accepted_again.log
+proposed_still = again_has (stopped_has (record { older = promised_second.log; at = past here }))
+
+marks_again : marks_of accepted_again.log ≡ Voted 1 key_a one ∷ marks_of asked_to_accept.log
+marks_again = ap (λ (marks : List Mark). Voted 1 key_a one ∷ marks)
+    (deeds_marks 1 accepted stopped.log (ask_accept 1).ask tell.Accepted ∙ deeds_marks 1 promised asked_to_accept.log (ask_accept 1).ask tell.Accepted)
+
+abbrev asks_other : Event small_cluster accepted_again
+asks_other = Asks (ask_accept 2) (record {
+  may = accepts accepted_again.log (ask_accept 2) refl (asks_for accepted_again.log (ask_accept 2) refl refl drawn_still (ap (list_any is_floor) marks_again)) proposed_still;
+  made = made_five;
+  from = omega arith;
+  to = omega arith;
+})
+
+abbrev asked_other : Net
+asked_other = after small_cluster accepted_again asks_other
+
+abbrev fourth : Reply
+fourth = reply_to (ask_accept 2) tell.Accepted
+
+abbrev other_accepts : Event small_cluster asked_other
+other_accepts = Answers (ask_accept 2) fourth accepted (record { older = accepted_again.log; at = here }) (answered (ask_accept 2) tell.Accepted refl (takes 2))
+
+abbrev accepted_by_other : Net
+accepted_by_other = after small_cluster asked_other other_accepts
+
+-- ---- it is counted, and answered Done
+abbrev wrote_other : List Happening
+wrote_other = deeds_of 2 promised (ask_accept 2).ask tell.Accepted
+
+other_has : {x : Happening} → Stands x accepted_again.log → Stands x accepted_by_other.log
+other_has stands = let deeper = behind wrote_other {log = asked_other.log} (record { older = stands.older; at = past stands.at }) in record { older = deeper.older; at = past (past deeper.at) }
+
+marks_other : marks_of accepted_by_other.log ≡ Voted 2 key_a one ∷ Voted 1 key_a one ∷ marks_of asked_to_accept.log
+marks_other = ap (λ (marks : List Mark). Voted 2 key_a one ∷ marks) (deeds_marks 2 promised asked_other.log (ask_accept 2).ask tell.Accepted ∙ marks_again)
+
+accepts_replied : AllReplied accepted_by_other.log (third ∷ fourth ∷ [])
+accepts_replied reply stands = by_place (has reply (third ∷ fourth ∷ []) stands)
+  where
+    by_place : Has reply (third ∷ fourth ∷ []) → (request : Request) × Stands (Replied request reply) accepted_by_other.log
+    by_place (inl is_third) = (ask_accept 1, subst (λ (r : Reply). Stands (Replied (ask_accept 1) r) accepted_by_other.log) is_third (other_has (record { older = _; at = here })))
+    by_place (inr (inl is_fourth)) = (ask_accept 2, subst (λ (r : Reply). Stands (Replied (ask_accept 2) r) accepted_by_other.log) is_fourth (record { older = _; at = here }))
+    by_place (inr (inr nowhere)) = absurd nowhere
+
+two_accepted : (1 ∷ 2 ∷ []) ≡ accepters_of one (third ∷ fourth ∷ [])
+unfolding members_where
+two_accepted = refl
+
+two_suffice : small_cluster.accepts 0 (1 ∷ 2 ∷ []) ≡ true
+unfolding members_where
+two_suffice = refl
+
+abbrev acknowledgment : Acknowledgment
+acknowledgment = record { key = key_a; ballot = one; era = 0; by = 1 ∷ 2 ∷ [] }
+
+is_accepted : IsAccepted small_cluster accepted_by_other.log acknowledgment
+is_accepted = record {
+  proposed = record {
+    drawn = other_has drawn_still;
+    proposal = proposal;
+    proposed = mark_stands (other_has proposed_still);
+    same_key = refl;
+    same_ballot = refl;
+    same_era = refl;
+  };
+  replies = third ∷ fourth ∷ [];
+  replied = accepts_replied;
+  by = two_accepted;
+  quorum = two_suffice;
+}
+
+abbrev counts : Event small_cluster accepted_by_other
+counts = Counts acknowledgment is_accepted
+
+abbrev counted : Net
+counted = after small_cluster accepted_by_other counts
+
+not_ended : IsEnded 0 1 (marks_of counted.log) → ⊥
+not_ended ended = none is_ended (marks_of counted.log) (ap (list_any is_ended) marks_other) refl ended.stands
+
+is_acked : IsAcked key_a one (marks_of counted.log)
+is_acked = record { acknowledgment = acknowledgment; stands = record { older = marks_of accepted_by_other.log; at = here }; same_key = refl; same_ballot = refl }
+
+abbrev ends : Event small_cluster counted
+ends = EndsDone made 1 (record { older = []; at = here }) is_acked not_ended
+
+abbrev ended : Net
+ended = after small_cluster counted ends
+
+pub done : SomeRunIsDone
+done = record {
+  net = ended;
+  run = then counted (then accepted_by_other (then asked_other (then accepted_again (then stopped (then asked_to_accept (then proposed (then promised_second (then asked_second (then promised_first (then asked_first (then drawn (then begun (then opening opened begins) draws) asks_first) first_promises) asks_second) second_promises) proposes) asks_to_accept) stops_within) first_accepts) asks_other) other_accepts) counts) ends;
+  done = record { older = marks_of counted.log; at = here };
+}
