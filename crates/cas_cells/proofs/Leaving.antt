@@ -64,6 +64,10 @@ module _ (cell : Cell) (old : List ℕ) (i : ℕ) (held : CellHeld old i cell) w
         (while_closing cell current spare (frame_at c k) held opened torn.tail torn.size);
   }
 
+  -- the gate of the open spare is written, in a run
+  pub closing : {D : Type 0} {moment : D → ℕ} {left_since : D → ℕ → List ℕ → Type 0} {d0 d1 : D} {j : ℕ} → cell.spare_open ≡ true → j ≡ k → ContinuesOnly moment left_since d0 d1 (GateTorn j old) → ContinuesOnly moment left_since d0 d1 (Leaves k old i (payload_held cell))
+  closing opened is_k run = weaker _ _ _ _ _ (Leaves k old i (payload_held cell)) (λ c torn. leaves_gate c opened (subst (λ (n : ℕ). GateTorn n old c) is_k torn)) run
+
   -- the tail of the closed spare is written
   pub leaves_tail : (c : List ℕ) → cell.spare_open ≡ false → TailTorn k old c → Leaves k old i (payload_held cell) c
   leaves_tail c closed torn = record {
@@ -117,25 +121,31 @@ module _ (cell : Cell) (old : List ℕ) (i : ℕ) (held : CellHeld old i cell) w
       twice First = refl
       twice Second = refl
 
+-- the bytes that were made for a cell stand in its spare after that was closed
+module _ {read made shown p : List ℕ} {n : ℕ} {cell cell1 : Cell} where
+  pub tail_stands : (disk : List ℕ) (i : ℕ) → Shuts cell cell1 → drop 1 (frame_at disk (frame_of i (other cell1.side))) ≡ read → read ≡ made → made ≡ tail_of n shown → n ≡ next cell.number → shown ≡ p → HoldsTail disk i cell1 p
+  tail_stands disk i shuts stands is_made makes follows is_p =
+      stands ∙ is_made ∙ makes ∙ ap (λ (m : ℕ). tail_of m shown) (follows ∙ ap next (sym shuts.number)) ∙ ap (λ (l : List ℕ). tail_of (next cell1.number) l) is_p
+
 -- the three steps of one cell after one another, in which a crash leaves its old payload or the new
-pub three_steps : {D : Type 0} (moment : D → ℕ) (left_since : D → ℕ → List ℕ → Type 0) (d0 d1 d2 d3 : D) (old mid1 mid2 p : List ℕ) (i j : ℕ) (cell cell1 : Cell) → Shuts cell cell1 → CellHeld mid2 i cell1 → IsPayload p → HoldsTail mid2 i cell1 p → j ≡ frame_of i (other cell1.side)
-    → Others (frame_of i (other cell.side)) old mid1 → Others (frame_of i (other cell1.side)) mid1 mid2
-    → ContinuesOnly moment left_since d0 d1 (Leaves (frame_of i (other cell.side)) old i (payload_held cell)) → ContinuesOnly moment left_since d1 d2 (Leaves (frame_of i (other cell1.side)) mid1 i (payload_held cell1)) → ContinuesOnly moment left_since d2 d3 (GateTorn j mid2)
-    → ContinuesOnly moment left_since d0 d3 (MayOpen (frame_of i (other cell.side)) old i (payload_held cell) p)
-three_steps moment left_since d0 d1 d2 d3 old mid1 mid2 p i j cell cell1 shuts held fits staged is_j others1 others2 first second third =
-    let k = frame_of i (other cell.side) in
-    let k1 = frame_of i (other cell1.side) in
-    let pay = payload_held cell in
-    let same : k1 ≡ k = ap (λ (s : Side). frame_of i (other s)) shuts.side in
-    let others2' : Others k mid1 mid2 = subst (λ (n : ℕ). Others n mid1 mid2) same others2 in
-    let old_mid2 : Others k old mid2 = others_from k old mid1 mid2 others1 others2' in
-    then_on moment left_since d0 d2 d3 (MayOpen k old i pay p)
-    (then_on moment left_since d0 d1 d2 (MayOpen k old i pay p)
-    (weaker moment left_since d0 d1 (Leaves k old i pay) (MayOpen k old i pay p) (λ image leaves. leaves_opens k i pay p old image leaves) first)
-    (weaker moment left_since d1 d2 (Leaves k1 mid1 i (payload_held cell1)) (MayOpen k old i pay p)
-    (λ image leaves. leaves_opens k i pay p old image (leaves_from k i pay old mid1 image others1
-    (subst (λ (n : ℕ). Leaves n mid1 i pay image) same (subst (λ (o : Option (List ℕ)). Leaves k1 mid1 i o image) shuts.held leaves)))) second))
-    (weaker moment left_since d2 d3 (GateTorn j mid2) (MayOpen k old i pay p)
-    (λ image torn. opens_from k i pay p old mid2 image old_mid2
-    (subst (λ (n : ℕ). MayOpen n mid2 i pay p image) same (subst (λ (o : Option (List ℕ)). MayOpen k1 mid2 i o p image) shuts.held
-    (may_open cell1 mid2 i held image p fits staged (subst (λ (n : ℕ). GateTorn n mid2 image) is_j torn))))) third)
+module _ {D : Type 0} {moment : D → ℕ} {left_since : D → ℕ → List ℕ → Type 0} {d0 d1 d2 d3 : D} {old mid1 mid2 p : List ℕ} {i j : ℕ} {cell cell1 : Cell} where
+  pub three_steps : Shuts cell cell1 → ContinuesOnly moment left_since d0 d1 (Leaves (frame_of i (other cell.side)) old i (payload_held cell)) → ContinuesOnly moment left_since d1 d2 (Leaves (frame_of i (other cell1.side)) mid1 i (payload_held cell1)) → ContinuesOnly moment left_since d2 d3 (GateTorn j mid2)
+      → CellHeld mid2 i cell1 → IsPayload p → HoldsTail mid2 i cell1 p → j ≡ frame_of i (other cell1.side) → Others (frame_of i (other cell.side)) old mid1 → Others (frame_of i (other cell1.side)) mid1 mid2
+      → ContinuesOnly moment left_since d0 d3 (MayOpen (frame_of i (other cell.side)) old i (payload_held cell) p)
+  three_steps shuts first second third held fits staged is_j others1 others2 =
+      let k = frame_of i (other cell.side) in
+      let k1 = frame_of i (other cell1.side) in
+      let pay = payload_held cell in
+      let same : k1 ≡ k = ap (λ (s : Side). frame_of i (other s)) shuts.side in
+      let others2' : Others k mid1 mid2 = subst (λ (n : ℕ). Others n mid1 mid2) same others2 in
+      let old_mid2 : Others k old mid2 = others_from k old mid1 mid2 others1 others2' in
+      then_on moment left_since d0 d2 d3 (MayOpen k old i pay p)
+      (then_on moment left_since d0 d1 d2 (MayOpen k old i pay p)
+      (weaker moment left_since d0 d1 (Leaves k old i pay) (MayOpen k old i pay p) (λ image leaves. leaves_opens k i pay p old image leaves) first)
+      (weaker moment left_since d1 d2 (Leaves k1 mid1 i (payload_held cell1)) (MayOpen k old i pay p)
+      (λ image leaves. leaves_opens k i pay p old image (leaves_from k i pay old mid1 image others1
+      (subst (λ (n : ℕ). Leaves n mid1 i pay image) same (subst (λ (o : Option (List ℕ)). Leaves k1 mid1 i o image) shuts.held leaves)))) second))
+      (weaker moment left_since d2 d3 (GateTorn j mid2) (MayOpen k old i pay p)
+      (λ image torn. opens_from k i pay p old mid2 image old_mid2
+      (subst (λ (n : ℕ). MayOpen n mid2 i pay p image) same (subst (λ (o : Option (List ℕ)). MayOpen k1 mid2 i o p image) shuts.held
+      (may_open cell1 mid2 i held image p fits staged (subst (λ (n : ℕ). GateTorn n mid2 image) is_j torn))))) third)

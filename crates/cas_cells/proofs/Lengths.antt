@@ -52,3 +52,9 @@ module _ {D : Type 0} (moment : D → ℕ) (left_since : D → ℕ → List ℕ 
   opening_no_longer old new seen i cell pay p stays held run =
       let k = frame_of i (other cell.side) in
       no_longer_than_seen old new seen (MayOpen k seen i pay p) stays (λ c opens. others_short k seen c (spare_whole cell seen i held) opens.others) run
+
+  -- the same after a run that left so many bytes
+  pub then_opening_no_longer : (old mid new : D) (seen : List ℕ) (bytes : ℕ) (i : ℕ) (cell : Cell) (pay : Option (List ℕ)) (p : List ℕ) → ((c : List ℕ) → moment old ≤ moment mid → may_leave mid c → left_since mid (moment old) c) → may_leave mid seen → CellHeld seen i cell
+      → NotLonger moment left_since may_leave old mid bytes → ContinuesOnly moment left_since mid new (MayOpen (frame_of i (other cell.side)) seen i pay p) → NotLonger moment left_since may_leave old new bytes
+  then_opening_no_longer old mid new seen bytes i cell pay p counts stays held first run =
+      then_no_longer old mid new bytes counts first (within_more mid new 0 bytes (omega arith) (opening_no_longer mid new seen i cell pay p stays held run))

@@ -7,6 +7,7 @@ mod Placing
 mod Recovering
 mod Rows
 mod Sound
+mod Stepping
 pub mod Survival
 mod Tearing
 mod Turning

@@ -1,13 +1,13 @@
-use Rattle.std.proofs.Common.{◌≡◌, ◌∷◌, drop, refl, sym, ◌∙◌, ap, subst, arith, Err, List, ℕ}
+use Rattle.std.proofs.Common.{◌≡◌, ◌∷◌, drop, refl, sym, ◌∙◌, ap, subst, arith, Err, ℕ}
 use Rattle.std.proofs.lemmas.Grind.{common_steps}
 use Rattle.cas_disk.proofs.Moments.{at_rest}
-use Rattle.cas_cells.specs.Format.{frame_at, next}
+use Rattle.cas_cells.specs.Format.{frame_at}
 use Rattle.cas_cells.specs.Torn.{Others}
-use Rattle.cas_cells.specs.Held.{MayOpen, CellHeld, HoldsTail, payload_held, frame_of, other, tail_of}
+use Rattle.cas_cells.specs.Held.{MayOpen, CellHeld, HoldsTail, payload_held, frame_of, other}
 use Rattle.cas_cells.specs.declared.cell.Cell.{Cell}
 use Rattle.cas_disk.specs.declared.disk.DiskFault.{DiskFault}
 use Rattle.cas_disk.specs.declared.disk.DiskFault.TheVariants.{NoMemory}
-use Rattle.cas_cells.proofs.Leaving.{leaves_same, leaves_opens, still_after, held_opened, three_steps}
+use Rattle.cas_cells.proofs.Leaving.{leaves_same, leaves_opens, still_after, held_opened, three_steps, tail_stands}
 use Rattle.cas_cells.proofs.steps.change_cell.Goals as goal
 
 pub returns-in_err-tail-clause-any_moment : goal.returns-in_err-tail-clause-any_moment
@@ -31,52 +31,24 @@ returns-in_err-shut_spare-clause-still g c tells no_memory =
 
 pub returns-in_err-write_gate-clause-any_moment : goal.returns-in_err-write_gate-clause-any_moment
 returns-in_err-write_gate-clause-any_moment g c tells =
-    let cell = c.args.cell.now in
-    let cell1 = c.shut_spare.new.cell in
-    let i = c.args.index in
-    let old = g.D.Disk.seen c.args.disk.now in
-    let mid1 = g.D.Disk.seen c.shut_spare.new.disk in
-    let mid2 = g.D.Disk.seen c.write_spare.new.disk in
-    let shuts = c.in_ok-shut_spare.ensures.shut in
-    let staged : HoldsTail mid2 i cell1 c.args.payload.items =
-    c.in_ok-write_spare.ensures.tail tells ∙ c.deref-2.ensures.value ∙ c.in_ok-tail.ensures
-    ∙ ap (λ (n : ℕ). tail_of n c.deref.result.now) (c.next.ensures.value ∙ ap next (sym shuts.number))
-    ∙ ap (λ (l : List ℕ). tail_of (next cell1.number) l) c.deref.ensures.value in
-    three_steps g.D.Disk.moment g.D.Disk.left_since c.args.disk.now c.shut_spare.new.disk c.write_spare.new.disk c.write_gate.new.disk old mid1 mid2 c.args.payload.items i c.spare_frame.result cell cell1 shuts
-    (c.in_ok-write_spare.ensures.held tells) c.requires.fits staged c.spare_frame.ensures (c.in_ok-shut_spare.ensures.others tells) (c.in_ok-write_spare.ensures.others tells)
-    (c.shut_spare.ensures.any_moment tells) (c.write_spare.ensures.any_moment tells) (c.write_gate.ensures.any_moment tells)
+    three_steps c.in_ok-shut_spare.ensures.shut (c.shut_spare.ensures.any_moment tells) (c.write_spare.ensures.any_moment tells) (c.write_gate.ensures.any_moment tells) (c.in_ok-write_spare.ensures.held tells) c.requires.fits
+    (tail_stands (g.D.Disk.seen c.write_spare.new.disk) c.args.index c.in_ok-shut_spare.ensures.shut (c.in_ok-write_spare.ensures.tail tells) c.deref-2.ensures.value c.in_ok-tail.ensures c.next.ensures.value c.deref.ensures.value)
+    c.spare_frame.ensures (c.in_ok-shut_spare.ensures.others tells) (c.in_ok-write_spare.ensures.others tells)
 
 pub returns-clause-any_moment : goal.returns-clause-any_moment
 returns-clause-any_moment g c tells =
-    let cell = c.args.cell.now in
-    let cell1 = c.shut_spare.new.cell in
-    let i = c.args.index in
-    let old = g.D.Disk.seen c.args.disk.now in
-    let mid1 = g.D.Disk.seen c.shut_spare.new.disk in
-    let mid2 = g.D.Disk.seen c.write_spare.new.disk in
-    let shuts = c.in_ok-shut_spare.ensures.shut in
-    let staged : HoldsTail mid2 i cell1 c.args.payload.items =
-    c.in_ok-write_spare.ensures.tail tells ∙ c.deref-2.ensures.value ∙ c.in_ok-tail.ensures
-    ∙ ap (λ (n : ℕ). tail_of n c.deref.result.now) (c.next.ensures.value ∙ ap next (sym shuts.number))
-    ∙ ap (λ (l : List ℕ). tail_of (next cell1.number) l) c.deref.ensures.value in
-    three_steps g.D.Disk.moment g.D.Disk.left_since c.args.disk.now c.shut_spare.new.disk c.write_spare.new.disk c.write_gate.new.disk old mid1 mid2 c.args.payload.items i c.spare_frame.result cell cell1 shuts
-    (c.in_ok-write_spare.ensures.held tells) c.requires.fits staged c.spare_frame.ensures (c.in_ok-shut_spare.ensures.others tells) (c.in_ok-write_spare.ensures.others tells)
-    (c.shut_spare.ensures.any_moment tells) (c.write_spare.ensures.any_moment tells) (c.write_gate.ensures.any_moment tells)
+    three_steps c.in_ok-shut_spare.ensures.shut (c.shut_spare.ensures.any_moment tells) (c.write_spare.ensures.any_moment tells) (c.write_gate.ensures.any_moment tells) (c.in_ok-write_spare.ensures.held tells) c.requires.fits
+    (tail_stands (g.D.Disk.seen c.write_spare.new.disk) c.args.index c.in_ok-shut_spare.ensures.shut (c.in_ok-write_spare.ensures.tail tells) c.deref-2.ensures.value c.in_ok-tail.ensures c.next.ensures.value c.deref.ensures.value)
+    c.spare_frame.ensures (c.in_ok-shut_spare.ensures.others tells) (c.in_ok-write_spare.ensures.others tells)
 
 pub returns-clause-held : goal.returns-clause-held
 returns-clause-held g c tells =
-    let cell = c.args.cell.now in
-    let cell1 = c.shut_spare.new.cell in
     let i = c.args.index in
-    let old = g.D.Disk.seen c.args.disk.now in
-    let mid1 = g.D.Disk.seen c.shut_spare.new.disk in
+    let cell1 = c.shut_spare.new.cell in
     let mid2 = g.D.Disk.seen c.write_spare.new.disk in
-    let shuts = c.in_ok-shut_spare.ensures.shut in
-    let staged : HoldsTail mid2 i cell1 c.args.payload.items =
-    c.in_ok-write_spare.ensures.tail tells ∙ c.deref-2.ensures.value ∙ c.in_ok-tail.ensures
-    ∙ ap (λ (n : ℕ). tail_of n c.deref.result.now) (c.next.ensures.value ∙ ap next (sym shuts.number))
-    ∙ ap (λ (l : List ℕ). tail_of (next cell1.number) l) c.deref.ensures.value in
     let new = g.D.Disk.seen c.write_gate.new.disk in
+    let staged : HoldsTail mid2 i cell1 c.args.payload.items =
+    tail_stands mid2 i c.in_ok-shut_spare.ensures.shut (c.in_ok-write_spare.ensures.tail tells) c.deref-2.ensures.value c.in_ok-tail.ensures c.next.ensures.value c.deref.ensures.value in
     held_opened cell1 mid2 i (c.in_ok-write_spare.ensures.held tells) c.turn.new.cell new c.args.payload.items c.requires.fits staged
     (subst (λ (k : ℕ). Others k mid2 new) c.spare_frame.ensures (c.in_ok-write_gate.ensures.others tells))
     (subst (λ (k : ℕ). frame_at new k ≡ 1 ∷ drop 1 (frame_at mid2 k)) c.spare_frame.ensures (c.in_ok-write_gate.ensures.held tells)) c.turn.ensures

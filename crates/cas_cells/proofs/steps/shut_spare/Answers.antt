@@ -1,10 +1,10 @@
 use Rattle.std.proofs.Common.{◌≡◌, true, ◌∷◌, drop, refl, sym, subst, arith, ℕ, List}
 use Rattle.std.proofs.lemmas.Grind.{common_steps}
-use Rattle.cas_disk.proofs.Moments.{started, weaker}
+use Rattle.cas_disk.proofs.Moments.{started}
 use Rattle.cas_cells.specs.Format.{frame_at}
-use Rattle.cas_cells.specs.Torn.{Others, GateTorn}
+use Rattle.cas_cells.specs.Torn.{Others}
 use Rattle.cas_cells.specs.Held.{Leaves, payload_held, frame_of, other}
-use Rattle.cas_cells.proofs.Leaving.{leaves_same, leaves_gate, held_closed}
+use Rattle.cas_cells.proofs.Leaving.{leaves_same, closing, held_closed}
 use Rattle.cas_cells.proofs.steps.shut_spare.Goals as goal
 
 pub returns-then-not-cell-clause-any_moment : goal.returns-then-not-cell-clause-any_moment
@@ -17,19 +17,13 @@ returns-then-not-cell-clause-any_moment g c tells =
 
 pub returns-in_err-write_gate-clause-any_moment : goal.returns-in_err-write_gate-clause-any_moment
 returns-in_err-write_gate-clause-any_moment g c tells =
-    let old = g.D.Disk.seen c.args.disk.now in
-    let cell = c.args.cell.now in
-    let opened : cell.spare_open ≡ true = grind (arith, common_steps) in
-    weaker g.D.Disk.moment g.D.Disk.left_since c.args.disk.now c.write_gate.new.disk (GateTorn c.spare_frame.result old) (Leaves (frame_of c.args.index (other cell.side)) old c.args.index (payload_held cell))
-    (λ image torn. leaves_gate cell old c.args.index (c.requires.held tells) image opened (subst (λ (k : ℕ). GateTorn k old image) c.spare_frame.ensures torn)) (c.write_gate.ensures.any_moment tells)
+    let opened : c.args.cell.now.spare_open ≡ true = grind (arith, common_steps) in
+    closing c.args.cell.now (g.D.Disk.seen c.args.disk.now) c.args.index (c.requires.held tells) opened c.spare_frame.ensures (c.write_gate.ensures.any_moment tells)
 
 pub returns-clause-any_moment : goal.returns-clause-any_moment
 returns-clause-any_moment g c tells =
-    let old = g.D.Disk.seen c.args.disk.now in
-    let cell = c.args.cell.now in
-    let opened : cell.spare_open ≡ true = grind (arith, common_steps) in
-    weaker g.D.Disk.moment g.D.Disk.left_since c.args.disk.now c.write_gate.new.disk (GateTorn c.spare_frame.result old) (Leaves (frame_of c.args.index (other cell.side)) old c.args.index (payload_held cell))
-    (λ image torn. leaves_gate cell old c.args.index (c.requires.held tells) image opened (subst (λ (k : ℕ). GateTorn k old image) c.spare_frame.ensures torn)) (c.write_gate.ensures.any_moment tells)
+    let opened : c.args.cell.now.spare_open ≡ true = grind (arith, common_steps) in
+    closing c.args.cell.now (g.D.Disk.seen c.args.disk.now) c.args.index (c.requires.held tells) opened c.spare_frame.ensures (c.write_gate.ensures.any_moment tells)
 
 pub returns-clause-held : goal.returns-clause-held
 returns-clause-held g c tells =

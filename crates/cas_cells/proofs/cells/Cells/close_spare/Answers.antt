@@ -1,14 +1,11 @@
 use Rattle.std.proofs.Common.{◌≡◌, Some, Err, false, refl, sym, ◌∙◌, ap, subst}
-use Rattle.cas_disk.proofs.Moments.{weaker}
-use Rattle.cas_cells.specs.Format.{StandsFor}
-use Rattle.cas_cells.specs.Held.{Leaves, payload_held, frame_of, other}
-use Rattle.cas_cells.specs.Cells.{cells_of}
+use Rattle.cas_cells.specs.Held.{other}
 use Rattle.std.proofs.Math.ListN.{set}
 use Rattle.cas_disk.specs.declared.disk.DiskFault.{DiskFault}
 use Rattle.cas_cells.specs.declared.cell.Cell.{Cell}
 use Rattle.cas_cells.proofs.Rows.{disk_set, get_set_same}
-use Rattle.cas_cells.proofs.Using.{told_no_memory, within_row, at_index, set_own, view_same, leaves_stand, stands_kept}
-use Rattle.cas_cells.proofs.Lengths.{step_no_longer}
+use Rattle.cas_cells.proofs.Using.{told_no_memory, within_row, at_index, set_own, view_same, stands_kept}
+use Rattle.cas_cells.proofs.Stepping.{step_stands, step_length}
 use Rattle.cas_cells.proofs.cells.Cells.close_spare.Goals as goal
 
 pub shut_spare-requires-clause-held : goal.shut_spare-requires-clause-held
@@ -18,22 +15,10 @@ shut_spare-requires-clause-held g c tells =
     s.on_disk tells c.args.cell c.index_mut-held.result.now is
 
 pub returns-in_err-shut_spare-clause-any_moment : goal.returns-in_err-shut_spare-clause-any_moment
-returns-in_err-shut_spare-clause-any_moment g c tells =
-    let s = c.requires.stands in
-    let cell = c.index_mut-held.result.now in
-    let old = g.D.Disk.seen c.args.self.now.disk in
-    let is = at_index c.args.self.now.cells.items c.args.cell cell s.row c.requires.within c.index_mut-held.ensures.value in
-    weaker g.D.Disk.moment g.D.Disk.left_since c.args.self.now.disk c.shut_spare.new.disk (Leaves (frame_of c.args.cell (other cell.side)) old c.args.cell (payload_held cell)) (StandsFor (cells_of c.args.self.now))
-    (λ image leaves. leaves_stand c.args.self.now.cells.items old image c.args.cell cell (s.on_disk tells) s.row is leaves) (c.shut_spare.ensures.any_moment tells)
+returns-in_err-shut_spare-clause-any_moment g c tells = step_stands c.requires.stands tells c.args.cell c.index_mut-held.result.now c.requires.within c.index_mut-held.ensures.value (c.shut_spare.ensures.any_moment tells)
 
 pub returns-clause-any_moment : goal.returns-clause-any_moment
-returns-clause-any_moment g c tells =
-    let s = c.requires.stands in
-    let cell = c.index_mut-held.result.now in
-    let old = g.D.Disk.seen c.args.self.now.disk in
-    let is = at_index c.args.self.now.cells.items c.args.cell cell s.row c.requires.within c.index_mut-held.ensures.value in
-    weaker g.D.Disk.moment g.D.Disk.left_since c.args.self.now.disk c.shut_spare.new.disk (Leaves (frame_of c.args.cell (other cell.side)) old c.args.cell (payload_held cell)) (StandsFor (cells_of c.args.self.now))
-    (λ image leaves. leaves_stand c.args.self.now.cells.items old image c.args.cell cell (s.on_disk tells) s.row is leaves) (c.shut_spare.ensures.any_moment tells)
+returns-clause-any_moment g c tells = step_stands c.requires.stands tells c.args.cell c.index_mut-held.result.now c.requires.within c.index_mut-held.ensures.value (c.shut_spare.ensures.any_moment tells)
 
 pub returns-clause-cells : goal.returns-clause-cells
 returns-clause-cells g c =
@@ -71,21 +56,7 @@ returns-clause-stands g c =
     }
 
 pub returns-in_err-shut_spare-clause-length : goal.returns-in_err-shut_spare-clause-length
-returns-in_err-shut_spare-clause-length g c tells =
-    let s = c.requires.stands in
-    let disk = c.args.self.now.disk in
-    let i = c.args.cell in
-    let cell = c.index_mut-held.result.now in
-    let is = at_index c.args.self.now.cells.items i cell s.row c.requires.within c.index_mut-held.ensures.value in
-    step_no_longer g.D.Disk.moment g.D.Disk.left_since g.D.Disk.may_leave disk c.shut_spare.new.disk (g.D.Disk.seen disk) i cell (payload_held cell)
-    (g.met.D.Disk.seen_may_stay disk tells) (s.on_disk tells i cell is) (c.shut_spare.ensures.any_moment tells)
+returns-in_err-shut_spare-clause-length g c tells = step_length c.requires.stands tells c.args.cell c.index_mut-held.result.now c.requires.within c.index_mut-held.ensures.value (g.met.D.Disk.seen_may_stay c.args.self.now.disk tells) (c.shut_spare.ensures.any_moment tells)
 
 pub returns-clause-length : goal.returns-clause-length
-returns-clause-length g c tells =
-    let s = c.requires.stands in
-    let disk = c.args.self.now.disk in
-    let i = c.args.cell in
-    let cell = c.index_mut-held.result.now in
-    let is = at_index c.args.self.now.cells.items i cell s.row c.requires.within c.index_mut-held.ensures.value in
-    step_no_longer g.D.Disk.moment g.D.Disk.left_since g.D.Disk.may_leave disk c.shut_spare.new.disk (g.D.Disk.seen disk) i cell (payload_held cell)
-    (g.met.D.Disk.seen_may_stay disk tells) (s.on_disk tells i cell is) (c.shut_spare.ensures.any_moment tells)
+returns-clause-length g c tells = step_length c.requires.stands tells c.args.cell c.index_mut-held.result.now c.requires.within c.index_mut-held.ensures.value (g.met.D.Disk.seen_may_stay c.args.self.now.disk tells) (c.shut_spare.ensures.any_moment tells)

@@ -3,7 +3,7 @@ use Rattle.std.proofs.lemmas.Grind.{common_steps}
 use Rattle.cas_cells.specs.Held.{IsRow, OnDisk, payload_held}
 use Rattle.cas_cells.specs.declared.cell.Cell.{Cell}
 use Rattle.cas_cells.proofs.Using.{blank_stands, only_cell}
-use Rattle.cas_cells.proofs.Lengths.{within_more, then_no_longer, opening_no_longer}
+use Rattle.cas_cells.proofs.Stepping.{formatting_length}
 use Rattle.cas_cells.proofs.cells.Cells.format.Goals as goal
 
 pub change_cell-requires-clause-held : goal.change_cell-requires-clause-held
@@ -28,30 +28,12 @@ returns-clause-stands g c =
 
 pub returns-in_err-change_cell-clause-length : goal.returns-in_err-change_cell-clause-length
 returns-in_err-change_cell-clause-length g c tells =
-    let disk = c.args.self.now.disk in
     let mid = c.write_blank.new.disk in
-    let new = c.change_cell.new.disk in
-    let cell = c.blank-cell.result in
-    let shut = c.in_ok-write_blank.ensures.blank tells in
-    let held = blank_stands (g.D.Disk.seen mid) 0 cell c.blank-cell.ensures.blank c.blank-cell.ensures.none shut.0 shut.1 in
-    then_no_longer g.D.Disk.moment g.D.Disk.left_since g.D.Disk.may_leave disk mid new 1024
-    (λ image later left. g.met.D.Disk.counts_now mid (g.D.Disk.moment disk) image tells later left)
-    (c.write_blank.ensures.length tells)
-    (within_more g.D.Disk.moment g.D.Disk.left_since g.D.Disk.may_leave mid new 0 1024 (omega arith)
-    (opening_no_longer g.D.Disk.moment g.D.Disk.left_since g.D.Disk.may_leave mid new (g.D.Disk.seen mid) 0 cell (payload_held cell) c.in_ok-payload.payload.items
-    (g.met.D.Disk.seen_may_stay mid tells) held (c.change_cell.ensures.any_moment tells)))
+    formatting_length c.blank-cell.ensures.blank c.blank-cell.ensures.none (c.in_ok-write_blank.ensures.blank tells) (λ image later left. g.met.D.Disk.counts_now mid (g.D.Disk.moment c.args.self.now.disk) image tells later left)
+    (g.met.D.Disk.seen_may_stay mid tells) (c.write_blank.ensures.length tells) (c.change_cell.ensures.any_moment tells)
 
 pub returns-clause-length : goal.returns-clause-length
 returns-clause-length g c tells =
-    let disk = c.args.self.now.disk in
     let mid = c.write_blank.new.disk in
-    let new = c.change_cell.new.disk in
-    let cell = c.blank-cell.result in
-    let shut = c.in_ok-write_blank.ensures.blank tells in
-    let held = blank_stands (g.D.Disk.seen mid) 0 cell c.blank-cell.ensures.blank c.blank-cell.ensures.none shut.0 shut.1 in
-    then_no_longer g.D.Disk.moment g.D.Disk.left_since g.D.Disk.may_leave disk mid new 1024
-    (λ image later left. g.met.D.Disk.counts_now mid (g.D.Disk.moment disk) image tells later left)
-    (c.write_blank.ensures.length tells)
-    (within_more g.D.Disk.moment g.D.Disk.left_since g.D.Disk.may_leave mid new 0 1024 (omega arith)
-    (opening_no_longer g.D.Disk.moment g.D.Disk.left_since g.D.Disk.may_leave mid new (g.D.Disk.seen mid) 0 cell (payload_held cell) c.in_ok-payload.payload.items
-    (g.met.D.Disk.seen_may_stay mid tells) held (c.change_cell.ensures.any_moment tells)))
+    formatting_length c.blank-cell.ensures.blank c.blank-cell.ensures.none (c.in_ok-write_blank.ensures.blank tells) (λ image later left. g.met.D.Disk.counts_now mid (g.D.Disk.moment c.args.self.now.disk) image tells later left)
+    (g.met.D.Disk.seen_may_stay mid tells) (c.write_blank.ensures.length tells) (c.change_cell.ensures.any_moment tells)

@@ -1,18 +1,16 @@
-use Rattle.std.proofs.Common.{◌≡◌, ◌⊎◌, ◌<◌, Some, Err, Option, false, true, map, length, sym, ◌∙◌, ap, subst, ℕ, List}
+use Rattle.std.proofs.Common.{◌≡◌, ◌<◌, Some, Err, Option, false, true, map, length, sym, ◌∙◌, ap, subst, ℕ, List}
 use Rattle.std.proofs.Math.ListN.{set}
 use Rattle.cas_disk.specs.declared.disk.DiskFault.{DiskFault}
 use Rattle.cas_disk.specs.declared.disk.DiskFault.TheVariants.{NoMemory as NoMemoryOfDisk}
-use Rattle.cas_disk.proofs.Moments.{weaker}
-use Rattle.cas_cells.specs.Format.{StandsFor, IsBeforeOrAfter}
 use Rattle.cas_cells.specs.UnderWay.{change_held, staged_in}
-use Rattle.cas_cells.specs.Held.{MayOpen, HoldsTail, Opens, IsRow, payload_held, frame_of, other}
+use Rattle.cas_cells.specs.Held.{HoldsTail, Opens, IsRow, payload_held, other}
 use Rattle.cas_cells.specs.Cells.{staged_of, Agrees, IsUnderWay}
 use Rattle.cas_cells.specs.declared.cell.Cell.{Cell}
 use Rattle.cas_cells.specs.declared.change.Change.{Change}
 use Rattle.cas_cells.specs.declared.fault.CellFault.TheVariants.{NoMemory}
 use Rattle.cas_cells.proofs.Rows.{disk_set, disk_kept, map_set}
-use Rattle.cas_cells.proofs.Using.{no_memory_of_disk, within_row, at_index, may_open_stands, row_changed, same_cell}
-use Rattle.cas_cells.proofs.Lengths.{opening_no_longer}
+use Rattle.cas_cells.proofs.Using.{no_memory_of_disk, within_row, at_index, row_changed, same_cell}
+use Rattle.cas_cells.proofs.Stepping.{opening_stands, opening_length}
 use Rattle.cas_cells.proofs.cells.Cells.open_spare.Goals as goal
 
 pub open_spare-answer-requires-clause-held : goal.open_spare-answer-requires-clause-held
@@ -67,39 +65,11 @@ returns-in-Err-clause-after_no_memory g c no_memory =
 
 pub returns-in-Err-clause-any_moment : goal.returns-in-Err-clause-any_moment
 returns-in-Err-clause-any_moment g c tells =
-    let s = c.requires.stands in
-    let i = c.args.cell in
-    let cells = c.args.self.now.cells.items in
-    let view = map payload_held cells in
-    let old = g.D.Disk.seen c.args.self.now.disk in
-    let cell = c.index-held.result.now in
-    let p = c.take_staged-staged.result.payload.items in
-    let is = at_index cells i cell s.row c.requires.within c.index-held.ensures in
-    let agrees = subst (λ (ch : Option Change). Agrees (change_held ch) view) c.take_staged-staged.ensures.taken s.agrees in
-    let named : staged_of c.args.self.now ≡ p = ap (λ (ch : Option Change). staged_in (change_held ch)) c.take_staged-staged.ensures.taken in
-    weaker g.D.Disk.moment g.D.Disk.left_since c.args.self.now.disk c.open_spare-answer.new.disk (MayOpen (frame_of i (other cell.side)) old i (payload_held cell) c.deref.result.now) (IsBeforeOrAfter view (set view i (Some (staged_of c.args.self.now))))
-    (λ image opens. subst (λ (q : List ℕ). StandsFor view image ⊎ StandsFor (set view i (Some q)) image) (sym named)
-    (may_open_stands cells old image i cell p (s.on_disk tells) s.row is (within_row cells i s.row c.requires.within) (row_changed view i p s.row agrees.1)
-    (subst (λ (q : List ℕ). MayOpen (frame_of i (other cell.side)) old i (payload_held cell) q image) c.deref.ensures.value opens)))
-    (c.open_spare-answer.ensures.any_moment tells)
+    opening_stands c.requires.stands tells c.args.cell c.index-held.result.now c.take_staged-staged.result c.deref.result.now c.requires.within c.index-held.ensures c.take_staged-staged.ensures.taken c.deref.ensures.value (c.open_spare-answer.ensures.any_moment tells)
 
 pub returns-clause-any_moment : goal.returns-clause-any_moment
 returns-clause-any_moment g c tells =
-    let s = c.requires.stands in
-    let i = c.args.cell in
-    let cells = c.args.self.now.cells.items in
-    let view = map payload_held cells in
-    let old = g.D.Disk.seen c.args.self.now.disk in
-    let cell = c.index-held.result.now in
-    let p = c.take_staged-staged.result.payload.items in
-    let is = at_index cells i cell s.row c.requires.within c.index-held.ensures in
-    let agrees = subst (λ (ch : Option Change). Agrees (change_held ch) view) c.take_staged-staged.ensures.taken s.agrees in
-    let named : staged_of c.args.self.now ≡ p = ap (λ (ch : Option Change). staged_in (change_held ch)) c.take_staged-staged.ensures.taken in
-    weaker g.D.Disk.moment g.D.Disk.left_since c.args.self.now.disk c.open_spare-answer.new.disk (MayOpen (frame_of i (other cell.side)) old i (payload_held cell) c.deref.result.now) (IsBeforeOrAfter view (set view i (Some (staged_of c.args.self.now))))
-    (λ image opens. subst (λ (q : List ℕ). StandsFor view image ⊎ StandsFor (set view i (Some q)) image) (sym named)
-    (may_open_stands cells old image i cell p (s.on_disk tells) s.row is (within_row cells i s.row c.requires.within) (row_changed view i p s.row agrees.1)
-    (subst (λ (q : List ℕ). MayOpen (frame_of i (other cell.side)) old i (payload_held cell) q image) c.deref.ensures.value opens)))
-    (c.open_spare-answer.ensures.any_moment tells)
+    opening_stands c.requires.stands tells c.args.cell c.index-held.result.now c.take_staged-staged.result c.deref.result.now c.requires.within c.index-held.ensures c.take_staged-staged.ensures.taken c.deref.ensures.value (c.open_spare-answer.ensures.any_moment tells)
 
 pub returns-clause-changed : goal.returns-clause-changed
 returns-clause-changed g c =
@@ -136,21 +106,7 @@ returns-clause-stands g c =
     }
 
 pub returns-in-Err-clause-length : goal.returns-in-Err-clause-length
-returns-in-Err-clause-length g c tells =
-    let s = c.requires.stands in
-    let disk = c.args.self.now.disk in
-    let i = c.args.cell in
-    let cell = c.index-held.result.now in
-    let is = at_index c.args.self.now.cells.items i cell s.row c.requires.within c.index-held.ensures in
-    opening_no_longer g.D.Disk.moment g.D.Disk.left_since g.D.Disk.may_leave disk c.open_spare-answer.new.disk (g.D.Disk.seen disk) i cell (payload_held cell) c.deref.result.now
-    (g.met.D.Disk.seen_may_stay disk tells) (s.on_disk tells i cell is) (c.open_spare-answer.ensures.any_moment tells)
+returns-in-Err-clause-length g c tells = opening_length c.requires.stands tells c.args.cell c.index-held.result.now c.deref.result.now c.requires.within c.index-held.ensures (g.met.D.Disk.seen_may_stay c.args.self.now.disk tells) (c.open_spare-answer.ensures.any_moment tells)
 
 pub returns-clause-length : goal.returns-clause-length
-returns-clause-length g c tells =
-    let s = c.requires.stands in
-    let disk = c.args.self.now.disk in
-    let i = c.args.cell in
-    let cell = c.index-held.result.now in
-    let is = at_index c.args.self.now.cells.items i cell s.row c.requires.within c.index-held.ensures in
-    opening_no_longer g.D.Disk.moment g.D.Disk.left_since g.D.Disk.may_leave disk c.open_spare-answer.new.disk (g.D.Disk.seen disk) i cell (payload_held cell) c.deref.result.now
-    (g.met.D.Disk.seen_may_stay disk tells) (s.on_disk tells i cell is) (c.open_spare-answer.ensures.any_moment tells)
+returns-clause-length g c tells = opening_length c.requires.stands tells c.args.cell c.index-held.result.now c.deref.result.now c.requires.within c.index-held.ensures (g.met.D.Disk.seen_may_stay c.args.self.now.disk tells) (c.open_spare-answer.ensures.any_moment tells)

@@ -1,29 +1,20 @@
 use Rattle.std.proofs.Common.{◌≡◌, Err, false, true, refl, sym, ◌∙◌, ap, subst, arith, ℕ, List}
 use Rattle.std.proofs.lemmas.Grind.{common_steps}
 use Rattle.cas_disk.specs.declared.disk.DiskFault.{DiskFault}
-use Rattle.cas_disk.proofs.Moments.{at_rest, weaker}
 use Rattle.cas_cells.specs.Format.{StandsFor, IsPayload, count_told, next}
-use Rattle.cas_cells.specs.Held.{Leaves, HoldsTail, payload_held, frame_of, other, tail_of}
+use Rattle.cas_cells.specs.Held.{HoldsTail, other, tail_of}
 use Rattle.cas_cells.specs.Cells.{cells_of}
 use Rattle.cas_cells.specs.declared.cell.Cell.{Cell}
 use Rattle.cas_cells.proofs.Rows.{disk_kept}
-use Rattle.cas_cells.proofs.Using.{told_no_memory, at_index, leaves_stand, stands_kept, stands_now, shut_under_way, same_cell}
-use Rattle.cas_cells.proofs.Lengths.{step_no_longer}
+use Rattle.cas_cells.proofs.Using.{told_no_memory, at_index, stands_kept, shut_under_way, same_cell}
+use Rattle.cas_cells.proofs.Stepping.{rests, step_stands, step_length}
 use Rattle.cas_cells.proofs.cells.Cells.write_spare.Goals as goal
 
 pub returns-in_err-tail-clause-any_moment : goal.returns-in_err-tail-clause-any_moment
-returns-in_err-tail-clause-any_moment g c tells =
-    let s = c.requires.stands in
-    let disk = c.args.self.now.disk in
-    at_rest g.D.Disk.moment g.D.Disk.left_since disk (g.D.Disk.seen disk) (g.D.Disk.may_leave disk) (StandsFor (cells_of c.args.self.now))
-    (λ image left. g.met.D.Disk.only_now disk image tells left) (s.durable tells) (stands_now g.D.Disk.tells g.D.Disk.seen g.D.Disk.may_leave c.args.self.now s tells)
+returns-in_err-tail-clause-any_moment g c tells = rests c.requires.stands tells (StandsFor (cells_of c.args.self.now)) (λ now. now) (λ image left. g.met.D.Disk.only_now c.args.self.now.disk image tells left)
 
 pub returns-in_err-payload-clause-any_moment : goal.returns-in_err-payload-clause-any_moment
-returns-in_err-payload-clause-any_moment g c tells =
-    let s = c.requires.stands in
-    let disk = c.args.self.now.disk in
-    at_rest g.D.Disk.moment g.D.Disk.left_since disk (g.D.Disk.seen disk) (g.D.Disk.may_leave disk) (StandsFor (cells_of c.args.self.now))
-    (λ image left. g.met.D.Disk.only_now disk image tells left) (s.durable tells) (stands_now g.D.Disk.tells g.D.Disk.seen g.D.Disk.may_leave c.args.self.now s tells)
+returns-in_err-payload-clause-any_moment g c tells = rests c.requires.stands tells (StandsFor (cells_of c.args.self.now)) (λ now. now) (λ image left. g.met.D.Disk.only_now c.args.self.now.disk image tells left)
 
 pub write_spare-requires-clause-held : goal.write_spare-requires-clause-held
 write_spare-requires-clause-held g c tells =
@@ -44,22 +35,10 @@ returns-in_err-write_spare-clause-after_no_memory g c no_memory =
     (λ tells. c.write_spare.ensures.unchanged tells (c.in_err-write_spare.was ∙ ap (λ (e : DiskFault). Err e) fault))
 
 pub returns-in_err-write_spare-clause-any_moment : goal.returns-in_err-write_spare-clause-any_moment
-returns-in_err-write_spare-clause-any_moment g c tells =
-    let s = c.requires.stands in
-    let cell = c.index-held.result.now in
-    let old = g.D.Disk.seen c.args.self.now.disk in
-    let is = at_index c.args.self.now.cells.items c.args.cell cell s.row c.requires.within c.index-held.ensures in
-    weaker g.D.Disk.moment g.D.Disk.left_since c.args.self.now.disk c.write_spare.new.disk (Leaves (frame_of c.args.cell (other cell.side)) old c.args.cell (payload_held cell)) (StandsFor (cells_of c.args.self.now))
-    (λ image leaves. leaves_stand c.args.self.now.cells.items old image c.args.cell cell (s.on_disk tells) s.row is leaves) (c.write_spare.ensures.any_moment tells)
+returns-in_err-write_spare-clause-any_moment g c tells = step_stands c.requires.stands tells c.args.cell c.index-held.result.now c.requires.within c.index-held.ensures (c.write_spare.ensures.any_moment tells)
 
 pub returns-clause-any_moment : goal.returns-clause-any_moment
-returns-clause-any_moment g c tells =
-    let s = c.requires.stands in
-    let cell = c.index-held.result.now in
-    let old = g.D.Disk.seen c.args.self.now.disk in
-    let is = at_index c.args.self.now.cells.items c.args.cell cell s.row c.requires.within c.index-held.ensures in
-    weaker g.D.Disk.moment g.D.Disk.left_since c.args.self.now.disk c.write_spare.new.disk (Leaves (frame_of c.args.cell (other cell.side)) old c.args.cell (payload_held cell)) (StandsFor (cells_of c.args.self.now))
-    (λ image leaves. leaves_stand c.args.self.now.cells.items old image c.args.cell cell (s.on_disk tells) s.row is leaves) (c.write_spare.ensures.any_moment tells)
+returns-clause-any_moment g c tells = step_stands c.requires.stands tells c.args.cell c.index-held.result.now c.requires.within c.index-held.ensures (c.write_spare.ensures.any_moment tells)
 
 pub returns-clause-stands : goal.returns-clause-stands
 returns-clause-stands g c =
@@ -85,21 +64,7 @@ returns-clause-stands g c =
     }
 
 pub returns-in_err-write_spare-clause-length : goal.returns-in_err-write_spare-clause-length
-returns-in_err-write_spare-clause-length g c tells =
-    let s = c.requires.stands in
-    let disk = c.args.self.now.disk in
-    let i = c.args.cell in
-    let cell = c.index-held.result.now in
-    let is = at_index c.args.self.now.cells.items i cell s.row c.requires.within c.index-held.ensures in
-    step_no_longer g.D.Disk.moment g.D.Disk.left_since g.D.Disk.may_leave disk c.write_spare.new.disk (g.D.Disk.seen disk) i cell (payload_held cell)
-    (g.met.D.Disk.seen_may_stay disk tells) (s.on_disk tells i cell is) (c.write_spare.ensures.any_moment tells)
+returns-in_err-write_spare-clause-length g c tells = step_length c.requires.stands tells c.args.cell c.index-held.result.now c.requires.within c.index-held.ensures (g.met.D.Disk.seen_may_stay c.args.self.now.disk tells) (c.write_spare.ensures.any_moment tells)
 
 pub returns-clause-length : goal.returns-clause-length
-returns-clause-length g c tells =
-    let s = c.requires.stands in
-    let disk = c.args.self.now.disk in
-    let i = c.args.cell in
-    let cell = c.index-held.result.now in
-    let is = at_index c.args.self.now.cells.items i cell s.row c.requires.within c.index-held.ensures in
-    step_no_longer g.D.Disk.moment g.D.Disk.left_since g.D.Disk.may_leave disk c.write_spare.new.disk (g.D.Disk.seen disk) i cell (payload_held cell)
-    (g.met.D.Disk.seen_may_stay disk tells) (s.on_disk tells i cell is) (c.write_spare.ensures.any_moment tells)
+returns-clause-length g c tells = step_length c.requires.stands tells c.args.cell c.index-held.result.now c.requires.within c.index-held.ensures (g.met.D.Disk.seen_may_stay c.args.self.now.disk tells) (c.write_spare.ensures.any_moment tells)
