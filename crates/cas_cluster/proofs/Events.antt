@@ -46,7 +46,7 @@ use Rattle.cas_cluster.specs.Acceptors.{told_of, IsAcceptedState, Tells, IsMadeS
 use Rattle.cas_cluster.specs.Desks.{IsRiding}
 use Rattle.cas_cluster.specs.Laws.{GoesOn}
 use Rattle.cas_cluster.specs.Proposers.{IsReplyTrue, AreRepliesTrue, AreFloorsClear, state_read}
-use Rattle.cas_cluster.specs.Protocol.{Made, Net, kept_but, AllReplied, HasMade, IsMadeAsk, IsPrepared, IsPreparedByRide, is_done, IsLeaving, Begins, Draws, Asks, Answers, StopsWithin, Proposes, ProposesByRide, Counts, EndsDone, EndsElse, Harms, TellsOperator, Buries, Enters, MarksEra, Run, opened, then, IsMadeOf, Knows, HasHistory, EventsKeepHistory, RunsAreLegal}
+use Rattle.cas_cluster.specs.Protocol.{Made, GlobalState, kept_but, AllReplied, HasMade, IsMadeAsk, IsPrepared, IsPreparedByRide, is_done, IsLeaving, Begins, Draws, Asks, Answers, StopsWithin, Proposes, ProposesByRide, Counts, EndsDone, EndsElse, Harms, TellsOperator, MakesFloor, Enters, MarksEra, Run, opened, then, IsMadeOf, Knows, HasHistory, EventsKeepHistory, RunsAreLegal}
 use Rattle.cas_cluster.proofs.Answered.{answers, deeds}
 use Rattle.cas_cluster.proofs.Growing.{made_grows, ask_grows}
 use Rattle.cas_cluster.proofs.Known as known
@@ -129,33 +129,33 @@ knows_more cluster h log all lawful orderly good knows = record {
 
 -- ---- one happening
 -- the cluster after something that is no deed of an acceptor
-goes_on : (cluster : Cluster) (net : Net) (h : Happening) → HasHistory cluster net → May cluster net.log h → HasReason cluster net.log h → ((id : ℕ) → IsElsewhere id h) → IsGood net.log h
-    → HasHistory cluster (record { log = h ∷ net.log; kept = net.kept; made = net.made })
-goes_on cluster net h history may reason elsewhere good = record {
+goes_on : (cluster : Cluster) (global : GlobalState) (h : Happening) → HasHistory cluster global → May cluster global.log h → HasReason cluster global.log h → ((id : ℕ) → IsElsewhere id h) → IsGood global.log h
+    → HasHistory cluster (record { log = h ∷ global.log; kept = global.kept; made = global.made })
+goes_on cluster global h history may reason elsewhere good = record {
   lawful = (history.lawful, may);
   orderly = (history.orderly, reason);
-  tells = λ id. tells_still cluster h net.log id (net.kept id) (history.lawful, may) (elsewhere id) (history.tells id);
-  knows = knows_more cluster h net.log net.made (history.lawful, may) (history.orderly, reason) good history.knows;
+  tells = λ id. tells_still cluster h global.log id (global.kept id) (history.lawful, may) (elsewhere id) (history.tells id);
+  knows = knows_more cluster h global.log global.made (history.lawful, may) (history.orderly, reason) good history.knows;
 }
 
 -- replies that were made are true
-all_true : {cluster : Cluster} {net : Net} (replies : List Reply) → HasHistory cluster net → AllReplied net.log replies → AreRepliesTrue net.log replies
+all_true : {cluster : Cluster} {global : GlobalState} (replies : List Reply) → HasHistory cluster global → AllReplied global.log replies → AreRepliesTrue global.log replies
 all_true replies history replied reply stands = let made = replied reply stands in history.knows.replied made.0 reply made.1
 
 -- what was made is the state of its ballot
-has_made : {cluster : Cluster} {net : Net} {key : List ℕ} {ballot : Ballot} {era : ℕ} {state : State} → HasHistory cluster net → HasMade net.made key ballot era state → IsMadeState (marks_of net.log) key ballot era state
-has_made {cluster} {net} {key} {ballot} {era} {state} history has =
+has_made : {cluster : Cluster} {global : GlobalState} {key : List ℕ} {ballot : Ballot} {era : ℕ} {state : State} → HasHistory cluster global → HasMade global.made key ballot era state → IsMadeState (marks_of global.log) key ballot era state
+has_made {cluster} {global} {key} {ballot} {era} {state} history has =
     let of = (history.knows.made has.made has.stands).is_made in
-    subst (λ (s : State). IsMadeState (marks_of net.log) key ballot era s) has.same_state
-    (subst (λ (e : ℕ). IsMadeState (marks_of net.log) key ballot e has.made.outcome.state) has.same_era
-    (subst (λ (b : Ballot). IsMadeState (marks_of net.log) key b has.made.proposal.era has.made.outcome.state) has.same_ballot
-    (subst (λ (k : List ℕ). IsMadeState (marks_of net.log) k has.made.proposal.ballot has.made.proposal.era has.made.outcome.state) has.same_key of)))
+    subst (λ (s : State). IsMadeState (marks_of global.log) key ballot era s) has.same_state
+    (subst (λ (e : ℕ). IsMadeState (marks_of global.log) key ballot e has.made.outcome.state) has.same_era
+    (subst (λ (b : Ballot). IsMadeState (marks_of global.log) key b has.made.proposal.era has.made.outcome.state) has.same_ballot
+    (subst (λ (k : List ℕ). IsMadeState (marks_of global.log) k has.made.proposal.ballot has.made.proposal.era has.made.outcome.state) has.same_key of)))
 
 -- ---- requests
-ask_state : (cluster : Cluster) (net : Net) (request : Request) (question : Ask) → HasHistory cluster net → MayAsk cluster net.log request question → IsMadeAsk net.made question → IsAskState (marks_of net.log) question
-ask_state cluster net request (ask.Accept key ballot era ride state) history may made = has_made history made
-ask_state cluster net request (ask.Remove key tomb) history may made = history.knows.floors key tomb may.0
-ask_state cluster net request question history may made = tt
+ask_state : (cluster : Cluster) (global : GlobalState) (request : Request) (question : Ask) → HasHistory cluster global → MayAsk cluster global.log request question → IsMadeAsk global.made question → IsAskState (marks_of global.log) question
+ask_state cluster global request (ask.Accept key ballot era ride state) history may made = has_made history made
+ask_state cluster global request (ask.Remove key tomb) history may made = history.knows.floors key tomb may.0
+ask_state cluster global request question history may made = tt
 
 -- ---- answers
 -- the happenings of a list add nothing unknown wherever they stand, and are no deeds of this acceptor
@@ -223,53 +223,53 @@ tells_but log kept to new own others id = elim (true_or_false (id == to)) [
 ]
 
 -- an acceptor stopped within a request
-stops_within : (cluster : Cluster) (net : Net) (request : Request) (tell : Tell) (new : Contents) → HasHistory cluster net → Stands (Asked request) net.log → Handles (net.kept request.to) request tell new
-    → HasHistory cluster (record { log = done_log request.to (net.kept request.to) request tell net.log; kept = kept_but net.kept request.to new; made = net.made })
-stops_within cluster net request tell new history asked row =
+stops_within : (cluster : Cluster) (global : GlobalState) (request : Request) (tell : Tell) (new : Contents) → HasHistory cluster global → Stands (Asked request) global.log → Handles (global.kept request.to) request tell new
+    → HasHistory cluster (record { log = done_log request.to (global.kept request.to) request tell global.log; kept = kept_but global.kept request.to new; made = global.made })
+stops_within cluster global request tell new history asked row =
     let to = request.to in
-    let old = net.kept to in
-    let on : GoesOn cluster net.log to old = record { lawful = history.lawful; orderly = history.orderly; tells = history.tells to } in
+    let old = global.kept to in
+    let on : GoesOn cluster global.log to old = record { lawful = history.lawful; orderly = history.orderly; tells = history.tells to } in
     let did = deeds cluster request old new request.ask tell refl on asked (history.knows.asked request asked) (history.knows.known request asked).0 row in
     record {
       lawful = did.lawful;
       orderly = did.orderly;
-      tells = tells_but (done_log to old request tell net.log) net.kept to new did.tells
-          (λ id other. tells_front cluster (deeds_of to old request.ask tell) net.log id (net.kept id) (deeds_elsewhere id to old request.ask tell other) did.lawful (history.tells id));
-      knows = knows_front cluster (deeds_of to old request.ask tell) net.log net.made (deeds_plain to old request.ask tell) did.lawful did.orderly history.knows;
+      tells = tells_but (done_log to old request tell global.log) global.kept to new did.tells
+          (λ id other. tells_front cluster (deeds_of to old request.ask tell) global.log id (global.kept id) (deeds_elsewhere id to old request.ask tell other) did.lawful (history.tells id));
+      knows = knows_front cluster (deeds_of to old request.ask tell) global.log global.made (deeds_plain to old request.ask tell) did.lawful did.orderly history.knows;
     }
 
 -- an acceptor answers
-answers_on : (cluster : Cluster) (net : Net) (request : Request) (reply : Reply) (new : Contents) → HasHistory cluster net → Stands (Asked request) net.log → IsAnswered request.to (net.kept request.to) request reply new
-    → HasHistory cluster (record { log = answered_log request.to (net.kept request.to) request reply net.log; kept = kept_but net.kept request.to new; made = net.made })
-answers_on cluster net request reply new history asked answered =
+answers_on : (cluster : Cluster) (global : GlobalState) (request : Request) (reply : Reply) (new : Contents) → HasHistory cluster global → Stands (Asked request) global.log → IsAnswered request.to (global.kept request.to) request reply new
+    → HasHistory cluster (record { log = answered_log request.to (global.kept request.to) request reply global.log; kept = kept_but global.kept request.to new; made = global.made })
+answers_on cluster global request reply new history asked answered =
     let to = request.to in
-    let old = net.kept to in
-    let on : GoesOn cluster net.log to old = record { lawful = history.lawful; orderly = history.orderly; tells = history.tells to } in
+    let old = global.kept to in
+    let on : GoesOn cluster global.log to old = record { lawful = history.lawful; orderly = history.orderly; tells = history.tells to } in
     let state = history.knows.asked request asked in
     let bounds = history.knows.known request asked in
     let did = answers cluster old new request reply on asked state bounds.0 answered in
     let votes = votes_of to request.ask reply.tell in
     let acts = deeds_of to old request.ask reply.tell in
-    let true_ = known.replies cluster net.log old new request reply on asked state bounds.0 bounds.1 answered in
+    let true_ = known.replies cluster global.log old new request reply on asked state bounds.0 bounds.1 answered in
     record {
       lawful = did.1.lawful;
       orderly = did.1.orderly;
-      tells = tells_but (answered_log to old request reply net.log) net.kept to new did.1.tells
-          (λ id other. tells_still cluster (Replied request reply) (votes ++ (acts ++ net.log)) id (net.kept id) did.1.lawful tt
-          (tells_front cluster votes (acts ++ net.log) id (net.kept id) (votes_elsewhere id to request.ask reply.tell) did.1.lawful.0
-          (tells_front cluster acts net.log id (net.kept id) (deeds_elsewhere id to old request.ask reply.tell other) did.0.lawful (history.tells id))));
-      knows = knows_more cluster (Replied request reply) (votes ++ (acts ++ net.log)) net.made did.1.lawful did.1.orderly true_
-          (knows_front cluster votes (acts ++ net.log) net.made (votes_plain to request.ask reply.tell) did.1.lawful.0 did.1.orderly.0
-          (knows_front cluster acts net.log net.made (deeds_plain to old request.ask reply.tell) did.0.lawful did.0.orderly history.knows));
+      tells = tells_but (answered_log to old request reply global.log) global.kept to new did.1.tells
+          (λ id other. tells_still cluster (Replied request reply) (votes ++ (acts ++ global.log)) id (global.kept id) did.1.lawful tt
+          (tells_front cluster votes (acts ++ global.log) id (global.kept id) (votes_elsewhere id to request.ask reply.tell) did.1.lawful.0
+          (tells_front cluster acts global.log id (global.kept id) (deeds_elsewhere id to old request.ask reply.tell other) did.0.lawful (history.tells id))));
+      knows = knows_more cluster (Replied request reply) (votes ++ (acts ++ global.log)) global.made did.1.lawful did.1.orderly true_
+          (knows_front cluster votes (acts ++ global.log) global.made (votes_plain to request.ask reply.tell) did.1.lawful.0 did.1.orderly.0
+          (knows_front cluster acts global.log global.made (deeds_plain to old request.ask reply.tell) did.0.lawful did.0.orderly history.knows));
     }
 
 -- ---- proposals
 -- what a proposer makes of the state from which its proposal goes on
-proposes : (cluster : Cluster) (net : Net) (p : Proposal) (program : List Clause) (state : State) → HasHistory cluster net → Stands (Begun p.caller p.call p.key program) (marks_of net.log) → MayPropose cluster net.log p
-    → state ≡ replay_from (opening_state p.key (marks_of net.log)) (chain_of p.key (link_of (marks_of net.log) p) (marks_of net.log))
-    → HasHistory cluster (record { log = Marked (Proposed p) ∷ net.log; kept = net.kept; made = record { proposal = p; outcome = outcome_of program state } ∷ net.made })
-proposes cluster net p program state history begun may is_read =
-    let on = goes_on cluster net (Marked (Proposed p)) history may tt (λ id. tt) tt in
+proposes : (cluster : Cluster) (global : GlobalState) (p : Proposal) (program : List Clause) (state : State) → HasHistory cluster global → Stands (Begun p.caller p.call p.key program) (marks_of global.log) → MayPropose cluster global.log p
+    → state ≡ replay_from (opening_state p.key (marks_of global.log)) (chain_of p.key (link_of (marks_of global.log) p) (marks_of global.log))
+    → HasHistory cluster (record { log = Marked (Proposed p) ∷ global.log; kept = global.kept; made = record { proposal = p; outcome = outcome_of program state } ∷ global.made })
+proposes cluster global p program state history begun may is_read =
+    let on = goes_on cluster global (Marked (Proposed p)) history may tt (λ id. tt) tt in
     record {
       lawful = on.lawful;
       orderly = on.orderly;
@@ -281,38 +281,38 @@ proposes cluster net p program state history begun may is_read =
         floors = on.knows.floors;
         clear = on.knows.clear;
         made = λ m stands. elim (newest_or stands) [
-          | inl now ↦ subst (IsMadeOf (Marked (Proposed p) ∷ net.log)) (sym now) own
+          | inl now ↦ subst (IsMadeOf (Marked (Proposed p) ∷ global.log)) (sym now) own
           | inr before ↦ on.knows.made m before
         ];
       };
     }
   where
-    own : IsMadeOf (Marked (Proposed p) ∷ net.log) (record { proposal = p; outcome = outcome_of program state })
+    own : IsMadeOf (Marked (Proposed p) ∷ global.log) (record { proposal = p; outcome = outcome_of program state })
     own = record {
-      older = net.log;
+      older = global.log;
       at = here;
       program = program;
       begun = begun;
       state = state;
       is_read = is_read;
       same_outcome = refl;
-      is_made = known.makes cluster net.log p program state (outcome_of program state) history.lawful may begun is_read refl;
+      is_made = known.makes cluster global.log p program state (outcome_of program state) history.lawful may begun is_read refl;
     }
 
-prepared : (cluster : Cluster) (net : Net) (p : Proposal) (program : List Clause) (read : Option Accepted) → HasHistory cluster net → Stands (Begun p.caller p.call p.key program) (marks_of net.log) → IsPrepared cluster net.log p read
-    → HasHistory cluster (record { log = Marked (Proposed p) ∷ net.log; kept = net.kept; made = record { proposal = p; outcome = outcome_of program (state_read read) } ∷ net.made })
-prepared cluster net p program read history begun is =
-    let clear : AreFloorsClear net.log p.key p.ballot p.prepared_by = record { empty = λ floor has. history.knows.floors p.key floor has; clear = λ acceptor floor member has less. history.knows.clear p.key floor acceptor has } in
-    let may = propose cluster net.log p is.replies read history.lawful history.orderly is.round (all_true is.replies history is.replied) is.by is.quorum is.is_read is.same_read clear in
-    proposes cluster net p program (state_read read) history begun may.0 may.1
+prepared : (cluster : Cluster) (global : GlobalState) (p : Proposal) (program : List Clause) (read : Option Accepted) → HasHistory cluster global → Stands (Begun p.caller p.call p.key program) (marks_of global.log) → IsPrepared cluster global.log p read
+    → HasHistory cluster (record { log = Marked (Proposed p) ∷ global.log; kept = global.kept; made = record { proposal = p; outcome = outcome_of program (state_read read) } ∷ global.made })
+prepared cluster global p program read history begun is =
+    let clear : AreFloorsClear global.log p.key p.ballot p.prepared_by = record { empty = λ floor has. history.knows.floors p.key floor has; clear = λ acceptor floor member has less. history.knows.clear p.key floor acceptor has } in
+    let may = propose cluster global.log p is.replies read history.lawful history.orderly is.round (all_true is.replies history is.replied) is.by is.quorum is.is_read is.same_read clear in
+    proposes cluster global p program (state_read read) history begun may.0 may.1
 
-prepared_by_ride : (cluster : Cluster) (net : Net) (p : Proposal) (program : List Clause) (ready : Ready) → HasHistory cluster net → Stands (Begun p.caller p.call p.key program) (marks_of net.log) → IsPreparedByRide cluster net p ready
-    → HasHistory cluster (record { log = Marked (Proposed p) ∷ net.log; kept = net.kept; made = record { proposal = p; outcome = outcome_of program ready.state } ∷ net.made })
-prepared_by_ride cluster net p program ready history begun is =
-    let riding : IsRiding cluster net.log p.key p.era ready =
-    known.rides_along cluster net.log p.key p.era ready is.replies history.lawful history.orderly is.drawn (has_made history is.made) (all_true is.replies history is.replied) is.accepted_by is.quorum is.above is.all is.over_floors in
-    let may = rides cluster net.log p ready history.lawful history.orderly is.round riding is.same_ballot is.same_read is.by in
-    proposes cluster net p program ready.state history begun may.0 may.1
+prepared_by_ride : (cluster : Cluster) (global : GlobalState) (p : Proposal) (program : List Clause) (ready : Ready) → HasHistory cluster global → Stands (Begun p.caller p.call p.key program) (marks_of global.log) → IsPreparedByRide cluster global p ready
+    → HasHistory cluster (record { log = Marked (Proposed p) ∷ global.log; kept = global.kept; made = record { proposal = p; outcome = outcome_of program ready.state } ∷ global.made })
+prepared_by_ride cluster global p program ready history begun is =
+    let riding : IsRiding cluster global.log p.key p.era ready =
+    known.rides_along cluster global.log p.key p.era ready is.replies history.lawful history.orderly is.drawn (has_made history is.made) (all_true is.replies history is.replied) is.accepted_by is.quorum is.above is.all is.over_floors in
+    let may = rides cluster global.log p ready history.lawful history.orderly is.round riding is.same_ballot is.same_read is.by in
+    proposes cluster global p program ready.state history begun may.0 may.1
 
 -- ---- eras
 leaves : (cluster : Cluster) → ClusterMeets cluster → (log : List Happening) (proposer left : ℕ) → Lawful cluster log → IsLeaving cluster log proposer left → MayLeave cluster log proposer left
@@ -335,30 +335,30 @@ any_answer marks caller call (answer.Done state took ballot) other = absurd (cc)
 any_answer marks caller call other not_done = tt
 
 pub keeps : EventsKeepHistory
-keeps cluster meets net history (Begins caller call key program numbered) = goes_on cluster net _ history numbered tt (λ id. tt) tt
-keeps cluster meets net history (Draws proposer era counter key all) = goes_on cluster net _ history tt (draws cluster net.log proposer era counter key all) (λ id. tt) tt
-keeps cluster meets net history (Asks request askable) =
-    goes_on cluster net (Asked request) history tt askable.may (λ id. tt) (ask_state cluster net request request.ask history askable.may askable.made, (askable.from, askable.to))
-keeps cluster meets net history (Answers request reply new asked answered) = answers_on cluster net request reply new history asked answered
-keeps cluster meets net history (StopsWithin request tell new asked row) = stops_within cluster net request tell new history asked row
-keeps cluster meets net history (Proposes p program read begun is) = prepared cluster net p program read history begun is
-keeps cluster meets net history (ProposesByRide p program ready begun is) = prepared_by_ride cluster net p program ready history begun is
-keeps cluster meets net history (Counts a is) =
-    goes_on cluster net (Marked (Acked a)) history (count cluster net.log a is.replies history.lawful history.orderly is.proposed (all_true is.replies history is.replied) is.by is.quorum) tt (λ id. tt) tt
-keeps cluster meets net history (EndsDone made rounds stands acked open_yet) =
+keeps cluster meets global history (Begins caller call key program numbered) = goes_on cluster global _ history numbered tt (λ id. tt) tt
+keeps cluster meets global history (Draws proposer era counter key all) = goes_on cluster global _ history tt (draws cluster global.log proposer era counter key all) (λ id. tt) tt
+keeps cluster meets global history (Asks request askable) =
+    goes_on cluster global (Asked request) history tt askable.may (λ id. tt) (ask_state cluster global request request.ask history askable.may askable.made, (askable.from, askable.to))
+keeps cluster meets global history (Answers request reply new asked answered) = answers_on cluster global request reply new history asked answered
+keeps cluster meets global history (StopsWithin request tell new asked row) = stops_within cluster global request tell new history asked row
+keeps cluster meets global history (Proposes p program read begun is) = prepared cluster global p program read history begun is
+keeps cluster meets global history (ProposesByRide p program ready begun is) = prepared_by_ride cluster global p program ready history begun is
+keeps cluster meets global history (Counts a is) =
+    goes_on cluster global (Marked (Acked a)) history (count cluster global.log a is.replies history.lawful history.orderly is.proposed (all_true is.replies history is.replied) is.by is.quorum) tt (λ id. tt) tt
+keeps cluster meets global history (EndsDone made rounds stands acked open_yet) =
     let of = history.knows.made made stands in
-    goes_on cluster net (Marked (Ended made.proposal.caller made.proposal.call rounds (answer.Done made.outcome.state made.outcome.took made.proposal.ballot))) history
-    (done cluster net.log of.older made.proposal of.program of.state made.outcome history.lawful of.at acked open_yet of.begun of.is_read of.same_outcome) tt (λ id. tt) tt
-keeps cluster meets net history (EndsElse caller call rounds answer is) =
-    goes_on cluster net (Marked (Ended caller call rounds answer)) history
-    (record { first = is.first; answered = any_answer (marks_of net.log) caller call answer is.not_done; refused = is.refused; unsettled = is.unsettled; harmed = is.harmed }) tt (λ id. tt) tt
-keeps cluster meets net history (Harms caller call down) = goes_on cluster net _ history tt tt (λ id. tt) tt
-keeps cluster meets net history (TellsOperator asked told) = goes_on cluster net _ history tt tt (λ id. tt) tt
-keeps cluster meets net history (Buries key tomb grave) =
-    goes_on cluster net (Marked (Floor key tomb Empty)) history (inr (record { is_empty = refl; acked = grave.acked })) tt (λ id. tt) ((grave.era, has_made history grave.made), grave.clear)
-keeps cluster meets net history (Enters proposer left leaving) =
-    goes_on cluster net (Entered proposer (suc left)) history (record { left = left; next = refl; may_leave = leaves cluster meets net.log proposer left history.lawful leaving }) tt (λ id. tt) tt
-keeps cluster meets net history (MarksEra proposer era may) = goes_on cluster net _ history may tt (λ id. tt) tt
+    goes_on cluster global (Marked (Ended made.proposal.caller made.proposal.call rounds (answer.Done made.outcome.state made.outcome.took made.proposal.ballot))) history
+    (done cluster global.log of.older made.proposal of.program of.state made.outcome history.lawful of.at acked open_yet of.begun of.is_read of.same_outcome) tt (λ id. tt) tt
+keeps cluster meets global history (EndsElse caller call rounds answer is) =
+    goes_on cluster global (Marked (Ended caller call rounds answer)) history
+    (record { first = is.first; answered = any_answer (marks_of global.log) caller call answer is.not_done; refused = is.refused; unsettled = is.unsettled; harmed = is.harmed }) tt (λ id. tt) tt
+keeps cluster meets global history (Harms caller call down) = goes_on cluster global _ history tt tt (λ id. tt) tt
+keeps cluster meets global history (TellsOperator asked told) = goes_on cluster global _ history tt tt (λ id. tt) tt
+keeps cluster meets global history (MakesFloor key tomb may) =
+    goes_on cluster global (Marked (Floor key tomb Empty)) history (inr (record { is_empty = refl; acked = may.acked })) tt (λ id. tt) ((may.era, has_made history may.made), may.clear)
+keeps cluster meets global history (Enters proposer left leaving) =
+    goes_on cluster global (Entered proposer (suc left)) history (record { left = left; next = refl; may_leave = leaves cluster meets global.log proposer left history.lawful leaving }) tt (λ id. tt) tt
+keeps cluster meets global history (MarksEra proposer era may) = goes_on cluster global _ history may tt (λ id. tt) tt
 
 -- ---- runs
 -- nothing is kept at first
@@ -384,9 +384,9 @@ opens cluster = record {
   };
 }
 
-has_history : (cluster : Cluster) → ClusterMeets cluster → (net : Net) → Run cluster net → HasHistory cluster net
-has_history cluster meets net opened = opens cluster
-has_history cluster meets net (then before run event) = keeps cluster meets before (has_history cluster meets before run) event
+has_history : (cluster : Cluster) → ClusterMeets cluster → (global : GlobalState) → Run cluster global → HasHistory cluster global
+has_history cluster meets global opened = opens cluster
+has_history cluster meets global (then before run event) = keeps cluster meets before (has_history cluster meets before run) event
 
 pub runs : RunsAreLegal
-runs cluster meets net run = let history = has_history cluster meets net run in (history, lawful_is_legal cluster meets net.log history.lawful)
+runs cluster meets global run = let history = has_history cluster meets global run in (history, lawful_is_legal cluster meets global.log history.lawful)

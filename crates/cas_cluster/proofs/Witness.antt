@@ -55,7 +55,7 @@ use Rattle.cas_slot.specs.declared.message.Ask.{Ask}
 use Rattle.cas_cluster.specs.Acceptors.{deeds_of}
 use Rattle.cas_cluster.specs.Desks.{IsPastAll}
 use Rattle.cas_cluster.specs.Proposers.{AllRide}
-use Rattle.cas_cluster.specs.Protocol.{Made, Net, opening, AllReplied, HasMade, IsPrepared, IsAccepted, Event, Begins, Draws, Asks, Answers, StopsWithin, Proposes, Counts, EndsDone, after, opened, then, SomeRunIsDone, IsPreparedByRide, ProposesByRide}
+use Rattle.cas_cluster.specs.Protocol.{Made, GlobalState, opening, AllReplied, HasMade, IsPrepared, IsAccepted, Event, Begins, Draws, Asks, Answers, StopsWithin, Proposes, Counts, EndsDone, after, opened, then, SomeRunIsDone, IsPreparedByRide, ProposesByRide}
 use Rattle.cas_cluster.proofs.Answered.{behind, deeds_marks}
 
 -- ---- what does not stand in a list
@@ -159,7 +159,7 @@ program = record { guard = Always; act = Add (pos 5) } ∷ []
 abbrev begins : Event small_cluster opening
 begins = Begins 0 1 key_a program refl
 
-abbrev begun : Net
+abbrev begun : GlobalState
 begun = after small_cluster opening begins
 
 past_all : IsPastAll small_cluster begun.log 0 0 0 key_a
@@ -173,7 +173,7 @@ past_all = record {
 abbrev draws : Event small_cluster begun
 draws = Draws 0 0 0 key_a past_all
 
-abbrev drawn : Net
+abbrev drawn : GlobalState
 drawn = after small_cluster begun draws
 
 -- what is asked for the ballot
@@ -190,7 +190,7 @@ asks_for log request from member stands no_floor = record {
 abbrev asks_first : Event small_cluster drawn
 asks_first = Asks (ask_prepare 1) (record { may = asks_for drawn.log (ask_prepare 1) refl refl (record { older = begun.log; at = here }) refl; made = tt; from = omega arith; to = omega arith })
 
-abbrev asked_first : Net
+abbrev asked_first : GlobalState
 asked_first = after small_cluster drawn asks_first
 
 abbrev first : Reply
@@ -199,13 +199,13 @@ first = reply_to (ask_prepare 1) (tell.Promised None)
 abbrev first_promises : Event small_cluster asked_first
 first_promises = Answers (ask_prepare 1) first promised (record { older = drawn.log; at = here }) (answered (ask_prepare 1) (tell.Promised None) refl (promises 1))
 
-abbrev promised_first : Net
+abbrev promised_first : GlobalState
 promised_first = after small_cluster asked_first first_promises
 
 abbrev asks_second : Event small_cluster promised_first
 asks_second = Asks (ask_prepare 2) (record { may = asks_for promised_first.log (ask_prepare 2) refl refl (record { older = begun.log; at = past (past (past here)) }) refl; made = tt; from = omega arith; to = omega arith })
 
-abbrev asked_second : Net
+abbrev asked_second : GlobalState
 asked_second = after small_cluster promised_first asks_second
 
 abbrev second : Reply
@@ -214,7 +214,7 @@ second = reply_to (ask_prepare 2) (tell.Promised None)
 abbrev second_promises : Event small_cluster asked_second
 second_promises = Answers (ask_prepare 2) second promised (record { older = promised_first.log; at = here }) (answered (ask_prepare 2) (tell.Promised None) refl (promises 2))
 
-abbrev promised_second : Net
+abbrev promised_second : GlobalState
 promised_second = after small_cluster asked_second second_promises
 
 -- ---- it is proposed
@@ -268,7 +268,7 @@ made = record { proposal = proposal; outcome = outcome_of program Empty }
 abbrev proposes : Event small_cluster promised_second
 proposes = Proposes proposal program None begun_stands prepared
 
-abbrev proposed : Net
+abbrev proposed : GlobalState
 proposed = after small_cluster promised_second proposes
 
 -- the next ballot is drawn, which is to ride along
@@ -290,7 +290,7 @@ past_one = record {
 abbrev draws_ride : Event small_cluster proposed
 draws_ride = Draws 0 0 1 key_a past_one
 
-abbrev drawn_ride : Net
+abbrev drawn_ride : GlobalState
 drawn_ride = after small_cluster proposed draws_ride
 
 -- ---- it is accepted
@@ -314,14 +314,14 @@ asks_to_accept = Asks (ask_accept 1) (record {
   to = omega arith;
 })
 
-abbrev asked_to_accept : Net
+abbrev asked_to_accept : GlobalState
 asked_to_accept = after small_cluster drawn_ride asks_to_accept
 
 -- the first stops within it, and a crash leaves what it wrote
 abbrev stops_within : Event small_cluster asked_to_accept
 stops_within = StopsWithin (ask_accept 1) tell.Accepted accepted (record { older = drawn_ride.log; at = here }) (takes 1)
 
-abbrev stopped : Net
+abbrev stopped : GlobalState
 stopped = after small_cluster asked_to_accept stops_within
 
 abbrev wrote : List Happening
@@ -337,7 +337,7 @@ third = reply_to (ask_accept 1) tell.Accepted
 abbrev first_accepts : Event small_cluster stopped
 first_accepts = Answers (ask_accept 1) third accepted asked_before (answered (ask_accept 1) tell.Accepted refl (takes_again 1))
 
-abbrev accepted_again : Net
+abbrev accepted_again : GlobalState
 accepted_again = after small_cluster stopped first_accepts
 
 -- what stood before stands still
@@ -371,7 +371,7 @@ asks_other = Asks (ask_accept 2) (record {
   to = omega arith;
 })
 
-abbrev asked_other : Net
+abbrev asked_other : GlobalState
 asked_other = after small_cluster accepted_again asks_other
 
 abbrev fourth : Reply
@@ -380,7 +380,7 @@ fourth = reply_to (ask_accept 2) tell.Accepted
 abbrev other_accepts : Event small_cluster asked_other
 other_accepts = Answers (ask_accept 2) fourth accepted (record { older = accepted_again.log; at = here }) (answered (ask_accept 2) tell.Accepted refl (takes 2))
 
-abbrev accepted_by_other : Net
+abbrev accepted_by_other : GlobalState
 accepted_by_other = after small_cluster asked_other other_accepts
 
 -- ---- it is counted, and answered Done
@@ -431,7 +431,7 @@ is_accepted = record {
 abbrev counts : Event small_cluster accepted_by_other
 counts = Counts acknowledgment is_accepted
 
-abbrev counted : Net
+abbrev counted : GlobalState
 counted = after small_cluster accepted_by_other counts
 
 not_ended : IsEnded 0 1 (marks_of counted.log) → ⊥
@@ -443,7 +443,7 @@ is_acked = record { acknowledgment = acknowledgment; stands = record { older = m
 abbrev ends : Event small_cluster counted
 ends = EndsDone made 1 (record { older = []; at = here }) is_acked not_ended
 
-abbrev ended : Net
+abbrev ended : GlobalState
 ended = after small_cluster counted ends
 
 -- ---- the next call is proposed by the promise that rode along
@@ -462,7 +462,7 @@ ends_next other = false
 abbrev begins_next : Event small_cluster ended
 begins_next = Begins 0 2 key_a program (ap (λ (marks : List Mark). suc (calls_of 0 marks)) (sym marks_other))
 
-abbrev begun_next : Net
+abbrev begun_next : GlobalState
 begun_next = after small_cluster ended begins_next
 
 ended_has : {x : Happening} → Stands x accepted_by_other.log → Stands x begun_next.log
@@ -555,7 +555,7 @@ proposes_by_ride = ProposesByRide next_proposal program ready (record { older = 
 
 pub done : SomeRunIsDone
 done = record {
-  net = after small_cluster begun_next proposes_by_ride;
+  global = after small_cluster begun_next proposes_by_ride;
   run = then begun_next (then ended (then counted (then accepted_by_other (then asked_other (then accepted_again (then stopped (then asked_to_accept (then drawn_ride (then proposed (then promised_second (then asked_second (then promised_first (then asked_first (then drawn (then begun (then opening opened begins) draws) asks_first) first_promises) asks_second) second_promises) proposes) draws_ride) asks_to_accept) stops_within) first_accepts) asks_other) other_accepts) counts) ends) begins_next) proposes_by_ride;
   done = record { older = marks_of counted.log; at = past (past here) };
   next = record { older = marks_of begun_next.log; at = here };

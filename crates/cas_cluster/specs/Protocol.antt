@@ -51,7 +51,7 @@ pub record Made : Type 0 where
   pub proposal : Proposal
   pub outcome : Outcome
 
-pub record Net : Type 0 where
+pub record GlobalState : Type 0 where
   -- newest first
   pub log : List Happening
   -- by the number of the acceptor
@@ -59,7 +59,7 @@ pub record Net : Type 0 where
   pub made : List Made
 
 -- nothing happened yet
-abbrev pub opening : Net
+abbrev pub opening : GlobalState
 opening = record { log = []; kept = λ id. nothing; made = [] }
 
 abbrev pub kept_but : (ℕ → Contents) → ℕ → Contents → ℕ → Contents
@@ -84,9 +84,9 @@ abbrev pub IsMadeAsk : List Made → Ask → Type 0
 IsMadeAsk all (ask.Accept key ballot era ride state) = HasMade all key ballot era state
 IsMadeAsk all other = ⊤
 
-pub record IsAskable (cluster : Cluster) (net : Net) (request : Request) : Type 0 where
-  pub may : MayAsk cluster net.log request request.ask
-  pub made : IsMadeAsk net.made request.ask
+pub record IsAskable (cluster : Cluster) (global : GlobalState) (request : Request) : Type 0 where
+  pub may : MayAsk cluster global.log request request.ask
+  pub made : IsMadeAsk global.made request.ask
   pub from : request.from ≤ 16
   pub to : request.to < 64
 
@@ -102,20 +102,20 @@ pub record IsPrepared (cluster : Cluster) (log : List Happening) (p : Proposal) 
 
 -- the call's round is at a ballot that was to be promised by whoever accepted what the proposer had made at the key's last one; a
 -- prepare quorum accepted that, and no floor was made above it
-pub record IsPreparedByRide (cluster : Cluster) (net : Net) (p : Proposal) (ready : Ready) : Type 0 where
-  pub round : IsOpenRound net.log p.caller p.call p.key p.ballot p.era
+pub record IsPreparedByRide (cluster : Cluster) (global : GlobalState) (p : Proposal) (ready : Ready) : Type 0 where
+  pub round : IsOpenRound global.log p.caller p.call p.key p.ballot p.era
   pub same_ballot : p.ballot ≡ ready.ballot
   pub same_read : p.read ≡ ready.read
   pub by : p.prepared_by ≡ ready.by
-  pub drawn : Stands (Drew ready.read p.key p.era) net.log
-  pub made : HasMade net.made p.key ready.read p.era ready.state
+  pub drawn : Stands (Drew ready.read p.key p.era) global.log
+  pub made : HasMade global.made p.key ready.read p.era ready.state
   pub replies : List Reply
-  pub replied : AllReplied net.log replies
+  pub replied : AllReplied global.log replies
   pub accepted_by : ready.by ≡ accepters_of ready.read replies
   pub quorum : cluster.prepares p.era ready.by ≡ true
   pub above : BallotLess ready.read ready.ballot
-  pub all : AllRide net.log p.key ready.read ready.ballot
-  pub over_floors : (floor : Ballot) → HasFloor p.key floor (marks_of net.log) → BallotAtMost floor ready.read
+  pub all : AllRide global.log p.key ready.read ready.ballot
+  pub over_floors : (floor : Ballot) → HasFloor p.key floor (marks_of global.log) → BallotAtMost floor ready.read
 
 -- the accept phase has a quorum
 pub record IsAccepted (cluster : Cluster) (log : List Happening) (a : Acknowledgment) : Type 0 where
@@ -138,11 +138,11 @@ pub record IsOtherEnd (log : List Happening) (caller call : ℕ) (answer : Answe
   pub harmed : harms_due answer ≤ harms_of caller call (marks_of log)
 
 -- the empty state was made at the key's ballot and acknowledged; each acceptor took it, or was never asked at or below it
-pub record IsGrave (net : Net) (key : List ℕ) (tomb : Ballot) : Type 0 where
+pub record MayBeFloor (global : GlobalState) (key : List ℕ) (tomb : Ballot) : Type 0 where
   pub era : ℕ
-  pub made : HasMade net.made key tomb era Empty
-  pub acked : IsAcked key tomb (marks_of net.log)
-  pub clear : (acceptor : ℕ) → IsClear net.log acceptor key tomb
+  pub made : HasMade global.made key tomb era Empty
+  pub acked : IsAcked key tomb (marks_of global.log)
+  pub clear : (acceptor : ℕ) → IsClear global.log acceptor key tomb
 
 -- an accept quorum of the era showed of each key that it had no slot once all were in the era, or the key was rescanned there
 pub record IsListed (cluster : Cluster) (log : List Happening) (era : ℕ) : Type 0 where
@@ -158,67 +158,67 @@ pub record IsLeaving (cluster : Cluster) (log : List Happening) (proposer left :
   pub listed : (left ≡ 0) ⊎ IsListed cluster log left
 
 -- ---- what may happen
-pub data Event (cluster : Cluster) (net : Net) : Type 0 where
+pub data Event (cluster : Cluster) (global : GlobalState) : Type 0 where
   -- a caller's next call begins
-  Begins : (caller call : ℕ) (key : List ℕ) (program : List Clause) → call ≡ suc (calls_of caller (marks_of net.log)) → Event cluster net
+  Begins : (caller call : ℕ) (key : List ℕ) (program : List Clause) → call ≡ suc (calls_of caller (marks_of global.log)) → Event cluster global
   -- a proposer draws the ballot after its counter
-  Draws : (proposer era counter : ℕ) (key : List ℕ) → IsPastAll cluster net.log proposer era counter key → Event cluster net
+  Draws : (proposer era counter : ℕ) (key : List ℕ) → IsPastAll cluster global.log proposer era counter key → Event cluster global
   -- a request is made
-  Asks : (request : Request) → IsAskable cluster net request → Event cluster net
+  Asks : (request : Request) → IsAskable cluster global request → Event cluster global
   -- an acceptor handles a request that was once made, and answers it
-  Answers : (request : Request) (reply : Reply) (new : Contents) → Stands (Asked request) net.log → IsAnswered request.to (net.kept request.to) request reply new → Event cluster net
+  Answers : (request : Request) (reply : Reply) (new : Contents) → Stands (Asked request) global.log → IsAnswered request.to (global.kept request.to) request reply new → Event cluster global
   -- an acceptor stopped within such a request and answers nobody, but a crash left what the answer would have made
-  StopsWithin : (request : Request) (tell : Tell) (new : Contents) → Stands (Asked request) net.log → Handles (net.kept request.to) request tell new → Event cluster net
+  StopsWithin : (request : Request) (tell : Tell) (new : Contents) → Stands (Asked request) global.log → Handles (global.kept request.to) request tell new → Event cluster global
   -- a proposer proposes what the program of the call makes of what its round read, or of what a promise rode on
-  Proposes : (p : Proposal) (program : List Clause) (read : Option Accepted) → Stands (Begun p.caller p.call p.key program) (marks_of net.log) → IsPrepared cluster net.log p read → Event cluster net
-  ProposesByRide : (p : Proposal) (program : List Clause) (ready : Ready) → Stands (Begun p.caller p.call p.key program) (marks_of net.log) → IsPreparedByRide cluster net p ready → Event cluster net
+  Proposes : (p : Proposal) (program : List Clause) (read : Option Accepted) → Stands (Begun p.caller p.call p.key program) (marks_of global.log) → IsPrepared cluster global.log p read → Event cluster global
+  ProposesByRide : (p : Proposal) (program : List Clause) (ready : Ready) → Stands (Begun p.caller p.call p.key program) (marks_of global.log) → IsPreparedByRide cluster global p ready → Event cluster global
   -- what was proposed is counted
-  Counts : (a : Acknowledgment) → IsAccepted cluster net.log a → Event cluster net
+  Counts : (a : Acknowledgment) → IsAccepted cluster global.log a → Event cluster global
   -- a call is answered Done with what was made, once that is acknowledged
-  EndsDone : (made : Made) (rounds : ℕ) → Stands made net.made → IsAcked made.proposal.key made.proposal.ballot (marks_of net.log)
-      → (IsEnded made.proposal.caller made.proposal.call (marks_of net.log) → ⊥) → Event cluster net
+  EndsDone : (made : Made) (rounds : ℕ) → Stands made global.made → IsAcked made.proposal.key made.proposal.ballot (marks_of global.log)
+      → (IsEnded made.proposal.caller made.proposal.call (marks_of global.log) → ⊥) → Event cluster global
   -- or anything else
-  EndsElse : (caller call rounds : ℕ) (answer : Answer) → IsOtherEnd net.log caller call answer → Event cluster net
+  EndsElse : (caller call rounds : ℕ) (answer : Answer) → IsOtherEnd global.log caller call answer → Event cluster global
   -- a frame of a call was harmed
-  Harms : (caller call : ℕ) (down : Bool) → Event cluster net
+  Harms : (caller call : ℕ) (down : Bool) → Event cluster global
   -- the operator was told something
-  TellsOperator : (asked : OperatorAsked) (told : OpAnswer) → Event cluster net
+  TellsOperator : (asked : OperatorAsked) (told : OpAnswer) → Event cluster global
   -- a tombstone is made a floor
-  Buries : (key : List ℕ) (tomb : Ballot) → IsGrave net key tomb → Event cluster net
+  MakesFloor : (key : List ℕ) (tomb : Ballot) → MayBeFloor global key tomb → Event cluster global
   -- a proposer enters the era after the one that it leaves, and is marked as in it
-  Enters : (proposer left : ℕ) → IsLeaving cluster net.log proposer left → Event cluster net
-  MarksEra : (proposer era : ℕ) → MayMarkEra net.log proposer era → Event cluster net
+  Enters : (proposer left : ℕ) → IsLeaving cluster global.log proposer left → Event cluster global
+  MarksEra : (proposer era : ℕ) → MayMarkEra global.log proposer era → Event cluster global
 
-abbrev pub with_mark : Net → Happening → Net
-with_mark net happening = record net { log = happening ∷ net.log }
+abbrev pub with_mark : GlobalState → Happening → GlobalState
+with_mark global happening = record global { log = happening ∷ global.log }
 
-abbrev pub with_proposal : Net → Proposal → Outcome → Net
-with_proposal net p outcome = record net { log = Marked (Proposed p) ∷ net.log; made = record { proposal = p; outcome = outcome } ∷ net.made }
+abbrev pub with_proposal : GlobalState → Proposal → Outcome → GlobalState
+with_proposal global p outcome = record global { log = Marked (Proposed p) ∷ global.log; made = record { proposal = p; outcome = outcome } ∷ global.made }
 
 -- the cluster after it
-abbrev pub after : (cluster : Cluster) (net : Net) → Event cluster net → Net
-after cluster net (Begins caller call key program numbered) = with_mark net (Marked (Begun caller call key program))
-after cluster net (Draws proposer era counter key past) = with_mark net (Drew (record { counter = counter + 1; proposer = proposer }) key era)
-after cluster net (Asks request askable) = with_mark net (Asked request)
-after cluster net (Answers request reply new asked answered) =
-    record net { log = answered_log request.to (net.kept request.to) request reply net.log; kept = kept_but net.kept request.to new }
-after cluster net (StopsWithin request tell new asked row) = record net { log = done_log request.to (net.kept request.to) request tell net.log; kept = kept_but net.kept request.to new }
-after cluster net (Proposes p program read begun prepared) = with_proposal net p (outcome_of program (state_read read))
-after cluster net (ProposesByRide p program ready begun prepared) = with_proposal net p (outcome_of program ready.state)
-after cluster net (Counts a accepted) = with_mark net (Marked (Acked a))
-after cluster net (EndsDone made rounds stands acked open_yet) =
-    with_mark net (Marked (Ended made.proposal.caller made.proposal.call rounds (answer.Done made.outcome.state made.outcome.took made.proposal.ballot)))
-after cluster net (EndsElse caller call rounds answer other) = with_mark net (Marked (Ended caller call rounds answer))
-after cluster net (Harms caller call down) = with_mark net (Marked (Harmed caller call down))
-after cluster net (TellsOperator asked told) = with_mark net (Marked (Told asked told))
-after cluster net (Buries key tomb grave) = with_mark net (Marked (Floor key tomb Empty))
-after cluster net (Enters proposer left leaving) = with_mark net (Entered proposer (suc left))
-after cluster net (MarksEra proposer era may) = with_mark net (Marked (EraEntered proposer era))
+abbrev pub after : (cluster : Cluster) (global : GlobalState) → Event cluster global → GlobalState
+after cluster global (Begins caller call key program numbered) = with_mark global (Marked (Begun caller call key program))
+after cluster global (Draws proposer era counter key past) = with_mark global (Drew (record { counter = counter + 1; proposer = proposer }) key era)
+after cluster global (Asks request askable) = with_mark global (Asked request)
+after cluster global (Answers request reply new asked answered) =
+    record global { log = answered_log request.to (global.kept request.to) request reply global.log; kept = kept_but global.kept request.to new }
+after cluster global (StopsWithin request tell new asked row) = record global { log = done_log request.to (global.kept request.to) request tell global.log; kept = kept_but global.kept request.to new }
+after cluster global (Proposes p program read begun prepared) = with_proposal global p (outcome_of program (state_read read))
+after cluster global (ProposesByRide p program ready begun prepared) = with_proposal global p (outcome_of program ready.state)
+after cluster global (Counts a accepted) = with_mark global (Marked (Acked a))
+after cluster global (EndsDone made rounds stands acked open_yet) =
+    with_mark global (Marked (Ended made.proposal.caller made.proposal.call rounds (answer.Done made.outcome.state made.outcome.took made.proposal.ballot)))
+after cluster global (EndsElse caller call rounds answer other) = with_mark global (Marked (Ended caller call rounds answer))
+after cluster global (Harms caller call down) = with_mark global (Marked (Harmed caller call down))
+after cluster global (TellsOperator asked told) = with_mark global (Marked (Told asked told))
+after cluster global (MakesFloor key tomb may) = with_mark global (Marked (Floor key tomb Empty))
+after cluster global (Enters proposer left leaving) = with_mark global (Entered proposer (suc left))
+after cluster global (MarksEra proposer era may) = with_mark global (Marked (EraEntered proposer era))
 
 -- all that happened, from the opening on
-pub data Run (cluster : Cluster) : Net → Type 0 where
+pub data Run (cluster : Cluster) : GlobalState → Type 0 where
   opened : Run cluster opening
-  then : (net : Net) → Run cluster net → (event : Event cluster net) → Run cluster (after cluster net event)
+  then : (global : GlobalState) → Run cluster global → (event : Event cluster global) → Run cluster (after cluster global event)
 
 -- ---- the history of a cluster
 -- what was made is what the program of its call made of the state from which its proposal went on; and that is the state of its ballot
@@ -242,24 +242,24 @@ pub record Knows (log : List Happening) (all : List Made) : Type 0 where
   pub clear : (key : List ℕ) (floor : Ballot) (acceptor : ℕ) → HasFloor key floor (marks_of log) → IsClear log acceptor key floor
 
 -- the log is lawful and each happening has its reason; it tells what each acceptor keeps; and what is known is so
-pub record HasHistory (cluster : Cluster) (net : Net) : Type 0 where
-  pub lawful : Lawful cluster net.log
-  pub orderly : Orderly cluster net.log
-  pub tells : (acceptor : ℕ) → Tells net.log acceptor (net.kept acceptor)
-  pub knows : Knows net.log net.made
+pub record HasHistory (cluster : Cluster) (global : GlobalState) : Type 0 where
+  pub lawful : Lawful cluster global.log
+  pub orderly : Orderly cluster global.log
+  pub tells : (acceptor : ℕ) → Tells global.log acceptor (global.kept acceptor)
+  pub knows : Knows global.log global.made
 
 -- ---- laws
 -- Whatever happens, a cluster with a history has one after it.
 abbrev pub EventsKeepHistory : Type 0
-EventsKeepHistory = (cluster : Cluster) → ClusterMeets cluster → (net : Net) → HasHistory cluster net → (event : Event cluster net) → HasHistory cluster (after cluster net event)
+EventsKeepHistory = (cluster : Cluster) → ClusterMeets cluster → (global : GlobalState) → HasHistory cluster global → (event : Event cluster global) → HasHistory cluster (after cluster global event)
 
 -- After whatever happened, from the opening on, a cluster has a history, and its record is legal.
 abbrev pub RunsAreLegal : Type 0
-RunsAreLegal = (cluster : Cluster) → ClusterMeets cluster → (net : Net) → Run cluster net → HasHistory cluster net × IsLegal (marks_of net.log)
+RunsAreLegal = (cluster : Cluster) → ClusterMeets cluster → (global : GlobalState) → Run cluster global → HasHistory cluster global × IsLegal (marks_of global.log)
 
 -- a run in which a call is answered Done with what it added to nothing, and the next one is proposed by a promise that rode along
 pub record SomeRunIsDone : Type 0 where
-  pub net : Net
-  pub run : Run small_cluster net
-  pub done : Stands (Ended 0 1 1 (answer.Done (Held 0 (Number (pos 5))) (ByClause 0) (at 1 0))) (marks_of net.log)
-  pub next : Stands (Proposed (record { caller = 0; call = 2; key = key_a; ballot = at 2 0; read = at 1 0; era = 0; prepared_by = 1 ∷ 2 ∷ [] })) (marks_of net.log)
+  pub global : GlobalState
+  pub run : Run small_cluster global
+  pub done : Stands (Ended 0 1 1 (answer.Done (Held 0 (Number (pos 5))) (ByClause 0) (at 1 0))) (marks_of global.log)
+  pub next : Stands (Proposed (record { caller = 0; call = 2; key = key_a; ballot = at 2 0; read = at 1 0; era = 0; prepared_by = 1 ∷ 2 ∷ [] })) (marks_of global.log)
