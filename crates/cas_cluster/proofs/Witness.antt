@@ -1,6 +1,6 @@
 -- A run: a call is begun, its round prepared by two acceptors and proposed; one acceptor stops within the accept and answers nobody,
 -- is up again and answers the same request, the other answers too, and the call is Done. A promise rode along with the accepts, and
--- the next call is proposed by it, without asking anybody.
+-- the next call is proposed by it, without asking anybody. A third acceptor takes what is long Done, and another proposer is met.
 use Rattle.std.proofs.Common.{◌≡◌, ℕ, Bool, true, false, List, [], ◌∷◌, Option, Some, None, refl, sym, ap, subst, ◌∙◌, inl, inr, arith}
 use Rattle.std.specs.Prelude.{IsSomeAnd, pos, ◌==◌, not, nat_le, cond, suc, ◌++◌}
 use Rattle.std.specs.Cmp.Lexicographic.{slice_cmp}
@@ -11,7 +11,7 @@ use Rattle.cas_base.proofs.Bools.{not_both, not_of_false, true_or_false}
 use Rattle.cas_ballot.specs.declared.ballot.Ballot.{Ballot}
 use Rattle.cas_ballot.specs.Ballot.{zero_ballot, BallotAtMost, BallotLess}
 use Rattle.cas_ballot.specs.Members.{members_where, has_member}
-use Rattle.cas_ballot.proofs.BallotLemmas.{at_most_refl}
+use Rattle.cas_ballot.proofs.BallotLemmas.{at_most_refl, zero_at_most}
 use Rattle.cas_change.specs.declared.program.Act.TheVariants.{Add}
 use Rattle.cas_change.specs.declared.program.Clause.{Clause}
 use Rattle.cas_change.specs.declared.program.Guard.TheVariants.{Always}
@@ -139,6 +139,21 @@ takes acceptor = (
     (λ again. absurd (subst (λ (s : Option Slot). IsSomeAnd (accepted_of s) (λ a. a.ballot ≡ one)) promised_kept again)),
     subst (λ (s : Option Slot). BallotAtMost (seen_of s) one) (sym promised_kept) (at_most_refl one),
     (λ full. not_new (sym promised_kept ∙ full.new_key)),
+    refl,
+  ),
+)
+
+-- an acceptor that was never asked to promise takes it too
+abbrev late : Contents
+late = with_kept nothing key_a (record { promise = two; accepted = Some (record { ballot = one; era = 0; state = five }) })
+
+takes_late : (acceptor : ℕ) → Handles nothing (ask_accept acceptor) tell.Accepted late
+takes_late acceptor = (
+  omega arith,
+  inr (
+    (λ again. absurd (subst (λ (s : Option Slot). IsSomeAnd (accepted_of s) (λ a. a.ballot ≡ one)) none_kept again)),
+    subst (λ (s : Option Slot). BallotAtMost (seen_of s) one) (sym none_kept) (zero_at_most one),
+    room,
     refl,
   ),
 )
@@ -383,7 +398,6 @@ other_accepts = Answers (ask_accept 2) fourth accepted (record { older = accepte
 abbrev accepted_by_other : GlobalState
 accepted_by_other = after small_cluster asked_other other_accepts
 
--- ---- it is counted, and answered Done
 abbrev wrote_other : List Happening
 wrote_other = deeds_of 2 promised (ask_accept 2).ask tell.Accepted
 
@@ -412,33 +426,53 @@ two_suffice = refl
 abbrev acknowledgment : Acknowledgment
 acknowledgment = record { key = key_a; ballot = one; era = 0; by = 1 ∷ 2 ∷ [] }
 
-is_accepted : IsAccepted small_cluster accepted_by_other.log acknowledgment
+-- the third acceptor is asked too, and answers nothing yet
+abbrev asks_late : Event small_cluster accepted_by_other
+asks_late = Asks (ask_accept 3) (record {
+  may = accepts accepted_by_other.log (ask_accept 3) refl (asks_for accepted_by_other.log (ask_accept 3) refl refl (other_has drawn_still) (ap (list_any is_floor) marks_other)) (other_has proposed_still)
+      (other_has ride_still);
+  made = made_five;
+  from = omega arith;
+  to = omega arith;
+})
+
+abbrev asked_late : GlobalState
+asked_late = after small_cluster accepted_by_other asks_late
+
+late_has : {x : Happening} → Stands x accepted_by_other.log → Stands x asked_late.log
+late_has stands = record { older = stands.older; at = past stands.at }
+
+accepts_replied_then : AllReplied asked_late.log (third ∷ fourth ∷ [])
+accepts_replied_then reply stands = let was = accepts_replied reply stands in (was.0, late_has was.1)
+
+-- ---- it is counted, and answered Done
+is_accepted : IsAccepted small_cluster asked_late.log acknowledgment
 is_accepted = record {
   proposed = record {
-    drawn = other_has drawn_still;
+    drawn = late_has (other_has drawn_still);
     proposal = proposal;
-    proposed = mark_stands (other_has proposed_still);
+    proposed = mark_stands (late_has (other_has proposed_still));
     same_key = refl;
     same_ballot = refl;
     same_era = refl;
   };
   replies = third ∷ fourth ∷ [];
-  replied = accepts_replied;
+  replied = accepts_replied_then;
   by = two_accepted;
   quorum = two_suffice;
 }
 
-abbrev counts : Event small_cluster accepted_by_other
+abbrev counts : Event small_cluster asked_late
 counts = Counts acknowledgment is_accepted
 
 abbrev counted : GlobalState
-counted = after small_cluster accepted_by_other counts
+counted = after small_cluster asked_late counts
 
 not_ended : IsEnded 0 1 (marks_of counted.log) → ⊥
 not_ended ended = none is_ended (marks_of counted.log) (ap (list_any is_ended) marks_other) refl ended.stands
 
 is_acked : IsAcked key_a one (marks_of counted.log)
-is_acked = record { acknowledgment = acknowledgment; stands = record { older = marks_of accepted_by_other.log; at = here }; same_key = refl; same_ballot = refl }
+is_acked = record { acknowledgment = acknowledgment; stands = record { older = marks_of asked_late.log; at = here }; same_key = refl; same_ballot = refl }
 
 abbrev ends : Event small_cluster counted
 ends = EndsDone made 1 (record { older = []; at = here }) is_acked not_ended
@@ -466,7 +500,7 @@ abbrev begun_next : GlobalState
 begun_next = after small_cluster ended begins_next
 
 ended_has : {x : Happening} → Stands x accepted_by_other.log → Stands x begun_next.log
-ended_has stands = record { older = stands.older; at = past (past (past stands.at)) }
+ended_has stands = record { older = stands.older; at = past (past (past (past stands.at))) }
 
 marks_next : (test : Mark → Bool) → list_any test (marks_of begun_next.log) ≡ list_any test (Begun 0 2 key_a program ∷ Ended 0 1 1 (answer.Done five (ByClause 0) one) ∷ Acked acknowledgment
     ∷ Voted 2 key_a one ∷ Voted 1 key_a one ∷ marks_of asked_to_accept.log)
@@ -553,10 +587,86 @@ prepared_by_ride = record {
 abbrev proposes_by_ride : Event small_cluster begun_next
 proposes_by_ride = ProposesByRide next_proposal program ready (record { older = marks_of ended.log; at = here }) prepared_by_ride
 
+abbrev proposed_next : GlobalState
+proposed_next = after small_cluster begun_next proposes_by_ride
+
+-- ---- and the third acceptor takes what is long Done
+late_asked : Stands (Asked (ask_accept 3)) proposed_next.log
+late_asked = record { older = accepted_by_other.log; at = past (past (past (past here))) }
+
+abbrev answers_late : Event small_cluster proposed_next
+answers_late = Answers (ask_accept 3) (reply_to (ask_accept 3) tell.Accepted) late late_asked (answered (ask_accept 3) tell.Accepted refl (takes_late 3))
+
+abbrev wrote_late : List Happening
+wrote_late = deeds_of 3 nothing (ask_accept 3).ask tell.Accepted
+
+abbrev all_over : GlobalState
+all_over = after small_cluster proposed_next answers_late
+
+over_has : {x : Happening} → Stands x proposed_next.log → Stands x all_over.log
+over_has stands = let deeper = behind wrote_late stands in record { older = deeper.older; at = past (past deeper.at) }
+
+-- ---- another proposer draws a ballot that is too low, and is met
+abbrev other_ballot : Ballot
+other_ballot = at 1 1
+
+abbrev drew_by_other : Happening → Bool
+drew_by_other (Drew ballot key era) = ballot.proposer == 1
+drew_by_other other = false
+
+none_by_other : list_any drew_by_other all_over.log ≡ false
+none_by_other = wrote_none drew_by_other (wrote_at nothing) (Took 3 key_a one two) proposed_next.log refl
+    (wrote_none drew_by_other (wrote_at promised) (Took 2 key_a one two) asked_other.log refl
+    (wrote_none drew_by_other (wrote_at accepted) (Took 1 key_a one two) stopped.log refl (wrote_none drew_by_other (wrote_at promised) (Took 1 key_a one two) asked_to_accept.log refl refl)))
+
+no_floor_over : list_any is_floor (marks_of all_over.log) ≡ false
+no_floor_over = ap (list_any is_floor) (deeds_marks 3 nothing proposed_next.log (ask_accept 3).ask tell.Accepted) ∙ marks_next is_floor
+
+past_none : IsPastAll small_cluster all_over.log 1 0 0 key_a
+past_none = record {
+  known = omega arith;
+  is_in = inl refl;
+  drawn = λ ballot key era stands own. absurd (none drew_by_other all_over.log none_by_other (nat_is {a = ballot.proposer} {b = 1} own) stands);
+  floors = λ floor has. absurd (none is_floor (marks_of all_over.log) no_floor_over refl has.stands);
+}
+
+abbrev draws_against : Event small_cluster all_over
+draws_against = Draws 1 0 0 key_a past_none
+
+abbrev contended : GlobalState
+contended = after small_cluster all_over draws_against
+
+abbrev ask_against : Request
+ask_against = ask_of 1 0 other_ballot (ask.Prepare key_a other_ballot)
+
+may_ask_against : MayAskFor small_cluster contended.log ask_against key_a other_ballot
+may_ask_against = record {
+  era = 0;
+  drawn = record { older = all_over.log; at = here };
+  own = refl;
+  member = refl;
+  above = record { above = λ {floor} {state} s. absurd (none is_floor (marks_of contended.log) no_floor_over refl s) };
+}
+
+abbrev asks_against : Event small_cluster contended
+asks_against = Asks ask_against (record { may = may_ask_against; made = tt; from = omega arith; to = omega arith })
+
+abbrev asked_against : GlobalState
+asked_against = after small_cluster contended asks_against
+
+meets : Handles accepted ask_against (tell.Met two) accepted
+meets = (omega arith, (ap seen_of (sym accepted_kept), record { counters = omega arith; proposers = λ same. absurd (omega (arith, same)) }, refl))
+
+abbrev is_met : Event small_cluster asked_against
+is_met = Answers ask_against (reply_to ask_against (tell.Met two)) accepted (record { older = contended.log; at = here }) (answered ask_against (tell.Met two) refl meets)
+
+against_has : {x : Happening} → Stands x all_over.log → Stands x (after small_cluster asked_against is_met).log
+against_has stands = record { older = stands.older; at = past (past (past stands.at)) }
+
 pub done : SomeRunIsDone
 done = record {
-  global = after small_cluster begun_next proposes_by_ride;
-  run = then begun_next (then ended (then counted (then accepted_by_other (then asked_other (then accepted_again (then stopped (then asked_to_accept (then drawn_ride (then proposed (then promised_second (then asked_second (then promised_first (then asked_first (then drawn (then begun (then opening opened begins) draws) asks_first) first_promises) asks_second) second_promises) proposes) draws_ride) asks_to_accept) stops_within) first_accepts) asks_other) other_accepts) counts) ends) begins_next) proposes_by_ride;
-  done = record { older = marks_of counted.log; at = past (past here) };
-  next = record { older = marks_of begun_next.log; at = here };
+  global = after small_cluster asked_against is_met;
+  run = then asked_against (then contended (then all_over (then proposed_next (then begun_next (then ended (then counted (then asked_late (then accepted_by_other (then asked_other (then accepted_again (then stopped (then asked_to_accept (then drawn_ride (then proposed (then promised_second (then asked_second (then promised_first (then asked_first (then drawn (then begun (then opening opened begins) draws) asks_first) first_promises) asks_second) second_promises) proposes) draws_ride) asks_to_accept) stops_within) first_accepts) asks_other) other_accepts) asks_late) counts) ends) begins_next) proposes_by_ride) answers_late) draws_against) asks_against) is_met;
+  done = mark_stands (against_has (over_has (record { older = counted.log; at = past (past here) })));
+  next = mark_stands (against_has (over_has (record { older = begun_next.log; at = here })));
 }

@@ -106,8 +106,9 @@ pub fn runs_are_legal()
     ensures { RunsAreLegal }
 {}
 
-/// There is such a run: two acceptors promise, one of them stops within its accept and is asked the same again, the other accepts
-/// too, and the call is answered Done with the number that it added. The next call is proposed by the promise that rode along.
+/// There is such a run: a call is answered Done with the number that it added, and the next one is proposed by a promise that rode
+/// along. In the one that is shown an acceptor stops within its accept and is asked the same again, another takes what is long Done,
+/// and a second proposer's ballot is met.
 pub fn some_run_is_done()
     ensures { SomeRunIsDone }
 {}
