@@ -1,7 +1,7 @@
--- The protocol whole: a cluster as the log of what happened in it and what each acceptor keeps, and all that may happen next, each
--- by what its party knows. Frames are lost, repeated or late as they like: a request that was ever made may be answered now, any
--- number of times or never, and a proposer goes by whichever replies were ever made to it. A proposer that stops is no event of
--- its own: it does nothing for a while, and draws above all that it drew.
+-- The protocol whole: a cluster as the log of what happened in it and what each acceptor keeps, and all that may happen next. What a
+-- party must know for it, or the whole process must see to, is the condition of the event. Frames are lost, repeated or late as they
+-- like: a request that was ever made may be answered now, any number of times or never, and a proposer goes by whichever replies were
+-- ever made to it. A proposer that stops is no event of its own: it does nothing for a while, and draws above all that it drew.
 use Rattle.std.specs.Prelude.{◌≡◌, ⊤, ℕ, suc, ◌<◌, ◌≤◌, ◌==◌, if◌then◌else◌, true, false, Bool, List, [], ◌∷◌, Option, Contains, ◌⊎◌, ◌+◌, pos}
 use Rattle.cas_ballot.specs.declared.ballot.Ballot.{Ballot}
 use Rattle.cas_ballot.specs.Ballot.{BallotAtMost, BallotLess}

@@ -102,6 +102,7 @@ pub fn events_keep_the_history()
 
 /// After whatever happened from the opening on, a cluster has a history, and its record is legal: each register has one history,
 /// each change that was answered Done stands in it once, after all that was settled when its call began, and a refused one never.
+/// The quorums of each era must meet those of the same and of the next.
 pub fn runs_are_legal()
     ensures { RunsAreLegal }
 {}
