@@ -1,12 +1,12 @@
 -- Whatever happens, a cluster with a history has one after it; so the record of every run is legal.
-use Rattle.std.proofs.Common.{◌≡◌, ◌<◌, ◌≤◌, ℕ, suc, Bool, true, false, List, [], ◌∷◌, ◌++◌, Option, None, refl, sym, ap, subst, ◌∙◌, inl, inr, arith}
-use Rattle.std.specs.Prelude.{⊤, ◌⊎◌, ◌==◌, cond, is_some, unwrap_or}
+use Rattle.std.proofs.Common.{◌≡◌, ◌<◌, ◌≤◌, ℕ, suc, false, List, [], ◌∷◌, ◌++◌, Option, None, refl, sym, ap, subst, ◌∙◌, inl, inr, arith}
+use Rattle.std.specs.Prelude.{⊤, ◌⊎◌, ◌==◌}
 use Rattle.std.specs.Cmp.Lexicographic.{slice_cmp}
 use Rattle.std.specs.FinMap as map
 use Rattle.std.specs.Ordering.{nat_cmp}
 use Rattle.cas_base.proofs.Bools.{if_true, if_false, true_or_false, not_both}
 use Rattle.cas_ballot.specs.declared.ballot.Ballot.{Ballot}
-use Rattle.cas_ballot.specs.Ballot.{zero_ballot, BallotLess}
+use Rattle.cas_ballot.specs.Ballot.{BallotLess}
 use Rattle.cas_cache.specs.declared.ready.Ready.{Ready}
 use Rattle.cas_change.specs.declared.program.Clause.{Clause}
 use Rattle.cas_change.specs.declared.state.State.{State}
@@ -17,21 +17,20 @@ use Rattle.cas_slot.specs.declared.message.Ask.TheVariants as ask
 use Rattle.cas_slot.specs.declared.message.Request.{Request}
 use Rattle.cas_slot.specs.declared.message.Reply.{Reply}
 use Rattle.cas_slot.specs.declared.message.Tell.{Tell}
-use Rattle.cas_slot.specs.declared.message.Tell.TheVariants as tell
 use Rattle.cas_slot.specs.declared.slot.Accepted.{Accepted}
 use Rattle.cas_slot.specs.declared.slot.Slot.{Slot}
 use Rattle.cas_slot.specs.Contents.{Contents, nothing, kept_at}
 use Rattle.cas_slot.specs.Slot.{accepted_of}
 use Rattle.cas_slot.specs.Message.{tag_of}
-use Rattle.cas_slot.specs.Rules.{is_accepted_at, key_of}
-use Rattle.cas_slot.specs.Table.{Handles, IsAnswered, accepted_at}
+use Rattle.cas_slot.specs.Rules.{key_of}
+use Rattle.cas_slot.specs.Table.{Handles, IsAnswered}
 use Rattle.cas_record.specs.declared.answer.Answer.{Answer}
 use Rattle.cas_record.specs.declared.answer.Answer.TheVariants as answer
 use Rattle.cas_record.specs.declared.mark.Mark.{Mark}
 use Rattle.cas_record.specs.declared.mark.Mark.TheVariants.{Begun, Proposed, Acked, Floor, Ended}
 use Rattle.cas_record.specs.declared.mark.Proposal.{Proposal}
 use Rattle.cas_record.specs.Chain.{chain_of, link_of}
-use Rattle.cas_record.specs.Happening.{Happening, Marked, Asked, Took, Dropped, Entered, Replied, marks_of}
+use Rattle.cas_record.specs.Happening.{Happening, Marked, Asked, Entered, Drew, Replied, marks_of}
 use Rattle.cas_record.specs.Lawful.{Cluster, ClusterMeets, Lawful, May, MayPropose, MayLeave, MayAnswer}
 use Rattle.cas_record.specs.Legal.{HasFloor}
 use Rattle.cas_record.specs.Orderly.{Orderly, HasReason, IsRoundAsk, MayAsk, MayAskFor, IsClear, took_it, never_asked}
@@ -47,6 +46,7 @@ use Rattle.cas_cluster.specs.Desks.{IsRiding}
 use Rattle.cas_cluster.specs.Laws.{GoesOn}
 use Rattle.cas_cluster.specs.Proposers.{IsReplyTrue, AreRepliesTrue, AreFloorsClear, state_read}
 use Rattle.cas_cluster.specs.Protocol.{Made, GlobalState, kept_but, AllReplied, HasMade, IsMadeAsk, IsPrepared, IsPreparedByRide, is_done, IsLeaving, Begins, Draws, Asks, Answers, StopsWithin, Proposes, ProposesByRide, Counts, EndsDone, EndsElse, Harms, TellsOperator, MakesFloor, Enters, MarksEra, Run, opened, then, IsMadeOf, Knows, HasHistory, EventsKeepHistory, RunsAreLegal}
+use Rattle.cas_cluster.proofs.Along.{EachOf, along, deeds_each, votes_each}
 use Rattle.cas_cluster.proofs.Answered.{answers, deeds}
 use Rattle.cas_cluster.proofs.Growing.{made_grows, ask_grows}
 use Rattle.cas_cluster.proofs.Known as known
@@ -59,16 +59,24 @@ use Rattle.cas_cluster.proofs.Staying.{tells_still}
 abbrev IsGood : List Happening → Happening → Type 0
 IsGood log (Asked request) = IsAskState (marks_of log) request.ask × ((request.from ≤ 16) × (request.to < 64))
 IsGood log (Replied request reply) = IsReplyTrue (Replied request reply ∷ log) reply
+IsGood log (Marked (Proposed p)) = Stands (Drew p.ballot p.key p.era) log
 IsGood log (Marked (Floor key floor state)) = IsEmptyAt (marks_of log) key floor × ((acceptor : ℕ) → IsClear log acceptor key floor)
 IsGood log other = ⊤
 
+-- a mark that stands then is what happened, or stood before
+pub mark_now : (h : Happening) (log : List Happening) {mark : Mark} → Stands mark (marks_of (h ∷ log)) → (Marked mark ≡ h) ⊎ Stands mark (marks_of log)
+mark_now (Marked now) log stands = elim (newest_or stands) [
+  | inl same ↦ inl (ap Marked same)
+  | inr before ↦ inr before
+]
+mark_now h log stands = inr stands
+
 -- a floor that stands then stood before, or is what happened
 floor_now : (h : Happening) (log : List Happening) (key : List ℕ) (floor : Ballot) → HasFloor key floor (marks_of (h ∷ log)) → ((state : State) × (Marked (Floor key floor state) ≡ h)) ⊎ HasFloor key floor (marks_of log)
-floor_now (Marked mark) log key floor has = elim (newest_or has.stands) [
-  | inl now ↦ inl (has.state, ap Marked now)
+floor_now h log key floor has = elim (mark_now h log has.stands) [
+  | inl now ↦ inl (has.state, now)
   | inr before ↦ inr (record { state = has.state; stands = before })
 ]
-floor_now h log key floor has = inr has
 
 -- who is clear of a floor stays so, as what is asked is above it
 clear_stays : (h : Happening) (log : List Happening) {acceptor : ℕ} {key : List ℕ} {floor : Ballot}
@@ -98,6 +106,10 @@ knows_more cluster h log all lawful orderly good knows = record {
     | inl now ↦ subst (λ (x : Happening). IsReplyTrue (x ∷ log) reply) now (new_reply request reply now)
     | inr before ↦ known.reply_stays cluster h log lawful reply (knows.replied request reply before)
   ];
+  drawn = λ p stands. elim (mark_now h log stands) [
+    | inl now ↦ let drew = new_proposal p now in record { older = drew.older; at = past drew.at }
+    | inr before ↦ let drew = knows.drawn p before in record { older = drew.older; at = past drew.at }
+  ];
   made = λ m stands. let was = knows.made m stands in record {
     older = was.older;
     at = past was.at;
@@ -123,6 +135,9 @@ knows_more cluster h log all lawful orderly good knows = record {
 
     new_reply : (request : Request) (reply : Reply) → Replied request reply ≡ h → IsReplyTrue (Replied request reply ∷ log) reply
     new_reply request reply now = subst (IsGood log) (sym now) good
+
+    new_proposal : (p : Proposal) → Marked (Proposed p) ≡ h → Stands (Drew p.ballot p.key p.era) log
+    new_proposal p now = subst (IsGood log) (sym now) good
 
     new_floor : (key : List ℕ) (floor : Ballot) → (state : State) × (Marked (Floor key floor state) ≡ h) → IsEmptyAt (marks_of log) key floor × ((acceptor : ℕ) → IsClear log acceptor key floor)
     new_floor key floor now = subst (IsGood log) (sym now.1) good
@@ -158,65 +173,25 @@ ask_state cluster global request (ask.Remove key tomb) history may made = histor
 ask_state cluster global request question history may made = tt
 
 -- ---- answers
--- the happenings of a list add nothing unknown wherever they stand, and are no deeds of this acceptor
-abbrev AllPlain : List Happening → Type 0
-AllPlain [] = ⊤
-AllPlain (h ∷ front) = ((log : List Happening) → IsGood log h) × AllPlain front
+-- the happening adds nothing unknown wherever it stands
+abbrev IsPlain : Happening → Type 0
+IsPlain h = (log : List Happening) → IsGood log h
 
-abbrev AllElsewhere : ℕ → List Happening → Type 0
-AllElsewhere id [] = ⊤
-AllElsewhere id (h ∷ front) = IsElsewhere id h × AllElsewhere id front
+knows_front : (cluster : Cluster) (front log : List Happening) (all : List Made) → EachOf IsPlain front → Lawful cluster (front ++ log) → Orderly cluster (front ++ log) → Knows log all → Knows (front ++ log) all
+knows_front cluster front log all = along cluster IsPlain (λ l. Knows l all) (λ h l lawful orderly plain. knows_more cluster h l all lawful orderly (plain l)) front log
 
-knows_front : (cluster : Cluster) (front log : List Happening) (all : List Made) → AllPlain front → Lawful cluster (front ++ log) → Orderly cluster (front ++ log) → Knows log all → Knows (front ++ log) all
-knows_front cluster [] log all plain lawful orderly knows = knows
-knows_front cluster (h ∷ front) log all plain lawful orderly knows =
-    knows_more cluster h (front ++ log) all lawful orderly (plain.0 (front ++ log)) (knows_front cluster front log all plain.1 lawful.0 orderly.0 knows)
+pub tells_front : (cluster : Cluster) (front log : List Happening) (id : ℕ) (kept : Contents) → EachOf (IsElsewhere id) front → Lawful cluster (front ++ log) → Orderly cluster (front ++ log) → Tells log id kept → Tells (front ++ log) id kept
+tells_front cluster front log id kept = along cluster (IsElsewhere id) (λ l. Tells l id kept) (λ h l lawful orderly elsewhere. tells_still cluster h l id kept lawful elsewhere) front log
 
-tells_front : (cluster : Cluster) (front log : List Happening) (id : ℕ) (kept : Contents) → AllElsewhere id front → Lawful cluster (front ++ log) → Tells log id kept → Tells (front ++ log) id kept
-tells_front cluster [] log id kept elsewhere lawful tells = tells
-tells_front cluster (h ∷ front) log id kept elsewhere lawful tells =
-    tells_still cluster h (front ++ log) id kept lawful elsewhere.0 (tells_front cluster front log id kept elsewhere.1 lawful.0 tells)
+deeds_plain : (to : ℕ) (old : Contents) (question : Ask) (answer : Tell) → EachOf IsPlain (deeds_of to old question answer)
+deeds_plain to old question answer = deeds_each IsPlain to old question answer (record { promised = λ key ballot told log. tt; took = λ key ballot ride log. tt; dropped = λ key tomb log. tt; raised = λ least log. tt })
 
-deeds_plain : (to : ℕ) (old : Contents) (question : Ask) (answer : Tell) → AllPlain (deeds_of to old question answer)
-deeds_plain to old (ask.Prepare key ballot) (tell.Promised accepted) = (λ log. tt, tt)
-deeds_plain to old (ask.Accept key ballot era ride state) tell.Accepted = by_test (is_accepted_at (accepted_at old key) ballot)
-  where
-    by_test : (b : Bool) → AllPlain (cond b [] (Took to key ballot (unwrap_or ride zero_ballot) ∷ []))
-    by_test true = tt
-    by_test false = (λ log. tt, tt)
-deeds_plain to old (ask.Ages tag least) tell.AgesSet = (λ log. tt, tt)
-deeds_plain to old (ask.Remove key tomb) tell.Removed = by_test (is_some (kept_at old key))
-  where
-    by_test : (b : Bool) → AllPlain (cond b (Dropped to key tomb ∷ []) [])
-    by_test true = (λ log. tt, tt)
-    by_test false = tt
-deeds_plain to old question answer = tt
-
-deeds_elsewhere : (id to : ℕ) (old : Contents) (question : Ask) (answer : Tell) → (to ≡ id → ⊥) → AllElsewhere id (deeds_of to old question answer)
-deeds_elsewhere id to old (ask.Prepare key ballot) (tell.Promised accepted) other = (other, tt)
-deeds_elsewhere id to old (ask.Accept key ballot era ride state) tell.Accepted other = by_test (is_accepted_at (accepted_at old key) ballot)
-  where
-    by_test : (b : Bool) → AllElsewhere id (cond b [] (Took to key ballot (unwrap_or ride zero_ballot) ∷ []))
-    by_test true = tt
-    by_test false = (other, tt)
-deeds_elsewhere id to old (ask.Ages tag least) tell.AgesSet other = (other, tt)
-deeds_elsewhere id to old (ask.Remove key tomb) tell.Removed other = by_test (is_some (kept_at old key))
-  where
-    by_test : (b : Bool) → AllElsewhere id (cond b (Dropped to key tomb ∷ []) [])
-    by_test true = (other, tt)
-    by_test false = tt
-deeds_elsewhere id to old question answer other = tt
-
-votes_plain : (to : ℕ) (question : Ask) (answer : Tell) → AllPlain (votes_of to question answer)
-votes_plain to (ask.Accept key ballot era ride state) tell.Accepted = (λ log. tt, tt)
-votes_plain to question answer = tt
-
-votes_elsewhere : (id to : ℕ) (question : Ask) (answer : Tell) → AllElsewhere id (votes_of to question answer)
-votes_elsewhere id to (ask.Accept key ballot era ride state) tell.Accepted = (tt, tt)
-votes_elsewhere id to question answer = tt
+pub deeds_elsewhere : (id to : ℕ) (old : Contents) (question : Ask) (answer : Tell) → (to ≡ id → ⊥) → EachOf (IsElsewhere id) (deeds_of to old question answer)
+deeds_elsewhere id to old question answer other =
+    deeds_each (IsElsewhere id) to old question answer (record { promised = λ key ballot told. other; took = λ key ballot ride. other; dropped = λ key tomb. other; raised = λ least. other })
 
 -- what the log tells of each acceptor, where one keeps something new
-tells_but : (log : List Happening) (kept : ℕ → Contents) (to : ℕ) (new : Contents) → Tells log to new → ((id : ℕ) → (to ≡ id → ⊥) → Tells log id (kept id)) → (id : ℕ) → Tells log id (kept_but kept to new id)
+pub tells_but : (log : List Happening) (kept : ℕ → Contents) (to : ℕ) (new : Contents) → Tells log to new → ((id : ℕ) → (to ≡ id → ⊥) → Tells log id (kept id)) → (id : ℕ) → Tells log id (kept_but kept to new id)
 tells_but log kept to new own others id = elim (true_or_false (id == to)) [
   | inl same ↦ subst (Tells log id) (sym (if_true (id == to) new (kept id) same)) (subst (λ (i : ℕ). Tells log i new) (sym (nat_same {a = id} {b = to} same)) own)
   | inr other ↦ subst (Tells log id) (sym (if_false (id == to) new (kept id) other)) (others id (λ same. not_both (id == to) (nat_is {a = id} {b = to} (sym same)) other))
@@ -234,7 +209,7 @@ stops_within cluster global request tell new history asked row =
       lawful = did.lawful;
       orderly = did.orderly;
       tells = tells_but (done_log to old request tell global.log) global.kept to new did.tells
-          (λ id other. tells_front cluster (deeds_of to old request.ask tell) global.log id (global.kept id) (deeds_elsewhere id to old request.ask tell other) did.lawful (history.tells id));
+          (λ id other. tells_front cluster (deeds_of to old request.ask tell) global.log id (global.kept id) (deeds_elsewhere id to old request.ask tell other) did.lawful did.orderly (history.tells id));
       knows = knows_front cluster (deeds_of to old request.ask tell) global.log global.made (deeds_plain to old request.ask tell) did.lawful did.orderly history.knows;
     }
 
@@ -256,20 +231,20 @@ answers_on cluster global request reply new history asked answered =
       orderly = did.1.orderly;
       tells = tells_but (answered_log to old request reply global.log) global.kept to new did.1.tells
           (λ id other. tells_still cluster (Replied request reply) (votes ++ (acts ++ global.log)) id (global.kept id) did.1.lawful tt
-          (tells_front cluster votes (acts ++ global.log) id (global.kept id) (votes_elsewhere id to request.ask reply.tell) did.1.lawful.0
-          (tells_front cluster acts global.log id (global.kept id) (deeds_elsewhere id to old request.ask reply.tell other) did.0.lawful (history.tells id))));
+          (tells_front cluster votes (acts ++ global.log) id (global.kept id) (votes_each (IsElsewhere id) to request.ask reply.tell (λ key ballot. tt)) did.1.lawful.0 did.1.orderly.0
+          (tells_front cluster acts global.log id (global.kept id) (deeds_elsewhere id to old request.ask reply.tell other) did.0.lawful did.0.orderly (history.tells id))));
       knows = knows_more cluster (Replied request reply) (votes ++ (acts ++ global.log)) global.made did.1.lawful did.1.orderly true_
-          (knows_front cluster votes (acts ++ global.log) global.made (votes_plain to request.ask reply.tell) did.1.lawful.0 did.1.orderly.0
+          (knows_front cluster votes (acts ++ global.log) global.made (votes_each IsPlain to request.ask reply.tell (λ key ballot log. tt)) did.1.lawful.0 did.1.orderly.0
           (knows_front cluster acts global.log global.made (deeds_plain to old request.ask reply.tell) did.0.lawful did.0.orderly history.knows));
     }
 
 -- ---- proposals
 -- what a proposer makes of the state from which its proposal goes on
-proposes : (cluster : Cluster) (global : GlobalState) (p : Proposal) (program : List Clause) (state : State) → HasHistory cluster global → Stands (Begun p.caller p.call p.key program) (marks_of global.log) → MayPropose cluster global.log p
+proposes : (cluster : Cluster) (global : GlobalState) (p : Proposal) (program : List Clause) (state : State) → HasHistory cluster global → Stands (Begun p.caller p.call p.key program) (marks_of global.log) → Stands (Drew p.ballot p.key p.era) global.log → MayPropose cluster global.log p
     → state ≡ replay_from (opening_state p.key (marks_of global.log)) (chain_of p.key (link_of (marks_of global.log) p) (marks_of global.log))
     → HasHistory cluster (record { log = Marked (Proposed p) ∷ global.log; kept = global.kept; made = record { proposal = p; outcome = outcome_of program state } ∷ global.made })
-proposes cluster global p program state history begun may is_read =
-    let on = goes_on cluster global (Marked (Proposed p)) history may tt (λ id. tt) tt in
+proposes cluster global p program state history begun drawn may is_read =
+    let on = goes_on cluster global (Marked (Proposed p)) history may tt (λ id. tt) drawn in
     record {
       lawful = on.lawful;
       orderly = on.orderly;
@@ -278,6 +253,7 @@ proposes cluster global p program state history begun may is_read =
         asked = on.knows.asked;
         known = on.knows.known;
         replied = on.knows.replied;
+        drawn = on.knows.drawn;
         floors = on.knows.floors;
         clear = on.knows.clear;
         made = λ m stands. elim (newest_or stands) [
@@ -304,7 +280,7 @@ prepared : (cluster : Cluster) (global : GlobalState) (p : Proposal) (program : 
 prepared cluster global p program read history begun is =
     let clear : AreFloorsClear global.log p.key p.ballot p.prepared_by = record { empty = λ floor has. history.knows.floors p.key floor has; clear = λ acceptor floor member has less. history.knows.clear p.key floor acceptor has } in
     let may = propose cluster global.log p is.replies read history.lawful history.orderly is.round (all_true is.replies history is.replied) is.by is.quorum is.is_read is.same_read clear in
-    proposes cluster global p program (state_read read) history begun may.0 may.1
+    proposes cluster global p program (state_read read) history begun is.round.drawn may.0 may.1
 
 prepared_by_ride : (cluster : Cluster) (global : GlobalState) (p : Proposal) (program : List Clause) (ready : Ready) → HasHistory cluster global → Stands (Begun p.caller p.call p.key program) (marks_of global.log) → IsPreparedByRide cluster global p ready
     → HasHistory cluster (record { log = Marked (Proposed p) ∷ global.log; kept = global.kept; made = record { proposal = p; outcome = outcome_of program ready.state } ∷ global.made })
@@ -312,7 +288,7 @@ prepared_by_ride cluster global p program ready history begun is =
     let riding : IsRiding cluster global.log p.key p.era ready =
     known.rides_along cluster global.log p.key p.era ready is.replies history.lawful history.orderly is.drawn (has_made history is.made) (all_true is.replies history is.replied) is.accepted_by is.quorum is.above is.all is.over_floors in
     let may = rides cluster global.log p ready history.lawful history.orderly is.round riding is.same_ballot is.same_read is.by in
-    proposes cluster global p program ready.state history begun may.0 may.1
+    proposes cluster global p program ready.state history begun is.round.drawn may.0 may.1
 
 -- ---- eras
 leaves : (cluster : Cluster) → ClusterMeets cluster → (log : List Happening) (proposer left : ℕ) → Lawful cluster log → IsLeaving cluster log proposer left → MayLeave cluster log proposer left
@@ -365,7 +341,7 @@ keeps cluster meets global history (MarksEra proposer era may) = goes_on cluster
 none_kept : (key : List ℕ) → kept_at nothing key ≡ None
 none_kept key = map.get-empty (slice_cmp nat_cmp) key
 
-opens : (cluster : Cluster) → HasHistory cluster (record { log = []; kept = λ id. nothing; made = [] })
+pub opens : (cluster : Cluster) → HasHistory cluster (record { log = []; kept = λ id. nothing; made = [] })
 opens cluster = record {
   lawful = tt;
   orderly = tt;
@@ -378,6 +354,7 @@ opens cluster = record {
     asked = λ request stands. absurd (none_at_nil stands.at);
     known = λ request stands. absurd (none_at_nil stands.at);
     replied = λ request reply stands. absurd (none_at_nil stands.at);
+    drawn = λ p stands. absurd (none_at_nil stands.at);
     made = λ m stands. absurd (none_at_nil stands.at);
     floors = λ key floor has. absurd (none_at_nil has.stands.at);
     clear = λ key floor acceptor has. absurd (none_at_nil has.stands.at);

@@ -1,5 +1,5 @@
 -- What was acknowledged, and what is settled, stands on the shelves of a quorum.
-use Rattle.std.proofs.Common.{ℕ, List, ◌++◌, Option, Some, None, Ok, sym, ap, subst, ◌∙◌, inl, inr}
+use Rattle.std.proofs.Common.{◌≡◌, ℕ, true, List, ◌++◌, Option, Some, None, Ok, refl, sym, ap, subst, ◌∙◌, inl, inr}
 use Rattle.cas_ballot.specs.declared.ballot.Ballot.{Ballot}
 use Rattle.cas_ballot.specs.Ballot.{BallotAtMost, BallotLess}
 use Rattle.cas_ballot.proofs.BallotLemmas.{at_most_antisym, at_most_or_less, less_irreflexive, none_below_zero}
@@ -7,6 +7,9 @@ use Rattle.cas_slot.specs.declared.slot.Accepted.{Accepted}
 use Rattle.cas_slot.specs.Contents.{Contents}
 use Rattle.cas_slot.specs.Slot.{accepted_ballot}
 use Rattle.cas_slot.specs.Table.{accepted_at}
+use Rattle.cas_ballot.specs.Members.{has_member}
+use Rattle.cas_record.specs.declared.mark.Acknowledgment.{Acknowledgment}
+use Rattle.cas_record.specs.declared.mark.Mark.TheVariants.{Acked}
 use Rattle.cas_record.specs.declared.mark.Mark.{Mark}
 use Rattle.cas_record.specs.Chain.{chain_of, top_of}
 use Rattle.cas_record.specs.Happening.{Happening, Took, Dropped, marks_of}
@@ -16,7 +19,7 @@ use Rattle.cas_record.specs.Places.{Stands, IsPrefix}
 use Rattle.cas_record.proofs.Agreement.{Seam, by_ack, agree_whole, took_of_acked}
 use Rattle.cas_record.proofs.ChainLemmas.{chain_zero, top_cases}
 use Rattle.cas_record.proofs.Eras.{seam_of}
-use Rattle.cas_record.proofs.LogLemmas.{law, ack_law, AckedAt, acked_at, proposed_at, part_of}
+use Rattle.cas_record.proofs.LogLemmas.{law, stands_in_log, ack_law, AckedAt, acked_at, proposed_at, part_of}
 use Rattle.cas_record.proofs.PlaceLemmas.{stands_deeper, stands_part, prefix_same}
 use Rattle.cas_cluster.specs.Acceptors.{Tells, IsAcceptedState, IsLeft}
 use Rattle.cas_cluster.specs.Held.{Holds}
@@ -62,6 +65,21 @@ holds cluster meets log key ballot ride lawful orderly acked above acceptor kept
       begins = begins cluster log key ballot lawful (seam_of cluster meets log lawful) acked (accepted_at new key) made low;
     }
 
+-- what was acknowledged at a place of the log is held by those that confirmed it
+held_at : (cluster : Cluster) → ClusterMeets cluster → (log : List Happening) {key : List ℕ} {ballot : Ballot} (a : AckedAt key ballot log) → Lawful cluster log → Orderly cluster log → IsAboveFloors (marks_of log) key ballot
+    → (acceptor : ℕ) (kept new : Contents) → has_member a.acknowledgment.by acceptor ≡ true → Tells log acceptor kept → IsLeft log acceptor kept (Ok new) → Holds log key ballot new
+held_at cluster meets log {key} {ballot} a lawful orderly above acceptor kept new member tells left =
+    let took = took_of_acked cluster lawful a acceptor member in
+    holds cluster meets log key ballot took.ride lawful orderly a above acceptor kept new (stands_deeper took.stands a.at) tells left
+
+pub held_by : (cluster : Cluster) → ClusterMeets cluster → (log : List Happening) (a : Acknowledgment) → Lawful cluster log → Orderly cluster log → Stands (Acked a) (marks_of log) → IsAboveFloors (marks_of log) a.key a.ballot
+    → (cluster.accepts a.era a.by ≡ true)
+    × ((acceptor : ℕ) (kept new : Contents) → has_member a.by acceptor ≡ true → Tells log acceptor kept → IsLeft log acceptor kept (Ok new) → Holds log a.key a.ballot new)
+held_by cluster meets log a lawful orderly stands above =
+    let place = stands_in_log log stands in
+    let acked : AckedAt a.key a.ballot log = record { older = place.older; acknowledgment = a; at = place.at; same_key = refl; same_ballot = refl } in
+    ((ack_law cluster lawful place.at).quorum, held_at cluster meets log acked lawful orderly above)
+
 pub acknowledged : WhatIsAckedIsHeld
 acknowledged cluster meets log key ballot lawful orderly acked above =
     let a = acked_at log acked in
@@ -69,9 +87,7 @@ acknowledged cluster meets log key ballot lawful orderly acked above =
       era = a.acknowledgment.era;
       by = a.acknowledgment.by;
       quorum = (ack_law cluster lawful a.at).quorum;
-      held = λ acceptor kept new member tells left.
-          let took = took_of_acked cluster lawful a acceptor member in
-          holds cluster meets log key ballot took.ride lawful orderly a above acceptor kept new (stands_deeper took.stands a.at) tells left;
+      held = held_at cluster meets log a lawful orderly above;
     }
 
 pub settled : WhatIsSettledIsHeld

@@ -1,3 +1,4 @@
+pub mod Along
 pub mod Answered
 pub mod Deeds
 pub mod Events

@@ -50,7 +50,7 @@ asked_still h log id request other was = record {
   age = omega (arith, age_elsewhere h log id request.from other, was.age);
 }
 
-left_still : (cluster : Cluster) (h : Happening) (log : List Happening) (id : ℕ) (kept : Contents) (left : Left) → Lawful cluster (h ∷ log) → IsElsewhere id h → IsLeft log id kept left → IsLeft (h ∷ log) id kept left
+pub left_still : (cluster : Cluster) (h : Happening) (log : List Happening) (id : ℕ) (kept : Contents) (left : Left) → Lawful cluster (h ∷ log) → IsElsewhere id h → IsLeft log id kept left → IsLeft (h ∷ log) id kept left
 left_still cluster h log id kept left lawful other (inl same) = inl same
 left_still cluster h log id kept left lawful other (inr half) = inr (
   half.0,
@@ -85,7 +85,7 @@ asked_row kept request tell.Kept new row = inr row.0
 asked_row kept request (tell.Listed after keys more) new row = inr row.0
 asked_row kept request (tell.Probed promise accepted) new row = inr row.0
 
-stops : (cluster : Cluster) (log : List Happening) (id : ℕ) (kept : Contents) → GoesOn cluster log id kept → (request : Request) (left : Left) → Stands (Asked request) log → request.to ≡ id
+pub stops : (cluster : Cluster) (log : List Happening) (id : ℕ) (kept : Contents) → GoesOn cluster log id kept → (request : Request) (left : Left) → Stands (Asked request) log → request.to ≡ id
     → IsAskState (marks_of log) request.ask → request.from ≤ 16 → LeavesByTable kept request left → IsLeft log id kept left
 stops cluster log id kept on request left asked to state known (inl same) = inl same
 stops cluster log id kept on request left asked to state known (inr row) = elim (asked_row kept request row.0 row.1 row.2) [
@@ -104,7 +104,7 @@ stops cluster log id kept on request left asked to state known (inr row) = elim 
   )
 ]
 
-left_is : (a b : Contents) → ◌≡◌ {A = Left} (Ok a) (Ok b) → a ≡ b
+pub left_is : (a b : Contents) → ◌≡◌ {A = Left} (Ok a) (Ok b) → a ≡ b
 left_is a b e = cc
 
 pub goes_on_from : (cluster : Cluster) (log : List Happening) (id : ℕ) (kept : Contents) → GoesOn cluster log id kept → (new : Contents) → IsLeft log id kept (Ok new)

@@ -232,11 +232,12 @@ pub record IsMadeOf (log : List Happening) (m : Made) : Type 0 where
   pub same_outcome : m.outcome ≡ outcome_of program state
   pub is_made : IsMadeState (marks_of log) m.proposal.key m.proposal.ballot m.proposal.era m.outcome.state
 
--- what requests ask for and replies tell is so, what was made is so, and each floor is empty and all acceptors are clear of it
+-- what requests ask for and replies tell is so, each ballot was drawn before it was proposed, what was made is so, and each floor is empty and all acceptors are clear of it
 pub record Knows (log : List Happening) (all : List Made) : Type 0 where
   pub asked : (request : Request) → Stands (Asked request) log → IsAskState (marks_of log) request.ask
   pub known : (request : Request) → Stands (Asked request) log → (request.from ≤ 16) × (request.to < 64)
   pub replied : (request : Request) (reply : Reply) → Stands (Replied request reply) log → IsReplyTrue log reply
+  pub drawn : (p : Proposal) → Stands (Proposed p) (marks_of log) → Stands (Drew p.ballot p.key p.era) log
   pub made : (m : Made) → Stands m all → IsMadeOf log m
   pub floors : (key : List ℕ) (floor : Ballot) → HasFloor key floor (marks_of log) → IsEmptyAt (marks_of log) key floor
   pub clear : (key : List ℕ) (floor : Ballot) (acceptor : ℕ) → HasFloor key floor (marks_of log) → IsClear log acceptor key floor
