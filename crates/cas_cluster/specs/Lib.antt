@@ -1,6 +1,15 @@
 pub mod Acceptors
 pub mod Desks
 pub mod Held
+pub mod History
 pub mod Laws
-pub mod Protocol
+pub mod Parties
 pub mod Proposers
+pub mod Protocol
+pub mod Step
+pub mod StepAcceptors
+pub mod StepCalls
+pub mod StepDesks
+pub mod StepFrames
+pub mod View
+pub mod ViewLaws

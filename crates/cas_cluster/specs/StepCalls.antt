@@ -1,0 +1,166 @@
+-- What the calls of a caller do: a call begins or goes on with another round, proposes, is counted and ended.
+use Rattle.std.specs.Prelude.{◌≡◌, ◌⊎◌, ⊤, ℕ, suc, ◌+◌, true, false, List, [], ◌∷◌, ◌++◌, map, Option, None, Some}
+use Rattle.cas_ballot.specs.declared.ballot.Ballot.{Ballot}
+use Rattle.cas_cache.specs.declared.ready.Ready.{Ready}
+use Rattle.cas_change.specs.declared.outcome.Outcome.{Outcome}
+use Rattle.cas_change.specs.declared.program.Clause.{Clause}
+use Rattle.cas_change.specs.declared.state.State.{State}
+use Rattle.cas_change.specs.Outcome.{outcome_of}
+use Rattle.cas_flow.specs.Flow.{FlowView, queue_at, abandoned}
+use Rattle.cas_flow.specs.declared.message.Message.{Message}
+use Rattle.cas_flow.specs.declared.message.Message.TheVariants as message
+use Rattle.cas_proposer.specs.Desk.{DeskView}
+use Rattle.cas_proposer.specs.Round.{has_quorum, IsReadOf, IsVerdictOf, IsConfirmersOf}
+use Rattle.cas_proposer.specs.declared.round.Round.{Round}
+use Rattle.cas_round.specs.declared.verdict.RoundVerdict.{RoundVerdict}
+use Rattle.cas_round.specs.declared.verdict.RoundVerdict.TheVariants as verdict
+use Rattle.cas_slot.specs.declared.message.Ask.TheVariants as ask
+use Rattle.cas_slot.specs.declared.slot.Accepted.{Accepted}
+use Rattle.cas_slot.specs.Slot.{accepted_ballot}
+use Rattle.cas_vault.specs.Vault.{kept_of}
+use Rattle.cas_record.specs.declared.answer.Answer.{Answer}
+use Rattle.cas_record.specs.declared.answer.Answer.TheVariants as answer
+use Rattle.cas_record.specs.declared.answer.Cause.{Cause}
+use Rattle.cas_record.specs.declared.answer.Cause.TheVariants as cause
+use Rattle.cas_record.specs.declared.mark.Mark.TheVariants.{Begun, Proposed, Acked, Ended}
+use Rattle.cas_record.specs.declared.mark.Proposal.{Proposal}
+use Rattle.cas_cluster.specs.Proposers.{state_read}
+use Rattle.cas_cluster.specs.StepDesks.{BeginsToPrepare, BeginsByPromise, TurnsWith, EndsRound, FailsToDraw, LosesMemory}
+use Rattle.cas_cluster.specs.View.{Meaning, CallView, CallerView, View, IsAt, new_call, with_desk, with_caller, with_marks}
+
+-- ---- frames that are sent
+-- the proposer's own frames are followed by these, and no other frame moves
+pub record Sends (old : FlowView) (proposer : ℕ) (messages : List Message) (new : FlowView) : Type 0 where
+  pub own : (queue_at new proposer).messages ≡ (queue_at old proposer).messages ++ messages
+  pub again : (queue_at new proposer).again ≡ (queue_at old proposer).again
+  pub others : (id : ℕ) → (id ≡ proposer → ⊥) → queue_at new id ≡ queue_at old id
+  pub late : new.late ≡ old.late
+
+-- each of these acceptors is asked to prepare, and each to accept
+abbrev pub prepares_to : ℕ → ℕ → List ℕ → Ballot → List ℕ → List Message
+prepares_to proposer age key ballot members = map (λ to. message.Request (record { to = to; from = proposer; age = age; ask = ask.Prepare key ballot })) members
+
+abbrev pub accepts_to : ℕ → ℕ → List ℕ → Ballot → ℕ → Option Ballot → State → List ℕ → List Message
+accepts_to proposer age key ballot era ride state members =
+    map (λ to. message.Request (record { to = to; from = proposer; age = age; ask = ask.Accept key ballot era ride state })) members
+
+-- ---- a call begins
+-- a new one, with its mark
+abbrev pub opened : {S V : Type 0} → View S V → ℕ → CallerView → List ℕ → List Clause → View S V
+opened view id caller key program =
+    with_marks (with_caller view id (record { number = suc caller.number; call = Some (record (new_call key program) { rounds = 1 }) })) (Begun id (suc caller.number) key program ∷ [])
+
+-- another round of the open one, that nothing was proposed in
+abbrev pub with_call : {S V : Type 0} → View S V → ℕ → CallerView → CallView → View S V
+with_call view id caller call = with_caller view id (record caller { call = Some call })
+
+abbrev pub tried_again : CallView → CallView
+tried_again call = record call { rounds = call.rounds + 1; harmed = []; told = None; is_closed = false }
+
+pub data Opens {S V : Type 0} (old : View S V) (id : ℕ) (key : List ℕ) (program : List Clause) (new : View S V) : Type 0 where
+  first : (caller : CallerView) → IsAt old.callers id caller → caller.call ≡ None → new ≡ opened old id caller key program → Opens old id key program new
+  again : (caller : CallerView) (call : CallView) → IsAt old.callers id caller → caller.call ≡ Some call → call.key ≡ key → call.program ≡ program → call.proposed ≡ None → ((desk : DeskView V) → IsAt old.desks id desk → desk.round ≡ None)
+      → new ≡ with_call old id caller (tried_again call) → Opens old id key program new
+
+-- ---- the caller is told something
+abbrev pub telling : CallView → Answer → CallView
+telling call answer = record call { told = Some answer }
+
+-- why a round could not begin
+abbrev pub IsNoBeginning : Answer → Type 0
+IsNoBeginning answer.Down = ⊤
+IsNoBeginning answer.VaultFault = ⊤
+IsNoBeginning answer.Spent = ⊤
+IsNoBeginning answer.RecordFull = ⊤
+IsNoBeginning (answer.NoMemory proposed) = proposed ≡ false
+IsNoBeginning other = ⊥
+
+-- ---- a proposal
+abbrev pub proposing : CallView → Outcome → CallView
+proposing call outcome = record call { proposed = Some outcome; harmed = []; told = None }
+
+abbrev pub proposal_of : ℕ → ℕ → Round → Ballot → List ℕ → Proposal
+proposal_of caller call round read by = record { caller = caller; call = call; key = round.key; ballot = round.ballot; read = read; era = round.era.number; prepared_by = by }
+
+-- the outcome is proposed at the round's ballot, and each member that accepts is asked to
+abbrev pub proposed_view : {S V : Type 0} → View S V → ℕ → CallerView → CallView → DeskView V → FlowView → Proposal → Outcome → View S V
+proposed_view view id caller call desk flow p outcome =
+    with_marks (record (with_call (with_desk view id desk) id caller (proposing call outcome)) { flow = flow }) (Proposed p ∷ [])
+
+-- ---- a round begins
+-- at a ballot that is drawn; by a promise, and then what its program makes of the promised state is proposed at once; or not at all
+pub data BeginsRound {S V : Type 0} (m : Meaning S V) (old : View S V) (id : ℕ) (caller : CallerView) (call : CallView) (new : View S V) : Type 0 where
+  prepares : (desk now : DeskView V) (ballot : Ballot) (round : Round) (flow : FlowView) → IsAt old.desks id desk → desk.down ≡ false
+      → BeginsToPrepare m old.era call.key desk now ballot round
+      → Sends old.flow id (prepares_to id (kept_of desk.vault).age call.key ballot old.era.prep) flow
+      → new ≡ record (with_desk old id now) { flow = flow } → BeginsRound m old id caller call new
+  proposes : (desk now : DeskView V) (ready : Ready) (ride : Option Ballot) (round : Round) (outcome : Outcome) (flow : FlowView) → IsAt old.desks id desk → desk.down ≡ false
+      → BeginsByPromise m old.era call.key desk now ready ride round → outcome ≡ outcome_of call.program ready.state
+      → Sends old.flow id (accepts_to id (kept_of desk.vault).age round.key round.ballot round.era.number ride outcome.state round.era.acc) flow
+      → new ≡ proposed_view old id caller call now flow (proposal_of id caller.number round ready.read ready.by) outcome → BeginsRound m old id caller call new
+  stays : (answer : Answer) → IsNoBeginning answer → new ≡ with_call old id caller (telling call answer) → BeginsRound m old id caller call new
+  fails : (desk now : DeskView V) (answer : Answer) → IsAt old.desks id desk → desk.round ≡ None → IsNoBeginning answer
+      → FailsToDraw m call.key desk now → new ≡ with_call (with_desk old id now) id caller (telling call answer) → BeginsRound m old id caller call new
+  loses : (desk now : DeskView V) (ballot : Option Ballot) → IsAt old.desks id desk → desk.round ≡ None → desk.down ≡ false
+      → LosesMemory m call.key desk now ballot → new ≡ with_call (with_desk old id now) id caller (telling call (answer.NoMemory false)) → BeginsRound m old id caller call new
+
+-- a new call is refused, and no mark is made: all is as before, but for what was lost with the memory
+pub data RefusesCall {S V : Type 0} (m : Meaning S V) (old : View S V) (id : ℕ) (key : List ℕ) (new : View S V) : Type 0 where
+  stays : new ≡ old → RefusesCall m old id key new
+  loses : (caller : CallerView) (desk now : DeskView V) (ballot : Option Ballot) → IsAt old.callers id caller → IsAt old.desks id desk → desk.round ≡ None → desk.down ≡ false
+      → LosesMemory m key desk now ballot → new ≡ with_desk old id now → RefusesCall m old id key new
+
+-- ---- a round goes on
+-- how a phase without a quorum ends a call that proposed nothing, and one that did
+abbrev pub refusal_by : RoundVerdict → Option Answer
+refusal_by verdict.Quorum = None
+refusal_by (verdict.Met ballot) = Some (answer.Conflict ballot)
+refusal_by (verdict.Aged least) = Some (answer.Aged least)
+refusal_by (verdict.Full acceptor) = Some (answer.Full acceptor)
+refusal_by (verdict.Short got need) = Some (answer.Short got need)
+
+abbrev pub cause_by : RoundVerdict → Option Cause
+cause_by verdict.Quorum = None
+cause_by (verdict.Met ballot) = Some (cause.Met ballot)
+cause_by (verdict.Aged least) = Some (cause.Aged least)
+cause_by (verdict.Full acceptor) = Some (cause.Full acceptor)
+cause_by (verdict.Short got need) = Some (cause.Short got need)
+
+-- what the program makes of what was read is proposed, once the prepare phase has a quorum; without one the round ends and its caller is
+-- told why; and it ends where no ballot can be drawn to ride, or no memory is found
+pub data ProposesOrEnds {S V : Type 0} (m : Meaning S V) (old : View S V) (id : ℕ) (desk : DeskView V) (round : Round) (caller : CallerView) (call : CallView) (new : View S V) : Type 0 where
+  proposes : (now : DeskView V) (turned : Round) (read : Option Accepted) (by : List ℕ) (ride : Option Ballot) (outcome : Outcome) (flow : FlowView)
+      → has_quorum round.phase ≡ true → IsConfirmersOf round by → IsReadOf round read → TurnsWith m desk now round turned ride → outcome ≡ outcome_of call.program (state_read read)
+      → Sends old.flow id (accepts_to id (kept_of desk.vault).age round.key round.ballot round.era.number ride outcome.state round.era.acc) flow
+      → new ≡ proposed_view old id caller call now flow (proposal_of id caller.number round (accepted_ballot read) by) outcome → ProposesOrEnds m old id desk round caller call new
+  ends : (now : DeskView V) (verdict : RoundVerdict) (answer : Answer) → IsVerdictOf round verdict → refusal_by verdict ≡ Some answer
+      → EndsRound m desk now round None → new ≡ with_call (with_desk old id now) id caller (telling call answer) → ProposesOrEnds m old id desk round caller call new
+  fails : (now : DeskView V) → FailsToDraw m round.key desk now
+      → new ≡ with_call (with_desk old id now) id caller (telling call answer.VaultFault) → ProposesOrEnds m old id desk round caller call new
+  loses : (now : DeskView V) (ballot : Option Ballot) → LosesMemory m round.key desk now ballot
+      → new ≡ with_call (with_desk old id now) id caller (telling call (answer.NoMemory false)) → ProposesOrEnds m old id desk round caller call new
+
+-- the promise that a round offers once it is done: its ballot rode along
+abbrev pub offered_by : Round → Option Ballot → State → List ℕ → Option Ready
+offered_by round None state by = None
+offered_by round (Some ride) state by = Some (record { ballot = ride; state = state; read = round.ballot; by = by })
+
+-- what was proposed is acknowledged, and its caller is told that it is done; or no quorum accepted, and it is told why
+pub data CountsOrEnds {S V : Type 0} (m : Meaning S V) (old : View S V) (id : ℕ) (desk : DeskView V) (round : Round) (caller : CallerView) (call : CallView) (new : View S V) : Type 0 where
+  counts : (now : DeskView V) (by : List ℕ) (outcome : Outcome) → has_quorum round.phase ≡ true → IsConfirmersOf round by → call.proposed ≡ Some outcome
+      → EndsRound m desk now round (offered_by round round.ride outcome.state by)
+      → new ≡ with_marks (with_call (with_desk old id now) id caller (telling call (answer.Done outcome.state outcome.took round.ballot)))
+      (Acked (record { key = round.key; ballot = round.ballot; era = round.era.number; by = by }) ∷ [])
+      → CountsOrEnds m old id desk round caller call new
+  ends : (now : DeskView V) (verdict : RoundVerdict) (why : Cause) → IsVerdictOf round verdict → cause_by verdict ≡ Some why
+      → EndsRound m desk now round None → new ≡ with_call (with_desk old id now) id caller (telling call (answer.Unsettled why)) → CountsOrEnds m old id desk round caller call new
+
+-- ---- a call ends
+-- with what it was told last; an open round is closed, and its frames join the late ones
+pub record EndsCall {S V : Type 0} (m : Meaning S V) (old : View S V) (id : ℕ) (caller : CallerView) (call : CallView) (answer : Answer) (new : View S V) : Type 0 where
+  pub told : call.told ≡ Some answer
+  pub desk : DeskView V
+  pub at_desk : IsAt old.desks id desk
+  pub now : DeskView V
+  pub closed : ((desk.round ≡ None) × (now ≡ desk)) ⊎ ((round : Round) × (desk.round ≡ Some round) × EndsRound m desk now round None)
+  pub view : new ≡ with_marks (record (with_caller (with_desk old id now) id (record caller { call = None })) { flow = abandoned old.flow id }) (Ended id caller.number call.rounds answer ∷ [])

@@ -1,0 +1,84 @@
+-- What a cluster is seen as: its acceptors and desks, the calls of its callers, the frames under way, and the marks. Shelves and vaults
+-- are seen as they are, and what they mean is said apart.
+use Rattle.std.specs.Prelude.{ℕ, List, [], ◌++◌, Bool, false, Option, None, Some, slice_get, slice_set, ◌≡◌}
+use Rattle.cas_change.specs.declared.program.Clause.{Clause}
+use Rattle.cas_change.specs.declared.outcome.Outcome.{Outcome}
+use Rattle.cas_quorum.specs.declared.era.Era.{Era}
+use Rattle.cas_slot.specs.Contents.{Contents}
+use Rattle.cas_slot.specs.Shelf.{Left}
+use Rattle.cas_acceptor.specs.Acceptor.{AcceptorView}
+use Rattle.cas_proposer.specs.Desk.{DeskView}
+use Rattle.cas_flow.specs.Flow.{FlowView}
+use Rattle.cas_record.specs.declared.answer.Answer.{Answer}
+use Rattle.cas_record.specs.declared.mark.Mark.{Mark}
+
+-- ---- what disks mean
+-- What shelves hold, and what a crash may leave of them and of the disks of vaults, where they tell that.
+pub record Meaning (S V : Type 0) : Type 1 where
+  pub contents : S → Contents
+  pub shelves_tell : Type 0
+  pub shelf_may_leave : S → Left → Type 0
+  pub disks_tell : Type 0
+  pub disk_may_leave : V → List ℕ → Type 0
+
+-- ---- callers
+-- a call that has begun and was not ended
+pub record CallView : Type 0 where
+  pub key : List ℕ
+  pub program : List Clause
+  pub rounds : ℕ
+  -- what was proposed, once something was
+  pub proposed : Option Outcome
+  -- the acceptors of which a frame was harmed in the open phase
+  pub harmed : List ℕ
+  -- what its last step told the caller, and whether its round was closed by another
+  pub told : Option Answer
+  pub is_closed : Bool
+
+-- how many calls it began, and the one that is open
+pub record CallerView : Type 0 where
+  pub number : ℕ
+  pub call : Option CallView
+
+abbrev pub new_caller : CallerView
+new_caller = record { number = 0; call = None }
+
+-- a call that has just begun
+abbrev pub new_call : List ℕ → List Clause → CallView
+new_call key program = record { key = key; program = program; rounds = 0; proposed = None; harmed = []; told = None; is_closed = false }
+
+-- ---- the whole
+pub record View (S V : Type 0) : Type 0 where
+  -- the greatest number of a proposer
+  pub greatest : ℕ
+  -- the era that all are in
+  pub era : Era
+  -- each at the place of its number
+  pub acceptors : List (AcceptorView S)
+  pub desks : List (DeskView V)
+  pub callers : List CallerView
+  pub flow : FlowView
+  -- in the order in which they were made
+  pub marks : List Mark
+
+-- ---- parts of it
+abbrev pub with_acceptor : {S V : Type 0} → View S V → ℕ → AcceptorView S → View S V
+with_acceptor view id acceptor = record view { acceptors = slice_set view.acceptors id acceptor }
+
+abbrev pub with_desk : {S V : Type 0} → View S V → ℕ → DeskView V → View S V
+with_desk view proposer desk = record view { desks = slice_set view.desks proposer desk }
+
+abbrev pub with_caller : {S V : Type 0} → View S V → ℕ → CallerView → View S V
+with_caller view caller new = record view { callers = slice_set view.callers caller new }
+
+abbrev pub with_marks : {S V : Type 0} → View S V → List Mark → View S V
+with_marks view marks = record view { marks = view.marks ++ marks }
+
+-- it stands at that place
+abbrev pub IsAt : {A : Type 0} → List A → ℕ → A → Type 0
+IsAt all place x = slice_get all place ≡ Some x
+
+-- what shelves and disks of these kinds mean
+abbrev pub meaning : {S V : Type 0} → (S → Contents) → Type 0 → (S → Left → Type 0) → Type 0 → (V → List ℕ → Type 0) → Meaning S V
+meaning contents shelves_tell shelf_may_leave disks_tell disk_may_leave =
+    record { contents = contents; shelves_tell = shelves_tell; shelf_may_leave = shelf_may_leave; disks_tell = disks_tell; disk_may_leave = disk_may_leave }
