@@ -1,0 +1,33 @@
+//! What is true of every cluster as it is seen, with acceptors on shelves of any kind and proposers on disks of any kind, where these
+//! tell what they keep. Each law is the contract of a function that does nothing.
+
+ghost use Rattle.cas_cluster.specs.View.{meaning};
+ghost use Rattle.cas_cluster.specs.ViewLaws.{OpeningsAreRemembered, StepsAreRemembered, HistoriesAreLegal, WhatIsDoneIsKept};
+
+use cas_disk::Disk;
+use cas_slot::Shelf;
+
+/// A cluster that has just opened is remembered: there is a log of all that happened in it that tells what each of its parties keeps
+/// and knows, and what the frames under way bear.
+pub fn openings_are_remembered<S: Shelf, V: Disk>()
+    ensures { OpeningsAreRemembered (meaning S.contents S.tells S.may_leave V.tells V.may_leave) }
+{}
+
+/// Whatever is called on a cluster that is remembered, it is remembered then: a call begins by a draw or by a promise that rode along, a
+/// frame has its turn with any verdict or strays in late, a round proposes, is counted or ends short, a call ends, acceptors and
+/// proposers stop within whatever they write and are up again, and memory is found nowhere.
+pub fn steps_are_remembered<S: Shelf, V: Disk>()
+    ensures { StepsAreRemembered (meaning S.contents S.tells S.may_leave V.tells V.may_leave) }
+{}
+
+/// Whatever was called on a cluster since it opened, its record is legal: each register has one history, each change that was answered
+/// Done stands in it once, after all that was settled when its call began, an unsettled one at most once, and a refused one never.
+pub fn histories_are_legal<S: Shelf, V: Disk>()
+    ensures { HistoriesAreLegal (meaning S.contents S.tells S.may_leave V.tells V.may_leave) }
+{}
+
+/// What is acknowledged stands on the shelves of those that confirmed it, who are an accept quorum, whatever a crash now leaves of each,
+/// until a floor is made at or above it.
+pub fn what_is_done_is_kept<S: Shelf, V: Disk>()
+    ensures { WhatIsDoneIsKept (meaning S.contents S.tells S.may_leave V.tells V.may_leave) }
+{}
