@@ -116,15 +116,15 @@ answered_global global request reply new = record {
 up_not_down : {S V : Type 0} (m : Meaning S V) (now : AcceptorView S) → now.down ≡ false → now.down ≡ true → ⊥
 up_not_down m now up down = absurd (cc (up, down))
 
-pub answers : {S V : Type 0} (m : Meaning S V) (cluster : Cluster) (global : GlobalState) (view : View S V) (request : Request) (reply : Reply) (acceptor now : AcceptorView S) → m.shelves_tell
-    → IsAt view.acceptors request.to acceptor → AnswersByTable m acceptor now request reply → Stands (Asked request) global.log
-    → Whole m cluster global view → Whole m cluster (answered_global global request reply (m.contents now.shelf)) (with_acceptor view request.to now)
+pub answers : {S V : Type 0} (m : Meaning S V) (cluster : Cluster) (global : GlobalState) (view : View S V) (request : Request) (reply : Reply) (acceptor now : AcceptorView S) → m.shelves.tells
+    → IsAt view.acceptors request.to acceptor → AnswersByTable m.shelves acceptor now request reply → Stands (Asked request) global.log
+    → Whole m cluster global view → Whole m cluster (answered_global global request reply (m.shelves.contents now.shelf)) (with_acceptor view request.to now)
 answers {S} {V} m cluster global view request reply acceptor now tells at by asked whole =
     let to = request.to in
     let was = whole.acceptors to acceptor at in
-    let new : Contents = m.contents now.shelf in
+    let new : Contents = m.shelves.contents now.shelf in
     let answered : IsAnswered to (global.kept to) request reply new =
-    subst (λ (c : Contents). IsAnswered to c request reply new) (was.keeps by.up) (subst (λ (i : ℕ). IsAnswered i (m.contents acceptor.shelf) request reply new) was.same_id by.table) in
+    subst (λ (c : Contents). IsAnswered to c request reply new) (was.keeps by.up) (subst (λ (i : ℕ). IsAnswered i (m.shelves.contents acceptor.shelf) request reply new) was.same_id by.table) in
     let history = keeps cluster whole.meets global whole.history (Answers request reply new asked answered) in
     let up : now.down ≡ false = ap (λ (a : AcceptorView S). a.down) by.acceptor ∙ by.up in
     let started : now.started ≡ true = ap (λ (a : AcceptorView S). a.started) by.acceptor ∙ was.started by.up in
@@ -175,17 +175,17 @@ kind_told old new request (tell.Aged least) row = tt
 kind_told old new request answer row = kind_of old new request.ask answer row.1
 
 -- the reply of an acceptor was made
-pub reply_made : {S V : Type 0} (m : Meaning S V) (global : GlobalState) (request : Request) (reply : Reply) (acceptor now : AcceptorView S) → AnswersByTable m acceptor now request reply
-    → WasMade (answered_global global request reply (m.contents now.shelf)).log reply
+pub reply_made : {S V : Type 0} (m : Meaning S V) (global : GlobalState) (request : Request) (reply : Reply) (acceptor now : AcceptorView S) → AnswersByTable m.shelves acceptor now request reply
+    → WasMade (answered_global global request reply (m.shelves.contents now.shelf)).log reply
 reply_made m global request reply acceptor now by = record {
   request = request;
   replied = record { older = votes_of request.to request.ask reply.tell ++ done_log request.to (global.kept request.to) request reply.tell global.log; at = here };
-  kind = kind_told (m.contents acceptor.shelf) (m.contents now.shelf) request reply.tell by.table.row;
+  kind = kind_told (m.shelves.contents acceptor.shelf) (m.shelves.contents now.shelf) request reply.tell by.table.row;
 }
 
 -- ---- stops
-pub stops_within : {S V : Type 0} (m : Meaning S V) (cluster : Cluster) (global : GlobalState) (view : View S V) (request : Request) (acceptor now : AcceptorView S) → m.shelves_tell
-    → IsAt view.acceptors request.to acceptor → StopsWithin m acceptor now request → Stands (Asked request) global.log
+pub stops_within : {S V : Type 0} (m : Meaning S V) (cluster : Cluster) (global : GlobalState) (view : View S V) (request : Request) (acceptor now : AcceptorView S) → m.shelves.tells
+    → IsAt view.acceptors request.to acceptor → StopsWithin m.shelves acceptor now request → Stands (Asked request) global.log
     → Whole m cluster global view → Whole m cluster global (with_acceptor view request.to now)
 stops_within {S} m cluster global view request acceptor now tells at by asked whole =
     let to = request.to in
@@ -203,8 +203,8 @@ stops_within {S} m cluster global view request acceptor now tells at by asked wh
       not_started = λ none. was.not_started (sym started ∙ none);
     }) whole
 
-pub finds_none : {S V : Type 0} (m : Meaning S V) (cluster : Cluster) (global : GlobalState) (view : View S V) (id : ℕ) (acceptor now : AcceptorView S) → m.shelves_tell
-    → IsAt view.acceptors id acceptor → FindsNoMemory m acceptor now → Whole m cluster global view → Whole m cluster global (with_acceptor view id now)
+pub finds_none : {S V : Type 0} (m : Meaning S V) (cluster : Cluster) (global : GlobalState) (view : View S V) (id : ℕ) (acceptor now : AcceptorView S) → m.shelves.tells
+    → IsAt view.acceptors id acceptor → FindsNoMemory m.shelves acceptor now → Whole m cluster global view → Whole m cluster global (with_acceptor view id now)
 finds_none {S} m cluster global view id acceptor now tells at by whole =
     let was = whole.acceptors id acceptor at in
     let up : now.down ≡ false = ap (λ (a : AcceptorView S). a.down) by.acceptor ∙ by.up in
@@ -219,8 +219,8 @@ finds_none {S} m cluster global view id acceptor now tells at by whole =
     }) whole
 
 -- ---- crashes
-pub crashes : {S V : Type 0} (m : Meaning S V) (cluster : Cluster) (global : GlobalState) (view : View S V) (id : ℕ) (acceptor now : AcceptorView S) → m.shelves_tell
-    → IsAt view.acceptors id acceptor → CrashesShelf m acceptor now → Whole m cluster global view → Whole m cluster global (with_acceptor view id now)
+pub crashes : {S V : Type 0} (m : Meaning S V) (cluster : Cluster) (global : GlobalState) (view : View S V) (id : ℕ) (acceptor now : AcceptorView S) → m.shelves.tells
+    → IsAt view.acceptors id acceptor → CrashesShelf m.shelves acceptor now → Whole m cluster global view → Whole m cluster global (with_acceptor view id now)
 crashes {S} m cluster global view id acceptor now tells at by whole =
     let was = whole.acceptors id acceptor at in
     let down : now.down ≡ true = ap (λ (a : AcceptorView S). a.down) by.acceptor in
@@ -238,8 +238,8 @@ crashes {S} m cluster global view id acceptor now tells at by whole =
       not_started = λ none. was.not_started (sym started ∙ none);
     }) whole
 
-pub fails_to_start : {S V : Type 0} (m : Meaning S V) (cluster : Cluster) (global : GlobalState) (view : View S V) (id : ℕ) (acceptor now : AcceptorView S) → m.shelves_tell
-    → IsAt view.acceptors id acceptor → FailsToStart m acceptor now → Whole m cluster global view → Whole m cluster global (with_acceptor view id now)
+pub fails_to_start : {S V : Type 0} (m : Meaning S V) (cluster : Cluster) (global : GlobalState) (view : View S V) (id : ℕ) (acceptor now : AcceptorView S) → m.shelves.tells
+    → IsAt view.acceptors id acceptor → FailsToStart m.shelves acceptor now → Whole m cluster global view → Whole m cluster global (with_acceptor view id now)
 fails_to_start {S} m cluster global view id acceptor now tells at by whole =
     let was = whole.acceptors id acceptor at in
     let down : now.down ≡ true = ap (λ (a : AcceptorView S). a.down) by.acceptor ∙ by.was_down in
@@ -261,7 +261,7 @@ pub record IsUpAgain {S V : Type 0} (m : Meaning S V) (cluster : Cluster) (globa
   pub marks : marks_of after.log ≡ marks_of global.log
 
 -- one that is up and keeps what the log tells
-up_true : {S V : Type 0} (m : Meaning S V) (log : List Happening) (id : ℕ) (kept : Contents) (acceptor now : AcceptorView S) → m.shelves_tell → acceptor.id ≡ id → StartsShelf m acceptor now → m.contents now.shelf ≡ kept → IsAcceptorTrue m log id kept now
+up_true : {S V : Type 0} (m : Meaning S V) (log : List Happening) (id : ℕ) (kept : Contents) (acceptor now : AcceptorView S) → m.shelves.tells → acceptor.id ≡ id → StartsShelf m.shelves acceptor now → m.shelves.contents now.shelf ≡ kept → IsAcceptorTrue m log id kept now
 up_true {S} m log id kept acceptor now tells same by keeps =
     let up : now.down ≡ false = ap (λ (a : AcceptorView S). a.down) by.acceptor in
     let started : now.started ≡ true = ap (λ (a : AcceptorView S). a.started) by.acceptor in
@@ -274,8 +274,8 @@ up_true {S} m log id kept acceptor now tells same by keeps =
       not_started = λ none. absurd (cc (none, started));
     }
 
-pub starts : {S V : Type 0} (m : Meaning S V) (cluster : Cluster) (global : GlobalState) (view : View S V) (id : ℕ) (acceptor now : AcceptorView S) → m.shelves_tell
-    → IsAt view.acceptors id acceptor → StartsShelf m acceptor now → Whole m cluster global view → IsUpAgain m cluster global (with_acceptor view id now)
+pub starts : {S V : Type 0} (m : Meaning S V) (cluster : Cluster) (global : GlobalState) (view : View S V) (id : ℕ) (acceptor now : AcceptorView S) → m.shelves.tells
+    → IsAt view.acceptors id acceptor → StartsShelf m.shelves acceptor now → Whole m cluster global view → IsUpAgain m cluster global (with_acceptor view id now)
 starts {S} {V} m cluster global view id acceptor now tells at by whole = elim (true_or_false acceptor.started) [
   | inl started ↦ by_left (was.stopped by.was_down started (Ok new) (by.reopened tells started))
   | inr none ↦ as_before (by.afresh none ∙ sym (was.not_started none))
@@ -285,7 +285,7 @@ starts {S} {V} m cluster global view id acceptor now tells at by whole = elim (t
     was = whole.acceptors id acceptor at
 
     new : Contents
-    new = m.contents now.shelf
+    new = m.shelves.contents now.shelf
 
     as_before : new ≡ global.kept id → IsUpAgain m cluster global (with_acceptor view id now)
     as_before same = record {

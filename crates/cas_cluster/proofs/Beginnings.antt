@@ -80,8 +80,8 @@ not_accept {id} {age} {key} {k} {ballot} {b} {to} {request} {e} {asked} {state} 
     absurd (cc (is, ap (λ (q : Request). q.ask) same))
 
 pub begins_to_prepare : {S V : Type 0} (m : Meaning S V) (cluster : Cluster) (global : GlobalState) (old : View S V) (id : ℕ) (caller : CallerView) (call : CallView) (desk now : DeskView V) (ballot : Ballot) (round : Round) (flow : FlowView)
-    → m.disks_tell → IsAt old.callers id caller → caller.call ≡ Some call → call.proposed ≡ None → IsAt old.desks id desk
-    → BeginsToPrepare m old.era call.key desk now ballot round → Sends old.flow id (prepares_to id (kept_of desk.vault).age call.key ballot old.era.prep) flow → Whole m cluster global old
+    → m.disks.tells → IsAt old.callers id caller → caller.call ≡ Some call → call.proposed ≡ None → IsAt old.desks id desk
+    → BeginsToPrepare m.disks old.era call.key desk now ballot round → Sends old.flow id (prepares_to id (kept_of desk.vault).age call.key ballot old.era.prep) flow → Whole m cluster global old
     → Whole m cluster (asked_global (drew global (Some ballot) call.key old.era.number) (prepare_request id (kept_of desk.vault).age call.key ballot) old.era.prep) (record (with_desk old id now) { flow = flow })
 begins_to_prepare {S} {V} m cluster global old id caller call desk now ballot round flow tells at_caller is_open unproposed at_desk begins sends whole =
     let low : id ≤ 16 = omega (arith, of.known, whole.parties.greatest, whole.parties.few) in
@@ -110,8 +110,8 @@ begins_to_prepare {S} {V} m cluster global old id caller call desk now ballot ro
     of : IsDeskTrue m cluster global.log global.made era id caller (queue_at old.flow id).messages desk
     of = whole.parties.desks id tt desk caller at_desk at_caller
 
-    drawn : HasDrawn m id desk.vault now.vault ballot
-    drawn = subst (λ (i : ℕ). HasDrawn m i desk.vault now.vault ballot) of.same_id begins.drawn
+    drawn : HasDrawn m.disks id desk.vault now.vault ballot
+    drawn = subst (λ (i : ℕ). HasDrawn m.disks i desk.vault now.vault ballot) of.same_id begins.drawn
 
     middle : GlobalState
     middle = drew global (Some ballot) call.key era

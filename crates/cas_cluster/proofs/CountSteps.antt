@@ -79,10 +79,10 @@ keeps_promise cluster log all id number call waiting round outcome by r of own e
       over_floors = λ floor has. at_most_of_less (of.above_floors.above has.stands);
     }
 
-pub counts : {S V : Type 0} (m : Meaning S V) (cluster : Cluster) (global : GlobalState) (old : View S V) (id : ℕ) (caller : CallerView) (call : CallView) (desk now : DeskView V) (round : Round) (outcome : Outcome) (by : List ℕ) → m.disks_tell
+pub counts : {S V : Type 0} (m : Meaning S V) (cluster : Cluster) (global : GlobalState) (old : View S V) (id : ℕ) (caller : CallerView) (call : CallView) (desk now : DeskView V) (round : Round) (outcome : Outcome) (by : List ℕ) → m.disks.tells
     → IsAt old.callers id caller → caller.call ≡ Some call → IsAt old.desks id desk → (queue_at old.flow id).messages ≡ [] → round.ballot.proposer ≡ id → round.era.number ≡ old.era.number → IsEraOf cluster round.era
     → IsAcceptTrue global.log global.made id caller.number call (queue_at old.flow id).messages round → has_quorum round.phase ≡ true → IsConfirmersOf round by → call.proposed ≡ Some outcome
-    → EndsRound m desk now round (offered_by round round.ride outcome.state by) → Whole m cluster global old
+    → EndsRound m.disks desk now round (offered_by round round.ride outcome.state by) → Whole m cluster global old
     → Whole m cluster (with_mark global (Marked (Acked (record { key = round.key; ballot = round.ballot; era = round.era.number; by = by }))))
     (with_call (with_desk old id now) id caller (telling call (answer.Done outcome.state outcome.took round.ballot)))
 counts {S} {V} m cluster global old id caller call desk now round outcome by tells at_caller is_open at_desk none own same_era era accept quorum confirmers proposed ends whole =
@@ -188,15 +188,15 @@ ended_history cluster global id number rounds key told meets history begun open_
     }))
 
 -- a desk whose round was closed for the end of its call
-closed_quiet : {S V : Type 0} (m : Meaning S V) (cluster : Cluster) (log : List Happening) (all : List Made) (id era : ℕ) (caller : CallerView) (waiting : List Message) (desk now : DeskView V) → m.disks_tell
-    → IsDeskTrue m cluster log all era id caller waiting desk → ((desk.round ≡ None) × (now ≡ desk)) ⊎ ((round : Round) × (desk.round ≡ Some round) × EndsRound m desk now round None) → IsQuiet m cluster log all id era now
+closed_quiet : {S V : Type 0} (m : Meaning S V) (cluster : Cluster) (log : List Happening) (all : List Made) (id era : ℕ) (caller : CallerView) (waiting : List Message) (desk now : DeskView V) → m.disks.tells
+    → IsDeskTrue m cluster log all era id caller waiting desk → ((desk.round ≡ None) × (now ≡ desk)) ⊎ ((round : Round) × (desk.round ≡ Some round) × EndsRound m.disks desk now round None) → IsQuiet m cluster log all id era now
 closed_quiet m cluster log all id era caller waiting desk now tells of (inl idle) = subst (IsQuiet m cluster log all id era) (sym idle.1)
     (record { same_id = of.same_id; known = of.known; vault = of.vault; cached = of.cached; one_each = of.one_each; none_open = idle.0 })
 closed_quiet m cluster log all id era caller waiting desk now tells of (inr closes) = quiet_ends m cluster log all id era caller waiting desk now closes.0 tells of closes.2
 
-pub ends_call : {S V : Type 0} (m : Meaning S V) (cluster : Cluster) (global : GlobalState) (old : View S V) (id : ℕ) (caller : CallerView) (call : CallView) (told : Answer) (desk now : DeskView V) → m.disks_tell
+pub ends_call : {S V : Type 0} (m : Meaning S V) (cluster : Cluster) (global : GlobalState) (old : View S V) (id : ℕ) (caller : CallerView) (call : CallView) (told : Answer) (desk now : DeskView V) → m.disks.tells
     → IsAt old.callers id caller → caller.call ≡ Some call → call.told ≡ Some told → IsAt old.desks id desk
-    → ((desk.round ≡ None) × (now ≡ desk)) ⊎ ((round : Round) × (desk.round ≡ Some round) × EndsRound m desk now round None) → Whole m cluster global old
+    → ((desk.round ≡ None) × (now ≡ desk)) ⊎ ((round : Round) × (desk.round ≡ Some round) × EndsRound m.disks desk now round None) → Whole m cluster global old
     → Whole m cluster (with_mark global (Marked (Ended id caller.number call.rounds told))) (record (with_caller (with_desk old id now) id (record caller { call = None })) { flow = abandoned old.flow id })
 ends_call {S} {V} m cluster global old id caller call told desk now tells at_caller is_open is_told at_desk closed whole =
     settles m cluster after old (record (with_caller (with_desk old id now) id (record caller { call = None })) { flow = abandoned old.flow id }) id
@@ -244,7 +244,7 @@ ends_call {S} {V} m cluster global old id caller call told desk now tells at_cal
     }
 
 -- ---- a desk is up again, or stays down
-pub restarts : {S V : Type 0} (m : Meaning S V) (cluster : Cluster) (global : GlobalState) (old : View S V) (id : ℕ) (desk now : DeskView V) → m.disks_tell → IsAt old.desks id desk → Restarts m desk now
+pub restarts : {S V : Type 0} (m : Meaning S V) (cluster : Cluster) (global : GlobalState) (old : View S V) (id : ℕ) (desk now : DeskView V) → m.disks.tells → IsAt old.desks id desk → Restarts m.disks desk now
     → Whole m cluster global old → Whole m cluster global (with_desk old id now)
 restarts {S} {V} m cluster global old id desk now tells at_desk by whole =
     settles m cluster global old (with_desk old id now) id (around m cluster global old id whole)

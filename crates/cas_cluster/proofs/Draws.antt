@@ -25,7 +25,7 @@ use Rattle.cas_cluster.proofs.Places.{some_is}
 use Rattle.cas_cluster.proofs.Rides.{draws}
 
 -- ---- vaults
-pub vault_goes_on : {S V : Type 0} (m : Meaning S V) (log : List Happening) (id era : ℕ) {old new : Vault V} → m.disks_tell → GoesOn m old new → IsVaultTrue m log id era old → IsVaultTrue m log id era new
+pub vault_goes_on : {S V : Type 0} (m : Meaning S V) (log : List Happening) (id era : ℕ) {old new : Vault V} → m.disks.tells → GoesOn m.disks old new → IsVaultTrue m log id era old → IsVaultTrue m log id era new
 vault_goes_on m log id era tells on was = record {
   past = λ ballot key e stands own. on.still_past tells ballot.counter (was.past ballot key e stands own);
   past_floors = λ key floor has. on.still_past tells floor.counter (was.past_floors key floor has);
@@ -55,13 +55,13 @@ drew global ballot key era = record global { log = drew_log ballot key era globa
 drew_same : {b ballot : Ballot} {k key : List ℕ} {e era : ℕ} → Drew b k e ≡ Drew ballot key era → b ≡ ballot
 drew_same now = cc now
 
-pub drew_vault : {S V : Type 0} (m : Meaning S V) (log : List Happening) (id era : ℕ) (key : List ℕ) (old new : Vault V) (ballot : Option Ballot) → m.disks_tell → MayHaveDrawn m id old new ballot
+pub drew_vault : {S V : Type 0} (m : Meaning S V) (log : List Happening) (id era : ℕ) (key : List ℕ) (old new : Vault V) (ballot : Option Ballot) → m.disks.tells → MayHaveDrawn m.disks id old new ballot
     → IsVaultTrue m log id era old → IsVaultTrue m (drew_log ballot key era log) id era new
 drew_vault m log id era key old new None tells by was = vault_goes_on m log id era tells by.goes_on was
 drew_vault m log id era key old new (Some ballot) tells by was =
     let on = vault_goes_on m log id era tells by.goes_on was in record {
       past = λ b k e stands own. elim (newest_or stands) [
-        | inl now ↦ subst (λ (x : Ballot). IsPast m.disk_may_leave x.counter new) (sym (drew_same now)) (by.past tells)
+        | inl now ↦ subst (λ (x : Ballot). IsPast m.disks.may_leave x.counter new) (sym (drew_same now)) (by.past tells)
         | inr before ↦ on.past b k e before own
       ];
       past_floors = on.past_floors;
@@ -105,7 +105,7 @@ drew_marks log key era (Some ballot) = refl
 
 -- what is around the proposer stays
 pub drew_around : {S V : Type 0} (m : Meaning S V) (cluster : Cluster) (global : GlobalState) (view : View S V) (id : ℕ) (key : List ℕ) (old new : Vault V) (ballot : Option Ballot)
-    → id ≤ cluster.greatest → MayHaveDrawn m id old new ballot → IsVaultTrue m global.log id view.era.number old
+    → id ≤ cluster.greatest → MayHaveDrawn m.disks id old new ballot → IsVaultTrue m global.log id view.era.number old
     → Around m cluster global view id → Around m cluster (drew global ballot key view.era.number) view id
 drew_around m cluster global view id key old new None known by vault around = around
 drew_around m cluster global view id key old new (Some ballot) known by vault around =
@@ -118,7 +118,7 @@ drew_around m cluster global view id key old new (Some ballot) known by vault ar
 
 -- the ballot is in hand
 pub drew_in_hand : {S V : Type 0} (m : Meaning S V) (cluster : Cluster) (global : GlobalState) (id era : ℕ) (key : List ℕ) (old new : Vault V) (ballot : Ballot)
-    → id ≤ cluster.greatest → HasDrawn m id old new ballot → IsVaultTrue m global.log id era old → HasHistory cluster global → IsInHand (drew global (Some ballot) key era).log id era key ballot
+    → id ≤ cluster.greatest → HasDrawn m.disks id old new ballot → IsVaultTrue m global.log id era old → HasHistory cluster global → IsInHand (drew global (Some ballot) key era).log id era key ballot
 drew_in_hand m cluster global id era key old new ballot known by vault history =
     let own : ballot.proposer ≡ id = ap (λ (b : Ballot). b.proposer) by.draws.next in
     let counter : ballot.counter ≡ counter_of old + 1 = ap (λ (b : Ballot). b.counter) by.draws.next in
@@ -143,7 +143,7 @@ drew_replies log replies key era None were = λ reply has_it. were reply has_it
 drew_replies log replies key era (Some ballot) were = replies_still (Drew ballot key era) log replies were
 
 -- a ballot that is drawn is above all that are in hand
-pub drawn_above : {S V : Type 0} (m : Meaning S V) (log : List Happening) (id era e : ℕ) (k : List ℕ) (b : Ballot) (old new : Vault V) (ballot : Ballot) → HasDrawn m id old new ballot → IsVaultTrue m log id era old → IsInHand log id e k b → BallotLess b ballot
+pub drawn_above : {S V : Type 0} (m : Meaning S V) (log : List Happening) (id era e : ℕ) (k : List ℕ) (b : Ballot) (old new : Vault V) (ballot : Ballot) → HasDrawn m.disks id old new ballot → IsVaultTrue m log id era old → IsInHand log id e k b → BallotLess b ballot
 drawn_above m log id era e k b old new ballot by vault hand =
     let low = (vault.past b k e hand.drawn hand.own).counter in
     let counter : ballot.counter ≡ counter_of old + 1 = ap (λ (x : Ballot). x.counter) by.draws.next in
@@ -151,7 +151,7 @@ drawn_above m log id era e k b old new ballot by vault hand =
 
 -- the ballot that rides, where one does: it is in hand, and above the one that it rides on
 pub drew_ride : {S V : Type 0} (m : Meaning S V) (cluster : Cluster) (global : GlobalState) (id era : ℕ) (key : List ℕ) (b : Ballot) (old new : Vault V) (ride : Option Ballot)
-    → id ≤ cluster.greatest → MayHaveDrawn m id old new ride → IsVaultTrue m global.log id era old → HasHistory cluster global → IsInHand global.log id era key b
+    → id ≤ cluster.greatest → MayHaveDrawn m.disks id old new ride → IsVaultTrue m global.log id era old → HasHistory cluster global → IsInHand global.log id era key b
     → (r : Ballot) → ride ≡ Some r → IsInHand (drew global ride key era).log id era key r × BallotLess b r
 drew_ride m cluster global id era key b old new None known by vault history hand r rides = absurd (cc rides)
 drew_ride m cluster global id era key b old new (Some ballot) known by vault history hand r rides =

@@ -137,8 +137,8 @@ same_or_without m cluster log all id era key old new (inl same) were one = (subs
 same_or_without m cluster log all id era key old new (inr fewer) were one =
     (subst (AreReady cluster log all id era) (sym fewer) (ready_fewer cluster log all id era (without key old) old (λ entry h. contains_without key old h) were), subst HaveOneEach (sym fewer) (one_without key old one))
 
-quiet_fails : {S V : Type 0} (m : Meaning S V) (cluster : Cluster) (log : List Happening) (all : List Made) (id era : ℕ) (caller : CallerView) (waiting : List Message) (key : List ℕ) (desk now : DeskView V) → m.disks_tell
-    → IsDeskTrue m cluster log all era id caller waiting desk → FailsToDraw m key desk now → IsQuiet m cluster log all id era now
+quiet_fails : {S V : Type 0} (m : Meaning S V) (cluster : Cluster) (log : List Happening) (all : List Made) (id era : ℕ) (caller : CallerView) (waiting : List Message) (key : List ℕ) (desk now : DeskView V) → m.disks.tells
+    → IsDeskTrue m cluster log all era id caller waiting desk → FailsToDraw m.disks key desk now → IsQuiet m cluster log all id era now
 quiet_fails {S} {V} m cluster log all id era caller waiting key desk now tells of by =
     let cache = same_or_without m cluster log all id era key desk.cache now.cache by.cache of.cached of.one_each in
     record {
@@ -150,8 +150,8 @@ quiet_fails {S} {V} m cluster log all id era caller waiting key desk now tells o
       none_open = ap (λ (d : DeskView V). d.round) by.desk;
     }
 
-quiet_loses : {S V : Type 0} (m : Meaning S V) (cluster : Cluster) (log : List Happening) (all : List Made) (id era : ℕ) (caller : CallerView) (waiting : List Message) (key : List ℕ) (desk now : DeskView V) (ballot : Option Ballot) → m.disks_tell
-    → IsDeskTrue m cluster log all era id caller waiting desk → (by : LosesMemory m key desk now ballot) → MayHaveDrawn m id desk.vault by.middle ballot → IsQuiet m cluster (drew_log ballot key era log) all id era now
+quiet_loses : {S V : Type 0} (m : Meaning S V) (cluster : Cluster) (log : List Happening) (all : List Made) (id era : ℕ) (caller : CallerView) (waiting : List Message) (key : List ℕ) (desk now : DeskView V) (ballot : Option Ballot) → m.disks.tells
+    → IsDeskTrue m cluster log all era id caller waiting desk → (by : LosesMemory m.disks key desk now ballot) → MayHaveDrawn m.disks id desk.vault by.middle ballot → IsQuiet m cluster (drew_log ballot key era log) all id era now
 quiet_loses {S} {V} m cluster log all id era caller waiting key desk now ballot tells of by drawn =
     let cache = same_or_without m cluster (drew_log ballot key era log) all id era key desk.cache now.cache by.cache (drew_ready cluster log all id era desk.cache key ballot of.cached) of.one_each in
     record {
@@ -163,8 +163,8 @@ quiet_loses {S} {V} m cluster log all id era caller waiting key desk now ballot 
       none_open = ap (λ (d : DeskView V). d.round) by.desk;
     }
 
-pub quiet_ends : {S V : Type 0} (m : Meaning S V) (cluster : Cluster) (log : List Happening) (all : List Made) (id era : ℕ) (caller : CallerView) (waiting : List Message) (desk now : DeskView V) (round : Round) → m.disks_tell
-    → IsDeskTrue m cluster log all era id caller waiting desk → EndsRound m desk now round None → IsQuiet m cluster log all id era now
+pub quiet_ends : {S V : Type 0} (m : Meaning S V) (cluster : Cluster) (log : List Happening) (all : List Made) (id era : ℕ) (caller : CallerView) (waiting : List Message) (desk now : DeskView V) (round : Round) → m.disks.tells
+    → IsDeskTrue m cluster log all era id caller waiting desk → EndsRound m.disks desk now round None → IsQuiet m cluster log all id era now
 quiet_ends {S} {V} m cluster log all id era caller waiting desk now round tells of by =
     let cache = same_or_without m cluster log all id era round.key desk.cache now.cache (inr (ap (λ (d : DeskView V). d.cache) by.desk)) of.cached of.one_each in
     record {
@@ -176,8 +176,8 @@ quiet_ends {S} {V} m cluster log all id era caller waiting desk now round tells 
       none_open = ap (λ (d : DeskView V). d.round) by.desk;
     }
 
-pub quiet_crashes : {S V : Type 0} (m : Meaning S V) (cluster : Cluster) (log : List Happening) (all : List Made) (id era : ℕ) (caller : CallerView) (waiting : List Message) (desk now : DeskView V) → m.disks_tell
-    → IsDeskTrue m cluster log all era id caller waiting desk → Crashes m desk now → IsQuiet m cluster log all id era now
+pub quiet_crashes : {S V : Type 0} (m : Meaning S V) (cluster : Cluster) (log : List Happening) (all : List Made) (id era : ℕ) (caller : CallerView) (waiting : List Message) (desk now : DeskView V) → m.disks.tells
+    → IsDeskTrue m cluster log all era id caller waiting desk → Crashes m.disks desk now → IsQuiet m cluster log all id era now
 quiet_crashes {S} {V} m cluster log all id era caller waiting desk now tells of by = record {
   same_id = ap (λ (d : DeskView V). d.id) by.crashed ∙ of.same_id;
   known = of.known;
@@ -223,8 +223,8 @@ pub others_left : (flow : FlowView) (id p : ℕ) → (p ≡ id → ⊥) → (que
 others_left flow id p other = ap (λ (q : QueueView). q.messages) (queue_other flow.own id p (emptied (queue_at flow id)) other)
 
 -- ---- a round ends without a proposal or with one that is not known to stand
-pub told_fails : {S V : Type 0} (m : Meaning S V) (cluster : Cluster) (global : GlobalState) (old : View S V) (id : ℕ) (caller : CallerView) (call : CallView) (key : List ℕ) (desk now : DeskView V) (told : Answer) → m.disks_tell
-    → IsAt old.callers id caller → caller.call ≡ Some call → IsAt old.desks id desk → (queue_at old.flow id).messages ≡ [] → FailsToDraw m key desk now → IsToldTrue global.log global.made id caller.number told
+pub told_fails : {S V : Type 0} (m : Meaning S V) (cluster : Cluster) (global : GlobalState) (old : View S V) (id : ℕ) (caller : CallerView) (call : CallView) (key : List ℕ) (desk now : DeskView V) (told : Answer) → m.disks.tells
+    → IsAt old.callers id caller → caller.call ≡ Some call → IsAt old.desks id desk → (queue_at old.flow id).messages ≡ [] → FailsToDraw m.disks key desk now → IsToldTrue global.log global.made id caller.number told
     → Whole m cluster global old → Whole m cluster global (with_call (with_desk old id now) id caller (telling call told))
 told_fails m cluster global old id caller call key desk now told tells at_caller is_open at_desk none by is whole =
     let was = whole.parties.callers id tt caller at_caller in
@@ -233,8 +233,8 @@ told_fails m cluster global old id caller call key desk now told tells at_caller
     (quiet_fails m cluster global.log global.made id old.era.number caller (queue_at old.flow id).messages key desk now tells (whole.parties.desks id tt desk caller at_desk at_caller) by)
     none (λ p other. refl) whole.parties.late
 
-pub told_ends : {S V : Type 0} (m : Meaning S V) (cluster : Cluster) (global : GlobalState) (old : View S V) (id : ℕ) (caller : CallerView) (call : CallView) (desk now : DeskView V) (round : Round) (told : Answer) → m.disks_tell
-    → IsAt old.callers id caller → caller.call ≡ Some call → IsAt old.desks id desk → (queue_at old.flow id).messages ≡ [] → EndsRound m desk now round None → IsToldTrue global.log global.made id caller.number told
+pub told_ends : {S V : Type 0} (m : Meaning S V) (cluster : Cluster) (global : GlobalState) (old : View S V) (id : ℕ) (caller : CallerView) (call : CallView) (desk now : DeskView V) (round : Round) (told : Answer) → m.disks.tells
+    → IsAt old.callers id caller → caller.call ≡ Some call → IsAt old.desks id desk → (queue_at old.flow id).messages ≡ [] → EndsRound m.disks desk now round None → IsToldTrue global.log global.made id caller.number told
     → Whole m cluster global old → Whole m cluster global (with_call (with_desk old id now) id caller (telling call told))
 told_ends m cluster global old id caller call desk now round told tells at_caller is_open at_desk none by is whole =
     let was = whole.parties.callers id tt caller at_caller in
@@ -244,13 +244,13 @@ told_ends m cluster global old id caller call desk now round told tells at_calle
     none (λ p other. refl) whole.parties.late
 
 -- no memory was found, where nothing was proposed
-pub told_loses : {S V : Type 0} (m : Meaning S V) (cluster : Cluster) (global : GlobalState) (old : View S V) (id : ℕ) (caller : CallerView) (call : CallView) (key : List ℕ) (desk now : DeskView V) (ballot : Option Ballot) → m.disks_tell
-    → IsAt old.callers id caller → caller.call ≡ Some call → call.proposed ≡ None → IsAt old.desks id desk → (queue_at old.flow id).messages ≡ [] → LosesMemory m key desk now ballot
+pub told_loses : {S V : Type 0} (m : Meaning S V) (cluster : Cluster) (global : GlobalState) (old : View S V) (id : ℕ) (caller : CallerView) (call : CallView) (key : List ℕ) (desk now : DeskView V) (ballot : Option Ballot) → m.disks.tells
+    → IsAt old.callers id caller → caller.call ≡ Some call → call.proposed ≡ None → IsAt old.desks id desk → (queue_at old.flow id).messages ≡ [] → LosesMemory m.disks key desk now ballot
     → Whole m cluster global old → Whole m cluster (drew global ballot key old.era.number) (with_call (with_desk old id now) id caller (telling call (answer.NoMemory false)))
 told_loses {S} {V} m cluster global old id caller call key desk now ballot tells at_caller is_open unproposed at_desk none by whole =
     let of = whole.parties.desks id tt desk caller at_desk at_caller in
     let era = old.era.number in
-    let drawn = subst (λ (i : ℕ). MayHaveDrawn m i desk.vault by.middle ballot) of.same_id by.drawn in
+    let drawn = subst (λ (i : ℕ). MayHaveDrawn m.disks i desk.vault by.middle ballot) of.same_id by.drawn in
     let after = drew global ballot key era in
     let was = drew_caller global.log global.made id caller key era ballot (whole.parties.callers id tt caller at_caller) in
     let call_true = was.call call is_open in
@@ -261,14 +261,14 @@ told_loses {S} {V} m cluster global old id caller call key desk now ballot tells
     none (λ p other. refl) (drew_messages global.log old.flow.late key era ballot whole.parties.late)
 
 -- the same of a call that did not begin: no caller is told
-pub lost : {S V : Type 0} (m : Meaning S V) (cluster : Cluster) (global : GlobalState) (old : View S V) (id : ℕ) (key : List ℕ) (desk now : DeskView V) (ballot : Option Ballot) → m.disks_tell
-    → IsAt old.desks id desk → desk.round ≡ None → LosesMemory m key desk now ballot → (caller : CallerView) → IsAt old.callers id caller
+pub lost : {S V : Type 0} (m : Meaning S V) (cluster : Cluster) (global : GlobalState) (old : View S V) (id : ℕ) (key : List ℕ) (desk now : DeskView V) (ballot : Option Ballot) → m.disks.tells
+    → IsAt old.desks id desk → desk.round ≡ None → LosesMemory m.disks key desk now ballot → (caller : CallerView) → IsAt old.callers id caller
     → Whole m cluster global old → Whole m cluster (drew global ballot key old.era.number) (with_desk old id now)
 lost {S} {V} m cluster global old id key desk now ballot tells at_desk idle by caller at_caller whole =
     let of = whole.parties.desks id tt desk caller at_desk at_caller in
     let none = none_waits cluster global.log global.made id old.era.number caller (queue_at old.flow id).messages desk.round idle of.round in
     let era = old.era.number in
-    let drawn = subst (λ (i : ℕ). MayHaveDrawn m i desk.vault by.middle ballot) of.same_id by.drawn in
+    let drawn = subst (λ (i : ℕ). MayHaveDrawn m.disks i desk.vault by.middle ballot) of.same_id by.drawn in
     let after = drew global ballot key era in
     settles m cluster after old (with_desk old id now) id (drew_around m cluster global old id key desk.vault by.middle ballot of.known drawn of.vault (around m cluster global old id whole))
     (leaves_desk old id now _ (λ p other. refl))
@@ -283,8 +283,8 @@ lost {S} {V} m cluster global old id key desk now ballot tells at_desk idle by c
     })
 
 -- ---- a desk stops
-pub crashes_desk : {S V : Type 0} (m : Meaning S V) (cluster : Cluster) (global : GlobalState) (old : View S V) (id : ℕ) (caller : CallerView) (call new : CallView) (desk now : DeskView V) → m.disks_tell
-    → IsAt old.callers id caller → caller.call ≡ Some call → IsAt old.desks id desk → Crashes m desk now → IsCallTrue global.log global.made id caller.number new
+pub crashes_desk : {S V : Type 0} (m : Meaning S V) (cluster : Cluster) (global : GlobalState) (old : View S V) (id : ℕ) (caller : CallerView) (call new : CallView) (desk now : DeskView V) → m.disks.tells
+    → IsAt old.callers id caller → caller.call ≡ Some call → IsAt old.desks id desk → Crashes m.disks desk now → IsCallTrue global.log global.made id caller.number new
     → Whole m cluster global old → Whole m cluster global (record (with_call (with_desk old id now) id caller new) { flow = abandoned old.flow id })
 crashes_desk m cluster global old id caller call new desk now tells at_caller is_open at_desk by call_true whole =
     quiets m cluster global old id caller new now (abandoned old.flow id) (around m cluster global old id whole) (whole.parties.callers id tt caller at_caller) call_true

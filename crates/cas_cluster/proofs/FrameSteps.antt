@@ -637,8 +637,8 @@ answer_marks : (global : GlobalState) (request : Request) (reply : Reply) (new :
 answer_marks global request reply new = answered_marks global request reply new ∙ ap (λ (l : List Mark). l ++ marks_of global.log) (sym (votes_one request.to request.ask reply.tell))
 
 -- the reply that waits accounts for the acceptor that the request was to
-answers_turn : {S V : Type 0} (m : Meaning S V) (cluster : Cluster) (global : GlobalState) (old : View S V) (id : ℕ) (verdict : Verdict) (request : Request) (caller : CallerView) (call : CallView) (acceptor now : AcceptorView S) (reply : Reply) → m.shelves_tell
-    → IsAt old.callers id caller → caller.call ≡ Some call → slice_get (queue_at old.flow id).messages 0 ≡ Some (message.Request request) → IsAt old.acceptors request.to acceptor → AnswersByTable m acceptor now request reply
+answers_turn : {S V : Type 0} (m : Meaning S V) (cluster : Cluster) (global : GlobalState) (old : View S V) (id : ℕ) (verdict : Verdict) (request : Request) (caller : CallerView) (call : CallView) (acceptor now : AcceptorView S) (reply : Reply) → m.shelves.tells
+    → IsAt old.callers id caller → caller.call ≡ Some call → slice_get (queue_at old.flow id).messages 0 ≡ Some (message.Request request) → IsAt old.acceptors request.to acceptor → AnswersByTable m.shelves acceptor now request reply
     → marks_of global.log ≡ reverse old.marks → Whole m cluster global old
     → IsRemembered m (with_marks (record (with_call (with_acceptor old request.to now) id caller (silent call)) { flow = replied_flow old.flow id verdict reply }) (votes_marked request reply))
 answers_turn {S} {V} m cluster global old id verdict request caller call acceptor now reply tells at is_open in_front at_acceptor by marks whole =
@@ -646,15 +646,15 @@ answers_turn {S} {V} m cluster global old id verdict request caller call accepto
     (moves m cluster answered (with_acceptor old request.to now) id caller call (silent call) (replied_flow old.flow id verdict reply) at is_open refl refl
     (call_silent answered.log answered.made id caller.number call ((whole_then.parties.callers id tt caller at).call call is_open))
     (replied_flows answered.log old.flow id verdict reply in_front (whole_then.parties.own id) whole_then.parties.late (reply_made m global request reply acceptor now by)) stays whole_then)
-    marks (answer_marks global request reply (m.contents now.shelf))
+    marks (answer_marks global request reply (m.shelves.contents now.shelf))
   where
     answered : GlobalState
-    answered = answered_global global request reply (m.contents now.shelf)
+    answered = answered_global global request reply (m.shelves.contents now.shelf)
 
     waits_there : Contains (queue_at old.flow id).messages (message.Request request)
     waits_there = contains_at (queue_at old.flow id).messages 0 (message.Request request) in_front
 
-    whole_then : Whole m cluster (answered_global global request reply (m.contents now.shelf)) (with_acceptor old request.to now)
+    whole_then : Whole m cluster (answered_global global request reply (m.shelves.contents now.shelf)) (with_acceptor old request.to now)
     whole_then = answers m cluster global old request reply acceptor now tells at_acceptor by (whole.parties.own id (message.Request request) waits_there) whole
 
     from : reply.from ≡ request.to
@@ -669,7 +669,7 @@ answers_turn {S} {V} m cluster global old id verdict request caller call accepto
         (thins_pushed waiting rest request.to (message.Reply reply) (taken_thins old.flow id verdict in_front))
         (waits (message.Reply reply) (contains_back rest (message.Reply reply ∷ []) (contains_new (message.Reply reply) [])) from)
         (heard_pushes round replies waiting call.harmed (message.Reply reply)
-        (of_answer round acceptor.id (m.contents acceptor.shelf) (m.contents now.shelf) request reply by.table (was.of_phase (message.Request request) waits_there)) was))
+        (of_answer round acceptor.id (m.shelves.contents acceptor.shelf) (m.shelves.contents now.shelf) request reply by.table (was.of_phase (message.Request request) waits_there)) was))
 
 -- ---- a reply arrives
 -- it is heard in the open phase, and accounts for the acceptor that made it
@@ -697,7 +697,7 @@ arrives_turn {S} {V} m cluster global old id verdict reply caller call desk now 
 
 -- ---- turns
 -- A cluster that has a history has one after the turn of a proposer's first own frame, whatever becomes of it.
-pub turns : {S V : Type 0} (m : Meaning S V) (old : View S V) (id : ℕ) (verdict : Verdict) (new : View S V) → m.shelves_tell → IsRemembered m old → StepTurn m old id verdict new → IsRemembered m new
+pub turns : {S V : Type 0} (m : Meaning S V) (old : View S V) (id : ℕ) (verdict : Verdict) (new : View S V) → m.shelves.tells → IsRemembered m old → StepTurn m old id verdict new → IsRemembered m new
 turns {S} {V} m old id verdict new tells is step = by_turn step.turn
   where
     caller : CallerView
@@ -736,7 +736,7 @@ turns {S} {V} m old id verdict new tells is step = by_turn step.turn
 
 -- ---- no memory
 -- It has one where no memory was found: nothing changed, or an acceptor keeps what it kept.
-pub refuses_stray : {S V : Type 0} (m : Meaning S V) (old new : View S V) → m.shelves_tell → IsRemembered m old → FindsNoRoom m old new → IsRemembered m new
+pub refuses_stray : {S V : Type 0} (m : Meaning S V) (old new : View S V) → m.shelves.tells → IsRemembered m old → FindsNoRoom m old new → IsRemembered m new
 refuses_stray m old new tells is (frames.stays e) = subst (IsRemembered m) (sym e) is
 refuses_stray m old new tells is (frames.kept id acceptor now at by e) =
     subst (IsRemembered m) (sym e)
@@ -747,7 +747,7 @@ same_callers {S} {V} m old new (frames.stays e) = ap (λ (v : View S V). v.calle
 same_callers {S} {V} m old new (frames.kept id acceptor now at by e) = ap (λ (v : View S V). v.callers) e
 
 -- And it has one where the caller of a frame that was refused is told so.
-pub refuses_turn : {S V : Type 0} (m : Meaning S V) (old : View S V) (id : ℕ) (new : View S V) → m.shelves_tell → IsRemembered m old → StepRefuseTurn m old id new → IsRemembered m new
+pub refuses_turn : {S V : Type 0} (m : Meaning S V) (old : View S V) (id : ℕ) (new : View S V) → m.shelves.tells → IsRemembered m old → StepRefuseTurn m old id new → IsRemembered m new
 refuses_turn {S} {V} m old id new tells is step =
     let caller = step.of_call.caller in
     let call = step.of_call.call in
@@ -766,7 +766,7 @@ refuses_turn {S} {V} m old id new tells is step =
 
 -- ---- strays
 -- It has one after a late frame strayed in.
-pub strays : {S V : Type 0} (m : Meaning S V) (old : View S V) (index : ℕ) (new : View S V) → m.shelves_tell → IsRemembered m old → StepStray m old index new → IsRemembered m new
+pub strays : {S V : Type 0} (m : Meaning S V) (old : View S V) (index : ℕ) (new : View S V) → m.shelves.tells → IsRemembered m old → StepStray m old index new → IsRemembered m new
 strays {S} {V} m old index new tells is step = by_stray step.strays
   where
     whole : Whole m is.cluster is.global old
@@ -778,13 +778,13 @@ strays {S} {V} m old index new tells is step = by_stray step.strays
 
     by_stray : Strays m old index step.late new → IsRemembered m new
     by_stray (frames.answers request acceptor now reply late at by e) =
-        let answered = answered_global is.global request reply (m.contents now.shelf) in
+        let answered = answered_global is.global request reply (m.shelves.contents now.shelf) in
         let whole_then = answers m is.cluster is.global old request reply acceptor now tells at by (late_one late) whole in
         subst (IsRemembered m) (sym e)
         (marked m is.cluster answered (record (with_acceptor old request.to now) { flow = with_late (without_late old.flow index) (message.Reply reply) }) (votes_marked request reply) (marks_of is.global.log)
         (relates m is.cluster answered (with_acceptor old request.to now) (joined (without_late old.flow index).late (message.Reply reply))
         (joined_true answered.log (without_late old.flow index).late (message.Reply reply) (without_true answered.log old.flow index whole_then.parties.late) (reply_made m is.global request reply acceptor now by)) whole_then)
-        is.agrees.marks (answer_marks is.global request reply (m.contents now.shelf)))
+        is.agrees.marks (answer_marks is.global request reply (m.shelves.contents now.shelf)))
     by_stray (frames.brings_down request acceptor now late at by e) =
         subst (IsRemembered m) (sym e)
         (remembered m is.cluster is.global (record (with_acceptor old request.to now) { flow = without_late old.flow index })

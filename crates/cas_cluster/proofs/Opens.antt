@@ -70,15 +70,15 @@ no_messages : (messages : List Message) → messages ≡ [] → AreMessagesTrue 
 no_messages messages none each has_it = absurd (contains_none (subst (λ (l : List Message). Contains l each) none has_it))
 
 -- ---- a cluster opens
-pub opening_remembered : {S V : Type 0} (m : Meaning S V) (members : List ℕ) (view : View S V) → IsOpening m members view → IsRemembered m view
-opening_remembered {S} {V} m members view is = remembered m cluster opening view (record {
+pub opening_remembered : {S V : Type 0} (m : Meaning S V) → m.shelves.tells → m.disks.tells → (members : List ℕ) (view : View S V) → IsOpening m members view → IsRemembered m view
+opening_remembered {S} {V} m shelves disks members view is = remembered m cluster opening view (record {
   meets = one_meets view.greatest members is.member_set;
   history = opens cluster;
   acceptors = λ a acceptor at. let fresh = is.acceptors a acceptor at in record {
     same_id = fresh.same_id;
     started = fresh.started;
     keeps = fresh.keeps;
-    lasts = fresh.lasts;
+    lasts = fresh.lasts shelves;
     stopped = λ down started left may. absurd (cc (started, fresh.not_started down));
     not_started = λ none. refl;
   };
@@ -92,7 +92,7 @@ opening_remembered {S} {V} m members view is = remembered m cluster opening view
       vault = record {
         past = λ b k e stands own. absurd (none_at_nil stands.at);
         past_floors = λ k floor has. absurd (none_at_nil has.stands.at);
-        in_era = subst (λ (e : Era). IsInEra m e.number desk.vault) (sym is.era) fresh.1.in_era;
+        in_era = subst (λ (e : Era). IsInEra m.disks e.number desk.vault) (sym is.era) (fresh.1.in_era disks);
         is_in = inl (ap (λ (e : Era). e.number) is.era);
         not_beyond = λ stands. none_at_nil stands.at;
       };

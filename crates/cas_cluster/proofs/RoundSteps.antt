@@ -67,8 +67,8 @@ begun_here log all id caller call key is_open same caller_true = subst (λ (k : 
 
 -- ---- by a promise
 pub begins_by_promise : {S V : Type 0} (m : Meaning S V) (cluster : Cluster) (global : GlobalState) (old : View S V) (id : ℕ) (caller : CallerView) (call : CallView) (desk now : DeskView V) (ready : Ready) (ride : Option Ballot) (round : Round)
-    (outcome : Outcome) (flow : FlowView) → m.disks_tell → IsAt old.callers id caller → caller.call ≡ Some call → call.proposed ≡ None → IsAt old.desks id desk
-    → BeginsByPromise m old.era call.key desk now ready ride round → outcome ≡ outcome_of call.program ready.state
+    (outcome : Outcome) (flow : FlowView) → m.disks.tells → IsAt old.callers id caller → caller.call ≡ Some call → call.proposed ≡ None → IsAt old.desks id desk
+    → BeginsByPromise m.disks old.era call.key desk now ready ride round → outcome ≡ outcome_of call.program ready.state
     → Sends old.flow id (accepts_to id (kept_of desk.vault).age round.key round.ballot round.era.number ride outcome.state round.era.acc) flow → Whole m cluster global old
     → Whole m cluster (proposed_global (drew global ride call.key old.era.number) id (kept_of desk.vault).age (record round { ride = ride }) (proposal_of id caller.number round ready.read ready.by) outcome)
     (proposed_view old id caller call now flow (proposal_of id caller.number round ready.read ready.by) outcome)
@@ -81,8 +81,8 @@ begins_by_promise {S} {V} m cluster global old id caller call desk now ready rid
     of : IsDeskTrue m cluster global.log global.made era id caller (queue_at old.flow id).messages desk
     of = whole.parties.desks id tt desk caller at_desk at_caller
 
-    drawn : MayHaveDrawn m id desk.vault now.vault ride
-    drawn = subst (λ (i : ℕ). MayHaveDrawn m i desk.vault now.vault ride) of.same_id begins.drawn
+    drawn : MayHaveDrawn m.disks id desk.vault now.vault ride
+    drawn = subst (λ (i : ℕ). MayHaveDrawn m.disks i desk.vault now.vault ride) of.same_id begins.drawn
 
     before : GlobalState
     before = drew global ride call.key era
@@ -176,10 +176,10 @@ promised_quorum era ballot replies (Prepare p) is quorum = ap (λ (e : Era). hol
 promised_quorum era ballot replies (Accept p) is quorum = absurd is
 
 pub proposes_round : {S V : Type 0} (m : Meaning S V) (cluster : Cluster) (global : GlobalState) (old : View S V) (id : ℕ) (caller : CallerView) (call : CallView) (desk now : DeskView V) (round : Round) (phase_is : OpenPhase) (read : Option Accepted) (by : List ℕ)
-    (ride : Option Ballot) (outcome : Outcome) (flow : FlowView) → m.disks_tell → IsAt old.callers id caller → caller.call ≡ Some call → IsAt old.desks id desk → desk.round ≡ Some round → (queue_at old.flow id).messages ≡ []
+    (ride : Option Ballot) (outcome : Outcome) (flow : FlowView) → m.disks.tells → IsAt old.callers id caller → caller.call ≡ Some call → IsAt old.desks id desk → desk.round ≡ Some round → (queue_at old.flow id).messages ≡ []
     → IsPrepareTrue global.log id call (queue_at old.flow id).messages round → round.key ≡ call.key → round.era.number ≡ old.era.number → IsEraOf cluster round.era
     → has_quorum round.phase ≡ true → IsConfirmersOf round by → IsReadOf round read → ((replies : List Reply) → IsPreparing replies round → IsAccepting replies [] (record round { phase = phase_is }))
-    → MayHaveDrawn m desk.id desk.vault now.vault ride → now ≡ record desk { vault = now.vault; round = Some (record round { ride = ride; phase = phase_is }) } → outcome ≡ outcome_of call.program (state_read read)
+    → MayHaveDrawn m.disks desk.id desk.vault now.vault ride → now ≡ record desk { vault = now.vault; round = Some (record round { ride = ride; phase = phase_is }) } → outcome ≡ outcome_of call.program (state_read read)
     → Sends old.flow id (accepts_to id (kept_of desk.vault).age round.key round.ballot round.era.number ride outcome.state round.era.acc) flow → Whole m cluster global old
     → Whole m cluster (proposed_global (drew global ride round.key old.era.number) id (kept_of desk.vault).age (record round { ride = ride; phase = phase_is }) (proposal_of id caller.number round (accepted_ballot read) by) outcome)
     (proposed_view old id caller call now flow (proposal_of id caller.number round (accepted_ballot read) by) outcome)
@@ -195,8 +195,8 @@ proposes_round {S} {V} m cluster global old id caller call desk now round phase_
     of : IsDeskTrue m cluster global.log global.made era id caller (queue_at old.flow id).messages desk
     of = whole.parties.desks id tt desk caller at_desk at_caller
 
-    drawn : MayHaveDrawn m id desk.vault now.vault ride
-    drawn = subst (λ (i : ℕ). MayHaveDrawn m i desk.vault now.vault ride) of.same_id may_drawn
+    drawn : MayHaveDrawn m.disks id desk.vault now.vault ride
+    drawn = subst (λ (i : ℕ). MayHaveDrawn m.disks i desk.vault now.vault ride) of.same_id may_drawn
 
     before : GlobalState
     before = drew global ride round.key era

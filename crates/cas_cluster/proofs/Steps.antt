@@ -60,7 +60,7 @@ unproposed_after {S} {V} old id key program middle caller call (calls.again was 
     let is : tried_again open_call ≡ call = some_is (sym (ap (λ (c : CallerView). c.call) same) ∙ is_open) in
     sym (ap (λ (c : CallView). c.proposed) is) ∙ unproposed
 
-begins : {S V : Type 0} (m : Meaning S V) (old : View S V) (id : ℕ) (caller : CallerView) (call : CallView) (new : View S V) → m.disks_tell → IsAt old.callers id caller → caller.call ≡ Some call → call.proposed ≡ None
+begins : {S V : Type 0} (m : Meaning S V) (old : View S V) (id : ℕ) (caller : CallerView) (call : CallView) (new : View S V) → m.disks.tells → IsAt old.callers id caller → caller.call ≡ Some call → call.proposed ≡ None
     → IsRemembered m old → BeginsRound m old id caller call new → IsRemembered m new
 begins m old id caller call new tells at_caller is_open unproposed is (calls.prepares desk now ballot round flow at_desk up by sends view) =
     subst (IsRemembered m) (sym view) (remembered m is.cluster _ (record (with_desk old id now) { flow = flow })
@@ -92,7 +92,7 @@ begins m old id caller call new tells at_caller is_open unproposed is (calls.los
     (none_waits is.cluster is.global.log is.global.made id old.era.number caller (queue_at old.flow id).messages desk.round idle of.round) by (whole_of m old is))
     (drew_marks is.global.log call.key old.era.number ballot ∙ is.agrees.marks))
 
-refuses : {S V : Type 0} (m : Meaning S V) (old : View S V) (id : ℕ) (key : List ℕ) (new : View S V) → m.disks_tell → IsRemembered m old → RefusesCall m old id key new → IsRemembered m new
+refuses : {S V : Type 0} (m : Meaning S V) (old : View S V) (id : ℕ) (key : List ℕ) (new : View S V) → m.disks.tells → IsRemembered m old → RefusesCall m old id key new → IsRemembered m new
 refuses m old id key new tells is (calls.stays view) = subst (IsRemembered m) (sym view) is
 refuses m old id key new tells is (calls.loses caller desk now ballot at_caller at_desk idle up by view) =
     subst (IsRemembered m) (sym view) (remembered m is.cluster (drew is.global ballot key old.era.number) (with_desk old id now)
@@ -127,7 +127,7 @@ round_at m old id is at =
 call_at : {S V : Type 0} (m : Meaning S V) (old : View S V) (id : ℕ) (is : IsRemembered m old) (at : OpenRoundAt old id) → (round_at m old id is at).call ≡ at.of_call.call
 call_at m old id is at = some_is (sym (round_at m old id is at).is_open ∙ at.of_call.is_open)
 
-proposes_or_ends : {S V : Type 0} (m : Meaning S V) (old : View S V) (id : ℕ) (new : View S V) → m.disks_tell → IsRemembered m old → (at : OpenRoundAt old id) → is_preparing at.round.phase ≡ true
+proposes_or_ends : {S V : Type 0} (m : Meaning S V) (old : View S V) (id : ℕ) (new : View S V) → m.disks.tells → IsRemembered m old → (at : OpenRoundAt old id) → is_preparing at.round.phase ≡ true
     → ProposesOrEnds m old id at.desk at.round at.of_call.caller at.of_call.call new → IsRemembered m new
 proposes_or_ends {S} {V} m old id new tells is at preparing by = by_case by
   where
@@ -174,7 +174,7 @@ proposes_or_ends {S} {V} m old id new tells is at preparing by = by_case by
         (told_loses m is.cluster is.global old id caller call at.round.key at.desk now ballot tells at.of_call.at_caller at.of_call.is_open prepare.unproposed at.at_desk at.none_waits by (whole_of m old is))
         (drew_marks is.global.log at.round.key old.era.number ballot ∙ is.agrees.marks))
 
-counts_or_ends : {S V : Type 0} (m : Meaning S V) (old : View S V) (id : ℕ) (new : View S V) → m.disks_tell → IsRemembered m old → (at : OpenRoundAt old id) → is_preparing at.round.phase ≡ false
+counts_or_ends : {S V : Type 0} (m : Meaning S V) (old : View S V) (id : ℕ) (new : View S V) → m.disks.tells → IsRemembered m old → (at : OpenRoundAt old id) → is_preparing at.round.phase ≡ false
     → CountsOrEnds m old id at.desk at.round at.of_call.caller at.of_call.call new → IsRemembered m new
 counts_or_ends {S} {V} m old id new tells is at accepting by = by_case by
   where
@@ -210,7 +210,7 @@ counts_or_ends {S} {V} m old id new tells is at accepting by = by_case by
               (subst (λ (l : List Message). IsAcceptTrue is.global.log is.global.made id caller.number call l at.round) at.none_waits accept) call_true.harmed_set is_verdict short,
         ))) (whole_of m old is)) is.agrees.marks)
 
-ends : {S V : Type 0} (m : Meaning S V) (old : View S V) (id : ℕ) (told : Answer) (new : View S V) → m.disks_tell → IsRemembered m old → StepEnd m old id told new → IsRemembered m new
+ends : {S V : Type 0} (m : Meaning S V) (old : View S V) (id : ℕ) (told : Answer) (new : View S V) → m.disks.tells → IsRemembered m old → StepEnd m old id told new → IsRemembered m new
 ends m old id told new tells is by =
     let at = by.of_call in
     subst (IsRemembered m) (sym by.ends.view) (frames.marked m is.cluster _ (record (with_caller (with_desk old id by.ends.now) id (record at.caller { call = None })) { flow = abandoned old.flow id })
@@ -219,11 +219,11 @@ ends m old id told new tells is by =
     is.agrees.marks refl)
 
 -- ---- stops
-crashes_acceptor : {S V : Type 0} (m : Meaning S V) (old : View S V) (id : ℕ) (new : View S V) → m.shelves_tell → IsRemembered m old → StepCrashAcceptor m old id new → IsRemembered m new
+crashes_acceptor : {S V : Type 0} (m : Meaning S V) (old : View S V) (id : ℕ) (new : View S V) → m.shelves.tells → IsRemembered m old → StepCrashAcceptor m old id new → IsRemembered m new
 crashes_acceptor m old id new tells is (step.crashes one now at by view) =
     subst (IsRemembered m) (sym view) (remembered m is.cluster is.global (with_acceptor old id now) (acceptor.crashes m is.cluster is.global old id one now tells at by (whole_of m old is)) is.agrees.marks)
 
-restarts_acceptor : {S V : Type 0} (m : Meaning S V) (old : View S V) (id : ℕ) (new : View S V) → m.shelves_tell → IsRemembered m old → StepRestartAcceptor m old id new → IsRemembered m new
+restarts_acceptor : {S V : Type 0} (m : Meaning S V) (old : View S V) (id : ℕ) (new : View S V) → m.shelves.tells → IsRemembered m old → StepRestartAcceptor m old id new → IsRemembered m new
 restarts_acceptor m old id new tells is (step.was_up view) = subst (IsRemembered m) (sym view) is
 restarts_acceptor m old id new tells is (step.starts one now at by view) =
     let again = acceptor.starts m is.cluster is.global old id one now tells at by (whole_of m old is) in
@@ -232,7 +232,7 @@ restarts_acceptor m old id new tells is (step.fails one now at by view) =
     subst (IsRemembered m) (sym view) (remembered m is.cluster is.global (with_acceptor old id now) (acceptor.fails_to_start m is.cluster is.global old id one now tells at by (whole_of m old is)) is.agrees.marks)
 
 -- a crash of a desk that has no open round
-idle_crash : {S V : Type 0} (m : Meaning S V) (cluster : Cluster) (global : GlobalState) (old : View S V) (id : ℕ) (desk now : DeskView V) → m.disks_tell → IsAt old.desks id desk → desk.round ≡ None → Crashes m desk now
+idle_crash : {S V : Type 0} (m : Meaning S V) (cluster : Cluster) (global : GlobalState) (old : View S V) (id : ℕ) (desk now : DeskView V) → m.disks.tells → IsAt old.desks id desk → desk.round ≡ None → Crashes m.disks desk now
     → Whole m cluster global old → Whole m cluster global (record (with_desk old id now) { flow = abandoned old.flow id })
 idle_crash {S} {V} m cluster global old id desk now tells at_desk idle by whole =
     settles m cluster global old (record (with_desk old id now) { flow = abandoned old.flow id }) id (around m cluster global old id whole)
@@ -256,7 +256,7 @@ crash_told log all id number call was = call_told log all id number call (if is_
     by_proposed None none some = record { refused = λ e. none refl; unsettled = λ e. absurd (cc e); harmed = omega arith }
     by_proposed (Some outcome) none some = record { refused = λ e. absurd (cc e); unsettled = λ e. some refl; harmed = omega arith }
 
-crashes_proposer : {S V : Type 0} (m : Meaning S V) (old : View S V) (id : ℕ) (new : View S V) → m.disks_tell → IsRemembered m old → StepCrashProposer m old id new → IsRemembered m new
+crashes_proposer : {S V : Type 0} (m : Meaning S V) (old : View S V) (id : ℕ) (new : View S V) → m.disks.tells → IsRemembered m old → StepCrashProposer m old id new → IsRemembered m new
 crashes_proposer m old id new tells is (step.idle desk now at none by view) =
     subst (IsRemembered m) (sym view) (remembered m is.cluster is.global (record (with_desk old id now) { flow = abandoned old.flow id }) (idle_crash m is.cluster is.global old id desk now tells at none by (whole_of m old is)) is.agrees.marks)
 crashes_proposer m old id new tells is (step.closes desk now round of_call at some by view) =
@@ -264,12 +264,12 @@ crashes_proposer m old id new tells is (step.closes desk now round of_call at so
     (crashes_desk m is.cluster is.global old id of_call.caller of_call.call (closed_by_crash of_call.call) desk now tells of_call.at_caller of_call.is_open at by
     (crash_told is.global.log is.global.made id of_call.caller.number of_call.call ((is.agrees.callers id of_call.caller of_call.at_caller).call of_call.call of_call.is_open)) (whole_of m old is)) is.agrees.marks)
 
-restarts_proposer : {S V : Type 0} (m : Meaning S V) (old : View S V) (id : ℕ) (new : View S V) → m.disks_tell → IsRemembered m old → StepRestartProposer m old id new → IsRemembered m new
+restarts_proposer : {S V : Type 0} (m : Meaning S V) (old : View S V) (id : ℕ) (new : View S V) → m.disks.tells → IsRemembered m old → StepRestartProposer m old id new → IsRemembered m new
 restarts_proposer m old id new tells is (step.restarts desk now at by view) =
     subst (IsRemembered m) (sym view) (remembered m is.cluster is.global (with_desk old id now) (restarts m is.cluster is.global old id desk now tells at by (whole_of m old is)) is.agrees.marks)
 
 -- ---- all of them
-pub keeps : {S V : Type 0} (m : Meaning S V) (old : View S V) (event : step.Event) (new : View S V) → m.shelves_tell → m.disks_tell → IsRemembered m old → Step m old event new → IsRemembered m new
+pub keeps : {S V : Type 0} (m : Meaning S V) (old : View S V) (event : step.Event) (new : View S V) → m.shelves.tells → m.disks.tells → IsRemembered m old → Step m old event new → IsRemembered m new
 keeps m old (step.Begin id key program) new shelves disks is by =
     begins m by.middle id by.caller by.call new disks by.at_caller by.is_open (unproposed_after old id key program by.middle by.caller by.call by.opens by.at_caller by.is_open) (opens m old id key program by.middle is by.opens) by.begins
 keeps m old (step.RefuseBegin id key) new shelves disks is by = refuses m old id key new disks is by

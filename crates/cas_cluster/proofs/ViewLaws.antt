@@ -34,13 +34,13 @@ use Rattle.cas_cluster.proofs.Opens.{opening_remembered, remembered_legal}
 use Rattle.cas_cluster.proofs.Steps.{keeps}
 
 pub openings : {S V : Type 0} (m : Meaning S V) → OpeningsAreRemembered m
-openings m members view is = opening_remembered m members view is
+openings m shelves disks members view is = opening_remembered m shelves disks members view is
 
 pub steps : {S V : Type 0} (m : Meaning S V) → StepsAreRemembered m
 steps m shelves disks old event new is by = keeps m old event new shelves disks is by
 
-remembers : {S V : Type 0} (m : Meaning S V) → m.shelves_tell → m.disks_tell → (members : List ℕ) (view : View S V) → History m members view → IsRemembered m view
-remembers m shelves disks members view (step.opens now is) = opening_remembered m members now is
+remembers : {S V : Type 0} (m : Meaning S V) → m.shelves.tells → m.disks.tells → (members : List ℕ) (view : View S V) → History m members view → IsRemembered m view
+remembers m shelves disks members view (step.opens now is) = opening_remembered m shelves disks members now is
 remembers m shelves disks members view (step.steps old event new before by) = keeps m old event new shelves disks (remembers m shelves disks members old before) by
 
 pub histories : {S V : Type 0} (m : Meaning S V) → HistoriesAreLegal m
@@ -48,7 +48,7 @@ histories m shelves disks members view history = let is = remembers m shelves di
 
 -- ---- what stands on shelves
 -- whatever a crash leaves of an acceptor that has started is what the log tells, or what a request would make of it
-left_of : {S V : Type 0} (m : Meaning S V) (log : List Happening) (id : ℕ) (kept : Contents) (acceptor : AcceptorView S) → m.shelves_tell → IsAcceptorTrue m log id kept acceptor → acceptor.started ≡ true → (left : Left) → m.shelf_may_leave acceptor.shelf left → IsLeft log id kept left
+left_of : {S V : Type 0} (m : Meaning S V) (log : List Happening) (id : ℕ) (kept : Contents) (acceptor : AcceptorView S) → m.shelves.tells → IsAcceptorTrue m log id kept acceptor → acceptor.started ≡ true → (left : Left) → m.shelves.may_leave acceptor.shelf left → IsLeft log id kept left
 left_of m log id kept acceptor tells of started left may = elim (true_or_false acceptor.down) [
   | inl down ↦ of.stopped down started left may
   | inr up ↦ inl (of.lasts up left may ∙ ap (λ (c : Contents). Ok c) (of.keeps up))

@@ -42,7 +42,7 @@ use Rattle.cas_record.specs.Places.{Stands}
 use Rattle.cas_cluster.specs.Acceptors.{IsLeft}
 use Rattle.cas_cluster.specs.Proposers.{AllRide}
 use Rattle.cas_cluster.specs.Protocol.{Made, HasMade}
-use Rattle.cas_cluster.specs.View.{Meaning, CallView, CallerView}
+use Rattle.cas_cluster.specs.View.{DiskMeaning, Meaning, CallView, CallerView}
 
 -- ---- acceptors
 -- One that is up keeps this, and a crash leaves just that. One that is down leaves that, or what the answer to a
@@ -50,9 +50,9 @@ use Rattle.cas_cluster.specs.View.{Meaning, CallView, CallerView}
 pub record IsAcceptorTrue {S V : Type 0} (m : Meaning S V) (log : List Happening) (id : ℕ) (kept : Contents) (acceptor : AcceptorView S) : Type 0 where
   pub same_id : acceptor.id ≡ id
   pub started : acceptor.down ≡ false → acceptor.started ≡ true
-  pub keeps : acceptor.down ≡ false → m.contents acceptor.shelf ≡ kept
-  pub lasts : acceptor.down ≡ false → OnlyLeaves (m.contents acceptor.shelf) (m.shelf_may_leave acceptor.shelf)
-  pub stopped : acceptor.down ≡ true → acceptor.started ≡ true → (left : Left) → m.shelf_may_leave acceptor.shelf left → IsLeft log id kept left
+  pub keeps : acceptor.down ≡ false → m.shelves.contents acceptor.shelf ≡ kept
+  pub lasts : acceptor.down ≡ false → OnlyLeaves (m.shelves.contents acceptor.shelf) (m.shelves.may_leave acceptor.shelf)
+  pub stopped : acceptor.down ≡ true → acceptor.started ≡ true → (left : Left) → m.shelves.may_leave acceptor.shelf left → IsLeft log id kept left
   pub not_started : acceptor.started ≡ false → kept ≡ nothing
 
 -- ---- messages
@@ -96,9 +96,9 @@ pub record IsEraOf (cluster : Cluster) (era : Era) : Type 0 where
   pub sized : IsSized era
 
 -- the vault keeps this era, and so does whatever a crash leaves of it
-pub record IsInEra {S V : Type 0} (m : Meaning S V) (era : ℕ) (vault : Vault V) : Type 0 where
+pub record IsInEra {V : Type 0} (m : DiskMeaning V) (era : ℕ) (vault : Vault V) : Type 0 where
   pub kept : (kept_of vault).era ≡ era
-  pub left : (c : List ℕ) (kept : Kept) → m.disk_may_leave (disk_of vault) c → KeptOn kept c → kept.era ≡ era
+  pub left : (c : List ℕ) (kept : Kept) → m.may_leave (disk_of vault) c → KeptOn kept c → kept.era ≡ era
 
 -- ---- ballots in hand
 -- A ballot that the proposer drew for the key in the era and proposed nothing at, above the floors of the key.
@@ -196,9 +196,9 @@ IsOpenTrue cluster log all id era caller waiting (Some round) = IsRoundTrue clus
 -- ---- desks
 -- It draws no ballot twice and none below a floor, wherever it stops; and it is in this era and in no later one.
 pub record IsVaultTrue {S V : Type 0} (m : Meaning S V) (log : List Happening) (id era : ℕ) (vault : Vault V) : Type 0 where
-  pub past : (ballot : Ballot) (key : List ℕ) (e : ℕ) → Stands (Drew ballot key e) log → ballot.proposer ≡ id → IsPast m.disk_may_leave ballot.counter vault
-  pub past_floors : (key : List ℕ) (floor : Ballot) → HasFloor key floor (marks_of log) → IsPast m.disk_may_leave floor.counter vault
-  pub in_era : IsInEra m era vault
+  pub past : (ballot : Ballot) (key : List ℕ) (e : ℕ) → Stands (Drew ballot key e) log → ballot.proposer ≡ id → IsPast m.disks.may_leave ballot.counter vault
+  pub past_floors : (key : List ℕ) (floor : Ballot) → HasFloor key floor (marks_of log) → IsPast m.disks.may_leave floor.counter vault
+  pub in_era : IsInEra m.disks era vault
   pub is_in : IsIn log id era
   pub not_beyond : Stands (Entered id (suc era)) log → ⊥
 

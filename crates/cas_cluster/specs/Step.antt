@@ -106,12 +106,12 @@ pub record StepStray {S V : Type 0} (m : Meaning S V) (old : View S V) (index : 
 
 -- ---- stops
 pub data StepCrashAcceptor {S V : Type 0} (m : Meaning S V) (old : View S V) (id : ℕ) (new : View S V) : Type 0 where
-  crashes : (acceptor now : AcceptorView S) → IsAt old.acceptors id acceptor → CrashesShelf m acceptor now → new ≡ with_acceptor old id now → StepCrashAcceptor m old id new
+  crashes : (acceptor now : AcceptorView S) → IsAt old.acceptors id acceptor → CrashesShelf m.shelves acceptor now → new ≡ with_acceptor old id now → StepCrashAcceptor m old id new
 
 pub data StepRestartAcceptor {S V : Type 0} (m : Meaning S V) (old : View S V) (id : ℕ) (new : View S V) : Type 0 where
   was_up : new ≡ old → StepRestartAcceptor m old id new
-  starts : (acceptor now : AcceptorView S) → IsAt old.acceptors id acceptor → StartsShelf m acceptor now → new ≡ with_acceptor old id now → StepRestartAcceptor m old id new
-  fails : (acceptor now : AcceptorView S) → IsAt old.acceptors id acceptor → FailsToStart m acceptor now → new ≡ with_acceptor old id now → StepRestartAcceptor m old id new
+  starts : (acceptor now : AcceptorView S) → IsAt old.acceptors id acceptor → StartsShelf m.shelves acceptor now → new ≡ with_acceptor old id now → StepRestartAcceptor m old id new
+  fails : (acceptor now : AcceptorView S) → IsAt old.acceptors id acceptor → FailsToStart m.shelves acceptor now → new ≡ with_acceptor old id now → StepRestartAcceptor m old id new
 
 -- its caller is told that its round was closed, where one was open
 abbrev pub closed_by_crash : CallView → CallView
@@ -119,12 +119,12 @@ closed_by_crash call = record call { told = Some (if is_some call.proposed then 
 
 -- a desk that crashes: the frames of its round join the late ones
 pub data StepCrashProposer {S V : Type 0} (m : Meaning S V) (old : View S V) (id : ℕ) (new : View S V) : Type 0 where
-  idle : (desk now : DeskView V) → IsAt old.desks id desk → desk.round ≡ None → Crashes m desk now → new ≡ record (with_desk old id now) { flow = abandoned old.flow id } → StepCrashProposer m old id new
-  closes : (desk now : DeskView V) (round : Round) (of_call : OpenCallAt old id) → IsAt old.desks id desk → desk.round ≡ Some round → Crashes m desk now
+  idle : (desk now : DeskView V) → IsAt old.desks id desk → desk.round ≡ None → Crashes m.disks desk now → new ≡ record (with_desk old id now) { flow = abandoned old.flow id } → StepCrashProposer m old id new
+  closes : (desk now : DeskView V) (round : Round) (of_call : OpenCallAt old id) → IsAt old.desks id desk → desk.round ≡ Some round → Crashes m.disks desk now
       → new ≡ record (with_call (with_desk old id now) id of_call.caller (closed_by_crash of_call.call)) { flow = abandoned old.flow id } → StepCrashProposer m old id new
 
 pub data StepRestartProposer {S V : Type 0} (m : Meaning S V) (old : View S V) (id : ℕ) (new : View S V) : Type 0 where
-  restarts : (desk now : DeskView V) → IsAt old.desks id desk → Restarts m desk now → new ≡ with_desk old id now → StepRestartProposer m old id new
+  restarts : (desk now : DeskView V) → IsAt old.desks id desk → Restarts m.disks desk now → new ≡ with_desk old id now → StepRestartProposer m old id new
 
 -- ---- all of them
 abbrev pub Step : {S V : Type 0} → Meaning S V → View S V → Event → View S V → Type 0
@@ -147,14 +147,14 @@ Step m old (RestartProposer proposer) new = StepRestartProposer m old proposer n
 pub record IsFreshAcceptor {S V : Type 0} (m : Meaning S V) (id : ℕ) (acceptor : AcceptorView S) : Type 0 where
   pub same_id : acceptor.id ≡ id
   pub started : acceptor.down ≡ false → acceptor.started ≡ true
-  pub keeps : acceptor.down ≡ false → m.contents acceptor.shelf ≡ nothing
-  pub lasts : acceptor.down ≡ false → OnlyLeaves (m.contents acceptor.shelf) (m.shelf_may_leave acceptor.shelf)
+  pub keeps : acceptor.down ≡ false → m.shelves.contents acceptor.shelf ≡ nothing
+  pub lasts : m.shelves.tells → acceptor.down ≡ false → OnlyLeaves (m.shelves.contents acceptor.shelf) (m.shelves.may_leave acceptor.shelf)
   pub not_started : acceptor.down ≡ true → acceptor.started ≡ false
 
 -- it holds no promise and has no open round, and its vault is in era 0
 pub record IsFreshDesk {S V : Type 0} (m : Meaning S V) (id : ℕ) (desk : DeskView V) : Type 0 where
   pub same_id : desk.id ≡ id
-  pub in_era : IsInEra m 0 desk.vault
+  pub in_era : m.disks.tells → IsInEra m.disks 0 desk.vault
   pub no_promise : desk.cache ≡ []
   pub none_open : desk.round ≡ None
 

@@ -1,5 +1,5 @@
 -- What the calls of a caller do: a call begins or goes on with another round, proposes, is counted and ended.
-use Rattle.std.specs.Prelude.{◌≡◌, ◌⊎◌, ⊤, ℕ, suc, ◌+◌, true, false, List, [], ◌∷◌, ◌++◌, map, Option, None, Some}
+use Rattle.std.specs.Prelude.{◌≡◌, ◌⊎◌, ⊤, ℕ, suc, ◌+◌, ◌-◌, ◌^◌, min, true, false, List, [], ◌∷◌, ◌++◌, map, Option, None, Some}
 use Rattle.cas_ballot.specs.declared.ballot.Ballot.{Ballot}
 use Rattle.cas_cache.specs.declared.ready.Ready.{Ready}
 use Rattle.cas_change.specs.declared.outcome.Outcome.{Outcome}
@@ -50,12 +50,13 @@ abbrev pub opened : {S V : Type 0} → View S V → ℕ → CallerView → List 
 opened view id caller key program =
     with_marks (with_caller view id (record { number = suc caller.number; call = Some (record (new_call key program) { rounds = 1 }) })) (Begun id (suc caller.number) key program ∷ [])
 
--- another round of the open one, that nothing was proposed in
+-- the caller's open call is this
 abbrev pub with_call : {S V : Type 0} → View S V → ℕ → CallerView → CallView → View S V
 with_call view id caller call = with_caller view id (record caller { call = Some call })
 
+-- another round of the open one, for which nothing was proposed; the count of rounds stands still at its end
 abbrev pub tried_again : CallView → CallView
-tried_again call = record call { rounds = call.rounds + 1; harmed = []; told = None; is_closed = false }
+tried_again call = record call { rounds = min (call.rounds + 1) (2 ^ 32 - 1); harmed = []; told = None; is_closed = false }
 
 pub data Opens {S V : Type 0} (old : View S V) (id : ℕ) (key : List ℕ) (program : List Clause) (new : View S V) : Type 0 where
   first : (caller : CallerView) → IsAt old.callers id caller → caller.call ≡ None → new ≡ opened old id caller key program → Opens old id key program new
@@ -91,24 +92,24 @@ proposed_view view id caller call desk flow p outcome =
 -- at a ballot that is drawn; by a promise, and then what its program makes of the promised state is proposed at once; or not at all
 pub data BeginsRound {S V : Type 0} (m : Meaning S V) (old : View S V) (id : ℕ) (caller : CallerView) (call : CallView) (new : View S V) : Type 0 where
   prepares : (desk now : DeskView V) (ballot : Ballot) (round : Round) (flow : FlowView) → IsAt old.desks id desk → desk.down ≡ false
-      → BeginsToPrepare m old.era call.key desk now ballot round
+      → BeginsToPrepare m.disks old.era call.key desk now ballot round
       → Sends old.flow id (prepares_to id (kept_of desk.vault).age call.key ballot old.era.prep) flow
       → new ≡ record (with_desk old id now) { flow = flow } → BeginsRound m old id caller call new
   proposes : (desk now : DeskView V) (ready : Ready) (ride : Option Ballot) (round : Round) (outcome : Outcome) (flow : FlowView) → IsAt old.desks id desk → desk.down ≡ false
-      → BeginsByPromise m old.era call.key desk now ready ride round → outcome ≡ outcome_of call.program ready.state
+      → BeginsByPromise m.disks old.era call.key desk now ready ride round → outcome ≡ outcome_of call.program ready.state
       → Sends old.flow id (accepts_to id (kept_of desk.vault).age round.key round.ballot round.era.number ride outcome.state round.era.acc) flow
       → new ≡ proposed_view old id caller call now flow (proposal_of id caller.number round ready.read ready.by) outcome → BeginsRound m old id caller call new
   stays : (answer : Answer) → IsNoBeginning answer → new ≡ with_call old id caller (telling call answer) → BeginsRound m old id caller call new
   fails : (desk now : DeskView V) (answer : Answer) → IsAt old.desks id desk → desk.round ≡ None → IsNoBeginning answer
-      → FailsToDraw m call.key desk now → new ≡ with_call (with_desk old id now) id caller (telling call answer) → BeginsRound m old id caller call new
+      → FailsToDraw m.disks call.key desk now → new ≡ with_call (with_desk old id now) id caller (telling call answer) → BeginsRound m old id caller call new
   loses : (desk now : DeskView V) (ballot : Option Ballot) → IsAt old.desks id desk → desk.round ≡ None → desk.down ≡ false
-      → LosesMemory m call.key desk now ballot → new ≡ with_call (with_desk old id now) id caller (telling call (answer.NoMemory false)) → BeginsRound m old id caller call new
+      → LosesMemory m.disks call.key desk now ballot → new ≡ with_call (with_desk old id now) id caller (telling call (answer.NoMemory false)) → BeginsRound m old id caller call new
 
 -- a new call is refused, and no mark is made: all is as before, but for what was lost with the memory
 pub data RefusesCall {S V : Type 0} (m : Meaning S V) (old : View S V) (id : ℕ) (key : List ℕ) (new : View S V) : Type 0 where
   stays : new ≡ old → RefusesCall m old id key new
   loses : (caller : CallerView) (desk now : DeskView V) (ballot : Option Ballot) → IsAt old.callers id caller → IsAt old.desks id desk → desk.round ≡ None → desk.down ≡ false
-      → LosesMemory m key desk now ballot → new ≡ with_desk old id now → RefusesCall m old id key new
+      → LosesMemory m.disks key desk now ballot → new ≡ with_desk old id now → RefusesCall m old id key new
 
 -- ---- a round goes on
 -- how a phase without a quorum ends a call that proposed nothing, and one that did
@@ -130,14 +131,14 @@ cause_by (verdict.Short got need) = Some (cause.Short got need)
 -- told why; and it ends where no ballot can be drawn to ride, or no memory is found
 pub data ProposesOrEnds {S V : Type 0} (m : Meaning S V) (old : View S V) (id : ℕ) (desk : DeskView V) (round : Round) (caller : CallerView) (call : CallView) (new : View S V) : Type 0 where
   proposes : (now : DeskView V) (turned : Round) (read : Option Accepted) (by : List ℕ) (ride : Option Ballot) (outcome : Outcome) (flow : FlowView)
-      → has_quorum round.phase ≡ true → IsConfirmersOf round by → IsReadOf round read → TurnsWith m desk now round turned ride → outcome ≡ outcome_of call.program (state_read read)
+      → has_quorum round.phase ≡ true → IsConfirmersOf round by → IsReadOf round read → TurnsWith m.disks desk now round turned ride → outcome ≡ outcome_of call.program (state_read read)
       → Sends old.flow id (accepts_to id (kept_of desk.vault).age round.key round.ballot round.era.number ride outcome.state round.era.acc) flow
       → new ≡ proposed_view old id caller call now flow (proposal_of id caller.number round (accepted_ballot read) by) outcome → ProposesOrEnds m old id desk round caller call new
   ends : (now : DeskView V) (verdict : RoundVerdict) (answer : Answer) → IsVerdictOf round verdict → refusal_by verdict ≡ Some answer
-      → EndsRound m desk now round None → new ≡ with_call (with_desk old id now) id caller (telling call answer) → ProposesOrEnds m old id desk round caller call new
-  fails : (now : DeskView V) → FailsToDraw m round.key desk now
+      → EndsRound m.disks desk now round None → new ≡ with_call (with_desk old id now) id caller (telling call answer) → ProposesOrEnds m old id desk round caller call new
+  fails : (now : DeskView V) → FailsToDraw m.disks round.key desk now
       → new ≡ with_call (with_desk old id now) id caller (telling call answer.VaultFault) → ProposesOrEnds m old id desk round caller call new
-  loses : (now : DeskView V) (ballot : Option Ballot) → LosesMemory m round.key desk now ballot
+  loses : (now : DeskView V) (ballot : Option Ballot) → LosesMemory m.disks round.key desk now ballot
       → new ≡ with_call (with_desk old id now) id caller (telling call (answer.NoMemory false)) → ProposesOrEnds m old id desk round caller call new
 
 -- the promise that a round offers once it is done: its ballot rode along
@@ -148,12 +149,12 @@ offered_by round (Some ride) state by = Some (record { ballot = ride; state = st
 -- what was proposed is acknowledged, and its caller is told that it is done; or no quorum accepted, and it is told why
 pub data CountsOrEnds {S V : Type 0} (m : Meaning S V) (old : View S V) (id : ℕ) (desk : DeskView V) (round : Round) (caller : CallerView) (call : CallView) (new : View S V) : Type 0 where
   counts : (now : DeskView V) (by : List ℕ) (outcome : Outcome) → has_quorum round.phase ≡ true → IsConfirmersOf round by → call.proposed ≡ Some outcome
-      → EndsRound m desk now round (offered_by round round.ride outcome.state by)
+      → EndsRound m.disks desk now round (offered_by round round.ride outcome.state by)
       → new ≡ with_marks (with_call (with_desk old id now) id caller (telling call (answer.Done outcome.state outcome.took round.ballot)))
       (Acked (record { key = round.key; ballot = round.ballot; era = round.era.number; by = by }) ∷ [])
       → CountsOrEnds m old id desk round caller call new
   ends : (now : DeskView V) (verdict : RoundVerdict) (why : Cause) → IsVerdictOf round verdict → cause_by verdict ≡ Some why
-      → EndsRound m desk now round None → new ≡ with_call (with_desk old id now) id caller (telling call (answer.Unsettled why)) → CountsOrEnds m old id desk round caller call new
+      → EndsRound m.disks desk now round None → new ≡ with_call (with_desk old id now) id caller (telling call (answer.Unsettled why)) → CountsOrEnds m old id desk round caller call new
 
 -- ---- a call ends
 -- with what it was told last; an open round is closed, and its frames join the late ones
@@ -162,5 +163,5 @@ pub record EndsCall {S V : Type 0} (m : Meaning S V) (old : View S V) (id : ℕ)
   pub desk : DeskView V
   pub at_desk : IsAt old.desks id desk
   pub now : DeskView V
-  pub closed : ((desk.round ≡ None) × (now ≡ desk)) ⊎ ((round : Round) × (desk.round ≡ Some round) × EndsRound m desk now round None)
+  pub closed : ((desk.round ≡ None) × (now ≡ desk)) ⊎ ((round : Round) × (desk.round ≡ Some round) × EndsRound m.disks desk now round None)
   pub view : new ≡ with_marks (record (with_caller (with_desk old id now) id (record caller { call = None })) { flow = abandoned old.flow id }) (Ended id caller.number call.rounds answer ∷ [])

@@ -12,33 +12,33 @@ use Rattle.cas_slot.specs.declared.message.Reply.{Reply}
 use Rattle.cas_vault.specs.declared.vault.Vault.{Vault}
 use Rattle.cas_vault.specs.Vault.{counter_of, kept_of, IsPast}
 use Rattle.cas_cluster.specs.Parties.{IsInEra}
-use Rattle.cas_cluster.specs.View.{Meaning}
+use Rattle.cas_cluster.specs.View.{DiskMeaning}
 
 -- ---- vaults
 -- the vault is past all that it was past, and in the same era, wherever it stops
-pub record GoesOn {S V : Type 0} (m : Meaning S V) (old new : Vault V) : Type 0 where
-  pub still_past : m.disks_tell → (n : ℕ) → IsPast m.disk_may_leave n old → IsPast m.disk_may_leave n new
-  pub era : m.disks_tell → (era : ℕ) → IsInEra m era old → IsInEra m era new
+pub record GoesOn {V : Type 0} (m : DiskMeaning V) (old new : Vault V) : Type 0 where
+  pub still_past : m.tells → (n : ℕ) → IsPast m.may_leave n old → IsPast m.may_leave n new
+  pub era : m.tells → (era : ℕ) → IsInEra m era old → IsInEra m era new
 
 -- a ballot of this proposer was drawn, and is never drawn again
-pub record HasDrawn {S V : Type 0} (m : Meaning S V) (id : ℕ) (old new : Vault V) (ballot : Ballot) : Type 0 where
+pub record HasDrawn {V : Type 0} (m : DiskMeaning V) (id : ℕ) (old new : Vault V) (ballot : Ballot) : Type 0 where
   pub draws : Draws id old new ballot
-  pub past : m.disks_tell → IsPast m.disk_may_leave ballot.counter new
+  pub past : m.tells → IsPast m.may_leave ballot.counter new
   pub goes_on : GoesOn m old new
 
 -- what it shows stays
-pub record HasKept {S V : Type 0} (m : Meaning S V) (old new : Vault V) : Type 0 where
+pub record HasKept {V : Type 0} (m : DiskMeaning V) (old new : Vault V) : Type 0 where
   pub shows : ShowsTheSame old new
   pub goes_on : GoesOn m old new
 
 -- the ballot that may ride: one that was drawn, or none
-abbrev pub MayHaveDrawn : {S V : Type 0} → Meaning S V → ℕ → Vault V → Vault V → Option Ballot → Type 0
+abbrev pub MayHaveDrawn : {V : Type 0} → DiskMeaning V → ℕ → Vault V → Vault V → Option Ballot → Type 0
 MayHaveDrawn m id old new None = HasKept m old new
 MayHaveDrawn m id old new (Some ballot) = HasDrawn m id old new ballot
 
 -- ---- rounds
 -- a round begins at a ballot that is drawn
-pub record BeginsToPrepare {S V : Type 0} (m : Meaning S V) (era : Era) (key : List ℕ) (old new : DeskView V) (ballot : Ballot) (round : Round) : Type 0 where
+pub record BeginsToPrepare {V : Type 0} (m : DiskMeaning V) (era : Era) (key : List ℕ) (old new : DeskView V) (ballot : Ballot) (round : Round) : Type 0 where
   pub none_open : old.round ≡ None
   pub no_promise : promise_at key old.cache ≡ None
   pub drawn : HasDrawn m old.id old.vault new.vault ballot
@@ -46,7 +46,7 @@ pub record BeginsToPrepare {S V : Type 0} (m : Meaning S V) (era : Era) (key : L
   pub desk : new ≡ record old { vault = new.vault; cache = without key old.cache; round = Some round }
 
 -- a round begins by a promise, and goes on with the ballot that rides with its accepts
-pub record BeginsByPromise {S V : Type 0} (m : Meaning S V) (era : Era) (key : List ℕ) (old new : DeskView V) (ready : Ready) (ride : Option Ballot) (round : Round) : Type 0 where
+pub record BeginsByPromise {V : Type 0} (m : DiskMeaning V) (era : Era) (key : List ℕ) (old new : DeskView V) (ready : Ready) (ride : Option Ballot) (round : Round) : Type 0 where
   pub none_open : old.round ≡ None
   pub promise : promise_at key old.cache ≡ Some ready
   pub drawn : MayHaveDrawn m old.id old.vault new.vault ride
@@ -54,7 +54,7 @@ pub record BeginsByPromise {S V : Type 0} (m : Meaning S V) (era : Era) (key : L
   pub desk : new ≡ record old { vault = new.vault; cache = without key old.cache; round = Some (record round { ride = ride }) }
 
 -- its prepare phase ends and its accept phase begins, with the ballot that rides
-pub record TurnsWith {S V : Type 0} (m : Meaning S V) (old new : DeskView V) (round turned : Round) (ride : Option Ballot) : Type 0 where
+pub record TurnsWith {V : Type 0} (m : DiskMeaning V) (old new : DeskView V) (round turned : Round) (ride : Option Ballot) : Type 0 where
   pub turns : TurnsToAccept round turned
   pub drawn : MayHaveDrawn m old.id old.vault new.vault ride
   pub desk : new ≡ record old { vault = new.vault; round = Some (record turned { ride = ride }) }
@@ -65,14 +65,14 @@ pub record HearsReply {V : Type 0} (old new : DeskView V) (round heard : Round) 
   pub desk : new ≡ record old { round = Some heard }
 
 -- the open round ends: the counter moves up to what it met, and the promise that it offers may be kept
-pub record EndsRound {S V : Type 0} (m : Meaning S V) (old new : DeskView V) (round : Round) (offered : Option Ready) : Type 0 where
+pub record EndsRound {V : Type 0} (m : DiskMeaning V) (old new : DeskView V) (round : Round) (offered : Option Ready) : Type 0 where
   pub desk : new ≡ record old { vault = new.vault; cache = cache_after round offered old.cache; round = None }
   pub counter : counter_of new.vault ≡ counter_after (counter_of old.vault) round.met
   pub goes_on : GoesOn m old.vault new.vault
 
 -- ---- failures
 -- its vault failed in a draw: a round that was open ends
-pub record FailsToDraw {S V : Type 0} (m : Meaning S V) (key : List ℕ) (old new : DeskView V) : Type 0 where
+pub record FailsToDraw {V : Type 0} (m : DiskMeaning V) (key : List ℕ) (old new : DeskView V) : Type 0 where
   pub desk : new ≡ record old { vault = new.vault; cache = new.cache; round = None; down = true }
   pub cache : (new.cache ≡ old.cache) ⊎ (new.cache ≡ without key old.cache)
   pub counter : counter_of new.vault ≡ counter_without old.round (counter_of old.vault)
@@ -80,7 +80,7 @@ pub record FailsToDraw {S V : Type 0} (m : Meaning S V) (key : List ℕ) (old ne
   pub goes_on : GoesOn m old.vault new.vault
 
 -- No memory was found: a ballot may be drawn, the promise of the key may be gone, and a round that was open ends.
-pub record LosesMemory {S V : Type 0} (m : Meaning S V) (key : List ℕ) (old new : DeskView V) (ballot : Option Ballot) : Type 0 where
+pub record LosesMemory {V : Type 0} (m : DiskMeaning V) (key : List ℕ) (old new : DeskView V) (ballot : Option Ballot) : Type 0 where
   pub desk : new ≡ record old { vault = new.vault; cache = new.cache; round = None }
   pub cache : (new.cache ≡ old.cache) ⊎ (new.cache ≡ without key old.cache)
   pub middle : Vault V
@@ -89,11 +89,11 @@ pub record LosesMemory {S V : Type 0} (m : Meaning S V) (key : List ℕ) (old ne
   pub kept : kept_of new.vault ≡ kept_of middle
   pub goes_on : GoesOn m middle new.vault
 
-pub record Crashes {S V : Type 0} (m : Meaning S V) (old new : DeskView V) : Type 0 where
+pub record Crashes {V : Type 0} (m : DiskMeaning V) (old new : DeskView V) : Type 0 where
   pub crashed : IsCrashed old new
   pub goes_on : GoesOn m old.vault new.vault
 
 -- a desk is up again, or stays down
-pub record Restarts {S V : Type 0} (m : Meaning S V) (old new : DeskView V) : Type 0 where
+pub record Restarts {V : Type 0} (m : DiskMeaning V) (old new : DeskView V) : Type 0 where
   pub desk : new ≡ record old { vault = new.vault; down = new.down }
   pub goes_on : GoesOn m old.vault new.vault

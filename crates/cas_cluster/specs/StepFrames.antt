@@ -55,7 +55,7 @@ pub data TakesTurn {S V : Type 0} (m : Meaning S V) (old : View S V) (id : ℕ) 
       → new ≡ harmed_view (record old { flow = taken old.flow id verdict }) id caller call (head_of front).1 false → TakesTurn m old id verdict front caller call new
   -- an acceptor answers
   answers : (request : Request) (acceptor now : AcceptorView S) (reply : Reply) → fall_of (queue_at old.flow id).again verdict ≡ Handle → front ≡ message.Request request
-      → IsAt old.acceptors request.to acceptor → AnswersByTable m acceptor now request reply
+      → IsAt old.acceptors request.to acceptor → AnswersByTable m.shelves acceptor now request reply
       → new ≡ with_marks (record (with_call (with_acceptor old request.to now) id caller (silent call)) { flow = replied_flow old.flow id verdict reply }) (votes_marked request reply)
       → TakesTurn m old id verdict front caller call new
   -- it is down
@@ -64,7 +64,7 @@ pub data TakesTurn {S V : Type 0} (m : Meaning S V) (old : View S V) (id : ℕ) 
       → new ≡ harmed_view (record old { flow = taken old.flow id verdict }) id caller call request.to true → TakesTurn m old id verdict front caller call new
   -- it goes down
   brings_down : (request : Request) (acceptor now : AcceptorView S) → fall_of (queue_at old.flow id).again verdict ≡ Handle → front ≡ message.Request request
-      → IsAt old.acceptors request.to acceptor → StopsWithin m acceptor now request
+      → IsAt old.acceptors request.to acceptor → StopsWithin m.shelves acceptor now request
       → new ≡ harmed_view (record (with_acceptor old request.to now) { flow = taken old.flow id verdict }) id caller call request.to true → TakesTurn m old id verdict front caller call new
   -- a reply arrives at the open round
   arrives : (reply : Reply) (desk now : DeskView V) (round heard : Round) → fall_of (queue_at old.flow id).again verdict ≡ Handle → front ≡ message.Reply reply
@@ -74,7 +74,7 @@ pub data TakesTurn {S V : Type 0} (m : Meaning S V) (old : View S V) (id : ℕ) 
 -- no memory was found, and all is as before; of an acceptor that was asked, what it keeps is
 pub data FindsNoRoom {S V : Type 0} (m : Meaning S V) (old : View S V) (new : View S V) : Type 0 where
   stays : new ≡ old → FindsNoRoom m old new
-  kept : (id : ℕ) (acceptor now : AcceptorView S) → IsAt old.acceptors id acceptor → FindsNoMemory m acceptor now → new ≡ with_acceptor old id now → FindsNoRoom m old new
+  kept : (id : ℕ) (acceptor now : AcceptorView S) → IsAt old.acceptors id acceptor → FindsNoMemory m.shelves acceptor now → new ≡ with_acceptor old id now → FindsNoRoom m old new
 
 -- ---- a late frame
 abbrev pub without_late : FlowView → ℕ → FlowView
@@ -86,11 +86,11 @@ with_late flow message = record flow { late = joined flow.late message }
 pub data Strays {S V : Type 0} (m : Meaning S V) (old : View S V) (index : ℕ) (late : Message) (new : View S V) : Type 0 where
   -- an acceptor answers it, and its reply is late, too
   answers : (request : Request) (acceptor now : AcceptorView S) (reply : Reply) → late ≡ message.Request request
-      → IsAt old.acceptors request.to acceptor → AnswersByTable m acceptor now request reply
+      → IsAt old.acceptors request.to acceptor → AnswersByTable m.shelves acceptor now request reply
       → new ≡ with_marks (record (with_acceptor old request.to now) { flow = with_late (without_late old.flow index) (message.Reply reply) }) (votes_marked request reply)
       → Strays m old index late new
   -- it goes down
-  brings_down : (request : Request) (acceptor now : AcceptorView S) → late ≡ message.Request request → IsAt old.acceptors request.to acceptor → StopsWithin m acceptor now request
+  brings_down : (request : Request) (acceptor now : AcceptorView S) → late ≡ message.Request request → IsAt old.acceptors request.to acceptor → StopsWithin m.shelves acceptor now request
       → new ≡ record (with_acceptor old request.to now) { flow = without_late old.flow index } → Strays m old index late new
   -- a reply arrives at the open round of its proposer
   arrives : (reply : Reply) (desk now : DeskView V) (round heard : Round) → late ≡ message.Reply reply → IsAt old.desks reply.to desk → desk.round ≡ Some round

@@ -13,13 +13,20 @@ use Rattle.cas_record.specs.declared.answer.Answer.{Answer}
 use Rattle.cas_record.specs.declared.mark.Mark.{Mark}
 
 -- ---- what disks mean
--- What shelves hold, and what a crash may leave of them and of the disks of vaults, where they tell that.
-pub record Meaning (S V : Type 0) : Type 1 where
+-- what a shelf holds, and what a crash may leave of it, where shelves tell that
+pub record ShelfMeaning (S : Type 0) : Type 1 where
   pub contents : S → Contents
-  pub shelves_tell : Type 0
-  pub shelf_may_leave : S → Left → Type 0
-  pub disks_tell : Type 0
-  pub disk_may_leave : V → List ℕ → Type 0
+  pub tells : Type 0
+  pub may_leave : S → Left → Type 0
+
+-- what a crash may leave of the disk of a vault, where disks tell that
+pub record DiskMeaning (V : Type 0) : Type 1 where
+  pub tells : Type 0
+  pub may_leave : V → List ℕ → Type 0
+
+pub record Meaning (S V : Type 0) : Type 1 where
+  pub shelves : ShelfMeaning S
+  pub disks : DiskMeaning V
 
 -- ---- callers
 -- a call that has begun and was not ended
@@ -80,5 +87,7 @@ IsAt all place x = slice_get all place ≡ Some x
 
 -- what shelves and disks of these kinds mean
 abbrev pub meaning : {S V : Type 0} → (S → Contents) → Type 0 → (S → Left → Type 0) → Type 0 → (V → List ℕ → Type 0) → Meaning S V
-meaning contents shelves_tell shelf_may_leave disks_tell disk_may_leave =
-    record { contents = contents; shelves_tell = shelves_tell; shelf_may_leave = shelf_may_leave; disks_tell = disks_tell; disk_may_leave = disk_may_leave }
+meaning contents shelves_tell shelf_may_leave disks_tell disk_may_leave = record {
+  shelves = record { contents = contents; tells = shelves_tell; may_leave = shelf_may_leave };
+  disks = record { tells = disks_tell; may_leave = disk_may_leave };
+}

@@ -21,22 +21,22 @@ use Rattle.cas_cluster.specs.View.{Meaning, View, IsAt}
 
 -- A cluster that has just opened is remembered.
 abbrev pub OpeningsAreRemembered : {S V : Type 0} → Meaning S V → Type 0
-OpeningsAreRemembered {S} {V} m = (members : List ℕ) (view : View S V) → IsOpening m members view → IsRemembered m view
+OpeningsAreRemembered {S} {V} m = m.shelves.tells → m.disks.tells → (members : List ℕ) (view : View S V) → IsOpening m members view → IsRemembered m view
 
 -- Whatever is called on a cluster that is remembered, it is remembered then.
 abbrev pub StepsAreRemembered : {S V : Type 0} → Meaning S V → Type 0
-StepsAreRemembered {S} {V} m = m.shelves_tell → m.disks_tell → (old : View S V) (event : Event) (new : View S V) → IsRemembered m old → Step m old event new → IsRemembered m new
+StepsAreRemembered {S} {V} m = m.shelves.tells → m.disks.tells → (old : View S V) (event : Event) (new : View S V) → IsRemembered m old → Step m old event new → IsRemembered m new
 
 -- Whatever was called on a cluster since it opened, it is remembered, and its record is legal.
 abbrev pub HistoriesAreLegal : {S V : Type 0} → Meaning S V → Type 0
-HistoriesAreLegal {S} {V} m = m.shelves_tell → m.disks_tell → (members : List ℕ) (view : View S V) → History m members view → IsRemembered m view × IsLegal (reverse view.marks)
+HistoriesAreLegal {S} {V} m = m.shelves.tells → m.disks.tells → (members : List ℕ) (view : View S V) → History m members view → IsRemembered m view × IsLegal (reverse view.marks)
 
 -- The acceptor has started, and whatever a crash now leaves on its shelf, what is kept of the key is at or above the ballot, and its
 -- history goes on from the ballot's.
 pub record IsKeptBy {S V : Type 0} (m : Meaning S V) (marks : List Mark) (key : List ℕ) (ballot : Ballot) (acceptor : AcceptorView S) : Type 0 where
   pub started : acceptor.started ≡ true
-  pub at_least : (left : Contents) → m.shelf_may_leave acceptor.shelf (Ok left) → BallotAtMost ballot (accepted_ballot (accepted_at left key))
-  pub begins : (left : Contents) → m.shelf_may_leave acceptor.shelf (Ok left) → IsPrefix (chain_of key ballot marks) (chain_of key (accepted_ballot (accepted_at left key)) marks)
+  pub at_least : (left : Contents) → m.shelves.may_leave acceptor.shelf (Ok left) → BallotAtMost ballot (accepted_ballot (accepted_at left key))
+  pub begins : (left : Contents) → m.shelves.may_leave acceptor.shelf (Ok left) → IsPrefix (chain_of key ballot marks) (chain_of key (accepted_ballot (accepted_at left key)) marks)
 
 -- What is acknowledged stands on the shelves of those that confirmed it, who are an accept quorum of its era, until a floor is made at or
 -- above it.
@@ -45,4 +45,4 @@ pub record IsKept {S V : Type 0} (m : Meaning S V) (view : View S V) (a : Acknow
   pub kept : (id : ℕ) (acceptor : AcceptorView S) → has_member a.by id ≡ true → IsAt view.acceptors id acceptor → IsKeptBy m (reverse view.marks) a.key a.ballot acceptor
 
 abbrev pub WhatIsDoneIsKept : {S V : Type 0} → Meaning S V → Type 0
-WhatIsDoneIsKept {S} {V} m = m.shelves_tell → (view : View S V) (a : Acknowledgment) → IsRemembered m view → Stands (Acked a) (reverse view.marks) → IsAboveFloors (reverse view.marks) a.key a.ballot → IsKept m view a
+WhatIsDoneIsKept {S} {V} m = m.shelves.tells → (view : View S V) (a : Acknowledgment) → IsRemembered m view → Stands (Acked a) (reverse view.marks) → IsAboveFloors (reverse view.marks) a.key a.ballot → IsKept m view a
