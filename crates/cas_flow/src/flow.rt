@@ -1,5 +1,5 @@
 //! The frames under way.
-ghost use Rattle.std.specs.Prelude.{◌≡◌, ◌≢◌, ◌+◌, ◌<◌, ◌≤◌, [], ◌++◌, Some, length, take, drop, slice_get, option_map, IfSome, IfOk, IsSome, OnOk, MatchOption};
+ghost use Rattle.std.specs.Prelude.{◌≡◌, ◌≢◌, ◌+◌, ◌<◌, ◌≤◌, [], ◌++◌, Some, length, take, drop, slice_get, option_map, IfSome, IfOk, IsSome, OnOk, OnErr, MatchOption};
 ghost use Rattle.cas_flow.specs.Message.{head_of};
 ghost use Rattle.cas_flow.specs.Queue.{fall_of, joined, pushed};
 
@@ -47,12 +47,13 @@ impl Flow {
         })
     }
 
-    /// Makes room for so many more own frames of the proposer. All frames stay, whatever the answer.
+    /// Makes room for so many more own frames of the proposer. All frames stay, and after an `Err` all is as before.
     pub fn reserve_own(&mut self, proposer: u8, frames: usize) -> Result<(), AllocError>
         requires { proposer ≤ 16 }
         ensures same { self.new ≡ with_queue self.old proposer (record (queue_at self.old proposer) { room = (queue_at self.new proposer).room }) }
         ensures ok { OnOk result (frames ≤ (queue_at self.new proposer).room) }
         ensures grows { (queue_at self.old proposer).room ≤ (queue_at self.new proposer).room }
+        ensures err { OnErr result (self.new ≡ self.old) }
     {
         self.own[usize::from(proposer)].reserve(frames)
     }

@@ -1,5 +1,5 @@
 //! The own frames of one proposer.
-ghost use Rattle.std.specs.Prelude.{◌≡◌, ◌+◌, ◌<◌, ◌≤◌, [], Some, None, slice_get, IfSome, IsSome, IsNone, MatchOption, OnOk, IfOk, replicate, true, false};
+ghost use Rattle.std.specs.Prelude.{◌≡◌, ◌+◌, ◌<◌, ◌≤◌, [], Some, None, slice_get, IfSome, IsSome, IsNone, MatchOption, OnOk, OnErr, IfOk, replicate, true, false};
 ghost use Rattle.cas_flow.specs.Queue.{empty_queue};
 
 use crate::frame::Frame;
@@ -43,13 +43,14 @@ impl Queue {
         }
     }
 
-    /// Makes room for so many more frames. The frames stay, whatever the answer.
+    /// Makes room for so many more frames. The frames stay, and after an `Err` all is as before.
     pub fn reserve(&mut self, frames: usize) -> Result<(), AllocError>
         ensures same { self.new ≡ record self.old { room = self.new.room } }
         ensures ok { OnOk result (frames ≤ self.new.room) }
         ensures grows { self.old.room ≤ self.new.room }
+        ensures err { OnErr result (self.new ≡ self.old) }
     {
-        self.frames.reserve(frames)
+        self.frames.reserve_exact(frames)
     }
 
     /// One more frame, behind the others.

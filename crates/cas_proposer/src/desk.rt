@@ -1,5 +1,5 @@
 //! The desk of one proposer.
-ghost use Rattle.std.specs.Prelude.{◌≡◌, ◌⊎◌, ◌+◌, ◌^◌, ◌≤◌, ◌↔◌, ℕ, max, true, false, Ok, Some, None, is_none, is_some, [], IsTrue, IsSome, IsSomeAnd, IfOk, IfErr, OnOk, OnErr, IsErrOf};
+ghost use Rattle.std.specs.Prelude.{◌≡◌, ◌⊎◌, ◌+◌, ◌^◌, ◌≤◌, ◌↔◌, ℕ, max, true, false, Ok, Some, None, is_none, is_some, [], IsTrue, IsSome, IsSomeAnd, IfOk, IfErr, OnOk, OnErr, IsErrOf, MatchOption};
 ghost use Rattle.cas_disk.specs.Disk.{LeavesOnly, Only, Elapses};
 ghost use Rattle.cas_ballot.specs.declared.ballot.Ballot.{Ballot as ABallot};
 ghost use Rattle.cas_round.specs.Replies.{met_by};
@@ -377,6 +377,13 @@ impl<V: Disk> Desk<V> {
         self.vault.reopen()?;
         self.down = false;
         Ok(())
+    }
+
+    /// The open round. `None` comes exactly where none is open.
+    pub fn round(&self) -> Option<&Round>
+        ensures { MatchOption result (self.now.round ≡ None) (λ round. self.now.round ≡ Some round.now) }
+    {
+        self.round.as_ref()
     }
 
     /// Whether it is down.

@@ -13,21 +13,26 @@ use std::mem;
 /// A round of a desk, from its first phase on.
 #[derive(Debug, Drop)]
 pub struct Round {
+    /// The key that it is for.
     pub key: Key,
     /// The era in which it began.
     pub era: Era,
+    /// The ballot that its requests bear, in both phases.
     pub ballot: Ballot,
     /// The ballot that rides on its accepts, once one is drawn.
     pub ride: Option<Ballot>,
     /// The greatest ballot that was met, in either phase.
     pub met: Option<Ballot>,
+    /// The phase that it is in, with the replies that arrived in it.
     pub phase: OpenPhase,
 }
 
 /// The phase that a round is in.
 #[derive(Debug, Drop)]
 pub enum OpenPhase {
+    /// Promises are asked for.
     Prepare(PrepareRound),
+    /// The acceptors are asked to accept.
     Accept(AcceptRound),
 }
 

@@ -334,8 +334,11 @@ fn a_restart_keeps_age_and_era(rt: HostRuntime) -> Result<(), Fail> {
     assert_eq!(rt; desk.renew(&key, at(4, 0))?, 1);
     desk.move_to(&Era::majority(7, three()))?;
     assert_eq!(rt; desk.tag()?, at(5, 0));
+    desk.begin(&Era::majority(7, three()), &key)?;
+    assert!(rt; matches!(desk.round(), Some(round) if round.ballot == at(6, 0)));
     desk.crash();
     assert!(rt; desk.is_down());
+    assert!(rt; desk.round().is_none());
     desk.restart()?;
     assert!(rt; !desk.is_down());
     assert_eq!(rt; (desk.age(), desk.era()), (1, 7));
