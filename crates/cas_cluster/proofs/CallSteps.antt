@@ -1,6 +1,6 @@
 -- Steps of callers: a call begins or goes on with another round, proposes, is counted, and ends; and a cluster has a history after each.
 use Rattle.std.proofs.Common.{◌≡◌, ◌≤◌, ℕ, suc, false, List, [], ◌∷◌, ◌++◌, Option, None, Some, reverse, refl, sym, ap, subst, ◌∙◌, inl, inr, arith}
-use Rattle.std.specs.Prelude.{◌==◌, filter}
+use Rattle.std.specs.Prelude.{◌<◌, ◌-◌, ◌==◌, filter}
 use Rattle.std.specs.List.{range_with_len}
 use Rattle.std.proofs.lemmas.List.{reverse-append}
 use Rattle.cas_base.proofs.Bools.{if_true}
@@ -25,7 +25,7 @@ use Rattle.cas_record.proofs.Tests.{nat_is}
 use Rattle.cas_cluster.specs.History.{IsRemembered}
 use Rattle.cas_cluster.specs.Parties.{AreReady, IsOpenTrue, IsCallTrue, IsCallerTrue}
 use Rattle.cas_cluster.specs.Protocol.{Made, GlobalState, Begins}
-use Rattle.cas_cluster.specs.StepCalls.{Opens, first, again, opened, tried_again, with_call}
+use Rattle.cas_cluster.specs.StepCalls.{round_marks, Opens, first, again, opened, tried_again, with_call}
 use Rattle.cas_cluster.specs.View.{Meaning, View, CallView, CallerView, IsAt, new_call}
 use Rattle.cas_cluster.proofs.Around.{Whole, around, around_more, settles, whole_of, remembered, leaves_caller}
 use Rattle.cas_cluster.proofs.Events.{keeps}
@@ -85,7 +85,7 @@ opens_first {S} {V} m cluster global old id key program caller at none whole =
     let was = whole.parties.callers id tt caller at in
     let number : suc caller.number ≡ suc (calls_of id (marks_of global.log)) = ap suc was.number in
     let history = keeps cluster whole.meets global whole.history (Begins id (suc caller.number) key program number) in
-    let now : CallerView = record { number = suc caller.number; call = Some (record (new_call key program) { rounds = 1 }) } in
+    let now : CallerView = record { number = suc caller.number; call = Some (new_call key program (round_marks old.era - 1)) } in
     settles m cluster (begun_global global id (suc caller.number) key program) old (opened old id caller key program) id
     (around_more m cluster global.log global.kept global.made old id (Marked (Begun id (suc caller.number) key program)) (λ p other same. other (sym same), λ a. tt) (around m cluster global old id whole) history)
     (leaves_caller old id now _ _ (λ p other. refl))
@@ -106,7 +106,7 @@ opens_first {S} {V} m cluster global old id key program caller at none whole =
     })
   where
     new : CallerView
-    new = record { number = suc caller.number; call = Some (record (new_call key program) { rounds = 1 }) }
+    new = record { number = suc caller.number; call = Some (new_call key program (round_marks old.era - 1)) }
 
     log : List Happening
     log = Marked (Begun id (suc caller.number) key program) ∷ global.log
@@ -146,13 +146,13 @@ opens_first {S} {V} m cluster global old id key program caller at none whole =
     }
 
 -- another round of a call that is open
-opens_again : {S V : Type 0} (m : Meaning S V) (cluster : Cluster) (global : GlobalState) (old : View S V) (id : ℕ) (caller : CallerView) (call : CallView)
+opens_again : {S V : Type 0} (m : Meaning S V) (cluster : Cluster) (global : GlobalState) (old : View S V) (id : ℕ) (caller : CallerView) (call : CallView) (reserved : ℕ)
     → IsAt old.callers id caller → caller.call ≡ Some call → ((desk : DeskView V) → IsAt old.desks id desk → desk.round ≡ None)
-    → Whole m cluster global old → Whole m cluster global (with_call old id caller (tried_again call))
-opens_again {S} {V} m cluster global old id caller call at is_open idle whole =
+    → Whole m cluster global old → Whole m cluster global (with_call old id caller (tried_again call reserved))
+opens_again {S} {V} m cluster global old id caller call reserved at is_open idle whole =
     let was = whole.parties.callers id tt caller at in
-    let now : CallerView = record caller { call = Some (tried_again call) } in
-    settles m cluster global old (with_call old id caller (tried_again call)) id (around m cluster global old id whole)
+    let now : CallerView = record caller { call = Some (tried_again call reserved) } in
+    settles m cluster global old (with_call old id caller (tried_again call reserved)) id (around m cluster global old id whole)
     (leaves_caller old id now _ _ (λ p other. refl))
     (record {
       desk = λ desk c at_desk at_caller.
@@ -182,8 +182,25 @@ opens_again {S} {V} m cluster global old id caller call at is_open idle whole =
     })
 
 pub opens : {S V : Type 0} (m : Meaning S V) (old : View S V) (id : ℕ) (key : List ℕ) (program : List Clause) (new : View S V) → IsRemembered m old → Opens old id key program new → IsRemembered m new
-opens m old id key program new is (first caller at none view) =
+opens m old id key program new is (first caller at none room view) =
     subst (IsRemembered m) (sym view) (remembered m is.cluster (begun_global is.global id (suc caller.number) key program) (opened old id caller key program)
     (opens_first m is.cluster is.global old id key program caller at none (whole_of m old is)) (marked (marks_of is.global.log) old.marks (Begun id (suc caller.number) key program) is.agrees.marks))
-opens m old id key program new is (again caller call at is_open same_key same_program unproposed idle view) =
-    subst (IsRemembered m) (sym view) (remembered m is.cluster is.global (with_call old id caller (tried_again call)) (opens_again m is.cluster is.global old id caller call at is_open idle (whole_of m old is)) is.agrees.marks)
+opens m old id key program new is (again caller call reserved at is_open same_key same_program unproposed met idle room some view) =
+    subst (IsRemembered m) (sym view) (remembered m is.cluster is.global (with_call old id caller (tried_again call reserved)) (opens_again m is.cluster is.global old id caller call reserved at is_open idle (whole_of m old is)) is.agrees.marks)
+
+-- of a call that opens, or goes on, nothing was proposed and no acceptor harmed in this round, and marks are reserved for it
+pub record BeginsAnew (call : CallView) : Type 0 where
+  pub unproposed : call.proposed ≡ None
+  pub unharmed : call.harmed ≡ []
+  pub some : 0 < call.reserved
+
+pub anew : {S V : Type 0} (old : View S V) (id : ℕ) (key : List ℕ) (program : List Clause) (middle : View S V) (caller : CallerView) (call : CallView) → Opens old id key program middle
+    → IsAt middle.callers id caller → caller.call ≡ Some call → BeginsAnew call
+anew {S} {V} old id key program middle caller call (first was at none room view) at_caller is_open =
+    let now : CallerView = record { number = suc was.number; call = Some (new_call key program (round_marks old.era - 1)) } in
+    let same : caller ≡ now = own_set old.callers id now caller (subst (λ (v : View S V). IsAt v.callers id caller) view at_caller) in
+    subst BeginsAnew (some_is (sym (ap (λ (c : CallerView). c.call) same) ∙ is_open)) (record { unproposed = refl; unharmed = refl; some = omega arith })
+anew {S} {V} old id key program middle caller call (again was open_call reserved at was_open same_key same_program unproposed met idle room some view) at_caller is_open =
+    let now : CallerView = record was { call = Some (tried_again open_call reserved) } in
+    let same : caller ≡ now = own_set old.callers id now caller (subst (λ (v : View S V). IsAt v.callers id caller) view at_caller) in
+    subst BeginsAnew (some_is (sym (ap (λ (c : CallerView). c.call) same) ∙ is_open)) (record { unproposed = unproposed; unharmed = refl; some = some })

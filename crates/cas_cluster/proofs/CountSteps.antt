@@ -29,7 +29,7 @@ use Rattle.cas_record.specs.Places.{here}
 use Rattle.cas_record.proofs.LogLemmas.{mark_at}
 use Rattle.cas_cluster.specs.Parties.{AreMessagesTrue, IsEraOf, AreReady, IsHeldReady, HaveOneEach, IsAcceptTrue, IsDeskTrue, IsDoneTrue, IsToldTrue, IsCallTrue, IsCallerTrue}
 use Rattle.cas_cluster.specs.Protocol.{Made, GlobalState, HasHistory, Counts, EndsDone, EndsElse, with_mark}
-use Rattle.cas_cluster.specs.StepCalls.{offered_by, telling, with_call}
+use Rattle.cas_cluster.specs.StepCalls.{offered_by, over, with_call}
 use Rattle.cas_cluster.specs.StepDesks.{EndsRound, Restarts}
 use Rattle.cas_cluster.specs.View.{Meaning, View, CallView, CallerView, IsAt, with_desk, with_caller}
 use Rattle.cas_cluster.proofs.Around.{Whole, around, around_more, settles, leaves_both, leaves_desk}
@@ -84,11 +84,11 @@ pub counts : {S V : Type 0} (m : Meaning S V) (cluster : Cluster) (global : Glob
     → IsAcceptTrue global.log global.made id caller.number call (queue_at old.flow id).messages round → has_quorum round.phase ≡ true → IsConfirmersOf round by → call.proposed ≡ Some outcome
     → EndsRound m.disks desk now round (offered_by round round.ride outcome.state by) → Whole m cluster global old
     → Whole m cluster (with_mark global (Marked (Acked (record { key = round.key; ballot = round.ballot; era = round.era.number; by = by }))))
-    (with_call (with_desk old id now) id caller (telling call (answer.Done outcome.state outcome.took round.ballot)))
+    (with_call (with_desk old id now) id caller (over call (answer.Done outcome.state outcome.took round.ballot)))
 counts {S} {V} m cluster global old id caller call desk now round outcome by tells at_caller is_open at_desk none own same_era era accept quorum confirmers proposed ends whole =
-    quiets m cluster after old id caller (telling call (answer.Done outcome.state outcome.took round.ballot)) now old.flow
+    quiets m cluster after old id caller (over call (answer.Done outcome.state outcome.took round.ballot)) now old.flow
     (around_more m cluster global.log global.kept global.made old id h (λ p other. tt, λ a. tt) (around m cluster global old id whole) history) was
-    (call_told after.log global.made id caller.number call (answer.Done outcome.state outcome.took round.ballot) call.is_closed (was.call call is_open) done) quiet none (λ p other. refl) (messages_still h global.log old.flow.late whole.parties.late)
+    (call_told after.log global.made id caller.number call (answer.Done outcome.state outcome.took round.ballot) call.is_closed 1 (was.call call is_open) done) quiet none (λ p other. refl) (messages_still h global.log old.flow.late whole.parties.late)
   where
     a : Acknowledgment
     a = record { key = round.key; ballot = round.ballot; era = round.era.number; by = by }

@@ -28,8 +28,8 @@ use Rattle.cas_record.specs.Legal.{IsProposed, harms_of}
 use Rattle.cas_record.specs.Orderly.{Orderly}
 use Rattle.cas_cluster.specs.Parties.{AreMessagesTrue, IsEraOf, IsVaultTrue, AreReady, HaveOneEach, HasNone, IsPrepareTrue, IsAcceptTrue, IsOpenTrue, IsDeskTrue, IsToldTrue, IsCallTrue, IsCallerTrue, asked_in}
 use Rattle.cas_cluster.specs.Protocol.{Made, GlobalState}
-use Rattle.cas_cluster.specs.StepCalls.{IsNoBeginning, telling, with_call, refusal_by, cause_by}
-use Rattle.cas_cluster.specs.StepDesks.{MayHaveDrawn, EndsRound, FailsToDraw, LosesMemory, Crashes}
+use Rattle.cas_cluster.specs.StepCalls.{IsNoBeginning, over, with_call, refusal_by, cause_by}
+use Rattle.cas_cluster.specs.StepDesks.{GoesOn, MayHaveDrawn, EndsRound, FailsToDraw, LosesMemory, Crashes}
 use Rattle.cas_cluster.specs.View.{Meaning, View, CallView, CallerView, IsAt, with_desk}
 use Rattle.cas_cluster.proofs.Around.{Whole, Around, around, settles, leaves_both, leaves_desk}
 use Rattle.cas_cluster.proofs.Caches.{contains_without, ready_fewer, one_without}
@@ -43,11 +43,16 @@ use Rattle.cas_cluster.proofs.Shortfalls.{short_of, confirms_prepare, confirms_a
 -- why a round could not begin, where nothing was proposed
 pub told_nothing : (log : List Happening) (all : List Made) (id number : ℕ) (told : Answer) → IsNoBeginning told → (IsProposed id number (marks_of log) → ⊥) → IsToldTrue log all id number told
 told_nothing log all id number answer.Down is none = record { refused = λ e. none; unsettled = λ e. absurd (cc e); harmed = omega arith }
-told_nothing log all id number answer.VaultFault is none = record { refused = λ e. none; unsettled = λ e. absurd (cc e); harmed = omega arith }
-told_nothing log all id number answer.Spent is none = record { refused = λ e. none; unsettled = λ e. absurd (cc e); harmed = omega arith }
 told_nothing log all id number answer.RecordFull is none = record { refused = λ e. none; unsettled = λ e. absurd (cc e); harmed = omega arith }
 told_nothing log all id number (answer.NoMemory proposed) is none = record { refused = λ e. none; unsettled = λ e. absurd (cc (e, is)); harmed = omega arith }
 told_nothing log all id number told is none = absurd is
+
+-- that the vault failed, or has drawn its last ballot
+pub told_fault : (log : List Happening) (all : List Made) (id number : ℕ) → (IsProposed id number (marks_of log) → ⊥) → IsToldTrue log all id number answer.VaultFault
+told_fault log all id number none = record { refused = λ e. none; unsettled = λ e. absurd (cc e); harmed = omega arith }
+
+pub told_spent : (log : List Happening) (all : List Made) (id number : ℕ) → (IsProposed id number (marks_of log) → ⊥) → IsToldTrue log all id number answer.Spent
+told_spent log all id number none = record { refused = λ e. none; unsettled = λ e. absurd (cc e); harmed = omega arith }
 
 -- how a phase without a quorum ended
 pub refusal_told : (log : List Happening) (all : List Made) (id number : ℕ) (by : RoundVerdict) (told : Answer) → refusal_by by ≡ Some told → (IsProposed id number (marks_of log) → ⊥)
@@ -67,9 +72,9 @@ unsettled_told log all id number (verdict.Full acceptor) why e was short = subst
 unsettled_told log all id number (verdict.Short got need) why e was short = subst (λ (c : Cause). IsToldTrue log all id number (answer.Unsettled c)) (some_is e) (record { refused = λ r. absurd (cc r); unsettled = λ u. was; harmed = short got need refl })
 
 -- a call that is told so
-pub call_told : (log : List Happening) (all : List Made) (id number : ℕ) (call : CallView) (told : Answer) (closed : Bool) → IsCallTrue log all id number call → IsToldTrue log all id number told
-    → IsCallTrue log all id number (record call { told = Some told; is_closed = closed })
-call_told log all id number call told closed was is = record {
+pub call_told : (log : List Happening) (all : List Made) (id number : ℕ) (call : CallView) (told : Answer) (closed : Bool) (reserved : ℕ) → IsCallTrue log all id number call → IsToldTrue log all id number told
+    → IsCallTrue log all id number (record call { reserved = reserved; told = Some told; is_closed = closed })
+call_told log all id number call told closed reserved was is = record {
   begun = was.begun;
   open_yet = was.open_yet;
   unproposed = was.unproposed;
@@ -225,28 +230,47 @@ others_left flow id p other = ap (λ (q : QueueView). q.messages) (queue_other f
 -- ---- a round ends without a proposal or with one that is not known to stand
 pub told_fails : {S V : Type 0} (m : Meaning S V) (cluster : Cluster) (global : GlobalState) (old : View S V) (id : ℕ) (caller : CallerView) (call : CallView) (key : List ℕ) (desk now : DeskView V) (told : Answer) → m.disks.tells
     → IsAt old.callers id caller → caller.call ≡ Some call → IsAt old.desks id desk → (queue_at old.flow id).messages ≡ [] → FailsToDraw m.disks key desk now → IsToldTrue global.log global.made id caller.number told
-    → Whole m cluster global old → Whole m cluster global (with_call (with_desk old id now) id caller (telling call told))
+    → Whole m cluster global old → Whole m cluster global (with_call (with_desk old id now) id caller (over call told))
 told_fails m cluster global old id caller call key desk now told tells at_caller is_open at_desk none by is whole =
     let was = whole.parties.callers id tt caller at_caller in
-    quiets m cluster global old id caller (telling call told) now old.flow (around m cluster global old id whole) was
-    (call_told global.log global.made id caller.number call told call.is_closed (was.call call is_open) is)
+    quiets m cluster global old id caller (over call told) now old.flow (around m cluster global old id whole) was
+    (call_told global.log global.made id caller.number call told call.is_closed 1 (was.call call is_open) is)
     (quiet_fails m cluster global.log global.made id old.era.number caller (queue_at old.flow id).messages key desk now tells (whole.parties.desks id tt desk caller at_desk at_caller) by)
     none (λ p other. refl) whole.parties.late
 
 pub told_ends : {S V : Type 0} (m : Meaning S V) (cluster : Cluster) (global : GlobalState) (old : View S V) (id : ℕ) (caller : CallerView) (call : CallView) (desk now : DeskView V) (round : Round) (told : Answer) → m.disks.tells
     → IsAt old.callers id caller → caller.call ≡ Some call → IsAt old.desks id desk → (queue_at old.flow id).messages ≡ [] → EndsRound m.disks desk now round None → IsToldTrue global.log global.made id caller.number told
-    → Whole m cluster global old → Whole m cluster global (with_call (with_desk old id now) id caller (telling call told))
+    → Whole m cluster global old → Whole m cluster global (with_call (with_desk old id now) id caller (over call told))
 told_ends m cluster global old id caller call desk now round told tells at_caller is_open at_desk none by is whole =
     let was = whole.parties.callers id tt caller at_caller in
-    quiets m cluster global old id caller (telling call told) now old.flow (around m cluster global old id whole) was
-    (call_told global.log global.made id caller.number call told call.is_closed (was.call call is_open) is)
+    quiets m cluster global old id caller (over call told) now old.flow (around m cluster global old id whole) was
+    (call_told global.log global.made id caller.number call told call.is_closed 1 (was.call call is_open) is)
     (quiet_ends m cluster global.log global.made id old.era.number caller (queue_at old.flow id).messages desk now round tells (whole.parties.desks id tt desk caller at_desk at_caller) by)
     none (λ p other. refl) whole.parties.late
+
+-- the desk stays as it was, but for what its vault does not show
+pub told_kept : {S V : Type 0} (m : Meaning S V) (cluster : Cluster) (global : GlobalState) (old : View S V) (id : ℕ) (caller : CallerView) (call : CallView) (desk now : DeskView V) (told : Answer) → m.disks.tells
+    → IsAt old.callers id caller → caller.call ≡ Some call → IsAt old.desks id desk → desk.round ≡ None → GoesOn m.disks desk.vault now.vault → now ≡ record desk { vault = now.vault } → IsToldTrue global.log global.made id caller.number told
+    → Whole m cluster global old → Whole m cluster global (with_call (with_desk old id now) id caller (over call told))
+told_kept {S} {V} m cluster global old id caller call desk now told tells at_caller is_open at_desk idle on is_now is whole =
+    let was = whole.parties.callers id tt caller at_caller in
+    let of = whole.parties.desks id tt desk caller at_desk at_caller in
+    quiets m cluster global old id caller (over call told) now old.flow (around m cluster global old id whole) was
+    (call_told global.log global.made id caller.number call told call.is_closed 1 (was.call call is_open) is)
+    (record {
+      same_id = ap (λ (d : DeskView V). d.id) is_now ∙ of.same_id;
+      known = of.known;
+      vault = vault_goes_on m global.log id old.era.number tells on of.vault;
+      cached = subst (AreReady cluster global.log global.made id old.era.number) (sym (ap (λ (d : DeskView V). d.cache) is_now)) of.cached;
+      one_each = subst HaveOneEach (sym (ap (λ (d : DeskView V). d.cache) is_now)) of.one_each;
+      none_open = ap (λ (d : DeskView V). d.round) is_now ∙ idle;
+    })
+    (none_waits cluster global.log global.made id old.era.number caller (queue_at old.flow id).messages desk.round idle of.round) (λ p other. refl) whole.parties.late
 
 -- no memory was found, where nothing was proposed
 pub told_loses : {S V : Type 0} (m : Meaning S V) (cluster : Cluster) (global : GlobalState) (old : View S V) (id : ℕ) (caller : CallerView) (call : CallView) (key : List ℕ) (desk now : DeskView V) (ballot : Option Ballot) → m.disks.tells
     → IsAt old.callers id caller → caller.call ≡ Some call → call.proposed ≡ None → IsAt old.desks id desk → (queue_at old.flow id).messages ≡ [] → LosesMemory m.disks key desk now ballot
-    → Whole m cluster global old → Whole m cluster (drew global ballot key old.era.number) (with_call (with_desk old id now) id caller (telling call (answer.NoMemory false)))
+    → Whole m cluster global old → Whole m cluster (drew global ballot key old.era.number) (with_call (with_desk old id now) id caller (over call (answer.NoMemory false)))
 told_loses {S} {V} m cluster global old id caller call key desk now ballot tells at_caller is_open unproposed at_desk none by whole =
     let of = whole.parties.desks id tt desk caller at_desk at_caller in
     let era = old.era.number in
@@ -254,9 +278,9 @@ told_loses {S} {V} m cluster global old id caller call key desk now ballot tells
     let after = drew global ballot key era in
     let was = drew_caller global.log global.made id caller key era ballot (whole.parties.callers id tt caller at_caller) in
     let call_true = was.call call is_open in
-    quiets m cluster after old id caller (telling call (answer.NoMemory false)) now old.flow
+    quiets m cluster after old id caller (over call (answer.NoMemory false)) now old.flow
     (drew_around m cluster global old id key desk.vault by.middle ballot of.known drawn of.vault (around m cluster global old id whole)) was
-    (call_told after.log after.made id caller.number call (answer.NoMemory false) call.is_closed call_true (told_nothing after.log after.made id caller.number (answer.NoMemory false) refl (call_true.unproposed unproposed)))
+    (call_told after.log after.made id caller.number call (answer.NoMemory false) call.is_closed 1 call_true (told_nothing after.log after.made id caller.number (answer.NoMemory false) refl (call_true.unproposed unproposed)))
     (quiet_loses m cluster global.log global.made id era caller (queue_at old.flow id).messages key desk now ballot tells of by drawn)
     none (λ p other. refl) (drew_messages global.log old.flow.late key era ballot whole.parties.late)
 

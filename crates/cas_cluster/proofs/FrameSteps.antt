@@ -1,6 +1,6 @@
 -- Steps of frames: the first own frame of a proposer has its turn, and a late frame strays in; and a cluster has a history after each.
 use Rattle.std.proofs.Common.{◌≡◌, ◌<◌, ◌≤◌, ℕ, suc, Bool, true, false, List, [], ◌∷◌, ◌++◌, Option, None, Some, reverse, refl, sym, ap, subst, ◌∙◌, inl, inr, arith}
-use Rattle.std.specs.Prelude.{◌⊎◌, ◌==◌, ◌&&◌, ◌||◌, ◌+◌, not, nat_lt, length, take, drop, filter, cond, if◌then◌else◌, is_some, slice_get, Contains}
+use Rattle.std.specs.Prelude.{◌-◌, ◌⊎◌, ◌==◌, ◌&&◌, ◌||◌, ◌+◌, not, nat_lt, length, take, drop, filter, cond, if◌then◌else◌, is_some, slice_get, Contains}
 use Rattle.std.specs.List.{range_with_len}
 use Rattle.std.specs.Ordering.{is_eq}
 use Rattle.std.proofs.lemmas.List.{reverse-append, length-set}
@@ -52,7 +52,7 @@ use Rattle.cas_cluster.specs.StepAcceptors.{AnswersByTable}
 use Rattle.cas_cluster.specs.StepCalls.{with_call, telling}
 use Rattle.cas_cluster.specs.StepDesks.{HearsReply}
 use Rattle.cas_cluster.specs.StepFrames as frames
-use Rattle.cas_cluster.specs.StepFrames.{TakesTurn, FindsNoRoom, Strays, silent, votes_marked, harmed_by, harms_marked, harmed_view, replied_flow, without_late, with_late}
+use Rattle.cas_cluster.specs.StepFrames.{TakesTurn, FindsNoRoom, Strays, silent, marking, votes_marked, harmed_by, harms_marked, harmed_view, replied_flow, without_late, with_late}
 use Rattle.cas_cluster.specs.View.{Meaning, View, CallView, CallerView, IsAt, with_acceptor, with_desk, with_marks}
 use Rattle.cas_cluster.proofs.AcceptorSteps.{answers, answered_global, answered_marks, reply_made, stops_within, finds_none}
 use Rattle.cas_cluster.proofs.Around.{parties_more, Whole, whole_of, remembered, around, settles, Everyone, leaves_caller, leaves_desk, parties_seen, Everyone}
@@ -62,7 +62,7 @@ use Rattle.cas_cluster.proofs.Places.{same_or_not, some_is, own_set, queue_same,
 
 -- ---- what waits
 -- What waits then waited before. What waited and is about another acceptor still waits.
-record Thins (old new : List Message) (acceptor : ℕ) : Type 0 where
+pub record Thins (old new : List Message) (acceptor : ℕ) : Type 0 where
   pub before : (each : Message) → Contains new each → Contains old each
   pub still : (each : Message) → Contains old each → ((head_of each).1 ≡ acceptor → ⊥) → Contains new each
 
@@ -92,10 +92,10 @@ thins_by Gone queue verdict e = first_leaves queue.messages e
 thins_by Held queue verdict {front} e = thins_not queue.messages (head_of front).1
 
 -- the queue of a proposer whose first frame is taken
-taken_own : (flow : FlowView) (id : ℕ) (verdict : Verdict) {front : Message} → slice_get (queue_at flow id).messages 0 ≡ Some front → queue_at (taken flow id verdict) id ≡ queue_after (queue_at flow id) verdict
+pub taken_own : (flow : FlowView) (id : ℕ) (verdict : Verdict) {front : Message} → slice_get (queue_at flow id).messages 0 ≡ Some front → queue_at (taken flow id verdict) id ≡ queue_after (queue_at flow id) verdict
 taken_own flow id verdict e = queue_same flow.own id (queue_after (queue_at flow id) verdict) (has_queue flow.own id e)
 
-taken_thins : (flow : FlowView) (id : ℕ) (verdict : Verdict) {front : Message} → slice_get (queue_at flow id).messages 0 ≡ Some front → Thins (queue_at flow id).messages (queue_at (taken flow id verdict) id).messages (head_of front).1
+pub taken_thins : (flow : FlowView) (id : ℕ) (verdict : Verdict) {front : Message} → slice_get (queue_at flow id).messages 0 ≡ Some front → Thins (queue_at flow id).messages (queue_at (taken flow id verdict) id).messages (head_of front).1
 taken_thins flow id verdict {front} e =
     subst (λ (q : QueueView). Thins (queue_at flow id).messages q.messages (head_of front).1) (sym (taken_own flow id verdict e)) (thins_by (fall_of (queue_at flow id).again verdict) (queue_at flow id) verdict e)
 
@@ -220,7 +220,7 @@ same_of (Accept p) (Accept q) asked e = refl
 same_of (Prepare p) (Accept q) asked e = absurd (cc e)
 same_of (Accept p) (Prepare q) asked e = absurd (cc e)
 
-same_asked : (era : Era) (p q : OpenPhase) → is_preparing p ≡ is_preparing q → asked_in era p ≡ asked_in era q
+pub same_asked : (era : Era) (p q : OpenPhase) → is_preparing p ≡ is_preparing q → asked_in era p ≡ asked_in era q
 same_asked era (Prepare p) (Prepare q) e = refl
 same_asked era (Accept p) (Accept q) e = refl
 same_asked era (Prepare p) (Accept q) e = absurd (cc e)
@@ -258,7 +258,7 @@ abbrev pub StaysHeard : List Message → List ℕ → List Message → List ℕ 
 StaysHeard waiting harmed rest more = (round : Round) (replies : List Reply) → IsPhaseHeard round replies waiting harmed → IsPhaseHeard round replies rest more
 
 -- another of its caller's calls, for which nothing else was proposed
-abbrev recalled : CallerView → CallView → CallerView
+abbrev pub recalled : CallerView → CallView → CallerView
 recalled caller call = record caller { call = Some call }
 
 -- its call goes on, with nothing else proposed
@@ -453,9 +453,9 @@ marked m cluster global view marks before whole was goes = remembered m cluster 
 
 -- ---- calls
 -- the caller is told nothing, and more may be harmed
-call_with : (log : List Happening) (all : List Made) (id number : ℕ) (call : CallView) (harmed : List ℕ) → IsMemberSet harmed → length harmed ≤ harms_of id number (marks_of log) → IsCallTrue log all id number call
-    → IsCallTrue log all id number (record call { told = None; harmed = harmed })
-call_with log all id number call harmed set low was = record {
+call_with : (log : List Happening) (all : List Made) (id number : ℕ) (call : CallView) (harmed : List ℕ) (reserved : ℕ) → IsMemberSet harmed → length harmed ≤ harms_of id number (marks_of log) → IsCallTrue log all id number call
+    → IsCallTrue log all id number (record call { told = None; harmed = harmed; reserved = reserved })
+call_with log all id number call harmed reserved set low was = record {
   begun = was.begun;
   open_yet = was.open_yet;
   unproposed = was.unproposed;
@@ -465,8 +465,8 @@ call_with log all id number call harmed set low was = record {
   told = λ told is. absurd (cc is);
 }
 
-call_silent : (log : List Happening) (all : List Made) (id number : ℕ) (call : CallView) → IsCallTrue log all id number call → IsCallTrue log all id number (silent call)
-call_silent log all id number call was = call_with log all id number call call.harmed was.harmed_set was.harmed was
+call_silent : (log : List Happening) (all : List Made) (id number : ℕ) (call : CallView) (reserved : ℕ) → IsCallTrue log all id number call → IsCallTrue log all id number (record call { told = None; reserved = reserved })
+call_silent log all id number call reserved was = call_with log all id number call call.harmed reserved was.harmed_set was.harmed was
 
 -- no memory was found, and the caller is told whether its change was proposed
 none_told : (log : List Happening) (all : List Made) (id number : ℕ) (call : CallView) → IsCallTrue log all id number call → IsCallTrue log all id number (telling call (answer.NoMemory (is_some call.proposed)))
@@ -522,7 +522,7 @@ harms {S} {V} m cluster global view id caller call acceptor down at is_open low 
         let same : (harmed_by call acceptor).harmed ≡ call.harmed = if_true (has_member call.harmed acceptor) call.harmed (with_member call.harmed acceptor) e in record {
           after = global;
           whole = whole;
-          is_call = subst (λ (l : List ℕ). IsCallTrue global.log global.made id caller.number (record call { told = None; harmed = l })) (sym same) (call_with global.log global.made id caller.number call call.harmed before.harmed_set before.harmed before);
+          is_call = subst (λ (l : List ℕ). IsCallTrue global.log global.made id caller.number (record call { told = None; harmed = l; reserved = (harmed_by call acceptor).reserved })) (sym same) (call_with global.log global.made id caller.number call call.harmed (harmed_by call acceptor).reserved before.harmed_set before.harmed before);
           marks = sym (ap (λ (l : List Mark). reverse l ++ marks_of global.log) (if_true (has_member call.harmed acceptor) [] (Harmed id caller.number down ∷ []) e));
           still = λ n has. subst (λ (l : List ℕ). has_member l n ≡ true) (sym same) has;
           has = subst (λ (l : List ℕ). has_member l acceptor ≡ true) (sym same) e;
@@ -538,8 +538,8 @@ harms {S} {V} m cluster global view id caller call acceptor down at is_open low 
             acceptors = λ a each at_each. acceptor_still m cluster harm global.log a (global.kept a) history.lawful tt (whole.acceptors a each at_each);
             parties = parties_more m cluster global.log global.made view Everyone harm history.orderly (λ p these. tt) whole.parties;
           };
-          is_call = subst (λ (l : List ℕ). IsCallTrue harmed_log.log global.made id caller.number (record call { told = None; harmed = l })) (sym same)
-              (call_with harmed_log.log global.made id caller.number call (with_member call.harmed acceptor) (IsMemberSet-members_where (λ k. k == acceptor || has_member call.harmed k))
+          is_call = subst (λ (l : List ℕ). IsCallTrue harmed_log.log global.made id caller.number (record call { told = None; harmed = l; reserved = (harmed_by call acceptor).reserved })) (sym same)
+              (call_with harmed_log.log global.made id caller.number call (with_member call.harmed acceptor) (harmed_by call acceptor).reserved (IsMemberSet-members_where (λ k. k == acceptor || has_member call.harmed k))
               (omega (arith, length-with_member-le call.harmed acceptor before.harmed_set, before.harmed, one_more)) later);
           marks = sym (ap (λ (l : List Mark). reverse l ++ marks_of global.log) (if_false (has_member call.harmed acceptor) [] (Harmed id caller.number down ∷ []) e));
           still = λ n has. subst (λ (l : List ℕ). has_member l n ≡ true) (sym same) (has_still call.harmed acceptor n before.harmed_set has);
@@ -640,11 +640,11 @@ answer_marks global request reply new = answered_marks global request reply new 
 answers_turn : {S V : Type 0} (m : Meaning S V) (cluster : Cluster) (global : GlobalState) (old : View S V) (id : ℕ) (verdict : Verdict) (request : Request) (caller : CallerView) (call : CallView) (acceptor now : AcceptorView S) (reply : Reply) → m.shelves.tells
     → IsAt old.callers id caller → caller.call ≡ Some call → slice_get (queue_at old.flow id).messages 0 ≡ Some (message.Request request) → IsAt old.acceptors request.to acceptor → AnswersByTable m.shelves acceptor now request reply
     → marks_of global.log ≡ reverse old.marks → Whole m cluster global old
-    → IsRemembered m (with_marks (record (with_call (with_acceptor old request.to now) id caller (silent call)) { flow = replied_flow old.flow id verdict reply }) (votes_marked request reply))
+    → IsRemembered m (with_marks (record (with_call (with_acceptor old request.to now) id caller (marking call (length (votes_marked request reply)))) { flow = replied_flow old.flow id verdict reply }) (votes_marked request reply))
 answers_turn {S} {V} m cluster global old id verdict request caller call acceptor now reply tells at is_open in_front at_acceptor by marks whole =
-    marked m cluster answered (record (with_call (with_acceptor old request.to now) id caller (silent call)) { flow = replied_flow old.flow id verdict reply }) (votes_marked request reply) (marks_of global.log)
-    (moves m cluster answered (with_acceptor old request.to now) id caller call (silent call) (replied_flow old.flow id verdict reply) at is_open refl refl
-    (call_silent answered.log answered.made id caller.number call ((whole_then.parties.callers id tt caller at).call call is_open))
+    marked m cluster answered (record (with_call (with_acceptor old request.to now) id caller (marking call (length (votes_marked request reply)))) { flow = replied_flow old.flow id verdict reply }) (votes_marked request reply) (marks_of global.log)
+    (moves m cluster answered (with_acceptor old request.to now) id caller call (marking call (length (votes_marked request reply))) (replied_flow old.flow id verdict reply) at is_open refl refl
+    (call_silent answered.log answered.made id caller.number call (call.reserved - length (votes_marked request reply)) ((whole_then.parties.callers id tt caller at).call call is_open))
     (replied_flows answered.log old.flow id verdict reply in_front (whole_then.parties.own id) whole_then.parties.late (reply_made m global request reply acceptor now by)) stays whole_then)
     marks (answer_marks global request reply (m.shelves.contents now.shelf))
   where
@@ -678,7 +678,7 @@ arrives_turn : {S V : Type 0} (m : Meaning S V) (cluster : Cluster) (global : Gl
     → Whole m cluster global old → Whole m cluster global (record (with_call (with_desk old id now) id caller (silent call)) { flow = taken old.flow id verdict })
 arrives_turn {S} {V} m cluster global old id verdict reply caller call desk now round next at is_open in_front at_desk has_round by whole =
     moves m cluster global (record (with_desk old id now) { flow = taken old.flow id verdict }) id caller call (silent call) (taken old.flow id verdict) at is_open refl refl
-    (call_silent global.log global.made id caller.number call ((whole.parties.callers id tt caller at).call call is_open))
+    (call_silent global.log global.made id caller.number call call.reserved ((whole.parties.callers id tt caller at).call call is_open))
     (record { others = λ p other. refl; own = flows.own; late = flows.late; idle = λ none. none })
     (λ r replies was. was)
     (hears m cluster global old id desk now round next reply (taken old.flow id verdict) at_desk has_round by (whole.parties.own id (message.Reply reply) waits_there) flows stays whole)
@@ -798,7 +798,7 @@ strays {S} {V} m old index new tells is step = by_stray step.strays
         (record { others = λ p other. refl; own = whole.parties.own reply.to; late = without_true is.global.log old.flow index whole.parties.late; idle = λ none. none })
         (λ replies harmed was. heard_hears round next reply replies (queue_at old.flow reply.to).messages harmed by.hears was) whole)
         is.agrees.marks)
-    by_stray (frames.drops e) =
+    by_stray (frames.drops ignored e) =
         subst (IsRemembered m) (sym e)
         (remembered m is.cluster is.global (record old { flow = without_late old.flow index })
         (relates m is.cluster is.global old (without_late old.flow index).late (without_true is.global.log old.flow index whole.parties.late) whole)

@@ -1,9 +1,8 @@
 -- Whatever is called on a cluster, one that is remembered is remembered after it.
-use Rattle.std.proofs.Common.{◌≡◌, ℕ, suc, true, false, List, [], ◌∷◌, Option, None, Some, refl, sym, ap, subst, ◌∙◌, inl, inr, arith}
+use Rattle.std.proofs.Common.{◌≡◌, ℕ, true, false, List, [], ◌∷◌, Option, None, Some, refl, sym, ap, subst, ◌∙◌, inl, inr, arith}
 use Rattle.std.specs.Prelude.{◌⊎◌, is_some, if◌then◌else◌}
 use Rattle.cas_ballot.specs.declared.ballot.Ballot.{Ballot}
 use Rattle.cas_change.specs.declared.outcome.Outcome.{Outcome}
-use Rattle.cas_change.specs.declared.program.Clause.{Clause}
 use Rattle.cas_flow.specs.Flow.{queue_at, abandoned}
 use Rattle.cas_flow.specs.declared.message.Message.{Message}
 use Rattle.cas_proposer.specs.Desk.{DeskView}
@@ -28,17 +27,17 @@ use Rattle.cas_cluster.specs.Protocol.{Made, GlobalState}
 use Rattle.cas_cluster.specs.Step as step
 use Rattle.cas_cluster.specs.Step.{Step, StepBegin, StepPropose, StepCount, StepEnd, StepCrashAcceptor, StepRestartAcceptor, StepCrashProposer, StepRestartProposer, OpenCallAt, OpenRoundAt, closed_by_crash}
 use Rattle.cas_cluster.specs.StepCalls as calls
-use Rattle.cas_cluster.specs.StepCalls.{Opens, BeginsRound, RefusesCall, ProposesOrEnds, CountsOrEnds, EndsCall, telling, with_call, tried_again}
-use Rattle.cas_cluster.specs.View.{Meaning, View, CallView, CallerView, IsAt, new_call, with_acceptor, with_desk, with_caller}
+use Rattle.cas_cluster.specs.StepCalls.{round_marks, Opens, BeginsRound, RefusesCall, ProposesOrEnds, CountsOrEnds, EndsCall, over, with_call, tried_again}
+use Rattle.cas_cluster.specs.View.{Meaning, View, CallView, CallerView, IsAt, with_acceptor, with_desk, with_caller}
 use Rattle.cas_cluster.proofs.AcceptorSteps as acceptor
 use Rattle.cas_cluster.specs.StepDesks.{Crashes}
 use Rattle.cas_cluster.proofs.Around.{Whole, whole_of, remembered, around, settles, leaves_desk}
 use Rattle.cas_cluster.proofs.Asks.{asked_marks}
 use Rattle.cas_cluster.proofs.Beginnings.{begins_to_prepare, prepare_request}
-use Rattle.cas_cluster.proofs.CallSteps.{opens, marked}
+use Rattle.cas_cluster.proofs.CallSteps.{anew, opens, marked}
 use Rattle.cas_cluster.proofs.CountSteps.{counts, ends_call, restarts}
 use Rattle.cas_cluster.proofs.Draws.{drew, drew_log, drew_marks}
-use Rattle.cas_cluster.proofs.EndSteps.{told_nothing, refusal_told, unsettled_told, call_told, short_prepare, short_accept, told_fails, told_ends, told_loses, lost, crashes_desk, quiet_true, quiet_crashes, none_left, others_left, all_joined_true}
+use Rattle.cas_cluster.proofs.EndSteps.{told_fault, told_spent, told_kept, told_nothing, refusal_told, unsettled_told, call_told, short_prepare, short_accept, told_fails, told_ends, told_loses, lost, crashes_desk, quiet_true, quiet_crashes, none_left, others_left, all_joined_true}
 use Rattle.cas_cluster.proofs.FrameSteps as frames
 use Rattle.cas_cluster.proofs.FrameSteps.{moves, turns, refuses_turn, strays, refuses_stray}
 use Rattle.cas_cluster.proofs.Places.{own_set, some_is, contains_none}
@@ -46,48 +45,39 @@ use Rattle.cas_cluster.proofs.Proposals.{accept_requests}
 use Rattle.cas_cluster.proofs.RoundSteps.{none_waits, begins_by_promise, proposes_round}
 
 -- ---- a round begins
--- nothing was proposed for a call that opens, or goes on
-unproposed_after : {S V : Type 0} (old : View S V) (id : ℕ) (key : List ℕ) (program : List Clause) (middle : View S V) (caller : CallerView) (call : CallView) → Opens old id key program middle
-    → IsAt middle.callers id caller → caller.call ≡ Some call → call.proposed ≡ None
-unproposed_after {S} {V} old id key program middle caller call (calls.first was at none view) at_caller is_open =
-    let now : CallerView = record { number = suc was.number; call = Some (record (new_call key program) { rounds = 1 }) } in
-    let same : caller ≡ now = own_set old.callers id now caller (subst (λ (v : View S V). IsAt v.callers id caller) view at_caller) in
-    let is : record (new_call key program) { rounds = 1 } ≡ call = some_is (sym (ap (λ (c : CallerView). c.call) same) ∙ is_open) in
-    sym (ap (λ (c : CallView). c.proposed) is)
-unproposed_after {S} {V} old id key program middle caller call (calls.again was open_call at was_open same_key same_program unproposed idle view) at_caller is_open =
-    let now : CallerView = record was { call = Some (tried_again open_call) } in
-    let same : caller ≡ now = own_set old.callers id now caller (subst (λ (v : View S V). IsAt v.callers id caller) view at_caller) in
-    let is : tried_again open_call ≡ call = some_is (sym (ap (λ (c : CallerView). c.call) same) ∙ is_open) in
-    sym (ap (λ (c : CallView). c.proposed) is) ∙ unproposed
-
 begins : {S V : Type 0} (m : Meaning S V) (old : View S V) (id : ℕ) (caller : CallerView) (call : CallView) (new : View S V) → m.disks.tells → IsAt old.callers id caller → caller.call ≡ Some call → call.proposed ≡ None
     → IsRemembered m old → BeginsRound m old id caller call new → IsRemembered m new
-begins m old id caller call new tells at_caller is_open unproposed is (calls.prepares desk now ballot round flow at_desk up by sends view) =
+begins m old id caller call new tells at_caller is_open unproposed is (calls.prepares desk now ballot round flow at_desk up room by sends view) =
     subst (IsRemembered m) (sym view) (remembered m is.cluster _ (record (with_desk old id now) { flow = flow })
     (begins_to_prepare m is.cluster is.global old id caller call desk now ballot round flow tells at_caller is_open unproposed at_desk by sends (whole_of m old is))
     (asked_marks (prepare_request id (kept_of desk.vault).age call.key ballot) old.era.prep (drew is.global (Some ballot) call.key old.era.number).log ∙ is.agrees.marks))
-begins m old id caller call new tells at_caller is_open unproposed is (calls.proposes desk now ready ride round outcome flow at_desk up by is_outcome sends view) =
+begins m old id caller call new tells at_caller is_open unproposed is (calls.proposes desk now ready ride round outcome flow at_desk up room by is_outcome sends view) =
     subst (IsRemembered m) (sym view) (remembered m is.cluster _ _
     (begins_by_promise m is.cluster is.global old id caller call desk now ready ride round outcome flow tells at_caller is_open unproposed at_desk by is_outcome sends (whole_of m old is))
     (asked_marks (accept_requests id (kept_of desk.vault).age (record round { ride = ride }) outcome) round.era.acc _
     ∙ marked (marks_of (drew_log ride call.key old.era.number is.global.log)) old.marks (Proposed (calls.proposal_of id caller.number round ready.read ready.by)) (drew_marks is.global.log call.key old.era.number ride ∙ is.agrees.marks)))
-begins m old id caller call new tells at_caller is_open unproposed is (calls.stays told nothing view) =
+begins m old id caller call new tells at_caller is_open unproposed is (calls.stays told nothing idle view) =
     let was = is.agrees.callers id caller at_caller in
     let call_true = was.call call is_open in
-    subst (IsRemembered m) (sym view) (remembered m is.cluster is.global (with_call old id caller (telling call told))
-    (moves m is.cluster is.global old id caller call (telling call told) old.flow at_caller is_open refl refl
-    (call_told is.global.log is.global.made id caller.number call told call.is_closed call_true (told_nothing is.global.log is.global.made id caller.number told nothing (call_true.unproposed unproposed)))
+    subst (IsRemembered m) (sym view) (remembered m is.cluster is.global (with_call old id caller (over call told))
+    (moves m is.cluster is.global old id caller call (over call told) old.flow at_caller is_open refl refl
+    (call_told is.global.log is.global.made id caller.number call told call.is_closed 1 call_true (told_nothing is.global.log is.global.made id caller.number told nothing (call_true.unproposed unproposed)))
     (record { others = λ p other. refl; own = is.agrees.own id; late = is.agrees.late; idle = λ none. none }) (λ round replies heard. heard) (whole_of m old is)) is.agrees.marks)
-begins m old id caller call new tells at_caller is_open unproposed is (calls.fails desk now told at_desk idle nothing by view) =
+begins m old id caller call new tells at_caller is_open unproposed is (calls.spent desk now at_desk idle up kept is_now view) =
+    let call_true = (is.agrees.callers id caller at_caller).call call is_open in
+    subst (IsRemembered m) (sym view) (remembered m is.cluster is.global (with_call (with_desk old id now) id caller (over call answer.Spent))
+    (told_kept m is.cluster is.global old id caller call desk now answer.Spent tells at_caller is_open at_desk idle kept.goes_on is_now
+    (told_spent is.global.log is.global.made id caller.number (call_true.unproposed unproposed)) (whole_of m old is)) is.agrees.marks)
+begins m old id caller call new tells at_caller is_open unproposed is (calls.fails desk now at_desk idle up by view) =
     let call_true = (is.agrees.callers id caller at_caller).call call is_open in
     let of = is.agrees.desks id desk caller at_desk at_caller in
-    subst (IsRemembered m) (sym view) (remembered m is.cluster is.global (with_call (with_desk old id now) id caller (telling call told))
-    (told_fails m is.cluster is.global old id caller call call.key desk now told tells at_caller is_open at_desk
+    subst (IsRemembered m) (sym view) (remembered m is.cluster is.global (with_call (with_desk old id now) id caller (over call answer.VaultFault))
+    (told_fails m is.cluster is.global old id caller call call.key desk now answer.VaultFault tells at_caller is_open at_desk
     (none_waits is.cluster is.global.log is.global.made id old.era.number caller (queue_at old.flow id).messages desk.round idle of.round) by
-    (told_nothing is.global.log is.global.made id caller.number told nothing (call_true.unproposed unproposed)) (whole_of m old is)) is.agrees.marks)
+    (told_fault is.global.log is.global.made id caller.number (call_true.unproposed unproposed)) (whole_of m old is)) is.agrees.marks)
 begins m old id caller call new tells at_caller is_open unproposed is (calls.loses desk now ballot at_desk idle up by view) =
     let of = is.agrees.desks id desk caller at_desk at_caller in
-    subst (IsRemembered m) (sym view) (remembered m is.cluster (drew is.global ballot call.key old.era.number) (with_call (with_desk old id now) id caller (telling call (answer.NoMemory false)))
+    subst (IsRemembered m) (sym view) (remembered m is.cluster (drew is.global ballot call.key old.era.number) (with_call (with_desk old id now) id caller (over call (answer.NoMemory false)))
     (told_loses m is.cluster is.global old id caller call call.key desk now ballot tells at_caller is_open unproposed at_desk
     (none_waits is.cluster is.global.log is.global.made id old.era.number caller (queue_at old.flow id).messages desk.round idle of.round) by (whole_of m old is))
     (drew_marks is.global.log call.key old.era.number ballot ∙ is.agrees.marks))
@@ -157,7 +147,7 @@ proposes_or_ends {S} {V} m old id new tells is at preparing by = by_case by
         (asked_marks (accept_requests id (kept_of at.desk.vault).age (record at.round { ride = ride; phase = turned.phase }) outcome) at.round.era.acc _
         ∙ marked (marks_of (drew_log ride at.round.key old.era.number is.global.log)) old.marks (Proposed (calls.proposal_of id caller.number at.round (accepted_ballot read) by)) (drew_marks is.global.log at.round.key old.era.number ride ∙ is.agrees.marks)))
     by_case (calls.ends now how told is_verdict tells_why ends view) =
-        subst (IsRemembered m) (sym view) (remembered m is.cluster is.global (with_call (with_desk old id now) id caller (telling call told))
+        subst (IsRemembered m) (sym view) (remembered m is.cluster is.global (with_call (with_desk old id now) id caller (over call told))
         (told_ends m is.cluster is.global old id caller call at.desk now at.round told tells at.of_call.at_caller at.of_call.is_open at.at_desk at.none_waits ends
         (refusal_told is.global.log is.global.made id caller.number how told tells_why (call_true.unproposed prepare.unproposed) (λ got need short. omega (
           arith,
@@ -166,11 +156,11 @@ proposes_or_ends {S} {V} m old id new tells is at preparing by = by_case by
               (subst (λ (l : List Message). IsPrepareTrue is.global.log id call l at.round) at.none_waits prepare) call_true.harmed_set is_verdict short,
         ))) (whole_of m old is)) is.agrees.marks)
     by_case (calls.fails now by view) =
-        subst (IsRemembered m) (sym view) (remembered m is.cluster is.global (with_call (with_desk old id now) id caller (telling call answer.VaultFault))
+        subst (IsRemembered m) (sym view) (remembered m is.cluster is.global (with_call (with_desk old id now) id caller (over call answer.VaultFault))
         (told_fails m is.cluster is.global old id caller call at.round.key at.desk now answer.VaultFault tells at.of_call.at_caller at.of_call.is_open at.at_desk at.none_waits by
-        (told_nothing is.global.log is.global.made id caller.number answer.VaultFault tt (call_true.unproposed prepare.unproposed)) (whole_of m old is)) is.agrees.marks)
+        (told_fault is.global.log is.global.made id caller.number (call_true.unproposed prepare.unproposed)) (whole_of m old is)) is.agrees.marks)
     by_case (calls.loses now ballot by view) =
-        subst (IsRemembered m) (sym view) (remembered m is.cluster (drew is.global ballot at.round.key old.era.number) (with_call (with_desk old id now) id caller (telling call (answer.NoMemory false)))
+        subst (IsRemembered m) (sym view) (remembered m is.cluster (drew is.global ballot at.round.key old.era.number) (with_call (with_desk old id now) id caller (over call (answer.NoMemory false)))
         (told_loses m is.cluster is.global old id caller call at.round.key at.desk now ballot tells at.of_call.at_caller at.of_call.is_open prepare.unproposed at.at_desk at.none_waits by (whole_of m old is))
         (drew_marks is.global.log at.round.key old.era.number ballot ∙ is.agrees.marks))
 
@@ -196,12 +186,12 @@ counts_or_ends {S} {V} m old id new tells is at accepting by = by_case by
 
     by_case : CountsOrEnds m old id at.desk at.round caller call new → IsRemembered m new
     by_case (calls.counts now by outcome quorum confirmers proposed ends view) =
-        subst (IsRemembered m) (sym view) (frames.marked m is.cluster _ (with_call (with_desk old id now) id caller (telling call (answer.Done outcome.state outcome.took at.round.ballot)))
+        subst (IsRemembered m) (sym view) (frames.marked m is.cluster _ (with_call (with_desk old id now) id caller (over call (answer.Done outcome.state outcome.took at.round.ballot)))
         (Acked (record { key = at.round.key; ballot = at.round.ballot; era = at.round.era.number; by = by }) ∷ []) (marks_of is.global.log)
         (counts m is.cluster is.global old id caller call at.desk now at.round outcome by tells at.of_call.at_caller at.of_call.is_open at.at_desk at.none_waits of.own of.same_era of.is_era accept quorum confirmers proposed ends (whole_of m old is))
         is.agrees.marks refl)
     by_case (calls.ends now how why is_verdict tells_why ends view) =
-        subst (IsRemembered m) (sym view) (remembered m is.cluster is.global (with_call (with_desk old id now) id caller (telling call (answer.Unsettled why)))
+        subst (IsRemembered m) (sym view) (remembered m is.cluster is.global (with_call (with_desk old id now) id caller (over call (answer.Unsettled why)))
         (told_ends m is.cluster is.global old id caller call at.desk now at.round (answer.Unsettled why) tells at.of_call.at_caller at.of_call.is_open at.at_desk at.none_waits ends
         (unsettled_told is.global.log is.global.made id caller.number how why tells_why (call_true.proposed (ap (λ (o : Option Outcome). is_some o) accept.proposed)) (λ got need short. omega (
           arith,
@@ -224,7 +214,7 @@ crashes_acceptor m old id new tells is (step.crashes one now at by view) =
     subst (IsRemembered m) (sym view) (remembered m is.cluster is.global (with_acceptor old id now) (acceptor.crashes m is.cluster is.global old id one now tells at by (whole_of m old is)) is.agrees.marks)
 
 restarts_acceptor : {S V : Type 0} (m : Meaning S V) (old : View S V) (id : ℕ) (new : View S V) → m.shelves.tells → IsRemembered m old → StepRestartAcceptor m old id new → IsRemembered m new
-restarts_acceptor m old id new tells is (step.was_up view) = subst (IsRemembered m) (sym view) is
+restarts_acceptor m old id new tells is (step.was_up one at up view) = subst (IsRemembered m) (sym view) is
 restarts_acceptor m old id new tells is (step.starts one now at by view) =
     let again = acceptor.starts m is.cluster is.global old id one now tells at by (whole_of m old is) in
     subst (IsRemembered m) (sym view) (remembered m is.cluster again.after (with_acceptor old id now) again.whole (again.marks ∙ is.agrees.marks))
@@ -249,7 +239,7 @@ idle_crash {S} {V} m cluster global old id desk now tells at_desk idle by whole 
 
 -- what the caller is told whose round is closed by a crash
 crash_told : (log : List Happening) (all : List Made) (id number : ℕ) (call : CallView) → IsCallTrue log all id number call → IsCallTrue log all id number (closed_by_crash call)
-crash_told log all id number call was = call_told log all id number call (if is_some call.proposed then answer.Unsettled cause.Crashed else answer.Crashed) true was (by_proposed call.proposed was.unproposed was.proposed)
+crash_told log all id number call was = call_told log all id number call (if is_some call.proposed then answer.Unsettled cause.Crashed else answer.Crashed) true 1 was (by_proposed call.proposed was.unproposed was.proposed)
   where
     by_proposed : (proposed : Option Outcome) → (proposed ≡ None → IsProposed id number (marks_of log) → ⊥) → (is_some proposed ≡ true → IsProposed id number (marks_of log))
         → IsToldTrue log all id number (if is_some proposed then answer.Unsettled cause.Crashed else answer.Crashed)
@@ -265,13 +255,14 @@ crashes_proposer m old id new tells is (step.closes desk now round of_call at so
     (crash_told is.global.log is.global.made id of_call.caller.number of_call.call ((is.agrees.callers id of_call.caller of_call.at_caller).call of_call.call of_call.is_open)) (whole_of m old is)) is.agrees.marks)
 
 restarts_proposer : {S V : Type 0} (m : Meaning S V) (old : View S V) (id : ℕ) (new : View S V) → m.disks.tells → IsRemembered m old → StepRestartProposer m old id new → IsRemembered m new
-restarts_proposer m old id new tells is (step.restarts desk now at by view) =
+restarts_proposer m old id new tells is (step.was_up_already desk at up view) = subst (IsRemembered m) (sym view) is
+restarts_proposer m old id new tells is (step.restarts desk now at down by view) =
     subst (IsRemembered m) (sym view) (remembered m is.cluster is.global (with_desk old id now) (restarts m is.cluster is.global old id desk now tells at by (whole_of m old is)) is.agrees.marks)
 
 -- ---- all of them
 pub keeps : {S V : Type 0} (m : Meaning S V) (old : View S V) (event : step.Event) (new : View S V) → m.shelves.tells → m.disks.tells → IsRemembered m old → Step m old event new → IsRemembered m new
 keeps m old (step.Begin id key program) new shelves disks is by =
-    begins m by.middle id by.caller by.call new disks by.at_caller by.is_open (unproposed_after old id key program by.middle by.caller by.call by.opens by.at_caller by.is_open) (opens m old id key program by.middle is by.opens) by.begins
+    begins m by.middle id by.caller by.call new disks by.at_caller by.is_open (anew old id key program by.middle by.caller by.call by.opens by.at_caller by.is_open).unproposed (opens m old id key program by.middle is by.opens) by.begins
 keeps m old (step.RefuseBegin id key) new shelves disks is by = refuses m old id key new disks is by
 keeps m old (step.Turn id verdict) new shelves disks is by = turns m old id verdict new shelves is by
 keeps m old (step.RefuseTurn id) new shelves disks is by = refuses_turn m old id new shelves is by

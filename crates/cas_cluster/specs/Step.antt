@@ -1,5 +1,5 @@
 -- What each call on a cluster does to it.
-use Rattle.std.specs.Prelude.{◌≡◌, ℕ, ◌<◌, ◌≤◌, true, false, List, [], None, Some, is_some, length, if◌then◌else◌, slice_get}
+use Rattle.std.specs.Prelude.{◌+◌, ◌≡◌, ℕ, ◌<◌, ◌≤◌, true, false, List, [], None, Some, is_some, length, if◌then◌else◌, slice_get}
 use Rattle.cas_ballot.specs.Members.{IsMemberSet}
 use Rattle.cas_change.specs.declared.program.Clause.{Clause}
 use Rattle.cas_fate.specs.declared.fate.Verdict.{Verdict}
@@ -17,10 +17,10 @@ use Rattle.cas_record.specs.declared.answer.Answer.TheVariants as answer
 use Rattle.cas_record.specs.declared.answer.Cause.TheVariants as cause
 use Rattle.cas_cluster.specs.Parties.{IsInEra}
 use Rattle.cas_cluster.specs.StepAcceptors.{CrashesShelf, StartsShelf, FailsToStart}
-use Rattle.cas_cluster.specs.StepCalls.{Opens, BeginsRound, RefusesCall, ProposesOrEnds, CountsOrEnds, EndsCall, telling, with_call}
+use Rattle.cas_cluster.specs.StepCalls.{most_marks, Opens, BeginsRound, RefusesCall, ProposesOrEnds, CountsOrEnds, EndsCall, telling, with_call}
 use Rattle.cas_cluster.specs.StepDesks.{Crashes, Restarts}
 use Rattle.cas_cluster.specs.StepFrames.{TakesTurn, FindsNoRoom, Strays}
-use Rattle.cas_cluster.specs.View.{Meaning, CallView, CallerView, View, IsAt, new_caller, with_acceptor, with_desk}
+use Rattle.cas_cluster.specs.View.{Meaning, CallView, CallerView, View, IsAt, new_caller, reserved_of, with_acceptor, with_desk}
 
 -- ---- the calls
 pub data Event : Type 0 where
@@ -102,6 +102,8 @@ pub record StepEnd {S V : Type 0} (m : Meaning S V) (old : View S V) (id : ℕ) 
 pub record StepStray {S V : Type 0} (m : Meaning S V) (old : View S V) (index : ℕ) (new : View S V) : Type 0 where
   pub late : Message
   pub waits : slice_get old.flow.late index ≡ Some late
+  -- there is room for a mark
+  pub room : length old.marks + reserved_of old.callers < most_marks
   pub strays : Strays m old index late new
 
 -- ---- stops
@@ -109,13 +111,13 @@ pub data StepCrashAcceptor {S V : Type 0} (m : Meaning S V) (old : View S V) (id
   crashes : (acceptor now : AcceptorView S) → IsAt old.acceptors id acceptor → CrashesShelf m.shelves acceptor now → new ≡ with_acceptor old id now → StepCrashAcceptor m old id new
 
 pub data StepRestartAcceptor {S V : Type 0} (m : Meaning S V) (old : View S V) (id : ℕ) (new : View S V) : Type 0 where
-  was_up : new ≡ old → StepRestartAcceptor m old id new
+  was_up : (acceptor : AcceptorView S) → IsAt old.acceptors id acceptor → acceptor.down ≡ false → new ≡ old → StepRestartAcceptor m old id new
   starts : (acceptor now : AcceptorView S) → IsAt old.acceptors id acceptor → StartsShelf m.shelves acceptor now → new ≡ with_acceptor old id now → StepRestartAcceptor m old id new
   fails : (acceptor now : AcceptorView S) → IsAt old.acceptors id acceptor → FailsToStart m.shelves acceptor now → new ≡ with_acceptor old id now → StepRestartAcceptor m old id new
 
 -- its caller is told that its round was closed, where one was open
 abbrev pub closed_by_crash : CallView → CallView
-closed_by_crash call = record call { told = Some (if is_some call.proposed then answer.Unsettled cause.Crashed else answer.Crashed); is_closed = true }
+closed_by_crash call = record call { reserved = 1; told = Some (if is_some call.proposed then answer.Unsettled cause.Crashed else answer.Crashed); is_closed = true }
 
 -- a desk that crashes: the frames of its round join the late ones
 pub data StepCrashProposer {S V : Type 0} (m : Meaning S V) (old : View S V) (id : ℕ) (new : View S V) : Type 0 where
@@ -124,7 +126,8 @@ pub data StepCrashProposer {S V : Type 0} (m : Meaning S V) (old : View S V) (id
       → new ≡ record (with_call (with_desk old id now) id of_call.caller (closed_by_crash of_call.call)) { flow = abandoned old.flow id } → StepCrashProposer m old id new
 
 pub data StepRestartProposer {S V : Type 0} (m : Meaning S V) (old : View S V) (id : ℕ) (new : View S V) : Type 0 where
-  restarts : (desk now : DeskView V) → IsAt old.desks id desk → Restarts m.disks desk now → new ≡ with_desk old id now → StepRestartProposer m old id new
+  was_up_already : (desk : DeskView V) → IsAt old.desks id desk → desk.down ≡ false → new ≡ old → StepRestartProposer m old id new
+  restarts : (desk now : DeskView V) → IsAt old.desks id desk → desk.down ≡ true → Restarts m.disks desk now → new ≡ with_desk old id now → StepRestartProposer m old id new
 
 -- ---- all of them
 abbrev pub Step : {S V : Type 0} → Meaning S V → View S V → Event → View S V → Type 0

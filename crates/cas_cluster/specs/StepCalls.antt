@@ -1,6 +1,7 @@
 -- What the calls of a caller do: a call begins or goes on with another round, proposes, is counted and ended.
-use Rattle.std.specs.Prelude.{◌≡◌, ◌⊎◌, ⊤, ℕ, suc, ◌+◌, ◌-◌, ◌^◌, min, true, false, List, [], ◌∷◌, ◌++◌, map, Option, None, Some}
+use Rattle.std.specs.Prelude.{◌*◌, ◌<◌, ◌≤◌, length, slice_set, ◌≡◌, ◌⊎◌, ⊤, ℕ, suc, ◌+◌, ◌-◌, ◌^◌, min, true, false, List, [], ◌∷◌, ◌++◌, map, Option, None, Some}
 use Rattle.cas_ballot.specs.declared.ballot.Ballot.{Ballot}
+use Rattle.cas_ballot.specs.Members.{union_of}
 use Rattle.cas_cache.specs.declared.ready.Ready.{Ready}
 use Rattle.cas_change.specs.declared.outcome.Outcome.{Outcome}
 use Rattle.cas_change.specs.declared.program.Clause.{Clause}
@@ -12,6 +13,7 @@ use Rattle.cas_flow.specs.declared.message.Message.TheVariants as message
 use Rattle.cas_proposer.specs.Desk.{DeskView}
 use Rattle.cas_proposer.specs.Round.{has_quorum, IsReadOf, IsVerdictOf, IsConfirmersOf}
 use Rattle.cas_proposer.specs.declared.round.Round.{Round}
+use Rattle.cas_quorum.specs.declared.era.Era.{Era}
 use Rattle.cas_round.specs.declared.verdict.RoundVerdict.{RoundVerdict}
 use Rattle.cas_round.specs.declared.verdict.RoundVerdict.TheVariants as verdict
 use Rattle.cas_slot.specs.declared.message.Ask.TheVariants as ask
@@ -25,8 +27,8 @@ use Rattle.cas_record.specs.declared.answer.Cause.TheVariants as cause
 use Rattle.cas_record.specs.declared.mark.Mark.TheVariants.{Begun, Proposed, Acked, Ended}
 use Rattle.cas_record.specs.declared.mark.Proposal.{Proposal}
 use Rattle.cas_cluster.specs.Proposers.{state_read}
-use Rattle.cas_cluster.specs.StepDesks.{BeginsToPrepare, BeginsByPromise, TurnsWith, EndsRound, FailsToDraw, LosesMemory}
-use Rattle.cas_cluster.specs.View.{Meaning, CallView, CallerView, View, IsAt, new_call, with_desk, with_caller, with_marks}
+use Rattle.cas_cluster.specs.StepDesks.{BeginsToPrepare, BeginsByPromise, TurnsWith, EndsRound, FailsToDraw, LosesMemory, HasKept}
+use Rattle.cas_cluster.specs.View.{Meaning, CallView, CallerView, View, IsAt, new_call, new_caller, reserved_of, with_desk, with_caller, with_marks}
 
 -- ---- frames that are sent
 -- the proposer's own frames are followed by these, and no other frame moves
@@ -35,6 +37,9 @@ pub record Sends (old : FlowView) (proposer : ℕ) (messages : List Message) (ne
   pub again : (queue_at new proposer).again ≡ (queue_at old proposer).again
   pub others : (id : ℕ) → (id ≡ proposer → ⊥) → queue_at new id ≡ queue_at old id
   pub late : new.late ≡ old.late
+  pub queues : length new.own ≡ length old.own
+  -- there is room for as many replies again
+  pub room : length messages ≤ (queue_at new proposer).room
 
 -- each of these acceptors is asked to prepare, and each to accept
 abbrev pub prepares_to : ℕ → ℕ → List ℕ → Ballot → List ℕ → List Message
@@ -45,40 +50,58 @@ accepts_to proposer age key ballot era ride state members =
     map (λ to. message.Request (record { to = to; from = proposer; age = age; ask = ask.Accept key ballot era ride state })) members
 
 -- ---- a call begins
--- a new one, with its mark
+-- how many marks a record holds, and how many a round reserves
+abbrev pub most_marks : ℕ
+most_marks = 1000000
+
+abbrev pub round_marks : Era → ℕ
+round_marks era = 4 * length (union_of era.prep era.acc) + 8
+
+-- so many may be reserved for the caller's call, beside the marks that are made and those that others reserved
+abbrev pub HasRoom : {S V : Type 0} → View S V → ℕ → ℕ → Type 0
+HasRoom view id reserved = length view.marks + reserved_of (slice_set view.callers id new_caller) + reserved ≤ most_marks
+
+-- a new call, with its mark
 abbrev pub opened : {S V : Type 0} → View S V → ℕ → CallerView → List ℕ → List Clause → View S V
 opened view id caller key program =
-    with_marks (with_caller view id (record { number = suc caller.number; call = Some (record (new_call key program) { rounds = 1 }) })) (Begun id (suc caller.number) key program ∷ [])
+    with_marks (with_caller view id (record { number = suc caller.number; call = Some (new_call key program (round_marks view.era - 1)) })) (Begun id (suc caller.number) key program ∷ [])
 
 -- the caller's open call is this
 abbrev pub with_call : {S V : Type 0} → View S V → ℕ → CallerView → CallView → View S V
 with_call view id caller call = with_caller view id (record caller { call = Some call })
 
 -- another round of the open one, for which nothing was proposed; the count of rounds stands still at its end
-abbrev pub tried_again : CallView → CallView
-tried_again call = record call { rounds = min (call.rounds + 1) (2 ^ 32 - 1); harmed = []; told = None; is_closed = false }
+abbrev pub tried_again : CallView → ℕ → CallView
+tried_again call reserved = record call { rounds = min (call.rounds + 1) (2 ^ 32 - 1); reserved = reserved; harmed = []; told = None; is_closed = false }
+
+-- the last round ended with a conflict
+abbrev pub WasMet : Option Answer → Type 0
+WasMet (Some (answer.Conflict met)) = ⊤
+WasMet other = ⊥
 
 pub data Opens {S V : Type 0} (old : View S V) (id : ℕ) (key : List ℕ) (program : List Clause) (new : View S V) : Type 0 where
-  first : (caller : CallerView) → IsAt old.callers id caller → caller.call ≡ None → new ≡ opened old id caller key program → Opens old id key program new
-  again : (caller : CallerView) (call : CallView) → IsAt old.callers id caller → caller.call ≡ Some call → call.key ≡ key → call.program ≡ program → call.proposed ≡ None → ((desk : DeskView V) → IsAt old.desks id desk → desk.round ≡ None)
-      → new ≡ with_call old id caller (tried_again call) → Opens old id key program new
+  first : (caller : CallerView) → IsAt old.callers id caller → caller.call ≡ None → HasRoom old id (round_marks old.era) → new ≡ opened old id caller key program → Opens old id key program new
+  again : (caller : CallerView) (call : CallView) (reserved : ℕ) → IsAt old.callers id caller → caller.call ≡ Some call → call.key ≡ key → call.program ≡ program → call.proposed ≡ None → WasMet call.told
+      → ((desk : DeskView V) → IsAt old.desks id desk → desk.round ≡ None) → HasRoom old id reserved → 0 < reserved → new ≡ with_call old id caller (tried_again call reserved) → Opens old id key program new
 
 -- ---- the caller is told something
 abbrev pub telling : CallView → Answer → CallView
 telling call answer = record call { told = Some answer }
 
+-- its round is over, and it is told this: of the marks that were reserved that of its end is left
+abbrev pub over : CallView → Answer → CallView
+over call answer = record call { told = Some answer; reserved = 1 }
+
 -- why a round could not begin
 abbrev pub IsNoBeginning : Answer → Type 0
 IsNoBeginning answer.Down = ⊤
-IsNoBeginning answer.VaultFault = ⊤
-IsNoBeginning answer.Spent = ⊤
 IsNoBeginning answer.RecordFull = ⊤
 IsNoBeginning (answer.NoMemory proposed) = proposed ≡ false
 IsNoBeginning other = ⊥
 
 -- ---- a proposal
 abbrev pub proposing : CallView → Outcome → CallView
-proposing call outcome = record call { proposed = Some outcome; harmed = []; told = None }
+proposing call outcome = record call { reserved = call.reserved - 1; proposed = Some outcome; harmed = []; told = None }
 
 abbrev pub proposal_of : ℕ → ℕ → Round → Ballot → List ℕ → Proposal
 proposal_of caller call round read by = record { caller = caller; call = call; key = round.key; ballot = round.ballot; read = read; era = round.era.number; prepared_by = by }
@@ -91,19 +114,22 @@ proposed_view view id caller call desk flow p outcome =
 -- ---- a round begins
 -- at a ballot that is drawn; by a promise, and then what its program makes of the promised state is proposed at once; or not at all
 pub data BeginsRound {S V : Type 0} (m : Meaning S V) (old : View S V) (id : ℕ) (caller : CallerView) (call : CallView) (new : View S V) : Type 0 where
-  prepares : (desk now : DeskView V) (ballot : Ballot) (round : Round) (flow : FlowView) → IsAt old.desks id desk → desk.down ≡ false
+  prepares : (desk now : DeskView V) (ballot : Ballot) (round : Round) (flow : FlowView) → IsAt old.desks id desk → desk.down ≡ false → round_marks old.era ≤ suc call.reserved
       → BeginsToPrepare m.disks old.era call.key desk now ballot round
       → Sends old.flow id (prepares_to id (kept_of desk.vault).age call.key ballot old.era.prep) flow
       → new ≡ record (with_desk old id now) { flow = flow } → BeginsRound m old id caller call new
-  proposes : (desk now : DeskView V) (ready : Ready) (ride : Option Ballot) (round : Round) (outcome : Outcome) (flow : FlowView) → IsAt old.desks id desk → desk.down ≡ false
+  proposes : (desk now : DeskView V) (ready : Ready) (ride : Option Ballot) (round : Round) (outcome : Outcome) (flow : FlowView) → IsAt old.desks id desk → desk.down ≡ false → round_marks old.era ≤ suc call.reserved
       → BeginsByPromise m.disks old.era call.key desk now ready ride round → outcome ≡ outcome_of call.program ready.state
       → Sends old.flow id (accepts_to id (kept_of desk.vault).age round.key round.ballot round.era.number ride outcome.state round.era.acc) flow
       → new ≡ proposed_view old id caller call now flow (proposal_of id caller.number round ready.read ready.by) outcome → BeginsRound m old id caller call new
-  stays : (answer : Answer) → IsNoBeginning answer → new ≡ with_call old id caller (telling call answer) → BeginsRound m old id caller call new
-  fails : (desk now : DeskView V) (answer : Answer) → IsAt old.desks id desk → desk.round ≡ None → IsNoBeginning answer
-      → FailsToDraw m.disks call.key desk now → new ≡ with_call (with_desk old id now) id caller (telling call answer) → BeginsRound m old id caller call new
+  stays : (told : Answer) → IsNoBeginning told → ((desk : DeskView V) → IsAt old.desks id desk → (desk.round ≡ None) × (told ≡ answer.Down → desk.down ≡ true)) → new ≡ with_call old id caller (over call told)
+      → BeginsRound m old id caller call new
+  spent : (desk now : DeskView V) → IsAt old.desks id desk → desk.round ≡ None → desk.down ≡ false → HasKept m.disks desk.vault now.vault → now ≡ record desk { vault = now.vault }
+      → new ≡ with_call (with_desk old id now) id caller (over call answer.Spent) → BeginsRound m old id caller call new
+  fails : (desk now : DeskView V) → IsAt old.desks id desk → desk.round ≡ None → desk.down ≡ false → FailsToDraw m.disks call.key desk now
+      → new ≡ with_call (with_desk old id now) id caller (over call answer.VaultFault) → BeginsRound m old id caller call new
   loses : (desk now : DeskView V) (ballot : Option Ballot) → IsAt old.desks id desk → desk.round ≡ None → desk.down ≡ false
-      → LosesMemory m.disks call.key desk now ballot → new ≡ with_call (with_desk old id now) id caller (telling call (answer.NoMemory false)) → BeginsRound m old id caller call new
+      → LosesMemory m.disks call.key desk now ballot → new ≡ with_call (with_desk old id now) id caller (over call (answer.NoMemory false)) → BeginsRound m old id caller call new
 
 -- a new call is refused, and no mark is made: all is as before, but for what was lost with the memory
 pub data RefusesCall {S V : Type 0} (m : Meaning S V) (old : View S V) (id : ℕ) (key : List ℕ) (new : View S V) : Type 0 where
@@ -135,11 +161,11 @@ pub data ProposesOrEnds {S V : Type 0} (m : Meaning S V) (old : View S V) (id : 
       → Sends old.flow id (accepts_to id (kept_of desk.vault).age round.key round.ballot round.era.number ride outcome.state round.era.acc) flow
       → new ≡ proposed_view old id caller call now flow (proposal_of id caller.number round (accepted_ballot read) by) outcome → ProposesOrEnds m old id desk round caller call new
   ends : (now : DeskView V) (verdict : RoundVerdict) (answer : Answer) → IsVerdictOf round verdict → refusal_by verdict ≡ Some answer
-      → EndsRound m.disks desk now round None → new ≡ with_call (with_desk old id now) id caller (telling call answer) → ProposesOrEnds m old id desk round caller call new
+      → EndsRound m.disks desk now round None → new ≡ with_call (with_desk old id now) id caller (over call answer) → ProposesOrEnds m old id desk round caller call new
   fails : (now : DeskView V) → FailsToDraw m.disks round.key desk now
-      → new ≡ with_call (with_desk old id now) id caller (telling call answer.VaultFault) → ProposesOrEnds m old id desk round caller call new
+      → new ≡ with_call (with_desk old id now) id caller (over call answer.VaultFault) → ProposesOrEnds m old id desk round caller call new
   loses : (now : DeskView V) (ballot : Option Ballot) → LosesMemory m.disks round.key desk now ballot
-      → new ≡ with_call (with_desk old id now) id caller (telling call (answer.NoMemory false)) → ProposesOrEnds m old id desk round caller call new
+      → new ≡ with_call (with_desk old id now) id caller (over call (answer.NoMemory false)) → ProposesOrEnds m old id desk round caller call new
 
 -- the promise that a round offers once it is done: its ballot rode along
 abbrev pub offered_by : Round → Option Ballot → State → List ℕ → Option Ready
@@ -150,11 +176,11 @@ offered_by round (Some ride) state by = Some (record { ballot = ride; state = st
 pub data CountsOrEnds {S V : Type 0} (m : Meaning S V) (old : View S V) (id : ℕ) (desk : DeskView V) (round : Round) (caller : CallerView) (call : CallView) (new : View S V) : Type 0 where
   counts : (now : DeskView V) (by : List ℕ) (outcome : Outcome) → has_quorum round.phase ≡ true → IsConfirmersOf round by → call.proposed ≡ Some outcome
       → EndsRound m.disks desk now round (offered_by round round.ride outcome.state by)
-      → new ≡ with_marks (with_call (with_desk old id now) id caller (telling call (answer.Done outcome.state outcome.took round.ballot)))
+      → new ≡ with_marks (with_call (with_desk old id now) id caller (over call (answer.Done outcome.state outcome.took round.ballot)))
       (Acked (record { key = round.key; ballot = round.ballot; era = round.era.number; by = by }) ∷ [])
       → CountsOrEnds m old id desk round caller call new
   ends : (now : DeskView V) (verdict : RoundVerdict) (why : Cause) → IsVerdictOf round verdict → cause_by verdict ≡ Some why
-      → EndsRound m.disks desk now round None → new ≡ with_call (with_desk old id now) id caller (telling call (answer.Unsettled why)) → CountsOrEnds m old id desk round caller call new
+      → EndsRound m.disks desk now round None → new ≡ with_call (with_desk old id now) id caller (over call (answer.Unsettled why)) → CountsOrEnds m old id desk round caller call new
 
 -- ---- a call ends
 -- with what it was told last; an open round is closed, and its frames join the late ones

@@ -1,6 +1,7 @@
 -- What a step does to a desk and its vault.
 use Rattle.std.specs.Prelude.{◌≡◌, ◌⊎◌, ℕ, true, List, Option, None, Some}
 use Rattle.cas_ballot.specs.declared.ballot.Ballot.{Ballot}
+use Rattle.cas_ballot.specs.Ballot.{FitsBallot}
 use Rattle.cas_cache.specs.declared.ready.Ready.{Ready}
 use Rattle.cas_cache.specs.Entries.{promise_at, without}
 use Rattle.cas_proposer.specs.Desk.{DeskView, Draws, ShowsTheSame, IsCrashed, IsOpened, cache_after, counter_after, counter_without}
@@ -23,6 +24,7 @@ pub record GoesOn {V : Type 0} (m : DiskMeaning V) (old new : Vault V) : Type 0 
 -- a ballot of this proposer was drawn, and is never drawn again
 pub record HasDrawn {V : Type 0} (m : DiskMeaning V) (id : ℕ) (old new : Vault V) (ballot : Ballot) : Type 0 where
   pub draws : Draws id old new ballot
+  pub fits : FitsBallot ballot
   pub past : m.tells → IsPast m.may_leave ballot.counter new
   pub goes_on : GoesOn m old new
 

@@ -1,5 +1,5 @@
 -- What becomes of a frame: the first own one of a proposer in its turn, or a late one that strays in.
-use Rattle.std.specs.Prelude.{◌≡◌, ℕ, ◌+◌, Bool, true, false, List, [], ◌∷◌, ◌++◌, take, drop, if◌then◌else◌, None, Some}
+use Rattle.std.specs.Prelude.{◌-◌, length, ◌≡◌, ℕ, ◌+◌, Bool, true, false, List, [], ◌∷◌, ◌++◌, take, drop, if◌then◌else◌, None, Some}
 use Rattle.cas_ballot.specs.Members.{has_member, with_member}
 use Rattle.cas_fate.specs.declared.fate.Verdict.{Verdict}
 use Rattle.cas_flow.specs.Flow.{FlowView, queue_at, with_queue, taken}
@@ -27,13 +27,21 @@ use Rattle.cas_cluster.specs.StepCalls.{with_call}
 abbrev pub silent : CallView → CallView
 silent call = record call { told = None }
 
+-- the same of one that made so many marks
+abbrev pub marking : CallView → ℕ → CallView
+marking call marks = record call { told = None; reserved = call.reserved - marks }
+
 -- the vote of an accept that is confirmed
 abbrev pub votes_marked : Request → Reply → List Mark
 votes_marked request reply = marks_of (votes_of request.to request.ask reply.tell)
 
 -- the first harm of an acceptor in a phase is marked, and no other
 abbrev pub harmed_by : CallView → ℕ → CallView
-harmed_by call acceptor = record call { told = None; harmed = if has_member call.harmed acceptor then call.harmed else with_member call.harmed acceptor }
+harmed_by call acceptor = record call {
+  told = None;
+  harmed = if has_member call.harmed acceptor then call.harmed else with_member call.harmed acceptor;
+  reserved = if has_member call.harmed acceptor then call.reserved else call.reserved - 1;
+}
 
 abbrev pub harms_marked : ℕ → ℕ → CallView → ℕ → Bool → List Mark
 harms_marked id number call acceptor down = if has_member call.harmed acceptor then [] else Harmed id number down ∷ []
@@ -56,7 +64,7 @@ pub data TakesTurn {S V : Type 0} (m : Meaning S V) (old : View S V) (id : ℕ) 
   -- an acceptor answers
   answers : (request : Request) (acceptor now : AcceptorView S) (reply : Reply) → fall_of (queue_at old.flow id).again verdict ≡ Handle → front ≡ message.Request request
       → IsAt old.acceptors request.to acceptor → AnswersByTable m.shelves acceptor now request reply
-      → new ≡ with_marks (record (with_call (with_acceptor old request.to now) id caller (silent call)) { flow = replied_flow old.flow id verdict reply }) (votes_marked request reply)
+      → new ≡ with_marks (record (with_call (with_acceptor old request.to now) id caller (marking call (length (votes_marked request reply)))) { flow = replied_flow old.flow id verdict reply }) (votes_marked request reply)
       → TakesTurn m old id verdict front caller call new
   -- it is down
   finds_down : (request : Request) (acceptor : AcceptorView S) → fall_of (queue_at old.flow id).again verdict ≡ Handle → front ≡ message.Request request
@@ -83,6 +91,11 @@ without_late flow index = record flow { late = take index flow.late ++ drop (ind
 abbrev pub with_late : FlowView → Message → FlowView
 with_late flow message = record flow { late = joined flow.late message }
 
+-- its acceptor is down, or its proposer has no open round
+abbrev pub IsIgnored : {S V : Type 0} → View S V → Message → Type 0
+IsIgnored {S} {V} view (message.Request request) = (acceptor : AcceptorView S) → IsAt view.acceptors request.to acceptor → acceptor.down ≡ true
+IsIgnored {S} {V} view (message.Reply reply) = (desk : DeskView V) → IsAt view.desks reply.to desk → desk.round ≡ None
+
 pub data Strays {S V : Type 0} (m : Meaning S V) (old : View S V) (index : ℕ) (late : Message) (new : View S V) : Type 0 where
   -- an acceptor answers it, and its reply is late, too
   answers : (request : Request) (acceptor now : AcceptorView S) (reply : Reply) → late ≡ message.Request request
@@ -96,4 +109,4 @@ pub data Strays {S V : Type 0} (m : Meaning S V) (old : View S V) (index : ℕ) 
   arrives : (reply : Reply) (desk now : DeskView V) (round heard : Round) → late ≡ message.Reply reply → IsAt old.desks reply.to desk → desk.round ≡ Some round
       → HearsReply desk now round heard reply → new ≡ record (with_desk old reply.to now) { flow = without_late old.flow index } → Strays m old index late new
   -- it is dropped: its acceptor is down, or no round is open
-  drops : new ≡ record old { flow = without_late old.flow index } → Strays m old index late new
+  drops : IsIgnored old late → new ≡ record old { flow = without_late old.flow index } → Strays m old index late new

@@ -1,6 +1,6 @@
 -- What a cluster is seen as: its acceptors and desks, the calls of its callers, the frames under way, and the marks. Shelves and vaults
 -- are seen as they are, and what they mean is said apart.
-use Rattle.std.specs.Prelude.{ℕ, List, [], ◌++◌, Bool, false, Option, None, Some, slice_get, slice_set, ◌≡◌}
+use Rattle.std.specs.Prelude.{◌+◌, ◌∷◌, ℕ, List, [], ◌++◌, Bool, false, Option, None, Some, slice_get, slice_set, ◌≡◌}
 use Rattle.cas_change.specs.declared.program.Clause.{Clause}
 use Rattle.cas_change.specs.declared.outcome.Outcome.{Outcome}
 use Rattle.cas_quorum.specs.declared.era.Era.{Era}
@@ -34,6 +34,8 @@ pub record CallView : Type 0 where
   pub key : List ℕ
   pub program : List Clause
   pub rounds : ℕ
+  -- how many marks are reserved for it still
+  pub reserved : ℕ
   -- what was proposed, once something was
   pub proposed : Option Outcome
   -- the acceptors of which a frame was harmed in the open phase
@@ -50,9 +52,18 @@ pub record CallerView : Type 0 where
 abbrev pub new_caller : CallerView
 new_caller = record { number = 0; call = None }
 
--- a call that has just begun
-abbrev pub new_call : List ℕ → List Clause → CallView
-new_call key program = record { key = key; program = program; rounds = 0; proposed = None; harmed = []; told = None; is_closed = false }
+-- a call whose first round begins, with so many marks reserved
+abbrev pub new_call : List ℕ → List Clause → ℕ → CallView
+new_call key program reserved = record { key = key; program = program; rounds = 1; reserved = reserved; proposed = None; harmed = []; told = None; is_closed = false }
+
+-- how many marks are reserved for the callers' calls
+abbrev pub reserved_in : Option CallView → ℕ
+reserved_in None = 0
+reserved_in (Some call) = call.reserved
+
+abbrev pub reserved_of : List CallerView → ℕ
+reserved_of [] = 0
+reserved_of (caller ∷ callers) = reserved_in caller.call + reserved_of callers
 
 -- ---- the whole
 pub record View (S V : Type 0) : Type 0 where
