@@ -16,6 +16,7 @@ pub mod Growing
 pub mod Harms
 pub mod Held
 pub mod Known
+pub mod Needed
 pub mod Opens
 pub mod Others
 pub mod Pages
@@ -25,6 +26,13 @@ pub mod Proposes
 pub mod Proposing
 pub mod Rides
 pub mod RoundSteps
+pub mod SafeCalls
+pub mod SafeOpens
+pub mod SafeParts
+pub mod SafeRounds
+pub mod SafeSteps
+pub mod SafeStops
+pub mod SafeTurns
 pub mod Shortfalls
 pub mod SlotChanges
 pub mod Staying

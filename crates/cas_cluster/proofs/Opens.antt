@@ -63,7 +63,7 @@ empty_queues zero p = refl
 empty_queues (suc n) zero = refl
 empty_queues (suc n) (suc p) = empty_queues n p
 
-none_under_way : (flow : FlowView) (p : ℕ) → flow ≡ empty_flow → (queue_at flow p).messages ≡ []
+pub none_under_way : (flow : FlowView) (p : ℕ) → flow ≡ empty_flow → (queue_at flow p).messages ≡ []
 none_under_way flow p is = ap (λ (f : FlowView). (queue_at f p).messages) is ∙ ap (λ (q : QueueView). q.messages) (empty_queues 17 p)
 
 no_messages : (messages : List Message) → messages ≡ [] → AreMessagesTrue [] messages

@@ -6,6 +6,8 @@ pub mod Laws
 pub mod Parties
 pub mod Proposers
 pub mod Protocol
+pub mod Safe
+pub mod SafeLaws
 pub mod Step
 pub mod StepAcceptors
 pub mod StepCalls

@@ -1,7 +1,8 @@
-//! What is true of every cluster as it is seen, with acceptors on shelves of any kind and proposers on disks of any kind, where these
-//! tell what they keep. Each law is the contract of a function that does nothing.
+//! What is true of every cluster as it is seen, with acceptors on shelves of any kind and proposers on disks of any kind. Each law is
+//! the contract of a function that does nothing.
 
 ghost use Rattle.cas_cluster.specs.View.{meaning};
+ghost use Rattle.cas_cluster.specs.SafeLaws.{OpeningsAreSafe, StepsAreSafe};
 ghost use Rattle.cas_cluster.specs.ViewLaws.{OpeningsAreRemembered, StepsAreRemembered, HistoriesAreLegal, WhatIsDoneIsKept};
 
 use cas_disk::Disk;
@@ -30,4 +31,17 @@ pub fn histories_are_legal<S: Shelf, V: Disk>()
 /// until a floor is made at or above it.
 pub fn what_is_done_is_kept<S: Shelf, V: Disk>()
     ensures { WhatIsDoneIsKept (meaning S.contents S.tells S.may_leave V.tells V.may_leave) }
+{}
+
+/// A cluster that has just opened, with a place for each party, is safe, whatever its shelves and disks tell: each mark that may still
+/// be made is reserved, there is room for the reply to each request that waits, and each frame that waits is to or from a member that
+/// the open round of its proposer asks.
+pub fn openings_are_safe<S: Shelf, V: Disk>()
+    ensures { OpeningsAreSafe (meaning S.contents S.tells S.may_leave V.tells V.may_leave) }
+{}
+
+/// Whatever is called on a cluster that is safe, it is safe then. So no call finds the record full but where it begins, nor a late
+/// frame but before it is let in.
+pub fn steps_are_safe<S: Shelf, V: Disk>()
+    ensures { StepsAreSafe (meaning S.contents S.tells S.may_leave V.tells V.may_leave) }
 {}

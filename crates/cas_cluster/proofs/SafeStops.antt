@@ -1,0 +1,429 @@
+-- A cluster stays safe as acceptors and proposers stop and are up again, as late frames stray in, and as calls end.
+use Rattle.std.proofs.Common.{◌≡◌, ◌<◌, ◌≤◌, ℕ, zero, suc, Bool, true, false, List, [], ◌∷◌, ◌++◌, Option, None, Some, refl, sym, ap, subst, ◌∙◌, inl, inr, arith, length-set, length-append}
+use Rattle.std.specs.Prelude.{◌⊎◌, ◌+◌, ◌*◌, length, is_some, slice_set, Contains}
+use Rattle.cas_ballot.specs.declared.ballot.Ballot.{Ballot}
+use Rattle.cas_ballot.specs.Ballot.{FitsBallot}
+use Rattle.cas_ballot.specs.Members.{has_member, IsMemberSet}
+use Rattle.cas_cache.specs.declared.ready.Ready.{Ready}
+use Rattle.cas_cache.specs.Entries.{without}
+use Rattle.cas_change.specs.declared.state.State.{State}
+use Rattle.cas_flow.specs.Flow.{FlowView, queue_at, emptied, abandoned}
+use Rattle.cas_flow.specs.Message.{head_of}
+use Rattle.cas_flow.specs.Queue.{QueueView}
+use Rattle.cas_flow.specs.declared.message.Message.{Message}
+use Rattle.cas_flow.specs.declared.message.Message.TheVariants as message
+use Rattle.cas_acceptor.specs.Acceptor.{AcceptorView}
+use Rattle.cas_proposer.specs.Desk.{DeskView, cache_after}
+use Rattle.cas_proposer.specs.Round.{is_preparing, Hears}
+use Rattle.cas_proposer.specs.declared.round.OpenPhase.{OpenPhase}
+use Rattle.cas_proposer.specs.declared.round.OpenPhase.TheVariants.{Prepare, Accept}
+use Rattle.cas_proposer.specs.declared.round.Round.{Round}
+use Rattle.cas_quorum.specs.declared.era.Era.{Era}
+use Rattle.cas_slot.specs.declared.message.Ask.{Ask}
+use Rattle.cas_slot.specs.declared.message.Ask.TheVariants as ask
+use Rattle.cas_slot.specs.declared.message.Reply.{Reply}
+use Rattle.cas_slot.specs.declared.message.Request.{Request}
+use Rattle.cas_slot.specs.declared.message.Tell.{Tell}
+use Rattle.cas_slot.specs.declared.message.Tell.TheVariants as tell
+use Rattle.cas_record.specs.declared.answer.Answer.{Answer}
+use Rattle.cas_record.specs.declared.answer.Answer.TheVariants as answer
+use Rattle.cas_record.specs.declared.mark.Mark.{Mark}
+use Rattle.cas_record.specs.declared.mark.Mark.TheVariants.{Ended}
+use Rattle.cas_record.specs.Happening.{marks_of}
+use Rattle.cas_cluster.specs.Acceptors.{votes_of}
+use Rattle.cas_cluster.specs.Parties.{asked_in}
+use Rattle.cas_cluster.specs.Safe.{requests_in, handled_in, handled_once, IsPartySafe, IsRoundSafe, IsOpenSafe, IsIdleSafe, IsSafe}
+use Rattle.cas_cluster.specs.Step as step
+use Rattle.cas_cluster.specs.Step.{StepRefuseTurn, StepStray, StepCrashAcceptor, StepRestartAcceptor, StepCrashProposer, StepRestartProposer, closed_by_crash}
+use Rattle.cas_cluster.specs.StepCalls as calls
+use Rattle.cas_cluster.specs.StepCalls.{most_marks, with_call, telling, over, RefusesCall, EndsCall, offered_by}
+use Rattle.cas_cluster.specs.StepDesks.{HearsReply, EndsRound, FailsToDraw, LosesMemory}
+use Rattle.cas_cluster.specs.StepFrames as frames
+use Rattle.cas_cluster.specs.StepFrames.{FindsNoRoom, Strays, votes_marked, without_late, with_late}
+use Rattle.cas_cluster.specs.View.{Meaning, View, CallView, CallerView, IsAt, reserved_in, reserved_of, with_acceptor, with_desk, with_marks}
+use Rattle.cas_cluster.proofs.Caches.{contains_without, IsKeptOr, kept, held, kept_or_held}
+use Rattle.cas_cluster.proofs.EndSteps.{none_left}
+use Rattle.cas_cluster.proofs.Places.{own_set, some_is, queue_other, contains_none}
+use Rattle.cas_cluster.proofs.SafeParts.{more_marks, more_by, reserved_set, set_within, safe_but, changes_both, changes_caller, changes_desk, party_idle, idle_at, keeps_set}
+use Rattle.cas_cluster.proofs.FrameSteps.{same_asked}
+
+-- ---- acceptors
+-- other acceptors with the same identities, other late frames, and more marks within their room
+pub acceptors_safe : {S V : Type 0} (old : View S V) (acceptors : List (AcceptorView S)) (late : List Message) (marks : List Mark) → IsSafe old → length acceptors ≡ length old.acceptors
+    → ((id : ℕ) (acceptor : AcceptorView S) → IsAt acceptors id acceptor → acceptor.id ≡ id) → length old.marks ≤ length marks → length marks + reserved_of old.callers ≤ most_marks
+    → IsSafe (record old { acceptors = acceptors; flow = record { own = old.flow.own; late = late }; marks = marks })
+acceptors_safe old acceptors late marks was same ids more room = record {
+  few = was.few;
+  prep_set = was.prep_set;
+  acc_set = was.acc_set;
+  acceptors = same ∙ was.acceptors;
+  acceptor_ids = ids;
+  desks = was.desks;
+  callers = was.callers;
+  own = was.own;
+  parties = λ id desk caller at_desk at_caller. more_marks old.era (length old.marks) (length marks) id desk caller (queue_at old.flow id) more (was.parties id desk caller at_desk at_caller);
+  room = room;
+}
+
+-- one of them is replaced
+pub acceptor_safe : {S V : Type 0} (old : View S V) (id : ℕ) (acceptor now : AcceptorView S) → IsSafe old → IsAt old.acceptors id acceptor → now.id ≡ acceptor.id → IsSafe (with_acceptor old id now)
+acceptor_safe old id acceptor now was at same =
+    let keeps = keeps_set old.acceptors id acceptor now at same in
+    acceptors_safe old (slice_set old.acceptors id now) old.flow.late old.marks was keeps.length (keeps.ids was.acceptor_ids) (omega arith) was.room
+
+pub crashes_acceptor_safe : {S V : Type 0} (m : Meaning S V) (old : View S V) (id : ℕ) (new : View S V) → IsSafe old → StepCrashAcceptor m old id new → IsSafe new
+crashes_acceptor_safe {S} {V} m old id new was (step.crashes acceptor now at by view) =
+    subst IsSafe (sym view) (acceptor_safe old id acceptor now was at (ap (λ (a : AcceptorView S). a.id) by.acceptor))
+
+pub restarts_acceptor_safe : {S V : Type 0} (m : Meaning S V) (old : View S V) (id : ℕ) (new : View S V) → IsSafe old → StepRestartAcceptor m old id new → IsSafe new
+restarts_acceptor_safe {S} {V} m old id new was (step.was_up acceptor at up view) = subst IsSafe (sym view) was
+restarts_acceptor_safe {S} {V} m old id new was (step.starts acceptor now at by view) =
+    subst IsSafe (sym view) (acceptor_safe old id acceptor now was at (ap (λ (a : AcceptorView S). a.id) by.acceptor))
+restarts_acceptor_safe {S} {V} m old id new was (step.fails acceptor now at by view) =
+    subst IsSafe (sym view) (acceptor_safe old id acceptor now was at (ap (λ (a : AcceptorView S). a.id) by.acceptor))
+
+-- ---- no memory for a frame
+pub room_not_found_safe : {S V : Type 0} (m : Meaning S V) (old new : View S V) → IsSafe old → FindsNoRoom m old new → IsSafe new
+room_not_found_safe {S} {V} m old new was (frames.stays view) = subst IsSafe (sym view) was
+room_not_found_safe {S} {V} m old new was (frames.kept id acceptor now at by view) =
+    subst IsSafe (sym view) (acceptor_safe old id acceptor now was at (ap (λ (a : AcceptorView S). a.id) by.acceptor))
+
+-- callers are as they were
+same_callers : {S V : Type 0} (m : Meaning S V) (old new : View S V) → FindsNoRoom m old new → new.callers ≡ old.callers
+same_callers {S} {V} m old new (frames.stays view) = ap (λ (v : View S V). v.callers) view
+same_callers {S} {V} m old new (frames.kept id acceptor now at by view) = ap (λ (v : View S V). v.callers) view
+
+-- a caller whose call differs in nothing that a round depends on
+told_open : (era : Era) (caller : CallerView) (call now : CallView) (queue : QueueView) (round : Round) → caller.call ≡ Some call → now.key ≡ call.key → now.reserved ≡ call.reserved → now.proposed ≡ call.proposed → now.harmed ≡ call.harmed
+    → IsOpenSafe era caller queue round → IsOpenSafe era (record caller { call = Some now }) queue round
+told_open era caller call now queue round is_open key reserved proposed harmed was =
+    let same : call ≡ was.call = some_is (sym is_open ∙ was.is_open) in
+    let same_reserved : now.reserved ≡ was.call.reserved = reserved ∙ ap (λ (c : CallView). c.reserved) same in
+    let same_proposed = proposed ∙ ap (λ (c : CallView). c.proposed) same in
+    let same_harmed : now.harmed ≡ was.call.harmed = harmed ∙ ap (λ (c : CallView). c.harmed) same in
+    record {
+      call = now;
+      is_open = refl;
+      same_key = was.same_key ∙ sym (key ∙ ap (λ (c : CallView). c.key) same);
+      same_era = was.same_era;
+      ballot = was.ballot;
+      ride = was.ride;
+      about = was.about;
+      asks = was.asks;
+      harmed_set = subst IsMemberSet (sym same_harmed) was.harmed_set;
+      harmed_within = λ acceptor h. was.harmed_within acceptor (subst (λ (l : List ℕ). has_member l acceptor ≡ true) same_harmed h);
+      unproposed = λ e. same_proposed ∙ was.unproposed e;
+      prepare_room = λ e. omega (arith, was.prepare_room e, same_reserved, ap (λ (l : List ℕ). length l) same_harmed);
+      proposed = λ e. ap is_some same_proposed ∙ was.proposed e;
+      accept_room = λ e. omega (arith, was.accept_room e, same_reserved, ap (λ (l : List ℕ). length l) same_harmed);
+    }
+
+told_safe : (era : Era) (caller : CallerView) (call now : CallView) (queue : QueueView) (round : Option Round) → caller.call ≡ Some call → now.key ≡ call.key → now.reserved ≡ call.reserved → now.proposed ≡ call.proposed → now.harmed ≡ call.harmed
+    → IsRoundSafe era caller queue round → IsRoundSafe era (record caller { call = Some now }) queue round
+told_safe era caller call now queue None is_open key reserved proposed harmed was = record {
+  none_waits = was.none_waits;
+  reserved = λ other is. subst (λ (c : CallView). 0 < c.reserved) (some_is is) (omega (arith, reserved, was.reserved call is_open));
+}
+told_safe era caller call now queue (Some round) is_open key reserved proposed harmed was = told_open era caller call now queue round is_open key reserved proposed harmed was
+
+pub tells_safe : {S V : Type 0} (old : View S V) (id : ℕ) (caller : CallerView) (call now : CallView) → IsSafe old → IsAt old.callers id caller → caller.call ≡ Some call
+    → now.key ≡ call.key → now.reserved ≡ call.reserved → now.proposed ≡ call.proposed → now.harmed ≡ call.harmed → IsSafe (with_call old id caller now)
+tells_safe {S} {V} old id caller call now was at is_open key reserved proposed harmed =
+    let next : CallerView = record caller { call = Some now } in
+    safe_but old (with_call old id caller now) id was (changes_caller old id next old.flow old.marks was refl (λ p other. refl) (omega arith))
+    (λ desk c at_desk at_caller. subst (λ (x : CallerView). IsPartySafe old.era (length old.marks) id desk x (queue_at old.flow id)) (sym (own_set old.callers id next c at_caller))
+    (let party = was.parties id desk caller at_desk at in
+    record {
+      same_id = party.same_id;
+      idle = party.idle;
+      number = party.number;
+      cached = party.cached;
+      round = told_safe old.era caller call now (queue_at old.flow id) desk.round is_open key reserved proposed harmed party.round;
+      room = party.room;
+    }))
+    (omega (arith, was.room, reserved, ap reserved_in is_open, reserved_set old.callers id caller next at))
+
+pub refuses_turn_safe : {S V : Type 0} (m : Meaning S V) (old : View S V) (id : ℕ) (new : View S V) → IsSafe old → StepRefuseTurn m old id new → IsSafe new
+refuses_turn_safe m old id new was by =
+    let call = by.of_call.call in
+    subst IsSafe (sym by.view) (tells_safe by.middle id by.of_call.caller call (telling call (answer.NoMemory (is_some call.proposed))) (room_not_found_safe m old by.middle was by.refuses)
+    (subst (λ (l : List CallerView). IsAt l id by.of_call.caller) (sym (same_callers m old by.middle by.refuses)) by.of_call.at_caller) by.of_call.is_open refl refl refl refl)
+
+-- ---- late frames
+-- an answer makes one vote at most
+pub votes_few : (request : Request) (reply : Reply) → length (votes_marked request reply) ≤ 1
+votes_few request reply = by_ask request.to request.ask reply.tell
+  where
+    by_ask : (to : ℕ) (question : Ask) (answer : Tell) → length (marks_of (votes_of to question answer)) ≤ 1
+    by_ask to (ask.Accept key ballot era ride state) tell.Accepted = omega arith
+    by_ask to question answer = omega arith
+
+-- a round that has heard a reply
+pub heard_open : (era : Era) (caller : CallerView) (queue : QueueView) (round now : Round) (reply : Reply) → Hears round reply now → IsOpenSafe era caller queue round → IsOpenSafe era caller queue now
+heard_open era caller queue round now reply by was =
+    let asked : asked_in era now.phase ≡ asked_in era round.phase = same_asked era now.phase round.phase by.same_phase in
+    record {
+      call = was.call;
+      is_open = was.is_open;
+      same_key = ap (λ (r : Round). r.key) by.same ∙ was.same_key;
+      same_era = ap (λ (r : Round). r.era) by.same ∙ was.same_era;
+      ballot = subst FitsBallot (sym (ap (λ (r : Round). r.ballot) by.same)) was.ballot;
+      ride = λ ballot e. was.ride ballot (sym (ap (λ (r : Round). r.ride) by.same) ∙ e);
+      about = λ each h. subst (λ (l : List ℕ). has_member l (head_of each).1 ≡ true) (sym asked) (was.about each h);
+      asks = λ e. was.asks (sym by.same_phase ∙ e);
+      harmed_set = was.harmed_set;
+      harmed_within = λ acceptor h. subst (λ (l : List ℕ). has_member l acceptor ≡ true) (sym asked) (was.harmed_within acceptor h);
+      unproposed = λ e. was.unproposed (sym by.same_phase ∙ e);
+      prepare_room = λ e. was.prepare_room (sym by.same_phase ∙ e);
+      proposed = λ e. was.proposed (sym by.same_phase ∙ e);
+      accept_room = λ e. was.accept_room (sym by.same_phase ∙ e);
+    }
+
+-- its party
+pub heard_party : {V : Type 0} (era : Era) (marks id : ℕ) (desk now : DeskView V) (caller : CallerView) (queue : QueueView) (round heard : Round) (reply : Reply) → desk.round ≡ Some round → HearsReply desk now round heard reply
+    → IsPartySafe era marks id desk caller queue → IsPartySafe era marks id now caller queue
+heard_party {V} era marks id desk now caller queue round heard reply has_round by was = record {
+  same_id = ap (λ (d : DeskView V). d.id) by.desk ∙ was.same_id;
+  idle = λ down. absurd (cc (has_round, was.idle (sym (ap (λ (d : DeskView V). d.down) by.desk) ∙ down)));
+  number = was.number;
+  cached = λ key ready h. was.cached key ready (subst (λ (l : List (List ℕ × Ready)). Contains l (key, ready)) (ap (λ (d : DeskView V). d.cache) by.desk) h);
+  round = subst (IsRoundSafe era caller queue) (sym (ap (λ (d : DeskView V). d.round) by.desk))
+      (heard_open era caller queue round heard reply by.hears (subst (IsRoundSafe era caller queue) has_round was.round));
+  room = was.room;
+}
+
+pub strays_safe : {S V : Type 0} (m : Meaning S V) (old : View S V) (index : ℕ) (new : View S V) → IsSafe old → StepStray m old index new → IsSafe new
+strays_safe {S} {V} m old index new was by = by_stray by.strays
+  where
+    by_stray : Strays m old index by.late new → IsSafe new
+    by_stray (frames.answers request acceptor now reply late at answers view) =
+        let marks = old.marks ++ votes_marked request reply in
+        subst IsSafe (sym view) (acceptors_safe old (slice_set old.acceptors request.to now) (with_late (without_late old.flow index) (message.Reply reply)).late marks was (length-set old.acceptors request.to now)
+        ((keeps_set old.acceptors request.to acceptor now at (ap (λ (a : AcceptorView S). a.id) answers.acceptor)).ids was.acceptor_ids) (more_by old.marks (votes_marked request reply))
+        (omega (arith, by.room, votes_few request reply, length-append old.marks (votes_marked request reply))))
+    by_stray (frames.brings_down request acceptor now late at stops view) =
+        subst IsSafe (sym view) (acceptors_safe old (slice_set old.acceptors request.to now) (without_late old.flow index).late old.marks was (length-set old.acceptors request.to now)
+        ((keeps_set old.acceptors request.to acceptor now at (ap (λ (a : AcceptorView S). a.id) stops.acceptor)).ids was.acceptor_ids) (omega arith) was.room)
+    by_stray (frames.arrives reply desk now round heard late at has_round hears view) =
+        subst IsSafe (sym view) (safe_but old (record (with_desk old reply.to now) { flow = without_late old.flow index }) reply.to was (changes_desk old reply.to now (without_late old.flow index) was refl (λ p other. refl))
+        (λ d c at_d at_c. subst (λ (x : DeskView V). IsPartySafe old.era (length old.marks) reply.to x c (queue_at old.flow reply.to)) (sym (own_set old.desks reply.to now d at_d))
+        (heard_party old.era (length old.marks) reply.to desk now c (queue_at old.flow reply.to) round heard reply has_round hears (was.parties reply.to desk c at at_c)))
+        was.room)
+    by_stray (frames.drops ignored view) =
+        subst IsSafe (sym view) (acceptors_safe old old.acceptors (without_late old.flow index).late old.marks was refl was.acceptor_ids (omega arith) was.room)
+
+-- ---- marks that are reserved
+-- no more requests were handled once than wait
+pub handled_few : (again : Bool) (messages : List Message) → handled_in again messages ≤ requests_in messages
+handled_few true [] = omega arith
+handled_few true (message.Request request ∷ rest) = omega arith
+handled_few true (message.Reply reply ∷ rest) = omega arith
+handled_few false messages = omega arith
+
+pub asked_set : (era : Era) (phase : OpenPhase) → IsMemberSet era.prep → IsMemberSet era.acc → IsMemberSet (asked_in era phase)
+asked_set era (Prepare p) prep acc = prep
+asked_set era (Accept p) prep acc = acc
+
+reserves_by : (era : Era) (phase : OpenPhase) (reserved harmed requests handled : ℕ) → harmed ≤ length (asked_in era phase) → handled ≤ requests
+    → (is_preparing phase ≡ true → 3 + 3 * length era.acc + length era.prep ≤ reserved + harmed) → (is_preparing phase ≡ false → 2 + 2 * requests + length era.acc ≤ reserved + harmed + handled) → 2 ≤ reserved
+reserves_by era (Prepare p) reserved harmed requests handled few once prepares accepts = omega (arith, few, prepares refl)
+reserves_by era (Accept p) reserved harmed requests handled few once prepares accepts = omega (arith, few, once, accepts refl)
+
+-- of an open round the mark of its call's end is reserved
+pub reserves_one : (era : Era) (caller : CallerView) (queue : QueueView) (round : Round) (was : IsOpenSafe era caller queue round) → IsMemberSet era.prep → IsMemberSet era.acc → 2 ≤ was.call.reserved
+reserves_one era caller queue round was prep acc =
+    reserves_by era round.phase was.call.reserved (length was.call.harmed) (requests_in queue.messages) (handled_once queue)
+    (set_within was.call.harmed (asked_in era round.phase) was.harmed_set (asked_set era round.phase prep acc) was.harmed_within) (handled_few queue.again queue.messages) was.prepare_room was.accept_room
+
+-- and so is that of each open call
+pub call_reserves : (era : Era) (caller : CallerView) (call : CallView) (queue : QueueView) (round : Option Round) → caller.call ≡ Some call → IsMemberSet era.prep → IsMemberSet era.acc → IsRoundSafe era caller queue round → 0 < call.reserved
+call_reserves era caller call queue None is_open prep acc was = was.reserved call is_open
+call_reserves era caller call queue (Some round) is_open prep acc was = omega (arith, reserves_one era caller queue round was prep acc, ap reserved_in (sym is_open ∙ was.is_open))
+
+pub call_reserves_at : {S V : Type 0} (old : View S V) (id : ℕ) (caller : CallerView) (call : CallView) (desk : DeskView V) → IsSafe old → IsAt old.callers id caller → caller.call ≡ Some call → IsAt old.desks id desk → 0 < call.reserved
+call_reserves_at old id caller call desk was at_caller is_open at_desk =
+    call_reserves old.era caller call (queue_at old.flow id) desk.round is_open was.prep_set was.acc_set (was.parties id desk caller at_desk at_caller).round
+
+-- ---- a desk without an open round
+-- each promise that a cache holds is within its limits
+abbrev pub AreFit : List (List ℕ × Ready) → Type 0
+AreFit cache = (key : List ℕ) (ready : Ready) → Contains cache (key, ready) → FitsBallot ready.ballot
+
+-- a cache that is the same, or without one key
+pub fit_fewer : (key : List ℕ) (old new : List (List ℕ × Ready)) → (new ≡ old) ⊎ (new ≡ without key old) → AreFit old → AreFit new
+fit_fewer key old new (inl same) were = subst AreFit (sym same) were
+fit_fewer key old new (inr fewer) were = subst AreFit (sym fewer) (λ other ready h. were other ready (contains_without key old h))
+
+-- the desk has no open round now, and no frame of it waits
+pub desk_idles : {S V : Type 0} (old : View S V) (id : ℕ) (desk now : DeskView V) (flow : FlowView) → IsSafe old → IsAt old.desks id desk → now.id ≡ desk.id → now.round ≡ None → (AreFit desk.cache → AreFit now.cache)
+    → ((caller : CallerView) → IsAt old.callers id caller → IsIdleSafe caller (queue_at flow id)) → length flow.own ≡ length old.flow.own → ((p : ℕ) → (p ≡ id → ⊥) → queue_at flow p ≡ queue_at old.flow p)
+    → IsSafe (record (with_desk old id now) { flow = flow })
+desk_idles {S} {V} old id desk now flow was at same none fit idle own others =
+    safe_but old (record (with_desk old id now) { flow = flow }) id was (changes_desk old id now flow was own others)
+    (λ d caller at_d at_caller. subst (λ (x : DeskView V). IsPartySafe old.era (length old.marks) id x caller (queue_at flow id)) (sym (own_set old.desks id now d at_d))
+    (let party = was.parties id desk caller at at_caller in
+    let is = idle caller at_caller in
+    party_idle old.era (length old.marks) id now caller (queue_at flow id) (same ∙ party.same_id) none is.none_waits party.number (fit party.cached) is.reserved))
+    was.room
+
+-- the same, with what its caller's call is now, and more marks within what was reserved for them
+pub call_idles : {S V : Type 0} (old : View S V) (id : ℕ) (caller next : CallerView) (desk now : DeskView V) (flow : FlowView) (marks : List Mark) → IsSafe old → IsAt old.callers id caller → IsAt old.desks id desk
+    → now.id ≡ desk.id → now.round ≡ None → (AreFit desk.cache → AreFit now.cache) → next.number ≡ caller.number → ((call : CallView) → next.call ≡ Some call → 0 < call.reserved)
+    → (queue_at flow id).messages ≡ [] → length flow.own ≡ length old.flow.own → ((p : ℕ) → (p ≡ id → ⊥) → queue_at flow p ≡ queue_at old.flow p)
+    → length old.marks ≤ length marks → length marks + reserved_in next.call ≤ length old.marks + reserved_in caller.call
+    → IsSafe (record old { desks = slice_set old.desks id now; callers = slice_set old.callers id next; flow = flow; marks = marks })
+call_idles {S} {V} old id caller next desk now flow marks was at_caller at_desk same none fit number reserved waits own others more room =
+    safe_but old (record old { desks = slice_set old.desks id now; callers = slice_set old.callers id next; flow = flow; marks = marks }) id was (changes_both old id now next flow marks was own others more)
+    (λ d c at_d at_c. subst (λ (x : DeskView V). IsPartySafe old.era (length marks) id x c (queue_at flow id)) (sym (own_set old.desks id now d at_d))
+    (subst (λ (x : CallerView). IsPartySafe old.era (length marks) id now x (queue_at flow id)) (sym (own_set old.callers id next c at_c))
+    (let party = was.parties id desk caller at_desk at_caller in
+    party_idle old.era (length marks) id now next (queue_at flow id) (same ∙ party.same_id) none waits (omega (arith, number, party.number, more)) (fit party.cached) reserved)))
+    (omega (arith, room, was.room, reserved_set old.callers id caller next at_caller))
+
+-- a round is over, or none began, and the caller is told so
+pub over_safe : {S V : Type 0} (old : View S V) (id : ℕ) (caller : CallerView) (call : CallView) (desk now : DeskView V) (told : Answer) → IsSafe old → IsAt old.callers id caller → caller.call ≡ Some call
+    → IsAt old.desks id desk → now.id ≡ desk.id → now.round ≡ None → (AreFit desk.cache → AreFit now.cache) → (queue_at old.flow id).messages ≡ [] → IsSafe (with_call (with_desk old id now) id caller (over call told))
+over_safe old id caller call desk now told was at_caller is_open at_desk same none fit waits =
+    call_idles old id caller (record caller { call = Some (over call told) }) desk now old.flow old.marks was at_caller at_desk same none fit refl
+    (λ other is. subst (λ (c : CallView). 0 < c.reserved) (some_is is) (omega arith)) waits refl (λ p other. refl) (omega arith) (omega (arith, ap reserved_in is_open, call_reserves_at old id caller call desk was at_caller is_open at_desk))
+
+-- ---- proposers that stop
+-- frames of other proposers wait as they did
+left_alone : (flow : FlowView) (id p : ℕ) → (p ≡ id → ⊥) → queue_at (abandoned flow id) p ≡ queue_at flow p
+left_alone flow id p other = queue_other flow.own id p (emptied (queue_at flow id)) other
+
+-- what a crash leaves of a desk
+crashed_fit : {V : Type 0} (desk now : DeskView V) → now.cache ≡ [] → AreFit desk.cache → AreFit now.cache
+crashed_fit desk now none were = subst AreFit (sym none) (λ key ready h. absurd (contains_none h))
+
+pub crashes_proposer_safe : {S V : Type 0} (m : Meaning S V) (old : View S V) (id : ℕ) (new : View S V) → IsSafe old → StepCrashProposer m old id new → IsSafe new
+crashes_proposer_safe {S} {V} m old id new was (step.idle desk now at none by view) =
+    subst IsSafe (sym view) (desk_idles old id desk now (abandoned old.flow id) was at (ap (λ (d : DeskView V). d.id) by.crashed) (ap (λ (d : DeskView V). d.round) by.crashed)
+    (crashed_fit desk now (ap (λ (d : DeskView V). d.cache) by.crashed))
+    (λ caller at_caller. record {
+      none_waits = none_left old.flow id;
+      reserved = (idle_at old.era caller (queue_at old.flow id) desk.round none (was.parties id desk caller at at_caller).round).reserved;
+    })
+    (length-set old.flow.own id (emptied (queue_at old.flow id))) (left_alone old.flow id))
+crashes_proposer_safe {S} {V} m old id new was (step.closes desk now round of_call at some by view) =
+    let caller = of_call.caller in
+    let call = of_call.call in
+    subst IsSafe (sym view) (call_idles old id caller (record caller { call = Some (closed_by_crash call) }) desk now (abandoned old.flow id) old.marks was of_call.at_caller at
+    (ap (λ (d : DeskView V). d.id) by.crashed) (ap (λ (d : DeskView V). d.round) by.crashed) (crashed_fit desk now (ap (λ (d : DeskView V). d.cache) by.crashed)) refl
+    (λ other is. subst (λ (c : CallView). 0 < c.reserved) (some_is is) (omega arith)) (none_left old.flow id) (length-set old.flow.own id (emptied (queue_at old.flow id))) (left_alone old.flow id) (omega arith)
+    (omega (arith, ap reserved_in of_call.is_open, call_reserves_at old id caller call desk was of_call.at_caller of_call.is_open at)))
+
+pub restarts_proposer_safe : {S V : Type 0} (m : Meaning S V) (old : View S V) (id : ℕ) (new : View S V) → IsSafe old → StepRestartProposer m old id new → IsSafe new
+restarts_proposer_safe {S} {V} m old id new was (step.was_up_already desk at up view) = subst IsSafe (sym view) was
+restarts_proposer_safe {S} {V} m old id new was (step.restarts desk now at down by view) =
+    subst IsSafe (sym view) (safe_but old (with_desk old id now) id was (changes_desk old id now old.flow was refl (λ p other. refl))
+    (λ d caller at_d at_caller. subst (λ (x : DeskView V). IsPartySafe old.era (length old.marks) id x caller (queue_at old.flow id)) (sym (own_set old.desks id now d at_d))
+    (let party = was.parties id desk caller at at_caller in
+    let is = idle_at old.era caller (queue_at old.flow id) desk.round (party.idle down) party.round in
+    party_idle old.era (length old.marks) id now caller (queue_at old.flow id) (ap (λ (d : DeskView V). d.id) by.desk ∙ party.same_id) (ap (λ (d : DeskView V). d.round) by.desk ∙ party.idle down)
+    is.none_waits party.number (subst AreFit (sym (ap (λ (d : DeskView V). d.cache) by.desk)) party.cached) is.reserved))
+    was.room)
+
+-- ---- calls that end, and calls that are refused
+pub ends_call_safe : {S V : Type 0} (m : Meaning S V) (old : View S V) (id : ℕ) (caller : CallerView) (call : CallView) (told : Answer) (new : View S V) → IsSafe old → IsAt old.callers id caller → caller.call ≡ Some call
+    → EndsCall m old id caller call told new → IsSafe new
+ends_call_safe {S} {V} m old id caller call told new was at_caller is_open by = by_round by.closed
+  where
+    marks : List Mark
+    marks = old.marks ++ Ended id caller.number call.rounds told ∷ []
+
+    ends : by.now.id ≡ by.desk.id → by.now.round ≡ None → (AreFit by.desk.cache → AreFit by.now.cache) → IsSafe new
+    ends same none fit =
+        subst IsSafe (sym by.view) (call_idles old id caller (record caller { call = None }) by.desk by.now (abandoned old.flow id) marks was at_caller by.at_desk same none fit refl
+        (λ other is. absurd (cc is)) (none_left old.flow id) (length-set old.flow.own id (emptied (queue_at old.flow id))) (left_alone old.flow id) (more_by old.marks (Ended id caller.number call.rounds told ∷ []))
+        (omega (arith, ap reserved_in is_open, length-append old.marks (Ended id caller.number call.rounds told ∷ []), call_reserves_at old id caller call by.desk was at_caller is_open by.at_desk)))
+
+    by_round : ((by.desk.round ≡ None) × (by.now ≡ by.desk)) ⊎ ((round : Round) × (by.desk.round ≡ Some round) × EndsRound m.disks by.desk by.now round None) → IsSafe new
+    by_round (inl idle) = ends (ap (λ (d : DeskView V). d.id) idle.1) (ap (λ (d : DeskView V). d.round) idle.1 ∙ idle.0) (subst AreFit (sym (ap (λ (d : DeskView V). d.cache) idle.1)))
+    by_round (inr was_open) = ends (ap (λ (d : DeskView V). d.id) was_open.2.desk) (ap (λ (d : DeskView V). d.round) was_open.2.desk)
+        (fit_fewer was_open.0.key by.desk.cache by.now.cache (inr (ap (λ (d : DeskView V). d.cache) was_open.2.desk)))
+
+pub refuses_call_safe : {S V : Type 0} (m : Meaning S V) (old : View S V) (id : ℕ) (key : List ℕ) (new : View S V) → IsSafe old → RefusesCall m old id key new → IsSafe new
+refuses_call_safe {S} {V} m old id key new was (calls.stays view) = subst IsSafe (sym view) was
+refuses_call_safe {S} {V} m old id key new was (calls.loses caller desk now ballot at_caller at_desk none up by view) =
+    subst IsSafe (sym view) (desk_idles old id desk now old.flow was at_desk (ap (λ (d : DeskView V). d.id) by.desk) (ap (λ (d : DeskView V). d.round) by.desk) (fit_fewer key desk.cache now.cache by.cache)
+    (λ c at_c. idle_at old.era c (queue_at old.flow id) desk.round none (was.parties id desk c at_desk at_c).round) refl (λ p other. refl))
+
+-- ---- rounds that do not begin
+-- two lists as long as each other have the same places
+place_of_both : {A B : Type 0} (xs : List A) (ys : List B) (place : ℕ) (x : A) → length xs ≡ length ys → IsAt xs place x → (y : B) × IsAt ys place y
+place_of_both [] ys place x same at = absurd (cc at)
+place_of_both (each ∷ xs) [] place x same at = absurd (cc same)
+place_of_both (each ∷ xs) (y ∷ ys) zero x same at = (y, refl)
+place_of_both (each ∷ xs) (y ∷ ys) (suc place) x same at = place_of_both xs ys place x (omega (arith, same)) at
+
+-- the caller is told why: its desk stays as it is
+pub begin_stays_safe : {S V : Type 0} (old : View S V) (id : ℕ) (caller : CallerView) (call : CallView) (told : Answer) (new : View S V) → IsSafe old → IsAt old.callers id caller → caller.call ≡ Some call
+    → ((desk : DeskView V) → IsAt old.desks id desk → desk.round ≡ None) → new ≡ with_call old id caller (over call told) → IsSafe new
+begin_stays_safe {S} {V} old id caller call told new was at_caller is_open idle view =
+    let next : CallerView = record caller { call = Some (over call told) } in
+    let its = place_of_both old.callers old.desks id caller (was.callers ∙ sym was.desks) at_caller in
+    subst IsSafe (sym view) (safe_but old (with_call old id caller (over call told)) id was (changes_caller old id next old.flow old.marks was refl (λ p other. refl) (omega arith))
+    (λ desk c at_desk at_c. subst (λ (x : CallerView). IsPartySafe old.era (length old.marks) id desk x (queue_at old.flow id)) (sym (own_set old.callers id next c at_c))
+    (let party = was.parties id desk caller at_desk at_caller in
+    party_idle old.era (length old.marks) id desk next (queue_at old.flow id) party.same_id (idle desk at_desk) (idle_at old.era caller (queue_at old.flow id) desk.round (idle desk at_desk) party.round).none_waits
+    party.number party.cached (λ other is. subst (λ (x : CallView). 0 < x.reserved) (some_is is) (omega arith))))
+    (omega (arith, was.room, ap reserved_in is_open, reserved_set old.callers id caller next at_caller, call_reserves_at old id caller call its.0 was at_caller is_open its.1)))
+
+-- no frame of a proposer waits where its desk has no open round
+pub none_waits_at : {S V : Type 0} (old : View S V) (id : ℕ) (caller : CallerView) (desk : DeskView V) → IsSafe old → IsAt old.callers id caller → IsAt old.desks id desk → desk.round ≡ None → (queue_at old.flow id).messages ≡ []
+none_waits_at old id caller desk was at_caller at_desk none = (idle_at old.era caller (queue_at old.flow id) desk.round none (was.parties id desk caller at_desk at_caller).round).none_waits
+
+-- the desk has drawn its last ballot
+pub begin_spent_safe : {S V : Type 0} (old : View S V) (id : ℕ) (caller : CallerView) (call : CallView) (desk now : DeskView V) (new : View S V) → IsSafe old → IsAt old.callers id caller → caller.call ≡ Some call
+    → IsAt old.desks id desk → desk.round ≡ None → now ≡ record desk { vault = now.vault } → new ≡ with_call (with_desk old id now) id caller (over call answer.Spent) → IsSafe new
+begin_spent_safe {S} {V} old id caller call desk now new was at_caller is_open at_desk none is_now view =
+    subst IsSafe (sym view) (over_safe old id caller call desk now answer.Spent was at_caller is_open at_desk (ap (λ (d : DeskView V). d.id) is_now) (ap (λ (d : DeskView V). d.round) is_now ∙ none)
+    (subst AreFit (sym (ap (λ (d : DeskView V). d.cache) is_now))) (none_waits_at old id caller desk was at_caller at_desk none))
+
+-- ---- rounds that do not begin, or end
+-- the desk's vault fails in a draw
+pub fails_safe : {S V : Type 0} (m : Meaning S V) (old : View S V) (id : ℕ) (caller : CallerView) (call : CallView) (key : List ℕ) (desk now : DeskView V) (told : Answer) (new : View S V) → IsSafe old → IsAt old.callers id caller → caller.call ≡ Some call
+    → IsAt old.desks id desk → (queue_at old.flow id).messages ≡ [] → FailsToDraw m.disks key desk now → new ≡ with_call (with_desk old id now) id caller (over call told) → IsSafe new
+fails_safe {S} {V} m old id caller call key desk now told new was at_caller is_open at_desk waits by view =
+    subst IsSafe (sym view) (over_safe old id caller call desk now told was at_caller is_open at_desk (ap (λ (d : DeskView V). d.id) by.desk) (ap (λ (d : DeskView V). d.round) by.desk)
+    (fit_fewer key desk.cache now.cache by.cache) waits)
+
+-- no memory is found
+pub loses_safe : {S V : Type 0} (m : Meaning S V) (old : View S V) (id : ℕ) (caller : CallerView) (call : CallView) (key : List ℕ) (desk now : DeskView V) (ballot : Option Ballot) (told : Answer) (new : View S V) → IsSafe old → IsAt old.callers id caller → caller.call ≡ Some call
+    → IsAt old.desks id desk → (queue_at old.flow id).messages ≡ [] → LosesMemory m.disks key desk now ballot → new ≡ with_call (with_desk old id now) id caller (over call told) → IsSafe new
+loses_safe {S} {V} m old id caller call key desk now ballot told new was at_caller is_open at_desk waits by view =
+    subst IsSafe (sym view) (over_safe old id caller call desk now told was at_caller is_open at_desk (ap (λ (d : DeskView V). d.id) by.desk) (ap (λ (d : DeskView V). d.round) by.desk)
+    (fit_fewer key desk.cache now.cache by.cache) waits)
+
+-- it ends without a promise
+pub ends_safe : {S V : Type 0} (m : Meaning S V) (old : View S V) (id : ℕ) (caller : CallerView) (call : CallView) (desk now : DeskView V) (round : Round) (told : Answer) (new : View S V) → IsSafe old → IsAt old.callers id caller → caller.call ≡ Some call
+    → IsAt old.desks id desk → (queue_at old.flow id).messages ≡ [] → EndsRound m.disks desk now round None → new ≡ with_call (with_desk old id now) id caller (over call told) → IsSafe new
+ends_safe {S} {V} m old id caller call desk now round told new was at_caller is_open at_desk waits by view =
+    subst IsSafe (sym view) (over_safe old id caller call desk now told was at_caller is_open at_desk (ap (λ (d : DeskView V). d.id) by.desk) (ap (λ (d : DeskView V). d.round) by.desk)
+    (fit_fewer round.key desk.cache now.cache (inr (ap (λ (d : DeskView V). d.cache) by.desk))) waits)
+
+-- the promise that a round offers is within its limits, and so is each that its cache holds then
+offered_fit : (round : Round) (ride : Option Ballot) (state : State) (by : List ℕ) → ((ballot : Ballot) → ride ≡ Some ballot → FitsBallot ballot) → (ready : Ready) → offered_by round ride state by ≡ Some ready → FitsBallot ready.ballot
+offered_fit round None state by fits ready e = absurd (cc e)
+offered_fit round (Some ride) state by fits ready e = subst (λ (r : Ready). FitsBallot r.ballot) (some_is e) (fits ride refl)
+
+fit_after : (round : Round) (offered : Option Ready) (cache : List (List ℕ × Ready)) → ((ready : Ready) → offered ≡ Some ready → FitsBallot ready.ballot) → AreFit cache → AreFit (cache_after round offered cache)
+fit_after round offered cache fits were key ready h = by_entry (kept_or_held round offered cache (key, ready) h)
+  where
+    by_entry : IsKeptOr round offered cache (key, ready) → FitsBallot ready.ballot
+    by_entry (kept other is keep same) = subst (λ (entry : List ℕ × Ready). FitsBallot entry.1.ballot) same (fits other is)
+    by_entry (held before) = were key ready before
+
+-- it ends with a mark, and the promise that it offers may be kept
+pub counted_safe : {S V : Type 0} (m : Meaning S V) (old : View S V) (id : ℕ) (caller : CallerView) (call : CallView) (desk now : DeskView V) (round : Round) (state : State) (by_whom : List ℕ) (told : Answer) (mark : Mark) (new : View S V) → IsSafe old
+    → IsAt old.callers id caller → caller.call ≡ Some call → IsAt old.desks id desk → desk.round ≡ Some round → (queue_at old.flow id).messages ≡ [] → EndsRound m.disks desk now round (offered_by round round.ride state by_whom)
+    → new ≡ with_marks (with_call (with_desk old id now) id caller (over call told)) (mark ∷ []) → IsSafe new
+counted_safe {S} {V} m old id caller call desk now round state by_whom told mark new was at_caller is_open at_desk has_round waits by view =
+    let safe : IsOpenSafe old.era caller (queue_at old.flow id) round = subst (IsRoundSafe old.era caller (queue_at old.flow id)) has_round (was.parties id desk caller at_desk at_caller).round in
+    subst IsSafe (sym view) (call_idles old id caller (record caller { call = Some (over call told) }) desk now old.flow (old.marks ++ mark ∷ []) was at_caller at_desk
+    (ap (λ (d : DeskView V). d.id) by.desk) (ap (λ (d : DeskView V). d.round) by.desk)
+    (λ were. subst AreFit (sym (ap (λ (d : DeskView V). d.cache) by.desk))
+    (fit_after round (offered_by round round.ride state by_whom) desk.cache (offered_fit round round.ride state by_whom safe.ride) were)) refl
+    (λ other is. subst (λ (c : CallView). 0 < c.reserved) (some_is is) (omega arith)) waits refl (λ p other. refl) (more_by old.marks (mark ∷ []))
+    (omega (arith, length-append old.marks (mark ∷ []), ap reserved_in is_open, ap reserved_in safe.is_open, reserves_one old.era caller (queue_at old.flow id) round safe was.prep_set was.acc_set)))

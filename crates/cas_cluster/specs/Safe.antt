@@ -1,0 +1,93 @@
+-- What a cluster keeps true also where its disks tell nothing: how far each call has come at its desk, that every mark that may still be
+-- made is reserved, that there is room for every reply, and that all is within its limits.
+use Rattle.std.specs.Prelude.{◌≡◌, ℕ, suc, ◌+◌, ◌*◌, ◌<◌, ◌≤◌, Bool, true, false, List, [], ◌∷◌, length, is_some, Option, None, Some, Contains}
+use Rattle.cas_ballot.specs.declared.ballot.Ballot.{Ballot}
+use Rattle.cas_ballot.specs.Ballot.{FitsBallot}
+use Rattle.cas_ballot.specs.Members.{has_member, IsMemberSet}
+use Rattle.cas_cache.specs.declared.ready.Ready.{Ready}
+use Rattle.cas_flow.specs.Flow.{queue_at}
+use Rattle.cas_flow.specs.Message.{head_of}
+use Rattle.cas_flow.specs.Queue.{QueueView}
+use Rattle.cas_flow.specs.declared.message.Message.{Message}
+use Rattle.cas_flow.specs.declared.message.Message.TheVariants as message
+use Rattle.cas_acceptor.specs.Acceptor.{AcceptorView}
+use Rattle.cas_proposer.specs.Desk.{DeskView}
+use Rattle.cas_proposer.specs.Round.{is_preparing}
+use Rattle.cas_proposer.specs.declared.round.Round.{Round}
+use Rattle.cas_quorum.specs.declared.era.Era.{Era}
+use Rattle.cas_round.specs.Replies.{is_prepare}
+use Rattle.cas_slot.specs.Message.{phase_of}
+use Rattle.cas_slot.specs.declared.message.Request.{Request}
+use Rattle.cas_cluster.specs.Parties.{asked_in}
+use Rattle.cas_cluster.specs.StepCalls.{most_marks}
+use Rattle.cas_cluster.specs.View.{View, CallView, CallerView, IsAt, reserved_of}
+
+-- ---- frames that wait
+-- how many of them are requests
+abbrev pub requests_in : List Message → ℕ
+requests_in [] = 0
+requests_in (message.Request request ∷ rest) = suc (requests_in rest)
+requests_in (message.Reply reply ∷ rest) = requests_in rest
+
+-- how many requests were handled once, of two times: the first, or none
+abbrev pub handled_in : Bool → List Message → ℕ
+handled_in true (message.Request request ∷ rest) = 1
+handled_in again messages = 0
+
+abbrev pub handled_once : QueueView → ℕ
+handled_once queue = handled_in queue.again queue.messages
+
+-- ---- an open round
+-- It is of the caller's open call. Each frame is to or from a member that its phase asks, and so is each that was harmed. The marks that
+-- may still be made are reserved: in the prepare phase those of the proposal, the acknowledgment and the end, two votes and a harm for
+-- each member that accepts, and a harm for each other that prepares; in the accept phase those of the acknowledgment and the end, a vote
+-- for each time that a request may be handled, and a harm for each other member.
+pub record IsOpenSafe (era : Era) (caller : CallerView) (queue : QueueView) (round : Round) : Type 0 where
+  pub call : CallView
+  pub is_open : caller.call ≡ Some call
+  pub same_key : round.key ≡ call.key
+  pub same_era : round.era ≡ era
+  pub ballot : FitsBallot round.ballot
+  pub ride : (ballot : Ballot) → round.ride ≡ Some ballot → FitsBallot ballot
+  pub about : (each : Message) → Contains queue.messages each → has_member (asked_in era round.phase) (head_of each).1 ≡ true
+  -- in the prepare phase no request that waits asks for a vote
+  pub asks : is_preparing round.phase ≡ true → (request : Request) → Contains queue.messages (message.Request request) → is_prepare (phase_of request.ask) ≡ true
+  pub harmed_set : IsMemberSet call.harmed
+  pub harmed_within : (acceptor : ℕ) → has_member call.harmed acceptor ≡ true → has_member (asked_in era round.phase) acceptor ≡ true
+  pub unproposed : is_preparing round.phase ≡ true → call.proposed ≡ None
+  pub prepare_room : is_preparing round.phase ≡ true → 3 + 3 * length era.acc + length era.prep ≤ call.reserved + length call.harmed
+  pub proposed : is_preparing round.phase ≡ false → is_some call.proposed ≡ true
+  pub accept_room : is_preparing round.phase ≡ false → 2 + 2 * requests_in queue.messages + length era.acc ≤ call.reserved + length call.harmed + handled_once queue
+
+-- with no open round nothing waits, and the mark of an open call's end is reserved
+pub record IsIdleSafe (caller : CallerView) (queue : QueueView) : Type 0 where
+  pub none_waits : queue.messages ≡ []
+  pub reserved : (call : CallView) → caller.call ≡ Some call → 0 < call.reserved
+
+abbrev pub IsRoundSafe : Era → CallerView → QueueView → Option Round → Type 0
+IsRoundSafe era caller queue None = IsIdleSafe caller queue
+IsRoundSafe era caller queue (Some round) = IsOpenSafe era caller queue round
+
+-- ---- parties
+pub record IsPartySafe {V : Type 0} (era : Era) (marks id : ℕ) (desk : DeskView V) (caller : CallerView) (queue : QueueView) : Type 0 where
+  pub same_id : desk.id ≡ id
+  pub idle : desk.down ≡ true → desk.round ≡ None
+  -- each call that it began has a mark
+  pub number : caller.number ≤ marks
+  pub cached : (key : List ℕ) (ready : Ready) → Contains desk.cache (key, ready) → FitsBallot ready.ballot
+  pub round : IsRoundSafe era caller queue desk.round
+  -- there is room for the reply to each request that was not handled yet
+  pub room : requests_in queue.messages ≤ queue.room + handled_once queue
+
+-- ---- the whole
+pub record IsSafe {S V : Type 0} (view : View S V) : Type 0 where
+  pub few : view.greatest ≤ 16
+  pub prep_set : IsMemberSet view.era.prep
+  pub acc_set : IsMemberSet view.era.acc
+  pub acceptors : length view.acceptors ≡ 64
+  pub acceptor_ids : (id : ℕ) (acceptor : AcceptorView S) → IsAt view.acceptors id acceptor → acceptor.id ≡ id
+  pub desks : length view.desks ≡ suc view.greatest
+  pub callers : length view.callers ≡ suc view.greatest
+  pub own : length view.flow.own ≡ 17
+  pub parties : (id : ℕ) (desk : DeskView V) (caller : CallerView) → IsAt view.desks id desk → IsAt view.callers id caller → IsPartySafe view.era (length view.marks) id desk caller (queue_at view.flow id)
+  pub room : length view.marks + reserved_of view.callers ≤ most_marks
