@@ -13,6 +13,7 @@ pub mod EndSteps
 pub mod Events
 pub mod FrameSteps
 pub mod Growing
+pub mod Handling
 pub mod Harms
 pub mod Held
 pub mod Known
@@ -38,4 +39,5 @@ pub mod SlotChanges
 pub mod Staying
 pub mod Steps
 pub mod ViewLaws
+pub mod ViewWitness
 pub mod Witness

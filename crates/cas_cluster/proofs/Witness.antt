@@ -3,10 +3,7 @@
 -- the next call is proposed by it, without asking anybody. A third acceptor takes what is long Done, and another proposer is met.
 use Rattle.std.proofs.Common.{◌≡◌, ℕ, Bool, true, false, List, [], ◌∷◌, Option, Some, None, refl, sym, ap, subst, ◌∙◌, inl, inr, arith}
 use Rattle.std.specs.Prelude.{IsSomeAnd, pos, ◌==◌, not, nat_le, cond, suc, ◌++◌}
-use Rattle.std.specs.Cmp.Lexicographic.{slice_cmp}
-use Rattle.std.specs.FinMap as map
 use Rattle.std.specs.List.{list_any}
-use Rattle.std.specs.Ordering.{nat_cmp}
 use Rattle.cas_base.proofs.Bools.{not_both, not_of_false, true_or_false}
 use Rattle.cas_ballot.specs.declared.ballot.Ballot.{Ballot}
 use Rattle.cas_ballot.specs.Ballot.{zero_ballot, BallotAtMost, BallotLess}
@@ -24,16 +21,12 @@ use Rattle.cas_round.specs.Replies.{promisers_of, accepters_of}
 use Rattle.cas_slot.specs.declared.message.Ask.TheVariants as ask
 use Rattle.cas_slot.specs.declared.message.Request.{Request}
 use Rattle.cas_slot.specs.declared.message.Reply.{Reply}
-use Rattle.cas_slot.specs.declared.message.Tell.{Tell}
 use Rattle.cas_slot.specs.declared.message.Tell.TheVariants as tell
 use Rattle.cas_slot.specs.declared.slot.Slot.{Slot}
-use Rattle.cas_slot.specs.Contents.{Contents, nothing, kept_at, with_kept}
-use Rattle.cas_slot.specs.Message.{phase_of, tag_of}
+use Rattle.cas_slot.specs.Contents.{Contents, nothing, with_kept}
 use Rattle.cas_slot.specs.Rules.{is_accepted_at}
 use Rattle.cas_slot.specs.Slot.{accepted_of, seen_of}
-use Rattle.cas_slot.specs.Slots.{no_slots, IsFullFor}
-use Rattle.cas_slot.specs.Table.{Handles, IsAnswered, accepted_at}
-use Rattle.cas_slot.proofs.SlotsLemmas.{slot_at-with_slot_same}
+use Rattle.cas_slot.specs.Table.{Handles, accepted_at}
 use Rattle.cas_record.specs.declared.mark.Acknowledgment.{Acknowledgment}
 use Rattle.cas_record.specs.declared.mark.Mark.{Mark}
 use Rattle.cas_record.specs.declared.mark.Mark.TheVariants.{Begun, Proposed, Voted, Floor, Ended, Acked}
@@ -57,6 +50,8 @@ use Rattle.cas_cluster.specs.Desks.{IsPastAll}
 use Rattle.cas_cluster.specs.Proposers.{AllRide}
 use Rattle.cas_cluster.specs.Protocol.{Made, GlobalState, opening, AllReplied, HasMade, IsPrepared, IsAccepted, Event, Begins, Draws, Asks, Answers, StopsWithin, Proposes, Counts, EndsDone, after, opened, then, SomeRunIsDone, IsPreparedByRide, ProposesByRide}
 use Rattle.cas_cluster.proofs.Answered.{behind, deeds_marks}
+use Rattle.cas_cluster.proofs.Handling as handling
+use Rattle.cas_cluster.proofs.Handling.{none_kept, accepted_kept, room, reply_to, answered}
 
 -- ---- what does not stand in a list
 none : {A : Type 0} (test : A → Bool) (xs : List A) {x : A} → list_any test xs ≡ false → test x ≡ true → Stands x xs → ⊥
@@ -93,29 +88,14 @@ one = at 1 0
 abbrev two : Ballot
 two = at 2 0
 
-abbrev five : State
+abbrev pub five : State
 five = Held 0 (Number (pos 5))
 
 abbrev promised : Contents
-promised = with_kept nothing key_a (record { promise = one; accepted = None })
+promised = handling.promised one
 
 abbrev accepted : Contents
-accepted = with_kept promised key_a (record { promise = two; accepted = Some (record { ballot = one; era = 0; state = five }) })
-
-none_kept : kept_at nothing key_a ≡ None
-none_kept = map.get-empty (slice_cmp nat_cmp) key_a
-
-promised_kept : kept_at promised key_a ≡ Some (record { promise = one; accepted = None })
-promised_kept = slot_at-with_slot_same no_slots key_a (record { promise = one; accepted = None })
-
-accepted_kept : kept_at accepted key_a ≡ Some (record { promise = two; accepted = Some (record { ballot = one; era = 0; state = five }) })
-accepted_kept = slot_at-with_slot_same promised.slots key_a (record { promise = two; accepted = Some (record { ballot = one; era = 0; state = five }) })
-
-room : IsFullFor no_slots key_a → ⊥
-room full = omega (arith, full.no_room, map.len-empty (slice_cmp nat_cmp) Slot)
-
-not_new : {x : Slot} → Some x ≡ None → ⊥
-not_new e = cc
+accepted = handling.accepted one two five
 
 abbrev ask_prepare : ℕ → Request
 ask_prepare acceptor = ask_of acceptor 0 one (ask.Prepare key_a one)
@@ -123,25 +103,14 @@ ask_prepare acceptor = ask_of acceptor 0 one (ask.Prepare key_a one)
 abbrev ask_accept : ℕ → Request
 ask_accept acceptor = ask_of acceptor 0 one (ask.Accept key_a one 0 (Some two) five)
 
+one_above_zero : BallotLess zero_ballot one
+one_above_zero = record { counters = omega arith; proposers = λ same. absurd (omega (arith, same)) }
+
 promises : (acceptor : ℕ) → Handles nothing (ask_prepare acceptor) (tell.Promised None) promised
-promises acceptor = (
-  omega arith,
-  (
-    ap accepted_of (sym none_kept),
-    inr (subst (λ (s : Option Slot). BallotLess (seen_of s) one) (sym none_kept) (record { counters = omega arith; proposers = λ same. absurd (omega (arith, same)) }), room, refl),
-  ),
-)
+promises acceptor = handling.promises acceptor 0 one (omega arith) one_above_zero
 
 takes : (acceptor : ℕ) → Handles promised (ask_accept acceptor) tell.Accepted accepted
-takes acceptor = (
-  omega arith,
-  inr (
-    (λ again. absurd (subst (λ (s : Option Slot). IsSomeAnd (accepted_of s) (λ a. a.ballot ≡ one)) promised_kept again)),
-    subst (λ (s : Option Slot). BallotAtMost (seen_of s) one) (sym promised_kept) (at_most_refl one),
-    (λ full. not_new (sym promised_kept ∙ full.new_key)),
-    refl,
-  ),
-)
+takes acceptor = handling.takes acceptor 0 one two five (omega arith) (at_most_refl one)
 
 -- an acceptor that was never asked to promise takes it too
 abbrev late : Contents
@@ -159,16 +128,10 @@ takes_late acceptor = (
 )
 
 takes_again : (acceptor : ℕ) → Handles accepted (ask_accept acceptor) tell.Accepted accepted
-takes_again acceptor = (omega arith, inl (subst (λ (s : Option Slot). IsSomeAnd (accepted_of s) (λ a. a.ballot ≡ one)) (sym accepted_kept) refl, refl))
-
-abbrev reply_to : Request → Tell → Reply
-reply_to request told = record { from = request.to; to = request.from; phase = phase_of request.ask; tag = tag_of request.ask; tell = told }
-
-answered : {id : ℕ} {old new : Contents} (request : Request) (told : Tell) → request.to ≡ id → Handles old request told new → IsAnswered id old request (reply_to request told) new
-answered request told same row = record { from = same; to = refl; phase = refl; tag = refl; row = row }
+takes_again acceptor = (omega arith, inl (subst (λ (s : Option Slot). IsSomeAnd (accepted_of s) (λ a. a.ballot ≡ one)) (sym (accepted_kept one two five)) refl, refl))
 
 -- ---- the round is prepared
-abbrev program : List Clause
+abbrev pub program : List Clause
 program = record { guard = Always; act = Add (pos 5) } ∷ []
 
 abbrev begins : Event small_cluster opening
@@ -655,7 +618,7 @@ abbrev asked_against : GlobalState
 asked_against = after small_cluster contended asks_against
 
 meets : Handles accepted ask_against (tell.Met two) accepted
-meets = (omega arith, (ap seen_of (sym accepted_kept), record { counters = omega arith; proposers = λ same. absurd (omega (arith, same)) }, refl))
+meets = (omega arith, (ap seen_of (sym (accepted_kept one two five)), record { counters = omega arith; proposers = λ same. absurd (omega (arith, same)) }, refl))
 
 abbrev is_met : Event small_cluster asked_against
 is_met = Answers ask_against (reply_to ask_against (tell.Met two)) accepted (record { older = contended.log; at = here }) (answered ask_against (tell.Met two) refl meets)

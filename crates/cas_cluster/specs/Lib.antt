@@ -15,3 +15,4 @@ pub mod StepDesks
 pub mod StepFrames
 pub mod View
 pub mod ViewLaws
+pub mod ViewWitness

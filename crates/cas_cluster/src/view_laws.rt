@@ -4,9 +4,11 @@
 ghost use Rattle.cas_cluster.specs.View.{meaning};
 ghost use Rattle.cas_cluster.specs.SafeLaws.{OpeningsAreSafe, StepsAreSafe};
 ghost use Rattle.cas_cluster.specs.ViewLaws.{OpeningsAreRemembered, StepsAreRemembered, HistoriesAreLegal, WhatIsDoneIsKept};
+ghost use Rattle.cas_cluster.specs.ViewWitness.{ShownHistory};
 
 use cas_disk::Disk;
 use cas_slot::Shelf;
+use cas_vault::Vault;
 
 /// A cluster that has just opened is remembered: there is a log of all that happened in it that tells what each of its parties keeps
 /// and knows, and what the frames under way bear.
@@ -44,4 +46,11 @@ pub fn openings_are_safe<S: Shelf, V: Disk>()
 /// frame but before it is let in.
 pub fn steps_are_safe<S: Shelf, V: Disk>()
     ensures { StepsAreSafe (meaning S.contents S.tells S.may_leave V.tells V.may_leave) }
+{}
+
+/// There is a history in which a call is Done and the next one is proposed by the promise that rode along. In the one that is shown an
+/// acceptor stops within its write and is up again with it, its accept is late and strays in after the call ended, and a second proposer
+/// meets a ballot, crashes in its round and is up again. The proposers' vaults have the memory of this one.
+pub fn some_history_is_shown<V: Disk>(vault: &Vault<V>)
+    ensures { ShownHistory }
 {}
