@@ -10,6 +10,3 @@ mod fault;
 
 pub use acceptor::Acceptor;
 pub use fault::HandleFault;
-
-#[cfg(test)]
-mod tests;

@@ -8,6 +8,3 @@ mod ready;
 
 pub use cache::{Cache, KEPT};
 pub use ready::Ready;
-
-#[cfg(test)]
-mod tests;

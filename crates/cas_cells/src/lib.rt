@@ -15,6 +15,3 @@ mod steps;
 
 pub use cells::Cells;
 pub use fault::CellFault;
-
-#[cfg(test)]
-mod tests;

@@ -7,9 +7,6 @@ use crate::program::{Clause, MOST_CLAUSES, Program};
 use crate::state::State;
 use std::alloc::AllocError;
 
-#[cfg(test)]
-mod tests;
-
 /// Which clause of a program acted. Clauses are numbered from 0.
 #[derive(Clone, Copy, Debug, PartialEq, Eq)]
 pub enum Took {

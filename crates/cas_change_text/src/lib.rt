@@ -11,8 +11,6 @@ mod printing;
 mod reading;
 mod refusal;
 mod states;
-#[cfg(test)]
-mod tests;
 mod words;
 
 pub use names::says;

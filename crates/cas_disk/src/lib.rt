@@ -12,6 +12,3 @@ mod memory;
 pub use disk::{Disk, DiskFault};
 pub use file::FileDisk;
 pub use memory::{Image, MemoryDisk, Trouble};
-
-#[cfg(test)]
-mod tests;

@@ -11,6 +11,3 @@ mod shelf;
 mod steps;
 
 pub use shelf::DiskShelf;
-
-#[cfg(test)]
-mod tests;

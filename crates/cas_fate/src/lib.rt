@@ -13,6 +13,3 @@ pub use fate::{Fate, Leg, Verdict};
 pub use generator::{Drawn, Generator};
 pub use links::Links;
 pub use seeded::Seeded;
-
-#[cfg(test)]
-mod tests;

@@ -16,6 +16,3 @@ pub use flow::Flow;
 pub use frame::Frame;
 pub use message::Message;
 pub use pool::MOST_LATE;
-
-#[cfg(test)]
-mod tests;

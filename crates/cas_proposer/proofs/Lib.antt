@@ -1,3 +1,2 @@
 pub mod DeskLemmas
 pub mod RoundLemmas
-pub mod Rounds

@@ -10,6 +10,3 @@ mod round;
 pub use began::Began;
 pub use desk::Desk;
 pub use round::{OpenPhase, Round};
-
-#[cfg(test)]
-mod tests;

@@ -34,23 +34,3 @@ impl fmt::Display for PlanFault {
 }
 
 impl Error for PlanFault {}
-
-#[cfg(test)]
-mod tests {
-    use super::*;
-    use std::test::Fail;
-
-    #[test]
-    fn are_printed_in_words(rt: HostRuntime) -> Result<(), Fail> {
-        for (fault, text) in [
-            (PlanFault::AlreadyIn, "already in"),
-            (PlanFault::NotIn, "not in"),
-            (PlanFault::IdUsed, "id used"),
-            (PlanFault::TooMany, "too many"),
-            (PlanFault::Last, "last"),
-        ] {
-            assert_eq!(rt; fault.to_string(rt.alloc())?.as_str(), text);
-        }
-        Ok(())
-    }
-}

@@ -106,39 +106,3 @@ impl Probes {
         self.probes
     }
 }
-
-#[cfg(test)]
-mod tests {
-    use super::*;
-    use crate::mark::Mark;
-    use crate::record::Record;
-    use std::test::Fail;
-
-    #[test]
-    fn is_marked_with_its_answer(rt: HostRuntime) -> Result<(), Fail> {
-        let alloc = rt.alloc();
-        let mut probes = Vec::new(alloc);
-        probes.push(Probe {
-            acceptor: AcceptorId::new(2).unwrap(),
-            told: Some(Tell::Full),
-        })?;
-        let found = Probes::new(probes);
-        assert_eq!(rt; found.probes().len(), 1);
-        let key = Key::read(alloc, b"a")?;
-        let answer = OpAnswer::Probed { key, found };
-        let asked = Asked::Probe(Key::read(alloc, b"a")?);
-        let mut record = Record::new(alloc);
-        record.reserve(None, 1)?;
-        record.push(Mark::Told { asked, answer });
-        assert!(rt;
-            matches!(
-                record.marks(),
-                [Mark::Told {
-                    asked: Asked::Probe(_),
-                    answer: OpAnswer::Probed { .. }
-                }]
-            )
-        );
-        Ok(())
-    }
-}

@@ -85,6 +85,3 @@ impl Record {
         history::replay(entries)
     }
 }
-
-#[cfg(test)]
-mod tests;

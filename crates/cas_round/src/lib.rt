@@ -11,6 +11,3 @@ mod verdict;
 
 pub use phase::{AcceptRound, PrepareRound};
 pub use verdict::RoundVerdict;
-
-#[cfg(test)]
-mod tests;

@@ -11,6 +11,3 @@ mod vault;
 
 pub use error::VaultError;
 pub use vault::Vault;
-
-#[cfg(test)]
-mod tests;

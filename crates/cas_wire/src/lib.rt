@@ -4,15 +4,11 @@
 #![tactic(auto)]
 
 mod frame;
-#[cfg(test)]
-mod frame_tests;
 mod kinds;
 pub mod parts;
 mod reading;
 mod reply;
 mod request;
-#[cfg(test)]
-mod tests;
 mod writing;
 
 pub use frame::LONGEST_FRAME;

@@ -1,0 +1,86 @@
+ghost use Rattle.std.specs.Prelude.{◌≡◌, None, OnOk};
+ghost use Rattle.cas_cache.specs.Cache.{place_of};
+
+use cas_ballot::{Ballot, Members};
+use cas_cache::{Cache, Ready};
+use cas_change::{Body, Key, State};
+use std::alloc::Global;
+use std::test::Fail;
+
+// The key that is spelled by this number.
+fn key_of(alloc: Global, number: u8) -> Result<Key, Fail> {
+    let bytes = [b'k', b'0' + number / 10, b'0' + number % 10];
+    Ok(Key::read(alloc, &bytes)?)
+}
+
+// A promise at the ballot of this counter.
+fn ready_at(counter: u64) -> Ready {
+    Ready {
+        ballot: Ballot {
+            counter,
+            proposer: 1,
+        },
+        state: State::Held {
+            version: counter,
+            body: Body::Number(5),
+        },
+        read: Ballot::ZERO,
+        by: Members::EMPTY,
+    }
+}
+
+// Uses a key: takes its promise, and keeps that or another. Answers whether there was one.
+fn used(alloc: Global, cache: &mut Cache, number: u8) -> Result<bool, Fail>
+    requires { place_of cache.old ≡ None }
+    ensures { OnOk result (place_of cache.new ≡ None) }
+{
+    let key = key_of(alloc, number)?;
+    let found = cache.take(&key)?;
+    let there = found.is_some();
+    cache.keep(&key, found.unwrap_or(ready_at(1)));
+    Ok(there)
+}
+
+#[test]
+fn a_promise_is_taken_once(rt: HostRuntime) -> Result<(), Fail> {
+    let alloc = rt.alloc();
+    let mut cache = Cache::new(alloc)?;
+    let (a, b) = (key_of(alloc, 1)?, key_of(alloc, 2)?);
+    assert_eq!(rt; cache.take(&a)?, None);
+    cache.keep(&a, ready_at(7));
+    assert_eq!(rt; cache.take(&b)?, None);
+    cache.keep(&b, ready_at(8));
+    assert_eq!(rt; cache.take(&a)?, Some(ready_at(7)));
+    cache.forget(&a);
+    assert_eq!(rt; cache.take(&a)?, None);
+    cache.forget(&a);
+    assert_eq!(rt; cache.take(&b)?, Some(ready_at(8)));
+    cache.keep(&b, ready_at(9));
+    cache.clear();
+    assert_eq!(rt; cache.take(&b)?, None);
+    Ok(())
+}
+
+#[test]
+fn the_least_recent_of_65_promises_goes(rt: HostRuntime) -> Result<(), Fail> {
+    let alloc = rt.alloc();
+    // How many keys are kept, whether the first is used again before the last, and which of the first two has a promise then.
+    for (count, again, first, second) in [
+        (63, false, true, true),
+        (64, false, true, true),
+        (65, false, false, true),
+        (65, true, true, false),
+        (66, false, false, false),
+    ] {
+        let mut cache = Cache::new(alloc)?;
+        for number in 0..count {
+            if again && number == 64 {
+                assert!(rt; used(alloc, &mut cache, 0)?);
+            }
+            assert!(rt; !used(alloc, &mut cache, number)?, "{count} {number}");
+        }
+        assert_eq!(rt; used(alloc, &mut cache, 1)?, second, "{count}");
+        assert_eq!(rt; used(alloc, &mut cache, 0)?, first, "{count}");
+    }
+    Ok(())
+}
