@@ -86,6 +86,7 @@ impl<V: Disk> Desk<V> {
         ensures phase { IfOk result (λ began. is_in_prepare self.new.round ≡ is_none (promise_used began)) }
         ensures vault { IfOk result (DrawsFor self.old.id self.old.vault self.new.vault) }
         ensures desk { OnOk result (self.new ≡ record self.old { vault = self.new.vault; cache = without key.now self.old.cache; round = self.new.round }) }
+        ensures gone { OnOk result (promise_at key.now self.new.cache ≡ None) }
         ensures stands { self.new.down ≡ false → Stands V.tells V.seen V.may_leave self.new.vault }
 
         // The vault is then past the ballot that was drawn, and still past each number that it was past.
