@@ -1,79 +1,126 @@
--- Acceptors in their order, and facts about each of a list.
-use Rattle.std.proofs.Common.{◌≡◌, ℕ, suc, ◌+◌, Bool, true, false, List, [], ◌∷◌, ◌++◌, length, arith, sym, ◌∙◌, ap, refl}
-use Rattle.std.specs.Prelude.{◌==◌, ◌||◌, Some, slice_get, slice_set}
-use Rattle.std.specs.Cmp.{nat_eq_equiv}
-use Rattle.std.specs.List.{list_any}
-use Rattle.cas_ballot.specs.Members.{members_where, with_member}
-use Rattle.cas_ballot.proofs.MemberLemmas.{has-members_where, members_where_same}
-use Rattle.cas_world.specs.Acceptor.{AcceptorView}
-use Rattle.cas_world.specs.Sound.{Each, IsNumberedFrom, set_of}
+-- Lists of acceptors, desks and disks as they are taken apart and put together again.
+use Rattle.std.proofs.Common.{◌≡◌, ◌<◌, ◌≤◌, ℕ, zero, suc, Bool, true, false, List, [], ◌∷◌, ◌++◌, length, map, Option, Some, refl, sym, ap, subst, ◌∙◌, inl, inr, arith, rules, append_assoc}
+use Rattle.std.specs.Prelude.{◌⊎◌, ◌+◌, ◌-◌, ◌==◌, ◌&&◌, ◌||◌, nat_lt, drop, reverse, slice_get, replicate, option_to_list}
+use Rattle.std.specs.List.{range_with_len, filter}
+use Rattle.std.proofs.lemmas.List.{map-append, append-nil, reverse-append}
+use Rattle.std.proofs.lemmas.List.Elements.{filter-append}
+use Rattle.std.proofs.lemmas.Bool.Decides.{nat_tests}
+use Rattle.cas_acceptor.specs.Acceptor.{AcceptorView}
+use Rattle.cas_ballot.specs.Members.{members_where, has_member, with_member, IsMemberSet}
+use Rattle.cas_ballot.proofs.MemberLemmas.{has-members_where, members_where_same, IsMemberSet-members_where}
+use Rattle.cas_cluster.specs.View.{IsAt}
+use Rattle.cas_cluster.proofs.Places.{some_is}
+use Rattle.cas_world.specs.Opening.{members_to, unstarted}
 
--- ---- each of a list
-pub Each-append : {A : Type 0} (P : A → Type 0) (xs ys : List A) → Each P xs → Each P ys → Each P (xs ++ ys)
-Each-append P [] ys p q = q
-Each-append P (x ∷ xs) ys p q = (p.0, Each-append P xs ys p.1 q)
+-- ---- the last of a list
+pub last_first : {A : Type 0} (old new : List A) (x : A) → old ≡ new ++ x ∷ [] → reverse old ≡ x ∷ reverse new
+last_first {A} old new x is = ap (λ (l : List A). reverse l) is ∙ reverse-append new (x ∷ [])
 
-pub Each-left : {A : Type 0} (P : A → Type 0) (xs ys : List A) → Each P (xs ++ ys) → Each P xs
-Each-left P [] ys p = tt
-Each-left P (x ∷ xs) ys p = (p.0, Each-left P xs ys p.1)
+-- ---- acceptors over shelves
+pub unstarted_at : {S : Type 0} (number : ℕ) (shelves : List S) (id : ℕ) (acceptor : AcceptorView S) → IsAt (unstarted number shelves) id acceptor
+    → (shelf : S) × (acceptor ≡ record { id = number + id; started = false; down = true; shelf = shelf })
+unstarted_at number [] id acceptor at = absurd (cc at)
+unstarted_at {S} number (shelf ∷ shelves) zero acceptor at =
+    (shelf, sym (some_is at) ∙ ap (λ (n : ℕ). record { id = n; started = false; down = true; shelf = shelf }) (omega arith))
+unstarted_at {S} number (shelf ∷ shelves) (suc id) acceptor at =
+    let found = unstarted_at (suc number) shelves id acceptor at in
+    (found.0, found.1 ∙ ap (λ (n : ℕ). record { id = n; started = false; down = true; shelf = found.0 }) (omega arith))
 
-pub Each-map : {A : Type 0} (P Q : A → Type 0) (xs : List A) → ((x : A) → P x → Q x) → Each P xs → Each Q xs
-Each-map P Q [] f p = tt
-Each-map P Q (x ∷ xs) f p = (f x p.0, Each-map P Q xs f p.1)
+pub unstarted_places : {S : Type 0} (number : ℕ) (shelves : List S) → length (unstarted number shelves) ≡ length shelves
+unstarted_places number [] = refl
+unstarted_places number (shelf ∷ shelves) = ap suc (unstarted_places (suc number) shelves)
 
--- what holds of each still does where one is replaced by another of which it holds
-pub Each-replaced : {A : Type 0} (P : A → Type 0) (before : List A) (old new : A) (after : List A) → Each P (before ++ old ∷ after) → P new → Each P (before ++ new ∷ after)
-Each-replaced P [] old new after p q = (q, p.1)
-Each-replaced P (x ∷ before) old new after p q = (p.0, Each-replaced P before old new after p.1 q)
+-- ---- what is given back
+pub given : {A B : Type 0} (f : A → B) (old new : List A) (x : A) (to : List B) → old ≡ new ++ x ∷ [] → map f new ++ reverse (to ++ f x ∷ []) ≡ map f old ++ reverse to
+given {A} {B} f old new x to is =
+    ap (λ (l : List B). map f new ++ l) (reverse-append to (f x ∷ []))
+    ∙ sym (append_assoc (map f new) (f x ∷ []) (reverse to))
+    ∙ ap (λ (l : List B). l ++ reverse to) (sym (map-append f new (x ∷ [])) ∙ ap (map f) (sym is))
 
-pub Each-at : {A : Type 0} (P : A → Type 0) (before : List A) (x : A) (after : List A) → Each P (before ++ x ∷ after) → P x
-Each-at P [] x after p = p.0
-Each-at P (y ∷ before) x after p = Each-at P before x after p.1
+-- ---- disks in order
+pub drop_first : {A : Type 0} (number : ℕ) (all : List A) (x : A) (rest : List A) → x ∷ rest ≡ drop number all → IsAt all number x × (rest ≡ drop (number + 1) all)
+drop_first zero [] x rest is = absurd (cc is)
+drop_first {A} zero (y ∷ all) x rest is = (sym (ap (λ (l : List A). slice_get l 0) is), ap (λ (l : List A). drop 1 l) is)
+drop_first (suc number) [] x rest is = absurd (cc is)
+drop_first {A} (suc number) (y ∷ all) x rest is =
+    let found = drop_first number all x rest is in
+    (found.0, found.1 ∙ ap (λ (n : ℕ). drop n (y ∷ all)) (let e : suc (number + 1) ≡ suc number + 1 = omega arith in e))
 
--- ---- acceptors are found by their numbers
-pub id_at : (n : ℕ) (before : List AcceptorView) (x : AcceptorView) (after : List AcceptorView) → IsNumberedFrom n (before ++ x ∷ after) → x.id ≡ n + length before
-id_at n [] x after p = p.0 ∙ omega arith
-id_at n (y ∷ before) x after p = id_at (suc n) before x after p.1 ∙ omega arith
+-- the one that is popped comes next
+pub next_disk : {A : Type 0} (all old new : List A) (number : ℕ) (x : A) (popped : Option A) → old ≡ new ++ option_to_list popped → popped ≡ Some x → reverse old ≡ drop number all
+    → IsAt all number x × (reverse new ≡ drop (number + 1) all)
+next_disk {A} all old new number x popped is some left =
+    drop_first number all x (reverse new) (sym (last_first old new x (is ∙ ap (λ (o : Option A). new ++ option_to_list o) some)) ∙ left)
 
-pub numbered-replaced : (n : ℕ) (before : List AcceptorView) (old new : AcceptorView) (after : List AcceptorView)
-    → IsNumberedFrom n (before ++ old ∷ after) → new.id ≡ old.id → IsNumberedFrom n (before ++ new ∷ after)
-numbered-replaced n [] old new after p e = (e ∙ p.0, p.1)
-numbered-replaced n (y ∷ before) old new after p e = (p.0, numbered-replaced (suc n) before old new after p.1 e)
+-- ---- places
+pub at_pushed : {A : Type 0} (xs : List A) (x : A) (place : ℕ) (y : A) → IsAt (xs ++ x ∷ []) place y → IsAt xs place y ⊎ ((place ≡ length xs) × (y ≡ x))
+at_pushed [] x zero y at = inr (refl, sym (some_is at))
+at_pushed [] x (suc place) y at = absurd (cc at)
+at_pushed (z ∷ xs) x zero y at = inl at
+at_pushed (z ∷ xs) x (suc place) y at = elim (at_pushed xs x place y at) [
+  | inl before ↦ inl before
+  | inr last ↦ inr (ap suc last.0, last.1)
+]
 
-pub get_at : {A : Type 0} (before : List A) (x : A) (after : List A) → slice_get (before ++ x ∷ after) (length before) ≡ Some x
-get_at [] x after = refl
-get_at (y ∷ before) x after = get_at before x after
+pub replicate_at : {A : Type 0} (n : ℕ) (x : A) (place : ℕ) (y : A) → IsAt (replicate n x) place y → y ≡ x
+replicate_at zero x place y at = absurd (cc at)
+replicate_at (suc n) x zero y at = sym (some_is at)
+replicate_at (suc n) x (suc place) y at = replicate_at n x place y at
 
-pub set_at : {A : Type 0} (before : List A) (old new : A) (after : List A) → slice_set (before ++ old ∷ after) (length before) new ≡ before ++ new ∷ after
-set_at [] old new after = refl
-set_at (y ∷ before) old new after = ap (λ rest. y ∷ rest) (set_at before old new after)
+-- ---- the first members
+range_split : (a m n : ℕ) → range_with_len a (m + n) ≡ range_with_len a m ++ range_with_len (a + m) n
+range_split a zero n = ap (λ (k : ℕ). range_with_len a k) (let e : zero + n ≡ n = omega arith in e) ∙ ap (λ (k : ℕ). range_with_len k n) (let e : a ≡ a + zero = omega arith in e)
+range_split a (suc m) n =
+    ap (λ (k : ℕ). range_with_len a k) (let e : suc m + n ≡ suc (m + n) = omega arith in e)
+    ∙ ap (λ (l : List ℕ). a ∷ l) (range_split (a + 1) m n ∙ ap (λ (k : ℕ). range_with_len (a + 1) m ++ range_with_len k n) (let e : (a + 1) + m ≡ a + suc m = omega arith in e))
 
-pub length-replaced : {A : Type 0} (before : List A) (old new : A) (after : List A) → length (before ++ new ∷ after) ≡ length (before ++ old ∷ after)
-length-replaced [] old new after = refl
-length-replaced (y ∷ before) old new after = ap suc (length-replaced before old new after)
+filter_all : (test : ℕ → Bool) (n a : ℕ) → ((k : ℕ) → a ≤ k → k < a + n → test k ≡ true) → filter test (range_with_len a n) ≡ range_with_len a n
+filter_all test zero a passes = refl
+filter_all test (suc n) a passes =
+    let here : test a ≡ true = passes a (omega arith) (omega arith) in
+    let rest : filter test (range_with_len (a + 1) n) ≡ range_with_len (a + 1) n = filter_all test n (a + 1) (λ k from to. passes k (omega arith) (omega arith)) in
+    rw (here, rest) refl
 
--- ---- sets of acceptors
-or_swap : (a b c : Bool) → (a || (b || c)) ≡ (b || (a || c))
-or_swap true true c = refl
-or_swap true false c = refl
-or_swap false b c = refl
+filter_none : (test : ℕ → Bool) (n a : ℕ) → ((k : ℕ) → a ≤ k → k < a + n → test k ≡ false) → filter test (range_with_len a n) ≡ []
+filter_none test zero a fails = refl
+filter_none test (suc n) a fails =
+    let here : test a ≡ false = fails a (omega arith) (omega arith) in
+    let rest : filter test (range_with_len (a + 1) n) ≡ [] = filter_none test n (a + 1) (λ k from to. fails k (omega arith) (omega arith)) in
+    rw (here, rest) refl
 
-any-push : (n : ℕ) (xs : List AcceptorView) (x : AcceptorView) → list_any (λ acceptor. acceptor.id == n) (xs ++ x ∷ []) ≡ ((n == x.id) || list_any (λ acceptor. acceptor.id == n) xs)
-any-push n [] x = ap (λ b. b || false) (nat_eq_equiv.symm x.id n)
-any-push n (y ∷ xs) x = ap (λ b. (y.id == n) || b) (any-push n xs x) ∙ or_swap (y.id == n) (n == x.id) (list_any (λ acceptor. acceptor.id == n) xs)
+abbrev is_to : ℕ → ℕ → Bool
+is_to count n = nat_lt 0 n && nat_lt n (count + 1)
 
--- one more acceptor joins a set
-pub joins : (xs : List AcceptorView) (x : AcceptorView) → with_member (set_of xs) x.id ≡ set_of (xs ++ x ∷ [])
-joins xs x = members_where_same _ _ (λ n below. rw (has-members_where (λ n. list_any (λ acceptor. acceptor.id == n) xs) n below) (sym (any-push n xs x)))
+inside : (count k : ℕ) → 0 < k → k < count + 1 → is_to count k ≡ true
+inside count k from to = search rules
 
--- three acceptors that are numbered from 1 on
-three : (a b c : AcceptorView) → a.id ≡ 1 → b.id ≡ 2 → c.id ≡ 3 → set_of (a ∷ b ∷ c ∷ []) ≡ 1 ∷ 2 ∷ 3 ∷ []
+outside : (count k : ℕ) → count + 1 ≤ k → is_to count k ≡ false
+outside count k from = grind (arith, nat_tests)
+
+by_number : (count n : ℕ) → (n == (count + 1) || is_to count n) ≡ is_to (count + 1) n
+by_number count n = grind (arith, nat_tests)
+
+listed : (count : ℕ) → count ≤ 63 → members_where (is_to count) ≡ members_to count
 unfolding members_where
-three a b c p q r = rw (p, q, r) refl
+listed count few =
+    ap (λ (k : ℕ). filter (is_to count) (range_with_len 0 k)) (let e : 64 ≡ 1 + (count + (63 - count)) = omega arith in e)
+    ∙ ap (filter (is_to count)) (range_split 0 1 (count + (63 - count)) ∙ ap (λ (l : List ℕ). range_with_len 0 1 ++ l) (range_split 1 count (63 - count)))
+    ∙ filter-append (is_to count) (range_with_len 0 1) (range_with_len 1 count ++ range_with_len (1 + count) (63 - count))
+    ∙ filter-append (is_to count) (range_with_len 1 count) (range_with_len (1 + count) (63 - count))
+    ∙ ap (λ (l : List ℕ). l ++ filter (is_to count) (range_with_len (1 + count) (63 - count))) (filter_all (is_to count) count 1 (λ k from to. inside count k (omega arith) (omega arith)))
+    ∙ ap (λ (l : List ℕ). range_with_len 1 count ++ l) (filter_none (is_to count) (63 - count) (1 + count) (λ k from to. outside count k (omega arith)))
+    ∙ append-nil (range_with_len 1 count)
 
-pub all_three : (acceptors : List AcceptorView) → length acceptors ≡ 3 → IsNumberedFrom 1 acceptors → set_of acceptors ≡ 1 ∷ 2 ∷ 3 ∷ []
-all_three [] e p = absurd (omega arith)
-all_three (a ∷ []) e p = absurd (omega arith)
-all_three (a ∷ b ∷ []) e p = absurd (omega arith)
-all_three (a ∷ b ∷ c ∷ []) e p = three a b c p.0 p.1.0 p.1.1.0
-all_three (a ∷ b ∷ c ∷ d ∷ rest) e p = absurd (omega arith)
+tests : (count n : ℕ) → count < 63 → n < 64 → (n == (count + 1) || has_member (members_to count) n) ≡ is_to (count + 1) n
+tests count n few low =
+    ap (λ (l : List ℕ). n == (count + 1) || has_member l n) (sym (listed count (omega arith)))
+    ∙ ap (λ (b : Bool). n == (count + 1) || b) (has-members_where (is_to count) n low)
+    ∙ by_number count n
+
+pub one_more_member : (count : ℕ) → count < 63 → with_member (members_to count) (count + 1) ≡ members_to (count + 1)
+one_more_member count few =
+    members_where_same (λ n. n == (count + 1) || has_member (members_to count) n) (is_to (count + 1)) (λ n low. tests count n few low)
+    ∙ listed (count + 1) (omega arith)
+
+pub members_set : (count : ℕ) → count ≤ 63 → IsMemberSet (members_to count)
+members_set count few = subst IsMemberSet (listed count few) (IsMemberSet-members_where (is_to count))

@@ -1,3 +1,4 @@
+pub mod Playing
 pub mod Rounds
 pub mod Runs
 pub mod Written

@@ -1,12 +1,6 @@
--- What came of the parts of a round, by whether they found memory.
+-- What is so of a result by whether it is an error.
 use Rattle.std.proofs.Common.{◌≡◌, true, false, Ok, Err}
-use Rattle.std.specs.Prelude.{◌⊎◌, ◌↔◌, ◌+◌, ◌<◌, Result, OnOk, OnErr, IsErrOf, is_err, length}
-use mathlib.Core.Logic.{inl, inr}
-use Rattle.std.proofs.Common.{arith, ap, subst, sym}
-use Rattle.cas_record.specs.declared.answer.Answer.{Answer}
-use Rattle.cas_record.specs.declared.answer.Answer.TheVariants.{RecordFull, NoMemory}
-use Rattle.cas_world.specs.View.{View}
-use Rattle.casreg.specs.Changes.{HasRoom, IsRefused, full, no_memory}
+use Rattle.std.specs.Prelude.{Result, IfErr, OnOk, OnErr, is_err}
 
 pub on_err : {T E P : Type 0} (r : Result T E) → is_err r ≡ true → OnErr r P → P
 on_err (Ok x) e p = absurd cc
@@ -20,22 +14,15 @@ pub on_ok : {T E P : Type 0} (r : Result T E) → is_err r ≡ false → OnOk r 
 on_ok (Ok x) e p = p
 on_ok (Err x) e p = absurd cc
 
--- the refusal of a call is one of the two, by its cause
-pub refused_by : {T : Type 0} (world : View) (refusal : Answer) → (IsErrOf {T = T} (Err refusal) RecordFull ↔ (1000000 < length world.marks + 20)) → (refusal ≡ RecordFull) ⊎ (refusal ≡ NoMemory false)
-    → IsRefused world refusal
-refused_by {T} world refusal cause which = elim which [
-  | inl is ↦ subst (IsRefused world) (sym is) (full (cause.0 (ap (λ (a : Answer). Err a) is)))
-  | inr is ↦ subst (IsRefused world) (sym is) (no_memory (grind (arith, λ (over : 1000000 < length world.marks + 20). other (cause.1 over) is)))
-]
-  where
-    other : IsErrOf {T = T} (Err refusal) RecordFull → refusal ≡ NoMemory false → ⊥
-    other full_is is =
-        let same : refusal ≡ RecordFull = cc in
-        cc
+pub on_ok_of : {T E P : Type 0} (r : Result T E) → P → OnOk r P
+on_ok_of (Ok x) p = p
+on_ok_of (Err x) p = tt
 
--- a call that is begun has the room for a round
-pub room_of : {T : Type 0} {x : T} (world : View) → (IsErrOf {E = Answer} (Ok x) RecordFull ↔ (1000000 < length world.marks + 20)) → HasRoom world
-room_of world cause = grind (arith, λ (over : 1000000 < length world.marks + 20). other (cause.1 over))
-  where
-    other : {T : Type 0} {x : T} → IsErrOf {E = Answer} (Ok x) RecordFull → ⊥
-    other is = cc
+pub on_ok_then : {T E P Q : Type 0} (r : Result T E) → OnOk r P → (P → Q) → OnOk r Q
+on_ok_then (Ok x) p then_q = then_q p
+on_ok_then (Err x) p then_q = tt
+
+-- where each index tells something of the error, and one is at hand
+pub if_err_by : {T E A : Type 0} {P : A → E → Type 0} {I : A → Type 0} {Q : E → Type 0} (r : Result T E) → ((e : E) → ((a : A) → I a → P a e) → Q e) → ((a : A) → I a → IfErr r (P a)) → IfErr r Q
+if_err_by (Ok x) f p = tt
+if_err_by (Err e) f p = f e p

@@ -12,13 +12,13 @@ use Rattle.cas_lines.specs.Source.{Taken}
 use Rattle.cas_lines.proofs.Told.{fails_told}
 use Rattle.cas_lines.specs.Sink.{AppendsFront}
 use Rattle.cas_lines.proofs.WholeRuns.{HasHandedOut-end}
-use Rattle.cas_world.specs.View.{View, opened}
+use Rattle.cas_cluster.specs.View.{Meaning, View}
 use Rattle.casreg.specs.declared.status.Status.{Status}
 use Rattle.casreg.specs.declared.status.Status.TheVariants as status
 use Rattle.casreg.specs.Causes.{AnswersTo, AnswersFront, AreFirstLines, WroteIn, status_of}
-use Rattle.casreg.specs.Script.{AnswersLine, RanOrNot, not_run, ran, ScriptRun, none, one_more, text_of, transcript_of}
+use Rattle.casreg.specs.Script.{AnswersLine, RanOrNot, not_run, ran, ScriptRun, one_more, text_of, transcript_of}
 use Rattle.casreg.specs.Status.{status_of_fault}
-use Rattle.casreg.proofs.Runs.{IsMidway, IsNextLine, appends_nothing, appends_both, transcript_more, midway-too_many, midway-endless}
+use Rattle.casreg.proofs.Runs.{IsMidway, IsNextLine, appends_both, transcript_more, midway-too_many, midway-endless}
 
 -- what holds of the error holds of the result that has it
 pub if_err : {T E : Type 0} (r : Result T E) (e : E) (P : E → Type 0) → r ≡ Err e → P e → IfErr r P
@@ -41,59 +41,59 @@ handed_all None left lines reader h end = tt
 handed_all (Some bytes) left lines reader h end = (HasHandedOut-end (Some bytes) left lines reader h end).1
 
 -- ---- ends
-midway_to : {S : Type 0} (gives : S → Taken → S → Type 0) (start source : S) (P : List (List ℕ) → Type 0) (input left old new : Option (List ℕ)) (reader : LinesState) (world : View) → (m : IsMidway gives start source input reader left old new world) → P m.lines
-    → AnswersTo P input old new world
-midway_to gives start source P input left old new reader world m holds = record {
-  lines = m.lines;
-  of_input = handed_first input left m.lines reader m.handed_out;
+midway_to : {S H V : Type 0} (gives : S → Taken → S → Type 0) (m : Meaning H V) (first : View H V) (start source : S) (P : List (List ℕ) → Type 0) (input left old new : Option (List ℕ)) (reader : LinesState) (world : View H V) → (at : IsMidway gives m first start source input reader left old new world) → P at.lines
+    → AnswersTo m P input old new first world
+midway_to gives m first start source P input left old new reader world at holds = record {
+  lines = at.lines;
+  of_input = handed_first input left at.lines reader at.handed_out;
   are = holds;
-  answers = m.answers;
-  run = m.run;
-  written = m.written;
+  answers = at.answers;
+  run = at.run;
+  written = at.written;
 }
 
-pub wrote_all : {S : Type 0} (gives : S → Taken → S → Type 0) (start source : S) (input left old new : Option (List ℕ)) (reader : LinesState) (world : View) → IsMidway gives start source input reader left old new world → IsAtEnd (ahead reader left)
-    → AnswersTo (λ lines. IfSome input (λ bytes. lines ≡ lines_of bytes)) input old new world
-wrote_all gives start source input left old new reader world m end =
-    midway_to gives start source (λ lines. IfSome input (λ bytes. lines ≡ lines_of bytes)) input left old new reader world m (handed_all input left m.lines reader m.handed_out end)
+pub wrote_all : {S H V : Type 0} (gives : S → Taken → S → Type 0) (m : Meaning H V) (first : View H V) (start source : S) (input left old new : Option (List ℕ)) (reader : LinesState) (world : View H V) → IsMidway gives m first start source input reader left old new world → IsAtEnd (ahead reader left)
+    → AnswersTo m (λ lines. IfSome input (λ bytes. lines ≡ lines_of bytes)) input old new first world
+wrote_all gives m first start source input left old new reader world at end =
+    midway_to gives m first start source (λ lines. IfSome input (λ bytes. lines ≡ lines_of bytes)) input left old new reader world at (handed_all input left at.lines reader at.handed_out end)
 
 -- the next line could not be read
-pub wrote_fault : {S : Type 0} (gives : S → Taken → S → Type 0) (start source new_source : S) (input left old new : Option (List ℕ)) (reader new_reader : LinesState) (world : View) (f : LineFault) → IsMidway gives start source input reader left old new world
+pub wrote_fault : {S H V : Type 0} (gives : S → Taken → S → Type 0) (m : Meaning H V) (first : View H V) (start source new_source : S) (input left old new : Option (List ℕ)) (reader new_reader : LinesState) (world : View H V) (f : LineFault) → IsMidway gives m first start source input reader left old new world
     → (f ≡ fault.TooManyLines → (reader.handed ≡ MOST_LINES) × HasMore reader left)
     → ((line : ℕ) → f ≡ fault.Endless line → (line ≡ reader.handed + 1) × (reader.handed < MOST_LINES) × IsLongLine reader left)
     → TellsAtOnce gives reader source (Err f) new_reader new_source
-    → WroteIn (FailsBehind gives start new_source) input old new world (status_of_fault f)
-wrote_fault gives start source new_source input left old new reader new_reader world fault.ReadFault m many endless at_once = midway_to gives start source (FailsBehind gives start new_source) input left old new reader world m
-    (fails_told gives start m.lines reader new_reader source new_source m.told at_once)
-wrote_fault gives start source new_source input left old new reader new_reader world fault.TooManyLines m many endless at_once =
-    midway_to gives start source (λ lines. length lines ≡ MOST_LINES) input left old new reader world m (omega (arith, (many refl).0, m.counted))
-wrote_fault gives start source new_source input left old new reader new_reader world (fault.Endless line) m many endless at_once =
-    midway_to gives start source (λ lines. suc (length lines) ≡ line) input left old new reader world m (omega (arith, (endless line refl).0, m.counted))
-wrote_fault gives start source new_source input left old new reader new_reader world fault.NoMemory m many endless at_once = record {
-  lines = m.lines;
-  of_input = handed_first input left m.lines reader m.handed_out;
-  answers = m.answers;
-  run = m.run;
-  front = transcript_of 1 m.answers;
+    → WroteIn m (FailsBehind gives start new_source) input old new first world (status_of_fault f)
+wrote_fault gives m first start source new_source input left old new reader new_reader world fault.ReadFault at many endless at_once = midway_to gives m first start source (FailsBehind gives start new_source) input left old new reader world at
+    (fails_told gives start at.lines reader new_reader source new_source at.told at_once)
+wrote_fault gives m first start source new_source input left old new reader new_reader world fault.TooManyLines at many endless at_once =
+    midway_to gives m first start source (λ lines. length lines ≡ MOST_LINES) input left old new reader world at (omega (arith, (many refl).0, at.counted))
+wrote_fault gives m first start source new_source input left old new reader new_reader world (fault.Endless line) at many endless at_once =
+    midway_to gives m first start source (λ lines. suc (length lines) ≡ line) input left old new reader world at (omega (arith, (endless line refl).0, at.counted))
+wrote_fault gives m first start source new_source input left old new reader new_reader world fault.NoMemory at many endless at_once = record {
+  lines = at.lines;
+  of_input = handed_first input left at.lines reader at.handed_out;
+  answers = at.answers;
+  run = at.run;
+  front = transcript_of 1 at.answers;
   rest = [];
-  is_front = sym (append-nil (transcript_of 1 m.answers));
-  written = m.written;
+  is_front = sym (append-nil (transcript_of 1 at.answers));
+  written = at.written;
 }
 
 -- there was no memory for the answer of the next line
-pub wrote_no_answer : {S : Type 0} (gives : S → Taken → S → Type 0) (start source : S) (input left old new : Option (List ℕ)) (reader : LinesState) (world after : View) (line : List ℕ) (number : ℕ) → IsNextLine gives start source input reader left old new world line number
-    → RanOrNot world line after → AnswersFront input old new after
-wrote_no_answer gives start source input left old new reader world after line number n (not_run same) = record {
+pub wrote_no_answer : {S H V : Type 0} (gives : S → Taken → S → Type 0) (m : Meaning H V) (first : View H V) (start source : S) (input left old new : Option (List ℕ)) (reader : LinesState) (world after : View H V) (line : List ℕ) (number : ℕ) → IsNextLine gives m first start source input reader left old new world line number
+    → RanOrNot m world line after → AnswersFront m input old new first after
+wrote_no_answer gives m first start source input left old new reader world after line number n (not_run same) = record {
   lines = n.lines;
   of_input = front_first input n.lines line (handed_first input left (n.lines ++ line ∷ []) reader n.handed_out);
   answers = n.answers;
-  run = subst (ScriptRun opened n.lines n.answers) (sym same) n.run;
+  run = subst (ScriptRun m first n.lines n.answers) (sym same) n.run;
   front = transcript_of 1 n.answers;
   rest = [];
   is_front = sym (append-nil (transcript_of 1 n.answers));
   written = n.written;
 }
-wrote_no_answer gives start source input left old new reader world after line number n (ran answer is) = record {
+wrote_no_answer gives m first start source input left old new reader world after line number n (ran answer is) = record {
   lines = n.lines ++ line ∷ [];
   of_input = handed_first input left (n.lines ++ line ∷ []) reader n.handed_out;
   answers = n.answers ++ answer ∷ [];
@@ -105,9 +105,9 @@ wrote_no_answer gives start source input left old new reader world after line nu
 }
 
 -- the answer of the next line could not be written whole
-pub wrote_front : {S : Type 0} (gives : S → Taken → S → Type 0) (start source : S) (input left old held new : Option (List ℕ)) (reader : LinesState) (world after : View) (line : List ℕ) (number : ℕ) (text : List ℕ)
-    → IsNextLine gives start source input reader left old held world line number → AnswersLine world line number text after → AppendsFront held new text → AnswersFront input old new after
-wrote_front gives start source input left old held new reader world after line number text n a part = record {
+pub wrote_front : {S H V : Type 0} (gives : S → Taken → S → Type 0) (m : Meaning H V) (first : View H V) (start source : S) (input left old held new : Option (List ℕ)) (reader : LinesState) (world after : View H V) (line : List ℕ) (number : ℕ) (text : List ℕ)
+    → IsNextLine gives m first start source input reader left old held world line number → AnswersLine m world line number text after → AppendsFront held new text → AnswersFront m input old new first after
+wrote_front gives m first start source input left old held new reader world after line number text n a part = record {
   lines = n.lines ++ line ∷ [];
   of_input = handed_first input left (n.lines ++ line ∷ []) reader n.handed_out;
   answers = n.answers ++ a.answer ∷ [];
@@ -119,43 +119,26 @@ wrote_front gives start source input left old held new reader world after line n
   written = appends_both old held new (transcript_of 1 n.answers) (take part.0 text) n.written part.2;
 }
 
--- nothing was written where not even the world could be opened
-pub wrote_nothing : (input held : Option (List ℕ)) → AnswersFront input held held opened
-wrote_nothing input held = record {
-  lines = [];
-  of_input = first input;
-  answers = [];
-  run = none;
-  front = [];
-  rest = [];
-  is_front = refl;
-  written = appends_nothing held;
-}
-  where
-    first : (input : Option (List ℕ)) → AreFirstLines input []
-    first None = tt
-    first (Some bytes) = (lines_of bytes, refl)
-
 -- ---- causes
 -- the end of an input that a fault of its reader tells
-pub fault_ends : {S : Type 0} (gives : S → Taken → S → Type 0) (start source : S) (input left old new : Option (List ℕ)) (reader : LinesState) (world : View) (f : LineFault) → IsMidway gives start source input reader left old new world
+pub fault_ends : {S H V : Type 0} (gives : S → Taken → S → Type 0) (m : Meaning H V) (first : View H V) (start source : S) (input left old new : Option (List ℕ)) (reader : LinesState) (world : View H V) (f : LineFault) → IsMidway gives m first start source input reader left old new world
     → (f ≡ fault.TooManyLines → (reader.handed ≡ MOST_LINES) × HasMore reader left)
     → ((line : ℕ) → f ≡ fault.Endless line → (line ≡ reader.handed + 1) × (reader.handed < MOST_LINES) × IsLongLine reader left)
     → (ending : Ending) → status_of_fault f ≡ status_of ending → IfSome input (λ bytes. ending_of bytes ≡ ending)
-fault_ends gives start source input left old new reader world fault.ReadFault m many endless Whole is = absurd cc
-fault_ends gives start source input left old new reader world fault.ReadFault m many endless TooMany is = absurd cc
-fault_ends gives start source input left old new reader world fault.ReadFault m many endless (TooLong line) is = absurd cc
-fault_ends gives start source input left old new reader world fault.TooManyLines m many endless Whole is = absurd cc
-fault_ends gives start source input left old new reader world fault.TooManyLines m many endless TooMany is = midway-too_many gives start source input left old new reader world m (many refl)
-fault_ends gives start source input left old new reader world fault.TooManyLines m many endless (TooLong line) is = absurd cc
-fault_ends gives start source input left old new reader world (fault.Endless number) m many endless Whole is = absurd cc
-fault_ends gives start source input left old new reader world (fault.Endless number) m many endless TooMany is = absurd cc
-fault_ends gives start source input left old new reader world (fault.Endless number) m many endless (TooLong line) is =
+fault_ends gives m first start source input left old new reader world fault.ReadFault at many endless Whole is = absurd cc
+fault_ends gives m first start source input left old new reader world fault.ReadFault at many endless TooMany is = absurd cc
+fault_ends gives m first start source input left old new reader world fault.ReadFault at many endless (TooLong line) is = absurd cc
+fault_ends gives m first start source input left old new reader world fault.TooManyLines at many endless Whole is = absurd cc
+fault_ends gives m first start source input left old new reader world fault.TooManyLines at many endless TooMany is = midway-too_many gives m first start source input left old new reader world at (many refl)
+fault_ends gives m first start source input left old new reader world fault.TooManyLines at many endless (TooLong line) is = absurd cc
+fault_ends gives m first start source input left old new reader world (fault.Endless number) at many endless Whole is = absurd cc
+fault_ends gives m first start source input left old new reader world (fault.Endless number) at many endless TooMany is = absurd cc
+fault_ends gives m first start source input left old new reader world (fault.Endless number) at many endless (TooLong line) is =
     let same : number ≡ line = cc in
-    subst (λ n. IfSome input (λ bytes. ending_of bytes ≡ TooLong n)) same (midway-endless gives start source input left old new reader world number m (endless number refl))
-fault_ends gives start source input left old new reader world fault.NoMemory m many endless Whole is = absurd cc
-fault_ends gives start source input left old new reader world fault.NoMemory m many endless TooMany is = absurd cc
-fault_ends gives start source input left old new reader world fault.NoMemory m many endless (TooLong line) is = absurd cc
+    subst (λ n. IfSome input (λ bytes. ending_of bytes ≡ TooLong n)) same (midway-endless gives m first start source input left old new reader world number at (endless number refl))
+fault_ends gives m first start source input left old new reader world fault.NoMemory at many endless Whole is = absurd cc
+fault_ends gives m first start source input left old new reader world fault.NoMemory at many endless TooMany is = absurd cc
+fault_ends gives m first start source input left old new reader world fault.NoMemory at many endless (TooLong line) is = absurd cc
 
 -- a run that nothing hinders ends by its input, or finds no memory
 pub completes_of : (input : Option (List ℕ)) (result : Status) (read wrote : Type 0) → (result ≡ status.Usage → ⊥) → (result ≡ status.ReadFault → read) → (result ≡ status.WriteFault → wrote)
@@ -169,3 +152,9 @@ completes_of (Some bytes) status.WriteFault read wrote u r w ends no_read no_wri
 completes_of (Some bytes) status.TooManyLines read wrote u r w ends no_read no_write = inl (ap status_of (sym (ends TooMany refl)))
 completes_of (Some bytes) status.NoMemory read wrote u r w ends no_read no_write = inr refl
 completes_of (Some bytes) (status.Endless line) read wrote u r w ends no_read no_write = inl (ap status_of (sym (ends (TooLong line) refl)))
+
+-- a run that ends well ends by the end of its input
+pub ends_whole : (input : Option (List ℕ)) → IfSome input (λ bytes. ending_of bytes ≡ Whole) → (ending : Ending) → status.Ok ≡ status_of ending → IfSome input (λ bytes. ending_of bytes ≡ ending)
+ends_whole input whole Whole is = whole
+ends_whole input whole TooMany is = absurd (cc is)
+ends_whole input whole (TooLong line) is = absurd (cc is)

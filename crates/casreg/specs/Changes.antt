@@ -1,56 +1,57 @@
--- What a change does to the world: the events that it orders, one after another.
-use Rattle.std.specs.Prelude.{◌≡◌, ◌≢◌, ℕ, ◌+◌, ◌<◌, ◌≤◌, false, List, [], length, Some}
+-- What a change does to a world: the calls that it makes, one after another.
+use Rattle.std.specs.Prelude.{◌≡◌, ◌+◌, ◌<◌, ℕ, false, List, [], length, slice_set}
 use Rattle.cas_change.specs.declared.program.Clause.{Clause}
+use Rattle.cas_fate.specs.declared.fate.Verdict.TheVariants.{Deliver}
+use Rattle.cas_flow.specs.Flow.{queue_at}
 use Rattle.cas_record.specs.declared.answer.Answer.{Answer}
 use Rattle.cas_record.specs.declared.answer.Answer.TheVariants.{RecordFull, NoMemory}
-use Rattle.cas_record.specs.declared.record.TheConstants.{MOST_MARKS}
-use Rattle.cas_world.specs.declared.world.TheConstants.{ROUND_MARKS}
-use Rattle.cas_world.specs.Desk.{closed, telling, is_accepting}
-use Rattle.cas_world.specs.Step.{Step, Begin, Turn, Propose, Count, End}
-use Rattle.cas_world.specs.View.{View}
+use Rattle.cas_cluster.specs.Step.{Step, Begin, RefuseBegin, Turn, RefuseTurn, Propose, Count, End}
+use Rattle.cas_cluster.specs.StepCalls.{HasRoom, most_marks, round_marks}
+use Rattle.cas_cluster.specs.View.{Meaning, View, new_caller, reserved_of}
 
 -- ---- turns
--- turns were made, each on a message that waited
-pub data Turned (old : View) : View → Type 0 where
-  none : Turned old old
-  one_more : {mid new : View} → Turned old mid → mid.frames ≢ [] → Step mid (Turn 1) new → Turned old new
+-- turns were made, each on a frame of the proposer that waited, and each frame was delivered
+pub data Turned {S V : Type 0} (m : Meaning S V) (id : ℕ) (old : View S V) : View S V → Type 0 where
+  none : Turned m id old old
+  one_more : {mid new : View S V} → Turned m id old mid → Step m mid (Turn id Deliver) new → Turned m id old new
 
--- all turns of a phase were made
-pub record AllTurned (old new : View) : Type 0 where
-  pub turned : Turned old new
-  pub none_waits : new.frames ≡ []
+-- until none waits
+pub record AllTurned {S V : Type 0} (m : Meaning S V) (id : ℕ) (old new : View S V) : Type 0 where
+  pub turned : Turned m id old new
+  pub none_waits : (queue_at new.flow id).messages ≡ []
 
--- after some turns one found no memory: its message waits on, and the caller is told
-pub record FailsToTurn (old new : View) : Type 0 where
-  pub mid : View
-  pub turned : Turned old mid
-  pub waits : mid.frames ≢ []
-  pub told : new ≡ record mid { desk = telling mid.desk (NoMemory (is_accepting mid.desk.round)) }
+-- after some turns one found no memory
+pub record FailsToTurn {S V : Type 0} (m : Meaning S V) (id : ℕ) (old new : View S V) : Type 0 where
+  pub mid : View S V
+  pub turned : Turned m id old mid
+  pub fails : Step m mid (RefuseTurn id) new
+
+-- turns were made until none waited, and then the round proposed
+pub record HasProposal {S V : Type 0} (m : Meaning S V) (id : ℕ) (old new : View S V) : Type 0 where
+  pub turned : View S V
+  pub turns : AllTurned m id old turned
+  pub proposes : Step m turned (Propose id) new
 
 -- ---- the round of a call
-pub data IsRound (old : View) : View → Type 0 where
-  -- it prepared, proposed, was accepted and counted
-  counted : {prepared proposed accepted new : View} → AllTurned old prepared → Step prepared (Propose 1) proposed → AllTurned proposed accepted → Step accepted (Count 1) new → IsRound old new
-  -- there was no memory for a turn of its prepare phase, for its proposal, or for a turn of its accept phase
-  unprepared : {new : View} → FailsToTurn old new → IsRound old new
-  unproposed : {prepared new : View} → AllTurned old prepared → new ≡ record prepared { desk = closed prepared.desk (NoMemory false) } → IsRound old new
-  unaccepted : {prepared proposed new : View} → AllTurned old prepared → Step prepared (Propose 1) proposed → FailsToTurn proposed new → IsRound old new
+-- It ends where no memory is found for a turn, or where its prepare phase could not propose, or with the count of its accept phase. A
+-- call that was told as it began why it has no round has none.
+pub data IsRound {S V : Type 0} (m : Meaning S V) (id : ℕ) : View S V → View S V → Type 0 where
+  none_begun : {old : View S V} → IsRound m id old old
+  fails : {old new : View S V} → FailsToTurn m id old new → IsRound m id old new
+  counts : {old turned new : View S V} → AllTurned m id old turned → Step m turned (Count id) new → IsRound m id old new
+  ends_short : {old new : View S V} → HasProposal m id old new → IsRound m id old new
+  proposes : {old proposed new : View S V} → HasProposal m id old proposed → IsRound m id proposed new → IsRound m id old new
 
 -- ---- a change
--- the marks of a round fit into the record
-abbrev pub HasRoom : View → Type 0
-HasRoom world = length world.marks + ROUND_MARKS ≤ MOST_MARKS
+-- the answers of a call that is not begun: the record is full, exactly where the marks of a round do not fit beside those that are made
+-- and those that other calls reserved, or there was no memory
+pub data IsRefused {S V : Type 0} (world : View S V) (id : ℕ) : Answer → Type 0 where
+  full : most_marks < length world.marks + reserved_of (slice_set world.callers id new_caller) + round_marks world.era → IsRefused world id RecordFull
+  no_memory : HasRoom world id (round_marks world.era) → IsRefused world id (NoMemory false)
 
--- the answers of a call that is not begun: the record is full, exactly where the marks of a round do not fit, or there was
--- no memory
-pub data IsRefused (world : View) : Answer → Type 0 where
-  full : MOST_MARKS < length world.marks + ROUND_MARKS → IsRefused world RecordFull
-  no_memory : HasRoom world → IsRefused world (NoMemory false)
-
--- a change as the next call of caller 1, with its answer
-pub data IsChange (old : View) (key : List ℕ) (program : List Clause) : Answer → View → Type 0 where
-  -- it is not begun, and changes nothing
-  refused : {answer : Answer} → IsRefused old answer → IsChange old key program answer old
-  -- there is room for the marks of a round: it is begun, has its round, and ends with the answer that the round told
-  ended : {begun told new : View} {answer : Answer} → HasRoom old → Step old (Begin 1 (old.desk.calls + 1) key program) begun → IsRound begun told → told.desk.told ≡ Some answer
-      → Step told (End 1 (old.desk.calls + 1) answer) new → IsChange old key program answer new
+-- a change as the caller's next call, with its answer
+pub data IsChange {S V : Type 0} (m : Meaning S V) (old : View S V) (id : ℕ) (key : List ℕ) (program : List Clause) : Answer → View S V → Type 0 where
+  -- it is not begun, and no mark is made
+  refused : {answer : Answer} {new : View S V} → IsRefused old id answer → Step m old (RefuseBegin id key) new → IsChange m old id key program answer new
+  -- it is begun, has its round, and ends with the answer that it was told
+  ended : {begun told new : View S V} {answer : Answer} → Step m old (Begin id key program) begun → IsRound m id begun told → Step m told (End id answer) new → IsChange m old id key program answer new

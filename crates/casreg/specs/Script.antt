@@ -5,7 +5,7 @@ use Rattle.cas_lines.specs.Command.{IsLine, caller_of, key_of, program_of}
 use Rattle.cas_lines.specs.Reading.{line_in}
 use Rattle.cas_lines.specs.declared.command.Command.{Command}
 use Rattle.cas_record.specs.declared.answer.Answer.{Answer}
-use Rattle.cas_world.specs.View.{View}
+use Rattle.cas_cluster.specs.View.{Meaning, View}
 use Rattle.casreg.specs.declared.cluster.TheConstants.{PROPOSERS}
 use Rattle.casreg.specs.Answers.{change_line, bad_line}
 use Rattle.casreg.specs.Changes.{IsChange}
@@ -17,28 +17,28 @@ pub data LineAnswer : Type 0 where
   Remark : LineAnswer
 
 -- a line that asks for a change runs it
-pub record RunsChange (line : List ℕ) (old : View) (caller : ℕ) (answer : Answer) (new : View) : Type 0 where
+pub record RunsChange {S V : Type 0} (m : Meaning S V) (line : List ℕ) (old : View S V) (caller : ℕ) (answer : Answer) (new : View S V) : Type 0 where
   pub command : Command
   pub says : IsLine PROPOSERS line (Some command)
   pub asked_by : caller ≡ caller_of command
-  pub change : IsChange old (key_of command) (program_of command) answer new
+  pub change : IsChange m old caller (key_of command) (program_of command) answer new
 
 -- a line that is refused changes nothing
-pub record IsRefused (line : List ℕ) (old : View) (why : Why) (new : View) : Type 0 where
+pub record IsRefused {S V : Type 0} (line : List ℕ) (old : View S V) (why : Why) (new : View S V) : Type 0 where
   pub word : ℕ
   pub refused : line_in PROPOSERS line ≡ Err (record { why = why; word = word })
   pub same : new ≡ old
 
-abbrev pub IsAnswered : View → List ℕ → LineAnswer → View → Type 0
-IsAnswered old line (Changed caller answer) new = RunsChange line old caller answer new
-IsAnswered old line (Bad why) new = IsRefused line old why new
-IsAnswered old line Remark new = IsLine PROPOSERS line None × (new ≡ old)
+abbrev pub IsAnswered : {S V : Type 0} → Meaning S V → View S V → List ℕ → LineAnswer → View S V → Type 0
+IsAnswered m old line (Changed caller answer) new = RunsChange m line old caller answer new
+IsAnswered m old line (Bad why) new = IsRefused line old why new
+IsAnswered m old line Remark new = IsLine PROPOSERS line None × (new ≡ old)
 
 -- the lines were run one after another, with these answers
-pub data ScriptRun (old : View) : List (List ℕ) → List LineAnswer → View → Type 0 where
-  none : ScriptRun old [] [] old
-  one_more : {lines : List (List ℕ)} {answers : List LineAnswer} {mid new : View} (line : List ℕ) (answer : LineAnswer) → ScriptRun old lines answers mid → IsAnswered mid line answer new
-      → ScriptRun old (lines ++ line ∷ []) (answers ++ answer ∷ []) new
+pub data ScriptRun {S V : Type 0} (m : Meaning S V) (old : View S V) : List (List ℕ) → List LineAnswer → View S V → Type 0 where
+  none : ScriptRun m old [] [] old
+  one_more : {lines : List (List ℕ)} {answers : List LineAnswer} {mid new : View S V} (line : List ℕ) (answer : LineAnswer) → ScriptRun m old lines answers mid → IsAnswered m mid line answer new
+      → ScriptRun m old (lines ++ line ∷ []) (answers ++ answer ∷ []) new
 
 -- the text of the answer to the line of that number
 abbrev pub text_of : ℕ → LineAnswer → List ℕ
@@ -47,15 +47,15 @@ text_of number (Bad why) = bad_line number why
 text_of number Remark = []
 
 -- the line of that number is run, and this is the text of its answer
-pub record AnswersLine (old : View) (line : List ℕ) (number : ℕ) (text : List ℕ) (new : View) : Type 0 where
+pub record AnswersLine {S V : Type 0} (m : Meaning S V) (old : View S V) (line : List ℕ) (number : ℕ) (text : List ℕ) (new : View S V) : Type 0 where
   pub answer : LineAnswer
-  pub run : IsAnswered old line answer new
+  pub run : IsAnswered m old line answer new
   pub text_is : text ≡ text_of number answer
 
 -- where there was no memory the line was run, or was not
-pub data RanOrNot (old : View) (line : List ℕ) (new : View) : Type 0 where
-  not_run : new ≡ old → RanOrNot old line new
-  ran : (answer : LineAnswer) → IsAnswered old line answer new → RanOrNot old line new
+pub data RanOrNot {S V : Type 0} (m : Meaning S V) (old : View S V) (line : List ℕ) (new : View S V) : Type 0 where
+  not_run : new ≡ old → RanOrNot m old line new
+  ran : (answer : LineAnswer) → IsAnswered m old line answer new → RanOrNot m old line new
 
 -- the texts of the answers to the lines from that number on
 abbrev pub transcript_of : ℕ → List LineAnswer → List ℕ

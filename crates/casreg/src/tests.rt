@@ -8,7 +8,7 @@ use cas_change::{Act, Body, Clause, Guard, Key, Program, State, Took};
 use cas_lines::sink::MemorySink;
 use cas_lines::source::MemorySource;
 use cas_record::{Acknowledgment, Answer, Mark, Proposal};
-use cas_world::SlotStore;
+use cas_slot::Shelf;
 use std::alloc::{AllocError, Global};
 use std::test::Fail;
 
@@ -277,17 +277,17 @@ fn marks_what_happens(rt: HostRuntime) -> Result<(), Fail> {
     let key = Key::read(alloc, b"a")?;
     let program = add_one(alloc)?;
     let mut world = open_world(alloc)?;
-    let mut calls = 0;
-    let answer = change(&mut world, &mut calls, &key, &program);
+    let answer = change(&mut world, 1, &key, &program);
     assert_eq!(rt; answer, done(0, 1, FIRST));
-    assert_eq!(rt; calls, 1);
+    assert_eq!(rt; world.next_call(1), 2);
     let marks = marks_of_the_first(alloc, &key, &program)?;
     assert_eq!(rt; world.record().marks(), marks.as_slice());
-    let (record, shelves) = world.parts();
+    let (record, shelves, vaults) = world.parts();
     assert_eq!(rt; record.marks().len(), 7);
-    assert_eq!(rt; shelves.len(), 3);
-    for shelf in &shelves {
-        let slot = shelf.get(&key)?;
+    assert_eq!(rt; shelves.len(), 64);
+    assert_eq!(rt; vaults.len(), 17);
+    for number in 1..4 {
+        let slot = shelves[number].get(&key)?;
         let accepted = slot.and_then(|slot| slot.accepted);
         assert_eq!(rt; accepted.map(|accepted| accepted.ballot), Some(FIRST));
     }
@@ -312,14 +312,13 @@ fn refuses_where_the_record_is_full(rt: HostRuntime) -> Result<(), Fail> {
     let key = Key::read(alloc, b"a")?;
     let program = add_one(alloc)?;
     let mut world = open_world(alloc)?;
-    let mut calls = 0;
     for _made in 0..142_855u32 {
-        let answer = change(&mut world, &mut calls, &key, &program);
+        let answer = change(&mut world, 1, &key, &program);
         assert!(rt; matches!(answer, Answer::Done { .. }));
     }
-    assert_eq!(rt; calls, 142_855);
+    assert_eq!(rt; world.next_call(1), 142_856);
     assert_eq!(rt; world.record().marks().len(), 999_985);
-    let answer = change(&mut world, &mut calls, &key, &program);
+    let answer = change(&mut world, 1, &key, &program);
     assert_eq!(rt; answer, Answer::RecordFull);
     assert_eq!(rt; world.record().marks().len(), 999_985);
     Ok(())

@@ -1,34 +1,33 @@
-use Rattle.std.proofs.Common.{arith, ◌-◌, refl, ap, ◌∙◌, add-one}
-use Rattle.cas_world.specs.Desk.{is_preparing, is_accepting}
-use Rattle.cas_world.specs.View.{View}
+use Rattle.std.proofs.Common.{refl, sym, ◌∙◌}
+use Rattle.cas_flow.specs.Flow.{queue_at}
+use Rattle.cas_flow.specs.Message.{head_of}
 use Rattle.casreg.specs.Changes.{none, one_more}
+use Rattle.casreg.proofs.Playing.{turn_plays, turn_fewer, turn_fails, turn_greatest, refuse_greatest, none_waits}
 use Rattle.casreg.proofs.Rounds.{on_err_of}
-use Rattle.cas_world.proofs.Calls.{none_wait, some_wait, turn_keeps}
 use Rattle.casreg.proofs.changes.all_turns.Goals as goal
 
+pub loop-world-init : goal.loop-world-init
+loop-world-init g c = record { turned = none; plays = λ number proposed was. was; greatest = refl }
+
+pub loop-world-smaller : goal.loop-world-smaller
+loop-world-smaller g c = turn_fewer _ c.loop-world.world c.turn.new.self c.args.proposer c.in_ok-turn.ensures.ok
+
+pub loop-world-preserved : goal.loop-world-preserved
+loop-world-preserved g c = record {
+  turned = one_more c.loop-world.invariant.turned c.in_ok-turn.ensures.ok;
+  plays = λ number proposed was. turn_plays _ c.loop-world.world c.turn.new.self c.args.proposer number proposed (c.loop-world.invariant.plays number proposed was) c.in_ok-turn.ensures.ok;
+  greatest = turn_greatest _ c.loop-world.world c.turn.new.self c.args.proposer _ c.in_ok-turn.ensures.ok ∙ c.loop-world.invariant.greatest;
+}
+
+pub returns-in_err-turn-clause-told : goal.returns-in_err-turn-clause-told
+returns-in_err-turn-clause-told g c number proposed was =
+    on_err_of c.from_residual.result (turn_fails _ c.loop-world.world c.turn.new.self c.args.proposer number proposed (c.loop-world.invariant.plays number proposed was) c.in_err-turn.ensures.err)
+
+pub returns-in_err-turn-clause-greatest : goal.returns-in_err-turn-clause-greatest
+returns-in_err-turn-clause-greatest g c = refuse_greatest _ c.loop-world.world c.turn.new.self c.args.proposer c.in_err-turn.ensures.err ∙ c.loop-world.invariant.greatest
+
 pub returns-clause-through : goal.returns-clause-through
-returns-clause-through g c = record { turned = c.loop-turn.invariant.turned; none_waits = none_wait _ (omega (arith, c.loop-turn.invariant.left)) }
-
-pub loop-turn-init : goal.loop-turn-init
-loop-turn-init g c = record { left = omega (arith, c.requires); turned = none; keeps = record { preparing = refl; accepting = refl; calls = refl } }
-
-pub loop-turn-preserved : goal.loop-turn-preserved
-loop-turn-preserved g c =
-    let before = c.loop-turn.invariant in
-    let waits = some_wait c.loop-turn.world.frames _ (c.in_ok-turn.ensures.turns ∙ add-one _) in
-    let keeps = turn_keeps c.loop-turn.world in
-    let same = c.in_ok-turn.ensures.ok in
-    record {
-      left = omega (arith, before.left, c.in_ok-turn.ensures.turns);
-      turned = one_more before.turned waits same;
-      keeps = record {
-        preparing = ap (λ (w : View). is_preparing w.desk.round) same ∙ keeps.preparing ∙ before.keeps.preparing;
-        accepting = ap (λ (w : View). is_accepting w.desk.round) same ∙ keeps.accepting ∙ before.keeps.accepting;
-        calls = ap (λ (w : View). w.desk.calls) same ∙ keeps.calls ∙ before.keeps.calls;
-      };
-    }
-
-pub returns-in_err-turn-clause-fails : goal.returns-in_err-turn-clause-fails
-returns-in_err-turn-clause-fails g c =
-    let waits = some_wait c.loop-turn.world.frames (5 - c.loop-turn._turn) (omega (arith, c.loop-turn.invariant.left, c.loop-turn-test.true)) in
-    on_err_of c.from_residual.result (record { mid = c.loop-turn.world; turned = c.loop-turn.invariant.turned; waits = waits; told = c.in_err-turn.ensures.err })
+returns-clause-through g c = record {
+  turned = c.loop-world.invariant.turned;
+  none_waits = none_waits head_of (queue_at c.loop-world.world.flow c.args.proposer).messages c.front.result c.front.ensures (sym c.is_some.ensures ∙ c.loop-world-test.false);
+}

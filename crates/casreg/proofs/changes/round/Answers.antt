@@ -1,24 +1,41 @@
-use Rattle.std.proofs.Common.{ap, sym, ◌∙◌}
-use Rattle.cas_record.specs.declared.answer.Answer.{Answer}
-use Rattle.cas_world.specs.Desk.{closed}
-use Rattle.cas_world.specs.View.{View}
-use Rattle.casreg.specs.Changes.{counted, unprepared, unproposed, unaccepted}
-use Rattle.casreg.proofs.Rounds.{on_err, on_ok}
+use Rattle.std.proofs.Common.{Bool, subst}
+use Rattle.casreg.specs.Changes.{proposes}
+use Rattle.casreg.specs.Playing.{IsPlaying}
+use Rattle.casreg.proofs.Playing.{round_plays}
 use Rattle.casreg.proofs.changes.round.Goals as goal
 
-pub returns-then-is_err-clause-round : goal.returns-then-is_err-clause-round
-returns-then-is_err-clause-round g c = unprepared (on_err _ (sym c.is_err.ensures.value ∙ c.if-is_err.true) c.all_turns.ensures.fails)
+pub accept-requires-clause-open : goal.accept-requires-clause-open
+accept-requires-clause-open g c = (
+  c.requires.open.0,
+  subst (λ (b : Bool). IsPlaying c.args.world.now c.args.proposer c.requires.open.0 b) c.if-has_proposed.true
+      (round_plays c.args.world.now c.args.proposer c.requires.open.0 c.has_proposed.result c.requires.open.1 c.has_proposed.ensures.proposed c.has_proposed.ensures.phase),
+)
 
-pub returns-in-Err-clause-round : goal.returns-in-Err-clause-round
-returns-in-Err-clause-round g c =
-    let prepared : View = c.all_turns.new.world in
-    unproposed (on_ok _ (sym c.is_err.ensures.value ∙ c.if-is_err.false) c.all_turns.ensures.through)
-    (c.in-Err.ensures.err ∙ ap (λ (refusal : Answer). record prepared { desk = closed prepared.desk refusal }) c.in-Err.ensures.refusals)
+pub returns-then-has_proposed-clause-told : goal.returns-then-has_proposed-clause-told
+returns-then-has_proposed-clause-told g c number was = c.accept.ensures.told number (subst (λ (b : Bool). IsPlaying c.args.world.now c.args.proposer number b) c.if-has_proposed.true
+    (round_plays c.args.world.now c.args.proposer number c.has_proposed.result was c.has_proposed.ensures.proposed c.has_proposed.ensures.phase))
 
-pub returns-then-is_err-2-clause-round : goal.returns-then-is_err-2-clause-round
-returns-then-is_err-2-clause-round g c = unaccepted (on_ok _ (sym c.is_err.ensures.value ∙ c.if-is_err.false) c.all_turns.ensures.through) c.in_default.ensures.ok
-    (on_err _ (sym c.is_err-2.ensures.value ∙ c.if-is_err-2.true) c.all_turns-2.ensures.fails)
+pub prepare-requires-clause-open : goal.prepare-requires-clause-open
+prepare-requires-clause-open g c = (
+  c.requires.open.0,
+  subst (λ (b : Bool). IsPlaying c.args.world.now c.args.proposer c.requires.open.0 b) c.if-has_proposed.false
+      (round_plays c.args.world.now c.args.proposer c.requires.open.0 c.has_proposed.result c.requires.open.1 c.has_proposed.ensures.proposed c.has_proposed.ensures.phase),
+)
 
-pub returns-clause-round : goal.returns-clause-round
-returns-clause-round g c = counted (on_ok _ (sym c.is_err.ensures.value ∙ c.if-is_err.false) c.all_turns.ensures.through) c.in_default.ensures.ok
-    (on_ok _ (sym c.is_err-2.ensures.value ∙ c.if-is_err-2.false) c.all_turns-2.ensures.through) c.count.ensures.step
+pub accept-requires-in-Ok-clause-open : goal.accept-requires-in-Ok-clause-open
+accept-requires-in-Ok-clause-open g c = (
+  c.requires.open.0,
+  c.in-Ok.ensures.plays c.requires.open.0 (subst (λ (b : Bool). IsPlaying c.args.world.now c.args.proposer c.requires.open.0 b) c.if-has_proposed.false
+      (round_plays c.args.world.now c.args.proposer c.requires.open.0 c.has_proposed.result c.requires.open.1 c.has_proposed.ensures.proposed c.has_proposed.ensures.phase)),
+)
+
+pub returns-in-Ok-clause-round : goal.returns-in-Ok-clause-round
+returns-in-Ok-clause-round g c = proposes c.in-Ok.ensures.proposed c.accept-in-Ok.ensures.round
+
+pub returns-in-Ok-clause-told : goal.returns-in-Ok-clause-told
+returns-in-Ok-clause-told g c number was = c.accept-in-Ok.ensures.told number (c.in-Ok.ensures.plays number (subst (λ (b : Bool). IsPlaying c.args.world.now c.args.proposer number b) c.if-has_proposed.false
+    (round_plays c.args.world.now c.args.proposer number c.has_proposed.result was c.has_proposed.ensures.proposed c.has_proposed.ensures.phase)))
+
+pub returns-in-Err-clause-told : goal.returns-in-Err-clause-told
+returns-in-Err-clause-told g c number was = c.in-Err.ensures.told number (subst (λ (b : Bool). IsPlaying c.args.world.now c.args.proposer number b) c.if-has_proposed.false
+    (round_plays c.args.world.now c.args.proposer number c.has_proposed.result was c.has_proposed.ensures.proposed c.has_proposed.ensures.phase))

@@ -1,8 +1,7 @@
-use Rattle.std.proofs.Common.{◌≡◌, arith, sym, ◌∙◌, ap, Err, subst}
+use Rattle.std.proofs.Common.{◌≡◌, arith, refl, sym, ◌∙◌, ap, Err, subst}
 use Rattle.std.proofs.lemmas.Result.{err_from_is_err_and}
 use Rattle.std.specs.Io.KnownBytes.{Appends}
 use Rattle.cas_lines.specs.Sink.{AppendsFront}
-use Rattle.cas_world.specs.View.{View}
 use Rattle.casreg.specs.Causes.{WroteIn, status_of}
 use Rattle.casreg.proofs.Runs.{midway-nothing, midway-next, midway-line, midway-end}
 use Rattle.casreg.proofs.Written.{wrote_all, wrote_fault, wrote_no_answer, wrote_front, if_err, fault_ends}
@@ -10,10 +9,9 @@ use Rattle.casreg.proofs.cluster.answer_lines.Goals as goal
 
 pub loop-lines-init : goal.loop-lines-init
 loop-lines-init g c = record {
-  midway = midway-nothing _ _ _ _ _ _ c.new-lines.ensures.held c.new-lines.ensures.handed c.requires;
-  counted = sym (ap (λ (w : View). w.desk.calls) c.requires);
-  few = omega arith;
-  no_round = ap (λ (w : View). w.desk.round) c.requires;
+  midway = midway-nothing _ _ _ _ _ _ _ _ c.new-lines.ensures.held c.new-lines.ensures.handed refl;
+  one = c.requires.one;
+  idle = c.requires.idle;
   source_faults = omega arith;
   sink_faults = omega arith;
 }
@@ -22,13 +20,13 @@ pub returns-in_err-line-clause-ends : goal.returns-in_err-line-clause-ends
 returns-in_err-line-clause-ends g c = λ ending is.
     let p = err_from_is_err_and c.from_residual.result c.from_residual.ensures.1 in
     let told : p.0 ≡ status_of ending = cc (p.1, is) in
-    fault_ends _ _ _ _ _ _ _ _ _ c.in_err-line.field-0.0 c.loop-lines.invariant.midway (λ same. c.in_err-line.ensures.too_many (ap Err same)) (λ line same. c.in_err-line.ensures.endless line (ap Err same))
+    fault_ends _ _ _ _ _ _ _ _ _ _ _ c.in_err-line.field-0.0 c.loop-lines.invariant.midway (λ same. c.in_err-line.ensures.too_many (ap Err same)) (λ line same. c.in_err-line.ensures.endless line (ap Err same))
     ending (sym p.2 ∙ told)
 
 pub returns-in_err-line-clause-wrote : goal.returns-in_err-line-clause-wrote
 returns-in_err-line-clause-wrote g c =
     let p = err_from_is_err_and c.from_residual.result c.from_residual.ensures.1 in
-    if_err _ p.0 _ p.1 (subst (WroteIn _ _ _ _ _) (sym p.2) (wrote_fault _ _ _ _ _ _ _ _ _ c.next.new.self _ c.in_err-line.field-0.0 c.loop-lines.invariant.midway
+    if_err _ p.0 _ p.1 (subst (WroteIn _ _ _ _ _ _ _) (sym p.2) (wrote_fault _ _ _ _ _ _ _ _ _ _ _ c.next.new.self _ c.in_err-line.field-0.0 c.loop-lines.invariant.midway
     (λ same. c.in_err-line.ensures.too_many (ap Err same)) (λ line same. c.in_err-line.ensures.endless line (ap Err same)) c.in_err-line.ensures.at_once))
 
 pub loop-lines-preserved : goal.loop-lines-preserved
@@ -38,13 +36,12 @@ loop-lines-preserved g c =
     let handed = rw c.in-Some.is at c.in_ok-line.ensures.handed in
     let few = rw c.in-Some.is at c.in_ok-line.ensures.few in
     let at_once = rw c.in-Some.is at c.in_ok-line.ensures.at_once in
-    let next = midway-next _ _ _ _ _ _ _ _ _ _ _ _ c.in-Some.line c.loop-lines.invariant.midway out at_once few number handed in
+    let next = midway-next _ _ _ _ _ _ _ _ _ _ _ _ _ _ c.in-Some.line c.loop-lines.invariant.midway out at_once few number handed in
     let answered = c.in_ok-text.ensures.answers in
     record {
-      midway = midway-line _ _ _ _ _ _ _ _ _ _ _ c.in-Some.line.bytes c.in-Some.line.number answered.answer _ next answered.run answered.text_is (subst (Appends _ _) c.as_bytes.ensures.value c.in_ok-put_all.ensures.all);
-      counted = c.answer_to.ensures.counts;
-      few = omega (arith, c.answer_to.ensures.up_to, handed);
-      no_round = c.answer_to.ensures.no_round;
+      midway = midway-line _ _ _ _ _ _ _ _ _ _ _ _ _ c.in-Some.line.bytes c.in-Some.line.number answered.answer _ next answered.run answered.text_is (subst (Appends _ _) c.as_bytes.ensures.value c.in_ok-put_all.ensures.all);
+      one = c.answer_to.ensures.one;
+      idle = c.answer_to.ensures.idle;
       source_faults = omega (arith, c.loop-lines.invariant.source_faults, c.next.ensures.never_falls);
       sink_faults = omega (arith, c.loop-lines.invariant.sink_faults, c.put_all.ensures.by_count.never_falls);
     }
@@ -56,9 +53,9 @@ returns-in_err-text-clause-wrote g c =
     let handed = rw c.in-Some.is at c.in_ok-line.ensures.handed in
     let few = rw c.in-Some.is at c.in_ok-line.ensures.few in
     let at_once = rw c.in-Some.is at c.in_ok-line.ensures.at_once in
-    let next = midway-next _ _ _ _ _ _ _ _ _ _ _ _ c.in-Some.line c.loop-lines.invariant.midway out at_once few number handed in
+    let next = midway-next _ _ _ _ _ _ _ _ _ _ _ _ _ _ c.in-Some.line c.loop-lines.invariant.midway out at_once few number handed in
     let p = err_from_is_err_and c.from_residual-in_err-text.result c.from_residual-in_err-text.ensures.1 in
-    if_err _ p.0 _ p.1 (subst (WroteIn _ _ _ _ _) (sym p.2) (wrote_no_answer _ _ _ _ _ _ _ _ _ _ c.in-Some.line.bytes c.in-Some.line.number next c.in_err-text.ensures.err))
+    if_err _ p.0 _ p.1 (subst (WroteIn _ _ _ _ _ _ _) (sym p.2) (wrote_no_answer _ _ _ _ _ _ _ _ _ _ _ _ c.in-Some.line.bytes c.in-Some.line.number next c.in_err-text.ensures.err))
 
 pub returns-in_err-put_all-clause-wrote : goal.returns-in_err-put_all-clause-wrote
 returns-in_err-put_all-clause-wrote g c =
@@ -67,13 +64,13 @@ returns-in_err-put_all-clause-wrote g c =
     let handed = rw c.in-Some.is at c.in_ok-line.ensures.handed in
     let few = rw c.in-Some.is at c.in_ok-line.ensures.few in
     let at_once = rw c.in-Some.is at c.in_ok-line.ensures.at_once in
-    let next = midway-next _ _ _ _ _ _ _ _ _ _ _ _ c.in-Some.line c.loop-lines.invariant.midway out at_once few number handed in
+    let next = midway-next _ _ _ _ _ _ _ _ _ _ _ _ _ _ c.in-Some.line c.loop-lines.invariant.midway out at_once few number handed in
     let p = err_from_is_err_and c.from_residual-in_err-put_all.result c.from_residual-in_err-put_all.ensures.1 in
-    if_err _ p.0 _ p.1 (subst (WroteIn _ _ _ _ _) (sym p.2) (wrote_front _ _ _ _ _ _ _ _ _ _ _ c.in-Some.line.bytes c.in-Some.line.number _ next c.in_ok-text.ensures.answers
+    if_err _ p.0 _ p.1 (subst (WroteIn _ _ _ _ _ _ _) (sym p.2) (wrote_front _ _ _ _ _ _ _ _ _ _ _ _ _ c.in-Some.line.bytes c.in-Some.line.number _ next c.in_ok-text.ensures.answers
     (subst (AppendsFront _ _) c.as_bytes.ensures.value c.in_err-put_all.ensures.front)))
 
 pub returns-clause-all : goal.returns-clause-all
-returns-clause-all g c = wrote_all _ _ _ _ _ _ _ _ _ c.loop-lines.invariant.midway (rw c.in_default.is at c.in_ok-line.ensures.end)
+returns-clause-all g c = wrote_all _ _ _ _ _ _ _ _ _ _ _ c.loop-lines.invariant.midway (rw c.in_default.is at c.in_ok-line.ensures.end)
 
 pub returns-clause-whole : goal.returns-clause-whole
-returns-clause-whole g c = midway-end _ _ _ _ _ _ _ _ _ c.loop-lines.invariant.midway (rw c.in_default.is at c.in_ok-line.ensures.end)
+returns-clause-whole g c = midway-end _ _ _ _ _ _ _ _ _ _ _ c.loop-lines.invariant.midway (rw c.in_default.is at c.in_ok-line.ensures.end)

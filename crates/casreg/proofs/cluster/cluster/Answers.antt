@@ -1,17 +1,16 @@
-use Rattle.cas_world.specs.View.{opened}
-use Rattle.cas_world.proofs.Beginnings.{history_opened}
-use Rattle.cas_world.proofs.Legality.{legal_record}
-use Rattle.casreg.proofs.Written.{wrote_nothing, completes_of}
+use Rattle.std.proofs.Common.{refl}
+use Rattle.casreg.specs.Causes.{wrong_words, no_world}
+use Rattle.casreg.proofs.Written.{completes_of}
 use Rattle.casreg.proofs.cluster.cluster.Goals as goal
 
 pub returns-in-Ok-false-clause-wrote : goal.returns-in-Ok-false-clause-wrote
-returns-in-Ok-false-clause-wrote g c = record { world = opened; wrote = tt; legal = legal_record opened history_opened }
+returns-in-Ok-false-clause-wrote g c = wrong_words refl
 
 pub returns-in-Err-clause-wrote : goal.returns-in-Err-clause-wrote
-returns-in-Err-clause-wrote g c = record { world = opened; wrote = wrote_nothing _ _; legal = legal_record opened history_opened }
+returns-in-Err-clause-wrote g c = no_world refl
 
 pub returns-in-Err-open_world-clause-wrote : goal.returns-in-Err-open_world-clause-wrote
-returns-in-Err-open_world-clause-wrote g c = record { world = opened; wrote = wrote_nothing _ _; legal = legal_record opened history_opened }
+returns-in-Err-open_world-clause-wrote g c = no_world refl
 
 pub returns-in-Ok-clause-causes : goal.returns-in-Ok-clause-causes
 returns-in-Ok-clause-causes g c = record {

@@ -1,25 +1,121 @@
-use Rattle.std.proofs.Common.{◌≡◌, ◌∙◌, ap, refl, subst, ◌<◌, ◌*◌, length}
-use Rattle.cas_world.specs.Desk.{is_accepting}
-use Rattle.cas_world.specs.Step.{confirmers}
-use Rattle.cas_world.specs.View.{View}
-use Rattle.cas_world.proofs.Kept.{kept_counted}
-use Rattle.cas_world.proofs.SoundLemmas.{majority_of, open_if_accepting}
+use Rattle.std.proofs.Common.{◌≡◌, ℕ, [], Option, None, Some, slice_set, refl, sym, ap, subst, ◌∙◌, arith}
+use Rattle.std.specs.Prelude.{IsSome, IfSome}
+use Rattle.cas_flow.specs.Flow.{queue_at}
+use Rattle.cas_proposer.specs.Desk.{DeskView, counter_without}
+use Rattle.cas_proposer.specs.declared.round.Round.{Round}
+use Rattle.cas_record.specs.declared.answer.Answer.TheVariants as answer
+use Rattle.cas_vault.specs.Vault.{counter_of}
+use Rattle.cas_cluster.specs.Step as step
+use Rattle.cas_cluster.specs.Step.{StepCount}
+use Rattle.cas_cluster.specs.StepDesks.{EndsRound}
+use Rattle.cas_cluster.specs.View.{View, IsAt, meaning}
+use Rattle.cas_cluster.proofs.SafeSteps.{steps_are_safe}
+use Rattle.cas_cluster.proofs.ViewLaws.{done_kept}
+use Rattle.cas_world.specs.Call.{over}
+use Rattle.cas_world.specs.Count.{Counts}
+use Rattle.cas_world.specs.declared.call.OpenCall.{OpenCall}
+use Rattle.cas_world.specs.World.{WasTold, view_of}
+use Rattle.cas_world.proofs.Counts.{IsCounting, counting, counted, fell_short, room_over, quorum_of}
+use Rattle.cas_world.proofs.Parts.{seen_from, remembered_then}
+use Rattle.cas_world.proofs.Proposes.{was_told}
+use Rattle.cas_world.proofs.Stops.{end_goes_on, copies_idle}
+use Rattle.cas_world.proofs.world.World.count.Given.{Over}
 use Rattle.cas_world.proofs.world.World.count.Goals as goal
 
-pub returns-clause-quorum : goal.returns-clause-quorum
-returns-clause-quorum g c =
-    let world : View = record { acceptors = c.self.inside.acceptors.items; desk = c.self.inside.desk; frames = c.self.inside.frames.items; marks = c.self.inside.record.marks } in
-    let same : world ≡ c.args.self.now = c.self.view_is in
-    let none = ap (λ (w : View). w.frames) same ∙ c.requires.none_waits in
-    let accepting = ap (λ (w : View). is_accepting w.desk.round) same ∙ c.requires.accepting in
-    subst (λ (w : View). 3 < 2 * length (confirmers w.desk.round)) same
-    (majority_of world c.self.inside.record.room world.desk.round c.self.invariant.0 none refl (open_if_accepting world.desk.round accepting))
+pub acknowledge-requires : goal.acknowledge-requires
+acknowledge-requires g c = (counting c.self.inside.config.proposers c.self.inside.era c.self.inside.acceptors.items c.self.inside.desks.items c.self.inside.callers.items c.self.inside.flow c.self.inside.record c.args.self.now c.from-place.result c.args.proposer c.index_mut-desk.result.now c.index_mut-caller.result.now
+    c.from-place.ensures c.self.view_is c.requires.known c.self.invariant c.index_mut-desk.ensures.value c.index_mut-caller.ensures.value c.requires.counting).may
+
+pub end-requires : goal.end-requires
+end-requires g c = subst (λ (r : Option Round). IsSome r) (sym (counting c.self.inside.config.proposers c.self.inside.era c.self.inside.acceptors.items c.self.inside.desks.items c.self.inside.callers.items c.self.inside.flow c.self.inside.record c.args.self.now c.from-place.result c.args.proposer c.index_mut-desk.result.now c.index_mut-caller.result.now
+    c.from-place.ensures c.self.view_is c.requires.known c.self.invariant c.index_mut-desk.ensures.value c.index_mut-caller.ensures.value c.requires.counting).may.is_round) refl
+
+pub end_round-requires-clause-open : goal.end_round-requires-clause-open
+end_round-requires-clause-open g c = subst (λ (o : Option OpenCall). IsSome o) (sym (counting c.self.inside.config.proposers c.self.inside.era c.self.inside.acceptors.items c.self.inside.desks.items c.self.inside.callers.items c.self.inside.flow c.self.inside.record c.args.self.now c.from-place.result c.args.proposer c.index_mut-desk.result.now c.index_mut-caller.result.now
+    c.from-place.ensures c.self.view_is c.requires.known c.self.invariant c.index_mut-desk.ensures.value c.index_mut-caller.ensures.value c.requires.counting).may.is_open) refl
+
+-- ---- a quorum accepted
+found : (g : Over) (c : goal.After-self-in-None-1 g) → IsCounting c.self.inside.desks.items c.self.inside.callers.items c.args.proposer c.index_mut-desk.result.now c.index_mut-caller.result.now c.self.inside.record.room
+found g c = counting c.self.inside.config.proposers c.self.inside.era c.self.inside.acceptors.items c.self.inside.desks.items c.self.inside.callers.items c.self.inside.flow c.self.inside.record c.args.self.now c.from-place.result c.args.proposer c.index_mut-desk.result.now c.index_mut-caller.result.now
+    c.from-place.ensures c.self.view_is c.requires.known c.self.invariant c.index_mut-desk.ensures.value c.index_mut-caller.ensures.value c.requires.counting
+
+none_waits : (g : Over) (c : goal.After-self-in-None-1 g) → (queue_at c.self.inside.flow c.args.proposer).messages ≡ []
+none_waits g c = ap (λ (v : View _ _). (queue_at v.flow c.args.proposer).messages) c.self.view_is ∙ c.requires.counting.none_waits
+
+counts : (g : Over) (c : goal.After-self-in-None-1 g) → Counts (record { tells = g.V.Disk.tells; may_leave = g.V.Disk.may_leave }) c.index_mut-desk.result.now c.acknowledge.new.desk (found g c).may.round c.index_mut-caller.result.now c.acknowledge.new.caller
+    (found g c).may.call (found g c).may.outcome c.self.inside.record c.acknowledge.new.record c.acknowledge.result
+counts g c = c.acknowledge.ensures (found g c).may.round (found g c).may.is_round (found g c).may.call (found g c).may.is_open (found g c).may.outcome (found g c).may.proposed
+
+acknowledges : (g : Over) (c : goal.After-self-in-None-1 g) → StepCount (meaning g.S.Shelf.contents g.S.Shelf.tells g.S.Shelf.may_leave g.V.Disk.tells g.V.Disk.may_leave) (view_of c.self.inside.config.proposers c.self.inside.era c.self.inside.acceptors.items c.self.inside.desks.items c.self.inside.callers.items c.self.inside.flow c.self.inside.record) c.args.proposer
+    (view_of c.self.inside.config.proposers c.self.inside.era c.self.inside.acceptors.items (slice_set c.self.inside.desks.items c.from-place.result c.acknowledge.new.desk) (slice_set c.self.inside.callers.items c.from-place.result c.acknowledge.new.caller) c.self.inside.flow c.acknowledge.new.record)
+acknowledges g c =
+    subst (λ (i : ℕ). StepCount (meaning g.S.Shelf.contents g.S.Shelf.tells g.S.Shelf.may_leave g.V.Disk.tells g.V.Disk.may_leave) (view_of c.self.inside.config.proposers c.self.inside.era c.self.inside.acceptors.items c.self.inside.desks.items c.self.inside.callers.items c.self.inside.flow c.self.inside.record) c.args.proposer
+    (view_of c.self.inside.config.proposers c.self.inside.era c.self.inside.acceptors.items (slice_set c.self.inside.desks.items i c.acknowledge.new.desk) (slice_set c.self.inside.callers.items i c.acknowledge.new.caller) c.self.inside.flow c.acknowledge.new.record)) (sym c.from-place.ensures)
+    (counted (meaning g.S.Shelf.contents g.S.Shelf.tells g.S.Shelf.may_leave g.V.Disk.tells g.V.Disk.may_leave) c.self.inside.config.proposers c.self.inside.era c.self.inside.acceptors.items c.self.inside.desks.items c.self.inside.callers.items c.self.inside.flow c.self.inside.record c.acknowledge.new.record c.args.proposer c.index_mut-desk.result.now c.acknowledge.new.desk c.index_mut-caller.result.now c.acknowledge.new.caller c.acknowledge.result
+    (none_waits g c) (found g c) ((c.verdict.ensures.quorum (found g c).may.round (found g c).may.is_round).0 (quorum_of c.verdict.result (sym c.in-None.ensures))) (counts g c))
 
 pub invariant_of-self : goal.invariant_of-self
-invariant_of-self g c =
-    let world : View = record { acceptors = c.self.inside.acceptors.items; desk = c.self.inside.desk; frames = c.self.inside.frames.items; marks = c.self.inside.record.marks } in
-    let after : View = record { acceptors = c.self.inside.acceptors.items; desk = c.count-acknowledgment.new.self; frames = c.self.inside.frames.items; marks = c.push.new.self.marks } in
-    let none = ap (λ (w : View). w.frames) c.self.view_is ∙ c.requires.none_waits in
-    let k = kept_counted world c.self.inside.record.room _ _ after c.push.new.self.room c.self.invariant.0 c.self.invariant.3 none c.count-acknowledgment.ensures.counted refl
-    c.count-acknowledgment.ensures.closed refl c.push.ensures.marks c.push.ensures.room in
-    (k.sound, c.self.invariant.1, c.self.invariant.2, k.history)
+invariant_of-self g c = record {
+  safe = steps_are_safe _ _ (step.Count c.args.proposer) _ c.self.invariant.safe (acknowledges g c);
+  remembered = remembered_then _ (step.Count c.args.proposer) (acknowledges g c) c.self.invariant.remembered;
+  room = room_over c.self.inside.callers.items c.from-place.result c.index_mut-caller.result.now c.acknowledge.new.caller (found g c).may.call c.acknowledge.result c.self.inside.record.room c.acknowledge.new.record.room 1
+      (subst (λ (i : ℕ). IsAt c.self.inside.callers.items i c.index_mut-caller.result.now) (sym c.from-place.ensures) (found g c).at_caller) (found g c).may.is_open (counts g c).caller_is (found g c).two (counts g c).room c.self.invariant.room;
+  copies = copies_idle c.self.inside.desks.items c.self.inside.callers.items c.from-place.result c.acknowledge.new.desk c.acknowledge.new.caller (ap (λ (d : DeskView _). d.round) (counts g c).ends.desk) c.self.invariant.copies;
+}
+
+pub returns-in-None-clause-step : goal.returns-in-None-clause-step
+returns-in-None-clause-step g c = seen_from _ (step.Count c.args.proposer) _ c.self.view_is (acknowledges g c)
+
+pub returns-in-None-clause-told : goal.returns-in-None-clause-told
+returns-in-None-clause-told g c seen at_seen =
+    subst (λ (i : ℕ). WasTold (view_of c.self.inside.config.proposers c.self.inside.era c.self.inside.acceptors.items (slice_set c.self.inside.desks.items i c.acknowledge.new.desk) (slice_set c.self.inside.callers.items i c.acknowledge.new.caller) c.self.inside.flow c.acknowledge.new.record) c.args.proposer seen.number c.acknowledge.result) (sym c.from-place.ensures)
+    (was_told c.self.inside.config.proposers c.self.inside.era c.self.inside.acceptors.items c.self.inside.desks.items c.self.inside.callers.items c.self.inside.flow c.self.inside.record c.args.self.now (slice_set c.self.inside.desks.items c.args.proposer c.acknowledge.new.desk) c.self.inside.flow c.acknowledge.new.record c.args.proposer seen c.index_mut-caller.result.now c.acknowledge.new.caller (found g c).may.call c.acknowledge.result
+    c.self.view_is at_seen (found g c).at_caller (counts g c).caller_is)
+
+pub returns-in-None-clause-kept : goal.returns-in-None-clause-kept
+returns-in-None-clause-kept g c shelves vaults a stands above = done_kept _ shelves _ a (remembered_then _ (step.Count c.args.proposer) (acknowledges g c) c.self.invariant.remembered shelves vaults) stands above
+
+-- ---- no quorum accepted
+found_short : (g : Over) (c : goal.After-self-in-Some-2-1 g) → IsCounting c.self.inside.desks.items c.self.inside.callers.items c.args.proposer c.index_mut-desk.result.now c.index_mut-caller.result.now c.self.inside.record.room
+found_short g c = counting c.self.inside.config.proposers c.self.inside.era c.self.inside.acceptors.items c.self.inside.desks.items c.self.inside.callers.items c.self.inside.flow c.self.inside.record c.args.self.now c.from-place.result c.args.proposer c.index_mut-desk.result.now c.index_mut-caller.result.now
+    c.from-place.ensures c.self.view_is c.requires.known c.self.invariant c.index_mut-desk.ensures.value c.index_mut-caller.ensures.value c.requires.counting
+
+ends : (g : Over) (c : goal.After-self-in-Some-2-1 g) → EndsRound (record { tells = g.V.Disk.tells; may_leave = g.V.Disk.may_leave }) c.index_mut-desk.result.now c.end.new.self (found_short g c).may.round None
+ends g c = record {
+  desk = c.end.ensures.desk (found_short g c).may.round (found_short g c).may.is_round;
+  counter = c.end.ensures.counter ∙ ap (λ (r : Option Round). counter_without r (counter_of c.index_mut-desk.result.now.vault)) (found_short g c).may.is_round;
+  goes_on = end_goes_on _ c.index_mut-desk.result.now.vault c.end.new.self.vault c.end.ensures.kept c.end.ensures.disk c.end.ensures.still_past;
+}
+
+falls_short : (g : Over) (c : goal.After-self-in-Some-2-1 g) → StepCount (meaning g.S.Shelf.contents g.S.Shelf.tells g.S.Shelf.may_leave g.V.Disk.tells g.V.Disk.may_leave) (view_of c.self.inside.config.proposers c.self.inside.era c.self.inside.acceptors.items c.self.inside.desks.items c.self.inside.callers.items c.self.inside.flow c.self.inside.record) c.args.proposer
+    (view_of c.self.inside.config.proposers c.self.inside.era c.self.inside.acceptors.items (slice_set c.self.inside.desks.items c.from-place.result c.end.new.self) (slice_set c.self.inside.callers.items c.from-place.result c.end_round.new.self) c.self.inside.flow c.self.inside.record)
+falls_short g c =
+    subst (λ (i : ℕ). StepCount (meaning g.S.Shelf.contents g.S.Shelf.tells g.S.Shelf.may_leave g.V.Disk.tells g.V.Disk.may_leave) (view_of c.self.inside.config.proposers c.self.inside.era c.self.inside.acceptors.items c.self.inside.desks.items c.self.inside.callers.items c.self.inside.flow c.self.inside.record) c.args.proposer
+    (view_of c.self.inside.config.proposers c.self.inside.era c.self.inside.acceptors.items (slice_set c.self.inside.desks.items i c.end.new.self) (slice_set c.self.inside.callers.items i c.end_round.new.self) c.self.inside.flow c.self.inside.record)) (sym c.from-place.ensures)
+    (fell_short (meaning g.S.Shelf.contents g.S.Shelf.tells g.S.Shelf.may_leave g.V.Disk.tells g.V.Disk.may_leave) c.self.inside.config.proposers c.self.inside.era c.self.inside.acceptors.items c.self.inside.desks.items c.self.inside.callers.items c.self.inside.flow c.self.inside.record c.args.proposer c.index_mut-desk.result.now c.end.new.self c.index_mut-caller.result.now c.end_round.new.self c.verdict.result c.in-Some.why
+    (ap (λ (v : View _ _). (queue_at v.flow c.args.proposer).messages) c.self.view_is ∙ c.requires.counting.none_waits) (found_short g c)
+    (c.verdict.ensures.verdict (found_short g c).may.round (found_short g c).may.is_round) (sym c.in-Some.ensures) (ends g c) c.end_round.ensures)
+
+caller_is : (g : Over) (c : goal.After-self-in-Some-2-1 g) → c.end_round.new.self ≡ record c.index_mut-caller.result.now { call = Some (over (found_short g c).may.call (answer.Unsettled c.in-Some.why)) }
+caller_is g c = subst (λ (o : Option OpenCall). IfSome o (λ call. c.end_round.new.self ≡ record c.index_mut-caller.result.now { call = Some (over call (answer.Unsettled c.in-Some.why)) })) (found_short g c).may.is_open c.end_round.ensures
+
+pub invariant_of-self-in-Some : goal.invariant_of-self-in-Some
+invariant_of-self-in-Some g c = record {
+  safe = steps_are_safe _ _ (step.Count c.args.proposer) _ c.self.invariant.safe (falls_short g c);
+  remembered = remembered_then _ (step.Count c.args.proposer) (falls_short g c) c.self.invariant.remembered;
+  room = room_over c.self.inside.callers.items c.from-place.result c.index_mut-caller.result.now c.end_round.new.self (found_short g c).may.call (answer.Unsettled c.in-Some.why) c.self.inside.record.room c.self.inside.record.room 0
+      (subst (λ (i : ℕ). IsAt c.self.inside.callers.items i c.index_mut-caller.result.now) (sym c.from-place.ensures) (found_short g c).at_caller) (found_short g c).may.is_open (caller_is g c) (omega (arith, (found_short g c).two)) (omega arith) c.self.invariant.room;
+  copies = copies_idle c.self.inside.desks.items c.self.inside.callers.items c.from-place.result c.end.new.self c.end_round.new.self (ap (λ (d : DeskView _). d.round) (ends g c).desk) c.self.invariant.copies;
+}
+
+pub returns-in-Some-clause-step : goal.returns-in-Some-clause-step
+returns-in-Some-clause-step g c = seen_from _ (step.Count c.args.proposer) _ c.self.view_is (falls_short g c)
+
+pub returns-in-Some-clause-told : goal.returns-in-Some-clause-told
+returns-in-Some-clause-told g c seen at_seen =
+    subst (λ (i : ℕ). WasTold (view_of c.self.inside.config.proposers c.self.inside.era c.self.inside.acceptors.items (slice_set c.self.inside.desks.items i c.end.new.self) (slice_set c.self.inside.callers.items i c.end_round.new.self) c.self.inside.flow c.self.inside.record) c.args.proposer seen.number (answer.Unsettled c.in-Some.why)) (sym c.from-place.ensures)
+    (was_told c.self.inside.config.proposers c.self.inside.era c.self.inside.acceptors.items c.self.inside.desks.items c.self.inside.callers.items c.self.inside.flow c.self.inside.record c.args.self.now (slice_set c.self.inside.desks.items c.args.proposer c.end.new.self) c.self.inside.flow c.self.inside.record c.args.proposer seen c.index_mut-caller.result.now c.end_round.new.self (found_short g c).may.call (answer.Unsettled c.in-Some.why)
+    c.self.view_is at_seen (found_short g c).at_caller (caller_is g c))
+
+pub returns-in-Some-clause-kept : goal.returns-in-Some-clause-kept
+returns-in-Some-clause-kept g c shelves vaults a stands above = done_kept _ shelves _ a (remembered_then _ (step.Count c.args.proposer) (falls_short g c) c.self.invariant.remembered shelves vaults) stands above

@@ -1,73 +1,121 @@
-use Rattle.std.proofs.Common.{◌≡◌, sym, ◌∙◌, ap, refl, subst, ◌<◌, ◌*◌, length, List, [], true, false}
-use Rattle.cas_world.specs.Acceptor.{AcceptorView}
-use Rattle.cas_record.specs.declared.answer.Answer.TheVariants.{NoMemory}
-use Rattle.cas_world.specs.Desk.{is_preparing, closed}
-use Rattle.cas_world.specs.Sound.{IsSound}
-use Rattle.cas_world.specs.Step.{confirmers, IsProposal}
-use Rattle.cas_world.specs.View.{View}
-use Rattle.cas_world.specs.History.{HasHistory}
-use Rattle.cas_world.proofs.Kept.{kept_proposed, kept_closed}
-use Rattle.cas_world.proofs.SoundLemmas.{proposed, majority_of, open_if_preparing, sound_closed, room_left}
+use Rattle.std.proofs.Common.{◌≡◌, ◌<◌, ℕ, Option, Some, slice_set, refl, sym, ap, subst, ◌∙◌, arith}
+use Rattle.std.specs.Prelude.{IsSome, IfSome}
+use Rattle.cas_flow.specs.Flow.{queue_at}
+use Rattle.cas_cluster.specs.Step as step
+use Rattle.cas_cluster.specs.Step.{StepPropose}
+use Rattle.cas_cluster.specs.View.{View, IsAt, meaning}
+use Rattle.cas_cluster.proofs.SafeSteps.{steps_are_safe}
+use Rattle.cas_world.specs.Call.{over, with_proposal}
+use Rattle.cas_world.specs.Proposing.{disks}
+use Rattle.cas_world.specs.Reading.{Proposes, EndsShort, HasProposed}
+use Rattle.cas_world.specs.World.{WasTold, view_of}
+use Rattle.cas_world.specs.declared.call.OpenCall.{OpenCall}
+use Rattle.cas_world.proofs.Counts.{room_over}
+use Rattle.cas_world.proofs.Parts.{seen_from, remembered_then}
+use Rattle.cas_world.proofs.Proposes.{IsProposing, proposing_in, proposes, ends, not_done, idle_then, told_next, made_next, room_proposed, copies_made, has_proposed, was_told}
+use Rattle.cas_world.proofs.Stops.{copies_idle}
+use Rattle.cas_world.proofs.world.World.propose.Given.{Over}
 use Rattle.cas_world.proofs.world.World.propose.Goals as goal
 
+pub end_prepare-requires : goal.end_prepare-requires
+end_prepare-requires g c = (proposing_in c.self.inside.config.proposers c.self.inside.era c.self.inside.acceptors.items c.self.inside.desks.items c.self.inside.callers.items c.self.inside.flow c.self.inside.record c.args.self.now c.from-place.result c.args.proposer c.index_mut-desk.result.now c.index_mut-caller.result.now
+    c.from-place.ensures c.self.view_is c.requires.known c.self.invariant c.index_mut-desk.ensures.value c.index_mut-caller.ensures.value c.requires.preparing).may
+
+pub propose-requires-clause-open : goal.propose-requires-clause-open
+propose-requires-clause-open g c = subst (λ (o : Option OpenCall). IsSome o) (sym (proposing_in c.self.inside.config.proposers c.self.inside.era c.self.inside.acceptors.items c.self.inside.desks.items c.self.inside.callers.items c.self.inside.flow c.self.inside.record c.args.self.now c.from-place.result c.args.proposer c.index_mut-desk.result.now c.index_mut-caller.result.now
+    c.from-place.ensures c.self.view_is c.requires.known c.self.invariant c.index_mut-desk.ensures.value c.index_mut-caller.ensures.value c.requires.preparing).may.is_open) refl
+
+pub propose-requires-clause-reserved : goal.propose-requires-clause-reserved
+propose-requires-clause-reserved g c =
+    let is : IsProposing c.self.inside.desks.items c.self.inside.callers.items c.self.inside.flow c.args.proposer c.index_mut-desk.result.now c.index_mut-caller.result.now c.self.inside.record.room = proposing_in c.self.inside.config.proposers c.self.inside.era c.self.inside.acceptors.items c.self.inside.desks.items c.self.inside.callers.items c.self.inside.flow c.self.inside.record c.args.self.now c.from-place.result c.args.proposer c.index_mut-desk.result.now c.index_mut-caller.result.now
+    c.from-place.ensures c.self.view_is c.requires.known c.self.invariant c.index_mut-desk.ensures.value c.index_mut-caller.ensures.value c.requires.preparing in
+    subst (λ (o : Option OpenCall). IfSome o (λ call. 0 < call.reserved)) (sym is.may.is_open) is.reserved
+
+pub propose-requires-clause-room : goal.propose-requires-clause-room
+propose-requires-clause-room g c = (proposing_in c.self.inside.config.proposers c.self.inside.era c.self.inside.acceptors.items c.self.inside.desks.items c.self.inside.callers.items c.self.inside.flow c.self.inside.record c.args.self.now c.from-place.result c.args.proposer c.index_mut-desk.result.now c.index_mut-caller.result.now
+    c.from-place.ensures c.self.view_is c.requires.known c.self.invariant c.index_mut-desk.ensures.value c.index_mut-caller.ensures.value c.requires.preparing).room
+
+pub end_round-requires-clause-open : goal.end_round-requires-clause-open
+end_round-requires-clause-open g c = subst (λ (o : Option OpenCall). IsSome o) (sym (proposing_in c.self.inside.config.proposers c.self.inside.era c.self.inside.acceptors.items c.self.inside.desks.items c.self.inside.callers.items c.self.inside.flow c.self.inside.record c.args.self.now c.from-place.result c.args.proposer c.index_mut-desk.result.now c.index_mut-caller.result.now
+    c.from-place.ensures c.self.view_is c.requires.known c.self.invariant c.index_mut-desk.ensures.value c.index_mut-caller.ensures.value c.requires.preparing).may.is_open) refl
+
+pub end_round-requires-clause-copied : goal.end_round-requires-clause-copied
+end_round-requires-clause-copied g c =
+    let is : IsProposing c.self.inside.desks.items c.self.inside.callers.items c.self.inside.flow c.args.proposer c.index_mut-desk.result.now c.index_mut-caller.result.now c.self.inside.record.room = proposing_in c.self.inside.config.proposers c.self.inside.era c.self.inside.acceptors.items c.self.inside.desks.items c.self.inside.callers.items c.self.inside.flow c.self.inside.record c.args.self.now c.from-place.result c.args.proposer c.index_mut-desk.result.now c.index_mut-caller.result.now
+    c.from-place.ensures c.self.view_is c.requires.known c.self.invariant c.index_mut-desk.ensures.value c.index_mut-caller.ensures.value c.requires.preparing in
+    not_done (disks g.V.Disk.tells g.V.Disk.may_leave) is.may.round c.index_mut-desk.result.now c.end_prepare.new.desk c.in-Err.refusal (c.in-Err.ensures.ends is.may.round is.may.is_round)
+
+-- ---- what was read is proposed
+found : (g : Over) (c : goal.After-self-in-Ok-1 g) → IsProposing c.self.inside.desks.items c.self.inside.callers.items c.self.inside.flow c.args.proposer c.index_mut-desk.result.now c.index_mut-caller.result.now c.self.inside.record.room
+found g c = proposing_in c.self.inside.config.proposers c.self.inside.era c.self.inside.acceptors.items c.self.inside.desks.items c.self.inside.callers.items c.self.inside.flow c.self.inside.record c.args.self.now c.from-place.result c.args.proposer c.index_mut-desk.result.now c.index_mut-caller.result.now
+    c.from-place.ensures c.self.view_is c.requires.known c.self.invariant c.index_mut-desk.ensures.value c.index_mut-caller.ensures.value c.requires.preparing
+
+by : (g : Over) (c : goal.After-self-in-Ok-1 g) → Proposes (disks g.V.Disk.tells g.V.Disk.may_leave) c.args.proposer c.index_mut-caller.result.now.number (found g c).may.round (found g c).may.call c.index_mut-desk.result.now c.end_prepare.new.desk c.self.inside.flow c.end_prepare.new.flow c.in-Ok.proposing
+by g c = c.in-Ok.ensures.proposes (found g c).may.round (found g c).may.is_round (found g c).may.call (found g c).may.is_open
+
+next_is : (g : Over) (c : goal.After-self-in-Ok-1 g) → c.propose.new.self ≡ record c.index_mut-caller.result.now { call = Some (with_proposal (found g c).may.call c.in-Ok.proposing) }
+next_is g c = made_next c.index_mut-caller.result.now c.propose.new.self (found g c).may.call c.in-Ok.proposing (found g c).may.is_open c.propose.ensures.call
+
+step_is : (g : Over) (c : goal.After-self-in-Ok-1 g) → StepPropose (meaning g.S.Shelf.contents g.S.Shelf.tells g.S.Shelf.may_leave g.V.Disk.tells g.V.Disk.may_leave) (view_of c.self.inside.config.proposers c.self.inside.era c.self.inside.acceptors.items c.self.inside.desks.items c.self.inside.callers.items c.self.inside.flow c.self.inside.record) c.args.proposer
+    (view_of c.self.inside.config.proposers c.self.inside.era c.self.inside.acceptors.items (slice_set c.self.inside.desks.items c.from-place.result c.end_prepare.new.desk) (slice_set c.self.inside.callers.items c.from-place.result c.propose.new.self) c.end_prepare.new.flow c.propose.new.record)
+step_is g c =
+    subst (λ (i : ℕ). StepPropose (meaning g.S.Shelf.contents g.S.Shelf.tells g.S.Shelf.may_leave g.V.Disk.tells g.V.Disk.may_leave) (view_of c.self.inside.config.proposers c.self.inside.era c.self.inside.acceptors.items c.self.inside.desks.items c.self.inside.callers.items c.self.inside.flow c.self.inside.record) c.args.proposer
+    (view_of c.self.inside.config.proposers c.self.inside.era c.self.inside.acceptors.items (slice_set c.self.inside.desks.items i c.end_prepare.new.desk) (slice_set c.self.inside.callers.items i c.propose.new.self) c.end_prepare.new.flow c.propose.new.record)) (sym c.from-place.ensures)
+    (proposes (meaning g.S.Shelf.contents g.S.Shelf.tells g.S.Shelf.may_leave g.V.Disk.tells g.V.Disk.may_leave) c.self.inside.config.proposers c.self.inside.era c.self.inside.acceptors.items c.self.inside.desks.items c.self.inside.callers.items c.self.inside.flow c.end_prepare.new.flow c.self.inside.record c.propose.new.record c.args.proposer c.index_mut-desk.result.now c.end_prepare.new.desk c.index_mut-caller.result.now c.propose.new.self c.in-Ok.proposing
+    (ap (λ (v : View _ _). (queue_at v.flow c.args.proposer).messages) c.self.view_is ∙ c.requires.preparing.none_waits) (found g c) (by g c) (next_is g c) c.propose.ensures.marks)
+
 pub invariant_of-self : goal.invariant_of-self
-invariant_of-self g c =
-    let world : View = record { acceptors = c.self.inside.acceptors.items; desk = c.self.inside.desk; frames = c.self.inside.frames.items; marks = c.self.inside.record.marks } in
-    let after : View = record { acceptors = c.self.inside.acceptors.items; desk = c.propose.new.self; frames = c.replace.new.dest.items; marks = c.push.new.self.marks } in
-    let none : world.frames ≡ [] = ap (λ (w : View). w.frames) c.self.view_is ∙ c.requires.none_waits in
-    let made : IsProposal c.args.proposer world.acceptors c.in-Some.round.now c.in-Some.round.now.stage c.in-Ok.field-0.outcome c.in-Ok.field-0.spare c.in-Ok.field-0.frames.items c.in-Ok.field-0.mark =
-    subst (λ (acceptors : List AcceptorView). IsProposal c.args.proposer acceptors c.in-Some.round.now c.in-Some.round.now.stage c.in-Ok.field-0.outcome c.in-Ok.field-0.spare c.in-Ok.field-0.frames.items c.in-Ok.field-0.mark)
-    c.deref.ensures.value c.in-Ok.ensures in
-    let p = proposed world c.self.inside.record.room c.args.proposer c.in-Some.round.now c.in-Ok.field-0.outcome c.in-Ok.field-0.spare c.in-Ok.field-0.frames.items c.in-Ok.field-0.mark
-    after c.push.new.self.room c.self.invariant.0 none (sym c.in-Some.ensures) made refl c.propose.ensures (ap (λ q. q.items) c.replace.ensures.after) c.push.ensures.marks c.push.ensures.room in (
-      p.sound,
-      c.self.invariant.1,
-      c.self.invariant.2,
-      subst HasHistory (sym p.is)
-          (kept_proposed world c.self.inside.record.room c.args.proposer c.in-Some.round.now c.in-Some.round.now.stage c.in-Ok.field-0.outcome c.in-Ok.field-0.spare c.in-Ok.field-0.frames.items c.in-Ok.field-0.mark
-          c.self.invariant.0 c.self.invariant.3 none (sym c.in-Some.ensures) refl made c.requires.own),
-    )
+invariant_of-self g c = record {
+  safe = steps_are_safe _ _ (step.Propose c.args.proposer) _ c.self.invariant.safe (step_is g c);
+  remembered = remembered_then _ (step.Propose c.args.proposer) (step_is g c) c.self.invariant.remembered;
+  room = room_proposed c.self.inside.callers.items c.from-place.result c.index_mut-caller.result.now c.propose.new.self (found g c).may.call c.in-Ok.proposing c.self.inside.record.room c.propose.new.record.room
+      (subst (λ (i : ℕ). IsAt c.self.inside.callers.items i c.index_mut-caller.result.now) (sym c.from-place.ensures) (found g c).at_caller) (found g c).may.is_open (next_is g c) (found g c).reserved c.propose.ensures.room c.self.invariant.room;
+  copies = copies_made (disks g.V.Disk.tells g.V.Disk.may_leave) c.self.inside.desks.items c.self.inside.callers.items c.from-place.result c.args.proposer c.index_mut-caller.result.now.number (found g c).may.round (found g c).may.call c.index_mut-desk.result.now c.end_prepare.new.desk c.index_mut-caller.result.now c.propose.new.self c.self.inside.flow c.end_prepare.new.flow c.in-Ok.proposing
+      (by g c) (next_is g c) c.self.invariant.copies;
+}
+
+pub returns-in-Ok-clause-step : goal.returns-in-Ok-clause-step
+returns-in-Ok-clause-step g c = seen_from _ (step.Propose c.args.proposer) _ c.self.view_is (step_is g c)
+
+pub returns-in-Ok-clause-proposed : goal.returns-in-Ok-clause-proposed
+returns-in-Ok-clause-proposed g c =
+    subst (λ (i : ℕ). HasProposed (view_of c.self.inside.config.proposers c.self.inside.era c.self.inside.acceptors.items (slice_set c.self.inside.desks.items i c.end_prepare.new.desk) (slice_set c.self.inside.callers.items i c.propose.new.self) c.end_prepare.new.flow c.propose.new.record) c.args.proposer) (sym c.from-place.ensures)
+    (has_proposed (disks g.V.Disk.tells g.V.Disk.may_leave) c.self.inside.config.proposers c.self.inside.era c.self.inside.acceptors.items c.self.inside.desks.items c.self.inside.callers.items c.self.inside.flow c.end_prepare.new.flow c.propose.new.record c.args.proposer c.args.proposer c.index_mut-caller.result.now.number (found g c).may.round (found g c).may.call c.index_mut-desk.result.now c.end_prepare.new.desk c.index_mut-caller.result.now c.propose.new.self c.in-Ok.proposing
+    (found g c).at_desk (found g c).at_caller (by g c) (next_is g c))
+
+-- ---- the round ends without a proposal
+found_short : (g : Over) (c : goal.After-self-in-Err-1 g) → IsProposing c.self.inside.desks.items c.self.inside.callers.items c.self.inside.flow c.args.proposer c.index_mut-desk.result.now c.index_mut-caller.result.now c.self.inside.record.room
+found_short g c = proposing_in c.self.inside.config.proposers c.self.inside.era c.self.inside.acceptors.items c.self.inside.desks.items c.self.inside.callers.items c.self.inside.flow c.self.inside.record c.args.self.now c.from-place.result c.args.proposer c.index_mut-desk.result.now c.index_mut-caller.result.now
+    c.from-place.ensures c.self.view_is c.requires.known c.self.invariant c.index_mut-desk.ensures.value c.index_mut-caller.ensures.value c.requires.preparing
+
+short : (g : Over) (c : goal.After-self-in-Err-1 g) → EndsShort (disks g.V.Disk.tells g.V.Disk.may_leave) (found_short g c).may.round c.index_mut-desk.result.now c.end_prepare.new.desk c.in-Err.refusal
+short g c = c.in-Err.ensures.ends (found_short g c).may.round (found_short g c).may.is_round
+
+over_is : (g : Over) (c : goal.After-self-in-Err-1 g) → c.end_round.new.self ≡ record c.index_mut-caller.result.now { call = Some (over (found_short g c).may.call c.in-Err.refusal) }
+over_is g c = told_next c.index_mut-caller.result.now c.end_round.new.self (found_short g c).may.call c.in-Err.refusal (found_short g c).may.is_open c.end_round.ensures
+
+step_short : (g : Over) (c : goal.After-self-in-Err-1 g) → StepPropose (meaning g.S.Shelf.contents g.S.Shelf.tells g.S.Shelf.may_leave g.V.Disk.tells g.V.Disk.may_leave) (view_of c.self.inside.config.proposers c.self.inside.era c.self.inside.acceptors.items c.self.inside.desks.items c.self.inside.callers.items c.self.inside.flow c.self.inside.record) c.args.proposer
+    (view_of c.self.inside.config.proposers c.self.inside.era c.self.inside.acceptors.items (slice_set c.self.inside.desks.items c.from-place.result c.end_prepare.new.desk) (slice_set c.self.inside.callers.items c.from-place.result c.end_round.new.self) c.end_prepare.new.flow c.self.inside.record)
+step_short g c =
+    subst (λ (i : ℕ). StepPropose (meaning g.S.Shelf.contents g.S.Shelf.tells g.S.Shelf.may_leave g.V.Disk.tells g.V.Disk.may_leave) (view_of c.self.inside.config.proposers c.self.inside.era c.self.inside.acceptors.items c.self.inside.desks.items c.self.inside.callers.items c.self.inside.flow c.self.inside.record) c.args.proposer
+    (view_of c.self.inside.config.proposers c.self.inside.era c.self.inside.acceptors.items (slice_set c.self.inside.desks.items i c.end_prepare.new.desk) (slice_set c.self.inside.callers.items i c.end_round.new.self) c.end_prepare.new.flow c.self.inside.record)) (sym c.from-place.ensures)
+    (ends (meaning g.S.Shelf.contents g.S.Shelf.tells g.S.Shelf.may_leave g.V.Disk.tells g.V.Disk.may_leave) c.self.inside.config.proposers c.self.inside.era c.self.inside.acceptors.items c.self.inside.desks.items c.self.inside.callers.items c.self.inside.flow c.end_prepare.new.flow c.self.inside.record c.args.proposer c.index_mut-desk.result.now c.end_prepare.new.desk c.index_mut-caller.result.now c.end_round.new.self c.in-Err.refusal
+    (ap (λ (v : View _ _). (queue_at v.flow c.args.proposer).messages) c.self.view_is ∙ c.requires.preparing.none_waits) (found_short g c) (short g c) c.in-Err.ensures.not_sent (over_is g c))
 
 pub invariant_of-self-in-Err : goal.invariant_of-self-in-Err
-invariant_of-self-in-Err g c =
-    let world : View = record { acceptors = c.self.inside.acceptors.items; desk = c.self.inside.desk; frames = c.self.inside.frames.items; marks = c.self.inside.record.marks } in
-    let none : world.frames ≡ [] = ap (λ (w : View). w.frames) c.self.view_is ∙ c.requires.none_waits in
-    let preparing : is_preparing world.desk.round ≡ true = ap (λ (w : View). is_preparing w.desk.round) c.self.view_is ∙ c.requires.preparing in
-    let is : record { acceptors = c.self.inside.acceptors.items; desk = c.close.new.self; frames = c.self.inside.frames.items; marks = c.self.inside.record.marks }
-    ≡ record world { desk = closed world.desk (NoMemory false) } = λ i. record { acceptors = world.acceptors; desk = c.close.ensures i; frames = world.frames; marks = world.marks } in
-    let fits = room_left world c.self.inside.record.room c.in-Some.round.now c.self.invariant.0 (sym c.in-Some.ensures) in (
-      subst (λ (w : View). IsSound w c.self.inside.record.room) (sym is) (sound_closed world c.self.inside.record.room (NoMemory false) c.self.invariant.0 none fits),
-      c.self.invariant.1,
-      c.self.invariant.2,
-      subst HasHistory (sym is) (kept_closed world c.self.invariant.3 preparing),
-    )
+invariant_of-self-in-Err g c = record {
+  safe = steps_are_safe _ _ (step.Propose c.args.proposer) _ c.self.invariant.safe (step_short g c);
+  remembered = remembered_then _ (step.Propose c.args.proposer) (step_short g c) c.self.invariant.remembered;
+  room = room_over c.self.inside.callers.items c.from-place.result c.index_mut-caller.result.now c.end_round.new.self (found_short g c).may.call c.in-Err.refusal c.self.inside.record.room c.self.inside.record.room 0
+      (subst (λ (i : ℕ). IsAt c.self.inside.callers.items i c.index_mut-caller.result.now) (sym c.from-place.ensures) (found_short g c).at_caller) (found_short g c).may.is_open (over_is g c) (omega (arith, (found_short g c).reserved)) (omega arith) c.self.invariant.room;
+  copies = copies_idle c.self.inside.desks.items c.self.inside.callers.items c.from-place.result c.end_prepare.new.desk c.end_round.new.self (idle_then (disks g.V.Disk.tells g.V.Disk.may_leave) (found_short g c).may.round c.index_mut-desk.result.now c.end_prepare.new.desk c.in-Err.refusal (short g c)) c.self.invariant.copies;
+}
 
-pub returns-in-Ok-clause-turns : goal.returns-in-Ok-clause-turns
-returns-in-Ok-clause-turns g c =
-    let world : View = record { acceptors = c.self.inside.acceptors.items; desk = c.self.inside.desk; frames = c.self.inside.frames.items; marks = c.self.inside.record.marks } in
-    let after : View = record { acceptors = c.self.inside.acceptors.items; desk = c.propose.new.self; frames = c.replace.new.dest.items; marks = c.push.new.self.marks } in
-    let none : world.frames ≡ [] = ap (λ (w : View). w.frames) c.self.view_is ∙ c.requires.none_waits in
-    let made : IsProposal c.args.proposer world.acceptors c.in-Some.round.now c.in-Some.round.now.stage c.in-Ok.field-0.outcome c.in-Ok.field-0.spare c.in-Ok.field-0.frames.items c.in-Ok.field-0.mark =
-    subst (λ (acceptors : List AcceptorView). IsProposal c.args.proposer acceptors c.in-Some.round.now c.in-Some.round.now.stage c.in-Ok.field-0.outcome c.in-Ok.field-0.spare c.in-Ok.field-0.frames.items c.in-Ok.field-0.mark)
-    c.deref.ensures.value c.in-Ok.ensures in
-    let p = proposed world c.self.inside.record.room c.args.proposer c.in-Some.round.now c.in-Ok.field-0.outcome c.in-Ok.field-0.spare c.in-Ok.field-0.frames.items c.in-Ok.field-0.mark
-    after c.push.new.self.room c.self.invariant.0 none (sym c.in-Some.ensures) made refl c.propose.ensures (ap (λ q. q.items) c.replace.ensures.after) c.push.ensures.marks c.push.ensures.room in
-    p.turns
+pub returns-in-Err-clause-step : goal.returns-in-Err-clause-step
+returns-in-Err-clause-step g c = seen_from _ (step.Propose c.args.proposer) _ c.self.view_is (step_short g c)
 
-pub returns-in-Ok-clause-quorum : goal.returns-in-Ok-clause-quorum
-returns-in-Ok-clause-quorum g c =
-    let world : View = record { acceptors = c.self.inside.acceptors.items; desk = c.self.inside.desk; frames = c.self.inside.frames.items; marks = c.self.inside.record.marks } in
-    let same : world ≡ c.args.self.now = c.self.view_is in
-    let none = ap (λ (w : View). w.frames) same ∙ c.requires.none_waits in
-    let preparing = ap (λ (w : View). is_preparing w.desk.round) same ∙ c.requires.preparing in
-    subst (λ (w : View). 3 < 2 * length (confirmers w.desk.round)) same
-    (majority_of world c.self.inside.record.room world.desk.round c.self.invariant.0 none refl (open_if_preparing world.desk.round preparing))
-
-pub returns-in-Err-clause-quorum : goal.returns-in-Err-clause-quorum
-returns-in-Err-clause-quorum g c =
-    let world : View = record { acceptors = c.self.inside.acceptors.items; desk = c.self.inside.desk; frames = c.self.inside.frames.items; marks = c.self.inside.record.marks } in
-    let same : world ≡ c.args.self.now = c.self.view_is in
-    let none = ap (λ (w : View). w.frames) same ∙ c.requires.none_waits in
-    let preparing = ap (λ (w : View). is_preparing w.desk.round) same ∙ c.requires.preparing in
-    subst (λ (w : View). 3 < 2 * length (confirmers w.desk.round)) same
-    (majority_of world c.self.inside.record.room world.desk.round c.self.invariant.0 none refl (open_if_preparing world.desk.round preparing))
+pub returns-in-Err-clause-told : goal.returns-in-Err-clause-told
+returns-in-Err-clause-told g c seen at_seen =
+    subst (λ (i : ℕ). WasTold (view_of c.self.inside.config.proposers c.self.inside.era c.self.inside.acceptors.items (slice_set c.self.inside.desks.items i c.end_prepare.new.desk) (slice_set c.self.inside.callers.items i c.end_round.new.self) c.end_prepare.new.flow c.self.inside.record) c.args.proposer seen.number c.in-Err.refusal) (sym c.from-place.ensures)
+    (was_told c.self.inside.config.proposers c.self.inside.era c.self.inside.acceptors.items c.self.inside.desks.items c.self.inside.callers.items c.self.inside.flow c.self.inside.record c.args.self.now (slice_set c.self.inside.desks.items c.args.proposer c.end_prepare.new.desk) c.end_prepare.new.flow c.self.inside.record c.args.proposer seen c.index_mut-caller.result.now c.end_round.new.self (found_short g c).may.call c.in-Err.refusal
+    c.self.view_is at_seen (found_short g c).at_caller (over_is g c))

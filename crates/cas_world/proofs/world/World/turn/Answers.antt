@@ -1,90 +1,150 @@
-use Rattle.std.proofs.Common.{◌≡◌, ◌∷◌, ◌-◌, ◌<◌, length, arith, sym, ◌∙◌, ap, refl, subst}
-use Rattle.std.proofs.lemmas.Option.{slice_get_within}
+use Rattle.std.proofs.Common.{ℕ, List, false, slice_set, sym, subst, ◌∙◌}
+use Rattle.cas_cluster.specs.Step as step
+use Rattle.cas_cluster.specs.Step.{StepTurn, StepRefuseTurn}
+use Rattle.cas_cluster.proofs.SafeSteps.{steps_are_safe}
+use Rattle.cas_flow.specs.Flow.{FlowView}
+use Rattle.cas_proposer.specs.Desk.{DeskView}
 use Rattle.cas_record.specs.Book.{Book}
-use Rattle.cas_world.specs.declared.message.Message.TheVariants as message
-use Rattle.cas_world.specs.Step.{after_turn}
-use Rattle.cas_world.specs.View.{View}
-use Rattle.cas_world.specs.Desk.{arrived}
-use Rattle.cas_world.specs.History.{HasHistory}
-use Rattle.cas_world.proofs.Kept.{kept_unserved}
-use Rattle.cas_world.proofs.Turns.{history_request, history_reply}
-use Rattle.cas_world.proofs.SoundLemmas.{sound_request, served, served_turn, served_turns, unserved, room_with_message, replied_turn}
+use Rattle.cas_world.specs.declared.call.Caller.{Caller}
+use Rattle.cas_world.specs.World.{view_of, IsWorld}
+use Rattle.cas_world.proofs.Parts.{seen_from, remembered_then}
+use Rattle.cas_cluster.specs.View.{View, meaning}
+use Rattle.cas_world.proofs.Turns.{turning, open_in, may_mark, has_room, holds, loses, place_in, desk_in, harm_kept, handles, handled_kept, told_caller, may_tell, IsRefused, refused, refused_step, refused_kept}
 use Rattle.cas_world.proofs.world.World.turn.Goals as goal
 
-pub serve-requires-clause-asked : goal.serve-requires-clause-asked
-serve-requires-clause-asked g c =
-    let first : c.self.inside.frames.items ≡ message.Request c.in-Some-Request.request ∷ c.pop_front.new.self.items =
-    rw c.in-Some-Request.field-0-is at c.in-Some-Request.ensures.items in
-    let s = sound_request (record { acceptors = c.self.inside.acceptors.items; desk = c.self.inside.desk; frames = c.self.inside.frames.items; marks = c.self.inside.record.marks }) c.self.inside.record.room c.in-Some-Request.request c.pop_front.new.self.items c.self.invariant.0 first in
-    let within : c.in-Some-Request.request.to - 1 < length c.self.inside.acceptors.items = slice_get_within _ _ _ s.found in
-    omega (arith, within, c.self.inside.acceptors.ok)
+-- src/turn.rt:43:27
+pub returns-in-Held-clause-ok : goal.returns-in-Held-clause-ok
+returns-in-Held-clause-ok g c =
+    let at = turning c.args.self.now c.self.inside.config.proposers c.self.inside.era c.self.inside.acceptors.items c.self.inside.desks.items c.self.inside.callers.items c.self.inside.flow c.self.inside.record c.args.proposer c.self.view_is c.self.invariant c.requires.proposer c.requires.waits in
+    subst (λ (v : View g.row.S.Denot g.row.V.Denot). StepTurn (meaning g.S.Shelf.contents g.S.Shelf.tells g.S.Shelf.may_leave g.V.Disk.tells g.V.Disk.may_leave) v c.args.proposer c.args.verdict v) c.self.view_is
+    (holds (meaning g.S.Shelf.contents g.S.Shelf.tells g.S.Shelf.may_leave g.V.Disk.tells g.V.Disk.may_leave) c.args.self.now c.self.inside.config.proposers c.self.inside.era c.self.inside.acceptors.items c.self.inside.desks.items c.self.inside.callers.items c.self.inside.flow c.self.inside.record c.args.proposer c.args.verdict at (sym c.falls.ensures ∙ c.in-Held.is))
 
-pub serve-requires-clause-round : goal.serve-requires-clause-round
-serve-requires-clause-round g c =
-    let first : c.self.inside.frames.items ≡ message.Request c.in-Some-Request.request ∷ c.pop_front.new.self.items =
-    rw c.in-Some-Request.field-0-is at c.in-Some-Request.ensures.items in
-    (sound_request (record { acceptors = c.self.inside.acceptors.items; desk = c.self.inside.desk; frames = c.self.inside.frames.items; marks = c.self.inside.record.marks }) c.self.inside.record.room
-    c.in-Some-Request.request c.pop_front.new.self.items c.self.invariant.0 first).of_round
+-- src/turn.rt:45:17
+pub lose-requires-clause-mark : goal.lose-requires-clause-mark
+lose-requires-clause-mark g c =
+    let at = turning c.args.self.now c.self.inside.config.proposers c.self.inside.era c.self.inside.acceptors.items c.self.inside.desks.items c.self.inside.callers.items c.self.inside.flow c.self.inside.record c.args.proposer c.self.view_is c.self.invariant c.requires.proposer c.requires.waits in
+    let is_open = open_in c.args.self.now c.self.inside.config.proposers c.self.inside.era c.self.inside.acceptors.items c.self.inside.desks.items c.self.inside.callers.items c.self.inside.flow c.self.inside.record c.args.proposer c.from-place.result c.index_mut.result.now at c.from-place.ensures c.index_mut.ensures.value in
+    may_mark c.self.inside.desks.items c.self.inside.flow c.args.proposer c.index_mut.result.now _ is_open
 
-pub serve-requires-clause-vote : goal.serve-requires-clause-vote
-serve-requires-clause-vote g c =
-    let first : c.self.inside.frames.items ≡ message.Request c.in-Some-Request.request ∷ c.pop_front.new.self.items =
-    rw c.in-Some-Request.field-0-is at c.in-Some-Request.ensures.items in
-    let s = sound_request (record { acceptors = c.self.inside.acceptors.items; desk = c.self.inside.desk; frames = c.self.inside.frames.items; marks = c.self.inside.record.marks }) c.self.inside.record.room c.in-Some-Request.request c.pop_front.new.self.items c.self.invariant.0 first in
-    rw s.found s.vote_fits
+-- src/turn.rt:54:29
+pub handle-done-requires-clause-room : goal.handle-done-requires-clause-room
+handle-done-requires-clause-room g c =
+    let at = turning c.args.self.now c.self.inside.config.proposers c.self.inside.era c.self.inside.acceptors.items c.self.inside.desks.items c.self.inside.callers.items c.self.inside.flow c.self.inside.record c.args.proposer c.self.view_is c.self.invariant c.requires.proposer c.requires.waits in
+    let is_open = open_in c.args.self.now c.self.inside.config.proposers c.self.inside.era c.self.inside.acceptors.items c.self.inside.desks.items c.self.inside.callers.items c.self.inside.flow c.self.inside.record c.args.proposer c.from-place.result c.index_mut-in-Handle-2.result.now at c.from-place.ensures c.index_mut-in-Handle-2.ensures.value in
+    has_room c.self.inside.desks.items c.self.inside.flow c.args.proposer c.index_mut-in-Handle-2.result.now _ c.args.verdict is_open (sym c.falls.ensures ∙ c.in-Handle.is)
 
+-- src/turn.rt:54:29
+pub handle-done-requires-clause-mark : goal.handle-done-requires-clause-mark
+handle-done-requires-clause-mark g c =
+    let at = turning c.args.self.now c.self.inside.config.proposers c.self.inside.era c.self.inside.acceptors.items c.self.inside.desks.items c.self.inside.callers.items c.self.inside.flow c.self.inside.record c.args.proposer c.self.view_is c.self.invariant c.requires.proposer c.requires.waits in
+    let is_open = open_in c.args.self.now c.self.inside.config.proposers c.self.inside.era c.self.inside.acceptors.items c.self.inside.desks.items c.self.inside.callers.items c.self.inside.flow c.self.inside.record c.args.proposer c.from-place.result c.index_mut-in-Handle-2.result.now at c.from-place.ensures c.index_mut-in-Handle-2.ensures.value in
+    may_mark c.self.inside.desks.items c.self.inside.flow c.args.proposer c.index_mut-in-Handle-2.result.now _ is_open
+
+-- src/turn.rt:52:17
 pub invariant_of-self : goal.invariant_of-self
 invariant_of-self g c =
-    let first : c.self.inside.frames.items ≡ message.Request c.in-Some-Request.request ∷ c.pop_front.new.self.items =
-    rw c.in-Some-Request.field-0-is at c.in-Some-Request.ensures.items in
-    let e = c.in_err-serve-in-Some-Request.ensures in (
-      unserved _ _ _ _ _ c.self.invariant.0 (room_with_message _ _ _ _ c.self.invariant.0 first)
-          e.err_acceptors (e.err_frames ∙ sym first) (ap (λ (b : Book). b.marks) e.err_record) (ap (λ (b : Book). b.room) e.err_record) e.err_desk,
-      c.self.invariant.1,
-      c.self.invariant.2,
-      kept_unserved (record { acceptors = c.self.inside.acceptors.items; desk = c.self.inside.desk; frames = c.self.inside.frames.items; marks = c.self.inside.record.marks }) _ _ _ _
-          c.self.invariant.0 c.self.invariant.3 first e.err_acceptors (e.err_frames ∙ sym first) (ap (λ (b : Book). b.marks) e.err_record) e.err_desk,
-    )
+    let at = turning c.args.self.now c.self.inside.config.proposers c.self.inside.era c.self.inside.acceptors.items c.self.inside.desks.items c.self.inside.callers.items c.self.inside.flow c.self.inside.record c.args.proposer c.self.view_is c.self.invariant c.requires.proposer c.requires.waits in
+    let is_open = open_in c.args.self.now c.self.inside.config.proposers c.self.inside.era c.self.inside.acceptors.items c.self.inside.desks.items c.self.inside.callers.items c.self.inside.flow c.self.inside.record c.args.proposer c.from-place.result c.index_mut.result.now at c.from-place.ensures c.index_mut.ensures.value in
+    let at_caller = place_in c.args.self.now c.self.inside.config.proposers c.self.inside.era c.self.inside.acceptors.items c.self.inside.desks.items c.self.inside.callers.items c.self.inside.flow c.self.inside.record c.args.proposer c.from-place.result c.index_mut.result.now at c.from-place.ensures c.index_mut.ensures.value in
+    let taken_so = loses (meaning g.S.Shelf.contents g.S.Shelf.tells g.S.Shelf.may_leave g.V.Disk.tells g.V.Disk.may_leave) c.args.self.now c.self.inside.config.proposers c.self.inside.era c.self.inside.acceptors.items c.self.inside.desks.items c.self.inside.callers.items c.self.inside.flow c.lose.new.flow c.self.inside.record c.lose.new.record c.args.proposer c.args.verdict c.index_mut.result.now c.lose.new.caller at_caller is_open
+    (sym c.falls.ensures ∙ c.in-Gone.is) c.lose.ensures.flow c.lose.ensures.harms in
+    subst (λ (n : ℕ). IsWorld (meaning g.S.Shelf.contents g.S.Shelf.tells g.S.Shelf.may_leave g.V.Disk.tells g.V.Disk.may_leave) (view_of c.self.inside.config.proposers c.self.inside.era c.self.inside.acceptors.items c.self.inside.desks.items (slice_set c.self.inside.callers.items n c.lose.new.caller) c.lose.new.flow c.lose.new.record) (slice_set c.self.inside.callers.items n c.lose.new.caller) c.lose.new.record.room) (sym c.from-place.ensures)
+    (harm_kept c.self.inside.config.proposers c.self.inside.era c.self.inside.acceptors.items c.self.inside.acceptors.items c.self.inside.desks.items c.self.inside.callers.items c.self.inside.flow c.lose.new.flow c.self.inside.record c.lose.new.record
+    c.args.proposer c.index_mut.result.now c.lose.new.caller _ false c.self.invariant at_caller is_open (c.lose.ensures.harms is_open.front is_open.waits)
+    (steps_are_safe (meaning g.S.Shelf.contents g.S.Shelf.tells g.S.Shelf.may_leave g.V.Disk.tells g.V.Disk.may_leave) _ (step.Turn c.args.proposer c.args.verdict) _ c.self.invariant.safe taken_so)
+    (remembered_then (meaning g.S.Shelf.contents g.S.Shelf.tells g.S.Shelf.may_leave g.V.Disk.tells g.V.Disk.may_leave) (step.Turn c.args.proposer c.args.verdict) taken_so c.self.invariant.remembered))
 
-pub invariant_of-self-in-Some-Request : goal.invariant_of-self-in-Some-Request
-invariant_of-self-in-Some-Request g c =
-    let first : c.self.inside.frames.items ≡ message.Request c.in-Some-Request.request ∷ c.pop_front.new.self.items =
-    rw c.in-Some-Request.field-0-is at c.in-Some-Request.ensures.items in
-    let s = sound_request (record { acceptors = c.self.inside.acceptors.items; desk = c.self.inside.desk; frames = c.self.inside.frames.items; marks = c.self.inside.record.marks }) c.self.inside.record.room c.in-Some-Request.request c.pop_front.new.self.items c.self.invariant.0 first in
-    let e = c.in_ok-serve-in-Some-Request.ensures in
-    let world : View = record { acceptors = c.self.inside.acceptors.items; desk = c.self.inside.desk; frames = c.self.inside.frames.items; marks = c.self.inside.record.marks } in
-    let after = served world _ _ _ s (record { acceptors = c.serve.new.acceptors.items; desk = c.serve.new.desk; frames = c.serve.new.frames.items; marks = c.serve.new.record.marks }) _ e.acceptors e.frames e.marks e.room e.desk in (
-      after.sound,
-      c.self.invariant.1,
-      c.self.invariant.2,
-      subst HasHistory (sym after.is) (history_request world _ _ s.before s.acceptor s.after c.self.invariant.3 c.self.invariant.0.numbered first s.at s.put),
-    )
+-- src/turn.rt:52:17
+pub returns-in-Gone-clause-ok : goal.returns-in-Gone-clause-ok
+returns-in-Gone-clause-ok g c =
+    let at = turning c.args.self.now c.self.inside.config.proposers c.self.inside.era c.self.inside.acceptors.items c.self.inside.desks.items c.self.inside.callers.items c.self.inside.flow c.self.inside.record c.args.proposer c.self.view_is c.self.invariant c.requires.proposer c.requires.waits in
+    let is_open = open_in c.args.self.now c.self.inside.config.proposers c.self.inside.era c.self.inside.acceptors.items c.self.inside.desks.items c.self.inside.callers.items c.self.inside.flow c.self.inside.record c.args.proposer c.from-place.result c.index_mut.result.now at c.from-place.ensures c.index_mut.ensures.value in
+    let at_caller = place_in c.args.self.now c.self.inside.config.proposers c.self.inside.era c.self.inside.acceptors.items c.self.inside.desks.items c.self.inside.callers.items c.self.inside.flow c.self.inside.record c.args.proposer c.from-place.result c.index_mut.result.now at c.from-place.ensures c.index_mut.ensures.value in
+    let taken_so = loses (meaning g.S.Shelf.contents g.S.Shelf.tells g.S.Shelf.may_leave g.V.Disk.tells g.V.Disk.may_leave) c.args.self.now c.self.inside.config.proposers c.self.inside.era c.self.inside.acceptors.items c.self.inside.desks.items c.self.inside.callers.items c.self.inside.flow c.lose.new.flow c.self.inside.record c.lose.new.record c.args.proposer c.args.verdict c.index_mut.result.now c.lose.new.caller at_caller is_open
+    (sym c.falls.ensures ∙ c.in-Gone.is) c.lose.ensures.flow c.lose.ensures.harms in
+    subst (λ (n : ℕ). StepTurn (meaning g.S.Shelf.contents g.S.Shelf.tells g.S.Shelf.may_leave g.V.Disk.tells g.V.Disk.may_leave) c.args.self.now c.args.proposer c.args.verdict (view_of c.self.inside.config.proposers c.self.inside.era c.self.inside.acceptors.items c.self.inside.desks.items (slice_set c.self.inside.callers.items n c.lose.new.caller) c.lose.new.flow c.lose.new.record)) (sym c.from-place.ensures)
+    (seen_from (meaning g.S.Shelf.contents g.S.Shelf.tells g.S.Shelf.may_leave g.V.Disk.tells g.V.Disk.may_leave) (step.Turn c.args.proposer c.args.verdict) _ c.self.view_is taken_so)
 
-pub invariant_of-self-in-Some-Reply : goal.invariant_of-self-in-Some-Reply
-invariant_of-self-in-Some-Reply g c =
-    let first : c.self.inside.frames.items ≡ message.Reply c.in-Some-Reply.reply ∷ c.pop_front.new.self.items =
-    rw c.in-Some-Reply.field-0-is at c.in-Some-Reply.ensures.items in
-    let world : View = record { acceptors = c.self.inside.acceptors.items; desk = c.self.inside.desk; frames = c.self.inside.frames.items; marks = c.self.inside.record.marks } in
-    let is : record { acceptors = c.self.inside.acceptors.items; desk = c.arrive.new.self; frames = c.pop_front.new.self.items; marks = c.self.inside.record.marks }
-    ≡ record world { desk = arrived world.desk c.in-Some-Reply.reply; frames = c.pop_front.new.self.items } = λ i. record { acceptors = world.acceptors; desk = c.arrive.ensures i; frames = c.pop_front.new.self.items; marks = world.marks } in (
-      replied_turn _ _ _ _ _ c.self.invariant.0 first refl refl refl c.arrive.ensures,
-      c.self.invariant.1,
-      c.self.invariant.2,
-      subst HasHistory (sym is) (history_reply world _ _ c.self.invariant.3 first),
-    )
+-- src/turn.rt:66:23
+pub invariant_of-self-in-Ok : goal.invariant_of-self-in-Ok
+invariant_of-self-in-Ok g c =
+    let at = turning c.args.self.now c.self.inside.config.proposers c.self.inside.era c.self.inside.acceptors.items c.self.inside.desks.items c.self.inside.callers.items c.self.inside.flow c.self.inside.record c.args.proposer c.self.view_is c.self.invariant c.requires.proposer c.requires.waits in
+    let is_open = open_in c.args.self.now c.self.inside.config.proposers c.self.inside.era c.self.inside.acceptors.items c.self.inside.desks.items c.self.inside.callers.items c.self.inside.flow c.self.inside.record c.args.proposer c.from-place.result c.index_mut-in-Handle-2.result.now at c.from-place.ensures c.index_mut-in-Handle-2.ensures.value in
+    let at_caller = place_in c.args.self.now c.self.inside.config.proposers c.self.inside.era c.self.inside.acceptors.items c.self.inside.desks.items c.self.inside.callers.items c.self.inside.flow c.self.inside.record c.args.proposer c.from-place.result c.index_mut-in-Handle-2.result.now at c.from-place.ensures c.index_mut-in-Handle-2.ensures.value in
+    let at_desk = desk_in c.args.self.now c.self.inside.config.proposers c.self.inside.era c.self.inside.acceptors.items c.self.inside.desks.items c.self.inside.callers.items c.self.inside.flow c.self.inside.record c.args.proposer c.from-place.result c.index_mut-in-Handle.result.now at c.from-place.ensures c.index_mut-in-Handle.ensures.value in
+    let handled = handles (meaning g.S.Shelf.contents g.S.Shelf.tells g.S.Shelf.may_leave g.V.Disk.tells g.V.Disk.may_leave) c.self.inside.config.proposers c.self.inside.era c.self.inside.acceptors.items c.handle-done.new.acceptors.items c.self.inside.desks.items c.index_mut-in-Handle.result.now c.handle-done.new.desk c.self.inside.callers.items c.self.inside.flow c.handle-done.new.flow c.self.inside.record c.handle-done.new.record c.args.proposer c.args.verdict c.index_mut-in-Handle-2.result.now c.handle-done.new.caller at_desk at_caller is_open (sym c.falls.ensures ∙ c.in-Handle.is) c.in-Ok.ensures.ok in
+    subst (λ (n : ℕ). IsWorld (meaning g.S.Shelf.contents g.S.Shelf.tells g.S.Shelf.may_leave g.V.Disk.tells g.V.Disk.may_leave) (view_of c.self.inside.config.proposers c.self.inside.era c.handle-done.new.acceptors.items (slice_set c.self.inside.desks.items n c.handle-done.new.desk) (slice_set c.self.inside.callers.items n c.handle-done.new.caller) c.handle-done.new.flow c.handle-done.new.record) (slice_set c.self.inside.callers.items n c.handle-done.new.caller) c.handle-done.new.record.room) (sym c.from-place.ensures)
+    (handled_kept (meaning g.S.Shelf.contents g.S.Shelf.tells g.S.Shelf.may_leave g.V.Disk.tells g.V.Disk.may_leave).shelves c.self.inside.config.proposers c.self.inside.era c.self.inside.acceptors.items c.handle-done.new.acceptors.items c.self.inside.desks.items c.index_mut-in-Handle.result.now c.handle-done.new.desk c.self.inside.callers.items c.self.inside.flow c.handle-done.new.flow c.self.inside.record c.handle-done.new.record c.args.proposer c.args.verdict c.index_mut-in-Handle-2.result.now c.handle-done.new.caller c.self.invariant at_desk at_caller is_open c.in-Ok.ensures.ok
+    (steps_are_safe (meaning g.S.Shelf.contents g.S.Shelf.tells g.S.Shelf.may_leave g.V.Disk.tells g.V.Disk.may_leave) _ (step.Turn c.args.proposer c.args.verdict) _ c.self.invariant.safe handled)
+    (remembered_then (meaning g.S.Shelf.contents g.S.Shelf.tells g.S.Shelf.may_leave g.V.Disk.tells g.V.Disk.may_leave) (step.Turn c.args.proposer c.args.verdict) handled c.self.invariant.remembered))
 
-pub returns-in_ok-serve-in-Some-Request-clause-ok : goal.returns-in_ok-serve-in-Some-Request-clause-ok
-returns-in_ok-serve-in-Some-Request-clause-ok g c =
-    let first : c.self.inside.frames.items ≡ message.Request c.in-Some-Request.request ∷ c.pop_front.new.self.items =
-    rw c.in-Some-Request.field-0-is at c.in-Some-Request.ensures.items in
-    let s = sound_request (record { acceptors = c.self.inside.acceptors.items; desk = c.self.inside.desk; frames = c.self.inside.frames.items; marks = c.self.inside.record.marks }) c.self.inside.record.room c.in-Some-Request.request c.pop_front.new.self.items c.self.invariant.0 first in
-    let e = c.in_ok-serve-in-Some-Request.ensures in
-    let world : View = record { acceptors = c.self.inside.acceptors.items; desk = c.self.inside.desk; frames = c.self.inside.frames.items; marks = c.self.inside.record.marks } in
-    served_turn world _ _ _ _ first s.found (served world _ _ _ s _ _ e.acceptors e.frames e.marks e.room e.desk).is ∙ ap after_turn c.self.view_is
+-- src/turn.rt:34:5
+pub returns-in-Ok-clause-ok : goal.returns-in-Ok-clause-ok
+returns-in-Ok-clause-ok g c =
+    let at = turning c.args.self.now c.self.inside.config.proposers c.self.inside.era c.self.inside.acceptors.items c.self.inside.desks.items c.self.inside.callers.items c.self.inside.flow c.self.inside.record c.args.proposer c.self.view_is c.self.invariant c.requires.proposer c.requires.waits in
+    let is_open = open_in c.args.self.now c.self.inside.config.proposers c.self.inside.era c.self.inside.acceptors.items c.self.inside.desks.items c.self.inside.callers.items c.self.inside.flow c.self.inside.record c.args.proposer c.from-place.result c.index_mut-in-Handle-2.result.now at c.from-place.ensures c.index_mut-in-Handle-2.ensures.value in
+    let at_caller = place_in c.args.self.now c.self.inside.config.proposers c.self.inside.era c.self.inside.acceptors.items c.self.inside.desks.items c.self.inside.callers.items c.self.inside.flow c.self.inside.record c.args.proposer c.from-place.result c.index_mut-in-Handle-2.result.now at c.from-place.ensures c.index_mut-in-Handle-2.ensures.value in
+    let at_desk = desk_in c.args.self.now c.self.inside.config.proposers c.self.inside.era c.self.inside.acceptors.items c.self.inside.desks.items c.self.inside.callers.items c.self.inside.flow c.self.inside.record c.args.proposer c.from-place.result c.index_mut-in-Handle.result.now at c.from-place.ensures c.index_mut-in-Handle.ensures.value in
+    let handled = handles (meaning g.S.Shelf.contents g.S.Shelf.tells g.S.Shelf.may_leave g.V.Disk.tells g.V.Disk.may_leave) c.self.inside.config.proposers c.self.inside.era c.self.inside.acceptors.items c.handle-done.new.acceptors.items c.self.inside.desks.items c.index_mut-in-Handle.result.now c.handle-done.new.desk c.self.inside.callers.items c.self.inside.flow c.handle-done.new.flow c.self.inside.record c.handle-done.new.record c.args.proposer c.args.verdict c.index_mut-in-Handle-2.result.now c.handle-done.new.caller at_desk at_caller is_open (sym c.falls.ensures ∙ c.in-Handle.is) c.in-Ok.ensures.ok in
+    subst (λ (n : ℕ). StepTurn (meaning g.S.Shelf.contents g.S.Shelf.tells g.S.Shelf.may_leave g.V.Disk.tells g.V.Disk.may_leave) c.args.self.now c.args.proposer c.args.verdict (view_of c.self.inside.config.proposers c.self.inside.era c.handle-done.new.acceptors.items (slice_set c.self.inside.desks.items n c.handle-done.new.desk) (slice_set c.self.inside.callers.items n c.handle-done.new.caller) c.handle-done.new.flow c.handle-done.new.record)) (sym c.from-place.ensures)
+    (seen_from (meaning g.S.Shelf.contents g.S.Shelf.tells g.S.Shelf.may_leave g.V.Disk.tells g.V.Disk.may_leave) (step.Turn c.args.proposer c.args.verdict) _ c.self.view_is handled)
 
-pub returns-in_ok-serve-in-Some-Request-clause-turns : goal.returns-in_ok-serve-in-Some-Request-clause-turns
-returns-in_ok-serve-in-Some-Request-clause-turns g c =
-    let first : c.self.inside.frames.items ≡ message.Request c.in-Some-Request.request ∷ c.pop_front.new.self.items =
-    rw c.in-Some-Request.field-0-is at c.in-Some-Request.ensures.items in
-    let s = sound_request (record { acceptors = c.self.inside.acceptors.items; desk = c.self.inside.desk; frames = c.self.inside.frames.items; marks = c.self.inside.record.marks }) c.self.inside.record.room c.in-Some-Request.request c.pop_front.new.self.items c.self.invariant.0 first in
-    rw (← c.self.view_is) (served_turns _ _ _ _ _ first (rw s.found at c.in_ok-serve-in-Some-Request.ensures.frames))
+-- src/turn.rt:68:17
+pub tell_no_memory-requires : goal.tell_no_memory-requires
+tell_no_memory-requires g c =
+    let at = turning c.args.self.now c.self.inside.config.proposers c.self.inside.era c.self.inside.acceptors.items c.self.inside.desks.items c.self.inside.callers.items c.self.inside.flow c.self.inside.record c.args.proposer c.self.view_is c.self.invariant c.requires.proposer c.requires.waits in
+    let is_open = open_in c.args.self.now c.self.inside.config.proposers c.self.inside.era c.self.inside.acceptors.items c.self.inside.desks.items c.self.inside.callers.items c.self.inside.flow c.self.inside.record c.args.proposer c.from-place.result c.index_mut-in-Handle-2.result.now at c.from-place.ensures c.index_mut-in-Handle-2.ensures.value in
+    let at_caller = place_in c.args.self.now c.self.inside.config.proposers c.self.inside.era c.self.inside.acceptors.items c.self.inside.desks.items c.self.inside.callers.items c.self.inside.flow c.self.inside.record c.args.proposer c.from-place.result c.index_mut-in-Handle-2.result.now at c.from-place.ensures c.index_mut-in-Handle-2.ensures.value in
+    let at_desk = desk_in c.args.self.now c.self.inside.config.proposers c.self.inside.era c.self.inside.acceptors.items c.self.inside.desks.items c.self.inside.callers.items c.self.inside.flow c.self.inside.record c.args.proposer c.from-place.result c.index_mut-in-Handle.result.now at c.from-place.ensures c.index_mut-in-Handle.ensures.value in
+    let same_who = told_caller c.self.inside.callers.items c.from-place.result c.args.proposer c.index_mut-in-Handle-2.result.now c.handle-done.new.caller c.index_mut-in-Err.result.now at_caller c.from-place.ensures c.in-Err.ensures.same.1 c.index_mut-in-Err.ensures.value in
+    may_tell c.self.inside.desks.items c.self.inside.flow c.args.proposer c.index_mut-in-Handle-2.result.now c.index_mut-in-Err.result.now _ is_open same_who
+
+-- src/turn.rt:69:17
+pub invariant_of-self-in-Err : goal.invariant_of-self-in-Err
+invariant_of-self-in-Err g c =
+    let at = turning c.args.self.now c.self.inside.config.proposers c.self.inside.era c.self.inside.acceptors.items c.self.inside.desks.items c.self.inside.callers.items c.self.inside.flow c.self.inside.record c.args.proposer c.self.view_is c.self.invariant c.requires.proposer c.requires.waits in
+    let is_open = open_in c.args.self.now c.self.inside.config.proposers c.self.inside.era c.self.inside.acceptors.items c.self.inside.desks.items c.self.inside.callers.items c.self.inside.flow c.self.inside.record c.args.proposer c.from-place.result c.index_mut-in-Handle-2.result.now at c.from-place.ensures c.index_mut-in-Handle-2.ensures.value in
+    let at_caller = place_in c.args.self.now c.self.inside.config.proposers c.self.inside.era c.self.inside.acceptors.items c.self.inside.desks.items c.self.inside.callers.items c.self.inside.flow c.self.inside.record c.args.proposer c.from-place.result c.index_mut-in-Handle-2.result.now at c.from-place.ensures c.index_mut-in-Handle-2.ensures.value in
+    let at_desk = desk_in c.args.self.now c.self.inside.config.proposers c.self.inside.era c.self.inside.acceptors.items c.self.inside.desks.items c.self.inside.callers.items c.self.inside.flow c.self.inside.record c.args.proposer c.from-place.result c.index_mut-in-Handle.result.now at c.from-place.ensures c.index_mut-in-Handle.ensures.value in
+    let same_who = told_caller c.self.inside.callers.items c.from-place.result c.args.proposer c.index_mut-in-Handle-2.result.now c.handle-done.new.caller c.index_mut-in-Err.result.now at_caller c.from-place.ensures c.in-Err.ensures.same.1 c.index_mut-in-Err.ensures.value in
+    let by : IsRefused c.self.inside.desks.items c.index_mut-in-Handle.result.now c.handle-done.new.desk c.self.inside.callers.items c.self.inside.flow c.handle-done.new.flow c.self.inside.record c.handle-done.new.record c.args.proposer c.from-place.result c.index_mut-in-Handle-2.result.now c.handle-done.new.caller c.index_mut-in-Err.result.now c.tell_no_memory.new.caller = record {
+      at_desk = at_desk;
+      at_caller = at_caller;
+      is_open = is_open;
+      place = c.from-place.ensures;
+      same_who = same_who;
+      same_desk = c.in-Err.ensures.same.0;
+      same_caller = c.in-Err.ensures.same.1;
+      same_flow = c.in-Err.ensures.same.2;
+      same_book = c.in-Err.ensures.same.3;
+      tells = c.tell_no_memory.ensures;
+    } in
+    let step_is = refused_step (meaning g.S.Shelf.contents g.S.Shelf.tells g.S.Shelf.may_leave g.V.Disk.tells g.V.Disk.may_leave) c.self.inside.config.proposers c.self.inside.era c.self.inside.acceptors.items c.handle-done.new.acceptors.items c.self.inside.desks.items c.index_mut-in-Handle.result.now c.handle-done.new.desk c.self.inside.callers.items c.self.inside.flow c.handle-done.new.flow c.self.inside.record c.handle-done.new.record c.args.proposer c.from-place.result c.index_mut-in-Handle-2.result.now c.handle-done.new.caller c.index_mut-in-Err.result.now c.tell_no_memory.new.caller by c.in-Err.ensures.err in
+    refused (λ (ds : List (DeskView g.row.V.Denot)) (cs : List Caller) (f : FlowView) (b : Book). IsWorld (meaning g.S.Shelf.contents g.S.Shelf.tells g.S.Shelf.may_leave g.V.Disk.tells g.V.Disk.may_leave) (view_of c.self.inside.config.proposers c.self.inside.era c.handle-done.new.acceptors.items ds cs f b) cs b.room) c.self.inside.desks.items c.index_mut-in-Handle.result.now c.handle-done.new.desk c.self.inside.callers.items c.self.inside.flow c.handle-done.new.flow c.self.inside.record c.handle-done.new.record c.args.proposer c.from-place.result c.index_mut-in-Handle-2.result.now c.handle-done.new.caller c.index_mut-in-Err.result.now c.tell_no_memory.new.caller by
+    (refused_kept (meaning g.S.Shelf.contents g.S.Shelf.tells g.S.Shelf.may_leave g.V.Disk.tells g.V.Disk.may_leave) c.self.inside.config.proposers c.self.inside.era c.self.inside.acceptors.items c.handle-done.new.acceptors.items c.self.inside.desks.items c.index_mut-in-Handle.result.now c.handle-done.new.desk c.self.inside.callers.items c.self.inside.flow c.handle-done.new.flow c.self.inside.record c.handle-done.new.record c.args.proposer c.from-place.result c.index_mut-in-Handle-2.result.now c.handle-done.new.caller c.index_mut-in-Err.result.now c.tell_no_memory.new.caller c.self.invariant by
+    (steps_are_safe (meaning g.S.Shelf.contents g.S.Shelf.tells g.S.Shelf.may_leave g.V.Disk.tells g.V.Disk.may_leave) _ (step.RefuseTurn c.args.proposer) _ c.self.invariant.safe step_is)
+    (remembered_then (meaning g.S.Shelf.contents g.S.Shelf.tells g.S.Shelf.may_leave g.V.Disk.tells g.V.Disk.may_leave) (step.RefuseTurn c.args.proposer) step_is c.self.invariant.remembered))
+
+-- src/turn.rt:34:5
+pub returns-in-Err-clause-err : goal.returns-in-Err-clause-err
+returns-in-Err-clause-err g c =
+    let at = turning c.args.self.now c.self.inside.config.proposers c.self.inside.era c.self.inside.acceptors.items c.self.inside.desks.items c.self.inside.callers.items c.self.inside.flow c.self.inside.record c.args.proposer c.self.view_is c.self.invariant c.requires.proposer c.requires.waits in
+    let is_open = open_in c.args.self.now c.self.inside.config.proposers c.self.inside.era c.self.inside.acceptors.items c.self.inside.desks.items c.self.inside.callers.items c.self.inside.flow c.self.inside.record c.args.proposer c.from-place.result c.index_mut-in-Handle-2.result.now at c.from-place.ensures c.index_mut-in-Handle-2.ensures.value in
+    let at_caller = place_in c.args.self.now c.self.inside.config.proposers c.self.inside.era c.self.inside.acceptors.items c.self.inside.desks.items c.self.inside.callers.items c.self.inside.flow c.self.inside.record c.args.proposer c.from-place.result c.index_mut-in-Handle-2.result.now at c.from-place.ensures c.index_mut-in-Handle-2.ensures.value in
+    let at_desk = desk_in c.args.self.now c.self.inside.config.proposers c.self.inside.era c.self.inside.acceptors.items c.self.inside.desks.items c.self.inside.callers.items c.self.inside.flow c.self.inside.record c.args.proposer c.from-place.result c.index_mut-in-Handle.result.now at c.from-place.ensures c.index_mut-in-Handle.ensures.value in
+    let same_who = told_caller c.self.inside.callers.items c.from-place.result c.args.proposer c.index_mut-in-Handle-2.result.now c.handle-done.new.caller c.index_mut-in-Err.result.now at_caller c.from-place.ensures c.in-Err.ensures.same.1 c.index_mut-in-Err.ensures.value in
+    let by : IsRefused c.self.inside.desks.items c.index_mut-in-Handle.result.now c.handle-done.new.desk c.self.inside.callers.items c.self.inside.flow c.handle-done.new.flow c.self.inside.record c.handle-done.new.record c.args.proposer c.from-place.result c.index_mut-in-Handle-2.result.now c.handle-done.new.caller c.index_mut-in-Err.result.now c.tell_no_memory.new.caller = record {
+      at_desk = at_desk;
+      at_caller = at_caller;
+      is_open = is_open;
+      place = c.from-place.ensures;
+      same_who = same_who;
+      same_desk = c.in-Err.ensures.same.0;
+      same_caller = c.in-Err.ensures.same.1;
+      same_flow = c.in-Err.ensures.same.2;
+      same_book = c.in-Err.ensures.same.3;
+      tells = c.tell_no_memory.ensures;
+    } in
+    let step_is = refused_step (meaning g.S.Shelf.contents g.S.Shelf.tells g.S.Shelf.may_leave g.V.Disk.tells g.V.Disk.may_leave) c.self.inside.config.proposers c.self.inside.era c.self.inside.acceptors.items c.handle-done.new.acceptors.items c.self.inside.desks.items c.index_mut-in-Handle.result.now c.handle-done.new.desk c.self.inside.callers.items c.self.inside.flow c.handle-done.new.flow c.self.inside.record c.handle-done.new.record c.args.proposer c.from-place.result c.index_mut-in-Handle-2.result.now c.handle-done.new.caller c.index_mut-in-Err.result.now c.tell_no_memory.new.caller by c.in-Err.ensures.err in
+    refused (λ (ds : List (DeskView g.row.V.Denot)) (cs : List Caller) (f : FlowView) (b : Book). StepRefuseTurn (meaning g.S.Shelf.contents g.S.Shelf.tells g.S.Shelf.may_leave g.V.Disk.tells g.V.Disk.may_leave) c.args.self.now c.args.proposer (view_of c.self.inside.config.proposers c.self.inside.era c.handle-done.new.acceptors.items ds cs f b)) c.self.inside.desks.items c.index_mut-in-Handle.result.now c.handle-done.new.desk c.self.inside.callers.items c.self.inside.flow c.handle-done.new.flow c.self.inside.record c.handle-done.new.record c.args.proposer c.from-place.result c.index_mut-in-Handle-2.result.now c.handle-done.new.caller c.index_mut-in-Err.result.now c.tell_no_memory.new.caller by
+    (seen_from (meaning g.S.Shelf.contents g.S.Shelf.tells g.S.Shelf.may_leave g.V.Disk.tells g.V.Disk.may_leave) (step.RefuseTurn c.args.proposer) _ c.self.view_is step_is)

@@ -1,0 +1,308 @@
+-- Rounds that begin and propose at a desk, and what is lost with the memory.
+use Rattle.std.proofs.Common.{◌≡◌, ◌⊎◌, ◌+◌, ◌≤◌, ℕ, Bool, true, false, not, if◌then◌else◌, List, refl, sym, ap, subst, ◌∙◌, arith, inl, inr}
+use Rattle.std.specs.Prelude.{Option, Some, None, is_none, nat_lt, IsTrue}
+use Rattle.cas_base.proofs.Bools.{and_right}
+use Rattle.cas_proposer.proofs.DeskLemmas.{without_absent}
+use Rattle.cas_ballot.specs.declared.ballot.Ballot.{Ballot}
+use Rattle.cas_ballot.specs.Ballot.{FitsBallot}
+use Rattle.cas_cache.specs.declared.ready.Ready.{Ready}
+use Rattle.cas_cache.specs.Entries.{without}
+use Rattle.cas_disk.specs.Disk.{LeavesOnly}
+use Rattle.cas_vault.specs.declared.kept.Kept.{Kept}
+use Rattle.cas_vault.specs.declared.vault.Vault.{Vault}
+use Rattle.cas_vault.specs.Vault.{disk_of, counter_of, kept_of, kept_to_draw, KeptOn, IsBeforeOrAfter, Stands, IsPast}
+use Rattle.cas_vault.proofs.Keeping.{same_kept}
+use Rattle.cas_proposer.specs.Desk.{DeskView, Draws, ShowsTheSame, GoesDown, cache_after, cache_without, counter_after, counter_without, may_ride, with_ride}
+use Rattle.cas_proposer.specs.Round.{is_preparing}
+use Rattle.cas_proposer.specs.declared.round.Round.{Round}
+use Rattle.cas_cluster.specs.StepDesks.{GoesOn, HasDrawn, HasKept, MayHaveDrawn, FailsToDraw, LosesMemory}
+use Rattle.cas_cluster.specs.View.{DiskMeaning}
+use Rattle.cas_world.specs.Proposing.{disks, RidesOn, ProposesOn, FailsToPropose, proposing_of}
+use Rattle.cas_cache.specs.Entries.{promise_at}
+use Rattle.cas_proposer.specs.Desk.{IsOpened}
+use Rattle.cas_record.specs.declared.answer.Answer.{Answer}
+use Rattle.cas_record.specs.declared.answer.Answer.TheVariants as answer
+use Rattle.cas_change.specs.Outcome.{outcome_of}
+use Rattle.cas_change.specs.declared.program.Clause.{Clause}
+use Rattle.cas_flow.specs.Flow.{FlowView}
+use Rattle.cas_quorum.specs.declared.era.Era.{Era}
+use Rattle.cas_proposer.specs.declared.began.Began.TheVariants as began
+use Rattle.cas_world.specs.declared.proposal.Author.{Author}
+use Rattle.cas_world.specs.declared.proposal.Proposing.{Proposing}
+use Rattle.cas_world.specs.Beginning.{FailsToOpen, ProposesBy}
+
+-- ---- what a draw keeps
+one_era : (b : Bool) (x y : Kept) (era : ℕ) → x.era ≡ era → y.era ≡ era → (if b then x else y).era ≡ era
+one_era true x y era a b = a
+one_era false x y era a b = b
+
+pub draw_era : (counter : ℕ) (kept : Kept) → (kept_to_draw counter kept).era ≡ kept.era
+draw_era counter kept = one_era (nat_lt kept.bound (counter + 1)) _ kept kept.era refl refl
+
+era_on : (kept before : Kept) (counter : ℕ) (c : List ℕ) → KeptOn kept c → IsBeforeOrAfter before (kept_to_draw counter before) c → kept.era ≡ before.era
+era_on kept before counter c on (inl b) = ap (λ (k : Kept). k.era) (same_kept kept before c on b)
+era_on kept before counter c on (inr a) = ap (λ (k : Kept). k.era) (same_kept kept (kept_to_draw counter before) c on a) ∙ draw_era counter before
+
+none_there : (ride : Option Ballot) → is_none ride ≡ true → ride ≡ None
+none_there None none = refl
+none_there (Some b) none = let no : false ≡ true = none in absurd (cc)
+
+-- the round with no ballot that rides is as it is
+no_ride : (round : Round) → IsTrue (may_ride (Some round)) → Some round ≡ Some (record round { ride = None })
+no_ride round may = ap (λ (r : Option Ballot). Some (record round { ride = r })) (none_there round.ride (and_right (not (is_preparing round.phase)) (is_none round.ride) may))
+
+module _ {V : Type 0} (tells : Type 0) (may_leave : V → List ℕ → Type 0) where
+  -- a round's end keeps its vault's disk
+  pub goes_on_still : (old new : Vault V) → disk_of new ≡ disk_of old → kept_of new ≡ kept_of old → ((n : ℕ) → IsPast may_leave n old → IsPast may_leave n new) → GoesOn (disks tells may_leave) old new
+  goes_on_still old new same_disk same_kept_of past = record {
+    still_past = λ t. past;
+    era = λ t era was. record {
+      kept = ap (λ (k : Kept). k.era) same_kept_of ∙ was.kept;
+      left = λ c kept left on. was.left c kept (subst (λ (d : V). may_leave d c) same_disk left) on;
+    };
+  }
+
+  goes_on_same : (old : Vault V) → GoesOn (disks tells may_leave) old old
+  goes_on_same old = record { still_past = λ t n was. was; era = λ t era was. was }
+
+  -- no memory was found once a ballot was drawn or not, and the round is ended
+  pub loses_after : (old mid new : DeskView V) (round : Round) (ride rides : Option Ballot) → old.round ≡ Some round → MayHaveDrawn (disks tells may_leave) old.id old.vault mid.vault ride
+      → mid ≡ record old { vault = mid.vault; round = Some (record round { ride = rides }) }
+      → ((r : Round) → mid.round ≡ Some r → new ≡ record mid { vault = new.vault; cache = cache_after r None mid.cache; round = None })
+      → counter_of new.vault ≡ counter_without mid.round (counter_of mid.vault) → kept_of new.vault ≡ kept_of mid.vault → disk_of new.vault ≡ disk_of mid.vault
+      → ((n : ℕ) → IsPast may_leave n mid.vault → IsPast may_leave n new.vault) → LosesMemory (disks tells may_leave) round.key old new ride
+  loses_after old mid new round ride rides is drawn at ends counted same_kept_of same_disk past =
+      let riding : mid.round ≡ Some (record round { ride = rides }) = ap (λ (d : DeskView V). d.round) at in
+      let ended : new ≡ record mid { vault = new.vault; cache = without round.key mid.cache; round = None } = ends (record round { ride = rides }) riding in
+      let from : new ≡ record old { vault = new.vault; cache = without round.key mid.cache; round = None } =
+      ended ∙ ap (λ (d : DeskView V). record d { vault = new.vault; cache = without round.key mid.cache; round = None }) at in
+      let cache : new.cache ≡ without round.key mid.cache = ap (λ (d : DeskView V). d.cache) from in record {
+        desk = from ∙ ap (λ (ready : List (List ℕ × Ready)). record old { vault = new.vault; cache = ready; round = None }) (sym cache);
+        cache = inr (cache ∙ ap (λ (d : DeskView V). without round.key d.cache) at);
+        middle = mid.vault;
+        drawn = drawn;
+        counter = counted ∙ (ap (λ (r : Option Round). counter_without r (counter_of mid.vault)) riding ∙ sym (ap (λ (r : Option Round). counter_without r (counter_of mid.vault)) is));
+        kept = same_kept_of;
+        goes_on = goes_on_still mid.vault new.vault same_disk same_kept_of past;
+      }
+
+  module _ (seen : V → List ℕ) (moment : V → ℕ) (left_since : V → ℕ → List ℕ → Type 0) (counts_now : (disk : V) (t : ℕ) (c : List ℕ) → tells → t ≤ moment disk → may_leave disk c → left_since disk t c) where
+    -- a draw keeps the era, wherever it stops
+    pub goes_on : (old new : Vault V) → (tells → (n : ℕ) → IsPast may_leave n old → IsPast may_leave n new)
+        → (tells → LeavesOnly moment left_since (disk_of old) (disk_of new) (IsBeforeOrAfter (kept_of old) (kept_to_draw (counter_of old) (kept_of old)))) → (kept_of new).era ≡ (kept_of old).era
+        → GoesOn (disks tells may_leave) old new
+    goes_on old new past moments same = record {
+      still_past = past;
+      era = λ t era was. record {
+        kept = same ∙ was.kept;
+        left = λ c kept left on. era_on kept (kept_of old) (counter_of old) c on ((moments t).each c (counts_now (disk_of new) (moment (disk_of old)) c t (moments t).later left)) ∙ was.kept;
+      };
+    }
+
+    rides_fits : (old new : DeskView V) (ballot : Ballot) → old.id ≤ 16 → Draws old.id old.vault new.vault ballot → Stands tells seen may_leave new.vault → FitsBallot ballot
+    rides_fits old new ballot few draws stands =
+        let counter : ballot.counter ≡ counter_of old.vault + 1 = ap (λ (b : Ballot). b.counter) draws.next in
+        let proposer : ballot.proposer ≡ old.id = ap (λ (b : Ballot). b.proposer) draws.next in record {
+          counter = omega (arith, counter, draws.counter, stands.counter);
+          proposer = omega (arith, proposer, few);
+        }
+
+    -- what a ride tells
+    pub rides_by : (old new : DeskView V) (round : Round) (ride : Option Ballot) → old.round ≡ Some round → IsTrue (may_ride old.round) → old.down ≡ false → old.id ≤ 16 → (ride ≡ None → new ≡ old)
+        → ((b : Ballot) → ride ≡ Some b → Draws old.id old.vault new.vault b) → ((b : Ballot) → ride ≡ Some b → new ≡ record old { vault = new.vault; round = with_ride old.round b })
+        → (tells → (b : Ballot) → ride ≡ Some b → IsPast may_leave b.counter new.vault) → (tells → (n : ℕ) → IsPast may_leave n old.vault → IsPast may_leave n new.vault)
+        → (tells → LeavesOnly moment left_since (disk_of old.vault) (disk_of new.vault) (IsBeforeOrAfter (kept_of old.vault) (kept_to_draw (counter_of old.vault) (kept_of old.vault))))
+        → (new.down ≡ false → Stands tells seen may_leave new.vault) → RidesOn (disks tells may_leave) round old new ride
+    rides_by old new round None is may up few same draws at past still moments stands =
+        subst (λ (d : DeskView V). RidesOn (disks tells may_leave) round old d None) (sym (same refl)) (record {
+          drawn = record { shows = record { counter = refl; kept = refl }; goes_on = goes_on_same old.vault };
+          desk = ap (λ (r : Option Round). record old { round = r }) (is ∙ no_ride round (subst (λ (r : Option Round). IsTrue (may_ride r)) is may));
+          fits = tt;
+        })
+    rides_by old new round (Some b) is may up few same draws at past still moments stands =
+        let drew : Draws old.id old.vault new.vault b = draws b refl in
+        let fits : FitsBallot b = rides_fits old new b few drew (stands (ap (λ (d : DeskView V). d.down) (at b refl) ∙ up)) in record {
+          drawn = record {
+            draws = drew;
+            fits = fits;
+            past = λ t. past t b refl;
+            goes_on = goes_on old.vault new.vault still moments (ap (λ (k : Kept). k.era) drew.kept ∙ draw_era (counter_of old.vault) (kept_of old.vault));
+          };
+          desk = at b refl ∙ ap (λ (r : Option Round). record old { vault = new.vault; round = with_ride r b }) is;
+          fits = fits;
+        }
+
+    -- the vault failed in a draw
+    pub fails_by : (old new : DeskView V) (round : Round) → old.round ≡ Some round → GoesDown old new → (tells → (n : ℕ) → IsPast may_leave n old.vault → IsPast may_leave n new.vault)
+        → (tells → LeavesOnly moment left_since (disk_of old.vault) (disk_of new.vault) (IsBeforeOrAfter (kept_of old.vault) (kept_to_draw (counter_of old.vault) (kept_of old.vault))))
+        → FailsToDraw (disks tells may_leave) round.key old new
+    fails_by old new round is goes still moments =
+        let cache : new.cache ≡ cache_without old.round old.cache = ap (λ (d : DeskView V). d.cache) goes.desk in record {
+          desk = goes.desk ∙ ap (λ (ready : List (List ℕ × Ready)). record old { vault = new.vault; cache = ready; round = None; down = true }) (sym cache);
+          cache = inr (cache ∙ ap (λ (r : Option Round). cache_without r old.cache) is);
+          counter = goes.counter;
+          kept = goes.kept;
+          goes_on = goes_on old.vault new.vault still moments (ap (λ (k : Kept). k.era) goes.kept);
+        }
+
+    -- no memory was found for a draw, and the round is ended
+    pub loses_by : (old mid new : DeskView V) (round : Round) → old.round ≡ Some round → mid ≡ record old { vault = mid.vault } → ShowsTheSame old.vault mid.vault
+        → (tells → (n : ℕ) → IsPast may_leave n old.vault → IsPast may_leave n mid.vault)
+        → (tells → LeavesOnly moment left_since (disk_of old.vault) (disk_of mid.vault) (IsBeforeOrAfter (kept_of old.vault) (kept_to_draw (counter_of old.vault) (kept_of old.vault))))
+        → ((r : Round) → mid.round ≡ Some r → new ≡ record mid { vault = new.vault; cache = cache_after r None mid.cache; round = None })
+        → counter_of new.vault ≡ counter_without mid.round (counter_of mid.vault) → kept_of new.vault ≡ kept_of mid.vault → disk_of new.vault ≡ disk_of mid.vault
+        → ((n : ℕ) → IsPast may_leave n mid.vault → IsPast may_leave n new.vault) → LosesMemory (disks tells may_leave) round.key old new None
+    loses_by old mid new round is at shows still moments ends counted same_kept_of same_disk past =
+        loses_after old mid new round None round.ride is
+        (record { shows = shows; goes_on = goes_on old.vault mid.vault still moments (ap (λ (k : Kept). k.era) shows.kept) })
+        (at ∙ ap (λ (r : Option Round). record old { vault = mid.vault; round = r }) is) ends counted same_kept_of same_disk past
+
+-- ---- a promise that is used up
+pub without_twice : (key : List ℕ) (cache : List (List ℕ × Ready)) → promise_at key (without key cache) ≡ None → without key (without key cache) ≡ without key cache
+without_twice key cache none = without_absent key (without key cache) none
+
+-- where a desk's promise of the key is gone, so it is from those that it had
+pub gone_from : {V : Type 0} (key : List ℕ) (old mid : DeskView V) → mid ≡ record old { vault = mid.vault; cache = without key old.cache; round = mid.round } → promise_at key mid.cache ≡ None → promise_at key (without key old.cache) ≡ None
+gone_from {V} key old mid at none = ap (promise_at key) (sym (ap (λ (d : DeskView V). d.cache) at)) ∙ none
+
+-- a desk that begins a round stays up
+pub up_from : {V : Type 0} (key : List ℕ) (old mid : DeskView V) → mid ≡ record old { vault = mid.vault; cache = without key old.cache; round = mid.round } → old.down ≡ false → mid.down ≡ false
+up_from {V} key old mid at up = ap (λ (d : DeskView V). d.down) at ∙ up
+
+-- ---- a round that ends as soon as it begins
+-- what becomes of a cache of which a promise was used up, where its round ends
+cache_used : (key : List ℕ) (of_round : List ℕ) (old new : List (List ℕ × Ready)) → of_round ≡ key → promise_at key (without key old) ≡ None → (new ≡ without key old) ⊎ (new ≡ without of_round (without key old)) → (new ≡ old) ⊎ (new ≡ without key old)
+cache_used key of_round old new same one (inl stays) = inr stays
+cache_used key of_round old new same one (inr out) = inr (out ∙ (ap (λ (k : List ℕ). without k (without key old)) same ∙ without_twice key old one))
+
+-- the counter after the end of a round that met nothing
+not_met : (old : Option Round) (round : Round) (counter : ℕ) → old ≡ None → round.met ≡ None → counter_without (Some round) counter ≡ counter_without old counter
+not_met old round counter none met = ap (λ (b : Option Ballot). counter_after counter b) met ∙ sym (ap (λ (r : Option Round). counter_without r counter) none)
+
+module _ {V : Type 0} (m : DiskMeaning V) (key : List ℕ) (old new : DeskView V) (round : Round) (none : old.round ≡ None) (same : round.key ≡ key) (met : round.met ≡ None) (one : promise_at key (without key old.cache) ≡ None) (up : old.down ≡ false) where
+  -- the round was to propose by the promise that it used up
+  pub failed_at_once : (told : Answer) → FailsToPropose m round.key (record old { cache = without key old.cache; round = Some round }) new told → FailsToOpen m key old new told
+  failed_at_once answer.VaultFault by = (
+    up,
+    record {
+      desk = by.desk;
+      cache = cache_used key round.key old.cache new.cache same one by.cache;
+      counter = by.counter ∙ not_met old.round round (counter_of old.vault) none met;
+      kept = by.kept;
+      goes_on = by.goes_on;
+    },
+  )
+  failed_at_once (answer.NoMemory proposed) by = (
+    by.0,
+    up,
+    by.1,
+    record {
+      desk = by.2.desk;
+      cache = cache_used key round.key old.cache new.cache same one by.2.cache;
+      middle = by.2.middle;
+      drawn = by.2.drawn;
+      counter = by.2.counter ∙ not_met old.round round (counter_of by.2.middle) none met;
+      kept = by.2.kept;
+      goes_on = by.2.goes_on;
+    },
+  )
+  failed_at_once (answer.Done _ _ _) by = elim by [ ]
+  failed_at_once (answer.Conflict _) by = elim by [ ]
+  failed_at_once (answer.Aged _) by = elim by [ ]
+  failed_at_once (answer.Full _) by = elim by [ ]
+  failed_at_once (answer.Short _ _) by = elim by [ ]
+  failed_at_once (answer.Moved _) by = elim by [ ]
+  failed_at_once answer.Crashed by = elim by [ ]
+  failed_at_once (answer.Unsettled _) by = elim by [ ]
+  failed_at_once answer.Down by = elim by [ ]
+  failed_at_once answer.Spent by = elim by [ ]
+  failed_at_once answer.RecordFull by = elim by [ ]
+
+-- the desk whose round begins by a promise
+pub accepting_desk : {V : Type 0} (old mid : DeskView V) (key : List ℕ) (round : Round) → mid ≡ record old { vault = mid.vault; cache = without key old.cache; round = mid.round } → mid.vault ≡ old.vault → mid.round ≡ Some round
+    → mid ≡ record old { cache = without key old.cache; round = Some round }
+accepting_desk {V} old mid key round at same is = at ∙ (λ i. record old { vault = same i; cache = without key old.cache; round = is i })
+
+pub proposed_at_once : {V : Type 0} (m : DiskMeaning V) (era : Era) (key : List ℕ) (program : List Clause) (author : Author) (old new : DeskView V) (before after : FlowView) (proposing : Proposing) (ready : Ready) (round : Round)
+    → old.down ≡ false → old.round ≡ None → promise_at key old.cache ≡ Some ready → IsOpened key era (began.Accept ready) round → proposing ≡ proposing_of author key era.number program ready
+    → ProposesOn m round (record old { cache = without key old.cache; round = Some round }) new author.caller key era (outcome_of program ready.state).state ready.ballot before after
+    → ProposesBy m era key program author old new before after proposing
+proposed_at_once {V} m era key program author old new before after proposing ready round up none promise opened made on = record {
+  up = up;
+  ready = ready;
+  ride = on.ride;
+  round = round;
+  begins = record { none_open = none; promise = promise; drawn = on.rides.drawn; opened = opened; desk = on.rides.desk };
+  made = made;
+  sends = on.sends;
+}
+
+-- the desk whose round begins at a ballot that was drawn
+pub preparing_desk : {V : Type 0} (old mid : DeskView V) (key : List ℕ) (round : Round) → mid ≡ record old { vault = mid.vault; cache = without key old.cache; round = mid.round } → mid.round ≡ Some round
+    → mid ≡ record old { vault = mid.vault; cache = without key old.cache; round = Some round }
+preparing_desk {V} old mid key round at is = at ∙ ap (λ (r : Option Round). record old { vault = mid.vault; cache = without key old.cache; round = r }) is
+
+module _ {V : Type 0} (tells : Type 0) (may_leave : V → List ℕ → Type 0) where
+  -- no memory was found for the frames of a round that prepares, and it is ended
+  pub lost_at_once : (key : List ℕ) (old mid new : DeskView V) (ballot : Ballot) (round : Round) → old.round ≡ None → round.key ≡ key → round.met ≡ None → promise_at key (without key old.cache) ≡ None
+      → HasDrawn (disks tells may_leave) old.id old.vault mid.vault ballot → mid ≡ record old { vault = mid.vault; cache = without key old.cache; round = Some round }
+      → ((r : Round) → mid.round ≡ Some r → new ≡ record mid { vault = new.vault; cache = cache_after r None mid.cache; round = None })
+      → counter_of new.vault ≡ counter_without mid.round (counter_of mid.vault) → kept_of new.vault ≡ kept_of mid.vault → disk_of new.vault ≡ disk_of mid.vault
+      → ((n : ℕ) → IsPast may_leave n mid.vault → IsPast may_leave n new.vault) → LosesMemory (disks tells may_leave) key old new (Some ballot)
+  lost_at_once key old mid new ballot round none same met one drawn at ends counted same_kept_of same_disk past =
+      let is : mid.round ≡ Some round = ap (λ (d : DeskView V). d.round) at in
+      let from : new ≡ record old { vault = new.vault; cache = without round.key mid.cache; round = None } =
+      ends round is ∙ ap (λ (d : DeskView V). record d { vault = new.vault; cache = without round.key mid.cache; round = None }) at in
+      let cache : new.cache ≡ without round.key mid.cache = ap (λ (d : DeskView V). d.cache) from in record {
+        desk = from ∙ ap (λ (ready : List (List ℕ × Ready)). record old { vault = new.vault; cache = ready; round = None }) (sym cache);
+        cache = cache_used key round.key old.cache new.cache same one (inr (cache ∙ ap (λ (d : DeskView V). without round.key d.cache) at));
+        middle = mid.vault;
+        drawn = drawn;
+        counter = counted ∙ (ap (λ (r : Option Round). counter_without r (counter_of mid.vault)) is ∙ not_met old.round round (counter_of mid.vault) none met);
+        kept = same_kept_of;
+        goes_on = goes_on_still tells may_leave mid.vault new.vault same_disk same_kept_of past;
+      }
+
+  module _ (seen : V → List ℕ) (moment : V → ℕ) (left_since : V → ℕ → List ℕ → Type 0) (counts_now : (disk : V) (t : ℕ) (c : List ℕ) → tells → t ≤ moment disk → may_leave disk c → left_since disk t c) where
+    pub drew_by : (old new : DeskView V) (ballot : Ballot) → old.id ≤ 16 → Draws old.id old.vault new.vault ballot → Stands tells seen may_leave new.vault → (tells → IsPast may_leave (counter_of new.vault) new.vault)
+        → (tells → (n : ℕ) → IsPast may_leave n old.vault → IsPast may_leave n new.vault)
+        → (tells → LeavesOnly moment left_since (disk_of old.vault) (disk_of new.vault) (IsBeforeOrAfter (kept_of old.vault) (kept_to_draw (counter_of old.vault) (kept_of old.vault))))
+        → HasDrawn (disks tells may_leave) old.id old.vault new.vault ballot
+    drew_by old new ballot few draws stands past still moments = record {
+      draws = draws;
+      fits = rides_fits tells may_leave seen moment left_since counts_now old new ballot few draws stands;
+      past = λ t. subst (λ (n : ℕ). IsPast may_leave n new.vault) (draws.counter ∙ sym (ap (λ (b : Ballot). b.counter) draws.next)) (past t);
+      goes_on = goes_on tells may_leave seen moment left_since counts_now old.vault new.vault still moments (ap (λ (k : Kept). k.era) draws.kept ∙ draw_era (counter_of old.vault) (kept_of old.vault));
+    }
+
+    -- nothing was drawn
+    pub kept_by : (old new : DeskView V) → ShowsTheSame old.vault new.vault → (tells → (n : ℕ) → IsPast may_leave n old.vault → IsPast may_leave n new.vault)
+        → (tells → LeavesOnly moment left_since (disk_of old.vault) (disk_of new.vault) (IsBeforeOrAfter (kept_of old.vault) (kept_to_draw (counter_of old.vault) (kept_of old.vault))))
+        → HasKept (disks tells may_leave) old.vault new.vault
+    kept_by old new shows still moments = record {
+      shows = shows;
+      goes_on = goes_on tells may_leave seen moment left_since counts_now old.vault new.vault still moments (ap (λ (k : Kept). k.era) shows.kept);
+    }
+
+  pub lost_idle : (key : List ℕ) (old new : DeskView V) → old.round ≡ None → HasKept (disks tells may_leave) old.vault new.vault → new ≡ record old { vault = new.vault } → LosesMemory (disks tells may_leave) key old new None
+  lost_idle key old new none kept at = record {
+    desk = at ∙ (λ i. record old { vault = new.vault; cache = ap (λ (d : DeskView V). d.cache) (sym at) i; round = none i });
+    cache = inl (ap (λ (d : DeskView V). d.cache) at);
+    middle = new.vault;
+    drawn = kept;
+    counter = sym (ap (λ (r : Option Round). counter_without r (counter_of new.vault)) none);
+    kept = refl;
+    goes_on = goes_on_same tells may_leave new.vault;
+  }
+
+  pub failed_idle : (key : List ℕ) (old new : DeskView V) → old.round ≡ None → HasKept (disks tells may_leave) old.vault new.vault → new ≡ record old { vault = new.vault; down = new.down } → new.down ≡ true → FailsToDraw (disks tells may_leave) key old new
+  failed_idle key old new none kept at down = record {
+    desk = at ∙ (λ i. record old { vault = new.vault; cache = ap (λ (d : DeskView V). d.cache) (sym at) i; round = none i; down = down i });
+    cache = inl (ap (λ (d : DeskView V). d.cache) at);
+    counter = kept.shows.counter ∙ sym (ap (λ (r : Option Round). counter_without r (counter_of old.vault)) none);
+    kept = kept.shows.kept;
+    goes_on = kept.goes_on;
+  }
+
+pub up_desk : {V : Type 0} (old new : DeskView V) → new ≡ record old { vault = new.vault; down = new.down } → new.down ≡ false → old.down ≡ false → new ≡ record old { vault = new.vault }
+up_desk {V} old new at up was = at ∙ ap (λ (b : Bool). record old { vault = new.vault; down = b }) (up ∙ sym was)

@@ -1,0 +1,184 @@
+-- What stops and restarts of one party do to the whole.
+use Rattle.std.proofs.Common.{◌≡◌, ◌<◌, ◌≤◌, ℕ, Bool, true, false, List, Option, None, Some, Result, Ok, Err, slice_set, refl, sym, ap, subst, ◌∙◌, inl, inr, arith}
+use Rattle.std.specs.Prelude.{⊤, map, option_map, is_some, IfSome, OnOk, OnErr, IsTrue}
+use Rattle.cas_base.proofs.Bools.{true_or_false}
+use Rattle.cas_acceptor.specs.Acceptor.{AcceptorView}
+use Rattle.cas_slot.specs.Contents.{nothing}
+use Rattle.cas_slot.specs.Shelf.{Left, OnlyLeaves}
+use Rattle.cas_slot.specs.declared.fault.ShelfFault.{ShelfFault}
+use Rattle.cas_flow.specs.Flow.{FlowView, abandoned}
+use Rattle.cas_quorum.specs.declared.era.Era.{Era}
+use Rattle.cas_record.specs.Book.{Book}
+use Rattle.cas_record.specs.declared.answer.Answer.{Answer}
+use Rattle.cas_disk.specs.Disk.{Only}
+use Rattle.cas_proposer.specs.Desk.{DeskView, ShowsTheSame}
+use Rattle.cas_proposer.specs.declared.round.Round.{Round}
+use Rattle.cas_vault.specs.declared.kept.Kept.{Kept}
+use Rattle.cas_vault.specs.declared.error.VaultError.{VaultError}
+use Rattle.cas_vault.specs.declared.vault.Vault.{Vault}
+use Rattle.cas_vault.specs.Vault.{kept_of, disk_of, KeptOn, IsPast}
+use Rattle.cas_cluster.specs.Step as step
+use Rattle.cas_cluster.specs.Step.{StepRestartAcceptor, StepCrashProposer, StepRestartProposer}
+use Rattle.cas_cluster.specs.StepDesks.{GoesOn, Crashes}
+use Rattle.cas_cluster.specs.View.{DiskMeaning, Meaning, View, CallerView, IsAt, reserved_in, reserved_of, with_acceptor, with_desk}
+use Rattle.cas_cluster.proofs.Places.{but_set, own_set, other_set}
+use Rattle.cas_cluster.proofs.SafeParts.{reserved_set}
+use Rattle.cas_world.specs.declared.call.Caller.{Caller}
+use Rattle.cas_world.specs.declared.call.OpenCall.{OpenCall}
+use Rattle.cas_world.specs.Answers.{crash_answer}
+use Rattle.cas_world.specs.Call.{over}
+use Rattle.cas_world.specs.World.{HasCopies, view_of, call_view, caller_view}
+use Rattle.cas_world.proofs.Callers.{map_set, at_map}
+use Rattle.cas_world.proofs.Parts.{same_but, set_same}
+
+pub restarted : {S V : Type 0} (m : Meaning S V) (old : View S V) (id : ℕ) (acceptor now : AcceptorView S) (r : Result ⊤ ShelfFault) → IsAt old.acceptors id acceptor → now.id ≡ acceptor.id
+    → OnOk r (now.down ≡ false) → OnErr r (IsTrue now.down) → (acceptor.down ≡ false → now ≡ acceptor) → OnOk r (IsTrue now.started) → OnErr r (now.started ≡ acceptor.started)
+    → (m.shelves.tells → now.down ≡ false → OnlyLeaves (m.shelves.contents now.shelf) (m.shelves.may_leave now.shelf))
+    → (IsTrue acceptor.down → acceptor.started ≡ false → OnOk r (m.shelves.contents now.shelf ≡ nothing))
+    → (m.shelves.tells → IsTrue acceptor.down → IsTrue acceptor.started → OnOk r (m.shelves.may_leave acceptor.shelf (Ok (m.shelves.contents now.shelf))))
+    → (m.shelves.tells → IsTrue acceptor.started → (left : Left) → m.shelves.may_leave now.shelf left → m.shelves.may_leave acceptor.shelf left)
+    → StepRestartAcceptor m old id (with_acceptor old id now)
+restarted {S} {V} m old id acceptor now r at same up still_down unchanged started not_started lasts afresh reopened leaves = elim (true_or_false acceptor.down) [
+  | inl down ↦ by_result down r up still_down started not_started (afresh down) (λ tells. reopened tells down)
+  | inr is_up ↦ step.was_up acceptor at is_up (ap (λ (l : List (AcceptorView S)). record old { acceptors = l }) (ap (λ (a : AcceptorView S). slice_set old.acceptors id a) (unchanged is_up) ∙ set_same old.acceptors id acceptor at))
+]
+  where
+    by_result : IsTrue acceptor.down → (r : Result ⊤ ShelfFault) → OnOk r (now.down ≡ false) → OnErr r (IsTrue now.down) → OnOk r (IsTrue now.started) → OnErr r (now.started ≡ acceptor.started)
+        → (acceptor.started ≡ false → OnOk r (m.shelves.contents now.shelf ≡ nothing)) → (m.shelves.tells → IsTrue acceptor.started → OnOk r (m.shelves.may_leave acceptor.shelf (Ok (m.shelves.contents now.shelf))))
+        → StepRestartAcceptor m old id (with_acceptor old id now)
+    by_result down (Ok x) is_up still started same_started afresh reopened = step.starts acceptor now at (record {
+      was_down = down;
+      acceptor = ap (λ (i : ℕ). record { id = i; started = now.started; down = now.down; shelf = now.shelf }) same
+          ∙ ap (λ (s : Bool). record { id = acceptor.id; started = s; down = now.down; shelf = now.shelf }) started
+          ∙ ap (λ (d : Bool). record { id = acceptor.id; started = true; down = d; shelf = now.shelf }) is_up;
+      afresh = afresh;
+      reopened = reopened;
+      lasts = λ tells. lasts tells is_up;
+    }) refl
+    by_result down (Err fault) is_up still started same_started afresh reopened = step.fails acceptor now at (record {
+      was_down = down;
+      acceptor = same_but acceptor now true same same_started still ∙ ap (λ (d : Bool). record acceptor { down = d; shelf = now.shelf }) (sym down);
+      leaves = leaves;
+    }) refl
+
+-- ---- vaults
+-- a crash leaves a vault in the same era, past all that it was past
+pub crash_goes_on : {V : Type 0} (m : DiskMeaning V) (old new : Vault V) (seen : List ℕ) → kept_of new ≡ kept_of old → (m.tells → m.may_leave (disk_of old) seen) → (m.tells → Only seen (m.may_leave (disk_of new)))
+    → (m.tells → (n : ℕ) → IsPast m.may_leave n old → IsPast m.may_leave n new) → GoesOn m old new
+crash_goes_on m old new seen kept image settled past = record {
+  still_past = past;
+  era = λ tells era is. record {
+    kept = ap (λ (k : Kept). k.era) kept ∙ is.kept;
+    left = λ c k may on. is.left seen k (image tells) (subst (KeptOn k) (settled tells c may) on);
+  };
+}
+
+-- so does the end of a round, which changes nothing of the disk
+pub end_goes_on : {V : Type 0} (m : DiskMeaning V) (old new : Vault V) → kept_of new ≡ kept_of old → disk_of new ≡ disk_of old → ((n : ℕ) → IsPast m.may_leave n old → IsPast m.may_leave n new) → GoesOn m old new
+end_goes_on {V} m old new kept disk past = record {
+  still_past = λ tells n is. past n is;
+  era = λ tells era is. record { kept = ap (λ (k : Kept). k.era) kept ∙ is.kept; left = λ c k may on. is.left c k (subst (λ (d : V). m.may_leave d c) disk may) on };
+}
+
+pub kept_same : {V : Type 0} (old new : Vault V) (r : Result ⊤ VaultError) → OnErr r (ShowsTheSame old new) → OnErr r (kept_of new ≡ kept_of old)
+kept_same old new (Ok x) same = same
+kept_same old new (Err e) same = same.kept
+
+-- and so does a restart, whether it succeeds or not
+pub restart_goes_on : {V : Type 0} (m : DiskMeaning V) (old new : Vault V) (r : Result ⊤ VaultError) (seen : List ℕ) → (m.tells → m.may_leave (disk_of old) seen) → (m.tells → OnOk r (KeptOn (kept_of new) seen)) → OnErr r (kept_of new ≡ kept_of old)
+    → (m.tells → (c : List ℕ) → m.may_leave (disk_of new) c → m.may_leave (disk_of old) c) → (m.tells → (n : ℕ) → IsPast m.may_leave n old → IsPast m.may_leave n new) → GoesOn m old new
+restart_goes_on m old new (Ok x) seen image reopened same leaves past = record {
+  still_past = past;
+  era = λ tells era is. record { kept = is.left seen (kept_of new) (image tells) (reopened tells); left = λ c k may on. is.left c k (leaves tells c may) on };
+}
+restart_goes_on m old new (Err e) seen image reopened same leaves past = record {
+  still_past = past;
+  era = λ tells era is. record { kept = ap (λ (k : Kept). k.era) same ∙ is.kept; left = λ c k may on. is.left c k (leaves tells c may) on };
+}
+
+-- a desk is up again, or stays down, or was up
+pub same_round : {V : Type 0} (desk now : DeskView V) (r : Result ⊤ VaultError) → (OnOk r (now ≡ record desk { vault = now.vault; down = false })) → OnErr r (now ≡ record desk { vault = now.vault }) → now.round ≡ desk.round
+same_round {V} desk now (Ok x) ok err = ap (λ (d : DeskView V). d.round) ok
+same_round {V} desk now (Err e) ok err = ap (λ (d : DeskView V). d.round) err
+
+pub desk_restarted : {S V : Type 0} (m : Meaning S V) (old : View S V) (id : ℕ) (desk now : DeskView V) (r : Result ⊤ VaultError) → IsAt old.desks id desk → (desk.down ≡ false → now ≡ desk)
+    → OnOk r (now ≡ record desk { vault = now.vault; down = false }) → OnErr r (now ≡ record desk { vault = now.vault }) → (IsTrue desk.down → GoesOn m.disks desk.vault now.vault) → StepRestartProposer m old id (with_desk old id now)
+desk_restarted {S} {V} m old id desk now r at unchanged ok err on = elim (true_or_false desk.down) [
+  | inl down ↦ step.restarts desk now at down (record { desk = by_result r ok err; goes_on = on down }) refl
+  | inr up ↦ step.was_up_already desk at up (ap (λ (l : List (DeskView V)). record old { desks = l }) (ap (λ (d : DeskView V). slice_set old.desks id d) (unchanged up) ∙ set_same old.desks id desk at))
+]
+  where
+    by_result : (r : Result ⊤ VaultError) → OnOk r (now ≡ record desk { vault = now.vault; down = false }) → OnErr r (now ≡ record desk { vault = now.vault }) → now ≡ record desk { vault = now.vault; down = now.down }
+    by_result (Ok x) ok err = ok ∙ ap (λ (d : Bool). record desk { vault = now.vault; down = d }) (sym (ap (λ (d : DeskView V). d.down) ok))
+    by_result (Err e) ok err = err ∙ ap (λ (d : Bool). record desk { vault = now.vault; down = d }) (sym (ap (λ (d : DeskView V). d.down) err))
+
+-- ---- copies
+abbrev pub HaveCopies : {V : Type 0} → List (DeskView V) → List Caller → Type 0
+HaveCopies {V} desks callers = (id : ℕ) (desk : DeskView V) (caller : Caller) → IsAt desks id desk → IsAt callers id caller → HasCopies desk.round caller.call
+
+-- a desk that keeps its round
+pub copies_still : {V : Type 0} (desks : List (DeskView V)) (callers : List Caller) (id : ℕ) (desk now : DeskView V) → IsAt desks id desk → now.round ≡ desk.round → HaveCopies desks callers → HaveCopies (slice_set desks id now) callers
+copies_still {V} desks callers id desk now at same were p d caller at_d at_caller = elim (but_set desks id now p d at_d) [
+  | inl own ↦ subst (λ (r : Option Round). HasCopies r caller.call) (sym (ap (λ (x : DeskView V). x.round) own.1 ∙ same)) (were id desk caller at (subst (λ (n : ℕ). IsAt callers n caller) own.0 at_caller))
+  | inr other ↦ were p d caller other.1 at_caller
+]
+
+-- another desk and another caller, which have their copies
+pub copies_next : {V : Type 0} (desks : List (DeskView V)) (callers : List Caller) (id : ℕ) (now : DeskView V) (next : Caller) → HasCopies now.round next.call → HaveCopies desks callers → HaveCopies (slice_set desks id now) (slice_set callers id next)
+copies_next {V} desks callers id now next has were p d caller at_d at_caller = elim (but_set desks id now p d at_d) [
+  | inl own ↦ subst (λ (x : DeskView V). HasCopies x.round caller.call) (sym own.1)
+      (subst (λ (c : Caller). HasCopies now.round c.call) (sym (own_set callers id next caller (subst (λ (n : ℕ). IsAt (slice_set callers id next) n caller) own.0 at_caller))) has)
+  | inr other ↦ were p d caller other.1 (other_set callers id next p caller other.0 at_caller)
+]
+
+-- a desk that has no open round now, and another call of its caller
+pub copies_idle : {V : Type 0} (desks : List (DeskView V)) (callers : List Caller) (id : ℕ) (now : DeskView V) (next : Caller) → now.round ≡ None → HaveCopies desks callers → HaveCopies (slice_set desks id now) (slice_set callers id next)
+copies_idle {V} desks callers id now next none were p d caller at_d at_caller = elim (but_set desks id now p d at_d) [
+  | inl own ↦ subst (λ (r : Option Round). HasCopies r caller.call) (sym (ap (λ (x : DeskView V). x.round) own.1 ∙ none)) tt
+  | inr other ↦ were p d caller other.1 (other_set callers id next p caller other.0 at_caller)
+]
+
+-- the same with the same callers
+pub copies_closed : {V : Type 0} (desks : List (DeskView V)) (callers : List Caller) (id : ℕ) (now : DeskView V) → now.round ≡ None → HaveCopies desks callers → HaveCopies (slice_set desks id now) callers
+copies_closed {V} desks callers id now none were p d caller at_d at_caller = elim (but_set desks id now p d at_d) [
+  | inl own ↦ subst (λ (r : Option Round). HasCopies r caller.call) (sym (ap (λ (x : DeskView V). x.round) own.1 ∙ none)) tt
+  | inr other ↦ were p d caller other.1 at_caller
+]
+
+-- ---- a proposer that stops
+abbrev pub crashed_caller : Caller → OpenCall → Caller
+crashed_caller caller call = record caller { call = Some (record (over call (crash_answer (is_some call.proposed))) { is_closed = true }) }
+
+pub crash_closes : {S V : Type 0} (m : Meaning S V) (greatest : ℕ) (era : Era) (acceptors : List (AcceptorView S)) (desks : List (DeskView V)) (callers : List Caller) (flow : FlowView) (book : Book) (id : ℕ) (desk now : DeskView V) (round : Round) (caller : Caller) (call : OpenCall)
+    → IsAt desks id desk → IsAt callers id caller → caller.call ≡ Some call → desk.round ≡ Some round → Crashes m.disks desk now
+    → StepCrashProposer m (view_of greatest era acceptors desks callers flow book) id (view_of greatest era acceptors (slice_set desks id now) (slice_set callers id (crashed_caller caller call)) (abandoned flow id) book)
+crash_closes {S} {V} m greatest era acceptors desks callers flow book id desk now round caller call at_desk at_caller is_open is_round by =
+    step.closes desk now round (record { caller = caller_view caller; at_caller = at_map caller_view callers id caller at_caller; call = call_view call; is_open = ap (λ (o : Option OpenCall). option_map call_view o) is_open })
+    at_desk is_round by
+    (ap (λ (l : List CallerView). record (view_of greatest era acceptors (slice_set desks id now) callers (abandoned flow id) book) { callers = l }) (map_set caller_view callers id (crashed_caller caller call)))
+
+pub crash_idle : {S V : Type 0} (m : Meaning S V) (old : View S V) (id : ℕ) (desk now : DeskView V) → IsAt old.desks id desk → desk.round ≡ None → Crashes m.disks desk now
+    → StepCrashProposer m old id (record (with_desk old id now) { flow = abandoned old.flow id })
+crash_idle m old id desk now at none by = step.idle desk now at none by refl
+
+-- the caller whose round was closed, as it was told
+pub closed_is : (caller read new : Caller) (call : OpenCall) (told : Answer) (proposed : Bool) → caller.call ≡ Some call → read ≡ caller → IfSome read.call (λ c. proposed ≡ is_some c.proposed) → told ≡ crash_answer proposed
+    → IfSome caller.call (λ c. new ≡ record caller { call = Some (record (over c told) { is_closed = true }) }) → new ≡ crashed_caller caller call
+closed_is caller read new call told proposed is_open same has_proposed told_is by =
+    let proposed_is : proposed ≡ is_some call.proposed = subst (λ (o : Option OpenCall). IfSome o (λ c. proposed ≡ is_some c.proposed)) (ap (λ (c : Caller). c.call) same ∙ is_open) has_proposed in
+    let closed : new ≡ record caller { call = Some (record (over call told) { is_closed = true }) } =
+    subst (λ (o : Option OpenCall). IfSome o (λ c. new ≡ record caller { call = Some (record (over c told) { is_closed = true }) })) is_open by in
+    closed ∙ ap (λ (a : Answer). record caller { call = Some (record (over call a) { is_closed = true }) }) (told_is ∙ ap crash_answer proposed_is)
+
+-- no more is reserved then
+pub room_closed : (callers : List Caller) (id : ℕ) (caller new : Caller) (call : OpenCall) → IsAt callers id caller → caller.call ≡ Some call → 0 < call.reserved → new ≡ crashed_caller caller call
+    → reserved_of (map caller_view (slice_set callers id new)) ≤ reserved_of (map caller_view callers)
+room_closed callers id caller new call at is_open some is =
+    omega (
+      arith,
+      some,
+      ap (λ (l : List CallerView). reserved_of l) (map_set caller_view callers id new),
+      reserved_set (map caller_view callers) id (caller_view caller) (caller_view new) (at_map caller_view callers id caller at),
+      ap (λ (o : Option OpenCall). reserved_in (option_map call_view o)) is_open,
+      ap (λ (c : Caller). reserved_in (caller_view c).call) is,
+    )

@@ -1,0 +1,40 @@
+use Rattle.std.proofs.Common.{ℕ, slice_set, sym, ap, subst, arith}
+use Rattle.cas_vault.specs.Vault.{disk_of}
+use Rattle.cas_cluster.specs.Step as step
+use Rattle.cas_cluster.specs.Step.{StepRestartProposer}
+use Rattle.cas_cluster.specs.View.{View, IsAt, meaning}
+use Rattle.cas_cluster.proofs.SafeSteps.{steps_are_safe}
+use Rattle.cas_world.specs.World.{view_of}
+use Rattle.cas_world.proofs.Stops.{kept_same, restart_goes_on, desk_restarted, copies_still, same_round}
+use Rattle.cas_world.proofs.Parts.{at_place, left_at, seen_from, remembered_then}
+use Rattle.cas_world.proofs.world.World.restart_proposer.Given.{Over}
+use Rattle.cas_world.proofs.world.World.restart_proposer.Goals as goal
+
+at_desk : (g : Over) (c : goal.After-self-1 g) → IsAt c.self.inside.desks.items c.args.proposer c.index_mut.result.now
+at_desk g c = at_place c.self.inside.desks.items c.from.result c.args.proposer c.index_mut.result.now c.from.ensures
+    (omega (arith, c.self.invariant.safe.desks, c.requires, ap (λ (v : View _ _). v.greatest) c.self.view_is)) c.index_mut.ensures.value
+
+restarts : (g : Over) (c : goal.After-self-1 g) → StepRestartProposer (meaning g.S.Shelf.contents g.S.Shelf.tells g.S.Shelf.may_leave g.V.Disk.tells g.V.Disk.may_leave)
+    (view_of c.self.inside.config.proposers c.self.inside.era c.self.inside.acceptors.items c.self.inside.desks.items c.self.inside.callers.items c.self.inside.flow c.self.inside.record) c.args.proposer
+    (view_of c.self.inside.config.proposers c.self.inside.era c.self.inside.acceptors.items (slice_set c.self.inside.desks.items c.from.result c.restart.new.self) c.self.inside.callers.items c.self.inside.flow c.self.inside.record)
+restarts g c =
+    let by = c.restart.ensures in
+    subst (λ (i : ℕ). StepRestartProposer (meaning g.S.Shelf.contents g.S.Shelf.tells g.S.Shelf.may_leave g.V.Disk.tells g.V.Disk.may_leave)
+    (view_of c.self.inside.config.proposers c.self.inside.era c.self.inside.acceptors.items c.self.inside.desks.items c.self.inside.callers.items c.self.inside.flow c.self.inside.record) c.args.proposer
+    (view_of c.self.inside.config.proposers c.self.inside.era c.self.inside.acceptors.items (slice_set c.self.inside.desks.items i c.restart.new.self) c.self.inside.callers.items c.self.inside.flow c.self.inside.record)) (sym c.from.ensures)
+    (desk_restarted _ _ c.args.proposer c.index_mut.result.now c.restart.new.self c.restart.result (at_desk g c) (λ up. (by.up up).1) by.desk by.refused
+    (λ down. restart_goes_on _ c.index_mut.result.now.vault c.restart.new.self.vault c.restart.result (g.V.Disk.seen (disk_of c.restart.new.self.vault)) (λ tells. by.image tells down) (λ tells. by.reopened tells down) (kept_same _ _ c.restart.result by.same_vault)
+    (λ tells image may. left_at g.V.Disk.moment g.V.Disk.left_since g.V.Disk.may_leave _ _ _ (λ t left later may_now. g.met.V.Disk.counts_now _ t left tells later may_now) (by.any_moment tells down) image may) by.still_past))
+
+pub invariant_of-self : goal.invariant_of-self
+invariant_of-self g c = record {
+  safe = steps_are_safe _ _ (step.RestartProposer c.args.proposer) _ c.self.invariant.safe (restarts g c);
+  remembered = remembered_then _ (step.RestartProposer c.args.proposer) (restarts g c) c.self.invariant.remembered;
+  room = c.self.invariant.room;
+  copies = copies_still c.self.inside.desks.items c.self.inside.callers.items c.from.result c.index_mut.result.now c.restart.new.self
+      (subst (λ (i : ℕ). IsAt c.self.inside.desks.items i c.index_mut.result.now) (sym c.from.ensures) (at_desk g c))
+      (same_round c.index_mut.result.now c.restart.new.self c.restart.result c.restart.ensures.desk c.restart.ensures.refused) c.self.invariant.copies;
+}
+
+pub returns : goal.returns
+returns g c = seen_from _ (step.RestartProposer c.args.proposer) _ c.self.view_is (restarts g c)

@@ -1,0 +1,47 @@
+//! The end of a call.
+
+ghost use Rattle.std.specs.Prelude.{◌≡◌, ◌≤◌, Some, None, IsSome};
+ghost use Rattle.cas_cluster.specs.Step.{Step, End};
+ghost use Rattle.cas_cluster.specs.StepDesks.{EndsRound};
+ghost use Rattle.cas_cluster.specs.View.{meaning};
+ghost use Rattle.cas_world.specs.World.{WasTold};
+ghost use Rattle.cas_proposer.specs.declared.round.Round.{Round};
+
+use crate::world::World;
+use cas_disk::Disk;
+use cas_proposer::Desk;
+use cas_record::{Answer, Mark};
+use cas_slot::Shelf;
+
+impl<S: Shelf, V: Disk> World<S, V> {
+    /// Ends the caller's open call with the answer that it was told last: marks it, and hands it back. A round that is open is closed,
+    /// and its frames join the late ones. It takes no memory.
+    pub fn end(&mut self, caller: u8, call: u32, answer: Answer) -> Answer
+        requires known { caller ≤ self.old.greatest }
+        requires told { WasTold self.old caller call answer }
+        ensures same { result ≡ answer }
+        ensures step { Step (meaning S.contents S.tells S.may_leave V.tells V.may_leave) self.old (End caller answer) self.new }
+    {
+        let place = usize::from(caller);
+        close(&mut self.desks[place]);
+        self.flow.abandon(caller);
+        let (rounds, told) = self.callers[place].end_call();
+        self.record.push(Mark::Ended {
+            caller,
+            call,
+            rounds,
+            answer: told,
+        });
+        answer
+    }
+}
+
+/// Closes the round of the desk, if one is open.
+fn close<V: Disk>(desk: &mut Desk<V>)
+    ensures idle { desk.old.round ≡ None → desk.new ≡ desk.old }
+    ensures ends { (round : Round) → desk.old.round ≡ Some round → EndsRound (record { tells = V.tells; may_leave = V.may_leave }) desk.old desk.new round None }
+{
+    if desk.round().is_some() {
+        desk.end(None);
+    }
+}

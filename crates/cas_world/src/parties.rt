@@ -1,0 +1,64 @@
+//! Acceptors and proposers that stop, and are up again.
+
+ghost use Rattle.std.specs.Prelude.{◌≡◌, ◌≤◌, slice_get};
+ghost use Rattle.cas_world.specs.Readers.{up_in};
+ghost use Rattle.cas_cluster.specs.Step.{Step, CrashAcceptor, RestartAcceptor, CrashProposer, RestartProposer};
+ghost use Rattle.cas_cluster.specs.View.{meaning};
+
+use crate::answers::crash_answer;
+use crate::world::World;
+use cas_ballot::AcceptorId;
+use cas_disk::Disk;
+use cas_slot::{Shelf, ShelfFault};
+use cas_vault::VaultError;
+
+impl<S: Shelf, V: Disk> World<S, V> {
+    /// Whether the acceptor is up. `None` comes exactly where it is no member.
+    pub fn acceptor_up(&self, id: AcceptorId) -> Option<bool>
+        ensures { result ≡ up_in self.now.era id (slice_get self.now.acceptors id) }
+    {
+        if self.era.everyone().has(id) {
+            Some(!self.acceptors[usize::from(id.number())].is_down())
+        } else {
+            None
+        }
+    }
+
+    /// The acceptor crashes.
+    pub fn crash_acceptor(&mut self, id: AcceptorId)
+        ensures { Step (meaning S.contents S.tells S.may_leave V.tells V.may_leave) self.old (CrashAcceptor id) self.new }
+    {
+        self.acceptors[usize::from(id.number())].crash();
+    }
+
+    /// The acceptor is up again, or stays down by this fault. One that is up stays as it is.
+    pub fn restart_acceptor(&mut self, id: AcceptorId) -> Result<(), ShelfFault>
+        ensures { Step (meaning S.contents S.tells S.may_leave V.tells V.may_leave) self.old (RestartAcceptor id) self.new }
+    {
+        self.acceptors[usize::from(id.number())].restart()
+    }
+
+    /// The proposer crashes: its open round is closed, its caller is told so, and the frames of the round join the late ones.
+    pub fn crash_proposer(&mut self, proposer: u8)
+        requires { proposer ≤ self.old.greatest }
+        ensures { Step (meaning S.contents S.tells S.may_leave V.tells V.may_leave) self.old (CrashProposer proposer) self.new }
+    {
+        let place = usize::from(proposer);
+        let closes = self.desks[place].round().is_some();
+        self.desks[place].crash();
+        self.flow.abandon(proposer);
+        if closes {
+            let proposed = self.callers[place].has_proposed();
+            self.callers[place].close_round(crash_answer(proposed));
+        }
+    }
+
+    /// The proposer is up again, with its counter at the bound of its vault, or stays down by this error. One that is up stays as it
+    /// is.
+    pub fn restart_proposer(&mut self, proposer: u8) -> Result<(), VaultError>
+        requires { proposer ≤ self.old.greatest }
+        ensures { Step (meaning S.contents S.tells S.may_leave V.tells V.may_leave) self.old (RestartProposer proposer) self.new }
+    {
+        self.desks[usize::from(proposer)].restart()
+    }
+}
