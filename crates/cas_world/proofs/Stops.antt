@@ -20,13 +20,14 @@ use Rattle.cas_vault.specs.Vault.{kept_of, disk_of, KeptOn, IsPast}
 use Rattle.cas_cluster.specs.Step as step
 use Rattle.cas_cluster.specs.Step.{StepRestartAcceptor, StepCrashProposer, StepRestartProposer}
 use Rattle.cas_cluster.specs.StepDesks.{GoesOn, Crashes}
-use Rattle.cas_cluster.specs.View.{DiskMeaning, Meaning, View, CallerView, IsAt, reserved_in, reserved_of, with_acceptor, with_desk}
-use Rattle.cas_cluster.proofs.Places.{but_set, own_set, other_set}
+use Rattle.cas_cluster.specs.View.{DiskMeaning, Meaning, ShelfMeaning, View, CallerView, IsAt, reserved_in, reserved_of, with_acceptor, with_desk}
+use Rattle.cas_cluster.proofs.Places.{at_one, at_set, but_set, own_set, other_set}
 use Rattle.cas_cluster.proofs.SafeParts.{reserved_set}
 use Rattle.cas_world.specs.declared.call.Caller.{Caller}
 use Rattle.cas_world.specs.declared.call.OpenCall.{OpenCall}
 use Rattle.cas_world.specs.Answers.{crash_answer}
 use Rattle.cas_world.specs.Call.{over}
+use Rattle.cas_world.specs.Restarting.{TellsOfAcceptor, TellsOfDesk}
 use Rattle.cas_world.specs.World.{HasCopies, view_of, call_view, caller_view}
 use Rattle.cas_world.proofs.Callers.{map_set, at_map}
 use Rattle.cas_world.proofs.Parts.{same_but, set_same}
@@ -60,6 +61,33 @@ restarted {S} {V} m old id acceptor now r at same up still_down unchanged starte
       acceptor = same_but acceptor now true same same_started still ∙ ap (λ (d : Bool). record acceptor { down = d; shelf = now.shelf }) (sym down);
       leaves = leaves;
     }) refl
+
+-- what its answer tells of the acceptor, at its place before and after
+pub acceptor_tells : {S : Type 0} (m : ShelfMeaning S) (faults : S → ℕ) (acceptors : List (AcceptorView S)) (index id : ℕ) (acceptor started was now : AcceptorView S) (r : Result ⊤ ShelfFault)
+    → index ≡ id → IsAt acceptors id acceptor → IsAt acceptors id was → IsAt (slice_set acceptors index started) id now → TellsOfAcceptor m faults acceptor started r → TellsOfAcceptor m faults was now r
+acceptor_tells {S} m faults acceptors index id acceptor started was now r same at at_was at_now tells =
+    let there : IsAt (slice_set acceptors id started) id now = subst (λ (i : ℕ). IsAt (slice_set acceptors i started) id now) same at_now in
+    subst (λ (a : AcceptorView S). TellsOfAcceptor m faults a now r) (at_one acceptors id at at_was)
+    (subst (λ (a : AcceptorView S). TellsOfAcceptor m faults acceptor a r) (at_one (slice_set acceptors id started) id (at_set acceptors id acceptor started at) there) tells)
+
+pub desk_tells : {V : Type 0} (m : DiskMeaning V) (faults : V → ℕ) (desks : List (DeskView V)) (index id : ℕ) (desk started was now : DeskView V) (r : Result ⊤ VaultError)
+    → index ≡ id → IsAt desks id desk → IsAt desks id was → IsAt (slice_set desks index started) id now → TellsOfDesk m faults desk started r → TellsOfDesk m faults was now r
+desk_tells {V} m faults desks index id desk started was now r same at at_was at_now tells =
+    let there : IsAt (slice_set desks id started) id now = subst (λ (i : ℕ). IsAt (slice_set desks i started) id now) same at_now in
+    subst (λ (d : DeskView V). TellsOfDesk m faults d now r) (at_one desks id at at_was)
+    (subst (λ (d : DeskView V). TellsOfDesk m faults desk d r) (at_one (slice_set desks id started) id (at_set desks id desk started at) there) tells)
+
+-- whether a desk is up after its restart, by the answer
+pub desk_is_up : {V : Type 0} (desk now : DeskView V) (r : Result ⊤ VaultError) → OnOk r (now ≡ record desk { vault = now.vault; down = false }) → (desk.down ≡ false → (r ≡ Ok tt) × (now ≡ desk)) → OnOk r (now.down ≡ false)
+desk_is_up {V} desk now (Ok x) ok up = ap (λ (d : DeskView V). d.down) ok
+desk_is_up desk now (Err e) ok up = tt
+
+pub desk_stays_down : {V : Type 0} (desk now : DeskView V) (r : Result ⊤ VaultError) → OnErr r (now ≡ record desk { vault = now.vault }) → (desk.down ≡ false → (r ≡ Ok tt) × (now ≡ desk)) → OnErr r (now.down ≡ true)
+desk_stays_down desk now (Ok x) err up = tt
+desk_stays_down {V} desk now (Err e) err up = elim (true_or_false desk.down) [
+  | inl down ↦ ap (λ (d : DeskView V). d.down) err ∙ down
+  | inr is_up ↦ absurd (cc (up is_up).0)
+]
 
 -- ---- vaults
 -- a crash leaves a vault in the same era, past all that it was past

@@ -6,6 +6,7 @@ pub mod Opening
 pub mod Proposing
 pub mod Readers
 pub mod Reading
+pub mod Restarting
 pub mod Sending
 pub mod Serve
 pub mod Stray

@@ -1,12 +1,13 @@
 -- What is read of a world without changing it.
-use Rattle.std.specs.Prelude.{◌≡◌, ℕ, ◌+◌, Bool, not, ◌&&◌, Option, None, Some, option_map, if◌then◌else◌, IsSomeAnd}
+use Rattle.std.specs.Prelude.{◌≡◌, ◌↔◌, ℕ, ◌+◌, Bool, true, not, ◌&&◌, Option, None, Some, option_map, if◌then◌else◌, IsSomeAnd}
 use Rattle.cas_acceptor.specs.Acceptor.{AcceptorView}
 use Rattle.cas_ballot.specs.Members.{has_member, union_of}
 use Rattle.cas_quorum.specs.declared.era.Era.{Era}
-use Rattle.cas_proposer.specs.Round.{IsVerdictOf}
+use Rattle.cas_proposer.specs.Round.{IsVerdictOf, has_quorum}
 use Rattle.cas_proposer.specs.declared.round.Round.{Round}
 use Rattle.cas_record.specs.declared.answer.Answer.{Answer}
 use Rattle.cas_round.specs.declared.verdict.RoundVerdict.{RoundVerdict}
+use Rattle.cas_round.specs.declared.verdict.RoundVerdict.TheVariants.{Quorum}
 use Rattle.cas_cluster.specs.View.{CallView, CallerView}
 use Rattle.cas_world.specs.Answers.{is_done}
 
@@ -24,10 +25,10 @@ abbrev pub closed_in : Option CallView → Option Answer
 closed_in None = None
 closed_in (Some call) = told_if call.is_closed call.told
 
--- how the open phase of an open round ends, should no other reply arrive
+-- how the open phase of an open round ends, should no other reply arrive: with a quorum exactly where it has one
 abbrev pub IsVerdictIn : Option Round → Option RoundVerdict → Type 0
 IsVerdictIn None verdict = verdict ≡ None
-IsVerdictIn (Some round) verdict = IsSomeAnd verdict (IsVerdictOf round)
+IsVerdictIn (Some round) verdict = IsSomeAnd verdict (λ v. IsVerdictOf round v × ((v ≡ Quorum) ↔ (has_quorum round.phase ≡ true)))
 
 -- whether an acceptor is up, where it is a member of the era
 abbrev pub up_in : {S : Type 0} → Era → ℕ → Option (AcceptorView S) → Option Bool

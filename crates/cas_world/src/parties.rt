@@ -3,7 +3,12 @@
 ghost use Rattle.std.specs.Prelude.{◌≡◌, ◌≤◌, slice_get};
 ghost use Rattle.cas_world.specs.Readers.{up_in};
 ghost use Rattle.cas_cluster.specs.Step.{Step, CrashAcceptor, RestartAcceptor, CrashProposer, RestartProposer};
-ghost use Rattle.cas_cluster.specs.View.{meaning};
+ghost use Rattle.cas_cluster.specs.View.{IsAt, meaning};
+ghost use Rattle.cas_acceptor.specs.Acceptor.{AcceptorView};
+ghost use Rattle.cas_proposer.specs.Desk.{DeskView};
+ghost use Rattle.cas_world.specs.Proposing.{disks};
+ghost use Rattle.cas_world.specs.Restarting.{TellsOfAcceptor, TellsOfDesk};
+ghost use Rattle.cas_world.specs.Serve.{shelves};
 
 use crate::answers::crash_answer;
 use crate::world::World;
@@ -32,8 +37,12 @@ impl<S: Shelf, V: Disk> World<S, V> {
     }
 
     /// The acceptor is up again, or stays down by this fault. One that is up stays as it is.
+    ///
+    /// [`ShelfFault::DiskFault`] comes only where the count of faults of its shelf rose, [`ShelfFault::Foreign`] only where a crash left
+    /// bytes that are no shelf from that place on, and [`ShelfFault::Full`] never.
     pub fn restart_acceptor(&mut self, id: AcceptorId) -> Result<(), ShelfFault>
-        ensures { Step (meaning S.contents S.tells S.may_leave V.tells V.may_leave) self.old (RestartAcceptor id) self.new }
+        ensures step { Step (meaning S.contents S.tells S.may_leave V.tells V.may_leave) self.old (RestartAcceptor id) self.new }
+        ensures tells { (was now : AcceptorView S) → IsAt self.old.acceptors id was → IsAt self.new.acceptors id now → TellsOfAcceptor (shelves S.contents S.tells S.may_leave) S.fault_count was now result }
     {
         self.acceptors[usize::from(id.number())].restart()
     }
@@ -55,9 +64,13 @@ impl<S: Shelf, V: Disk> World<S, V> {
 
     /// The proposer is up again, with its counter at the bound of its vault, or stays down by this error. One that is up stays as it
     /// is.
+    ///
+    /// [`VaultError::VaultFault`] comes only where the count of faults of its vault's disk rose, [`VaultError::Foreign`] only where a
+    /// crash left bytes that are no vault from that place on, and [`VaultError::Spent`] never.
     pub fn restart_proposer(&mut self, proposer: u8) -> Result<(), VaultError>
         requires { proposer ≤ self.old.greatest }
-        ensures { Step (meaning S.contents S.tells S.may_leave V.tells V.may_leave) self.old (RestartProposer proposer) self.new }
+        ensures step { Step (meaning S.contents S.tells S.may_leave V.tells V.may_leave) self.old (RestartProposer proposer) self.new }
+        ensures tells { (was now : DeskView V) → IsAt self.old.desks proposer was → IsAt self.new.desks proposer now → TellsOfDesk (disks V.tells V.may_leave) V.fault_count was now result }
     {
         self.desks[usize::from(proposer)].restart()
     }

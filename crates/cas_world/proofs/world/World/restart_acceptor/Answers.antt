@@ -1,10 +1,11 @@
 use Rattle.std.proofs.Common.{◌≡◌, ℕ, slice_set, sym, subst, ◌∙◌, arith}
 use Rattle.cas_cluster.specs.Step as step
 use Rattle.cas_cluster.specs.Step.{StepRestartAcceptor}
-use Rattle.cas_cluster.specs.View.{meaning}
+use Rattle.cas_cluster.specs.View.{View, IsAt, meaning}
 use Rattle.cas_cluster.proofs.SafeSteps.{steps_are_safe}
 use Rattle.cas_world.specs.World.{view_of}
-use Rattle.cas_world.proofs.Stops.{restarted}
+use Rattle.cas_world.specs.Serve.{shelves}
+use Rattle.cas_world.proofs.Stops.{restarted, acceptor_tells}
 use Rattle.cas_world.proofs.Parts.{at_place, left_now, seen_from, remembered_then}
 use Rattle.cas_world.proofs.world.World.restart_acceptor.Given.{Over}
 use Rattle.cas_world.proofs.world.World.restart_acceptor.Goals as goal
@@ -31,5 +32,14 @@ invariant_of-self g c = record {
   copies = c.self.invariant.copies;
 }
 
-pub returns : goal.returns
-returns g c = seen_from _ (step.RestartAcceptor c.args.id) _ c.self.view_is (restarts g c)
+pub returns-clause-step : goal.returns-clause-step
+returns-clause-step g c = seen_from _ (step.RestartAcceptor c.args.id) _ c.self.view_is (restarts g c)
+
+pub returns-clause-tells : goal.returns-clause-tells
+returns-clause-tells g c was now at_was at_now =
+    let same : c.from.result ≡ c.args.id = c.from.ensures ∙ c.number.ensures.value in
+    let by = c.restart.ensures in
+    acceptor_tells (shelves g.S.Shelf.contents g.S.Shelf.tells g.S.Shelf.may_leave) g.S.Shelf.fault_count c.self.inside.acceptors.items c.from.result c.args.id c.index_mut.result.now c.restart.new.self was now c.restart.result same
+    (at_place c.self.inside.acceptors.items c.from.result c.args.id c.index_mut.result.now same (omega (arith, c.self.invariant.safe.acceptors, c.number.ensures.value, c.number.ensures.within)) c.index_mut.ensures.value)
+    (subst (λ (v : View _ _). IsAt v.acceptors c.args.id was) (sym c.self.view_is) at_was) at_now
+    (record { up = by.up; down = by.still_down; cause = by.cause; foreign = by.foreign; not_full = by.not_full })

@@ -1,11 +1,13 @@
-use Rattle.std.proofs.Common.{ℕ, slice_set, sym, ap, subst, arith}
+use Rattle.std.proofs.Common.{ℕ, slice_set, sym, ap, subst, inl, inr, arith}
+use Rattle.cas_base.proofs.Bools.{true_or_false}
 use Rattle.cas_vault.specs.Vault.{disk_of}
 use Rattle.cas_cluster.specs.Step as step
 use Rattle.cas_cluster.specs.Step.{StepRestartProposer}
 use Rattle.cas_cluster.specs.View.{View, IsAt, meaning}
 use Rattle.cas_cluster.proofs.SafeSteps.{steps_are_safe}
 use Rattle.cas_world.specs.World.{view_of}
-use Rattle.cas_world.proofs.Stops.{kept_same, restart_goes_on, desk_restarted, copies_still, same_round}
+use Rattle.cas_world.specs.Proposing.{disks}
+use Rattle.cas_world.proofs.Stops.{kept_same, restart_goes_on, desk_restarted, desk_tells, desk_is_up, desk_stays_down, copies_still, same_round}
 use Rattle.cas_world.proofs.Parts.{at_place, left_at, seen_from, remembered_then}
 use Rattle.cas_world.proofs.world.World.restart_proposer.Given.{Over}
 use Rattle.cas_world.proofs.world.World.restart_proposer.Goals as goal
@@ -36,5 +38,22 @@ invariant_of-self g c = record {
       (same_round c.index_mut.result.now c.restart.new.self c.restart.result c.restart.ensures.desk c.restart.ensures.refused) c.self.invariant.copies;
 }
 
-pub returns : goal.returns
-returns g c = seen_from _ (step.RestartProposer c.args.proposer) _ c.self.view_is (restarts g c)
+pub returns-clause-step : goal.returns-clause-step
+returns-clause-step g c = seen_from _ (step.RestartProposer c.args.proposer) _ c.self.view_is (restarts g c)
+
+pub returns-clause-tells : goal.returns-clause-tells
+returns-clause-tells g c was now at_was at_now =
+    let by = c.restart.ensures in
+    let desk = c.index_mut.result.now in
+    desk_tells (disks g.V.Disk.tells g.V.Disk.may_leave) g.V.Disk.fault_count c.self.inside.desks.items c.from.result c.args.proposer desk c.restart.new.self was now c.restart.result c.from.ensures (at_desk g c)
+    (subst (λ (v : View _ _). IsAt v.desks c.args.proposer was) (sym c.self.view_is) at_was) at_now
+    (record {
+      up = desk_is_up desk c.restart.new.self c.restart.result by.desk by.up;
+      down = desk_stays_down desk c.restart.new.self c.restart.result by.refused by.up;
+      cause = by.cause;
+      foreign = λ tells at is. elim (true_or_false desk.down) [
+        | inl down ↦ (g.V.Disk.seen (disk_of c.restart.new.self.vault), by.image tells down, by.foreign tells at is)
+        | inr up ↦ absurd (cc ((by.up up).0, is))
+      ];
+      not_spent = by.not_spent;
+    })
