@@ -1,0 +1,28 @@
+-- What is so of a result by whether it is an error.
+use Rattle.std.proofs.Common.{◌≡◌, true, false, Ok, Err}
+use Rattle.std.specs.Prelude.{Result, IfErr, OnOk, OnErr, is_err}
+
+pub on_err : {T E P : Type 0} (r : Result T E) → is_err r ≡ true → OnErr r P → P
+on_err (Ok x) e p = absurd cc
+on_err (Err x) e p = p
+
+pub on_err_of : {T E P : Type 0} (r : Result T E) → P → OnErr r P
+on_err_of (Ok x) p = tt
+on_err_of (Err x) p = p
+
+pub on_ok : {T E P : Type 0} (r : Result T E) → is_err r ≡ false → OnOk r P → P
+on_ok (Ok x) e p = p
+on_ok (Err x) e p = absurd cc
+
+pub on_ok_of : {T E P : Type 0} (r : Result T E) → P → OnOk r P
+on_ok_of (Ok x) p = p
+on_ok_of (Err x) p = tt
+
+pub on_ok_then : {T E P Q : Type 0} (r : Result T E) → OnOk r P → (P → Q) → OnOk r Q
+on_ok_then (Ok x) p then_q = then_q p
+on_ok_then (Err x) p then_q = tt
+
+-- where each index tells something of the error, and one is at hand
+pub if_err_by : {T E A : Type 0} {P : A → E → Type 0} {I : A → Type 0} {Q : E → Type 0} (r : Result T E) → ((e : E) → ((a : A) → I a → P a e) → Q e) → ((a : A) → I a → IfErr r (P a)) → IfErr r Q
+if_err_by (Ok x) f p = tt
+if_err_by (Err e) f p = f e p

@@ -1,0 +1,114 @@
+-- What a turn leaves of the turns of a proposer.
+use Rattle.std.proofs.Common.{◌≡◌, ◌≢◌, ◌<◌, ◌≤◌, ◌+◌, ◌-◌, ℕ, Bool, true, false, List, [], ◌∷◌, ◌++◌, length, Some, slice_get, slice_set, refl, sym, ap, subst, ◌∙◌, arith}
+use Rattle.std.specs.Prelude.{if◌then◌else◌, option_map, Option, None}
+use Rattle.std.proofs.lemmas.List.{length-set}
+use Rattle.cas_fate.specs.declared.fate.Leg.{Leg}
+use Rattle.cas_fate.specs.declared.fate.Verdict.{Verdict}
+use Rattle.cas_fate.specs.declared.fate.Verdict.TheVariants.{Deliver, Lose, Twice, Late, Hold}
+use Rattle.cas_flow.specs.Flow.{FlowView, queue_at, queue_after, taken}
+use Rattle.cas_flow.specs.Message.{head_of}
+use Rattle.cas_flow.specs.Queue.{QueueView, fall_of, pushed}
+use Rattle.cas_flow.specs.declared.fall.Fall.TheVariants.{Handle, Gone, Held}
+use Rattle.cas_flow.specs.declared.message.Message.{Message}
+use Rattle.cas_flow.specs.declared.message.Message.TheVariants as message
+use Rattle.cas_slot.specs.declared.message.Reply.{Reply}
+use Rattle.cas_cluster.specs.Step.{StepTurn, OpenCallAt}
+use Rattle.cas_cluster.specs.StepFrames as frames
+use Rattle.cas_cluster.specs.View.{Meaning, View}
+use Rattle.cas_cluster.proofs.FrameSteps.{taken_own}
+use Rattle.cas_cluster.proofs.Places.{queue_same, has_queue, some_is}
+use Rattle.cas_script.specs.Changes.{Turned, one_more}
+use Rattle.cas_script.specs.Conditions.{Rule, verdict_of}
+use Rattle.cas_script.specs.Playing.{turns_of, turns_in, turns_done, turns_left_in, turns_left}
+
+-- ---- one queue
+turns_append : (messages : List Message) (one : Message) → turns_in (messages ++ one ∷ []) ≡ turns_in messages + turns_of one
+turns_append [] one = omega arith
+turns_append (first_ ∷ rest) one = let after : turns_in (rest ++ one ∷ []) ≡ turns_in rest + turns_of one = turns_append rest one in omega (arith, after)
+
+-- no frame that has its turn stays as it is, unless it is held
+not_held : (again : Bool) (verdict : Verdict) → verdict ≢ Hold → fall_of again verdict ≢ Held
+not_held true verdict free is = absurd (cc is)
+not_held false Deliver free is = absurd (cc is)
+not_held false Lose free is = absurd (cc is)
+not_held false Twice free is = absurd (cc is)
+not_held false Late free is = absurd (cc is)
+not_held false Hold free is = free refl
+
+fewer_after : (again : Bool) (messages : List Message) (room : ℕ) (verdict : Verdict) (front : Message) → slice_get messages 0 ≡ Some front → verdict ≢ Hold
+    → turns_left_in (queue_after (record { messages = messages; again = again; room = room }) verdict) < turns_left_in (record { messages = messages; again = again; room = room })
+fewer_after again [] room verdict front waits free = absurd (cc waits)
+fewer_after true (message.Request request ∷ rest) room verdict front waits free = omega arith
+fewer_after true (message.Reply reply ∷ rest) room verdict front waits free = omega arith
+fewer_after false (message.Request request ∷ rest) room Deliver front waits free = omega arith
+fewer_after false (message.Request request ∷ rest) room Lose front waits free = omega arith
+fewer_after false (message.Request request ∷ rest) room Twice front waits free = omega arith
+fewer_after false (message.Request request ∷ rest) room Late front waits free = omega arith
+fewer_after false (message.Request request ∷ rest) room Hold front waits free = absurd (free refl)
+fewer_after false (message.Reply reply ∷ rest) room Deliver front waits free = omega arith
+fewer_after false (message.Reply reply ∷ rest) room Lose front waits free = omega arith
+fewer_after false (message.Reply reply ∷ rest) room Twice front waits free = omega arith
+fewer_after false (message.Reply reply ∷ rest) room Late front waits free = omega arith
+fewer_after false (message.Reply reply ∷ rest) room Hold front waits free = absurd (free refl)
+
+-- also where a request is answered
+fewer_replied : (again : Bool) (messages : List Message) (room : ℕ) (verdict : Verdict) (request : _) (reply : Reply) → slice_get messages 0 ≡ Some (message.Request request) → fall_of again verdict ≡ Handle
+    → turns_left_in (pushed (queue_after (record { messages = messages; again = again; room = room }) verdict) (message.Reply reply)) < turns_left_in (record { messages = messages; again = again; room = room })
+fewer_replied again [] room verdict request reply waits falls = absurd (cc waits)
+fewer_replied again (message.Reply r ∷ rest) room verdict request reply waits falls = absurd (cc waits)
+fewer_replied true (message.Request r ∷ rest) room verdict request reply waits falls = let more : turns_in (rest ++ message.Reply reply ∷ []) ≡ turns_in rest + 2 = turns_append rest (message.Reply reply) in omega (arith, more)
+fewer_replied false (message.Request r ∷ rest) room Deliver request reply waits falls = let more : turns_in (rest ++ message.Reply reply ∷ []) ≡ turns_in rest + 2 = turns_append rest (message.Reply reply) in omega (arith, more)
+fewer_replied false (message.Request r ∷ rest) room Twice request reply waits falls = let more : turns_in (rest ++ message.Reply reply ∷ []) ≡ turns_in rest + 2 = turns_append rest (message.Reply reply) in omega (arith, more)
+fewer_replied false (message.Request r ∷ rest) room Lose request reply waits falls = absurd (cc falls)
+fewer_replied false (message.Request r ∷ rest) room Late request reply waits falls = absurd (cc falls)
+fewer_replied false (message.Request r ∷ rest) room Hold request reply waits falls = absurd (cc falls)
+
+-- ---- the queue of the proposer
+replied_own : (flow : FlowView) (id : ℕ) (verdict : Verdict) (reply : Reply) {front : Message} → slice_get (queue_at flow id).messages 0 ≡ Some front
+    → queue_at (frames.replied_flow flow id verdict reply) id ≡ pushed (queue_after (queue_at flow id) verdict) (message.Reply reply)
+replied_own flow id verdict reply waits =
+    queue_same (taken flow id verdict).own id (pushed (queue_at (taken flow id verdict) id) (message.Reply reply)) (omega (arith, has_queue flow.own id waits, length-set flow.own id (queue_after (queue_at flow id) verdict)))
+    ∙ ap (λ (q : QueueView). pushed q (message.Reply reply)) (taken_own flow id verdict waits)
+
+-- a frame that is not held back leaves fewer turns
+pub turn_fewer : {S V : Type 0} (m : Meaning S V) (old new : View S V) (id : ℕ) (verdict : Verdict) → verdict ≢ Hold → StepTurn m old id verdict new → turns_left new id < turns_left old id
+turn_fewer {S} {V} m old new id verdict free by = in_turn by.of_call by.front by.waits by.turn
+  where
+    by_taken : (front : Message) → slice_get (queue_at old.flow id).messages 0 ≡ Some front → new.flow ≡ taken old.flow id verdict → turns_left new id < turns_left old id
+    by_taken front waits same = subst (λ (q : QueueView). turns_left_in q < turns_left old id) (sym (ap (λ (f : FlowView). queue_at f id) same ∙ taken_own old.flow id verdict waits))
+        (fewer_after (queue_at old.flow id).again (queue_at old.flow id).messages (queue_at old.flow id).room verdict front waits free)
+
+    in_turn : (of_call : OpenCallAt old id) (front : Message) → slice_get (queue_at old.flow id).messages 0 ≡ Some front → frames.TakesTurn m old id verdict front of_call.caller of_call.call new → turns_left new id < turns_left old id
+    in_turn at front waits (frames.held fall same) = absurd (not_held (queue_at old.flow id).again verdict free fall)
+    in_turn at front waits (frames.gone fall same) = by_taken front waits (ap (λ (v : View S V). v.flow) same)
+    in_turn at front waits (frames.answers request acceptor now reply fall is there table same) =
+        subst (λ (q : QueueView). turns_left_in q < turns_left old id) (sym (ap (λ (v : View S V). queue_at v.flow id) same ∙ replied_own old.flow id verdict reply waits))
+        (fewer_replied (queue_at old.flow id).again (queue_at old.flow id).messages (queue_at old.flow id).room verdict request reply (waits ∙ ap (λ (x : Message). Some x) is) fall)
+    in_turn at front waits (frames.finds_down request acceptor fall is there down same) = by_taken front waits (ap (λ (v : View S V). v.flow) same)
+    in_turn at front waits (frames.brings_down request acceptor now fall is there stops same) = by_taken front waits (ap (λ (v : View S V). v.flow) same)
+    in_turn at front waits (frames.arrives reply desk now round heard fall is there is_round hears same) = by_taken front waits (ap (λ (v : View S V). v.flow) same)
+
+-- ---- one turn more
+-- the frame in front, of which the head is at hand
+record IsFront (messages : List Message) (leg : Leg) (peer : ℕ) : Type 0 where
+  frame : Message
+  at : slice_get messages 0 ≡ Some frame
+  head : head_of frame ≡ (leg, peer)
+
+front_of : (messages : List Message) (front : Option (Leg × ℕ)) (leg : Leg) (peer : ℕ) → front ≡ option_map head_of (slice_get messages 0) → front ≡ Some (leg, peer) → IsFront messages leg peer
+front_of [] front leg peer shown is = absurd (cc (shown, is))
+front_of (frame ∷ rest) front leg peer shown is = record { frame = frame; at = refl; head = some_is (sym shown ∙ is) }
+
+-- of the frame became what the rules say
+pub turned_more : {S V : Type 0} (m : Meaning S V) (rules : List Rule) (id : ℕ) (old mid new : View S V) (front : Option (Leg × ℕ)) (leg : Leg) (peer : ℕ) (verdict : Verdict) → front ≡ option_map head_of (slice_get (queue_at mid.flow id).messages 0) → front ≡ Some (leg, peer)
+    → verdict ≡ verdict_of rules leg peer → Turned m rules id old mid → StepTurn m mid id verdict new → Turned m rules id old new
+turned_more m rules id old mid new front leg peer verdict shown is says before by =
+    let one = front_of (queue_at mid.flow id).messages front leg peer shown is in
+    one_more one.frame before one.at (subst (λ (v : Verdict). StepTurn m mid id v new) (says ∙ ap (λ (h : Leg × ℕ). verdict_of rules h.0 h.1) (sym one.head)) by)
+
+pub none_waits : (messages : List Message) (front : Option (Leg × ℕ)) → front ≡ option_map head_of (slice_get messages 0) → front ≡ None → messages ≡ []
+none_waits [] front shown none = refl
+none_waits (one ∷ rest) front shown none = absurd (cc (shown, none))
+
+pub some_waits : (messages : List Message) (front : Option (Leg × ℕ)) (leg : Leg) (peer : ℕ) → front ≡ option_map head_of (slice_get messages 0) → front ≡ Some (leg, peer) → messages ≢ []
+some_waits messages front leg peer shown is empty = absurd (cc (shown ∙ ap (λ (l : List Message). option_map head_of (slice_get l 0)) empty, is))

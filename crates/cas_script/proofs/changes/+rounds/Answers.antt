@@ -1,0 +1,48 @@
+use Rattle.std.proofs.Common.{rules, sym, ◌∙◌, arith}
+use Rattle.std.specs.Prelude.{⊤}
+use Rattle.cas_script.specs.Changes.{last, another, none_begun}
+use Rattle.cas_script.proofs.Playing.{has_begun, begun_not_met, again_is, is_met, not_met, may_again}
+use Rattle.cas_script.proofs.changes.+rounds.Goals as goal
+
+pub returns-then-tries-eq1-clause-rounds : goal.returns-then-tries-eq1-clause-rounds
+returns-then-tries-eq1-clause-rounds g n c rules is = last (c.round-told.ensures.round rules is) (λ met. c.if-tries-eq1.true)
+
+pub returns-then-tries-eq1-clause-told : goal.returns-then-tries-eq1-clause-told
+returns-then-tries-eq1-clause-told g n c = (c.round-told.ensures.over _ c.requires.begun).was_told
+
+pub returns-then-not-is_conflict-clause-rounds : goal.returns-then-not-is_conflict-clause-rounds
+returns-then-not-is_conflict-clause-rounds g n c rules is =
+    last (c.round-told.ensures.round rules is) (not_met c.round-told.new.world c.args.caller c.args.call c.args.tries c.round-told.result (c.round-told.ensures.over _ c.requires.begun).was_told (sym c.is_conflict.ensures ∙ c.if-not-is_conflict.true))
+
+pub returns-then-not-is_conflict-clause-told : goal.returns-then-not-is_conflict-clause-told
+returns-then-not-is_conflict-clause-told g n c = (c.round-told.ensures.over _ c.requires.begun).was_told
+
+pub begin-requires-clause-may : goal.begin-requires-clause-may
+begin-requires-clause-may g n c = may_again c.round-told.new.world c.args.caller _ c.round-told.result (c.round-told.ensures.over _ c.requires.begun) (sym c.is_conflict.ensures ∙ c.if-not-is_conflict.false)
+
+pub rounds-requires : goal.rounds-requires
+rounds-requires g n c κs lives = (
+  omega (arith, c.decreases, c.if-tries-eq1.false, c.requires.some),
+  (lives.0,
+    (lives.1,
+      (search rules,
+        (has_begun _ c.round-told.new.world c.begin.new.self c.args.caller c.args.call c.args.key.now c.args.program.now c.in-Ok.ensures.step.0 c.in-Ok.ensures.step.1,
+          (omega (arith, c.if-tries-eq1.false, c.requires.some),
+            (c.requires.network.0, c.round-told.ensures.network c.requires.network.0 c.requires.network.1)))))),
+)
+
+pub returns-in-Ok-clause-rounds : goal.returns-in-Ok-clause-rounds
+returns-in-Ok-clause-rounds g n c rules is =
+    another (omega (arith, c.if-tries-eq1.false, c.requires.some)) (c.round-told.ensures.round rules is) (is_met c.round-told.new.world c.args.caller c.args.call c.round-told.result (c.round-told.ensures.over _ c.requires.begun).was_told (sym c.is_conflict.ensures ∙ c.if-not-is_conflict.false)) c.in-Ok.ensures.step.0
+    (c.rounds.ensures.rounds rules (c.round-told.ensures.network rules is))
+
+pub returns-clause-rounds : goal.returns-clause-rounds
+returns-clause-rounds g n c rules is =
+    let was = (c.round-told.ensures.over _ c.requires.begun).was_told in
+    let begun = again_is ⊤ _ c.round-told.new.world c.begin.new.self c.args.caller c.args.call c.args.call c.args.key.now c.args.program.now c.in-Err.told c.round-told.result was c.in-Err.ensures.step in
+    another (omega (arith, c.if-tries-eq1.false, c.requires.some)) (c.round-told.ensures.round rules is) (is_met c.round-told.new.world c.args.caller c.args.call c.round-told.result was (sym c.is_conflict.ensures ∙ c.if-not-is_conflict.false)) begun.0
+    (last none_begun (begun_not_met _ c.round-told.new.world c.begin.new.self c.args.caller c.args.key.now c.args.program.now _ begun.0))
+
+pub returns-clause-told : goal.returns-clause-told
+returns-clause-told g n c =
+    (again_is ⊤ _ c.round-told.new.world c.begin.new.self c.args.caller c.args.call c.args.call c.args.key.now c.args.program.now c.in-Err.told c.round-told.result (c.round-told.ensures.over _ c.requires.begun).was_told c.in-Err.ensures.step).1

@@ -1,0 +1,18 @@
+use Rattle.std.proofs.Common.{◌≡◌, Bool, List}
+use Rattle.cas_cluster.specs.View.{meaning}
+use Rattle.cas_script.specs.Changes.{Turned}
+use Rattle.cas_script.specs.Conditions.{Rule}
+use Rattle.cas_script.specs.Network.{IsNetwork}
+use Rattle.cas_script.specs.Playing.{Asked, IsPlaying, turns_left}
+use Rattle.cas_script.proofs.changes.all_turns.Given as goal
+
+abbrev pub invariant-loop-front : goal.invariant-loop-front
+invariant-loop-front g l = record {
+  turned : (rules : List Rule) → IsNetwork l.initial.network rules → Turned (meaning g.S.Shelf.contents g.S.Shelf.tells g.S.Shelf.may_leave g.V.Disk.tells g.V.Disk.may_leave) rules l.proposer l.initial.world l.world;
+  plays : (asked : Asked) (proposed : Bool) → IsPlaying l.initial.world l.proposer asked proposed → IsPlaying l.world l.proposer asked proposed;
+  network : (rules : List Rule) → IsNetwork l.initial.network rules → IsNetwork l.network rules;
+  greatest : l.world.greatest ≡ l.initial.world.greatest;
+}
+
+abbrev pub decreases-loop-front : goal.decreases-loop-front
+decreases-loop-front g l = turns_left l.world l.proposer

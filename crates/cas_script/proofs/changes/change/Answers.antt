@@ -1,0 +1,39 @@
+use Rattle.std.proofs.Common.{sym, subst, ◌∙◌}
+use Rattle.std.specs.Prelude.{⊤}
+use Rattle.cas_record.specs.declared.answer.Answer.{Answer}
+use Rattle.cas_cluster.specs.View.{meaning}
+use Rattle.cas_script.specs.Changes.{IsChange, refused, ended, last, none_begun}
+use Rattle.cas_script.proofs.Playing.{begun_first, has_begun, begun_not_met, refusal_is, told_is, end_closes}
+use Rattle.cas_script.proofs.changes.change.Goals as goal
+
+pub begin-requires-clause-may : goal.begin-requires-clause-may
+begin-requires-clause-may g c = begun_first c.args.world.now c.args.caller c.next_call-call.result c.args.key.now c.args.program.now c.requires.idle c.next_call-call.ensures
+
+pub rounds-answer-requires-clause-begun : goal.rounds-answer-requires-clause-begun
+rounds-answer-requires-clause-begun g c = has_begun _ c.args.world.now c.begin.new.self c.args.caller c.next_call-call.result c.args.key.now c.args.program.now c.in-Ok.ensures.step.0 c.in-Ok.ensures.step.1
+
+pub returns-in-Ok-clause-change : goal.returns-in-Ok-clause-change
+returns-in-Ok-clause-change g c rules is =
+    subst (λ (a : Answer). IsChange (meaning g.S.Shelf.contents g.S.Shelf.tells g.S.Shelf.may_leave g.V.Disk.tells g.V.Disk.may_leave) c.args.tries rules c.args.caller c.args.key.now c.args.program.now c.args.halt.now c.args.world.now a c.rounds-answer.new.halt c.end.new.self) (sym c.end.ensures.same)
+    (ended c.in-Ok.ensures.step.0 (c.rounds-answer.ensures.rounds rules is) c.end.ensures.step)
+
+pub returns-in-Ok-clause-idle : goal.returns-in-Ok-clause-idle
+returns-in-Ok-clause-idle g c = end_closes _ c.rounds-answer.new.world c.end.new.self c.args.caller c.rounds-answer.result c.end.ensures.step
+
+pub returns-in-Err-clause-change : goal.returns-in-Err-clause-change
+returns-in-Err-clause-change g c rules is =
+    let not_begun = refusal_is _ c.args.world.now c.begin.new.self c.args.caller c.next_call-call.result c.args.key.now c.args.program.now c.in-Err.refusal c.requires.idle (sym c.is_refusal.ensures ∙ c.if-is_refusal.true) c.in-Err.ensures.full c.in-Err.ensures.step in
+    refused not_begun.0 not_begun.1
+
+pub returns-in-Err-clause-idle : goal.returns-in-Err-clause-idle
+returns-in-Err-clause-idle g c =
+    (refusal_is _ c.args.world.now c.begin.new.self c.args.caller c.next_call-call.result c.args.key.now c.args.program.now c.in-Err.refusal c.requires.idle (sym c.is_refusal.ensures ∙ c.if-is_refusal.true) c.in-Err.ensures.full c.in-Err.ensures.step).2
+
+pub returns-in-Err-2-clause-change : goal.returns-in-Err-2-clause-change
+returns-in-Err-2-clause-change g c rules is =
+    let begun = told_is ⊤ _ c.args.world.now c.begin.new.self c.args.caller c.next_call-call.result c.args.key.now c.args.program.now c.in-Err.refusal (sym c.is_refusal.ensures ∙ c.if-is_refusal.false) c.in-Err.ensures.step in
+    subst (λ (a : Answer). IsChange (meaning g.S.Shelf.contents g.S.Shelf.tells g.S.Shelf.may_leave g.V.Disk.tells g.V.Disk.may_leave) c.args.tries rules c.args.caller c.args.key.now c.args.program.now c.args.halt.now c.args.world.now a c.args.halt.now c.end-in-Err-2.new.self) (sym c.end-in-Err-2.ensures.same)
+    (ended begun.0 (last none_begun (begun_not_met _ c.args.world.now c.begin.new.self c.args.caller c.args.key.now c.args.program.now _ begun.0)) c.end-in-Err-2.ensures.step)
+
+pub returns-in-Err-2-clause-idle : goal.returns-in-Err-2-clause-idle
+returns-in-Err-2-clause-idle g c = end_closes _ c.begin.new.self c.end-in-Err-2.new.self c.args.caller c.in-Err.refusal c.end-in-Err-2.ensures.step

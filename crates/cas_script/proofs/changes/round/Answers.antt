@@ -1,0 +1,48 @@
+use Rattle.std.proofs.Common.{Bool, subst}
+use Rattle.cas_cluster.specs.View.{meaning}
+use Rattle.cas_script.specs.Changes.{by_promise, proposes, IsAccepted}
+use Rattle.cas_script.specs.declared.halt.Halt.{Halt}
+use Rattle.cas_script.specs.Playing.{IsPlaying}
+use Rattle.cas_script.proofs.Playing.{round_plays}
+use Rattle.cas_script.proofs.changes.round.Goals as goal
+
+pub accept-requires-clause-open : goal.accept-requires-clause-open
+accept-requires-clause-open g c = (
+  c.requires.begun.0,
+  subst (λ (b : Bool). IsPlaying c.args.world.now c.args.proposer c.requires.begun.0 b) c.if-has_proposed.true
+      (round_plays c.args.world.now c.args.proposer c.requires.begun.0 c.has_proposed.result c.requires.begun.1 c.has_proposed.ensures.proposed c.has_proposed.ensures.phase),
+)
+
+pub returns-then-has_proposed-clause-round : goal.returns-then-has_proposed-clause-round
+returns-then-has_proposed-clause-round g c rules is = by_promise (c.accept.ensures.accepted rules is)
+
+pub returns-then-has_proposed-clause-over : goal.returns-then-has_proposed-clause-over
+returns-then-has_proposed-clause-over g c asked was = c.accept.ensures.over asked (subst (λ (b : Bool). IsPlaying c.args.world.now c.args.proposer asked b) c.if-has_proposed.true
+    (round_plays c.args.world.now c.args.proposer asked c.has_proposed.result was c.has_proposed.ensures.proposed c.has_proposed.ensures.phase))
+
+pub prepare-requires-clause-open : goal.prepare-requires-clause-open
+prepare-requires-clause-open g c = (
+  c.requires.begun.0,
+  subst (λ (b : Bool). IsPlaying c.args.world.now c.args.proposer c.requires.begun.0 b) c.if-has_proposed.false
+      (round_plays c.args.world.now c.args.proposer c.requires.begun.0 c.has_proposed.result c.requires.begun.1 c.has_proposed.ensures.proposed c.has_proposed.ensures.phase),
+)
+
+pub accept-requires-in-Ok-clause-open : goal.accept-requires-in-Ok-clause-open
+accept-requires-in-Ok-clause-open g c = (
+  c.requires.begun.0,
+  c.in-Ok.ensures.plays c.requires.begun.0 (subst (λ (b : Bool). IsPlaying c.args.world.now c.args.proposer c.requires.begun.0 b) c.if-has_proposed.false
+      (round_plays c.args.world.now c.args.proposer c.requires.begun.0 c.has_proposed.result c.requires.begun.1 c.has_proposed.ensures.proposed c.has_proposed.ensures.phase)),
+)
+
+pub returns-in-Ok-clause-round : goal.returns-in-Ok-clause-round
+returns-in-Ok-clause-round g c rules is =
+    proposes (c.in-Ok.ensures.proposed rules is) (subst (λ (h : Halt). IsAccepted (meaning g.S.Shelf.contents g.S.Shelf.tells g.S.Shelf.may_leave g.V.Disk.tells g.V.Disk.may_leave) rules c.args.proposer h c.prepare.new.world c.accept-in-Ok.new.halt c.accept-in-Ok.new.world)
+    c.in-Ok.ensures.same_halt (c.accept-in-Ok.ensures.accepted rules (c.prepare.ensures.network rules is)))
+
+pub returns-in-Ok-clause-over : goal.returns-in-Ok-clause-over
+returns-in-Ok-clause-over g c asked was = c.accept-in-Ok.ensures.over asked (c.in-Ok.ensures.plays asked (subst (λ (b : Bool). IsPlaying c.args.world.now c.args.proposer asked b) c.if-has_proposed.false
+    (round_plays c.args.world.now c.args.proposer asked c.has_proposed.result was c.has_proposed.ensures.proposed c.has_proposed.ensures.phase)))
+
+pub returns-in-Err-clause-over : goal.returns-in-Err-clause-over
+returns-in-Err-clause-over g c asked was = c.in-Err.ensures.over asked (subst (λ (b : Bool). IsPlaying c.args.world.now c.args.proposer asked b) c.if-has_proposed.false
+    (round_plays c.args.world.now c.args.proposer asked c.has_proposed.result was c.has_proposed.ensures.proposed c.has_proposed.ensures.phase))

@@ -1,0 +1,4 @@
+pub mod Changes
+pub mod Conditions
+pub mod Network
+pub mod Playing

@@ -1,0 +1,231 @@
+//! One change, from its call to its answer.
+
+ghost use Rattle.std.specs.Prelude.{◌≡◌, ◌≤◌, ◌↔◌, Bool, true, false, Some, List, IsTrue, IfErr, OnOk, OnErr};
+ghost use Rattle.cas_cluster.specs.Step.{Step, CrashProposer};
+ghost use Rattle.cas_cluster.specs.View.{meaning};
+ghost use Rattle.cas_record.specs.declared.answer.Answer.TheVariants as answer;
+ghost use Rattle.cas_world.specs.Beginning.{is_refusal, HasNoCall};
+ghost use Rattle.cas_world.specs.World.{WasTold};
+ghost use Rattle.cas_script.specs.Changes.{AllTurned, FailsToTurn, EndsPrepare, IsAccepted, IsRound, AreRounds, IsChange, HasQuorum};
+ghost use Rattle.cas_script.specs.Conditions.{Rule};
+ghost use Rattle.cas_script.specs.Network.{IsNetwork};
+ghost use Rattle.cas_script.specs.Playing.{Asked, HasBegun, IsPlaying, IsOver, is_conflict};
+
+use crate::halt::Halt;
+use crate::network::Network;
+use cas_change::{Key, Program};
+use cas_disk::Disk;
+use cas_record::Answer;
+use cas_round::RoundVerdict;
+use cas_slot::Shelf;
+use cas_world::World;
+use std::alloc::AllocError;
+
+/// Runs a change as the caller's next call, and gives its answer. It has so many rounds at most, from 1: another is begun exactly where
+/// the last one ended with a conflict. What becomes of each frame the network says, and the proposer halts where it is to.
+pub fn change<S: Shelf, V: Disk>(
+    world: &mut World<S, V>,
+    network: &mut Network,
+    halt: &mut Halt,
+    tries: u8,
+    caller: u8,
+    key: &Key,
+    program: &Program,
+) -> Answer
+    requires known { caller ≤ world.old.greatest }
+    requires idle { HasNoCall world.old caller }
+    requires some { 1 ≤ tries }
+    requires network { (rules : List Rule) × IsNetwork network.old rules }
+    ensures change { (rules : List Rule) → IsNetwork network.old rules → IsChange (meaning S.contents S.tells S.may_leave V.tells V.may_leave) tries rules caller key.now program.now halt.old world.old result halt.new world.new }
+    ensures network { (rules : List Rule) → IsNetwork network.old rules → IsNetwork network.new rules }
+    ensures idle { HasNoCall world.new caller }
+    ensures greatest { world.new.greatest ≡ world.old.greatest }
+{
+    let call = world.next_call(caller);
+    match world.begin(caller, call, key, program) {
+        Ok(()) => {
+            let answer = rounds(world, network, halt, tries, caller, call, key, program);
+            world.end(caller, call, answer)
+        }
+        Err(refusal) if is_refusal(&refusal) => refusal,
+        Err(told) => world.end(caller, call, told),
+    }
+}
+
+/// Whether a new call that is answered so was not begun.
+fn is_refusal(answer: &Answer) -> bool
+    ensures { result ≡ is_refusal answer.now }
+{
+    matches!(answer, Answer::RecordFull | Answer::NoMemory { .. })
+}
+
+/// Runs the caller's round, which is open, and as many more as there are tries while each ends with a conflict. Gives what the caller
+/// is told.
+fn rounds<S: Shelf, V: Disk>(
+    world: &mut World<S, V>,
+    network: &mut Network,
+    halt: &mut Halt,
+    tries: u8,
+    caller: u8,
+    call: u32,
+    key: &Key,
+    program: &Program,
+) -> Answer
+    requires known { caller ≤ world.old.greatest }
+    requires begun { HasBegun world.old caller (record { number = call; key = key.now; program = program.now }) }
+    requires some { 1 ≤ tries }
+    requires network { (rules : List Rule) × IsNetwork network.old rules }
+    ensures rounds { (rules : List Rule) → IsNetwork network.old rules → AreRounds (meaning S.contents S.tells S.may_leave V.tells V.may_leave) rules caller key.now program.now tries halt.old world.old halt.new world.new }
+    ensures network { (rules : List Rule) → IsNetwork network.old rules → IsNetwork network.new rules }
+    ensures told { WasTold world.new caller call result }
+    ensures greatest { world.new.greatest ≡ world.old.greatest }
+{
+    let told = round(world, network, halt, caller);
+    if tries == 1 {
+        return told;
+    }
+    if !is_conflict(&told) {
+        return told;
+    }
+    match world.begin(caller, call, key, program) {
+        Ok(()) => rounds(world, network, halt, tries - 1, caller, call, key, program),
+        Err(told) => told,
+    }
+}
+
+/// Whether it tells of a conflict.
+fn is_conflict(answer: &Answer) -> bool
+    ensures { result ≡ is_conflict answer.now }
+{
+    matches!(answer, Answer::Conflict { .. })
+}
+
+/// Runs the proposer's round, which is open, and gives what its caller is told.
+fn round<S: Shelf, V: Disk>(
+    world: &mut World<S, V>,
+    network: &mut Network,
+    halt: &mut Halt,
+    proposer: u8,
+) -> Answer
+    requires known { proposer ≤ world.old.greatest }
+    requires begun { (asked : Asked) × HasBegun world.old proposer asked }
+    requires network { (rules : List Rule) × IsNetwork network.old rules }
+    ensures round { (rules : List Rule) → IsNetwork network.old rules → IsRound (meaning S.contents S.tells S.may_leave V.tells V.may_leave) rules proposer halt.old world.old halt.new world.new }
+    ensures network { (rules : List Rule) → IsNetwork network.old rules → IsNetwork network.new rules }
+    ensures over { (asked : Asked) → HasBegun world.old proposer asked → IsOver world.new proposer asked result }
+    ensures greatest { world.new.greatest ≡ world.old.greatest }
+{
+    if world.has_proposed(proposer) {
+        return accept(world, network, halt, proposer);
+    }
+    match prepare(world, network, halt, proposer) {
+        Ok(()) => accept(world, network, halt, proposer),
+        Err(told) => told,
+    }
+}
+
+/// Runs the prepare phase of the proposer's round up to its proposal. An `Err` is what its caller was told.
+fn prepare<S: Shelf, V: Disk>(
+    world: &mut World<S, V>,
+    network: &mut Network,
+    halt: &mut Halt,
+    proposer: u8,
+) -> Result<(), Answer>
+    requires known { proposer ≤ world.old.greatest }
+    requires open { (asked : Asked) × IsPlaying world.old proposer asked false }
+    requires network { (rules : List Rule) × IsNetwork network.old rules }
+    ensures proposed { (rules : List Rule) → IsNetwork network.old rules → OnOk result (EndsPrepare (meaning S.contents S.tells S.may_leave V.tells V.may_leave) rules proposer halt.old world.old world.new) }
+    ensures same_halt { OnOk result (halt.new ≡ halt.old) }
+    ensures plays { (asked : Asked) → IsPlaying world.old proposer asked false → OnOk result (IsPlaying world.new proposer asked true) }
+    ensures refused { (rules : List Rule) → IsNetwork network.old rules → OnErr result (IsRound (meaning S.contents S.tells S.may_leave V.tells V.may_leave) rules proposer halt.old world.old halt.new world.new) }
+    ensures over { (asked : Asked) → IsPlaying world.old proposer asked false → IfErr result (IsOver world.new proposer asked) }
+    ensures network { (rules : List Rule) → IsNetwork network.old rules → IsNetwork network.new rules }
+    ensures greatest { world.new.greatest ≡ world.old.greatest }
+{
+    if all_turns(world, network, proposer).is_err() {
+        return Err(Answer::NoMemory { proposed: false });
+    }
+    if halt.after_prepare && has_quorum(world, proposer) {
+        halt.after_prepare = false;
+        return Err(crash(world, proposer));
+    }
+    world.propose(proposer)
+}
+
+/// Runs the accept phase of the proposer's round, and gives what its caller is told.
+fn accept<S: Shelf, V: Disk>(
+    world: &mut World<S, V>,
+    network: &mut Network,
+    halt: &mut Halt,
+    proposer: u8,
+) -> Answer
+    requires known { proposer ≤ world.old.greatest }
+    requires open { (asked : Asked) × IsPlaying world.old proposer asked true }
+    requires network { (rules : List Rule) × IsNetwork network.old rules }
+    ensures accepted { (rules : List Rule) → IsNetwork network.old rules → IsAccepted (meaning S.contents S.tells S.may_leave V.tells V.may_leave) rules proposer halt.old world.old halt.new world.new }
+    ensures over { (asked : Asked) → IsPlaying world.old proposer asked true → IsOver world.new proposer asked result }
+    ensures network { (rules : List Rule) → IsNetwork network.old rules → IsNetwork network.new rules }
+    ensures greatest { world.new.greatest ≡ world.old.greatest }
+{
+    if halt.after_propose {
+        halt.after_propose = false;
+        return crash(world, proposer);
+    }
+    if all_turns(world, network, proposer).is_err() {
+        return Answer::NoMemory { proposed: true };
+    }
+    world.count(proposer)
+}
+
+/// Makes turns until no frame of the proposer waits. What becomes of each frame the network says.
+fn all_turns<S: Shelf, V: Disk>(
+    world: &mut World<S, V>,
+    network: &mut Network,
+    proposer: u8,
+) -> Result<(), AllocError>
+    requires known { proposer ≤ world.old.greatest }
+    requires network { (rules : List Rule) × IsNetwork network.old rules }
+    ensures through { (rules : List Rule) → IsNetwork network.old rules → OnOk result (AllTurned (meaning S.contents S.tells S.may_leave V.tells V.may_leave) rules proposer world.old world.new) }
+    ensures fails { (rules : List Rule) → IsNetwork network.old rules → OnErr result (FailsToTurn (meaning S.contents S.tells S.may_leave V.tells V.may_leave) rules proposer world.old world.new) }
+    ensures plays { (asked : Asked) (proposed : Bool) → IsPlaying world.old proposer asked proposed → OnOk result (IsPlaying world.new proposer asked proposed) }
+    ensures told { (asked : Asked) (proposed : Bool) → IsPlaying world.old proposer asked proposed → OnErr result (IsOver world.new proposer asked (answer.NoMemory proposed)) }
+    ensures network { (rules : List Rule) → IsNetwork network.old rules → IsNetwork network.new rules }
+    ensures greatest { world.new.greatest ≡ world.old.greatest }
+{
+    while let Some(front) = world.front(proposer) {
+        let verdict = network.verdict(front.0, front.1);
+        world.turn(proposer, verdict)?;
+    }
+    Ok(())
+}
+
+/// Whether a quorum confirmed in the open phase of the proposer's round.
+fn has_quorum<S: Shelf, V: Disk>(world: &World<S, V>, proposer: u8) -> bool
+    requires known { proposer ≤ world.now.greatest }
+    requires open { (asked : Asked) × (proposed : Bool) × IsPlaying world.now proposer asked proposed }
+    ensures { IsTrue result ↔ HasQuorum world.now proposer }
+{
+    is_quorum(world.verdict(proposer))
+}
+
+/// Whether it is a quorum.
+fn is_quorum(verdict: Option<RoundVerdict>) -> bool
+    ensures { IsTrue result ↔ (verdict ≡ Some RoundVerdict.Quorum) }
+{
+    matches!(verdict, Some(RoundVerdict::Quorum))
+}
+
+/// The proposer crashes within its round, which is open. Gives what its caller is told.
+fn crash<S: Shelf, V: Disk>(world: &mut World<S, V>, proposer: u8) -> Answer
+    requires known { proposer ≤ world.old.greatest }
+    requires open { (asked : Asked) × (proposed : Bool) × IsPlaying world.old proposer asked proposed }
+    ensures step { Step (meaning S.contents S.tells S.may_leave V.tells V.may_leave) world.old (CrashProposer proposer) world.new }
+    ensures over { (asked : Asked) (proposed : Bool) → IsPlaying world.old proposer asked proposed → IsOver world.new proposer asked result }
+    ensures greatest { world.new.greatest ≡ world.old.greatest }
+{
+    world.crash_proposer(proposer);
+    match world.closed(proposer) {
+        Some(told) => told,
+        None => unreachable!(),
+    }
+}

@@ -1,0 +1,13 @@
+//! Scripts over a world: changes with their tries, links that lose, repeat and delay frames, stops, halts, and late frames that stray in.
+//!
+//! A line is run here, and its answer is given as bytes. Reading lines from a source and writing answers to a sink live above, and the
+//! protocol lives below.
+#![tactic(auto)]
+
+mod changes;
+mod halt;
+mod network;
+
+pub use changes::change;
+pub use halt::Halt;
+pub use network::Network;
