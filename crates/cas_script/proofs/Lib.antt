@@ -1,3 +1,4 @@
+pub mod Happenings
 pub mod Outcomes
 pub mod Playing
 pub mod Rules

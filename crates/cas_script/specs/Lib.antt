@@ -1,4 +1,6 @@
 pub mod Changes
 pub mod Conditions
+pub mod Events
 pub mod Network
 pub mod Playing
+pub mod Script

@@ -5,9 +5,12 @@
 #![tactic(auto)]
 
 mod changes;
+mod events;
 mod halt;
 mod network;
+mod script;
 
 pub use changes::change;
 pub use halt::Halt;
 pub use network::Network;
+pub use script::Script;

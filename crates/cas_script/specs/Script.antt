@@ -1,0 +1,135 @@
+-- A script: its lines run one after another, each has its answer, and the answers are its transcript.
+use Rattle.std.specs.Prelude.{◌≡◌, ◌≤◌, ℕ, suc, Bool, true, false, List, [], ◌∷◌, ◌++◌, Some, None, Err, replicate, slice_get, slice_set}
+use Rattle.cas_change_text.specs.declared.refusal.Why.{Why}
+use Rattle.cas_lines.specs.Answers.{change_line, bad_line, event_line, shown_line}
+use Rattle.cas_lines.specs.Command.{IsLine, Asked, change_of}
+use Rattle.cas_lines.specs.Reading.{line_in}
+use Rattle.cas_lines.specs.declared.answer.EventAnswer.{EventAnswer}
+use Rattle.cas_lines.specs.declared.answer.EventAnswer.TheVariants as event
+use Rattle.cas_lines.specs.declared.answer.Shown.{Shown}
+use Rattle.cas_lines.specs.declared.command.Command.{Command}
+use Rattle.cas_lines.specs.declared.command.Command.TheVariants.{Net, CrashAcceptor, RestartAcceptor, CrashProposer, RestartProposer, HaltPrepared, HaltProposed, Stray, Show}
+use Rattle.cas_record.specs.declared.answer.Answer.{Answer}
+use Rattle.cas_cluster.specs.Step as step
+use Rattle.cas_cluster.specs.Step.{Step}
+use Rattle.cas_cluster.specs.View.{View, IsAt}
+use Rattle.cas_world.specs.Beginning.{HasNoCall}
+use Rattle.cas_script.specs.Changes.{IsChange}
+use Rattle.cas_script.specs.Conditions.{Rule}
+use Rattle.cas_script.specs.Events.{Kinds, CrashesAcceptor, RestartsAcceptor, RestartsProposer, StraysIn, IsShown}
+use Rattle.cas_script.specs.Network.{IsNetwork}
+use Rattle.cas_script.specs.declared.halt.Halt.{Halt}
+use Rattle.cas_script.specs.declared.halt.Halt.TheConstants.{NOWHERE}
+use Rattle.cas_script.specs.declared.script.Script.{Script}
+
+-- ---- states
+-- the world, the rules for its frames, the last one first, and where each proposer is to halt
+pub record State (S V : Type 0) : Type 0 where
+  pub world : View S V
+  pub rules : List Rule
+  pub halts : List Halt
+
+-- a script over a world begins with nothing set
+abbrev pub opening_state : {S V : Type 0} → View S V → State S V
+opening_state world = record { world = world; rules = []; halts = replicate 17 NOWHERE }
+
+-- ---- answers
+-- what answers a line: what its caller is told of its change, what an event did, what is shown, why the line is bad, or nothing where it
+-- is a remark
+pub data LineAnswer : Type 0 where
+  Changed : ℕ → Answer → LineAnswer
+  Happened : EventAnswer → LineAnswer
+  Shows : ℕ → List ℕ → Shown → LineAnswer
+  Bad : Why → LineAnswer
+  Remark : LineAnswer
+
+-- a line that asks for a change runs it, and the halts of its proposer may be used up
+pub record RunsChange {S V : Type 0} (k : Kinds S V) (tries : ℕ) (old : State S V) (asked : Asked) (answer : Answer) (new : State S V) : Type 0 where
+  pub halt : Halt
+  pub at_halt : IsAt old.halts asked.caller halt
+  pub after : Halt
+  pub change : IsChange k.meaning tries old.rules asked.caller asked.key asked.program halt old.world answer after new.world
+  pub rules : new.rules ≡ old.rules
+  pub halts : new.halts ≡ slice_set old.halts asked.caller after
+
+-- an event line: one more rule for frames, a stop or a restart, a halt that is due, or a late frame
+pub data RunsEvent {S V : Type 0} (k : Kinds S V) (old : State S V) : Command → EventAnswer → State S V → Type 0 where
+  net : {leg : _} {who : _} {verdict : _} {new : State S V} → new ≡ record old { rules = record { leg = leg; who = who; verdict = verdict } ∷ old.rules } → RunsEvent k old (Net leg who verdict) event.Ok new
+  crash_acceptor : {id : ℕ} {answer : EventAnswer} {world : View S V} → CrashesAcceptor k.meaning old.world id answer world → RunsEvent k old (CrashAcceptor id) answer (record old { world = world })
+  restart_acceptor : {id : ℕ} {answer : EventAnswer} {world : View S V} → RestartsAcceptor k old.world id answer world → RunsEvent k old (RestartAcceptor id) answer (record old { world = world })
+  crash_proposer : {proposer : ℕ} {world : View S V} → Step k.meaning old.world (step.CrashProposer proposer) world → RunsEvent k old (CrashProposer proposer) event.Ok (record old { world = world })
+  restart_proposer : {proposer : ℕ} {answer : EventAnswer} {world : View S V} → RestartsProposer k old.world proposer answer world → RunsEvent k old (RestartProposer proposer) answer (record old { world = world })
+  halt_prepared : {proposer : ℕ} (halt : Halt) {new : State S V} → IsAt old.halts proposer halt → new ≡ record old { halts = slice_set old.halts proposer (record halt { after_prepare = true }) } → RunsEvent k old (HaltPrepared proposer) event.Ok new
+  halt_proposed : {proposer : ℕ} (halt : Halt) {new : State S V} → IsAt old.halts proposer halt → new ≡ record old { halts = slice_set old.halts proposer (record halt { after_propose = true }) } → RunsEvent k old (HaltProposed proposer) event.Ok new
+  stray : {index : ℕ} {answer : EventAnswer} {world : View S V} → StraysIn k.meaning old.world index answer world → RunsEvent k old (Stray index) answer (record old { world = world })
+
+-- the line is run as its words say, by a script of so many tries
+pub data IsAnswered {S V : Type 0} (k : Kinds S V) (tries : ℕ) (old : State S V) (line : List ℕ) : LineAnswer → State S V → Type 0 where
+  changes : {answer : Answer} {new : State S V} (command : Command) (asked : Asked) → IsLine old.world.greatest line (Some command) → change_of command ≡ Some asked → RunsChange k tries old asked answer new
+      → IsAnswered k tries old line (Changed asked.caller answer) new
+  happens : {answer : EventAnswer} {new : State S V} (command : Command) → IsLine old.world.greatest line (Some command) → RunsEvent k old command answer new → IsAnswered k tries old line (Happened answer) new
+  shows : {shown : Shown} (id : ℕ) (key : List ℕ) → IsLine old.world.greatest line (Some (Show id key)) → IsShown k.meaning old.world id key shown → IsAnswered k tries old line (Shows id key shown) old
+  -- a line that is refused changes nothing
+  refused : (why : Why) (word : ℕ) → line_in old.world.greatest line ≡ Err (record { why = why; word = word }) → IsAnswered k tries old line (Bad why) old
+  remark : IsLine old.world.greatest line None → IsAnswered k tries old line Remark old
+
+-- the lines were run one after another, with these answers
+pub data ScriptRun {S V : Type 0} (k : Kinds S V) (tries : ℕ) (old : State S V) : List (List ℕ) → List LineAnswer → State S V → Type 0 where
+  none : ScriptRun k tries old [] [] old
+  one_more : {lines : List (List ℕ)} {answers : List LineAnswer} {mid new : State S V} (line : List ℕ) (answer : LineAnswer) → ScriptRun k tries old lines answers mid → IsAnswered k tries mid line answer new
+      → ScriptRun k tries old (lines ++ line ∷ []) (answers ++ answer ∷ []) new
+
+-- the text of the answer to the line of that number
+abbrev pub text_of : ℕ → LineAnswer → List ℕ
+text_of number (Changed caller answer) = change_line caller answer
+text_of number (Happened answer) = event_line answer
+text_of number (Shows id key shown) = shown_line id key shown
+text_of number (Bad why) = bad_line number why
+text_of number Remark = []
+
+-- the texts of the answers to the lines from that number on
+abbrev pub transcript_of : ℕ → List LineAnswer → List ℕ
+transcript_of number [] = []
+transcript_of number (answer ∷ later) = text_of number answer ++ transcript_of (suc number) later
+
+-- ---- scripts
+-- no call is open
+abbrev pub AllIdle : {S V : Type 0} → View S V → Type 0
+AllIdle view = (id : ℕ) → id ≤ view.greatest → HasNoCall view id
+
+-- a script is in this state
+pub record IsIn {S V : Type 0} (script : Script S V) (state : State S V) : Type 0 where
+  pub world : script.world ≡ state.world
+  pub network : IsNetwork script.network state.rules
+  pub halts : script.halts ≡ state.halts
+
+-- the line of that number was run, and this is the text of its answer
+pub record AnswersLine {S V : Type 0} (k : Kinds S V) (tries : ℕ) (old : State S V) (line : List ℕ) (number : ℕ) (text : List ℕ) (script : Script S V) : Type 0 where
+  pub answer : LineAnswer
+  pub new : State S V
+  pub is_in : IsIn script new
+  pub run : IsAnswered k tries old line answer new
+  pub text_is : text ≡ text_of number answer
+
+-- where there was no memory the line was run, or was not
+pub data RanOrNot {S V : Type 0} (k : Kinds S V) (tries : ℕ) (old : State S V) (line : List ℕ) (script : Script S V) : Type 0 where
+  not_run : IsIn script old → RanOrNot k tries old line script
+  ran : (answer : LineAnswer) (new : State S V) → IsIn script new → IsAnswered k tries old line answer new → RanOrNot k tries old line script
+
+-- a script is in some state that has P
+pub record Runs {S V : Type 0} (P : State S V → Type 0) (script : Script S V) : Type 0 where
+  pub new : State S V
+  pub is_in : IsIn script new
+  pub has : P new
+
+-- it is an event line that does something
+abbrev pub is_event : Command → Bool
+is_event (Net leg who verdict) = true
+is_event (CrashAcceptor id) = true
+is_event (RestartAcceptor id) = true
+is_event (CrashProposer proposer) = true
+is_event (RestartProposer proposer) = true
+is_event (HaltPrepared proposer) = true
+is_event (HaltProposed proposer) = true
+is_event (Stray index) = true
+is_event other = false
