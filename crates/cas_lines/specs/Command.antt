@@ -1,5 +1,5 @@
--- The lines that ask for a change, and what they ask for.
-use Rattle.std.specs.Prelude.{◌≡◌, ℕ, ◌≤◌, Bool, true, false, ◌==◌, List, [], ◌∷◌, length, codes, Option, Some, None}
+-- The lines that ask for a change or are an event, and what they ask for.
+use Rattle.std.specs.Prelude.{◌≡◌, ◌≢◌, ℕ, ◌≤◌, Bool, true, false, ◌==◌, List, [], ◌∷◌, ◌++◌, length, codes, Option, Some, None, IfSome}
 use Rattle.cas_change.specs.Key.{IsKey}
 use Rattle.cas_change.specs.declared.program.Clause.{Clause}
 use Rattle.cas_change.specs.declared.program.Guard.{Guard}
@@ -9,9 +9,13 @@ use Rattle.cas_change.specs.declared.program.Act.TheVariants.{Keep, PutText, Put
 use Rattle.cas_change_text.specs.Decimal.{u64_of, i64_of}
 use Rattle.cas_change_text.specs.Grammar.{IsTextWord, IsClauses, IsProgram}
 use Rattle.cas_change_text.specs.Words.{Word, words_of}
-use Rattle.cas_lines.specs.declared.command.TheConstants.{LONGEST_LINE}
+use Rattle.cas_fate.specs.declared.fate.Leg.{Leg}
+use Rattle.cas_fate.specs.declared.fate.Leg.TheVariants as legs
+use Rattle.cas_fate.specs.declared.fate.Verdict.{Verdict}
+use Rattle.cas_fate.specs.declared.fate.Verdict.TheVariants as verdicts
+use Rattle.cas_lines.specs.declared.reading.TheConstants.{LONGEST_LINE}
 use Rattle.cas_lines.specs.declared.command.Command.{Command}
-use Rattle.cas_lines.specs.declared.command.Command.TheVariants.{Get, Set, Num, Init, Add, Cas, CasNum, Del, DelVersion, Do}
+use Rattle.cas_lines.specs.declared.command.Command.TheVariants.{Get, Set, Num, Init, Add, Cas, CasNum, Del, DelVersion, Do, Net, CrashAcceptor, RestartAcceptor, CrashProposer, RestartProposer, HaltPrepared, HaltProposed, Stray, Show}
 
 -- ---- the grammar
 
@@ -32,6 +36,50 @@ abbrev pub IsFormAt : ℕ → List Word → ℕ → Word → List ℕ → ℕ �
 IsFormAt proposers words caller name key version P =
     (first last : Word) × IsForm proposers words caller name key (first ∷ last ∷ []) × (u64_of first ≡ Some version) × P last
 
+-- the word is an acceptor's number
+abbrev pub IsAcceptor : ℕ → Word → Type 0
+IsAcceptor id word = (u64_of word ≡ Some id) × (id ≤ 63)
+
+-- the word is the number of one of the proposers, where the operator's own is 0
+abbrev pub IsProposer : ℕ → ℕ → Word → Type 0
+IsProposer proposers proposer word = (u64_of word ≡ Some proposer) × (proposer ≤ proposers)
+
+-- the word that names a leg
+abbrev pub leg_word : Leg → Word
+leg_word legs.Prepare = codes "prepare"
+leg_word legs.Accept = codes "accept"
+leg_word legs.Ages = codes "ages"
+leg_word legs.Remove = codes "remove"
+leg_word legs.List = codes "list"
+leg_word legs.Probe = codes "probe"
+leg_word legs.Reply = codes "reply"
+
+-- the word names this leg, or all of them
+abbrev pub IsLeg : Option Leg → Word → Type 0
+IsLeg None word = word ≡ codes "all"
+IsLeg (Some leg) word = word ≡ leg_word leg
+
+-- the word is this acceptor's number, or stands for all of them
+abbrev pub IsWho : Option ℕ → Word → Type 0
+IsWho None word = word ≡ codes "*"
+IsWho (Some id) word = IsAcceptor id word
+
+-- the word names this verdict. No word names that a frame is held back
+abbrev pub IsVerdict : Verdict → Word → Type 0
+IsVerdict verdicts.Deliver word = word ≡ codes "deliver"
+IsVerdict verdicts.Lose word = word ≡ codes "lose"
+IsVerdict verdicts.Twice word = word ≡ codes "twice"
+IsVerdict verdicts.Late word = word ≡ codes "late"
+IsVerdict verdicts.Hold word = ⊥
+
+-- these words, and a last one
+abbrev pub IsEvent : List Word → List Word → (Word → Type 0) → Type 0
+IsEvent words names P = (last : Word) × (words ≡ names ++ last ∷ []) × P last
+
+-- a halt of a proposer at the point of this name
+abbrev pub IsHalt : ℕ → List Word → ℕ → Word → Type 0
+IsHalt proposers words proposer point = (word : Word) × (words ≡ codes "halt" ∷ word ∷ point ∷ []) × IsProposer proposers proposer word
+
 -- the words of a command, of which there is one form for each
 abbrev pub IsCommand : ℕ → List Word → Command → Type 0
 IsCommand proposers words (Get caller key) = IsForm proposers words caller (codes "get") key []
@@ -44,6 +92,16 @@ IsCommand proposers words (CasNum caller key version number) = IsFormAt proposer
 IsCommand proposers words (Del caller key) = IsForm proposers words caller (codes "del") key []
 IsCommand proposers words (DelVersion caller key version) = IsFormWith proposers words caller (codes "delv") key (λ word. u64_of word ≡ Some version)
 IsCommand proposers words (Do caller key program) = (rest : List Word) × IsForm proposers words caller (codes "do") key rest × IsProgram rest program
+IsCommand proposers words (Net leg who verdict) =
+    (first second third : Word) × (words ≡ codes "net" ∷ first ∷ second ∷ third ∷ []) × IsLeg leg first × IsWho who second × IsVerdict verdict third
+IsCommand proposers words (CrashAcceptor id) = IsEvent words (codes "crash" ∷ codes "acceptor" ∷ []) (IsAcceptor id)
+IsCommand proposers words (RestartAcceptor id) = IsEvent words (codes "restart" ∷ codes "acceptor" ∷ []) (IsAcceptor id)
+IsCommand proposers words (CrashProposer proposer) = IsEvent words (codes "crash" ∷ codes "proposer" ∷ []) (IsProposer proposers proposer)
+IsCommand proposers words (RestartProposer proposer) = IsEvent words (codes "restart" ∷ codes "proposer" ∷ []) (IsProposer proposers proposer)
+IsCommand proposers words (HaltPrepared proposer) = IsHalt proposers words proposer (codes "after-prepare")
+IsCommand proposers words (HaltProposed proposer) = IsHalt proposers words proposer (codes "after-propose")
+IsCommand proposers words (Stray index) = IsEvent words (codes "stray" ∷ []) (λ word. u64_of word ≡ Some index)
+IsCommand proposers words (Show id key) = (word : Word) × (words ≡ codes "show" ∷ word ∷ key ∷ []) × IsAcceptor id word × IsKey key
 
 -- the same, where a program may have any number of clauses
 abbrev pub IsUnlimited : ℕ → List Word → Command → Type 0
@@ -68,45 +126,41 @@ abbrev pub IsLine : ℕ → List ℕ → Option Command → Type 0
 IsLine proposers line None = (length line ≤ LONGEST_LINE) × (is_remark (words_of line) ≡ true)
 IsLine proposers line (Some command) = (length line ≤ LONGEST_LINE) × IsCommand proposers (words_of line) command
 
--- ---- the programs of the forms
+-- ---- what a command asks for
+
+-- a change of the register of a key, for a caller
+pub record Asked : Type 0 where
+  pub caller : ℕ
+  pub key : List ℕ
+  pub program : List Clause
+
+abbrev pub asks : ℕ → List ℕ → List Clause → Option Asked
+asks caller key program = Some (record { caller = caller; key = key; program = program })
 
 -- a program of one clause
 abbrev pub one : Guard → Act → List Clause
 one guard act = record { guard = guard; act = act } ∷ []
 
--- what a command does to the register of its key
-abbrev pub program_of : Command → List Clause
-program_of (Get caller key) = one Always Keep
-program_of (Set caller key text) = one Always (PutText text)
-program_of (Num caller key number) = one Always (PutNumber number)
-program_of (Init caller key number) = one IsEmpty (PutNumber number)
-program_of (Add caller key number) = one Always (AddTo number)
-program_of (Cas caller key version text) = one (VersionIs version) (PutText text)
-program_of (CasNum caller key version number) = one (VersionIs version) (PutNumber number)
-program_of (Del caller key) = one Always Clear
-program_of (DelVersion caller key version) = one (VersionIs version) Clear
-program_of (Do caller key program) = program
+-- the change that a command asks for; none where it is an event
+abbrev pub change_of : Command → Option Asked
+change_of (Get caller key) = asks caller key (one Always Keep)
+change_of (Set caller key text) = asks caller key (one Always (PutText text))
+change_of (Num caller key number) = asks caller key (one Always (PutNumber number))
+change_of (Init caller key number) = asks caller key (one IsEmpty (PutNumber number))
+change_of (Add caller key number) = asks caller key (one Always (AddTo number))
+change_of (Cas caller key version text) = asks caller key (one (VersionIs version) (PutText text))
+change_of (CasNum caller key version number) = asks caller key (one (VersionIs version) (PutNumber number))
+change_of (Del caller key) = asks caller key (one Always Clear)
+change_of (DelVersion caller key version) = asks caller key (one (VersionIs version) Clear)
+change_of (Do caller key program) = asks caller key program
+change_of command = None
 
-abbrev pub caller_of : Command → ℕ
-caller_of (Get caller key) = caller
-caller_of (Set caller key text) = caller
-caller_of (Num caller key number) = caller
-caller_of (Init caller key number) = caller
-caller_of (Add caller key number) = caller
-caller_of (Cas caller key version text) = caller
-caller_of (CasNum caller key version number) = caller
-caller_of (Del caller key) = caller
-caller_of (DelVersion caller key version) = caller
-caller_of (Do caller key program) = caller
-
-abbrev pub key_of : Command → List ℕ
-key_of (Get caller key) = key
-key_of (Set caller key text) = key
-key_of (Num caller key number) = key
-key_of (Init caller key number) = key
-key_of (Add caller key number) = key
-key_of (Cas caller key version text) = key
-key_of (CasNum caller key version number) = key
-key_of (Del caller key) = key
-key_of (DelVersion caller key version) = key
-key_of (Do caller key program) = key
+-- a command is within its limits, where there are so many proposers: callers count from 1 and proposers from 0, and no
+-- frame is held back
+abbrev pub IsKnown : ℕ → Command → Type 0
+IsKnown proposers (Net leg who verdict) = verdict ≢ verdicts.Hold
+IsKnown proposers (CrashProposer proposer) = proposer ≤ proposers
+IsKnown proposers (RestartProposer proposer) = proposer ≤ proposers
+IsKnown proposers (HaltPrepared proposer) = proposer ≤ proposers
+IsKnown proposers (HaltProposed proposer) = proposer ≤ proposers
+IsKnown proposers command = IfSome (change_of command) (λ asked. (1 ≤ asked.caller) × (asked.caller ≤ proposers))

@@ -1,10 +1,15 @@
-//! Where the program's input comes from, where its output goes, how the input falls into lines, and which commands the
-//! lines are.
+//! Where the program's input comes from, where its output goes, how the input falls into lines, which commands the
+//! lines are, and what is written for an answer.
 //!
-//! Sources and sinks count their own faults. No answer of the store is known here.
+//! Sources and sinks count their own faults. Nothing here runs a command.
 #![tactic(auto)]
 
+pub mod answer;
+mod changes;
 pub mod command;
+mod events;
 pub mod lines;
+mod parts;
+mod reading;
 pub mod sink;
 pub mod source;

@@ -1,5 +1,5 @@
 use super::*;
-use cas_change_text::print_program;
+use cas_change_text::{TextRefusal, Why, print_program};
 use std::test::Fail;
 
 /// Each line with the refusal that it gets where there are two proposers, and `None` where it is read.
@@ -73,15 +73,88 @@ fn gives_each_form_its_program(rt: HostRuntime) -> Result<(), Fail> {
     ] {
         match read_command(rt.alloc(), line, 1) {
             Ok(Some(command)) => {
-                assert_eq!(rt; command.caller(), 1, "at {line:?}");
-                assert_eq!(rt; command.key().bytes(), b"k".as_slice(), "at {line:?}");
-                let program = command.program(rt.alloc())?;
-                let printed = print_program(rt.alloc(), &program)?;
+                let Some(change) = command.change(rt.alloc())? else {
+                    panic!(rt; "an event: {line:?}");
+                };
+                assert_eq!(rt; change.caller, 1, "at {line:?}");
+                assert_eq!(rt; change.key.bytes(), b"k".as_slice(), "at {line:?}");
+                let printed = print_program(rt.alloc(), &change.program)?;
                 assert_eq!(rt; printed.as_slice(), want, "at {line:?}");
             }
             Ok(None) => panic!(rt; "a remark: {line:?}"),
             Err(refusal) => panic!(rt; "{refusal:?} at {line:?}"),
         }
+    }
+    Ok(())
+}
+
+/// What a line says where there are two proposers, or its reason and word.
+fn told(alloc: Global, line: &[u8]) -> Result<String, AllocError> {
+    match read_command(alloc, line, 2) {
+        Ok(Some(command)) => format!(in alloc; "{command:?}"),
+        Ok(None) => String::from_str(alloc, "a remark"),
+        Err(refusal) => {
+            let TextRefusal { why, word } = refusal;
+            format!(in alloc; "{why:?} {word}")
+        }
+    }
+}
+
+#[test]
+fn reads_events(rt: HostRuntime) -> Result<(), Fail> {
+    for (line, want) in [
+        (
+            b"net all * lose".as_slice(),
+            "Net { leg: None, who: None, verdict: Lose }",
+        ),
+        (
+            b" net\tprepare 063 deliver ",
+            "Net { leg: Some(Prepare), who: Some(AcceptorId { number: 63 }), verdict: Deliver }",
+        ),
+        (
+            b"net reply 0 late",
+            "Net { leg: Some(Reply), who: Some(AcceptorId { number: 0 }), verdict: Late }",
+        ),
+        (
+            b"crash acceptor 63",
+            "CrashAcceptor { id: AcceptorId { number: 63 } }",
+        ),
+        (
+            b"restart acceptor 1",
+            "RestartAcceptor { id: AcceptorId { number: 1 } }",
+        ),
+        (b"crash proposer 2", "CrashProposer { proposer: 2 }"),
+        (b"restart proposer 0", "RestartProposer { proposer: 0 }"),
+        (b"halt 0 after-prepare", "HaltPrepared { proposer: 0 }"),
+        (b"halt 2 after-propose", "HaltProposed { proposer: 2 }"),
+        (
+            b"stray 18446744073709551615",
+            "Stray { index: 18446744073709551615 }",
+        ),
+        (
+            b"show 3 a",
+            "Show { id: AcceptorId { number: 3 }, key: Key { bytes: [97] } }",
+        ),
+        (b"net", "NoWord 1"),
+        (b"net foo * lose", "UnknownWord 1"),
+        (b"net accept x lose", "BadNumber 2"),
+        (b"net accept 64 lose", "BadNumber 2"),
+        (b"net accept 1 hold", "UnknownWord 3"),
+        (b"net accept 1 lose late", "UnknownWord 4"),
+        (b"crash 1", "UnknownWord 1"),
+        (b"crash acceptor 64", "BadNumber 2"),
+        (b"restart proposer 3", "BadNumber 2"),
+        (b"restart acceptor", "NoWord 2"),
+        (b"halt 3 after-prepare", "BadNumber 1"),
+        (b"halt 1 after-lunch", "UnknownWord 2"),
+        (b"stray", "NoWord 1"),
+        (b"stray -1", "BadNumber 1"),
+        (b"stray 18446744073709551616", "BadNumber 1"),
+        (b"show a 3", "BadNumber 1"),
+        (b"show 3 a b", "UnknownWord 3"),
+    ] {
+        let said = told(rt.alloc(), line)?;
+        assert_eq!(rt; said.as_str(), want, "at {line:?}");
     }
     Ok(())
 }

@@ -1,11 +1,12 @@
 use Rattle.cas_change_text.proofs.BothWays.{only_from_gives, found_from_gives}
 use Rattle.cas_change_text.specs.Words.{words_of}
 use Rattle.cas_change_text.proofs.Misfits.{misfit_from_gives}
-use Rattle.cas_lines.specs.Command.{AreCommand, AreUnlimited, IsLine}
+use Rattle.std.specs.Prelude.{IfSome}
+use Rattle.cas_lines.specs.Command.{AreCommand, AreUnlimited, IsKnown, IsLine}
 use Rattle.cas_lines.specs.Reading.{line_in}
-use Rattle.cas_lines.proofs.Commands.{line_found, line_again}
+use Rattle.cas_lines.proofs.Commands.{line_found, line_again, line_known}
 use Rattle.cas_lines.proofs.LineMisfits.{line_misfit}
-use Rattle.cas_lines.proofs.command.read_command.Goals as goal
+use Rattle.cas_lines.proofs.reading.read_command.Goals as goal
 
 pub returns-clause-found : goal.returns-clause-found
 returns-clause-found c =
@@ -18,7 +19,13 @@ returns-clause-only c = λ said is.
     only_from_gives c.line_in.result (line_in c.args.proposers line) said c.line_in.ensures (line_again c.args.proposers line said is)
 
 pub returns-clause-first : goal.returns-clause-first
-returns-clause-first c = λ some fits.
+returns-clause-first c = λ fits.
     let line = c.args.line.now in
     misfit_from_gives c.line_in.result (line_in c.args.proposers line) (AreUnlimited c.args.proposers) (AreCommand c.args.proposers) (words_of line) c.line_in.ensures
-    (λ refusal. line_misfit c.args.proposers some line refusal fits)
+    (λ refusal. line_misfit c.args.proposers line refusal fits)
+
+pub returns-clause-known : goal.returns-clause-known
+returns-clause-known c =
+    let line = c.args.line.now in
+    found_from_gives c.line_in.result (line_in c.args.proposers line) (λ read. IfSome read (IsKnown c.args.proposers)) c.line_in.ensures
+    (λ read is. line_known c.args.proposers line read (line_found c.args.proposers line read is))

@@ -1,6 +1,6 @@
 use Rattle.std.proofs.Common.{Ok, Err, sym, ap, ◌∙◌}
-use Rattle.cas_lines.proofs.Commands.{key_in-again, key_in-refused}
-use Rattle.cas_lines.proofs.command.key_in.Goals as goal
+use Rattle.cas_lines.proofs.ChangeLines.{key_in-again, key_in-refused}
+use Rattle.cas_lines.proofs.parts.key_in.Goals as goal
 
 pub returns-in-Ok : goal.returns-in-Ok
 returns-in-Ok c =

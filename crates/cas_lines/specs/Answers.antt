@@ -1,0 +1,84 @@
+-- What is written for each answer.
+use Rattle.std.specs.Prelude.{ℕ, true, false, List, [], ◌∷◌, ◌++◌, codes, decimal, Option, Some, None}
+use Rattle.cas_ballot.specs.Ballot.{ballot_text}
+use Rattle.cas_change.specs.declared.outcome.Took.{Took}
+use Rattle.cas_change.specs.declared.outcome.Took.TheVariants as took
+use Rattle.cas_change_text.specs.Printing.{state_text}
+use Rattle.cas_change_text.specs.Refusal.{reason_text}
+use Rattle.cas_change_text.specs.declared.refusal.Why.{Why}
+use Rattle.cas_lines.specs.declared.answer.EventAnswer.{EventAnswer}
+use Rattle.cas_lines.specs.declared.answer.EventAnswer.TheVariants as event
+use Rattle.cas_lines.specs.declared.answer.Shown.{Shown}
+use Rattle.cas_lines.specs.declared.answer.Shown.TheVariants as shown
+use Rattle.cas_record.specs.declared.answer.Answer.{Answer}
+use Rattle.cas_record.specs.declared.answer.Answer.TheVariants as answer
+use Rattle.cas_record.specs.declared.answer.Cause.{Cause}
+use Rattle.cas_record.specs.declared.answer.Cause.TheVariants as cause
+use Rattle.cas_slot.specs.declared.slot.Accepted.{Accepted}
+
+-- what is said of a change of which no clause acted
+abbrev pub took_text : Took → List ℕ
+took_text (took.Clause i) = []
+took_text took.Nothing = codes " no clause"
+took_text (took.Unfit i) = codes " unfit"
+
+-- why a proposed change is not known to stand
+abbrev pub cause_text : Cause → List ℕ
+cause_text (cause.Met ballot) = codes "met " ++ ballot_text ballot
+cause_text (cause.Aged least) = codes "aged " ++ decimal least
+cause_text (cause.Full acceptor) = codes "full " ++ decimal acceptor
+cause_text (cause.Short got need) = codes "short " ++ decimal got ++ codes " " ++ decimal need
+cause_text (cause.Moved era) = codes "moved " ++ decimal era
+cause_text cause.Crashed = codes "crashed"
+
+abbrev pub answer_text : Answer → List ℕ
+answer_text (answer.Done state took ballot) = codes "done " ++ state_text state ++ codes " at " ++ ballot_text ballot ++ took_text took
+answer_text (answer.Conflict met) = codes "conflict " ++ ballot_text met
+answer_text (answer.Aged least) = codes "aged " ++ decimal least
+answer_text (answer.Full acceptor) = codes "full " ++ decimal acceptor
+answer_text (answer.Short got need) = codes "short " ++ decimal got ++ codes " " ++ decimal need
+answer_text (answer.Moved era) = codes "moved " ++ decimal era
+answer_text answer.Crashed = codes "crashed"
+answer_text (answer.Unsettled why) = codes "unsettled " ++ cause_text why
+answer_text answer.Down = codes "down"
+answer_text answer.VaultFault = codes "vault fault"
+answer_text answer.Spent = codes "spent"
+answer_text answer.RecordFull = codes "record full"
+answer_text (answer.NoMemory false) = codes "no memory"
+answer_text (answer.NoMemory true) = codes "no memory proposed"
+
+-- the line that answers a change of this caller
+abbrev pub change_line : ℕ → Answer → List ℕ
+change_line caller answer = decimal caller ++ codes ": " ++ answer_text answer ++ 10 ∷ []
+
+-- the line that says why the line of that number is bad
+abbrev pub bad_line : ℕ → Why → List ℕ
+bad_line number why = codes "bad " ++ decimal number ++ codes " " ++ reason_text why ++ 10 ∷ []
+
+-- ---- events
+
+abbrev pub event_text : EventAnswer → List ℕ
+event_text event.Ok = codes "ok"
+event_text event.Absent = codes "none"
+event_text event.Fault = codes "fault"
+event_text (event.Foreign at) = codes "foreign " ++ decimal at
+event_text event.RecordFull = codes "record full"
+event_text event.NoMemory = codes "no memory"
+
+-- the line that answers an event
+abbrev pub event_line : EventAnswer → List ℕ
+event_line answer = event_text answer ++ 10 ∷ []
+
+-- the state that an acceptor accepted, with its ballot and era
+abbrev pub accepted_text : Option Accepted → List ℕ
+accepted_text None = []
+accepted_text (Some accepted) = codes " accepted " ++ ballot_text accepted.ballot ++ codes " era " ++ decimal accepted.era ++ codes " " ++ state_text accepted.state
+
+abbrev pub shown_text : Shown → List ℕ
+shown_text shown.Nothing = codes "none"
+shown_text shown.Down = codes "down"
+shown_text (shown.Kept slot) = codes "promise " ++ ballot_text slot.promise ++ accepted_text slot.accepted
+
+-- the line that tells what an acceptor keeps for a key
+abbrev pub shown_line : ℕ → List ℕ → Shown → List ℕ
+shown_line id key shown = decimal id ++ codes " " ++ key ++ codes ": " ++ shown_text shown ++ 10 ∷ []
