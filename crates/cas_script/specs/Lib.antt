@@ -4,3 +4,4 @@ pub mod Events
 pub mod Network
 pub mod Playing
 pub mod Script
+pub mod Stage

@@ -1,5 +1,5 @@
 -- A script: its lines run one after another, each has its answer, and the answers are its transcript.
-use Rattle.std.specs.Prelude.{◌≡◌, ◌≤◌, ℕ, suc, Bool, true, false, List, [], ◌∷◌, ◌++◌, Some, None, Err, replicate, slice_get, slice_set}
+use Rattle.std.specs.Prelude.{◌≡◌, ℕ, suc, Bool, true, false, List, [], ◌∷◌, ◌++◌, Some, None, Err, replicate, slice_get, slice_set}
 use Rattle.cas_change_text.specs.declared.refusal.Why.{Why}
 use Rattle.cas_lines.specs.Answers.{change_line, bad_line, event_line, shown_line}
 use Rattle.cas_lines.specs.Command.{IsLine, Asked, change_of}
@@ -13,14 +13,12 @@ use Rattle.cas_record.specs.declared.answer.Answer.{Answer}
 use Rattle.cas_cluster.specs.Step as step
 use Rattle.cas_cluster.specs.Step.{Step}
 use Rattle.cas_cluster.specs.View.{View, IsAt}
-use Rattle.cas_world.specs.Beginning.{HasNoCall}
 use Rattle.cas_script.specs.Changes.{IsChange}
 use Rattle.cas_script.specs.Conditions.{Rule}
 use Rattle.cas_script.specs.Events.{Kinds, CrashesAcceptor, RestartsAcceptor, RestartsProposer, StraysIn, IsShown}
 use Rattle.cas_script.specs.Network.{IsNetwork}
+use Rattle.cas_script.specs.Stage.{Stage}
 use Rattle.cas_script.specs.declared.halt.Halt.{Halt}
-use Rattle.cas_script.specs.declared.halt.Halt.TheConstants.{NOWHERE}
-use Rattle.cas_script.specs.declared.script.Script.{Script}
 
 -- ---- states
 -- the world, the rules for its frames, the last one first, and where each proposer is to halt
@@ -29,9 +27,13 @@ pub record State (S V : Type 0) : Type 0 where
   pub rules : List Rule
   pub halts : List Halt
 
+-- it is to halt nowhere
+abbrev pub nowhere : Halt
+nowhere = record { after_prepare = false; after_propose = false }
+
 -- a script over a world begins with nothing set
 abbrev pub opening_state : {S V : Type 0} → View S V → State S V
-opening_state world = record { world = world; rules = []; halts = replicate 17 NOWHERE }
+opening_state world = record { world = world; rules = []; halts = replicate 17 nowhere }
 
 -- ---- answers
 -- what answers a line: what its caller is told of its change, what an event did, what is shown, why the line is bad, or nothing where it
@@ -93,33 +95,29 @@ transcript_of number [] = []
 transcript_of number (answer ∷ later) = text_of number answer ++ transcript_of (suc number) later
 
 -- ---- scripts
--- no call is open
-abbrev pub AllIdle : {S V : Type 0} → View S V → Type 0
-AllIdle view = (id : ℕ) → id ≤ view.greatest → HasNoCall view id
-
 -- a script is in this state
-pub record IsIn {S V : Type 0} (script : Script S V) (state : State S V) : Type 0 where
-  pub world : script.world ≡ state.world
-  pub network : IsNetwork script.network state.rules
-  pub halts : script.halts ≡ state.halts
+pub record IsIn {S V : Type 0} (stage : Stage S V) (state : State S V) : Type 0 where
+  pub world : stage.world ≡ state.world
+  pub network : IsNetwork stage.network state.rules
+  pub halts : stage.halts ≡ state.halts
 
 -- the line of that number was run, and this is the text of its answer
-pub record AnswersLine {S V : Type 0} (k : Kinds S V) (tries : ℕ) (old : State S V) (line : List ℕ) (number : ℕ) (text : List ℕ) (script : Script S V) : Type 0 where
+pub record AnswersLine {S V : Type 0} (k : Kinds S V) (tries : ℕ) (old : State S V) (line : List ℕ) (number : ℕ) (text : List ℕ) (stage : Stage S V) : Type 0 where
   pub answer : LineAnswer
   pub new : State S V
-  pub is_in : IsIn script new
+  pub is_in : IsIn stage new
   pub run : IsAnswered k tries old line answer new
   pub text_is : text ≡ text_of number answer
 
 -- where there was no memory the line was run, or was not
-pub data RanOrNot {S V : Type 0} (k : Kinds S V) (tries : ℕ) (old : State S V) (line : List ℕ) (script : Script S V) : Type 0 where
-  not_run : IsIn script old → RanOrNot k tries old line script
-  ran : (answer : LineAnswer) (new : State S V) → IsIn script new → IsAnswered k tries old line answer new → RanOrNot k tries old line script
+pub data RanOrNot {S V : Type 0} (k : Kinds S V) (tries : ℕ) (old : State S V) (line : List ℕ) (stage : Stage S V) : Type 0 where
+  not_run : IsIn stage old → RanOrNot k tries old line stage
+  ran : (answer : LineAnswer) (new : State S V) → IsIn stage new → IsAnswered k tries old line answer new → RanOrNot k tries old line stage
 
 -- a script is in some state that has P
-pub record Runs {S V : Type 0} (P : State S V → Type 0) (script : Script S V) : Type 0 where
+pub record Runs {S V : Type 0} (P : State S V → Type 0) (stage : Stage S V) : Type 0 where
   pub new : State S V
-  pub is_in : IsIn script new
+  pub is_in : IsIn stage new
   pub has : P new
 
 -- it is an event line that does something

@@ -8,6 +8,7 @@ mod changes;
 mod events;
 mod halt;
 mod network;
+mod run;
 mod script;
 
 pub use changes::change;

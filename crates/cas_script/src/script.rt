@@ -1,166 +1,35 @@
-//! A script in progress, line by line.
+//! What a script in progress keeps.
 
-ghost use Rattle.std.specs.Prelude.{◌≡◌, ◌≢◌, ◌≤◌, ℕ, List, Some, true, vec_items, IfOk, OnErr};
-ghost use Rattle.cas_cluster.specs.View.{meaning};
-ghost use Rattle.cas_lines.specs.Answers.{bad_line};
-ghost use Rattle.cas_lines.specs.Command.{IsLine, IsKnown, Asked, change_of};
-ghost use Rattle.cas_lines.specs.declared.command.Command.{Command as ACommand};
-ghost use Rattle.cas_script.specs.Events.{kinds};
-ghost use Rattle.cas_script.specs.Script.{State, AllIdle, IsIn, AnswersLine, RanOrNot, RunsChange, RunsEvent, Runs, is_event, opening_state};
-
-use crate::changes::change;
-use crate::events::{crash_acceptor, restart_acceptor, restart_proposer, show, stray};
 use crate::halt::Halt;
 use crate::network::Network;
-use cas_change_text::{TextRefusal, Why};
 use cas_disk::Disk;
-use cas_lines::answer::{EventAnswer, print_answer, print_bad, print_event, print_shown};
-use cas_lines::command::{Change, Command, read_command};
-use cas_lines::lines::Line;
-use cas_record::Answer;
 use cas_slot::Shelf;
 use cas_world::World;
-use std::alloc::{AllocError, Global};
+use std::marker::Model;
 
 /// How many proposers a world may have, the operator's among them.
-const PROPOSERS: usize = 17;
+pub(crate) const PROPOSERS: usize = 17;
 
 /// A script in progress: its world, and what its lines have set so far. Between two lines no call is open.
 #[derive(Drop)]
 pub struct Script<S: Shelf, V: Disk> {
     /// The world that the lines run in.
-    pub world: World<S, V>,
-    network: Network,
+    pub(crate) world: World<S, V>,
+    pub(crate) network: Network,
     /// Where each proposer is to halt, at the place of its number.
-    halts: [Halt; PROPOSERS],
+    pub(crate) halts: [Halt; PROPOSERS],
     /// The greatest number of a proposer.
-    proposers: u8,
+    pub(crate) proposers: u8,
     /// How many rounds a change has at most.
-    tries: u8,
-    ghost known: { world.greatest ≡ proposers },
-    ghost few: { proposers ≤ 16 },
-    ghost some: { 1 ≤ tries },
-    ghost idle: { AllIdle world },
-    ghost ruled: { (rules : List Rule) × IsNetwork network rules },
+    pub(crate) tries: u8,
 }
 
-impl<S: Shelf, V: Disk> Script<S, V> {
-    /// A script over this world, which has so many proposers of clients, and in which no call is open. A change has so many rounds at most.
-    pub fn new(world: World<S, V>, proposers: u8, tries: u8) -> Script<S, V>
-        requires known { world.greatest ≡ proposers }
-        requires few { proposers ≤ 16 }
-        requires some { 1 ≤ tries }
-        requires idle { AllIdle world }
-        ensures state { IsIn result (opening_state world) }
-        ensures tries { result.tries ≡ tries }
-    {
-        Script {
-            world,
-            network: Network::new(),
-            halts: [Halt::NOWHERE; PROPOSERS],
-            proposers,
-            tries,
-        }
-    }
+impl<S: Shelf, V: Disk> Model for Script<S, V> {
+    ghost use Rattle.cas_script.specs.Stage.{Stage, IsStage};
 
-    /// Runs the line, and gives the text of its answer, which is empty for a remark. Only memory can fail, and the line was run then,
-    /// or was not.
-    pub fn answer(&mut self, alloc: Global, line: &Line) -> Result<Vec<u8>, AllocError>
-        ensures answers { (state : State _ _) → IsIn self.old state → IfOk result (λ text. AnswersLine (kinds (meaning S.contents S.tells S.may_leave V.tells V.may_leave) S.fault_count V.fault_count) self.old.tries state line.now.bytes line.now.number (vec_items text) self.new) }
-        ensures err { (state : State _ _) → IsIn self.old state → OnErr result (RanOrNot (kinds (meaning S.contents S.tells S.may_leave V.tells V.may_leave) S.fault_count V.fault_count) self.old.tries state line.now.bytes self.new) }
-        ensures tries { self.new.tries ≡ self.old.tries }
-    {
-        match read_command(alloc, line.bytes(), self.proposers) {
-            Ok(Some(command)) => self.answer_command(alloc, &command),
-            Ok(None) => Ok(Vec::new(alloc)),
-            Err(refusal) => answer_refusal(alloc, line.number(), refusal),
-        }
-    }
+    ghost Value = { Stage S V };
 
-    /// Runs what a line asks for, and gives the text of its answer.
-    fn answer_command(&mut self, alloc: Global, command: &Command) -> Result<Vec<u8>, AllocError>
-        requires { IsKnown self.old.proposers command.now }
-        ensures answers { (state : State _ _) (line : List ℕ) (number : ℕ) → IsIn self.old state → IsLine self.old.proposers line (Some command.now) → IfOk result (λ text. AnswersLine (kinds (meaning S.contents S.tells S.may_leave V.tells V.may_leave) S.fault_count V.fault_count) self.old.tries state line number (vec_items text) self.new) }
-        ensures err { (state : State _ _) (line : List ℕ) → IsIn self.old state → IsLine self.old.proposers line (Some command.now) → OnErr result (RanOrNot (kinds (meaning S.contents S.tells S.may_leave V.tells V.may_leave) S.fault_count V.fault_count) self.old.tries state line self.new) }
-        ensures tries { self.new.tries ≡ self.old.tries }
-    {
-        if let Command::Show { id, key } = command {
-            let shown = show(&self.world, *id, key)?;
-            return print_shown(alloc, *id, key, &shown);
-        }
-        match command.change(alloc)? {
-            Some(asked) => {
-                let answer = self.run_change(&asked);
-                print_answer(alloc, asked.caller, &answer)
-            }
-            None => {
-                let answer = self.run_event(command);
-                print_event(alloc, &answer)
-            }
-        }
-    }
+    ghost view = { λ s. record { world = s.world; network = s.network; halts = s.halts; tries = s.tries } };
 
-    /// Runs a change, and gives its answer.
-    fn run_change(&mut self, asked: &Change<'_>) -> Answer
-        requires { asked.now.caller ≤ self.old.proposers }
-        ensures runs { (state : State _ _) → IsIn self.old state → Runs (λ new. RunsChange (kinds (meaning S.contents S.tells S.may_leave V.tells V.may_leave) S.fault_count V.fault_count) self.old.tries state (record { caller = asked.now.caller; key = asked.now.key.now; program = asked.now.program }) result new) self.new }
-        ensures tries { self.new.tries ≡ self.old.tries }
-    {
-        let halt = &mut self.halts[usize::from(asked.caller)];
-        change(
-            &mut self.world,
-            &mut self.network,
-            halt,
-            self.tries,
-            asked.caller,
-            asked.key,
-            &asked.program,
-        )
-    }
-
-    /// Runs an event line, and gives its answer.
-    fn run_event(&mut self, command: &Command) -> EventAnswer
-        requires known { IsKnown self.old.proposers command.now }
-        requires event { is_event command.now ≡ true }
-        ensures runs { (state : State _ _) → IsIn self.old state → Runs (λ new. RunsEvent (kinds (meaning S.contents S.tells S.may_leave V.tells V.may_leave) S.fault_count V.fault_count) state command.now result new) self.new }
-        ensures tries { self.new.tries ≡ self.old.tries }
-    {
-        match command {
-            Command::Net { leg, who, verdict } => {
-                self.network.set(*leg, *who, *verdict);
-                EventAnswer::Ok
-            }
-            Command::CrashAcceptor { id } => crash_acceptor(&mut self.world, *id),
-            Command::RestartAcceptor { id } => restart_acceptor(&mut self.world, *id),
-            Command::CrashProposer { proposer } => {
-                self.world.crash_proposer(*proposer);
-                EventAnswer::Ok
-            }
-            Command::RestartProposer { proposer } => restart_proposer(&mut self.world, *proposer),
-            Command::HaltPrepared { proposer } => {
-                self.halts[usize::from(*proposer)].after_prepare = true;
-                EventAnswer::Ok
-            }
-            Command::HaltProposed { proposer } => {
-                self.halts[usize::from(*proposer)].after_propose = true;
-                EventAnswer::Ok
-            }
-            Command::Stray { index } => stray(&mut self.world, *index),
-            _ => unreachable!(),
-        }
-    }
-}
-
-/// The text that says why the line of that number is bad. What is refused for want of memory alone is no bad line.
-fn answer_refusal(
-    alloc: Global,
-    number: u32,
-    refusal: TextRefusal,
-) -> Result<Vec<u8>, AllocError>
-    ensures { IfOk result (λ text. (refusal.why ≢ Why.NoMemory) × (vec_items text ≡ bad_line number refusal.why)) }
-{
-    match refusal.why {
-        Why::NoMemory => Err(AllocError),
-        why => print_bad(alloc, number, why),
-    }
+    ghost invariant = { λ s. IsStage (record { world = s.world; network = s.network; halts = s.halts; tries = s.tries }) s.proposers };
 }

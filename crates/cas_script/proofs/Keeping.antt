@@ -1,0 +1,207 @@
+-- What a call of one caller leaves to the others.
+use Rattle.std.proofs.Common.{◌≡◌, ◌≢◌, ◌≤◌, ℕ, zero, suc, Bool, nat_eq, List, [], ◌∷◌, None, Some, slice_get, slice_set, inl, inr, refl, sym, ap, subst, ◌∙◌, eqb-true}
+use Rattle.std.proofs.lemmas.Bool.{eqb-false}
+use Rattle.cas_base.proofs.Bools.{true_or_false}
+use Rattle.cas_change.specs.declared.program.Clause.{Clause}
+use Rattle.cas_fate.specs.declared.fate.Verdict.{Verdict}
+use Rattle.cas_flow.specs.declared.message.Message.{Message}
+use Rattle.cas_lines.specs.declared.answer.EventAnswer.{EventAnswer}
+use Rattle.cas_proposer.specs.Desk.{DeskView}
+use Rattle.cas_proposer.specs.declared.round.Round.{Round}
+use Rattle.cas_record.specs.declared.answer.Answer.{Answer}
+use Rattle.cas_cluster.specs.Step as step
+use Rattle.cas_cluster.specs.Step.{StepBegin, StepTurn, StepRefuseTurn, StepPropose, StepCount, StepEnd, StepStray, StepCrashAcceptor, StepRestartAcceptor, StepCrashProposer, StepRestartProposer, OpenCallAt}
+use Rattle.cas_cluster.specs.StepCalls as calls
+use Rattle.cas_cluster.specs.StepFrames as frames
+use Rattle.cas_cluster.specs.View.{Meaning, View, CallerView, IsAt}
+use Rattle.cas_cluster.proofs.Places.{at_one}
+use Rattle.cas_world.specs.Beginning.{HasNoCall}
+use Rattle.cas_script.specs.Changes as changes
+use Rattle.cas_script.specs.Changes.{Turned, AllTurned, FailsToTurn, EndsPrepare, IsAccepted, IsRound, AreRounds, IsChange}
+use Rattle.cas_script.specs.Conditions.{Rule}
+use Rattle.cas_script.specs.Events as events
+use Rattle.cas_script.specs.Events.{Kinds, CrashesAcceptor, RestartsAcceptor, RestartsProposer, StraysIn}
+use Rattle.cas_script.specs.Stage.{AllIdle}
+use Rattle.cas_script.specs.declared.halt.Halt.{Halt}
+
+-- ---- the others
+pub record KeepsOthers {S V : Type 0} (old new : View S V) (id : ℕ) : Type 0 where
+  pub greatest : new.greatest ≡ old.greatest
+  pub others : (p : ℕ) → p ≢ id → slice_get new.callers p ≡ slice_get old.callers p
+
+get_other : {A : Type 0} (all : List A) (place : ℕ) (x : A) (p : ℕ) → p ≢ place → slice_get (slice_set all place x) p ≡ slice_get all p
+get_other [] place x p other = refl
+get_other (one ∷ rest) zero x zero other = absurd (other refl)
+get_other (one ∷ rest) zero x (suc p) other = refl
+get_other (one ∷ rest) (suc place) x zero other = refl
+get_other (one ∷ rest) (suc place) x (suc p) other = get_other rest place x p (λ is. other (ap suc is))
+
+-- one caller changes
+sets : {S V : Type 0} (old new : View S V) (id : ℕ) (next : CallerView) → new.greatest ≡ old.greatest → new.callers ≡ slice_set old.callers id next → KeepsOthers old new id
+sets old new id next greatest callers = record { greatest = greatest; others = λ p other. ap (λ (l : List CallerView). slice_get l p) callers ∙ get_other old.callers id next p other }
+
+-- none does
+stays : {S V : Type 0} (old new : View S V) (id : ℕ) → new.greatest ≡ old.greatest → new.callers ≡ old.callers → KeepsOthers old new id
+stays old new id greatest callers = record { greatest = greatest; others = λ p other. ap (λ (l : List CallerView). slice_get l p) callers }
+
+both : {S V : Type 0} (old mid new : View S V) (id : ℕ) → KeepsOthers old mid id → KeepsOthers mid new id → KeepsOthers old new id
+both old mid new id before after = record { greatest = after.greatest ∙ before.greatest; others = λ p other. after.others p other ∙ before.others p other }
+
+same : {S V : Type 0} (old : View S V) (id : ℕ) → KeepsOthers old old id
+same old id = record { greatest = refl; others = λ p other. refl }
+
+-- ---- the calls of a caller
+begin_keeps : {S V : Type 0} (m : Meaning S V) (old new : View S V) (id : ℕ) (key : List ℕ) (program : List Clause) → StepBegin m old id key program new → KeepsOthers old new id
+begin_keeps {S} {V} m old new id key program by = both old by.middle new id (opens by.opens) (in_round by.begins)
+  where
+    opens : calls.Opens old id key program by.middle → KeepsOthers old by.middle id
+    opens (calls.first was at none room is) = sets old by.middle id _ (ap (λ (w : View S V). w.greatest) is) (ap (λ (w : View S V). w.callers) is)
+    opens (calls.again was open_call reserved at open_is key_is program_is none met no_round room some is) = sets old by.middle id _ (ap (λ (w : View S V). w.greatest) is) (ap (λ (w : View S V). w.callers) is)
+
+    in_round : calls.BeginsRound m by.middle id by.caller by.call new → KeepsOthers by.middle new id
+    in_round (calls.prepares desk now ballot round flow at up few begins sends is) = stays by.middle new id (ap (λ (w : View S V). w.greatest) is) (ap (λ (w : View S V). w.callers) is)
+    in_round (calls.proposes desk now ready ride round outcome flow at up few begins made sends is) = sets by.middle new id _ (ap (λ (w : View S V). w.greatest) is) (ap (λ (w : View S V). w.callers) is)
+    in_round (calls.stays told no_beginning no_round is) = sets by.middle new id _ (ap (λ (w : View S V). w.greatest) is) (ap (λ (w : View S V). w.callers) is)
+    in_round (calls.spent desk now at none up kept now_is is) = sets by.middle new id _ (ap (λ (w : View S V). w.greatest) is) (ap (λ (w : View S V). w.callers) is)
+    in_round (calls.fails desk now at none up fails is) = sets by.middle new id _ (ap (λ (w : View S V). w.greatest) is) (ap (λ (w : View S V). w.callers) is)
+    in_round (calls.loses desk now ballot at none up loses is) = sets by.middle new id _ (ap (λ (w : View S V). w.greatest) is) (ap (λ (w : View S V). w.callers) is)
+
+no_begin_keeps : {S V : Type 0} (m : Meaning S V) (old new : View S V) (id : ℕ) (key : List ℕ) → calls.RefusesCall m old id key new → KeepsOthers old new id
+no_begin_keeps {S} {V} m old new id key (calls.stays is) = stays old new id (ap (λ (w : View S V). w.greatest) is) (ap (λ (w : View S V). w.callers) is)
+no_begin_keeps {S} {V} m old new id key (calls.loses caller desk now ballot at_caller at_desk none up loses is) = stays old new id (ap (λ (w : View S V). w.greatest) is) (ap (λ (w : View S V). w.callers) is)
+
+turn_keeps : {S V : Type 0} (m : Meaning S V) (old new : View S V) (id : ℕ) (v : Verdict) → StepTurn m old id v new → KeepsOthers old new id
+turn_keeps {S} {V} m old new id v by = in_turn by.of_call by.front by.turn
+  where
+    in_turn : (of_call : OpenCallAt old id) (front : Message) → frames.TakesTurn m old id v front of_call.caller of_call.call new → KeepsOthers old new id
+    in_turn at front (frames.held fall is) = stays old new id (ap (λ (w : View S V). w.greatest) is) (ap (λ (w : View S V). w.callers) is)
+    in_turn at front (frames.gone fall is) = sets old new id _ (ap (λ (w : View S V). w.greatest) is) (ap (λ (w : View S V). w.callers) is)
+    in_turn at front (frames.answers request acceptor now reply fall front_is there table is) = sets old new id _ (ap (λ (w : View S V). w.greatest) is) (ap (λ (w : View S V). w.callers) is)
+    in_turn at front (frames.finds_down request acceptor fall front_is there down is) = sets old new id _ (ap (λ (w : View S V). w.greatest) is) (ap (λ (w : View S V). w.callers) is)
+    in_turn at front (frames.brings_down request acceptor now fall front_is there stops is) = sets old new id _ (ap (λ (w : View S V). w.greatest) is) (ap (λ (w : View S V). w.callers) is)
+    in_turn at front (frames.arrives reply desk now round heard fall front_is there is_round hears is) = sets old new id _ (ap (λ (w : View S V). w.greatest) is) (ap (λ (w : View S V). w.callers) is)
+
+no_room_keeps : {S V : Type 0} (m : Meaning S V) (old new : View S V) (id : ℕ) → frames.FindsNoRoom m old new → KeepsOthers old new id
+no_room_keeps {S} {V} m old new id (frames.stays is) = stays old new id (ap (λ (w : View S V). w.greatest) is) (ap (λ (w : View S V). w.callers) is)
+no_room_keeps {S} {V} m old new id (frames.kept at acceptor now there finds is) = stays old new id (ap (λ (w : View S V). w.greatest) is) (ap (λ (w : View S V). w.callers) is)
+
+refuse_keeps : {S V : Type 0} (m : Meaning S V) (old new : View S V) (id : ℕ) → StepRefuseTurn m old id new → KeepsOthers old new id
+refuse_keeps {S} {V} m old new id by = both old by.middle new id (no_room_keeps m old by.middle id by.refuses) (sets by.middle new id _ (ap (λ (w : View S V). w.greatest) by.view) (ap (λ (w : View S V). w.callers) by.view))
+
+propose_keeps : {S V : Type 0} (m : Meaning S V) (old new : View S V) (id : ℕ) → StepPropose m old id new → KeepsOthers old new id
+propose_keeps {S} {V} m old new id by = in_phase by.at_round.of_call by.at_round.desk by.at_round.round by.proposes
+  where
+    in_phase : (of_call : OpenCallAt old id) (desk : DeskView V) (round : Round) → calls.ProposesOrEnds m old id desk round of_call.caller of_call.call new → KeepsOthers old new id
+    in_phase at desk round (calls.proposes now turned read by ride outcome flow quorum confirmers reads turns made sends is) = sets old new id _ (ap (λ (w : View S V). w.greatest) is) (ap (λ (w : View S V). w.callers) is)
+    in_phase at desk round (calls.ends now verdict told verdict_is refuses ends is) = sets old new id _ (ap (λ (w : View S V). w.greatest) is) (ap (λ (w : View S V). w.callers) is)
+    in_phase at desk round (calls.fails now fails is) = sets old new id _ (ap (λ (w : View S V). w.greatest) is) (ap (λ (w : View S V). w.callers) is)
+    in_phase at desk round (calls.loses now ballot loses is) = sets old new id _ (ap (λ (w : View S V). w.greatest) is) (ap (λ (w : View S V). w.callers) is)
+
+count_keeps : {S V : Type 0} (m : Meaning S V) (old new : View S V) (id : ℕ) → StepCount m old id new → KeepsOthers old new id
+count_keeps {S} {V} m old new id by = in_phase by.at_round.of_call by.at_round.desk by.at_round.round by.counts
+  where
+    in_phase : (of_call : OpenCallAt old id) (desk : DeskView V) (round : Round) → calls.CountsOrEnds m old id desk round of_call.caller of_call.call new → KeepsOthers old new id
+    in_phase at desk round (calls.counts now by outcome quorum confirmers proposed ends is) = sets old new id _ (ap (λ (w : View S V). w.greatest) is) (ap (λ (w : View S V). w.callers) is)
+    in_phase at desk round (calls.ends now verdict why verdict_is cause ends is) = sets old new id _ (ap (λ (w : View S V). w.greatest) is) (ap (λ (w : View S V). w.callers) is)
+
+end_keeps : {S V : Type 0} (m : Meaning S V) (old new : View S V) (id : ℕ) (told : Answer) → StepEnd m old id told new → KeepsOthers old new id
+end_keeps {S} {V} m old new id told by = sets old new id _ (ap (λ (w : View S V). w.greatest) by.ends.view) (ap (λ (w : View S V). w.callers) by.ends.view)
+
+crash_keeps : {S V : Type 0} (m : Meaning S V) (old new : View S V) (id : ℕ) → StepCrashProposer m old id new → KeepsOthers old new id
+crash_keeps {S} {V} m old new id (step.idle desk now at none crashes is) = stays old new id (ap (λ (w : View S V). w.greatest) is) (ap (λ (w : View S V). w.callers) is)
+crash_keeps {S} {V} m old new id (step.closes desk now round at there is_round crashes is) = sets old new id _ (ap (λ (w : View S V). w.greatest) is) (ap (λ (w : View S V). w.callers) is)
+
+-- ---- a change
+turned_keeps : {S V : Type 0} (m : Meaning S V) (rules : List Rule) (id : ℕ) (old new : View S V) → Turned m rules id old new → KeepsOthers old new id
+turned_keeps m rules id old new changes.none = same old id
+turned_keeps m rules id old new (changes.one_more {mid = mid} frame before at by) = both old mid new id (turned_keeps m rules id old mid before) (turn_keeps m mid new id _ by)
+
+fails_keeps : {S V : Type 0} (m : Meaning S V) (rules : List Rule) (id : ℕ) (old new : View S V) → FailsToTurn m rules id old new → KeepsOthers old new id
+fails_keeps m rules id old new by = both old by.mid new id (turned_keeps m rules id old by.mid by.turned) (refuse_keeps m by.mid new id by.fails)
+
+prepare_keeps : {S V : Type 0} (m : Meaning S V) (rules : List Rule) (id : ℕ) (halt : Halt) (old new : View S V) → EndsPrepare m rules id halt old new → KeepsOthers old new id
+prepare_keeps m rules id halt old new by = both old by.turned new id (turned_keeps m rules id old by.turned by.turns.turned) (propose_keeps m by.turned new id by.proposes)
+
+accepted_keeps : {S V : Type 0} (m : Meaning S V) (rules : List Rule) (id : ℕ) (halt after : Halt) (old new : View S V) → IsAccepted m rules id halt old after new → KeepsOthers old new id
+accepted_keeps m rules id halt after old new (changes.halts accepting due by) = crash_keeps m old new id by
+accepted_keeps m rules id halt after old new (changes.no_memory not_due by) = fails_keeps m rules id old new by
+accepted_keeps m rules id halt after old new (changes.counts {turned = turned} not_due turns by) = both old turned new id (turned_keeps m rules id old turned turns.turned) (count_keeps m turned new id by)
+
+round_keeps : {S V : Type 0} (m : Meaning S V) (rules : List Rule) (id : ℕ) (halt after : Halt) (old new : View S V) → IsRound m rules id halt old after new → KeepsOthers old new id
+round_keeps m rules id halt after old new changes.none_begun = same old id
+round_keeps m rules id halt after old new (changes.by_promise accepted) = accepted_keeps m rules id halt after old new accepted
+round_keeps m rules id halt after old new (changes.no_memory by) = fails_keeps m rules id old new by
+round_keeps m rules id halt after old new (changes.halts {turned = turned} turns strikes by) = both old turned new id (turned_keeps m rules id old turned turns.turned) (crash_keeps m turned new id by)
+round_keeps m rules id halt after old new (changes.ends_short by) = prepare_keeps m rules id halt old new by
+round_keeps m rules id halt after old new (changes.proposes {proposed = proposed} by accepted) = both old proposed new id (prepare_keeps m rules id halt old proposed by) (accepted_keeps m rules id halt after proposed new accepted)
+
+rounds_keep : {S V : Type 0} (m : Meaning S V) (rules : List Rule) (id : ℕ) (key : List ℕ) (program : List Clause) (tries : ℕ) (halt after : Halt) (old new : View S V) → AreRounds m rules id key program tries halt old after new → KeepsOthers old new id
+rounds_keep m rules id key program tries halt after old new (changes.last by ends) = round_keeps m rules id halt after old new by
+rounds_keep m rules id key program tries halt after old new (changes.another {mid = mid} {met = met} {begun = begun} many by is_met begins more) =
+    both old met new id (round_keeps m rules id halt mid old met by) (both met begun new id (begin_keeps m met begun id key program begins) (rounds_keep m rules id key program _ mid after begun new more))
+
+pub change_keeps : {S V : Type 0} (m : Meaning S V) (tries : ℕ) (rules : List Rule) (id : ℕ) (key : List ℕ) (program : List Clause) (halt after : Halt) (old new : View S V) (answer : Answer) → IsChange m tries rules id key program halt old answer after new → KeepsOthers old new id
+change_keeps m tries rules id key program halt after old new answer (changes.refused is by) = no_begin_keeps m old new id key by
+change_keeps m tries rules id key program halt after old new answer (changes.ended {begun = begun} {told = told} begins rounds ends) =
+    both old begun new id (begin_keeps m old begun id key program begins) (both begun told new id (rounds_keep m rules id key program tries halt after begun told rounds) (end_keeps m told new id answer ends))
+
+-- ---- no call is open
+pub idle_then : {S V : Type 0} (old new : View S V) (id : ℕ) → KeepsOthers old new id → AllIdle old → HasNoCall new id → AllIdle new
+idle_then old new id keeps idle own p low = elim (true_or_false (nat_eq p id)) [
+  | inl is ↦ subst (HasNoCall new) (sym (eqb-true p id is)) own
+  | inr other ↦ let was = idle p (subst (λ (g : ℕ). p ≤ g) keeps.greatest low) in
+  record { caller = was.caller; at_caller = keeps.others p (eqb-false p id other) ∙ was.at_caller; none_open = was.none_open }
+]
+
+-- no caller changes
+pub record KeepsCallers {S V : Type 0} (old new : View S V) : Type 0 where
+  pub greatest : new.greatest ≡ old.greatest
+  pub callers : new.callers ≡ old.callers
+
+pub still_idle : {S V : Type 0} (old new : View S V) → KeepsCallers old new → AllIdle old → AllIdle new
+still_idle old new keeps idle p low =
+    let was = idle p (subst (λ (g : ℕ). p ≤ g) keeps.greatest low) in
+    record { caller = was.caller; at_caller = ap (λ (l : List CallerView). slice_get l p) keeps.callers ∙ was.at_caller; none_open = was.none_open }
+
+by_view : {S V : Type 0} (old changed new : View S V) → new ≡ changed → changed.greatest ≡ old.greatest → changed.callers ≡ old.callers → KeepsCallers old new
+by_view {S} {V} old changed new is greatest callers = record { greatest = ap (λ (w : View S V). w.greatest) is ∙ greatest; callers = ap (λ (w : View S V). w.callers) is ∙ callers }
+
+pub crashes_keep : {S V : Type 0} (m : Meaning S V) (old new : View S V) (id : ℕ) (answer : EventAnswer) → CrashesAcceptor m old id answer new → KeepsCallers old new
+crashes_keep m old new id answer (events.absent none) = by_view old old old refl refl refl
+crashes_keep m old new id answer (events.crashes there (step.crashes acceptor now at crashes is)) = by_view old _ new is refl refl
+
+restarts_step : {S V : Type 0} (m : Meaning S V) (old new : View S V) (id : ℕ) → StepRestartAcceptor m old id new → KeepsCallers old new
+restarts_step m old new id (step.was_up acceptor at up is) = by_view old old new is refl refl
+restarts_step m old new id (step.starts acceptor now at starts is) = by_view old _ new is refl refl
+restarts_step m old new id (step.fails acceptor now at fails is) = by_view old _ new is refl refl
+
+pub restarts_keep : {S V : Type 0} (k : Kinds S V) (old new : View S V) (id : ℕ) (answer : EventAnswer) → RestartsAcceptor k old id answer new → KeepsCallers old new
+restarts_keep k old new id answer (events.absent none) = by_view old old old refl refl refl
+restarts_keep k old new id answer (events.restarts result there by tells) = restarts_step k.meaning old new id by
+
+desk_step : {S V : Type 0} (m : Meaning S V) (old new : View S V) (id : ℕ) → StepRestartProposer m old id new → KeepsCallers old new
+desk_step m old new id (step.was_up_already desk at up is) = by_view old old new is refl refl
+desk_step m old new id (step.restarts desk now at down restarts is) = by_view old _ new is refl refl
+
+pub proposer_keeps : {S V : Type 0} (k : Kinds S V) (old new : View S V) (id : ℕ) (answer : EventAnswer) → RestartsProposer k old id answer new → KeepsCallers old new
+proposer_keeps k old new id answer (events.restarts result by tells) = desk_step k.meaning old new id by
+
+-- a proposer that crashes between two calls
+pub crash_between : {S V : Type 0} (m : Meaning S V) (old new : View S V) (id : ℕ) → id ≤ old.greatest → AllIdle old → StepCrashProposer m old id new → KeepsCallers old new
+crash_between m old new id low idle (step.idle desk now at none crashes is) = by_view old _ new is refl refl
+crash_between m old new id low idle (step.closes desk now round at there is_round crashes is) =
+    let was = idle id low in
+    absurd (cc (sym was.none_open ∙ ap (λ (c : CallerView). c.call) (at_one old.callers id was.at_caller at.at_caller) ∙ at.is_open))
+
+stray_step : {S V : Type 0} (m : Meaning S V) (old new : View S V) (index : ℕ) (late : Message) → frames.Strays m old index late new → KeepsCallers old new
+stray_step m old new index late (frames.answers request acceptor now reply late_is at table is) = by_view old _ new is refl refl
+stray_step m old new index late (frames.brings_down request acceptor now late_is at stops is) = by_view old _ new is refl refl
+stray_step m old new index late (frames.arrives reply desk now round heard late_is at is_round hears is) = by_view old _ new is refl refl
+stray_step m old new index late (frames.drops ignored is) = by_view old _ new is refl refl
+
+pub strays_keep : {S V : Type 0} (m : Meaning S V) (old new : View S V) (index : ℕ) (answer : EventAnswer) → StraysIn m old index answer new → KeepsCallers old new
+strays_keep m old new index answer (events.absent none) = by_view old old old refl refl refl
+strays_keep m old new index answer (events.strays by) = stray_step m old new index by.late by.strays
+strays_keep m old new index answer (events.full low is) = by_view old old old refl refl refl
+strays_keep m old new index answer (events.no_memory low (frames.stays is)) = by_view old old new is refl refl
+strays_keep m old new index answer (events.no_memory low (frames.kept id acceptor now there finds is)) = by_view old _ new is refl refl

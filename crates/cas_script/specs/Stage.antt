@@ -1,0 +1,27 @@
+-- What a script in progress is seen as, and what it keeps true between two lines.
+use Rattle.std.specs.Prelude.{◌≡◌, ◌≤◌, ℕ, List}
+use Rattle.cas_cluster.specs.View.{View}
+use Rattle.cas_world.specs.Beginning.{HasNoCall}
+use Rattle.cas_script.specs.Conditions.{Rule}
+use Rattle.cas_script.specs.Network.{IsNetwork}
+use Rattle.cas_script.specs.declared.halt.Halt.{Halt}
+use Rattle.cas_script.specs.declared.network.Network.{Network}
+
+pub record Stage (S V : Type 0) : Type 0 where
+  pub world : View S V
+  pub network : Network
+  -- where each proposer is to halt
+  pub halts : List Halt
+  -- how many rounds a change has at most
+  pub tries : ℕ
+
+-- no call is open
+abbrev pub AllIdle : {S V : Type 0} → View S V → Type 0
+AllIdle view = (id : ℕ) → id ≤ view.greatest → HasNoCall view id
+
+pub record IsStage {S V : Type 0} (stage : Stage S V) (proposers : ℕ) : Type 0 where
+  pub known : stage.world.greatest ≡ proposers
+  pub few : proposers ≤ 16
+  pub some : 1 ≤ stage.tries
+  pub idle : AllIdle stage.world
+  pub ruled : (rules : List Rule) × IsNetwork stage.network rules
