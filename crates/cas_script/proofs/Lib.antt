@@ -1,3 +1,4 @@
+pub mod Answering
 pub mod Happenings
 pub mod Keeping
 pub mod Outcomes
