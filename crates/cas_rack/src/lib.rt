@@ -8,5 +8,5 @@ mod store;
 #[cfg(test)]
 mod tests;
 
-pub use rack::{Rack, RackFault};
+pub use rack::{ACCEPTORS, Rack, RackFault, VAULTS};
 pub use store::Store;

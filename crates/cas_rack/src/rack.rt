@@ -6,11 +6,11 @@ ghost use Rattle.cas_rack.specs.Rack.{rack_meaning, IsFoundEmpty, IsWhyNot, AreF
 use cas_disk::{Disk, DiskFault};
 use thiserror::Error;
 
-/// How many disks of acceptors there are. The disks of the vaults are numbered from there on.
-pub(crate) const ACCEPTORS: u8 = 64;
+/// How many disks of acceptors a rack has. The disks of the vaults are numbered from there on.
+pub const ACCEPTORS: u8 = 64;
 
-/// How many disks of vaults there are.
-const VAULTS: u8 = 17;
+/// How many disks of vaults a rack has.
+pub const VAULTS: u8 = 17;
 
 /// The disks of a cluster: 64 of acceptors and 17 of vaults, each at the place of its number. In faults the disks of the acceptors
 /// are 0 to 63, and 64 to 80 are those of the vaults of the proposers from 0 to 16.
