@@ -136,6 +136,7 @@ impl<S: Shelf, V: Disk> World<S, V> {
         ensures marks { result.0.marks ≡ self.marks }
         ensures legal { S.tells → V.tells → IsLegal (reverse result.0.marks) }
         ensures shelves { result.1.items ≡ shelves_of self.acceptors }
+        ensures all_shelves { vec_len result.1 ≡ 64 }
         ensures disks { take (self.greatest + 1) result.2.items ≡ disks_of self.desks }
         ensures all { vec_len result.2 ≡ 17 }
     {

@@ -6,6 +6,8 @@ ghost use Rattle.casreg.specs.declared.status.Status.TheVariants.{WriteFault, No
 
 use cas_lines::lines::LineFault;
 use cas_lines::source::Failed;
+use cas_rack::RackFault;
+use cas_world::OpenFault;
 use std::alloc::AllocError;
 
 /// How a run ends. Its number is the exit status of the program.
@@ -19,6 +21,11 @@ pub enum Status {
     ReadFault,
     /// The sink failed. It has a front of the answers.
     WriteFault,
+    /// The disk of this number was not empty, and no disk before it failed: 0 to 63 for those of the acceptors, 64 to 80 for those of the
+    /// vaults. Nothing was read or written, and each disk keeps what it held.
+    NotEmpty { disk: u8 },
+    /// The disk of this number failed as the store was opened, numbered likewise. Nothing was read or written.
+    DiskFault { disk: u8 },
     /// The input has more than 1,000,000 lines. The answers to that many were written.
     TooManyLines,
     /// There was no memory. The sink has a front of the answers.
@@ -37,6 +44,8 @@ impl Status {
             Status::Usage => 2,
             Status::ReadFault => 3,
             Status::WriteFault => 4,
+            Status::NotEmpty { .. } => 5,
+            Status::DiskFault { .. } => 6,
             Status::TooManyLines => 7,
             Status::NoMemory => 8,
             Status::Endless { .. } => 9,
@@ -56,6 +65,37 @@ impl From<LineFault> for Status {
             LineFault::TooManyLines => Status::TooManyLines,
             LineFault::Endless { line } => Status::Endless { line },
             LineFault::NoMemory => Status::NoMemory,
+        }
+    }
+}
+
+/// Why the disks are not known to be empty.
+impl From<RackFault> for Status {
+    ghost use Rattle.std.specs.Prelude.{◌≡◌};
+    ghost use Rattle.casreg.specs.Status.{status_of_rack};
+
+    ghost from_gives = { λ fault status. status ≡ status_of_rack fault };
+
+    fn from(fault: RackFault) -> Status {
+        match fault {
+            RackFault::NotEmpty { disk } => Status::NotEmpty { disk },
+            RackFault::DiskFault { disk } => Status::DiskFault { disk },
+            RackFault::NoMemory => Status::NoMemory,
+        }
+    }
+}
+
+/// Why the store was not opened.
+impl From<OpenFault> for Status {
+    ghost use Rattle.std.specs.Prelude.{◌≡◌};
+    ghost use Rattle.casreg.specs.Status.{status_of_opening};
+
+    ghost from_gives = { λ fault status. status ≡ status_of_opening fault };
+
+    fn from(fault: OpenFault) -> Status {
+        match fault {
+            OpenFault::DiskFault { disk } => Status::DiskFault { disk },
+            OpenFault::NoMemory => Status::NoMemory,
         }
     }
 }
