@@ -1,9 +1,8 @@
 //! Reading the lines that are events, behind their first word.
 
-ghost use Rattle.std.specs.Prelude.{◌≡◌, ◌≤◌, Ok, Err, Some, None};
-ghost use Rattle.cas_change_text.specs.Decimal.{u64_of};
-ghost use Rattle.cas_change_text.specs.Reading.{Reads, GivesInMemory, version_at};
-ghost use Rattle.cas_lines.specs.Reading.{ended, key_at, within, event_name, leg_name, verdict_name, party_name, halt_point_name, leg_in, leg_at, who_in, who_at, verdict_at, party_at, halt_point_at, acceptor_of, acceptor_at, proposer_of, proposer_at, net_at, crash_of, restart_of, halt_of, halt_at, show_at, event_at};
+ghost use Rattle.std.specs.Prelude.{◌≡◌, Ok, Err};
+ghost use Rattle.cas_change_text.specs.Reading.{Reads, GivesInMemory};
+ghost use Rattle.cas_lines.specs.Reading.{ended, event_name, leg_name, verdict_name, party_name, halt_point_name, leg_in, leg_at, who_in, who_at, verdict_at, party_at, halt_point_at, acceptor_of, acceptor_at, proposer_at, net_at, crash_of, restart_of, halt_of, halt_at, show_at, event_at};
 
 use crate::command::Command;
 use crate::parts::{read_key, within};
