@@ -9,4 +9,4 @@ mod store;
 mod tests;
 
 pub use rack::{ACCEPTORS, Rack, RackFault, VAULTS};
-pub use store::Store;
+pub use store::{Room, Store};

@@ -22,7 +22,13 @@ use std::alloc::Global;
 #[derive(Drop)]
 pub struct Store<D: Disk> {
     pub world: World<DiskShelf<D>, D>,
-    // The list in which the disks of the acceptors came, emptied, so that they can be handed back without taking memory.
+    /// Where the disks of the acceptors are put when the store is closed.
+    pub room: Room<D>,
+}
+
+/// The list in which the disks of the acceptors came, emptied, so that they can be handed back without taking memory.
+#[derive(Drop)]
+pub struct Room<D> {
     acceptors: Vec<D>,
     ghost none: { vec_len acceptors ≡ 0 },
     ghost room: { 64 ≤ vec_capacity acceptors },
@@ -62,7 +68,10 @@ impl<D: Disk> Store<D> {
         };
         put_on_shelves(alloc, &mut acceptors, &mut shelves);
         match World::open(alloc, config, shelves, vaults) {
-            Ok(world) => Ok(Store { world, acceptors }),
+            Ok(world) => Ok(Store {
+                world,
+                room: Room { acceptors },
+            }),
             Err((fault, shelves, vaults)) => {
                 take_off_shelves(shelves, &mut acceptors);
                 Err((fault, Rack { acceptors, vaults }))
@@ -80,10 +89,8 @@ impl<D: Disk> Store<D> {
         ensures all_acceptors { vec_len result.1.acceptors ≡ 64 }
         ensures all_vaults { vec_len result.1.vaults ≡ 17 }
     {
-        let Store {
-            world,
-            mut acceptors,
-        } = self;
+        let Store { world, room } = self;
+        let Room { mut acceptors } = room;
         let (record, shelves, vaults) = world.parts();
         take_off_shelves(shelves, &mut acceptors);
         (record, Rack { acceptors, vaults })
