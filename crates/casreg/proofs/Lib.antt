@@ -1,5 +1,4 @@
-pub mod Playing
-pub mod Rounds
+pub mod Opened
 pub mod Runs
 pub mod Scripts
 pub mod Taken

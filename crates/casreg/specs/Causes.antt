@@ -1,18 +1,28 @@
 -- When each status comes, and what was written by then.
-use Rattle.std.specs.Prelude.{◌≡◌, ◌⊎◌, ℕ, suc, List, ◌++◌, length, reverse, Option, IfSome}
+use Rattle.std.specs.Prelude.{◌≡◌, ◌⊎◌, ◌+◌, ℕ, suc, List, ◌++◌, ⊤, length, reverse, take, Option, IfSome}
 use Rattle.std.specs.Io.KnownBytes.{Appends}
 use Rattle.cas_base.specs.Faults.{Rose}
+use Rattle.cas_disk_shelf.specs.declared.shelf.DiskShelf.{DiskShelf}
 use Rattle.cas_lines.specs.declared.lines.TheConstants.{MOST_LINES}
 use Rattle.cas_lines.specs.Lines.{lines_of, Ending, Whole, TooMany, TooLong, ending_of}
 use Rattle.cas_record.specs.Legal.{IsLegal}
 use Rattle.cas_cluster.specs.SafeLaws.{HasPlaces}
 use Rattle.cas_cluster.specs.Step.{IsOpening}
-use Rattle.cas_cluster.specs.View.{Meaning, View}
+use Rattle.cas_cluster.specs.View.{View}
+use Rattle.cas_world.specs.Opening.{members_to, disks_of, AreDesksBelow}
+use Rattle.cas_world.specs.declared.fault.OpenFault.{OpenFault}
+use Rattle.cas_rack.specs.Rack.{RackMeaning, IsAllEmpty, IsNotEmpty}
+use Rattle.cas_rack.specs.Store.{acceptor_disks, AreReached, StaysClosed}
+use Rattle.cas_rack.specs.declared.rack.Rack.{Rack}
+use Rattle.cas_rack.specs.declared.rack.RackFault.{RackFault}
+use Rattle.cas_script.specs.Events.{Kinds}
+use Rattle.cas_script.specs.Script.{State, LineAnswer, ScriptRun, IsIn, opening_state, transcript_of}
+use Rattle.cas_script.specs.Stage.{Stage}
 use Rattle.casreg.specs.declared.status.Status.{Status}
 use Rattle.casreg.specs.declared.status.Status.TheVariants as status
-use Rattle.casreg.specs.Script.{LineAnswer, ScriptRun, transcript_of}
+use Rattle.casreg.specs.declared.words.Options.{Options}
+use Rattle.casreg.specs.Status.{status_of_rack, status_of_opening}
 use Rattle.casreg.specs.Words.{AreWords}
-use Rattle.cas_world.specs.Opening.{members_to}
 
 -- ---- causes
 -- the status of a run that nothing hinders, by where its input ends
@@ -21,17 +31,24 @@ status_of Whole = status.Ok
 status_of TooMany = status.TooManyLines
 status_of (TooLong line) = status.Endless line
 
+-- a status that names a disk
+abbrev pub IsOfDisk : Status → Type 0
+IsOfDisk (status.NotEmpty disk) = ⊤
+IsOfDisk (status.DiskFault disk) = ⊤
+IsOfDisk other = ⊥
+
 -- a status by the words, the input where its source tells it, and the faults of source and sink before and after
 pub record Causes (words : List (List ℕ)) (input : Option (List ℕ)) (source_old source_new sink_old sink_new : ℕ) (result : Status) : Type 0 where
-  pub usage : result ≡ status.Usage → AreWords words → ⊥
-  pub no_words : (AreWords words → ⊥) → (result ≡ status.Usage) ⊎ (result ≡ status.NoMemory)
+  pub usage : result ≡ status.Usage → (options : Options) → AreWords words options → ⊥
+  pub no_words : ((options : Options) → AreWords words options → ⊥) → (result ≡ status.Usage) ⊎ (result ≡ status.NoMemory)
   pub read_fault : result ≡ status.ReadFault → Rose source_old source_new
   pub write_fault : result ≡ status.WriteFault → Rose sink_old sink_new
   -- 0, 7 and 9 come by where the input ends alone
   pub ends : (ending : Ending) → result ≡ status_of ending → IfSome input (λ bytes. ending_of bytes ≡ ending)
-  -- with the right words and no fault one of these comes, unless there is no memory
-  pub completes : AreWords words → (Rose source_old source_new → ⊥) → (Rose sink_old sink_new → ⊥)
-      → IfSome input (λ bytes. (result ≡ status_of (ending_of bytes)) ⊎ (result ≡ status.NoMemory))
+  -- with the right words and no fault of source and sink one of these comes, unless there is no memory, or a disk is not empty or fails
+  -- as the store is opened
+  pub completes : (options : Options) → AreWords words options → (Rose source_old source_new → ⊥) → (Rose sink_old sink_new → ⊥)
+      → IfSome input (λ bytes. (result ≡ status_of (ending_of bytes)) ⊎ (result ≡ status.NoMemory) ⊎ IsOfDisk result)
 
 -- ---- what was written, where input and sink tell their bytes
 -- the first lines of an input
@@ -39,20 +56,20 @@ abbrev pub AreFirstLines : Option (List ℕ) → List (List ℕ) → Type 0
 AreFirstLines input lines = IfSome input (λ bytes. (later : List (List ℕ)) × (lines_of bytes ≡ lines ++ later))
 
 -- the answers to first lines of the input, of which this holds, from the first world on
-pub record AnswersTo {S V : Type 0} (m : Meaning S V) (P : List (List ℕ) → Type 0) (input old new : Option (List ℕ)) (first world : View S V) : Type 0 where
+pub record AnswersTo {S V : Type 0} (k : Kinds S V) (tries : ℕ) (P : List (List ℕ) → Type 0) (input old new : Option (List ℕ)) (first world : State S V) : Type 0 where
   pub lines : List (List ℕ)
   pub of_input : AreFirstLines input lines
   pub are : P lines
   pub answers : List LineAnswer
-  pub run : ScriptRun m first lines answers world
+  pub run : ScriptRun k tries first lines answers world
   pub written : Appends old new (transcript_of 1 answers)
 
 -- a front of the answers to first lines
-pub record AnswersFront {S V : Type 0} (m : Meaning S V) (input old new : Option (List ℕ)) (first world : View S V) : Type 0 where
+pub record AnswersFront {S V : Type 0} (k : Kinds S V) (tries : ℕ) (input old new : Option (List ℕ)) (first world : State S V) : Type 0 where
   pub lines : List (List ℕ)
   pub of_input : AreFirstLines input lines
   pub answers : List LineAnswer
-  pub run : ScriptRun m first lines answers world
+  pub run : ScriptRun k tries first lines answers world
   pub front : List ℕ
   pub rest : List ℕ
   pub is_front : transcript_of 1 answers ≡ front ++ rest
@@ -60,23 +77,55 @@ pub record AnswersFront {S V : Type 0} (m : Meaning S V) (input old new : Option
 
 -- what was written by the end of a run from the first world to this one: to all lines of the input, to as many as there may be, to those
 -- before the one that is too long, to those that had ended when the source failed, or a front
-abbrev pub WroteIn : {S V : Type 0} → Meaning S V → (List (List ℕ) → Type 0) → Option (List ℕ) → Option (List ℕ) → Option (List ℕ) → View S V → View S V → Status → Type 0
-WroteIn m HadEnded input old new first world status.Ok = AnswersTo m (λ lines. IfSome input (λ bytes. lines ≡ lines_of bytes)) input old new first world
-WroteIn m HadEnded input old new first world status.Usage = ⊥
-WroteIn m HadEnded input old new first world status.ReadFault = AnswersTo m HadEnded input old new first world
-WroteIn m HadEnded input old new first world status.WriteFault = AnswersFront m input old new first world
-WroteIn m HadEnded input old new first world status.TooManyLines = AnswersTo m (λ lines. length lines ≡ MOST_LINES) input old new first world
-WroteIn m HadEnded input old new first world status.NoMemory = AnswersFront m input old new first world
-WroteIn m HadEnded input old new first world (status.Endless line) = AnswersTo m (λ lines. suc (length lines) ≡ line) input old new first world
+abbrev pub WroteIn : {S V : Type 0} → Kinds S V → ℕ → (List (List ℕ) → Type 0) → Option (List ℕ) → Option (List ℕ) → Option (List ℕ) → State S V → State S V → Status → Type 0
+WroteIn k tries HadEnded input old new first world status.Ok = AnswersTo k tries (λ lines. IfSome input (λ bytes. lines ≡ lines_of bytes)) input old new first world
+WroteIn k tries HadEnded input old new first world status.Usage = ⊥
+WroteIn k tries HadEnded input old new first world status.ReadFault = AnswersTo k tries HadEnded input old new first world
+WroteIn k tries HadEnded input old new first world status.WriteFault = AnswersFront k tries input old new first world
+WroteIn k tries HadEnded input old new first world (status.NotEmpty disk) = ⊥
+WroteIn k tries HadEnded input old new first world (status.DiskFault disk) = ⊥
+WroteIn k tries HadEnded input old new first world status.TooManyLines = AnswersTo k tries (λ lines. length lines ≡ MOST_LINES) input old new first world
+WroteIn k tries HadEnded input old new first world status.NoMemory = AnswersFront k tries input old new first world
+WroteIn k tries HadEnded input old new first world (status.Endless line) = AnswersTo k tries (λ lines. suc (length lines) ≡ line) input old new first world
 
--- a world of these acceptors in which nothing has happened, with a place for each party
-pub record IsNew {S V : Type 0} (m : Meaning S V) (acceptors : ℕ) (world : View S V) : Type 0 where
-  pub opening : IsOpening m (members_to acceptors) world
+-- the same of a script that is in some state then
+pub record EndsIn {S V : Type 0} (k : Kinds S V) (tries : ℕ) (HadEnded : List (List ℕ) → Type 0) (input old new : Option (List ℕ)) (first : State S V) (stage : Stage S V) (result : Status) : Type 0 where
+  pub last : State S V
+  pub is_in : IsIn stage last
+  pub wrote : WroteIn k tries HadEnded input old new first last result
+
+-- ---- the world of a run
+-- A world of so many acceptors and proposers in which nothing has happened, over the disks of a rack: each acceptor and each proposer on
+-- the disk at the place of its number, of which those of the members and of the proposers were started.
+pub record IsNewOver {D : Type 0} (k : Kinds (DiskShelf D) D) (options : Options) (rack : Rack D) (world : View (DiskShelf D) D) : Type 0 where
+  pub opening : IsOpening k.meaning (members_to options.acceptors) world
   pub places : HasPlaces world
+  pub greatest : world.greatest ≡ options.proposers
+  pub acceptors : AreReached k.disk_faults 1 (options.acceptors + 1) rack.acceptors.items (acceptor_disks world.acceptors)
+  pub vaults : AreDesksBelow k.meaning.disks k.disk_faults rack.vaults.items (options.proposers + 1) world.desks
 
--- what was written by the end: nothing, where the words were wrong or there was no memory for a world; or by a run from a new world on
--- to one whose record is legal
-pub data Wrote {S V : Type 0} (m : Meaning S V) (acceptors : ℕ) (HadEnded : List (List ℕ) → Type 0) (input old new : Option (List ℕ)) : Status → Type 0 where
-  wrong_words : new ≡ old → Wrote m acceptors HadEnded input old new status.Usage
-  no_world : new ≡ old → Wrote m acceptors HadEnded input old new status.NoMemory
-  ran : {result : Status} (first world : View S V) → IsNew m acceptors first → WroteIn m HadEnded input old new first world result → IsLegal (reverse world.marks) → Wrote m acceptors HadEnded input old new result
+-- the rack that comes back holds the disks of the world, each at its place
+pub record IsRackOf {D : Type 0} (world : View (DiskShelf D) D) (rack : Rack D) : Type 0 where
+  pub acceptors : rack.acceptors.items ≡ acceptor_disks world.acceptors
+  pub vaults : take (world.greatest + 1) rack.vaults.items ≡ disks_of world.desks
+
+-- what a script wrote that ran from this world on, whose record was legal then, where disks tell what they keep, and the rack that comes
+-- back
+pub record Ran {D : Type 0} (k : Kinds (DiskShelf D) D) (tells : Type 0) (tries : ℕ) (HadEnded : List (List ℕ) → Type 0) (input old new : Option (List ℕ)) (world : View (DiskShelf D) D) (result : Status) (back : Rack D) : Type 0 where
+  pub last : State (DiskShelf D) D
+  pub wrote : WroteIn k tries HadEnded input old new (opening_state world) last result
+  pub legal : tells → IsLegal (reverse last.world.marks)
+  pub rack : IsRackOf last.world back
+
+-- ---- all of it
+-- What was written by the end, and the rack that comes back: nothing, where the words are none of a command, where there was no memory,
+-- where a disk is not known to be empty, or where the store did not open; or what a run wrote, from a new world over the rack on to one
+-- whose record is legal.
+pub data Wrote {D : Type 0} (k : Kinds (DiskShelf D) D) (m : RackMeaning D) (words : List (List ℕ)) (HadEnded : List (List ℕ) → Type 0) (input old new : Option (List ℕ)) (rack : Rack D) : Status → Rack D → Type 0 where
+  wrong_words : new ≡ old → Wrote k m words HadEnded input old new rack status.Usage rack
+  no_words_read : new ≡ old → Wrote k m words HadEnded input old new rack status.NoMemory rack
+  not_empty : {back : Rack D} (fault : RackFault) → IsNotEmpty m rack fault back → new ≡ old → Wrote k m words HadEnded input old new rack (status_of_rack fault) back
+  not_opened : {asked back : Rack D} (options : Options) (fault : OpenFault) → AreWords words options → IsAllEmpty m rack asked
+      → StaysClosed m.faults options.acceptors options.proposers asked.acceptors.items asked.vaults.items fault back.acceptors.items back.vaults.items → new ≡ old → Wrote k m words HadEnded input old new rack (status_of_opening fault) back
+  ran : {asked back : Rack D} {result : Status} (options : Options) (world : View (DiskShelf D) D) → AreWords words options → IsAllEmpty m rack asked → IsNewOver k options asked world
+      → Ran k m.tells options.tries HadEnded input old new world result back → Wrote k m words HadEnded input old new rack result back

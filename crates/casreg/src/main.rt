@@ -5,8 +5,6 @@
 
 ghost use Rattle.std.specs.Prelude.{◌≡◌, vec_len, IfOk};
 
-mod answers;
-mod changes;
 mod cluster;
 mod status;
 #[cfg(test)]

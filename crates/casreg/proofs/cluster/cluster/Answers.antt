@@ -1,23 +1,27 @@
-use Rattle.std.proofs.Common.{refl}
-use Rattle.casreg.specs.Causes.{wrong_words, no_world}
+use Rattle.std.proofs.Common.{◌≢◌, [], Option, map, string_bytes, refl, subst}
+use Rattle.std.specs.Prelude.{MatchOption}
+use Rattle.casreg.specs.Causes.{wrong_words, no_words_read}
+use Rattle.casreg.specs.Words.{AreWords, faults_of}
+use Rattle.casreg.specs.declared.words.Options.{Options}
 use Rattle.casreg.proofs.Written.{completes_of}
+use Rattle.casreg.proofs.cluster.cluster.Given.{Over}
 use Rattle.casreg.proofs.cluster.cluster.Goals as goal
 
-pub returns-in-Ok-false-clause-wrote : goal.returns-in-Ok-false-clause-wrote
-returns-in-Ok-false-clause-wrote g c = wrong_words refl
+pub returns-in-Ok-None-clause-wrote : goal.returns-in-Ok-None-clause-wrote
+returns-in-Ok-None-clause-wrote g c = wrong_words refl
 
 pub returns-in-Err-clause-wrote : goal.returns-in-Err-clause-wrote
-returns-in-Err-clause-wrote g c = no_world refl
+returns-in-Err-clause-wrote g c = no_words_read refl
 
-pub returns-in-Err-open_world-clause-wrote : goal.returns-in-Err-open_world-clause-wrote
-returns-in-Err-open_world-clause-wrote g c = no_world refl
+are_words : (g : Over) (c : goal.After-run g) → AreWords (map string_bytes c.args.words.now) c.in-Ok-Some.options
+are_words g c = subst (λ (o : Option Options). MatchOption o (faults_of (map string_bytes c.args.words.now) ≢ []) (AreWords (map string_bytes c.args.words.now))) c.in-Ok-Some.field-0-is c.in-Ok-Some.ensures.words
 
-pub returns-in-Ok-clause-causes : goal.returns-in-Ok-clause-causes
-returns-in-Ok-clause-causes g c = record {
-  usage = λ is. absurd (c.run_script.ensures.usage is);
-  no_words = λ differs. absurd (differs (c.in-Ok-true.ensures.0 c.in-Ok-true.field-0-test));
-  read_fault = c.run_script.ensures.read_fault;
-  write_fault = c.run_script.ensures.write_fault;
-  ends = c.run_script.ensures.ends;
-  completes = λ words no_read no_write. completes_of _ _ _ _ c.run_script.ensures.usage c.run_script.ensures.read_fault c.run_script.ensures.write_fault c.run_script.ensures.ends no_read no_write;
+pub returns-in-Ok-Some-clause-causes : goal.returns-in-Ok-Some-clause-causes
+returns-in-Ok-Some-clause-causes g c = record {
+  usage = λ is. absurd (c.run.ensures.usage is);
+  no_words = λ differs. absurd (differs c.in-Ok-Some.options (are_words g c));
+  read_fault = c.run.ensures.read_fault;
+  write_fault = c.run.ensures.write_fault;
+  ends = c.run.ensures.ends;
+  completes = λ options words no_read no_write. completes_of _ _ _ _ c.run.ensures.usage c.run.ensures.read_fault c.run.ensures.write_fault c.run.ensures.ends no_read no_write;
 }

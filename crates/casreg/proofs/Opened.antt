@@ -1,0 +1,13 @@
+-- A store in which nothing has happened.
+use Rattle.std.proofs.Common.{◌≡◌, ◌≤◌, ℕ, List, ap, arith}
+use Rattle.cas_cluster.specs.SafeLaws.{HasPlaces}
+use Rattle.cas_cluster.specs.Step.{IsOpening}
+use Rattle.cas_cluster.specs.View.{Meaning, View, CallerView}
+use Rattle.cas_cluster.proofs.SafeParts.{at_low}
+use Rattle.cas_script.specs.Stage.{AllIdle}
+
+-- no call is open
+pub new_idle : {S V : Type 0} (m : Meaning S V) (members : List ℕ) (world : View S V) → IsOpening m members world → HasPlaces world → AllIdle world
+new_idle m members world opening places id low =
+    let there = at_low world.callers id (omega (arith, places.callers, low)) in
+    record { caller = there.0; at_caller = there.1; none_open = ap (λ (c : CallerView). c.call) (opening.callers id there.0 there.1) }
