@@ -81,7 +81,8 @@ fn vault_answer(restarted: Result<(), VaultError>) -> EventAnswer
 pub(crate) fn stray<S: Shelf, V: Disk>(world: &mut World<S, V>, index: u64) -> EventAnswer
     ensures { StraysIn (meaning S.contents S.tells S.may_leave V.tells V.may_leave) world.old index result world.new }
 {
-    if index >= world.late() as u64 {
+    let late = world.late() as u64;
+    if index >= late {
         return EventAnswer::Absent;
     }
     match world.stray(index as usize) {
