@@ -10,6 +10,8 @@ mod halt;
 mod network;
 mod run;
 mod script;
+#[cfg(test)]
+mod tests;
 
 pub use changes::change;
 pub use halt::Halt;

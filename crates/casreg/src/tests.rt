@@ -1,39 +1,98 @@
-//! The worked rows of the program, over memory.
+//! The worked rows of the program, over disks in memory.
 
-use crate::changes::change;
-use crate::cluster::{cluster, open_world};
+ghost use Rattle.std.specs.Prelude.{◌≡◌, vec_len, IfOk};
+
+use crate::cluster::cluster;
 use crate::status::Status;
-use cas_ballot::{AcceptorId, Ballot, Members};
-use cas_change::{Act, Body, Clause, Guard, Key, Program, State, Took};
+use cas_disk::{Image, MemoryDisk, Trouble};
 use cas_lines::sink::MemorySink;
 use cas_lines::source::MemorySource;
-use cas_record::{Acknowledgment, Answer, Mark, Proposal};
-use cas_slot::Shelf;
+use cas_rack::{ACCEPTORS, Rack, VAULTS};
 use std::alloc::{AllocError, Global};
 use std::test::Fail;
 
 const SCRIPT: &str = "script --acceptors 3 --proposers 1";
 
-/// The ballot of the first change.
-const FIRST: Ballot = Ballot {
-    counter: 1,
-    proposer: 1,
+/// A disk of an acceptor that is not like the others: these bytes are on it, it has trouble at that call, from 1, or none where it is 0,
+/// and a crash leaves that image.
+#[derive(Clone, Copy)]
+struct Odd<'a> {
+    number: u8,
+    bytes: &'a [u8],
+    call: u64,
+    trouble: Trouble,
+    image: Image,
+}
+
+/// No disk is odd.
+const NONE_ODD: Odd<'static> = Odd {
+    number: 255,
+    bytes: b"",
+    call: 0,
+    trouble: Trouble::Fail,
+    image: Image::New,
 };
 
-/// A run over memory that has finished: how it ended, and what was written.
+fn disk(alloc: Global, number: u8, odd: &Odd<'_>) -> Result<MemoryDisk, AllocError> {
+    if number != odd.number {
+        return Ok(MemoryDisk::new(alloc, Vec::new(alloc), Vec::new(alloc), Image::New));
+    }
+    let bytes = odd.bytes.to_vec(alloc)?;
+    let troubles = [(odd.call, odd.trouble)].to_vec(alloc)?;
+    Ok(MemoryDisk::new(alloc, bytes, troubles, odd.image))
+}
+
+fn disks(alloc: Global, count: u8, odd: &Odd<'_>) -> Result<Vec<MemoryDisk>, AllocError>
+    ensures { IfOk result (λ disks. vec_len disks ≡ count) }
+{
+    let mut disks = Vec::new(alloc);
+    for number in 0..count {
+        disks.push(disk(alloc, number, odd)?)?;
+    }
+    Ok(disks)
+}
+
+fn rack(alloc: Global, odd: &Odd<'_>) -> Result<Rack<MemoryDisk>, AllocError>
+    ensures acceptors { IfOk result (λ rack. vec_len rack.acceptors ≡ 64) }
+    ensures vaults { IfOk result (λ rack. vec_len rack.vaults ≡ 17) }
+{
+    let acceptors = disks(alloc, ACCEPTORS, odd)?;
+    let vaults = disks(alloc, VAULTS, &NONE_ODD)?;
+    Ok(Rack { acceptors, vaults })
+}
+
+/// A run over memory that has finished: how it ended, what was written, and the length of each acceptor's disk.
 #[derive(Drop)]
 struct Finished {
     status: Status,
     written: Vec<u8>,
+    lengths: Vec<usize>,
 }
 
-/// Runs the words over the input, in pieces of that size, with calls of the source and of the sink that fail.
+/// What a run gets from outside: in pieces of that size, with a call of the source and of the sink that fail, from 1, and with a disk
+/// that is odd.
+#[derive(Clone, Copy)]
+struct Outside<'a> {
+    piece: usize,
+    source_fails: u64,
+    sink_fails: u64,
+    odd: Odd<'a>,
+}
+
+/// Nothing fails.
+const FINE: Outside<'static> = Outside {
+    piece: 4096,
+    source_fails: 0,
+    sink_fails: 0,
+    odd: NONE_ODD,
+};
+
+/// Runs the words over the input.
 fn run(
     rt: &HostRuntime,
     words: &str,
     input: &[u8],
-    piece: usize,
-    failing: (u64, u64),
+    outside: Outside<'_>,
 ) -> Result<Finished, AllocError> {
     let alloc = rt.alloc();
     let mut list = Vec::new(alloc);
@@ -41,12 +100,19 @@ fn run(
         list.push(String::from_str(alloc, word)?)?;
     }
     let bytes = input.to_vec(alloc)?;
-    let mut source = MemorySource::new(bytes, piece.max(1), [failing.0].to_vec(alloc)?);
-    let mut sink = MemorySink::new(alloc, piece.max(1), [failing.1].to_vec(alloc)?);
-    let status = cluster(rt, alloc, &list, &mut source, &mut sink);
+    let piece = outside.piece.max(1);
+    let mut source = MemorySource::new(bytes, piece, [outside.source_fails].to_vec(alloc)?);
+    let mut sink = MemorySink::new(alloc, piece, [outside.sink_fails].to_vec(alloc)?);
+    let rack = rack(alloc, &outside.odd)?;
+    let (status, rack) = cluster(rt, alloc, &list, &mut source, &mut sink, rack);
+    let mut lengths = Vec::new(alloc);
+    for disk in &rack.acceptors {
+        lengths.push(disk.bytes().len())?;
+    }
     Ok(Finished {
         status,
         written: sink.bytes().to_vec(alloc)?,
+        lengths,
     })
 }
 
@@ -83,7 +149,7 @@ fn answers_each_line(rt: HostRuntime) -> Result<(), Fail> {
     ];
     for (input, output) in rows {
         for piece in [1, 7, 4096] {
-            let run = run(&rt, SCRIPT, input.as_bytes(), piece, (0, 0))?;
+            let run = run(&rt, SCRIPT, input.as_bytes(), Outside { piece, ..FINE })?;
             assert_eq!(rt; run.status, Status::Ok, "{input}");
             assert_eq!(rt;
                 run.written.as_slice(),
@@ -121,7 +187,7 @@ fn limits_words_and_lines(rt: HostRuntime) -> Result<(), Fail> {
         ),
     ] {
         let input = with_letters(rt.alloc(), front.as_bytes(), letters)?;
-        let run = run(&rt, SCRIPT, &input, 4096, (0, 0))?;
+        let run = run(&rt, SCRIPT, &input, FINE)?;
         assert_eq!(rt; run.status, status, "{front} and {letters}");
         assert_eq!(rt;
             run.written.as_slice(),
@@ -130,7 +196,7 @@ fn limits_words_and_lines(rt: HostRuntime) -> Result<(), Fail> {
         );
     }
     let input = with_letters(rt.alloc(), b"1 set a ", 200)?;
-    let run = run(&rt, SCRIPT, &input, 4096, (0, 0))?;
+    let run = run(&rt, SCRIPT, &input, FINE)?;
     let mut want = with_letters(rt.alloc(), b"1: done v0 text ", 200)?;
     want.extend_from_slice(b" at 1.1\n")?;
     assert_eq!(rt; run.written.as_slice(), want.as_slice());
@@ -146,10 +212,16 @@ fn repeated(alloc: Global, line: &[u8], times: u32) -> Result<Vec<u8>, AllocErro
     Ok(bytes)
 }
 
+/// In pieces of 65,536 bytes.
+const BIG: Outside<'static> = Outside {
+    piece: 65_536,
+    ..FINE
+};
+
 #[test]
 fn answers_where_the_record_is_full(rt: HostRuntime) -> Result<(), Fail> {
     let input = repeated(rt.alloc(), b"1 add a 1\n", 142_856)?;
-    let run = run(&rt, SCRIPT, &input, 65_536, (0, 0))?;
+    let run = run(&rt, SCRIPT, &input, BIG)?;
     assert_eq!(rt; run.status, Status::Ok);
     let end = b"\n1: done v142854 num 142855 at 142855.1\n1: record full\n";
     assert!(rt; run.written.ends_with(end.as_slice()));
@@ -160,14 +232,14 @@ fn answers_where_the_record_is_full(rt: HostRuntime) -> Result<(), Fail> {
 fn ends_behind_the_last_line_that_may_be(rt: HostRuntime) -> Result<(), Fail> {
     let mut input = repeated(rt.alloc(), b"\n", 999_999)?;
     input.extend_from_slice(b"1 get a\n")?;
-    let whole = run(&rt, SCRIPT, &input, 65_536, (0, 0))?;
+    let whole = run(&rt, SCRIPT, &input, BIG)?;
     assert_eq!(rt; whole.status, Status::Ok);
     assert_eq!(rt;
         whole.written.as_slice(),
         b"1: done empty at 1.1\n".as_slice()
     );
     input.push(b'#')?;
-    let long = run(&rt, SCRIPT, &input, 65_536, (0, 0))?;
+    let long = run(&rt, SCRIPT, &input, BIG)?;
     assert_eq!(rt; long.status, Status::TooManyLines);
     assert_eq!(rt;
         long.written.as_slice(),
@@ -178,148 +250,66 @@ fn ends_behind_the_last_line_that_may_be(rt: HostRuntime) -> Result<(), Fail> {
 
 #[test]
 fn stops_where_the_outside_fails(rt: HostRuntime) -> Result<(), Fail> {
-    let answer = b"1: done v0 num 5 at 1.1\n";
-    let source = run(&rt, SCRIPT, b"1 add a 5\n", 4096, (2, 0))?;
-    assert_eq!(rt; source.status, Status::ReadFault);
-    assert_eq!(rt; source.written.as_slice(), answer.as_slice());
-    let two = b"1 add a 5\n1 add a 2\n1 get a";
-    let source = run(&rt, SCRIPT, two, 4096, (2, 0))?;
-    assert_eq!(rt; source.status, Status::ReadFault);
-    let answers = b"1: done v0 num 5 at 1.1\n1: done v1 num 7 at 2.1\n";
-    assert_eq!(rt; source.written.as_slice(), answers.as_slice());
-    let sink = run(&rt, SCRIPT, b"1 add a 5\n", 4096, (0, 1))?;
-    assert_eq!(rt; sink.status, Status::WriteFault);
-    assert_eq!(rt; sink.written.as_slice(), b"".as_slice());
-    let words = run(&rt, "script --acceptors 4", b"1 add a 5\n", 4096, (1, 1))?;
-    assert_eq!(rt; words.status, Status::Usage);
-    assert_eq!(rt; words.written.as_slice(), b"".as_slice());
+    let source_fails = Outside {
+        source_fails: 2,
+        ..FINE
+    };
+    let sink_fails = Outside {
+        sink_fails: 1,
+        ..FINE
+    };
+    for (words, input, outside, status, written) in [
+        (SCRIPT, "1 add a 5\n", source_fails, Status::ReadFault, "1: done v0 num 5 at 1.1\n"),
+        (SCRIPT, "1 add a 5\n1 add a 2\n1 get a", source_fails, Status::ReadFault, "1: done v0 num 5 at 1.1\n1: done v1 num 7 at 2.1\n"),
+        (SCRIPT, "1 add a 5\n", sink_fails, Status::WriteFault, ""),
+        ("script --acceptors 10", "1 add a 5\n", FINE, Status::Usage, ""),
+    ] {
+        let run = run(&rt, words, input.as_bytes(), outside)?;
+        assert_eq!(rt; run.status, status, "{words} and {input}");
+        assert_eq!(rt; run.written.as_slice(), written.as_bytes(), "{words} and {input}");
+    }
     Ok(())
 }
 
-/// The program that adds 1.
-fn add_one(alloc: Global) -> Result<Program, Fail> {
-    let mut clauses = Vec::new(alloc);
-    clauses.push(Clause {
-        guard: Guard::Always,
-        act: Act::Add(1),
-    })?;
-    match Program::new(clauses) {
-        Ok(program) => Ok(program),
-        Err(_) => Err(Fail::from("one clause is a program")),
-    }
+#[test]
+fn takes_empty_disks_alone(rt: HostRuntime) -> Result<(), Fail> {
+    let odd = Odd {
+        number: 2,
+        bytes: b"x",
+        ..NONE_ODD
+    };
+    let run = run(&rt, SCRIPT, b"1 add a 5\n", Outside { odd, ..FINE })?;
+    assert_eq!(rt; run.status, Status::NotEmpty { disk: 2 });
+    assert_eq!(rt; run.written.as_slice(), b"".as_slice());
+    assert_eq!(rt; run.lengths.get(2).copied(), Some(1));
+    Ok(())
 }
 
-/// The votes of all three acceptors for the first change, which join the set.
-fn votes_of_the_first(
-    alloc: Global,
-    key: &Key,
-    all: &mut Members,
-) -> Result<Vec<Mark>, AllocError> {
-    let mut votes = Vec::new(alloc);
-    for number in 1..4 {
-        if let Some(acceptor) = AcceptorId::new(number) {
-            all.insert(acceptor);
-            votes.push(Mark::Voted {
-                acceptor,
-                key: key.copy()?,
-                ballot: FIRST,
-            })?;
+/// The number of calls of a member's disk at opening.
+const CALLS_AT_OPENING: u64 = 7;
+
+#[test]
+fn goes_on_where_a_disk_stops(rt: HostRuntime) -> Result<(), Fail> {
+    let input = b"1 add a 5\nrestart acceptor 2\n1 add a 2\n";
+    let answers = b"1: done v0 num 5 at 1.1\nok\n1: done v1 num 7 at 2.1\n";
+    for image in [Image::Old, Image::New, Image::Noise(7)] {
+        for call in 1..40 {
+            let odd = Odd {
+                number: 2,
+                bytes: b"",
+                call,
+                trouble: Trouble::Stop,
+                image,
+            };
+            let run = run(&rt, SCRIPT, input, Outside { odd, ..FINE })?;
+            if call <= CALLS_AT_OPENING {
+                assert_eq!(rt; run.status, Status::DiskFault { disk: 2 }, "at call {call}");
+                assert_eq!(rt; run.written.as_slice(), b"".as_slice(), "at call {call}");
+            } else {
+                assert_eq!(rt; run.status, Status::Ok, "at call {call}");
+                assert_eq!(rt; run.written.as_slice(), answers.as_slice(), "at call {call}");
+            }
         }
     }
-    Ok(votes)
-}
-
-/// The marks of the first change, of this key by this program.
-fn marks_of_the_first(
-    alloc: Global,
-    key: &Key,
-    program: &Program,
-) -> Result<Vec<Mark>, AllocError> {
-    let mut all = Members::new();
-    let votes = votes_of_the_first(alloc, key, &mut all)?;
-    let mut marks = Vec::new(alloc);
-    marks.push(Mark::Begun {
-        caller: 1,
-        call: 1,
-        key: key.copy()?,
-        program: program.copy()?,
-    })?;
-    marks.push(Mark::Proposed(Proposal {
-        caller: 1,
-        call: 1,
-        key: key.copy()?,
-        ballot: FIRST,
-        read: Ballot::ZERO,
-        era: 0,
-        prepared_by: all,
-    }))?;
-    for vote in votes {
-        marks.push(vote)?;
-    }
-    marks.push(Mark::Acked(Acknowledgment {
-        key: key.copy()?,
-        ballot: FIRST,
-        era: 0,
-        by: all,
-    }))?;
-    marks.push(Mark::Ended {
-        caller: 1,
-        call: 1,
-        rounds: 1,
-        answer: done(0, 1, FIRST),
-    })?;
-    Ok(marks)
-}
-
-#[test]
-fn marks_what_happens(rt: HostRuntime) -> Result<(), Fail> {
-    let alloc = rt.alloc();
-    let key = Key::read(alloc, b"a")?;
-    let program = add_one(alloc)?;
-    let mut world = open_world(alloc)?;
-    let answer = change(&mut world, 1, &key, &program);
-    assert_eq!(rt; answer, done(0, 1, FIRST));
-    assert_eq!(rt; world.next_call(1), 2);
-    let marks = marks_of_the_first(alloc, &key, &program)?;
-    assert_eq!(rt; world.record().marks(), marks.as_slice());
-    let (record, shelves, vaults) = world.parts();
-    assert_eq!(rt; record.marks().len(), 7);
-    assert_eq!(rt; shelves.len(), 64);
-    assert_eq!(rt; vaults.len(), 17);
-    for number in 1..4 {
-        let slot = shelves[number].get(&key)?;
-        let accepted = slot.and_then(|slot| slot.accepted);
-        assert_eq!(rt; accepted.map(|accepted| accepted.ballot), Some(FIRST));
-    }
-    Ok(())
-}
-
-/// The answer of a change whose first clause acted and left that number.
-fn done(version: u64, number: i64, ballot: Ballot) -> Answer {
-    Answer::Done {
-        state: State::Held {
-            version,
-            body: Body::Number(number),
-        },
-        took: Took::Clause(0),
-        ballot,
-    }
-}
-
-#[test]
-fn refuses_where_the_record_is_full(rt: HostRuntime) -> Result<(), Fail> {
-    let alloc = rt.alloc();
-    let key = Key::read(alloc, b"a")?;
-    let program = add_one(alloc)?;
-    let mut world = open_world(alloc)?;
-    for _made in 0..142_855u32 {
-        let answer = change(&mut world, 1, &key, &program);
-        assert!(rt; matches!(answer, Answer::Done { .. }));
-    }
-    assert_eq!(rt; world.next_call(1), 142_856);
-    assert_eq!(rt; world.record().marks().len(), 999_985);
-    let answer = change(&mut world, 1, &key, &program);
-    assert_eq!(rt; answer, Answer::RecordFull);
-    assert_eq!(rt; world.record().marks().len(), 999_985);
     Ok(())
 }
