@@ -1,10 +1,7 @@
 -- The answer to a line, by what its command did.
-use Rattle.std.proofs.Common.{◌≡◌, ◌≢◌, ◌<◌, ◌≤◌, ℕ, List, [], Option, None, Some, Result, Ok, Err, slice_set, slice_index_or, length, refl, sym, ap, subst, ◌∙◌}
-use Rattle.std.specs.Prelude.{IfOk, OnErr, IfSome, IfNone}
-use Rattle.cas_change_text.specs.declared.refusal.Why.{Why}
-use Rattle.cas_lines.specs.Answers.{change_line, bad_line, event_line, shown_line}
+use Rattle.std.proofs.Common.{◌≡◌, ◌<◌, ℕ, List, Option, Some, Result, Ok, Err, slice_set, slice_index_or, length, refl, ap, subst, ◌∙◌}
+use Rattle.std.specs.Prelude.{IfOk, OnErr}
 use Rattle.cas_lines.specs.Command.{IsLine, Asked, change_of}
-use Rattle.cas_lines.specs.Reading.{line_in}
 use Rattle.cas_lines.specs.declared.answer.EventAnswer.{EventAnswer}
 use Rattle.cas_lines.specs.declared.answer.Shown.{Shown}
 use Rattle.cas_lines.specs.declared.command.Command.{Command}
@@ -17,8 +14,8 @@ use Rattle.cas_script.specs.Changes.{IsChange}
 use Rattle.cas_script.specs.Conditions.{Rule}
 use Rattle.cas_script.specs.Events.{Kinds, IsShown}
 use Rattle.cas_script.specs.Network.{IsNetwork}
-use Rattle.cas_script.specs.Script.{State, LineAnswer, Changed, Happened, Shows, Bad, Remark, RunsChange, RunsEvent, IsAnswered, changes, happens, shows, refused, remark, text_of, IsIn, AnswersLine, RanOrNot, not_run, ran, Runs, nowhere}
-use Rattle.cas_script.specs.Stage.{Stage, IsStage, AllIdle}
+use Rattle.cas_script.specs.Script.{State, LineAnswer, Changed, Happened, Shows, RunsChange, RunsEvent, IsAnswered, changes, happens, shows, text_of, IsIn, AnswersLine, RanOrNot, ran, Runs, nowhere}
+use Rattle.cas_script.specs.Stage.{Stage, IsStage}
 use Rattle.cas_script.specs.declared.halt.Halt.{Halt}
 use Rattle.cas_script.specs.declared.network.Network.{Network}
 use Rattle.cas_script.proofs.Keeping.{change_keeps, idle_then}

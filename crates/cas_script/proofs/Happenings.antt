@@ -1,10 +1,9 @@
 -- What the event lines of a script do.
-use Rattle.std.proofs.Common.{◌≡◌, ◌≤◌, ℕ, Bool, true, false, not, List, Option, None, Some, Result, Ok, Err, slice_get, slice_set, refl, sym, ap, subst, ◌∙◌}
+use Rattle.std.proofs.Common.{◌≡◌, ℕ, Bool, true, false, not, Option, None, Some, Result, Err, refl, sym, ap, subst, ◌∙◌}
 use Rattle.std.specs.Prelude.{IsSome, IsErrOf, option_map, if◌then◌else◌}
 use Rattle.cas_acceptor.specs.Acceptor.{AcceptorView}
 use Rattle.cas_ballot.specs.Members.{has_member, union_of}
 use Rattle.cas_quorum.specs.declared.era.Era.{Era}
-use Rattle.cas_cluster.specs.View.{View, IsAt}
 use Rattle.cas_world.specs.Readers.{up_in}
 
 pub some_there : {A : Type 0} (o : Option A) (x : A) → o ≡ Some x → IsSome o

@@ -1,5 +1,5 @@
 -- What a call of one caller leaves to the others.
-use Rattle.std.proofs.Common.{◌≡◌, ◌≢◌, ◌≤◌, ℕ, zero, suc, Bool, nat_eq, List, [], ◌∷◌, None, Some, slice_get, slice_set, inl, inr, refl, sym, ap, subst, ◌∙◌, eqb-true}
+use Rattle.std.proofs.Common.{◌≡◌, ◌≢◌, ◌≤◌, ℕ, zero, suc, nat_eq, List, [], ◌∷◌, slice_get, slice_set, inl, inr, refl, sym, ap, subst, ◌∙◌, eqb-true}
 use Rattle.std.proofs.lemmas.Bool.{eqb-false}
 use Rattle.cas_base.proofs.Bools.{true_or_false}
 use Rattle.cas_change.specs.declared.program.Clause.{Clause}
@@ -13,7 +13,7 @@ use Rattle.cas_cluster.specs.Step as step
 use Rattle.cas_cluster.specs.Step.{StepBegin, StepTurn, StepRefuseTurn, StepPropose, StepCount, StepEnd, StepStray, StepCrashAcceptor, StepRestartAcceptor, StepCrashProposer, StepRestartProposer, OpenCallAt}
 use Rattle.cas_cluster.specs.StepCalls as calls
 use Rattle.cas_cluster.specs.StepFrames as frames
-use Rattle.cas_cluster.specs.View.{Meaning, View, CallerView, IsAt}
+use Rattle.cas_cluster.specs.View.{Meaning, View, CallerView}
 use Rattle.cas_cluster.proofs.Places.{at_one}
 use Rattle.cas_world.specs.Beginning.{HasNoCall}
 use Rattle.cas_script.specs.Changes as changes
@@ -150,7 +150,7 @@ pub idle_then : {S V : Type 0} (old new : View S V) (id : ℕ) → KeepsOthers o
 idle_then old new id keeps idle own p low = elim (true_or_false (nat_eq p id)) [
   | inl is ↦ subst (HasNoCall new) (sym (eqb-true p id is)) own
   | inr other ↦ let was = idle p (subst (λ (g : ℕ). p ≤ g) keeps.greatest low) in
-  record { caller = was.caller; at_caller = keeps.others p (eqb-false p id other) ∙ was.at_caller; none_open = was.none_open }
+      record { caller = was.caller; at_caller = keeps.others p (eqb-false p id other) ∙ was.at_caller; none_open = was.none_open }
 ]
 
 -- no caller changes

@@ -1,6 +1,6 @@
 -- What each call of a round does to how far it has come.
-use Rattle.std.proofs.Common.{◌≡◌, ◌<◌, ◌≤◌, ◌+◌, ◌-◌, ℕ, suc, Bool, true, false, not, List, [], ◌∷◌, length, Option, None, Some, slice_get, slice_set, inl, inr, refl, sym, ap, subst, ◌∙◌, arith}
-use Rattle.std.specs.Prelude.{is_some, IsSome, IfSome, IsTrue, option_map, ◌⊎◌, ◌↔◌, Err, IsErrOf, if◌then◌else◌}
+use Rattle.std.proofs.Common.{◌≡◌, ◌<◌, ◌+◌, ◌-◌, ℕ, suc, Bool, true, false, not, List, [], length, Option, None, Some, slice_get, slice_set, inl, inr, refl, sym, ap, subst, ◌∙◌}
+use Rattle.std.specs.Prelude.{is_some, IsSome, IfSome, option_map, ◌⊎◌, ◌↔◌, Err, IsErrOf, if◌then◌else◌}
 use Rattle.cas_ballot.specs.declared.ballot.Ballot.{Ballot}
 use Rattle.cas_change.specs.declared.program.Clause.{Clause}
 use Rattle.cas_change.specs.declared.outcome.Outcome.{Outcome}
@@ -248,7 +248,6 @@ no_begin_idle {S} {V} m old new id key (calls.stays same) none = subst (λ (v : 
 no_begin_idle {S} {V} m old new id key (calls.loses caller desk now ballot at_caller at_desk no_round up loses same) none =
     record { caller = none.caller; at_caller = subst (λ (v : View S V). IsAt v.callers id none.caller) (sym same) none.at_caller; none_open = none.none_open }
 
-
 -- ---- what is told
 -- what the caller was told is what its call says
 told_in : {S V : Type 0} (view : View S V) (id number : ℕ) (told : Answer) → WasTold view id number told → (caller : CallerView) (call : CallView) → IsAt view.callers id caller → caller.call ≡ Some call → call.told ≡ Some told
@@ -358,9 +357,10 @@ verdict_shown (Some v) round is = (λ same. is.1.0 (some_is same), λ quorum. ap
 
 pub quorum_shown : {S V : Type 0} (view : View S V) (id : ℕ) (asked : Asked) (proposed : Bool) (r : Option RoundVerdict) → IsPlaying view id asked proposed → ((desk : DeskView V) → IsAt view.desks id desk → IsVerdictIn desk.round r) → (r ≡ Some verdict.Quorum) ↔ HasQuorum view id
 quorum_shown {S} {V} view id asked proposed r was says =
-    let shown = verdict_shown r was.round (subst (λ (o : Option Round). IsVerdictIn o r) was.is_round (says was.desk was.at_desk)) in
-    (λ is. record { desk = was.desk; at_desk = was.at_desk; round = was.round; is_round = was.is_round; quorum = shown.0 is },
-    λ has. shown.1 (subst (λ (o : Round). has_quorum o.phase ≡ true) (some_is (sym has.is_round ∙ ap (λ (d : DeskView V). d.round) (at_one view.desks id has.at_desk was.at_desk) ∙ was.is_round)) has.quorum))
+    let shown = verdict_shown r was.round (subst (λ (o : Option Round). IsVerdictIn o r) was.is_round (says was.desk was.at_desk)) in (
+      λ is. record { desk = was.desk; at_desk = was.at_desk; round = was.round; is_round = was.is_round; quorum = shown.0 is },
+      λ has. shown.1 (subst (λ (o : Round). has_quorum o.phase ≡ true) (some_is (sym has.is_round ∙ ap (λ (d : DeskView V). d.round) (at_one view.desks id has.at_desk was.at_desk) ∙ was.is_round)) has.quorum),
+    )
 
 -- ---- a call begins
 pub begun_first : {S V : Type 0} (world : View S V) (id call : ℕ) (key : List ℕ) (program : List Clause) → HasNoCall world id → option_map next_number (slice_get world.callers id) ≡ Some call → MayBegin world id call key program

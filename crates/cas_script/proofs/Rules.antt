@@ -1,13 +1,13 @@
 -- Rules, and the table that agrees with them.
-use Rattle.std.proofs.Common.{◌≡◌, ◌≢◌, ◌<◌, ◌≤◌, ◌+◌, ℕ, zero, suc, Bool, true, false, nat_eq, nat_lt, List, [], ◌∷◌, inl, inr, refl, sym, ap, ap₂, ◌∙◌, arith, eqb-true, eq-eqb, ne_eqb, lt-ltb, ltb-true, ltb-false}
+use Rattle.std.proofs.Common.{◌≡◌, ◌≢◌, ◌<◌, ◌≤◌, ◌+◌, ℕ, zero, suc, Bool, true, false, nat_eq, nat_lt, List, ◌∷◌, inl, inr, refl, sym, ap, ap₂, ◌∙◌, arith, eqb-true, eq-eqb, ne_eqb, lt-ltb, ltb-true, ltb-false}
 use Rattle.std.proofs.lemmas.Bool.{eqb-false, le-ltb}
-use Rattle.std.specs.Prelude.{◌&&◌, ◌⊎◌, if◌then◌else◌, Option, None, Some, slice_index_or}
+use Rattle.std.specs.Prelude.{◌&&◌, ◌⊎◌, Option, slice_index_or}
 use Rattle.cas_base.proofs.Bools.{true_or_false}
 use Rattle.cas_fate.specs.Legs.{row_of}
 use Rattle.cas_fate.specs.declared.fate.Leg.{Leg}
 use Rattle.cas_fate.specs.declared.fate.Leg.TheVariants as leg
 use Rattle.cas_fate.specs.declared.fate.Verdict.{Verdict}
-use Rattle.cas_fate.specs.declared.fate.Verdict.TheVariants.{Deliver, Hold}
+use Rattle.cas_fate.specs.declared.fate.Verdict.TheVariants.{Hold}
 use Rattle.cas_fate.specs.Links.{verdict_at}
 use Rattle.cas_script.specs.Conditions.{Rule, is_leg, is_who, verdict_of}
 use Rattle.cas_script.specs.Network.{IsNetwork, ruled}

@@ -1,5 +1,5 @@
 -- What a line does to the state of a script.
-use Rattle.std.proofs.Common.{◌≡◌, ◌<◌, ◌≤◌, ℕ, zero, suc, true, false, List, [], ◌∷◌, length, None, Some, slice_get, slice_set, slice_index_or, refl, sym, ap, subst, ◌∙◌, arith}
+use Rattle.std.proofs.Common.{◌≡◌, ◌<◌, ℕ, zero, suc, true, List, [], ◌∷◌, length, None, Some, slice_get, slice_set, slice_index_or, refl, sym, ap, subst, ◌∙◌, arith}
 use Rattle.cas_lines.specs.Command.{change_of}
 use Rattle.cas_lines.specs.declared.command.Command.{Command}
 use Rattle.cas_lines.specs.declared.command.Command.TheVariants.{Get, Set, Num, Init, Add, Cas, CasNum, Del, DelVersion, Do, Net, CrashAcceptor, RestartAcceptor, CrashProposer, RestartProposer, HaltPrepared, HaltProposed, Stray, Show}
@@ -7,7 +7,7 @@ use Rattle.cas_cluster.specs.View.{View, IsAt}
 use Rattle.cas_script.specs.Conditions.{Rule}
 use Rattle.cas_script.specs.Network.{IsNetwork}
 use Rattle.cas_script.specs.Script.{State, IsIn, Runs, is_event, nowhere}
-use Rattle.cas_script.specs.Stage.{Stage, IsStage, AllIdle}
+use Rattle.cas_script.specs.Stage.{Stage, IsStage}
 use Rattle.cas_script.specs.declared.halt.Halt.{Halt}
 use Rattle.cas_script.specs.declared.network.Network.{Network}
 use Rattle.cas_script.proofs.Keeping.{KeepsCallers, still_idle}

@@ -1,6 +1,6 @@
 -- What a turn leaves of the turns of a proposer.
-use Rattle.std.proofs.Common.{◌≡◌, ◌≢◌, ◌<◌, ◌≤◌, ◌+◌, ◌-◌, ℕ, Bool, true, false, List, [], ◌∷◌, ◌++◌, length, Some, slice_get, slice_set, refl, sym, ap, subst, ◌∙◌, arith}
-use Rattle.std.specs.Prelude.{if◌then◌else◌, option_map, Option, None}
+use Rattle.std.proofs.Common.{◌≡◌, ◌≢◌, ◌<◌, ◌+◌, ℕ, Bool, true, false, List, [], ◌∷◌, ◌++◌, Some, slice_get, refl, sym, ap, subst, ◌∙◌, arith}
+use Rattle.std.specs.Prelude.{option_map, Option, None}
 use Rattle.std.proofs.lemmas.List.{length-set}
 use Rattle.cas_fate.specs.declared.fate.Leg.{Leg}
 use Rattle.cas_fate.specs.declared.fate.Verdict.{Verdict}
@@ -8,7 +8,7 @@ use Rattle.cas_fate.specs.declared.fate.Verdict.TheVariants.{Deliver, Lose, Twic
 use Rattle.cas_flow.specs.Flow.{FlowView, queue_at, queue_after, taken}
 use Rattle.cas_flow.specs.Message.{head_of}
 use Rattle.cas_flow.specs.Queue.{QueueView, fall_of, pushed}
-use Rattle.cas_flow.specs.declared.fall.Fall.TheVariants.{Handle, Gone, Held}
+use Rattle.cas_flow.specs.declared.fall.Fall.TheVariants.{Handle, Held}
 use Rattle.cas_flow.specs.declared.message.Message.{Message}
 use Rattle.cas_flow.specs.declared.message.Message.TheVariants as message
 use Rattle.cas_slot.specs.declared.message.Reply.{Reply}
@@ -19,7 +19,7 @@ use Rattle.cas_cluster.proofs.FrameSteps.{taken_own}
 use Rattle.cas_cluster.proofs.Places.{queue_same, has_queue, some_is}
 use Rattle.cas_script.specs.Changes.{Turned, one_more}
 use Rattle.cas_script.specs.Conditions.{Rule, verdict_of}
-use Rattle.cas_script.specs.Playing.{turns_of, turns_in, turns_done, turns_left_in, turns_left}
+use Rattle.cas_script.specs.Playing.{turns_of, turns_in, turns_left_in, turns_left}
 
 -- ---- one queue
 turns_append : (messages : List Message) (one : Message) → turns_in (messages ++ one ∷ []) ≡ turns_in messages + turns_of one

@@ -12,7 +12,7 @@ use Rattle.cas_slot.specs.declared.fault.ShelfFault.{ShelfFault}
 use Rattle.cas_slot.specs.declared.fault.ShelfFault.TheVariants as shelf_fault
 use Rattle.cas_vault.specs.declared.error.VaultError.{VaultError}
 use Rattle.cas_vault.specs.declared.error.VaultError.TheVariants as vault_error
-use Rattle.cas_cluster.specs.Step.{Step, Stray, RefuseStray, CrashAcceptor, RestartAcceptor, CrashProposer, RestartProposer}
+use Rattle.cas_cluster.specs.Step.{Step, Stray, RefuseStray, CrashAcceptor, RestartAcceptor, RestartProposer}
 use Rattle.cas_cluster.specs.StepCalls.{most_marks}
 use Rattle.cas_cluster.specs.View.{Meaning, View, IsAt, reserved_of}
 use Rattle.cas_world.specs.Readers.{up_in}

@@ -1,5 +1,5 @@
 -- How far a caller's call has come in its round.
-use Rattle.std.specs.Prelude.{◌≡◌, ◌+◌, ◌*◌, ◌-◌, ℕ, Bool, not, List, [], ◌∷◌, if◌then◌else◌, length, Some, None, IsSome, is_some, true, false}
+use Rattle.std.specs.Prelude.{◌≡◌, ◌+◌, ◌-◌, ℕ, Bool, not, List, [], ◌∷◌, if◌then◌else◌, Some, IsSome, is_some, true, false}
 use Rattle.cas_change.specs.declared.program.Clause.{Clause}
 use Rattle.cas_flow.specs.Flow.{queue_at}
 use Rattle.cas_flow.specs.Queue.{QueueView}

@@ -1,5 +1,5 @@
 -- A script: its lines run one after another, each has its answer, and the answers are its transcript.
-use Rattle.std.specs.Prelude.{◌≡◌, ℕ, suc, Bool, true, false, List, [], ◌∷◌, ◌++◌, Some, None, Err, replicate, slice_get, slice_set}
+use Rattle.std.specs.Prelude.{◌≡◌, ℕ, suc, Bool, true, false, List, [], ◌∷◌, ◌++◌, Some, None, Err, replicate, slice_set}
 use Rattle.cas_change_text.specs.declared.refusal.Why.{Why}
 use Rattle.cas_lines.specs.Answers.{change_line, bad_line, event_line, shown_line}
 use Rattle.cas_lines.specs.Command.{IsLine, Asked, change_of}

@@ -139,11 +139,7 @@ impl<S: Shelf, V: Disk> Script<S, V> {
 }
 
 /// The text that says why the line of that number is bad. What is refused for want of memory alone is no bad line.
-fn answer_refusal(
-    alloc: Global,
-    number: u32,
-    refusal: TextRefusal,
-) -> Result<Vec<u8>, AllocError>
+fn answer_refusal(alloc: Global, number: u32, refusal: TextRefusal) -> Result<Vec<u8>, AllocError>
     ensures { IfOk result (λ text. (refusal.why ≢ Why.NoMemory) × (vec_items text ≡ bad_line number refusal.why)) }
 {
     match refusal.why {

@@ -138,8 +138,10 @@ fn plays_worked_scripts(rt: HostRuntime) -> Result<(), Fail> {
 fn shows_what_acceptors_keep(rt: HostRuntime) -> Result<(), Fail> {
     let alloc = rt.alloc();
     let mut script = opened(alloc, ONE_TRY)?;
-    let input = b"1 add a 5\nshow 1 a\nshow 1 b\nshow 4 a\ncrash acceptor 1\nshow 1 a\nrestart acceptor 1\nshow 1 a\ncrash acceptor 9\nrestart acceptor 9\ncrash proposer 0\n";
-    let want = b"1: done v0 num 5 at 1.1\n1 a: promise 2.1 accepted 1.1 era 0 v0 num 5\n1 b: none\n4 a: none\nok\n1 a: down\nok\n1 a: promise 2.1 accepted 1.1 era 0 v0 num 5\nnone\nnone\nok\n";
+    let input =
+        b"1 add a 5\nshow 1 a\nshow 1 b\nshow 4 a\ncrash acceptor 1\nshow 1 a\nrestart acceptor 1\nshow 1 a\ncrash acceptor 9\nrestart acceptor 9\ncrash proposer 0\n";
+    let want =
+        b"1: done v0 num 5 at 1.1\n1 a: promise 2.1 accepted 1.1 era 0 v0 num 5\n1 b: none\n4 a: none\nok\n1 a: down\nok\n1 a: promise 2.1 accepted 1.1 era 0 v0 num 5\nnone\nnone\nok\n";
     let written = play(alloc, &mut script, input)?;
     assert_eq!(rt; written.as_slice(), want.as_slice());
     assert_eq!(rt; script.into_world().record().marks().len(), 7);

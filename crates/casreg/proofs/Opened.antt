@@ -1,5 +1,5 @@
 -- A store in which nothing has happened.
-use Rattle.std.proofs.Common.{◌≡◌, ◌≤◌, ℕ, List, ap, arith}
+use Rattle.std.proofs.Common.{ℕ, List, ap, arith}
 use Rattle.cas_cluster.specs.SafeLaws.{HasPlaces}
 use Rattle.cas_cluster.specs.Step.{IsOpening}
 use Rattle.cas_cluster.specs.View.{Meaning, View, CallerView}

@@ -25,9 +25,9 @@ use Rattle.cas_rack.specs.Store.{acceptor_disks, StaysClosed}
 use Rattle.cas_rack.specs.declared.rack.RackFault.{RackFault}
 use Rattle.cas_rack.specs.declared.rack.Rack.{Rack}
 use Rattle.cas_script.specs.Stage.{Stage}
-use Rattle.casreg.specs.Causes.{AnswersTo, AnswersFront, AreFirstLines, WroteIn, EndsIn, IsOfDisk, IsRackOf, Ran, Wrote, not_empty, not_opened, status_of}
+use Rattle.casreg.specs.Causes.{AnswersTo, AreFirstLines, WroteIn, EndsIn, IsOfDisk, IsRackOf, Ran, Wrote, not_empty, not_opened, status_of}
 use Rattle.cas_script.specs.Events.{Kinds}
-use Rattle.cas_script.specs.Script.{State, opening_state, AnswersLine, RanOrNot, not_run, ran, ScriptRun, one_more, text_of, transcript_of}
+use Rattle.cas_script.specs.Script.{State, opening_state, AnswersLine, RanOrNot, not_run, ran, one_more, text_of, transcript_of}
 use Rattle.casreg.specs.Status.{status_of_fault, status_of_rack, status_of_opening}
 use Rattle.casreg.specs.Words.{AreWords}
 use Rattle.casreg.specs.declared.words.Options.{Options}

@@ -259,14 +259,36 @@ fn stops_where_the_outside_fails(rt: HostRuntime) -> Result<(), Fail> {
         ..FINE
     };
     for (words, input, outside, status, written) in [
-        (SCRIPT, "1 add a 5\n", source_fails, Status::ReadFault, "1: done v0 num 5 at 1.1\n"),
-        (SCRIPT, "1 add a 5\n1 add a 2\n1 get a", source_fails, Status::ReadFault, "1: done v0 num 5 at 1.1\n1: done v1 num 7 at 2.1\n"),
+        (
+            SCRIPT,
+            "1 add a 5\n",
+            source_fails,
+            Status::ReadFault,
+            "1: done v0 num 5 at 1.1\n",
+        ),
+        (
+            SCRIPT,
+            "1 add a 5\n1 add a 2\n1 get a",
+            source_fails,
+            Status::ReadFault,
+            "1: done v0 num 5 at 1.1\n1: done v1 num 7 at 2.1\n",
+        ),
         (SCRIPT, "1 add a 5\n", sink_fails, Status::WriteFault, ""),
-        ("script --acceptors 10", "1 add a 5\n", FINE, Status::Usage, ""),
+        (
+            "script --acceptors 10",
+            "1 add a 5\n",
+            FINE,
+            Status::Usage,
+            "",
+        ),
     ] {
         let run = run(&rt, words, input.as_bytes(), outside)?;
         assert_eq!(rt; run.status, status, "{words} and {input}");
-        assert_eq!(rt; run.written.as_slice(), written.as_bytes(), "{words} and {input}");
+        assert_eq!(rt;
+            run.written.as_slice(),
+            written.as_bytes(),
+            "{words} and {input}"
+        );
     }
     Ok(())
 }
@@ -307,7 +329,11 @@ fn goes_on_where_a_disk_stops(rt: HostRuntime) -> Result<(), Fail> {
                 assert_eq!(rt; run.written.as_slice(), b"".as_slice(), "at call {call}");
             } else {
                 assert_eq!(rt; run.status, Status::Ok, "at call {call}");
-                assert_eq!(rt; run.written.as_slice(), answers.as_slice(), "at call {call}");
+                assert_eq!(rt;
+                    run.written.as_slice(),
+                    answers.as_slice(),
+                    "at call {call}"
+                );
             }
         }
     }

@@ -23,12 +23,22 @@ begin-requires-clause-may g n c = may_again c.round-told.new.world c.args.caller
 pub rounds-requires : goal.rounds-requires
 rounds-requires g n c κs lives = (
   omega (arith, c.decreases, c.if-tries-eq1.false, c.requires.some),
-  (lives.0,
-    (lives.1,
-      (search rules,
-        (has_begun _ c.round-told.new.world c.begin.new.self c.args.caller c.args.call c.args.key.now c.args.program.now c.in-Ok.ensures.step.0 c.in-Ok.ensures.step.1,
-          (omega (arith, c.if-tries-eq1.false, c.requires.some),
-            (c.requires.network.0, c.round-told.ensures.network c.requires.network.0 c.requires.network.1)))))),
+  (
+    lives.0,
+    (
+      lives.1,
+      (
+        search rules,
+        (
+          has_begun _ c.round-told.new.world c.begin.new.self c.args.caller c.args.call c.args.key.now c.args.program.now c.in-Ok.ensures.step.0 c.in-Ok.ensures.step.1,
+          (
+            omega (arith, c.if-tries-eq1.false, c.requires.some),
+            (c.requires.network.0, c.round-told.ensures.network c.requires.network.0 c.requires.network.1),
+          ),
+        ),
+      ),
+    ),
+  ),
 )
 
 pub returns-in-Ok-clause-rounds : goal.returns-in-Ok-clause-rounds

@@ -2,7 +2,7 @@ use Rattle.std.proofs.Common.{refl, ◌∙◌}
 use Rattle.cas_flow.specs.Flow.{queue_at}
 use Rattle.cas_script.specs.Changes.{none}
 use Rattle.cas_script.proofs.Outcomes.{on_err_of}
-use Rattle.cas_script.proofs.Playing.{turn_plays, turn_fails, turn_greatest, refuse_greatest}
+use Rattle.cas_script.proofs.Playing.{turn_plays, turn_fails, turn_greatest}
 use Rattle.cas_script.proofs.Turns.{turn_fewer, turned_more, none_waits}
 use Rattle.cas_script.proofs.changes.all_turns.Goals as goal
 

@@ -1,5 +1,4 @@
-use Rattle.std.proofs.Common.{◌≡◌, Some, sym, subst, ◌∙◌}
-use Rattle.cas_record.specs.declared.answer.Answer.{Answer}
+use Rattle.std.proofs.Common.{◌≡◌, sym, subst, ◌∙◌}
 use Rattle.cas_cluster.proofs.Places.{some_is}
 use Rattle.cas_script.specs.Playing.{IsOver}
 use Rattle.cas_script.proofs.Playing.{crash_over}

@@ -1,6 +1,6 @@
 use Rattle.std.proofs.Common.{false, sym, ◌∙◌}
 use Rattle.cas_script.specs.Changes.{Strikes, no_memory, halts, ends_short}
-use Rattle.cas_script.proofs.Outcomes.{on_err, on_ok, on_err_of, on_ok_of, on_ok_then, if_err_by}
+use Rattle.cas_script.proofs.Outcomes.{on_err, on_ok, on_err_of, on_ok_then, if_err_by}
 use Rattle.cas_script.proofs.Playing.{in_phase_of, propose_plays, propose_over}
 use Rattle.cas_script.proofs.changes.prepare.Given.{Over}
 use Rattle.cas_script.proofs.changes.prepare.Goals.{else-halt-via-then-halt+else-has_quorum, else-halt-via-else-halt}

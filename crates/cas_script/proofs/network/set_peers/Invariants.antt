@@ -1,4 +1,4 @@
-use Rattle.std.proofs.Common.{◌≡◌, ◌<◌, ◌≤◌, ℕ, nat_eq, nat_lt}
+use Rattle.std.proofs.Common.{◌≡◌, ℕ, nat_eq, nat_lt}
 use Rattle.std.specs.Prelude.{◌&&◌}
 use Rattle.cas_fate.specs.Legs.{row_of}
 use Rattle.cas_fate.specs.Links.{verdict_at}

@@ -1,4 +1,4 @@
-use Rattle.std.proofs.Common.{◌≡◌, ◌≢◌, ℕ, List, Option, None, sym, ap, subst, ◌∙◌}
+use Rattle.std.proofs.Common.{◌≡◌, ◌≢◌, ℕ, List, None, sym, ap, subst, ◌∙◌}
 use Rattle.std.specs.Prelude.{vec_items}
 use Rattle.std.proofs.lemmas.Result.{IfOk-weaker}
 use Rattle.cas_change_text.specs.declared.refusal.Why.TheVariants as why
@@ -6,9 +6,8 @@ use Rattle.cas_cluster.specs.View.{View, meaning}
 use Rattle.cas_lines.specs.Answers.{bad_line}
 use Rattle.cas_lines.specs.Command.{IsLine}
 use Rattle.cas_lines.specs.Reading.{line_in}
-use Rattle.cas_lines.specs.declared.command.Command.{Command}
 use Rattle.cas_script.specs.Events.{kinds}
-use Rattle.cas_script.specs.Script.{State, Bad, Remark, remark, refused, AnswersLine, IsIn}
+use Rattle.cas_script.specs.Script.{Bad, Remark, remark, refused, AnswersLine}
 use Rattle.cas_script.specs.Stage.{Stage}
 use Rattle.cas_script.proofs.script.Script.answer.Goals as goal
 

@@ -1,7 +1,7 @@
-use Rattle.std.proofs.Common.{◌≡◌, Option, Some, ap, subst, sym, ◌∙◌}
+use Rattle.std.proofs.Common.{◌≡◌, Option, Some, ap, subst, ◌∙◌}
 use Rattle.std.specs.Prelude.{IfSome, vec_items}
-use Rattle.cas_cluster.specs.View.{View, meaning}
-use Rattle.cas_lines.specs.Command.{Asked, change_of}
+use Rattle.cas_cluster.specs.View.{meaning}
+use Rattle.cas_lines.specs.Command.{change_of}
 use Rattle.cas_script.specs.Events.{kinds}
 use Rattle.cas_script.specs.Script.{Changed, Happened, Shows}
 use Rattle.cas_script.specs.Stage.{Stage}
