@@ -1,6 +1,7 @@
 pub mod Answering
 pub mod Happenings
 pub mod Keeping
+pub mod Opened
 pub mod Outcomes
 pub mod Playing
 pub mod Rules

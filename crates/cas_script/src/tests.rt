@@ -1,7 +1,6 @@
 //! Scripts over shelves and vaults in memory.
 
 ghost use Rattle.std.specs.Prelude.{◌≡◌, ◌≤◌, vec_len, IfOk};
-ghost use Rattle.cas_script.specs.Stage.{AllIdle};
 
 use crate::Script;
 use cas_disk::{Image, MemoryDisk};
@@ -37,7 +36,7 @@ fn shelves(alloc: Global) -> Result<Vec<MapShelf>, AllocError>
     ensures { IfOk result (λ shelves. vec_len shelves ≡ 64) }
 {
     let mut shelves = Vec::new(alloc);
-    for _shelf in 0..64 {
+    for _shelf in 0..64usize {
         shelves.push(MapShelf::new(alloc))?;
     }
     Ok(shelves)
@@ -48,7 +47,7 @@ fn vaults(alloc: Global) -> Result<Vec<MemoryDisk>, AllocError>
     ensures { IfOk result (λ vaults. vec_len vaults ≡ 17) }
 {
     let mut vaults = Vec::new(alloc);
-    for _vault in 0..17 {
+    for _vault in 0..17usize {
         let disk = MemoryDisk::new(alloc, Vec::new(alloc), Vec::new(alloc), Image::New);
         vaults.push(disk)?;
     }
@@ -80,9 +79,12 @@ fn play(
     let mut source = MemorySource::new(input.to_vec(alloc)?, 4096, Vec::new(alloc));
     let mut lines = Lines::new(alloc);
     let mut written = Vec::new(alloc);
-    while let Ok(Some(line)) = lines.next(&mut source) {
-        let text = script.answer(alloc, &line)?;
-        written.extend_from_slice(&text)?;
+    for _line in 0..1_000 {
+        match lines.next(&mut source) {
+            Ok(Some(line)) => written.extend_from_slice(&script.answer(alloc, &line)?)?,
+            Ok(None) => break,
+            Err(_) => return Err(Fail::from("the input is read")),
+        }
     }
     Ok(written)
 }

@@ -5,7 +5,7 @@ use Rattle.cas_rack.specs.Rack.{rack_meaning}
 use Rattle.cas_script.specs.Events.{kinds}
 use Rattle.casreg.specs.Causes.{ran}
 use Rattle.casreg.proofs.Written.{wrote_not_empty, wrote_not_opened}
-use Rattle.casreg.proofs.Opened.{new_idle}
+use Rattle.cas_script.proofs.Opened.{new_idle}
 use Rattle.casreg.proofs.cluster.run.Goals as goal
 
 pub returns-in-Err-clause-wrote : goal.returns-in-Err-clause-wrote

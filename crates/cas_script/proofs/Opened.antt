@@ -1,4 +1,4 @@
--- A store in which nothing has happened.
+-- A world in which nothing has happened.
 use Rattle.std.proofs.Common.{ℕ, List, ap, arith}
 use Rattle.cas_cluster.specs.SafeLaws.{HasPlaces}
 use Rattle.cas_cluster.specs.Step.{IsOpening}

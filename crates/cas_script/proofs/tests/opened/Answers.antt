@@ -1,0 +1,5 @@
+use Rattle.cas_script.proofs.Opened.{new_idle}
+use Rattle.cas_script.proofs.tests.opened.Goals as goal
+
+pub new-requires-clause-idle : goal.new-requires-clause-idle
+new-requires-clause-idle c = new_idle _ _ c.in-Ok.world c.in-Ok.ensures.opening c.in-Ok.ensures.places
