@@ -1,0 +1,173 @@
+-- What each step brings to the round of a proposer.
+use Rattle.std.proofs.Common.{◌≡◌, ◌≢◌, ℕ, zero, suc, nat_eq, List, [], ◌∷◌, Some, slice_get, slice_set, inl, inr, refl, sym, ap, subst, ◌∙◌, eqb-true}
+use Rattle.std.proofs.lemmas.Bool.{eqb-false}
+use Rattle.cas_base.proofs.Bools.{true_or_false}
+use Rattle.cas_change.specs.declared.program.Clause.{Clause}
+use Rattle.cas_fate.specs.declared.fate.Verdict.{Verdict}
+use Rattle.cas_flow.specs.Flow.{queue_at}
+use Rattle.cas_flow.specs.declared.message.Message.{Message}
+use Rattle.cas_flow.specs.declared.message.Message.TheVariants as message
+use Rattle.cas_proposer.specs.Desk.{DeskView}
+use Rattle.cas_proposer.specs.declared.round.Round.{Round}
+use Rattle.cas_slot.specs.declared.message.Reply.{Reply}
+use Rattle.cas_cluster.specs.Step as step
+use Rattle.cas_cluster.specs.Step.{Event, Step, StepBegin, StepTurn, StepRefuseTurn, StepPropose, StepCount, StepEnd, StepStray, StepCrashAcceptor, StepRestartAcceptor, StepCrashProposer, StepRestartProposer, OpenCallAt}
+use Rattle.cas_cluster.specs.StepCalls as calls
+use Rattle.cas_cluster.specs.StepDesks.{HearsReply}
+use Rattle.cas_cluster.specs.StepFrames as frames
+use Rattle.cas_cluster.specs.View.{Meaning, View, IsAt}
+use Rattle.cas_cluster.proofs.Places.{at_one, at_set}
+use Rattle.cas_causes.specs.Causes.{StepsPassOrBring}
+use Rattle.cas_causes.specs.Rounds.{IsUnderWay, Brings, nothing, one}
+
+-- ---- desks
+at_other : {A : Type 0} (all : List A) (place : ℕ) (x : A) (p : ℕ) (y : A) → p ≢ place → IsAt all p y → IsAt (slice_set all place x) p y
+at_other [] place x p y other at = at
+at_other (z ∷ all) zero x zero y other at = absurd (other refl)
+at_other (z ∷ all) zero x (suc p) y other at = at
+at_other (z ∷ all) (suc place) x zero y other at = at
+at_other (z ∷ all) (suc place) x (suc p) y other at = at_other all place x p y (λ is. other (ap suc is)) at
+
+-- what is brought by a step
+abbrev Something : {S V : Type 0} → View S V → View S V → ℕ → Type 0
+Something old new id = (brought : List Reply) × Brings old new id brought
+
+-- the desks stay
+same_desks : {S V : Type 0} (old new : View S V) (id : ℕ) → new.desks ≡ old.desks → Something old new id
+same_desks {S} {V} old new id same = ([], nothing (λ desk at. (desk, subst (λ (l : List (DeskView V)). IsAt l id desk) (sym same) at, refl)))
+
+-- another desk changes
+other_desk : {S V : Type 0} (old new : View S V) (id place : ℕ) (now : DeskView V) → id ≢ place → new.desks ≡ slice_set old.desks place now → Something old new id
+other_desk {S} {V} old new id place now other same = ([], nothing (λ desk at. (desk, subst (λ (l : List (DeskView V)). IsAt l id desk) (sym same) (at_other old.desks place now id desk other at), refl)))
+
+-- steps one after another of which no one brings anything
+both_nothing : {S V : Type 0} (old mid new : View S V) (id : ℕ) → ((desk : DeskView V) → IsAt old.desks id desk → (now : DeskView V) × IsAt mid.desks id now × (now.round ≡ desk.round))
+    → ((desk : DeskView V) → IsAt mid.desks id desk → (now : DeskView V) × IsAt new.desks id now × (now.round ≡ desk.round)) → Something old new id
+both_nothing old mid new id before after = ([], nothing (λ desk at. let then_ = before desk at in let now = after then_.0 then_.1 in (now.0, now.1, now.2 ∙ then_.2)))
+
+abbrev Passes : {S V : Type 0} → View S V → View S V → ℕ → Type 0
+Passes {S} {V} old new id = (desk : DeskView V) → IsAt old.desks id desk → (now : DeskView V) × IsAt new.desks id now × (now.round ≡ desk.round)
+
+passes_same : {S V : Type 0} (old new : View S V) (id : ℕ) → new.desks ≡ old.desks → Passes old new id
+passes_same {S} {V} old new id same desk at = (desk, subst (λ (l : List (DeskView V)). IsAt l id desk) (sym same) at, refl)
+
+passes_other : {S V : Type 0} (old new : View S V) (id place : ℕ) (now : DeskView V) → id ≢ place → new.desks ≡ slice_set old.desks place now → Passes old new id
+passes_other {S} {V} old new id place now other same desk at = (desk, subst (λ (l : List (DeskView V)). IsAt l id desk) (sym same) (at_other old.desks place now id desk other at), refl)
+
+-- ---- calls of others
+begin_passes : {S V : Type 0} (m : Meaning S V) (old new : View S V) (id caller : ℕ) (key : List ℕ) (program : List Clause) → id ≢ caller → StepBegin m old caller key program new → Something old new id
+begin_passes {S} {V} m old new id caller key program other by = both_nothing old by.middle new id (opens by.opens) (in_round by.begins)
+  where
+    opens : calls.Opens old caller key program by.middle → Passes old by.middle id
+    opens (calls.first was at none room is) = passes_same old by.middle id (ap (λ (w : View S V). w.desks) is)
+    opens (calls.again was open_call reserved at open_is key_is program_is none met no_round room some is) = passes_same old by.middle id (ap (λ (w : View S V). w.desks) is)
+
+    in_round : calls.BeginsRound m by.middle caller by.caller by.call new → Passes by.middle new id
+    in_round (calls.prepares desk now ballot round flow at up few begins sends is) = passes_other by.middle new id caller now other (ap (λ (w : View S V). w.desks) is)
+    in_round (calls.proposes desk now ready ride round outcome flow at up few begins made sends is) = passes_other by.middle new id caller now other (ap (λ (w : View S V). w.desks) is)
+    in_round (calls.stays told no_beginning no_round is) = passes_same by.middle new id (ap (λ (w : View S V). w.desks) is)
+    in_round (calls.spent desk now at none up kept now_is is) = passes_other by.middle new id caller now other (ap (λ (w : View S V). w.desks) is)
+    in_round (calls.fails desk now at none up fails is) = passes_other by.middle new id caller now other (ap (λ (w : View S V). w.desks) is)
+    in_round (calls.loses desk now ballot at none up loses is) = passes_other by.middle new id caller now other (ap (λ (w : View S V). w.desks) is)
+
+no_begin_passes : {S V : Type 0} (m : Meaning S V) (old new : View S V) (id caller : ℕ) (key : List ℕ) → id ≢ caller → calls.RefusesCall m old caller key new → Something old new id
+no_begin_passes {S} {V} m old new id caller key other (calls.stays is) = same_desks old new id (ap (λ (w : View S V). w.desks) is)
+no_begin_passes {S} {V} m old new id caller key other (calls.loses at_caller desk now ballot at_it at_desk none up loses is) = other_desk old new id caller now other (ap (λ (w : View S V). w.desks) is)
+
+propose_passes : {S V : Type 0} (m : Meaning S V) (old new : View S V) (id proposer : ℕ) → id ≢ proposer → StepPropose m old proposer new → Something old new id
+propose_passes {S} {V} m old new id proposer other by = in_phase by.at_round.of_call by.at_round.desk by.at_round.round by.proposes
+  where
+    in_phase : (of_call : OpenCallAt old proposer) (desk : DeskView V) (round : Round) → calls.ProposesOrEnds m old proposer desk round of_call.caller of_call.call new → Something old new id
+    in_phase at desk round (calls.proposes now turned read by ride outcome flow quorum confirmers reads turns made sends is) = other_desk old new id proposer now other (ap (λ (w : View S V). w.desks) is)
+    in_phase at desk round (calls.ends now verdict told verdict_is refuses ends is) = other_desk old new id proposer now other (ap (λ (w : View S V). w.desks) is)
+    in_phase at desk round (calls.fails now fails is) = other_desk old new id proposer now other (ap (λ (w : View S V). w.desks) is)
+    in_phase at desk round (calls.loses now ballot loses is) = other_desk old new id proposer now other (ap (λ (w : View S V). w.desks) is)
+
+count_passes : {S V : Type 0} (m : Meaning S V) (old new : View S V) (id proposer : ℕ) → id ≢ proposer → StepCount m old proposer new → Something old new id
+count_passes {S} {V} m old new id proposer other by = in_phase by.at_round.of_call by.at_round.desk by.at_round.round by.counts
+  where
+    in_phase : (of_call : OpenCallAt old proposer) (desk : DeskView V) (round : Round) → calls.CountsOrEnds m old proposer desk round of_call.caller of_call.call new → Something old new id
+    in_phase at desk round (calls.counts now by outcome quorum confirmers proposed ends is) = other_desk old new id proposer now other (ap (λ (w : View S V). w.desks) is)
+    in_phase at desk round (calls.ends now verdict why verdict_is cause ends is) = other_desk old new id proposer now other (ap (λ (w : View S V). w.desks) is)
+
+crash_passes : {S V : Type 0} (m : Meaning S V) (old new : View S V) (id proposer : ℕ) → id ≢ proposer → StepCrashProposer m old proposer new → Something old new id
+crash_passes {S} {V} m old new id proposer other (step.idle desk now at none crashes is) = other_desk old new id proposer now other (ap (λ (w : View S V). w.desks) is)
+crash_passes {S} {V} m old new id proposer other (step.closes desk now round at there is_round crashes is) = other_desk old new id proposer now other (ap (λ (w : View S V). w.desks) is)
+
+-- ---- frames
+-- a reply arrives at a desk
+arrives : {S V : Type 0} (old new : View S V) (id place : ℕ) (reply : Reply) (desk now : DeskView V) (round heard : Round) → (place ≡ id → IsUnderWay old id reply) → IsAt old.desks place desk → desk.round ≡ Some round → HearsReply desk now round heard reply
+    → new.desks ≡ slice_set old.desks place now → Something old new id
+arrives {S} {V} old new id place reply desk now round heard way at is_open hears same = elim (true_or_false (nat_eq place id)) [
+  | inl here ↦
+      let is : place ≡ id = eqb-true place id here in (
+        reply ∷ [],
+        one reply desk now round heard (way is) (subst (λ (i : ℕ). IsAt old.desks i desk) is at) is_open hears
+            (subst (λ (l : List (DeskView V)). IsAt l id now) (sym same) (subst (λ (i : ℕ). IsAt (slice_set old.desks place now) i now) is (at_set old.desks place desk now at))),
+      )
+  | inr there ↦ other_desk old new id place now (λ is. eqb-false place id there (sym is)) same
+]
+
+turn_brings : {S V : Type 0} (m : Meaning S V) (old new : View S V) (id proposer : ℕ) (v : Verdict) → StepTurn m old proposer v new → Something old new id
+turn_brings {S} {V} m old new id proposer v by = in_turn by.of_call by.front by.waits by.turn
+  where
+    in_turn : (of_call : OpenCallAt old proposer) (front : Message) → slice_get (queue_at old.flow proposer).messages 0 ≡ Some front → frames.TakesTurn m old proposer v front of_call.caller of_call.call new → Something old new id
+    in_turn at front waits (frames.held fall is) = same_desks old new id (ap (λ (w : View S V). w.desks) is)
+    in_turn at front waits (frames.gone fall is) = same_desks old new id (ap (λ (w : View S V). w.desks) is)
+    in_turn at front waits (frames.answers request acceptor now reply fall front_is there table is) = same_desks old new id (ap (λ (w : View S V). w.desks) is)
+    in_turn at front waits (frames.finds_down request acceptor fall front_is there down is) = same_desks old new id (ap (λ (w : View S V). w.desks) is)
+    in_turn at front waits (frames.brings_down request acceptor now fall front_is there stops is) = same_desks old new id (ap (λ (w : View S V). w.desks) is)
+    in_turn at front waits (frames.arrives reply desk now round heard fall front_is there is_round hears is) =
+        arrives old new id proposer reply desk now round heard (λ here. inl (subst (λ (i : ℕ). IsAt (queue_at old.flow i).messages 0 (message.Reply reply)) here (waits ∙ ap (λ (x : Message). Some x) front_is))) there is_round hears (ap (λ (w : View S V). w.desks) is)
+
+stray_brings : {S V : Type 0} (m : Meaning S V) (old new : View S V) (id index : ℕ) → StepStray m old index new → Something old new id
+stray_brings {S} {V} m old new id index by = in_stray by.late by.waits by.strays
+  where
+    in_stray : (late : Message) → slice_get old.flow.late index ≡ Some late → frames.Strays m old index late new → Something old new id
+    in_stray late waits (frames.answers request acceptor now reply late_is at table is) = same_desks old new id (ap (λ (w : View S V). w.desks) is)
+    in_stray late waits (frames.brings_down request acceptor now late_is at stops is) = same_desks old new id (ap (λ (w : View S V). w.desks) is)
+    in_stray late waits (frames.arrives reply desk now round heard late_is at is_round hears is) =
+        arrives old new id reply.to reply desk now round heard (λ here. inr (index, waits ∙ ap (λ (x : Message). Some x) late_is)) at is_round hears (ap (λ (w : View S V). w.desks) is)
+    in_stray late waits (frames.drops ignored is) = same_desks old new id (ap (λ (w : View S V). w.desks) is)
+
+no_room_passes : {S V : Type 0} (m : Meaning S V) (old new : View S V) (id : ℕ) → frames.FindsNoRoom m old new → Passes old new id
+no_room_passes {S} {V} m old new id (frames.stays is) = passes_same old new id (ap (λ (w : View S V). w.desks) is)
+no_room_passes {S} {V} m old new id (frames.kept at acceptor now there finds is) = passes_same old new id (ap (λ (w : View S V). w.desks) is)
+
+-- ---- stops
+restart_passes : {S V : Type 0} (m : Meaning S V) (old new : View S V) (id acceptor : ℕ) → StepRestartAcceptor m old acceptor new → Something old new id
+restart_passes {S} {V} m old new id acceptor (step.was_up it at up is) = same_desks old new id (ap (λ (w : View S V). w.desks) is)
+restart_passes {S} {V} m old new id acceptor (step.starts it now at starts is) = same_desks old new id (ap (λ (w : View S V). w.desks) is)
+restart_passes {S} {V} m old new id acceptor (step.fails it now at fails is) = same_desks old new id (ap (λ (w : View S V). w.desks) is)
+
+desk_passes : {S V : Type 0} (m : Meaning S V) (old new : View S V) (id proposer : ℕ) → StepRestartProposer m old proposer new → Something old new id
+desk_passes {S} {V} m old new id proposer (step.was_up_already desk at up is) = same_desks old new id (ap (λ (w : View S V). w.desks) is)
+desk_passes {S} {V} m old new id proposer (step.restarts desk now at down restarts is) = elim (true_or_false (nat_eq id proposer)) [
+  | inl here ↦ (
+    [],
+    nothing (λ seen at_seen.
+        let same : id ≡ proposer = eqb-true id proposer here in
+        let one_desk : desk ≡ seen = at_one old.desks id (subst (λ (i : ℕ). IsAt old.desks i desk) (sym same) at) at_seen in (
+          now,
+          subst (λ (l : List (DeskView V)). IsAt l id now) (sym (ap (λ (w : View S V). w.desks) is)) (subst (λ (i : ℕ). IsAt (slice_set old.desks proposer now) i now) (sym same) (at_set old.desks proposer desk now at)),
+          ap (λ (d : DeskView V). d.round) restarts.desk ∙ ap (λ (d : DeskView V). d.round) one_desk,
+        )),
+  )
+  | inr other ↦ other_desk old new id proposer now (eqb-false id proposer other) (ap (λ (w : View S V). w.desks) is)
+]
+
+-- ---- all of them
+pub steps : {S V : Type 0} (m : Meaning S V) → StepsPassOrBring m
+steps m old new id (step.Begin caller key program) not_own by = begin_passes m old new id caller key program (λ is. not_own (sym is)) by
+steps m old new id (step.RefuseBegin caller key) not_own by = no_begin_passes m old new id caller key (λ is. not_own (sym is)) by
+steps m old new id (step.Turn proposer v) not_own by = turn_brings m old new id proposer v by
+steps {S} {V} m old new id (step.RefuseTurn proposer) not_own by = both_nothing old by.middle new id (no_room_passes m old by.middle id by.refuses) (passes_same by.middle new id (ap (λ (w : View S V). w.desks) by.view))
+steps m old new id (step.Propose proposer) not_own by = propose_passes m old new id proposer (λ is. not_own (sym is)) by
+steps m old new id (step.Count proposer) not_own by = count_passes m old new id proposer (λ is. not_own (sym is)) by
+steps {S} {V} m old new id (step.End caller told) not_own by = other_desk old new id caller by.ends.now (λ is. not_own (sym is)) (ap (λ (w : View S V). w.desks) by.ends.view)
+steps m old new id (step.Stray index) not_own by = stray_brings m old new id index by
+steps m old new id step.RefuseStray not_own by = ([], nothing (no_room_passes m old new id by))
+steps {S} {V} m old new id (step.CrashAcceptor acceptor) not_own (step.crashes it now at crashes is) = same_desks old new id (ap (λ (w : View S V). w.desks) is)
+steps m old new id (step.RestartAcceptor acceptor) not_own by = restart_passes m old new id acceptor by
+steps m old new id (step.CrashProposer proposer) not_own by = crash_passes m old new id proposer (λ is. not_own (sym is)) by
+steps m old new id (step.RestartProposer proposer) not_own by = desk_passes m old new id proposer by
