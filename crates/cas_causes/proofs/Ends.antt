@@ -155,10 +155,10 @@ begin_afresh {S} {V} m old new id key program by = in_round by.begins
     in_round (calls.proposes desk now ready ride round outcome flow at up few begins made sends is) = accepts (record round { ride = ride })
         (record { desk = now; at_desk = desk_by by.middle new id desk now at (ap (λ (w : View S V). w.desks) is); is_open = ap (λ (d : DeskView V). d.round) begins.desk; accepting = ridden [] [] round ride begins.opened.1 })
         (told_by by.middle new id by.caller (calls.proposing by.call outcome) by.at_caller (ap (λ (w : View S V). w.callers) is))
-    in_round (calls.stays told no_beginning no_round is) =
+    in_round (calls.stays told no_beginning no_round full is) =
         begins_none told (λ seen at_seen. (no_round seen (subst (λ (l : List (DeskView V)). IsAt l id seen) (ap (λ (w : View S V). w.desks) is) at_seen)).0)
         (told_by by.middle new id by.caller (calls.over by.call told) by.at_caller (ap (λ (w : View S V). w.callers) is))
-    in_round (calls.spent desk now at none_open up kept now_is is) =
+    in_round (calls.spent desk now at none_open up no_promise spent kept now_is is) =
         begins_none answer.Spent (idle_now desk now at (ap (λ (d : DeskView V). d.round) now_is ∙ none_open) (ap (λ (w : View S V). w.desks) is)) (told_by by.middle new id by.caller (calls.over by.call answer.Spent) by.at_caller (ap (λ (w : View S V). w.callers) is))
     in_round (calls.fails desk now at none_open up fails is) =
         begins_none answer.VaultFault (idle_now desk now at (ap (λ (d : DeskView V). d.round) fails.desk) (ap (λ (w : View S V). w.desks) is)) (told_by by.middle new id by.caller (calls.over by.call answer.VaultFault) by.at_caller (ap (λ (w : View S V). w.callers) is))

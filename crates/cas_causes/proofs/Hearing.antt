@@ -65,8 +65,8 @@ begin_passes {S} {V} m old new id caller key program other by = both_nothing old
     in_round : calls.BeginsRound m by.middle caller by.caller by.call new → Passes by.middle new id
     in_round (calls.prepares desk now ballot round flow at up few begins sends is) = passes_other by.middle new id caller now other (ap (λ (w : View S V). w.desks) is)
     in_round (calls.proposes desk now ready ride round outcome flow at up few begins made sends is) = passes_other by.middle new id caller now other (ap (λ (w : View S V). w.desks) is)
-    in_round (calls.stays told no_beginning no_round is) = passes_same by.middle new id (ap (λ (w : View S V). w.desks) is)
-    in_round (calls.spent desk now at none up kept now_is is) = passes_other by.middle new id caller now other (ap (λ (w : View S V). w.desks) is)
+    in_round (calls.stays told no_beginning no_round full is) = passes_same by.middle new id (ap (λ (w : View S V). w.desks) is)
+    in_round (calls.spent desk now at none up no_promise spent kept now_is is) = passes_other by.middle new id caller now other (ap (λ (w : View S V). w.desks) is)
     in_round (calls.fails desk now at none up fails is) = passes_other by.middle new id caller now other (ap (λ (w : View S V). w.desks) is)
     in_round (calls.loses desk now ballot at none up loses is) = passes_other by.middle new id caller now other (ap (λ (w : View S V). w.desks) is)
 

@@ -11,12 +11,12 @@ use cas_slot::Shelf;
 
 /// Whatever others do, and whatever strays in, a proposer's open round hears a reply that was under way to it, or stays as it is.
 pub fn steps_pass_or_bring<S: Shelf, V: Disk>()
-    ensures { StepsPassOrBring (meaning S.contents S.tells S.may_leave V.tells V.may_leave) }
+    ensures { StepsPassOrBring (meaning S.contents S.tells S.may_leave S.fault_count V.tells V.may_leave V.fault_count) }
 {}
 
 /// A round begins with no reply: in its prepare phase, or by a promise in its accept phase. A call that begins none is told why.
 pub fn rounds_begin_afresh<S: Shelf, V: Disk>()
-    ensures { RoundsBeginAfresh (meaning S.contents S.tells S.may_leave V.tells V.may_leave) }
+    ensures { RoundsBeginAfresh (meaning S.contents S.tells S.may_leave S.fault_count V.tells V.may_leave V.fault_count) }
 {}
 
 /// A prepare phase ends by the replies that arrived since it began, each acceptor's confirmation counted once: with a quorum of promises
@@ -24,11 +24,11 @@ pub fn rounds_begin_afresh<S: Shelf, V: Disk>()
 /// that was met, if one was; else of the greatest age that was told; else of the least acceptor that was full; else how many of the
 /// members confirmed.
 pub fn prepares_end_by_replies<S: Shelf, V: Disk>()
-    ensures { PreparesEndByReplies (meaning S.contents S.tells S.may_leave V.tells V.may_leave) }
+    ensures { PreparesEndByReplies (meaning S.contents S.tells S.may_leave S.fault_count V.tells V.may_leave V.fault_count) }
 {}
 
 /// An accept phase ends by the replies that arrived since it began, likewise: with a quorum of acceptances the change is done, and
 /// otherwise it is unsettled by the first of those causes.
 pub fn accepts_end_by_replies<S: Shelf, V: Disk>()
-    ensures { AcceptsEndByReplies (meaning S.contents S.tells S.may_leave V.tells V.may_leave) }
+    ensures { AcceptsEndByReplies (meaning S.contents S.tells S.may_leave S.fault_count V.tells V.may_leave V.fault_count) }
 {}

@@ -141,9 +141,9 @@ begins_safe {S} {V} m old id caller call new was at_caller is_open unproposed un
     (λ key r c. contains_without call.key desk.cache (subst (λ (l : List (List ℕ × Ready)). Contains l (key, r)) (ap (λ (d : DeskView V). d.cache) begins.desk) c))
     (idle_at old.era caller (queue_at old.flow id) desk.round begins.none_open party.round).none_waits sent
     (omega (arith, enough old.era was.prep_set was.acc_set call.reserved room)))
-begins_safe {S} {V} m old id caller call new was at_caller is_open unproposed unharmed (calls.stays told nothing idle view) =
+begins_safe {S} {V} m old id caller call new was at_caller is_open unproposed unharmed (calls.stays told nothing idle full view) =
     begin_stays_safe old id caller call told new was at_caller is_open (λ desk at. (idle desk at).0) view
-begins_safe {S} {V} m old id caller call new was at_caller is_open unproposed unharmed (calls.spent desk now at_desk idle up kept is_now view) =
+begins_safe {S} {V} m old id caller call new was at_caller is_open unproposed unharmed (calls.spent desk now at_desk idle up no_promise spent kept is_now view) =
     begin_spent_safe old id caller call desk now new was at_caller is_open at_desk idle is_now view
 begins_safe {S} {V} m old id caller call new was at_caller is_open unproposed unharmed (calls.fails desk now at_desk idle up by view) =
     fails_safe m old id caller call call.key desk now answer.VaultFault new was at_caller is_open at_desk (none_waits_at old id caller desk was at_caller at_desk idle) by view

@@ -56,14 +56,14 @@ begins m old id caller call new tells at_caller is_open unproposed is (calls.pro
     (begins_by_promise m is.cluster is.global old id caller call desk now ready ride round outcome flow tells at_caller is_open unproposed at_desk by is_outcome sends (whole_of m old is))
     (asked_marks (accept_requests id (kept_of desk.vault).age (record round { ride = ride }) outcome) round.era.acc _
     ∙ marked (marks_of (drew_log ride call.key old.era.number is.global.log)) old.marks (Proposed (calls.proposal_of id caller.number round ready.read ready.by)) (drew_marks is.global.log call.key old.era.number ride ∙ is.agrees.marks)))
-begins m old id caller call new tells at_caller is_open unproposed is (calls.stays told nothing idle view) =
+begins m old id caller call new tells at_caller is_open unproposed is (calls.stays told nothing idle full view) =
     let was = is.agrees.callers id caller at_caller in
     let call_true = was.call call is_open in
     subst (IsRemembered m) (sym view) (remembered m is.cluster is.global (with_call old id caller (over call told))
     (moves m is.cluster is.global old id caller call (over call told) old.flow at_caller is_open refl refl
     (call_told is.global.log is.global.made id caller.number call told call.is_closed 1 call_true (told_nothing is.global.log is.global.made id caller.number told nothing (call_true.unproposed unproposed)))
     (record { others = λ p other. refl; own = is.agrees.own id; late = is.agrees.late; idle = λ none. none }) (λ round replies heard. heard) (whole_of m old is)) is.agrees.marks)
-begins m old id caller call new tells at_caller is_open unproposed is (calls.spent desk now at_desk idle up kept is_now view) =
+begins m old id caller call new tells at_caller is_open unproposed is (calls.spent desk now at_desk idle up no_promise spent kept is_now view) =
     let call_true = (is.agrees.callers id caller at_caller).call call is_open in
     subst (IsRemembered m) (sym view) (remembered m is.cluster is.global (with_call (with_desk old id now) id caller (over call answer.Spent))
     (told_kept m is.cluster is.global old id caller call desk now answer.Spent tells at_caller is_open at_desk idle kept.goes_on is_now

@@ -89,6 +89,7 @@ module _ {D : Type 0} (begun : Vault D) where
   goes_on old new up = record {
     still_past = λ tells n past. record { counter = omega (arith, up, past.counter); images = past.images };
     era = λ tells e is. record { kept = is.kept; left = is.left };
+    never_falls = omega arith;
   }
 
   draws : (id counter : ℕ) → id ≤ 16 → counter + 1 ≤ 100 → kept ≡ kept_to_draw counter kept → HasDrawn toys.disks id (vault_at counter) (vault_at (counter + 1)) (at (counter + 1) id)
@@ -99,12 +100,15 @@ module _ {D : Type 0} (begun : Vault D) where
     goes_on = goes_on counter (counter + 1) (omega arith);
   }
 
-  -- an acceptor that is up and keeps this
+  -- an acceptor that is up and keeps this, and whose shelf failed so often; or never did
+  abbrev up_after : ℕ → ℕ → Contents → AcceptorView ToyShelf
+  up_after faults id contents = record { id = id; started = true; down = false; shelf = record { contents = contents; others = contents; faults = faults } }
+
   abbrev up : ℕ → Contents → AcceptorView ToyShelf
-  up id contents = record { id = id; started = true; down = false; shelf = record { contents = contents; others = contents } }
+  up id contents = up_after 0 id contents
 
   abbrev never_up : AcceptorView ToyShelf
-  never_up = record { id = 0; started = false; down = true; shelf = record { contents = nothing; others = nothing } }
+  never_up = record { id = 0; started = false; down = true; shelf = record { contents = nothing; others = nothing; faults = 0 } }
 
   -- a round in its prepare phase, after the promises of these
   abbrev preparing : Ballot → List ℕ → Round
@@ -261,12 +265,14 @@ module _ {D : Type 0} (begun : Vault D) where
   takes : (to : ℕ) → Handles promised (asks_accept to) tell.Accepted accepted
   takes to = handling.takes to 1 one two five (omega arith) (at_most_refl one)
 
-  answers_by : (old new : Contents) (request : Request) (told : Tell) → Handles old request told new → AnswersByTable toys.shelves (up request.to old) (up request.to new) request (reply_to request told)
-  answers_by old new request told row = record {
+  answers_by : (faults : ℕ) (old new : Contents) (request : Request) (told : Tell) → Handles old request told new
+      → AnswersByTable toys.shelves (up_after faults request.to old) (up_after faults request.to new) request (reply_to request told)
+  answers_by faults old new request told row = record {
     up = refl;
     acceptor = refl;
     table = answered request told refl row;
     lasts = λ tells left may. elim may [ inl is ↦ is | inr is ↦ is ];
+    never_falls = omega arith;
   }
 
   -- ---- two promise, and the third stops within its write
@@ -284,7 +290,7 @@ module _ {D : Type 0} (begun : Vault D) where
     of_call = record { caller = calling 19 [] None; at_caller = refl; call = new_call key_a program 19; is_open = refl };
     front = message.Request (asks_prepare 1);
     waits = refl;
-    turn = frames.answers (asks_prepare 1) (up 1 nothing) (up 1 promised) (promise_of 1) refl refl refl (answers_by nothing promised (asks_prepare 1) (tell.Promised None) (promises 1)) refl;
+    turn = frames.answers (asks_prepare 1) (up 1 nothing) (up 1 promised) (promise_of 1) refl refl refl (answers_by 0 nothing promised (asks_prepare 1) (tell.Promised None) (promises 1)) refl;
   }
 
   abbrev flow_promised_two : FlowView
@@ -298,18 +304,19 @@ module _ {D : Type 0} (begun : Vault D) where
     of_call = record { caller = calling 19 [] None; at_caller = refl; call = new_call key_a program 19; is_open = refl };
     front = message.Request (asks_prepare 2);
     waits = refl;
-    turn = frames.answers (asks_prepare 2) (up 2 nothing) (up 2 promised) (promise_of 2) refl refl refl (answers_by nothing promised (asks_prepare 2) (tell.Promised None) (promises 2)) refl;
+    turn = frames.answers (asks_prepare 2) (up 2 nothing) (up 2 promised) (promise_of 2) refl refl refl (answers_by 0 nothing promised (asks_prepare 2) (tell.Promised None) (promises 2)) refl;
   }
 
   -- it kept nothing, and a crash leaves that or the promise
   abbrev stopped : AcceptorView ToyShelf
-  stopped = record { id = 3; started = true; down = true; shelf = record { contents = nothing; others = promised } }
+  stopped = record { id = 3; started = true; down = true; shelf = record { contents = nothing; others = promised; faults = 1 } }
 
   stops_within : StopsWithin toys.shelves (up 3 nothing) stopped (asks_prepare 3)
   stops_within = record {
     up = refl;
     acceptor = refl;
     leaves = λ tells left may. elim may [ inl is ↦ inl is | inr is ↦ inr (tell.Promised None, promised, promises 3, is) ];
+    faulted = inl (omega arith);
   }
 
   abbrev flow_stopped : FlowView
@@ -448,7 +455,7 @@ module _ {D : Type 0} (begun : Vault D) where
     of_call = record { caller = calling 17 [] (Some made); at_caller = refl; call = call_made 17; is_open = refl };
     front = accept_to 1;
     waits = refl;
-    turn = frames.answers (asks_accept 1) (up 1 promised) (up 1 accepted) (acceptance_of 1) refl refl refl (answers_by promised accepted (asks_accept 1) tell.Accepted (takes 1)) refl;
+    turn = frames.answers (asks_accept 1) (up 1 promised) (up 1 accepted) (acceptance_of 1) refl refl refl (answers_by 0 promised accepted (asks_accept 1) tell.Accepted (takes 1)) refl;
   }
 
   abbrev marks_voted_two : List Mark
@@ -463,7 +470,7 @@ module _ {D : Type 0} (begun : Vault D) where
     of_call = record { caller = calling 16 [] (Some made); at_caller = refl; call = call_made 16; is_open = refl };
     front = accept_to 2;
     waits = refl;
-    turn = frames.answers (asks_accept 2) (up 2 promised) (up 2 accepted) (acceptance_of 2) refl refl refl (answers_by promised accepted (asks_accept 2) tell.Accepted (takes 2)) refl;
+    turn = frames.answers (asks_accept 2) (up 2 promised) (up 2 accepted) (acceptance_of 2) refl refl refl (answers_by 0 promised accepted (asks_accept 2) tell.Accepted (takes 2)) refl;
   }
 
   abbrev marks_late : List Mark
@@ -581,15 +588,16 @@ module _ {D : Type 0} (begun : Vault D) where
 
   -- ---- the third is up again with the promise, and takes the late request
   abbrev view_restarted : View ToyShelf ToyDisk
-  view_restarted = seen (up 1 accepted) (up 2 accepted) (up 3 promised) desk_ready (record { number = 1; call = None }) (flow_of [] 6 (accept_to 3 ∷ [])) marks_ended
+  view_restarted = seen (up 1 accepted) (up 2 accepted) (up_after 1 3 promised) desk_ready (record { number = 1; call = None }) (flow_of [] 6 (accept_to 3 ∷ [])) marks_ended
 
   step_restarted : Step toys view_ended (RestartAcceptor 3) view_restarted
-  step_restarted = starts stopped (up 3 promised) refl (record {
+  step_restarted = starts stopped (up_after 1 3 promised) refl (record {
     was_down = refl;
     acceptor = refl;
     afresh = λ e. absurd (cc e);
     reopened = λ tells e. inr refl;
     lasts = λ tells left may. elim may [ inl is ↦ is | inr is ↦ is ];
+    never_falls = omega arith;
   }) refl
 
   abbrev late_reply : List Message
@@ -599,14 +607,14 @@ module _ {D : Type 0} (begun : Vault D) where
   marks_strayed = marks_ended ++ Voted 3 key_a one ∷ []
 
   abbrev view_strayed : View ToyShelf ToyDisk
-  view_strayed = seen (up 1 accepted) (up 2 accepted) (up 3 accepted) desk_ready (record { number = 1; call = None }) (flow_of [] 6 late_reply) marks_strayed
+  view_strayed = seen (up 1 accepted) (up 2 accepted) (up_after 1 3 accepted) desk_ready (record { number = 1; call = None }) (flow_of [] 6 late_reply) marks_strayed
 
   step_strayed : Step toys view_restarted (Stray 0) view_strayed
   step_strayed = record {
     late = accept_to 3;
     waits = refl;
     room = omega arith;
-    strays = frames.Strays.answers (asks_accept 3) (up 3 promised) (up 3 accepted) (acceptance_of 3) refl refl (answers_by promised accepted (asks_accept 3) tell.Accepted (takes 3)) refl;
+    strays = frames.Strays.answers (asks_accept 3) (up_after 1 3 promised) (up_after 1 3 accepted) (acceptance_of 3) refl refl (answers_by 1 promised accepted (asks_accept 3) tell.Accepted (takes 3)) refl;
   }
 
   -- ---- the next call is proposed by the promise that rode along, and another ballot rides
@@ -629,12 +637,12 @@ module _ {D : Type 0} (begun : Vault D) where
   flow_next = flow_of (accepts_to 1 0 key_a two 0 (Some (at 3 1)) next_made.state three) 3 late_reply
 
   abbrev view_next : View ToyShelf ToyDisk
-  view_next = seen (up 1 accepted) (up 2 accepted) (up 3 accepted) (with_round 3 (accepting two [] (Some (at 3 1)))) (record { number = 2; call = Some (record (new_call key_a program 18) { proposed = Some next_made }) }) flow_next marks_ridden
+  view_next = seen (up 1 accepted) (up 2 accepted) (up_after 1 3 accepted) (with_round 3 (accepting two [] (Some (at 3 1)))) (record { number = 2; call = Some (record (new_call key_a program 18) { proposed = Some next_made }) }) flow_next marks_ridden
 
   step_next : Step toys view_strayed (Begin 1 key_a program) view_next
   unfolding members_where
   step_next = record {
-    middle = seen (up 1 accepted) (up 2 accepted) (up 3 accepted) desk_ready caller_next (flow_of [] 6 late_reply) marks_next;
+    middle = seen (up 1 accepted) (up 2 accepted) (up_after 1 3 accepted) desk_ready caller_next (flow_of [] 6 late_reply) marks_next;
     opens = calls.first (record { number = 1; call = None }) refl refl (omega arith) refl;
     caller = caller_next;
     at_caller = refl;
@@ -731,7 +739,7 @@ module _ {D : Type 0} (begun : Vault D) where
     of_call = record { caller = caller_other; at_caller = refl; call = new_call key_a program 19; is_open = refl };
     front = message.Request (asks_other 1);
     waits = refl;
-    turn = frames.answers (asks_other 1) (up 1 accepted) (up 1 accepted) met_reply refl refl refl (answers_by accepted accepted (asks_other 1) (tell.Met two) meets) refl;
+    turn = frames.answers (asks_other 1) (up 1 accepted) (up 1 accepted) met_reply refl refl refl (answers_by 0 accepted accepted (asks_other 1) (tell.Met two) meets) refl;
   }
 
   abbrev down_other : DeskView ToyDisk
@@ -786,6 +794,7 @@ module _ {D : Type 0} (begun : Vault D) where
   step_down = crashes (up 1 accepted) crashed refl (record {
     acceptor = refl;
     settled = λ tells. record { left = Ok accepted; was_possible = inl refl; nothing_else = λ other may. elim may [ inl is ↦ is | inr is ↦ is ] };
+    never_falls = omega arith;
   }) refl
 
   pub shown : ShownHistory

@@ -19,7 +19,8 @@ use Rattle.cas_round.specs.declared.verdict.RoundVerdict.TheVariants as verdict
 use Rattle.cas_slot.specs.declared.message.Ask.TheVariants as ask
 use Rattle.cas_slot.specs.declared.slot.Accepted.{Accepted}
 use Rattle.cas_slot.specs.Slot.{accepted_ballot}
-use Rattle.cas_vault.specs.Vault.{kept_of}
+use Rattle.cas_cache.specs.Entries.{promise_at}
+use Rattle.cas_vault.specs.Vault.{counter_of, kept_of}
 use Rattle.cas_record.specs.declared.answer.Answer.{Answer}
 use Rattle.cas_record.specs.declared.answer.Answer.TheVariants as answer
 use Rattle.cas_record.specs.declared.answer.Cause.{Cause}
@@ -60,6 +61,10 @@ round_marks era = 4 * length (union_of era.prep era.acc) + 8
 -- so many may be reserved for the caller's call, beside the marks that are made and those that others reserved
 abbrev pub HasRoom : {S V : Type 0} → View S V → ℕ → ℕ → Type 0
 HasRoom view id reserved = length view.marks + reserved_of (slice_set view.callers id new_caller) + reserved ≤ most_marks
+
+-- the round's marks do not fit beside them
+abbrev pub IsFull : {S V : Type 0} → View S V → ℕ → Type 0
+IsFull view id = most_marks < length view.marks + reserved_of (slice_set view.callers id new_caller) + round_marks view.era
 
 -- a new call, with its mark
 abbrev pub opened : {S V : Type 0} → View S V → ℕ → CallerView → List ℕ → List Clause → View S V
@@ -122,9 +127,9 @@ pub data BeginsRound {S V : Type 0} (m : Meaning S V) (old : View S V) (id : ℕ
       → BeginsByPromise m.disks old.era call.key desk now ready ride round → outcome ≡ outcome_of call.program ready.state
       → Sends old.flow id (accepts_to id (kept_of desk.vault).age round.key round.ballot round.era.number ride outcome.state round.era.acc) flow
       → new ≡ proposed_view old id caller call now flow (proposal_of id caller.number round ready.read ready.by) outcome → BeginsRound m old id caller call new
-  stays : (told : Answer) → IsNoBeginning told → ((desk : DeskView V) → IsAt old.desks id desk → (desk.round ≡ None) × (told ≡ answer.Down → desk.down ≡ true)) → new ≡ with_call old id caller (over call told)
+  stays : (told : Answer) → IsNoBeginning told → ((desk : DeskView V) → IsAt old.desks id desk → (desk.round ≡ None) × (told ≡ answer.Down → desk.down ≡ true)) → (told ≡ answer.RecordFull → IsFull old id) → new ≡ with_call old id caller (over call told)
       → BeginsRound m old id caller call new
-  spent : (desk now : DeskView V) → IsAt old.desks id desk → desk.round ≡ None → desk.down ≡ false → HasKept m.disks desk.vault now.vault → now ≡ record desk { vault = now.vault }
+  spent : (desk now : DeskView V) → IsAt old.desks id desk → desk.round ≡ None → desk.down ≡ false → promise_at call.key desk.cache ≡ None → counter_of desk.vault ≡ 2 ^ 48 → HasKept m.disks desk.vault now.vault → now ≡ record desk { vault = now.vault }
       → new ≡ with_call (with_desk old id now) id caller (over call answer.Spent) → BeginsRound m old id caller call new
   fails : (desk now : DeskView V) → IsAt old.desks id desk → desk.round ≡ None → desk.down ≡ false → FailsToDraw m.disks call.key desk now
       → new ≡ with_call (with_desk old id now) id caller (over call answer.VaultFault) → BeginsRound m old id caller call new

@@ -1,5 +1,6 @@
 -- What a step does to a desk and its vault.
-use Rattle.std.specs.Prelude.{◌≡◌, ◌⊎◌, ℕ, true, List, Option, None, Some}
+use Rattle.std.specs.Prelude.{◌≡◌, ◌⊎◌, ℕ, ◌≤◌, true, List, Option, None, Some}
+use Rattle.cas_base.specs.Faults.{Rose}
 use Rattle.cas_ballot.specs.declared.ballot.Ballot.{Ballot}
 use Rattle.cas_ballot.specs.Ballot.{FitsBallot}
 use Rattle.cas_cache.specs.declared.ready.Ready.{Ready}
@@ -11,15 +12,16 @@ use Rattle.cas_proposer.specs.Round.{Hears, TurnsToAccept}
 use Rattle.cas_quorum.specs.declared.era.Era.{Era}
 use Rattle.cas_slot.specs.declared.message.Reply.{Reply}
 use Rattle.cas_vault.specs.declared.vault.Vault.{Vault}
-use Rattle.cas_vault.specs.Vault.{counter_of, kept_of, IsPast}
+use Rattle.cas_vault.specs.Vault.{disk_of, counter_of, kept_of, IsPast}
 use Rattle.cas_cluster.specs.Parties.{IsInEra}
 use Rattle.cas_cluster.specs.View.{DiskMeaning}
 
 -- ---- vaults
--- the vault is past all that it was past, and in the same era, wherever it stops
+-- the vault is past all that it was past, and in the same era, wherever it stops; the count of its disk's faults does not fall
 pub record GoesOn {V : Type 0} (m : DiskMeaning V) (old new : Vault V) : Type 0 where
   pub still_past : m.tells → (n : ℕ) → IsPast m.may_leave n old → IsPast m.may_leave n new
   pub era : m.tells → (era : ℕ) → IsInEra m era old → IsInEra m era new
+  pub never_falls : m.faults (disk_of old) ≤ m.faults (disk_of new)
 
 -- a ballot of this proposer was drawn, and is never drawn again
 pub record HasDrawn {V : Type 0} (m : DiskMeaning V) (id : ℕ) (old new : Vault V) (ballot : Ballot) : Type 0 where
@@ -73,13 +75,14 @@ pub record EndsRound {V : Type 0} (m : DiskMeaning V) (old new : DeskView V) (ro
   pub goes_on : GoesOn m old.vault new.vault
 
 -- ---- failures
--- its vault failed in a draw: a round that was open ends
+-- its vault failed in a draw, and the count of its disk's faults rose: a round that was open ends
 pub record FailsToDraw {V : Type 0} (m : DiskMeaning V) (key : List ℕ) (old new : DeskView V) : Type 0 where
   pub desk : new ≡ record old { vault = new.vault; cache = new.cache; round = None; down = true }
   pub cache : (new.cache ≡ old.cache) ⊎ (new.cache ≡ without key old.cache)
   pub counter : counter_of new.vault ≡ counter_without old.round (counter_of old.vault)
   pub kept : kept_of new.vault ≡ kept_of old.vault
   pub goes_on : GoesOn m old.vault new.vault
+  pub faulted : Rose (m.faults (disk_of old.vault)) (m.faults (disk_of new.vault))
 
 -- No memory was found: a ballot may be drawn, the promise of the key may be gone, and a round that was open ends.
 pub record LosesMemory {V : Type 0} (m : DiskMeaning V) (key : List ℕ) (old new : DeskView V) (ballot : Option Ballot) : Type 0 where

@@ -13,16 +13,18 @@ use Rattle.cas_record.specs.declared.answer.Answer.{Answer}
 use Rattle.cas_record.specs.declared.mark.Mark.{Mark}
 
 -- ---- what disks mean
--- what a shelf holds, and what a crash may leave of it, where shelves tell that
+-- what a shelf holds, what a crash may leave of it, where shelves tell that, and its count of faults
 pub record ShelfMeaning (S : Type 0) : Type 1 where
   pub contents : S → Contents
   pub tells : Type 0
   pub may_leave : S → Left → Type 0
+  pub faults : S → ℕ
 
--- what a crash may leave of the disk of a vault, where disks tell that
+-- what a crash may leave of the disk of a vault, where disks tell that, and its count of faults
 pub record DiskMeaning (V : Type 0) : Type 1 where
   pub tells : Type 0
   pub may_leave : V → List ℕ → Type 0
+  pub faults : V → ℕ
 
 pub record Meaning (S V : Type 0) : Type 1 where
   pub shelves : ShelfMeaning S
@@ -97,8 +99,8 @@ abbrev pub IsAt : {A : Type 0} → List A → ℕ → A → Type 0
 IsAt all place x = slice_get all place ≡ Some x
 
 -- what shelves and disks of these kinds mean
-abbrev pub meaning : {S V : Type 0} → (S → Contents) → Type 0 → (S → Left → Type 0) → Type 0 → (V → List ℕ → Type 0) → Meaning S V
-meaning contents shelves_tell shelf_may_leave disks_tell disk_may_leave = record {
-  shelves = record { contents = contents; tells = shelves_tell; may_leave = shelf_may_leave };
-  disks = record { tells = disks_tell; may_leave = disk_may_leave };
+abbrev pub meaning : {S V : Type 0} → (S → Contents) → Type 0 → (S → Left → Type 0) → (S → ℕ) → Type 0 → (V → List ℕ → Type 0) → (V → ℕ) → Meaning S V
+meaning contents shelves_tell shelf_may_leave shelf_faults disks_tell disk_may_leave disk_faults = record {
+  shelves = record { contents = contents; tells = shelves_tell; may_leave = shelf_may_leave; faults = shelf_faults };
+  disks = record { tells = disks_tell; may_leave = disk_may_leave; faults = disk_faults };
 }

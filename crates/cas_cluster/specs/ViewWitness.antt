@@ -13,18 +13,19 @@ use Rattle.cas_record.specs.Witness.{key_a, at}
 use Rattle.cas_cluster.specs.Step.{History}
 use Rattle.cas_cluster.specs.View.{Meaning, View, meaning}
 
--- a shelf that holds these contents; a crash leaves them, or the others
+-- a shelf that holds these contents; a crash leaves them, or the others; and how often it failed
 pub record ToyShelf : Type 0 where
   pub contents : Contents
   pub others : Contents
+  pub faults : ℕ
 
--- a disk of a vault that keeps this, and a crash leaves just that
+-- a disk of a vault that keeps this and never fails, and a crash leaves just that
 pub record ToyDisk : Type 0 where
   pub kept : Kept
 
 -- what they mean; they tell all that they keep
 abbrev pub toys : Meaning ToyShelf ToyDisk
-toys = meaning (λ shelf. shelf.contents) ⊤ (λ shelf left. (left ≡ Ok shelf.contents) ⊎ (left ≡ Ok shelf.others)) ⊤ (λ disk image. KeptOn disk.kept image)
+toys = meaning (λ shelf. shelf.contents) ⊤ (λ shelf left. (left ≡ Ok shelf.contents) ⊎ (left ≡ Ok shelf.others)) (λ shelf. shelf.faults) ⊤ (λ disk image. KeptOn disk.kept image) (λ disk. 0)
 
 -- A history: an acceptor goes down within the first call of proposer 1, which is answered Done at the ballot 1.1, for a change that adds
 -- 5; the next one is proposed at 2.1, which had ridden along; and proposer 2 crashes within a call.

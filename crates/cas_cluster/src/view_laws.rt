@@ -13,39 +13,39 @@ use cas_vault::Vault;
 /// A cluster that has just opened is remembered: there is a log of all that happened in it that tells what each of its parties keeps
 /// and knows, and what the frames under way bear.
 pub fn openings_are_remembered<S: Shelf, V: Disk>()
-    ensures { OpeningsAreRemembered (meaning S.contents S.tells S.may_leave V.tells V.may_leave) }
+    ensures { OpeningsAreRemembered (meaning S.contents S.tells S.may_leave S.fault_count V.tells V.may_leave V.fault_count) }
 {}
 
 /// Whatever is called on a cluster that is remembered, it is remembered then: a call begins by a draw or by a promise that rode along, a
 /// frame has its turn with any verdict or strays in late, a round proposes, is counted or ends short, a call ends, acceptors and
 /// proposers stop within whatever they write and are up again, and memory is found nowhere.
 pub fn steps_are_remembered<S: Shelf, V: Disk>()
-    ensures { StepsAreRemembered (meaning S.contents S.tells S.may_leave V.tells V.may_leave) }
+    ensures { StepsAreRemembered (meaning S.contents S.tells S.may_leave S.fault_count V.tells V.may_leave V.fault_count) }
 {}
 
 /// Whatever was called on a cluster since it opened, its record is legal: each register has one history, each change that was answered
 /// Done stands in it once, after all that was settled when its call began, an unsettled one at most once, and a refused one never.
 pub fn histories_are_legal<S: Shelf, V: Disk>()
-    ensures { HistoriesAreLegal (meaning S.contents S.tells S.may_leave V.tells V.may_leave) }
+    ensures { HistoriesAreLegal (meaning S.contents S.tells S.may_leave S.fault_count V.tells V.may_leave V.fault_count) }
 {}
 
 /// What is acknowledged stands on the shelves of those that confirmed it, who are an accept quorum, whatever a crash now leaves of each,
 /// until a floor is made at or above it.
 pub fn what_is_done_is_kept<S: Shelf, V: Disk>()
-    ensures { WhatIsDoneIsKept (meaning S.contents S.tells S.may_leave V.tells V.may_leave) }
+    ensures { WhatIsDoneIsKept (meaning S.contents S.tells S.may_leave S.fault_count V.tells V.may_leave V.fault_count) }
 {}
 
 /// A cluster that has just opened, with a place for each party, is safe, whatever its shelves and disks tell: each mark that may still
 /// be made is reserved, there is room for the reply to each request that waits, and each frame that waits is to or from a member that
 /// the open round of its proposer asks.
 pub fn openings_are_safe<S: Shelf, V: Disk>()
-    ensures { OpeningsAreSafe (meaning S.contents S.tells S.may_leave V.tells V.may_leave) }
+    ensures { OpeningsAreSafe (meaning S.contents S.tells S.may_leave S.fault_count V.tells V.may_leave V.fault_count) }
 {}
 
 /// Whatever is called on a cluster that is safe, it is safe then. So no call finds the record full but where it begins, nor a late
 /// frame but before it is let in.
 pub fn steps_are_safe<S: Shelf, V: Disk>()
-    ensures { StepsAreSafe (meaning S.contents S.tells S.may_leave V.tells V.may_leave) }
+    ensures { StepsAreSafe (meaning S.contents S.tells S.may_leave S.fault_count V.tells V.may_leave V.fault_count) }
 {}
 
 /// There is a history in which a call is Done and the next one is proposed by the promise that rode along. In the one that is shown an

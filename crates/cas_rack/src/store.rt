@@ -50,7 +50,7 @@ impl<D: Disk> Store<D> {
         requires proposers { config.proposers ≤ 16 }
         requires acceptors { vec_len rack.acceptors ≡ 64 }
         requires vaults { vec_len rack.vaults ≡ 17 }
-        ensures opening { IfOk result (λ store. IsOpening (meaning ⟦<DiskShelf<D> as Shelf>⟧.contents ⟦<DiskShelf<D> as Shelf>⟧.tells ⟦<DiskShelf<D> as Shelf>⟧.may_leave D.tells D.may_leave) (members_to config.acceptors) store.world) }
+        ensures opening { IfOk result (λ store. IsOpening (meaning ⟦<DiskShelf<D> as Shelf>⟧.contents ⟦<DiskShelf<D> as Shelf>⟧.tells ⟦<DiskShelf<D> as Shelf>⟧.may_leave ⟦<DiskShelf<D> as Shelf>⟧.fault_count D.tells D.may_leave D.fault_count) (members_to config.acceptors) store.world) }
         ensures places { IfOk result (λ store. HasPlaces store.world) }
         ensures greatest { IfOk result (λ store. store.world.greatest ≡ config.proposers) }
         ensures acceptors { IfOk result (λ store. AreReached D.fault_count 1 (config.acceptors + 1) rack.acceptors.items (acceptor_disks store.world.acceptors)) }

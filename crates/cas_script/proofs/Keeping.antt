@@ -61,8 +61,8 @@ begin_keeps {S} {V} m old new id key program by = both old by.middle new id (ope
     in_round : calls.BeginsRound m by.middle id by.caller by.call new → KeepsOthers by.middle new id
     in_round (calls.prepares desk now ballot round flow at up few begins sends is) = stays by.middle new id (ap (λ (w : View S V). w.greatest) is) (ap (λ (w : View S V). w.callers) is)
     in_round (calls.proposes desk now ready ride round outcome flow at up few begins made sends is) = sets by.middle new id _ (ap (λ (w : View S V). w.greatest) is) (ap (λ (w : View S V). w.callers) is)
-    in_round (calls.stays told no_beginning no_round is) = sets by.middle new id _ (ap (λ (w : View S V). w.greatest) is) (ap (λ (w : View S V). w.callers) is)
-    in_round (calls.spent desk now at none up kept now_is is) = sets by.middle new id _ (ap (λ (w : View S V). w.greatest) is) (ap (λ (w : View S V). w.callers) is)
+    in_round (calls.stays told no_beginning no_round full is) = sets by.middle new id _ (ap (λ (w : View S V). w.greatest) is) (ap (λ (w : View S V). w.callers) is)
+    in_round (calls.spent desk now at none up no_promise spent kept now_is is) = sets by.middle new id _ (ap (λ (w : View S V). w.greatest) is) (ap (λ (w : View S V). w.callers) is)
     in_round (calls.fails desk now at none up fails is) = sets by.middle new id _ (ap (λ (w : View S V). w.greatest) is) (ap (λ (w : View S V). w.callers) is)
     in_round (calls.loses desk now ballot at none up loses is) = sets by.middle new id _ (ap (λ (w : View S V). w.greatest) is) (ap (λ (w : View S V). w.callers) is)
 

@@ -36,7 +36,7 @@ pub fn change<S: Shelf, V: Disk>(
     requires idle { HasNoCall world.old caller }
     requires some { 1 ≤ tries }
     requires network { (rules : List Rule) × IsNetwork network.old rules }
-    ensures change { (rules : List Rule) → IsNetwork network.old rules → IsChange (meaning S.contents S.tells S.may_leave V.tells V.may_leave) tries rules caller key.now program.now halt.old world.old result halt.new world.new }
+    ensures change { (rules : List Rule) → IsNetwork network.old rules → IsChange (meaning S.contents S.tells S.may_leave S.fault_count V.tells V.may_leave V.fault_count) tries rules caller key.now program.now halt.old world.old result halt.new world.new }
     ensures network { (rules : List Rule) → IsNetwork network.old rules → IsNetwork network.new rules }
     ensures idle { HasNoCall world.new caller }
     ensures greatest { world.new.greatest ≡ world.old.greatest }
@@ -75,7 +75,7 @@ fn rounds<S: Shelf, V: Disk>(
     requires begun { HasBegun world.old caller (record { number = call; key = key.now; program = program.now }) }
     requires some { 1 ≤ tries }
     requires network { (rules : List Rule) × IsNetwork network.old rules }
-    ensures rounds { (rules : List Rule) → IsNetwork network.old rules → AreRounds (meaning S.contents S.tells S.may_leave V.tells V.may_leave) rules caller key.now program.now tries halt.old world.old halt.new world.new }
+    ensures rounds { (rules : List Rule) → IsNetwork network.old rules → AreRounds (meaning S.contents S.tells S.may_leave S.fault_count V.tells V.may_leave V.fault_count) rules caller key.now program.now tries halt.old world.old halt.new world.new }
     ensures network { (rules : List Rule) → IsNetwork network.old rules → IsNetwork network.new rules }
     ensures told { WasTold world.new caller call result }
     ensures greatest { world.new.greatest ≡ world.old.greatest }
@@ -110,7 +110,7 @@ fn round<S: Shelf, V: Disk>(
     requires known { proposer ≤ world.old.greatest }
     requires begun { (asked : Asked) × HasBegun world.old proposer asked }
     requires network { (rules : List Rule) × IsNetwork network.old rules }
-    ensures round { (rules : List Rule) → IsNetwork network.old rules → IsRound (meaning S.contents S.tells S.may_leave V.tells V.may_leave) rules proposer halt.old world.old halt.new world.new }
+    ensures round { (rules : List Rule) → IsNetwork network.old rules → IsRound (meaning S.contents S.tells S.may_leave S.fault_count V.tells V.may_leave V.fault_count) rules proposer halt.old world.old halt.new world.new }
     ensures network { (rules : List Rule) → IsNetwork network.old rules → IsNetwork network.new rules }
     ensures over { (asked : Asked) → HasBegun world.old proposer asked → IsOver world.new proposer asked result }
     ensures greatest { world.new.greatest ≡ world.old.greatest }
@@ -134,10 +134,10 @@ fn prepare<S: Shelf, V: Disk>(
     requires known { proposer ≤ world.old.greatest }
     requires open { (asked : Asked) × IsPlaying world.old proposer asked false }
     requires network { (rules : List Rule) × IsNetwork network.old rules }
-    ensures proposed { (rules : List Rule) → IsNetwork network.old rules → OnOk result (EndsPrepare (meaning S.contents S.tells S.may_leave V.tells V.may_leave) rules proposer halt.old world.old world.new) }
+    ensures proposed { (rules : List Rule) → IsNetwork network.old rules → OnOk result (EndsPrepare (meaning S.contents S.tells S.may_leave S.fault_count V.tells V.may_leave V.fault_count) rules proposer halt.old world.old world.new) }
     ensures same_halt { OnOk result (halt.new ≡ halt.old) }
     ensures plays { (asked : Asked) → IsPlaying world.old proposer asked false → OnOk result (IsPlaying world.new proposer asked true) }
-    ensures refused { (rules : List Rule) → IsNetwork network.old rules → OnErr result (IsRound (meaning S.contents S.tells S.may_leave V.tells V.may_leave) rules proposer halt.old world.old halt.new world.new) }
+    ensures refused { (rules : List Rule) → IsNetwork network.old rules → OnErr result (IsRound (meaning S.contents S.tells S.may_leave S.fault_count V.tells V.may_leave V.fault_count) rules proposer halt.old world.old halt.new world.new) }
     ensures over { (asked : Asked) → IsPlaying world.old proposer asked false → IfErr result (IsOver world.new proposer asked) }
     ensures network { (rules : List Rule) → IsNetwork network.old rules → IsNetwork network.new rules }
     ensures greatest { world.new.greatest ≡ world.old.greatest }
@@ -162,7 +162,7 @@ fn accept<S: Shelf, V: Disk>(
     requires known { proposer ≤ world.old.greatest }
     requires open { (asked : Asked) × IsPlaying world.old proposer asked true }
     requires network { (rules : List Rule) × IsNetwork network.old rules }
-    ensures accepted { (rules : List Rule) → IsNetwork network.old rules → IsAccepted (meaning S.contents S.tells S.may_leave V.tells V.may_leave) rules proposer halt.old world.old halt.new world.new }
+    ensures accepted { (rules : List Rule) → IsNetwork network.old rules → IsAccepted (meaning S.contents S.tells S.may_leave S.fault_count V.tells V.may_leave V.fault_count) rules proposer halt.old world.old halt.new world.new }
     ensures over { (asked : Asked) → IsPlaying world.old proposer asked true → IsOver world.new proposer asked result }
     ensures network { (rules : List Rule) → IsNetwork network.old rules → IsNetwork network.new rules }
     ensures greatest { world.new.greatest ≡ world.old.greatest }
@@ -185,8 +185,8 @@ fn all_turns<S: Shelf, V: Disk>(
 ) -> Result<(), AllocError>
     requires known { proposer ≤ world.old.greatest }
     requires network { (rules : List Rule) × IsNetwork network.old rules }
-    ensures through { (rules : List Rule) → IsNetwork network.old rules → OnOk result (AllTurned (meaning S.contents S.tells S.may_leave V.tells V.may_leave) rules proposer world.old world.new) }
-    ensures fails { (rules : List Rule) → IsNetwork network.old rules → OnErr result (FailsToTurn (meaning S.contents S.tells S.may_leave V.tells V.may_leave) rules proposer world.old world.new) }
+    ensures through { (rules : List Rule) → IsNetwork network.old rules → OnOk result (AllTurned (meaning S.contents S.tells S.may_leave S.fault_count V.tells V.may_leave V.fault_count) rules proposer world.old world.new) }
+    ensures fails { (rules : List Rule) → IsNetwork network.old rules → OnErr result (FailsToTurn (meaning S.contents S.tells S.may_leave S.fault_count V.tells V.may_leave V.fault_count) rules proposer world.old world.new) }
     ensures plays { (asked : Asked) (proposed : Bool) → IsPlaying world.old proposer asked proposed → OnOk result (IsPlaying world.new proposer asked proposed) }
     ensures told { (asked : Asked) (proposed : Bool) → IsPlaying world.old proposer asked proposed → OnErr result (IsOver world.new proposer asked (answer.NoMemory proposed)) }
     ensures network { (rules : List Rule) → IsNetwork network.old rules → IsNetwork network.new rules }
@@ -219,7 +219,7 @@ fn is_quorum(verdict: Option<RoundVerdict>) -> bool
 fn crash<S: Shelf, V: Disk>(world: &mut World<S, V>, proposer: u8) -> Answer
     requires known { proposer ≤ world.old.greatest }
     requires open { (asked : Asked) × (proposed : Bool) × IsPlaying world.old proposer asked proposed }
-    ensures step { Step (meaning S.contents S.tells S.may_leave V.tells V.may_leave) world.old (CrashProposer proposer) world.new }
+    ensures step { Step (meaning S.contents S.tells S.may_leave S.fault_count V.tells V.may_leave V.fault_count) world.old (CrashProposer proposer) world.new }
     ensures over { (asked : Asked) (proposed : Bool) → IsPlaying world.old proposer asked proposed → IsOver world.new proposer asked result }
     ensures greatest { world.new.greatest ≡ world.old.greatest }
 {

@@ -54,7 +54,7 @@ impl<S: Shelf, V: Disk> World<S, V> {
         requires known { caller ≤ self.old.greatest }
         requires may { MayBegin self.old caller call key.now program.now }
         ensures full { IsErrOf result Answer.RecordFull ↔ (most_marks < length self.old.marks + reserved_in_all (slice_set self.old.callers caller new_caller) + round_marks self.old.era) }
-        ensures step { BeginsOrNot (meaning S.contents S.tells S.may_leave V.tells V.may_leave) self.old caller call key.now program.now result self.new }
+        ensures step { BeginsOrNot (meaning S.contents S.tells S.may_leave S.fault_count V.tells V.may_leave V.fault_count) self.old caller call key.now program.now result self.new }
     {
         let alloc = *self.acceptors.allocator();
         let place = usize::from(caller);
@@ -250,8 +250,8 @@ fn open_round<V: Disk>(
     requires caller { author.caller ≤ 16 }
     requires queue { author.caller < length flow.old.own }
     requires promise { IfSome (promise_at key.now desk.old.cache) (λ ready. FitsBallot ready.ballot) }
-    ensures opens { IfOk result (OpensRound (disks V.tells V.may_leave) era.now key.now program.now author desk.old desk.new flow.old flow.new) }
-    ensures refused { IfErr result (FailsToOpen (disks V.tells V.may_leave) key.now desk.old desk.new) }
+    ensures opens { IfOk result (OpensRound (disks V.tells V.may_leave V.fault_count) era.now key.now program.now author desk.old desk.new flow.old flow.new) }
+    ensures refused { IfErr result (FailsToOpen (disks V.tells V.may_leave V.fault_count) key.now desk.old desk.new) }
     ensures not_sent { OnErr result (flow.new ≡ flow.old) }
 {
     if desk.is_down() {

@@ -20,7 +20,7 @@ impl<S: Shelf, V: Disk> World<S, V> {
         requires known { caller ≤ self.old.greatest }
         requires told { WasTold self.old caller call answer }
         ensures same { result ≡ answer }
-        ensures step { Step (meaning S.contents S.tells S.may_leave V.tells V.may_leave) self.old (End caller answer) self.new }
+        ensures step { Step (meaning S.contents S.tells S.may_leave S.fault_count V.tells V.may_leave V.fault_count) self.old (End caller answer) self.new }
     {
         let place = usize::from(caller);
         close(&mut self.desks[place]);

@@ -157,8 +157,8 @@ pub(crate) fn start<S: Shelf, V: Disk>(
     requires disks { config.proposers < vec_len disks.old }
     requires none { desks.old.items ≡ [] }
     requires room { config.proposers + 1 ≤ vec_capacity desks.old }
-    ensures ok { OnOk result (AllStart (meaning S.contents S.tells S.may_leave V.tells V.may_leave) S.fault_count V.fault_count config.acceptors config.proposers acceptors.old.items (reverse disks.old.items) acceptors.new.items desks.new.items (reverse disks.new.items)) }
-    ensures err { IfErr result (λ fault. SomeDiskFails (meaning S.contents S.tells S.may_leave V.tells V.may_leave) S.fault_count V.fault_count config.acceptors config.proposers acceptors.old.items (reverse disks.old.items) fault acceptors.new.items desks.new.items (reverse disks.new.items)) }
+    ensures ok { OnOk result (AllStart (meaning S.contents S.tells S.may_leave S.fault_count V.tells V.may_leave V.fault_count) S.fault_count V.fault_count config.acceptors config.proposers acceptors.old.items (reverse disks.old.items) acceptors.new.items desks.new.items (reverse disks.new.items)) }
+    ensures err { IfErr result (λ fault. SomeDiskFails (meaning S.contents S.tells S.may_leave S.fault_count V.tells V.may_leave V.fault_count) S.fault_count V.fault_count config.acceptors config.proposers acceptors.old.items (reverse disks.old.items) fault acceptors.new.items desks.new.items (reverse disks.new.items)) }
     ensures capacity { vec_capacity disks.new ≡ vec_capacity disks.old }
 {
     start_members(acceptors, config.acceptors)?;

@@ -31,7 +31,7 @@ impl<S: Shelf, V: Disk> World<S, V> {
 
     /// The acceptor crashes.
     pub fn crash_acceptor(&mut self, id: AcceptorId)
-        ensures { Step (meaning S.contents S.tells S.may_leave V.tells V.may_leave) self.old (CrashAcceptor id) self.new }
+        ensures { Step (meaning S.contents S.tells S.may_leave S.fault_count V.tells V.may_leave V.fault_count) self.old (CrashAcceptor id) self.new }
     {
         self.acceptors[usize::from(id.number())].crash();
     }
@@ -41,8 +41,8 @@ impl<S: Shelf, V: Disk> World<S, V> {
     /// [`ShelfFault::DiskFault`] comes only where the count of faults of its shelf rose, [`ShelfFault::Foreign`] only where a crash left
     /// bytes that are no shelf from that place on, and [`ShelfFault::Full`] never.
     pub fn restart_acceptor(&mut self, id: AcceptorId) -> Result<(), ShelfFault>
-        ensures step { Step (meaning S.contents S.tells S.may_leave V.tells V.may_leave) self.old (RestartAcceptor id) self.new }
-        ensures tells { (was now : AcceptorView S) → IsAt self.old.acceptors id was → IsAt self.new.acceptors id now → TellsOfAcceptor (shelves S.contents S.tells S.may_leave) S.fault_count was now result }
+        ensures step { Step (meaning S.contents S.tells S.may_leave S.fault_count V.tells V.may_leave V.fault_count) self.old (RestartAcceptor id) self.new }
+        ensures tells { (was now : AcceptorView S) → IsAt self.old.acceptors id was → IsAt self.new.acceptors id now → TellsOfAcceptor (shelves S.contents S.tells S.may_leave S.fault_count) S.fault_count was now result }
     {
         self.acceptors[usize::from(id.number())].restart()
     }
@@ -50,7 +50,7 @@ impl<S: Shelf, V: Disk> World<S, V> {
     /// The proposer crashes: its open round is closed, its caller is told so, and the frames of the round join the late ones.
     pub fn crash_proposer(&mut self, proposer: u8)
         requires { proposer ≤ self.old.greatest }
-        ensures { Step (meaning S.contents S.tells S.may_leave V.tells V.may_leave) self.old (CrashProposer proposer) self.new }
+        ensures { Step (meaning S.contents S.tells S.may_leave S.fault_count V.tells V.may_leave V.fault_count) self.old (CrashProposer proposer) self.new }
     {
         let place = usize::from(proposer);
         let closes = self.desks[place].round().is_some();
@@ -69,8 +69,8 @@ impl<S: Shelf, V: Disk> World<S, V> {
     /// crash left bytes that are no vault from that place on, and [`VaultError::Spent`] never.
     pub fn restart_proposer(&mut self, proposer: u8) -> Result<(), VaultError>
         requires { proposer ≤ self.old.greatest }
-        ensures step { Step (meaning S.contents S.tells S.may_leave V.tells V.may_leave) self.old (RestartProposer proposer) self.new }
-        ensures tells { (was now : DeskView V) → IsAt self.old.desks proposer was → IsAt self.new.desks proposer now → TellsOfDesk (disks V.tells V.may_leave) V.fault_count was now result }
+        ensures step { Step (meaning S.contents S.tells S.may_leave S.fault_count V.tells V.may_leave V.fault_count) self.old (RestartProposer proposer) self.new }
+        ensures tells { (was now : DeskView V) → IsAt self.old.desks proposer was → IsAt self.new.desks proposer now → TellsOfDesk (disks V.tells V.may_leave V.fault_count) V.fault_count was now result }
     {
         self.desks[usize::from(proposer)].restart()
     }

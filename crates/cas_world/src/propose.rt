@@ -44,7 +44,7 @@ impl<S: Shelf, V: Disk> World<S, V> {
     pub fn propose(&mut self, proposer: u8) -> Result<(), Answer>
         requires known { proposer ≤ self.old.greatest }
         requires preparing { IsInPhase self.old proposer true }
-        ensures step { Step (meaning S.contents S.tells S.may_leave V.tells V.may_leave) self.old (Propose proposer) self.new }
+        ensures step { Step (meaning S.contents S.tells S.may_leave S.fault_count V.tells V.may_leave V.fault_count) self.old (Propose proposer) self.new }
         ensures proposed { OnOk result (HasProposed self.new proposer) }
         ensures told { (caller : CallerView) → slice_get self.old.callers proposer ≡ Some caller → IfErr result (WasTold self.new proposer caller.number) }
     {
@@ -72,9 +72,9 @@ impl<S: Shelf, V: Disk> World<S, V> {
     pub fn count(&mut self, proposer: u8) -> Answer
         requires known { proposer ≤ self.old.greatest }
         requires counting { IsInPhase self.old proposer false }
-        ensures step { Step (meaning S.contents S.tells S.may_leave V.tells V.may_leave) self.old (Count proposer) self.new }
+        ensures step { Step (meaning S.contents S.tells S.may_leave S.fault_count V.tells V.may_leave V.fault_count) self.old (Count proposer) self.new }
         ensures told { (caller : CallerView) → slice_get self.old.callers proposer ≡ Some caller → WasTold self.new proposer caller.number result }
-        ensures kept { S.tells → V.tells → (a : AnAcknowledgment) → Stands (Acked a) (reverse self.new.marks) → IsAboveFloors (reverse self.new.marks) a.key a.ballot → IsKept (meaning S.contents S.tells S.may_leave V.tells V.may_leave) self.new a }
+        ensures kept { S.tells → V.tells → (a : AnAcknowledgment) → Stands (Acked a) (reverse self.new.marks) → IsAboveFloors (reverse self.new.marks) a.key a.ballot → IsKept (meaning S.contents S.tells S.may_leave S.fault_count V.tells V.may_leave V.fault_count) self.new a }
     {
         let place = usize::from(proposer);
         let desk = &mut self.desks[place];
@@ -111,8 +111,8 @@ fn end_prepare<V: Disk>(
     proposer: u8,
 ) -> Result<Proposing, Answer>
     requires { MayPropose desk.old caller.now flow.old proposer }
-    ensures proposes { (round : Round) → desk.old.round ≡ Some round → (call : OpenCall) → caller.now.call ≡ Some call → IfOk result (Proposes (disks V.tells V.may_leave) proposer caller.now.number round call desk.old desk.new flow.old flow.new) }
-    ensures ends { (round : Round) → desk.old.round ≡ Some round → IfErr result (EndsShort (disks V.tells V.may_leave) round desk.old desk.new) }
+    ensures proposes { (round : Round) → desk.old.round ≡ Some round → (call : OpenCall) → caller.now.call ≡ Some call → IfOk result (Proposes (disks V.tells V.may_leave V.fault_count) proposer caller.now.number round call desk.old desk.new flow.old flow.new) }
+    ensures ends { (round : Round) → desk.old.round ≡ Some round → IfErr result (EndsShort (disks V.tells V.may_leave V.fault_count) round desk.old desk.new) }
     ensures not_sent { OnErr result (flow.new ≡ flow.old) }
 {
     match refusal_by(desk.verdict()) {
@@ -134,8 +134,8 @@ fn propose_read<V: Disk>(
 ) -> Result<Proposing, Answer>
     requires may { MayPropose desk.old caller.now flow.old proposer }
     requires quorum { IsTrue (may_read desk.old.round) }
-    ensures proposes { (round : Round) → desk.old.round ≡ Some round → (call : OpenCall) → caller.now.call ≡ Some call → IfOk result (Proposes (disks V.tells V.may_leave) proposer caller.now.number round call desk.old desk.new flow.old flow.new) }
-    ensures refused { (round : Round) → desk.old.round ≡ Some round → IfErr result (FailsToPropose (disks V.tells V.may_leave) round.key desk.old desk.new) }
+    ensures proposes { (round : Round) → desk.old.round ≡ Some round → (call : OpenCall) → caller.now.call ≡ Some call → IfOk result (Proposes (disks V.tells V.may_leave V.fault_count) proposer caller.now.number round call desk.old desk.new flow.old flow.new) }
+    ensures refused { (round : Round) → desk.old.round ≡ Some round → IfErr result (FailsToPropose (disks V.tells V.may_leave V.fault_count) round.key desk.old desk.new) }
     ensures not_sent { OnErr result (flow.new ≡ flow.old) }
 {
     let Some(call) = &caller.call else {

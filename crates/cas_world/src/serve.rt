@@ -29,8 +29,8 @@ pub(crate) fn serve<S: Shelf>(
 ) -> Result<Served, AllocError>
     requires numbered { AreNumbered acceptors.old.items (length acceptors.old.items) }
     requires asked { CanBeSent (message.Request request.now) }
-    ensures ok { IfOk result (λ served. Serves (shelves S.contents S.tells S.may_leave) acceptors.old.items request.now served acceptors.new.items) }
-    ensures err { OnErr result (KeepsAll (shelves S.contents S.tells S.may_leave) acceptors.old.items acceptors.new.items) }
+    ensures ok { IfOk result (λ served. Serves (shelves S.contents S.tells S.may_leave S.fault_count) acceptors.old.items request.now served acceptors.new.items) }
+    ensures err { OnErr result (KeepsAll (shelves S.contents S.tells S.may_leave S.fault_count) acceptors.old.items acceptors.new.items) }
 {
     let mut frame = Frame::blank(alloc)?;
     let key = key_to_vote(&request.ask)?;

@@ -34,8 +34,8 @@ impl<S: Shelf, V: Disk> World<S, V> {
     pub fn turn(&mut self, proposer: u8, verdict: Verdict) -> Result<(), AllocError>
         requires proposer { proposer ≤ self.old.greatest }
         requires waits { (queue_at self.old.flow proposer).messages ≢ [] }
-        ensures ok { OnOk result (Step (meaning S.contents S.tells S.may_leave V.tells V.may_leave) self.old (Turn proposer verdict) self.new) }
-        ensures err { OnErr result (Step (meaning S.contents S.tells S.may_leave V.tells V.may_leave) self.old (RefuseTurn proposer) self.new) }
+        ensures ok { OnOk result (Step (meaning S.contents S.tells S.may_leave S.fault_count V.tells V.may_leave V.fault_count) self.old (Turn proposer verdict) self.new) }
+        ensures err { OnErr result (Step (meaning S.contents S.tells S.may_leave S.fault_count V.tells V.may_leave V.fault_count) self.old (RefuseTurn proposer) self.new) }
     {
         let alloc = *self.acceptors.allocator();
         let place = usize::from(proposer);
@@ -113,8 +113,8 @@ fn handle<S: Shelf, V: Disk>(
     requires waits { (queue_at flow.old proposer).messages ≢ [] }
     requires room { (request : ARequest) → slice_get (queue_at flow.old proposer).messages 0 ≡ Some (message.Request request) → 0 < (queue_at (taken flow.old proposer verdict) proposer).room }
     requires mark { MayMark caller.old «record».old.room }
-    ensures ok { OnOk result (Handles (shelves S.contents S.tells S.may_leave) proposer verdict acceptors.old.items acceptors.new.items desk.old desk.new caller.old caller.new flow.old flow.new «record».old «record».new) }
-    ensures err { OnErr result (KeepsAll (shelves S.contents S.tells S.may_leave) acceptors.old.items acceptors.new.items) }
+    ensures ok { OnOk result (Handles (shelves S.contents S.tells S.may_leave S.fault_count) proposer verdict acceptors.old.items acceptors.new.items desk.old desk.new caller.old caller.new flow.old flow.new «record».old «record».new) }
+    ensures err { OnErr result (KeepsAll (shelves S.contents S.tells S.may_leave S.fault_count) acceptors.old.items acceptors.new.items) }
     ensures same { OnErr result ((desk.new ≡ desk.old) × (caller.new ≡ caller.old) × (flow.new ≡ flow.old) × («record».new ≡ «record».old)) }
 {
     match first(alloc, flow, proposer)? {
@@ -159,8 +159,8 @@ fn ask<S: Shelf>(
     requires waits { (queue_at flow.old proposer).messages ≢ [] }
     requires room { 0 < (queue_at (taken flow.old proposer verdict) proposer).room }
     requires mark { MayMark caller.old «record».old.room }
-    ensures ok { OnOk result (Asks (shelves S.contents S.tells S.may_leave) proposer verdict request.now acceptors.old.items acceptors.new.items caller.old caller.new flow.old flow.new «record».old «record».new) }
-    ensures err { OnErr result (KeepsAll (shelves S.contents S.tells S.may_leave) acceptors.old.items acceptors.new.items) }
+    ensures ok { OnOk result (Asks (shelves S.contents S.tells S.may_leave S.fault_count) proposer verdict request.now acceptors.old.items acceptors.new.items caller.old caller.new flow.old flow.new «record».old «record».new) }
+    ensures err { OnErr result (KeepsAll (shelves S.contents S.tells S.may_leave S.fault_count) acceptors.old.items acceptors.new.items) }
     ensures same { OnErr result ((caller.new ≡ caller.old) × (flow.new ≡ flow.old) × («record».new ≡ «record».old)) }
 {
     let served = serve(alloc, acceptors, request)?;

@@ -70,7 +70,7 @@ impl<S: Shelf, V: Disk> Model for World<S, V> {
 
     ghost view = { λ w. view_of w.config.proposers w.era w.acceptors.items w.desks.items w.callers.items w.flow w.«record» };
 
-    ghost invariant = { λ w. IsWorld (meaning S.contents S.tells S.may_leave V.tells V.may_leave) (view_of w.config.proposers w.era w.acceptors.items w.desks.items w.callers.items w.flow w.«record») w.callers.items w.«record».room };
+    ghost invariant = { λ w. IsWorld (meaning S.contents S.tells S.may_leave S.fault_count V.tells V.may_leave V.fault_count) (view_of w.config.proposers w.era w.acceptors.items w.desks.items w.callers.items w.flow w.«record») w.callers.items w.«record».room };
 }
 
 impl<S: Shelf, V: Disk> World<S, V> {
@@ -89,12 +89,12 @@ impl<S: Shelf, V: Disk> World<S, V> {
         requires proposers { config.proposers ≤ 16 }
         requires shelves { vec_len shelves ≡ 64 }
         requires vaults { vec_len vaults ≡ 17 }
-        ensures opening { IfOk result (IsOpening (meaning S.contents S.tells S.may_leave V.tells V.may_leave) (members_to config.acceptors)) }
+        ensures opening { IfOk result (IsOpening (meaning S.contents S.tells S.may_leave S.fault_count V.tells V.may_leave V.fault_count) (members_to config.acceptors)) }
         ensures places { IfOk result HasPlaces }
         ensures greatest { IfOk result (λ world. world.greatest ≡ config.proposers) }
         ensures shelves { IfOk result (λ world. AreStartedBelow (shelves_like S.contents S.tells S.may_leave) S.fault_count (unstarted 0 shelves.items) (config.acceptors + 1) world.acceptors) }
         ensures vaults { IfOk result (λ world. AreDesksBelow (disks_like V.tells V.may_leave) V.fault_count vaults.items (config.proposers + 1) world.desks) }
-        ensures fault { IfErr result (λ back. DoesNotOpen (meaning S.contents S.tells S.may_leave V.tells V.may_leave) S.fault_count V.fault_count config.acceptors config.proposers shelves.items vaults.items back.0 back.1.items back.2.items) }
+        ensures fault { IfErr result (λ back. DoesNotOpen (meaning S.contents S.tells S.may_leave S.fault_count V.tells V.may_leave V.fault_count) S.fault_count V.fault_count config.acceptors config.proposers shelves.items vaults.items back.0 back.1.items back.2.items) }
         ensures back { IfErr result (λ back. (vec_len back.1 ≡ 64) × (vec_len back.2 ≡ 17)) }
     {
         let Lists {

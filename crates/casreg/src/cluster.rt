@@ -45,7 +45,7 @@ pub fn cluster<R, S: Source, K: Sink, D: Disk + Drop>(
     // What was written is the transcript of a script run over the lines of the input, in a new world over the rack's disks; the record of
     // that run is legal, and the rack that comes back holds the disks of its last world. Where the source failed these are all lines that
     // had ended by then, and no others.
-    ensures wrote { Wrote (kinds (meaning ⟦<DiskShelf<D> as Shelf>⟧.contents ⟦<DiskShelf<D> as Shelf>⟧.tells ⟦<DiskShelf<D> as Shelf>⟧.may_leave D.tells D.may_leave) ⟦<DiskShelf<D> as Shelf>⟧.fault_count D.fault_count) (rack_meaning D.tells D.seen D.may_leave D.fault_count)
+    ensures wrote { Wrote (kinds (meaning ⟦<DiskShelf<D> as Shelf>⟧.contents ⟦<DiskShelf<D> as Shelf>⟧.tells ⟦<DiskShelf<D> as Shelf>⟧.may_leave ⟦<DiskShelf<D> as Shelf>⟧.fault_count D.tells D.may_leave D.fault_count) ⟦<DiskShelf<D> as Shelf>⟧.fault_count D.fault_count) (rack_meaning D.tells D.seen D.may_leave D.fault_count)
         (map string_bytes words.now) (FailsBehind S.take_gives source.old source.new) (S.remaining source.old) (K.contents sink.old) (K.contents sink.new) rack result.0 result.1 }
     ensures causes { Causes (map string_bytes words.now) (S.remaining source.old)
         (S.faults_of source.old) (S.faults_of source.new) (K.faults_of sink.old) (K.faults_of sink.new) result.0 }
@@ -72,7 +72,7 @@ fn run<S: Source, K: Sink, D: Disk + Drop>(
     requires acceptors { vec_len rack.acceptors ≡ 64 }
     requires vaults { vec_len rack.vaults ≡ 17 }
     requires range { IsInRange options }
-    ensures wrote { (words : List (List ℕ)) → AreWords words options → Wrote (kinds (meaning ⟦<DiskShelf<D> as Shelf>⟧.contents ⟦<DiskShelf<D> as Shelf>⟧.tells ⟦<DiskShelf<D> as Shelf>⟧.may_leave D.tells D.may_leave) ⟦<DiskShelf<D> as Shelf>⟧.fault_count D.fault_count) (rack_meaning D.tells D.seen D.may_leave D.fault_count)
+    ensures wrote { (words : List (List ℕ)) → AreWords words options → Wrote (kinds (meaning ⟦<DiskShelf<D> as Shelf>⟧.contents ⟦<DiskShelf<D> as Shelf>⟧.tells ⟦<DiskShelf<D> as Shelf>⟧.may_leave ⟦<DiskShelf<D> as Shelf>⟧.fault_count D.tells D.may_leave D.fault_count) ⟦<DiskShelf<D> as Shelf>⟧.fault_count D.fault_count) (rack_meaning D.tells D.seen D.may_leave D.fault_count)
         words (FailsBehind S.take_gives source.old source.new) (S.remaining source.old) (K.contents sink.old) (K.contents sink.new) rack result.0 result.1 }
     ensures usage { result.0 ≢ Status.Usage }
     ensures read_fault { result.0 ≡ Status.ReadFault → Rose (S.faults_of source.old) (S.faults_of source.new) }
@@ -106,7 +106,7 @@ fn run_script<S: Source, K: Sink, D: Disk + Drop>(
     requires range { IsInRange options }
     requires known { store.world.greatest ≡ options.proposers }
     requires idle { AllIdle store.world }
-    ensures ran { Ran (kinds (meaning ⟦<DiskShelf<D> as Shelf>⟧.contents ⟦<DiskShelf<D> as Shelf>⟧.tells ⟦<DiskShelf<D> as Shelf>⟧.may_leave D.tells D.may_leave) ⟦<DiskShelf<D> as Shelf>⟧.fault_count D.fault_count) D.tells options.tries
+    ensures ran { Ran (kinds (meaning ⟦<DiskShelf<D> as Shelf>⟧.contents ⟦<DiskShelf<D> as Shelf>⟧.tells ⟦<DiskShelf<D> as Shelf>⟧.may_leave ⟦<DiskShelf<D> as Shelf>⟧.fault_count D.tells D.may_leave D.fault_count) ⟦<DiskShelf<D> as Shelf>⟧.fault_count D.fault_count) D.tells options.tries
         (FailsBehind S.take_gives source.old source.new) (S.remaining source.old) (K.contents sink.old) (K.contents sink.new) store.world result.0 result.1 }
     ensures usage { result.0 ≢ Status.Usage }
     ensures read_fault { result.0 ≡ Status.ReadFault → Rose (S.faults_of source.old) (S.faults_of source.new) }

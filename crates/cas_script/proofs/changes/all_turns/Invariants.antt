@@ -8,7 +8,7 @@ use Rattle.cas_script.proofs.changes.all_turns.Given as goal
 
 abbrev pub invariant-loop-front : goal.invariant-loop-front
 invariant-loop-front g l = record {
-  turned : (rules : List Rule) → IsNetwork l.initial.network rules → Turned (meaning g.S.Shelf.contents g.S.Shelf.tells g.S.Shelf.may_leave g.V.Disk.tells g.V.Disk.may_leave) rules l.proposer l.initial.world l.world;
+  turned : (rules : List Rule) → IsNetwork l.initial.network rules → Turned (meaning g.S.Shelf.contents g.S.Shelf.tells g.S.Shelf.may_leave g.S.Shelf.fault_count g.V.Disk.tells g.V.Disk.may_leave g.V.Disk.fault_count) rules l.proposer l.initial.world l.world;
   plays : (asked : Asked) (proposed : Bool) → IsPlaying l.initial.world l.proposer asked proposed → IsPlaying l.world l.proposer asked proposed;
   network : (rules : List Rule) → IsNetwork l.initial.network rules → IsNetwork l.network rules;
   greatest : l.world.greatest ≡ l.initial.world.greatest;

@@ -14,7 +14,7 @@ rounds-answer-requires-clause-begun g c = has_begun _ c.args.world.now c.begin.n
 
 pub returns-in-Ok-clause-change : goal.returns-in-Ok-clause-change
 returns-in-Ok-clause-change g c rules is =
-    subst (λ (a : Answer). IsChange (meaning g.S.Shelf.contents g.S.Shelf.tells g.S.Shelf.may_leave g.V.Disk.tells g.V.Disk.may_leave) c.args.tries rules c.args.caller c.args.key.now c.args.program.now c.args.halt.now c.args.world.now a c.rounds-answer.new.halt c.end.new.self) (sym c.end.ensures.same)
+    subst (λ (a : Answer). IsChange (meaning g.S.Shelf.contents g.S.Shelf.tells g.S.Shelf.may_leave g.S.Shelf.fault_count g.V.Disk.tells g.V.Disk.may_leave g.V.Disk.fault_count) c.args.tries rules c.args.caller c.args.key.now c.args.program.now c.args.halt.now c.args.world.now a c.rounds-answer.new.halt c.end.new.self) (sym c.end.ensures.same)
     (ended c.in-Ok.ensures.step.0 (c.rounds-answer.ensures.rounds rules is) c.end.ensures.step)
 
 pub returns-in-Ok-clause-idle : goal.returns-in-Ok-clause-idle
@@ -32,7 +32,7 @@ returns-in-Err-clause-idle g c =
 pub returns-in-Err-2-clause-change : goal.returns-in-Err-2-clause-change
 returns-in-Err-2-clause-change g c rules is =
     let begun = told_is ⊤ _ c.args.world.now c.begin.new.self c.args.caller c.next_call-call.result c.args.key.now c.args.program.now c.in-Err.refusal (sym c.is_refusal.ensures ∙ c.if-is_refusal.false) c.in-Err.ensures.step in
-    subst (λ (a : Answer). IsChange (meaning g.S.Shelf.contents g.S.Shelf.tells g.S.Shelf.may_leave g.V.Disk.tells g.V.Disk.may_leave) c.args.tries rules c.args.caller c.args.key.now c.args.program.now c.args.halt.now c.args.world.now a c.args.halt.now c.end-in-Err-2.new.self) (sym c.end-in-Err-2.ensures.same)
+    subst (λ (a : Answer). IsChange (meaning g.S.Shelf.contents g.S.Shelf.tells g.S.Shelf.may_leave g.S.Shelf.fault_count g.V.Disk.tells g.V.Disk.may_leave g.V.Disk.fault_count) c.args.tries rules c.args.caller c.args.key.now c.args.program.now c.args.halt.now c.args.world.now a c.args.halt.now c.end-in-Err-2.new.self) (sym c.end-in-Err-2.ensures.same)
     (ended begun.0 (last none_begun (begun_not_met _ c.args.world.now c.begin.new.self c.args.caller c.args.key.now c.args.program.now _ begun.0)) c.end-in-Err-2.ensures.step)
 
 pub returns-in-Err-2-clause-idle : goal.returns-in-Err-2-clause-idle

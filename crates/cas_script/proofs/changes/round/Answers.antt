@@ -36,7 +36,7 @@ accept-requires-in-Ok-clause-open g c = (
 
 pub returns-in-Ok-clause-round : goal.returns-in-Ok-clause-round
 returns-in-Ok-clause-round g c rules is =
-    proposes (c.in-Ok.ensures.proposed rules is) (subst (λ (h : Halt). IsAccepted (meaning g.S.Shelf.contents g.S.Shelf.tells g.S.Shelf.may_leave g.V.Disk.tells g.V.Disk.may_leave) rules c.args.proposer h c.prepare.new.world c.accept-in-Ok.new.halt c.accept-in-Ok.new.world)
+    proposes (c.in-Ok.ensures.proposed rules is) (subst (λ (h : Halt). IsAccepted (meaning g.S.Shelf.contents g.S.Shelf.tells g.S.Shelf.may_leave g.S.Shelf.fault_count g.V.Disk.tells g.V.Disk.may_leave g.V.Disk.fault_count) rules c.args.proposer h c.prepare.new.world c.accept-in-Ok.new.halt c.accept-in-Ok.new.world)
     c.in-Ok.ensures.same_halt (c.accept-in-Ok.ensures.accepted rules (c.prepare.ensures.network rules is)))
 
 pub returns-in-Ok-clause-over : goal.returns-in-Ok-clause-over

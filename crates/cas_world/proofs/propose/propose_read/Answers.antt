@@ -24,14 +24,14 @@ pub returns-clause-proposes : goal.returns-clause-proposes
 returns-clause-proposes g c round is call is_open =
     let turned = some_and c.read-era.new.desk.round (TurnsToAccept round) (c.read-era.ensures.turns round is) in
     let same_key : round.key ≡ c.in-Some.call.key = ap (λ (r : Round). r.key) (some_is (sym is ∙ c.requires.may.is_round)) ∙ c.requires.may.same_key ∙ ap (λ (o : OpenCall). o.key) (some_is (sym c.requires.may.is_open ∙ c.in-Some.is)) in
-    subst (λ (o : OpenCall). IfOk c.propose_on.result (Proposes (disks g.V.Disk.tells g.V.Disk.may_leave) c.args.proposer c.args.caller.now.number round o c.args.desk.now c.propose_on.new.desk c.args.flow.now c.propose_on.new.flow)) (some_is (sym c.in-Some.is ∙ is_open))
+    subst (λ (o : OpenCall). IfOk c.propose_on.result (Proposes (disks g.V.Disk.tells g.V.Disk.may_leave g.V.Disk.fault_count) c.args.proposer c.args.caller.now.number round o c.args.desk.now c.propose_on.new.desk c.args.flow.now c.propose_on.new.flow)) (some_is (sym c.in-Some.is ∙ is_open))
     (proposed_by
-    (ProposesOn (disks g.V.Disk.tells g.V.Disk.may_leave) turned.0 c.read-era.new.desk c.propose_on.new.desk c.args.proposer c.in-Some.call.key c.read-era.result.0 (outcome_of c.in-Some.call.program c.read-era.result.1.state).state c.read-era.result.1.ballot c.args.flow.now c.propose_on.new.flow)
-    (Proposes (disks g.V.Disk.tells g.V.Disk.may_leave) c.args.proposer c.args.caller.now.number round c.in-Some.call c.args.desk.now c.propose_on.new.desk c.args.flow.now c.propose_on.new.flow)
+    (ProposesOn (disks g.V.Disk.tells g.V.Disk.may_leave g.V.Disk.fault_count) turned.0 c.read-era.new.desk c.propose_on.new.desk c.args.proposer c.in-Some.call.key c.read-era.result.0 (outcome_of c.in-Some.call.program c.read-era.result.1.state).state c.read-era.result.1.ballot c.args.flow.now c.propose_on.new.flow)
+    (Proposes (disks g.V.Disk.tells g.V.Disk.may_leave g.V.Disk.fault_count) c.args.proposer c.args.caller.now.number round c.in-Some.call c.args.desk.now c.propose_on.new.desk c.args.flow.now c.propose_on.new.flow)
     c.propose_on.result
     (proposing_of (record { caller = c.args.proposer; call = c.args.caller.now.number }) c.in-Some.call.key c.read-era.result.0.number c.in-Some.call.program c.read-era.result.1)
     c.propose_on.ensures.made (c.propose_on.ensures.sent turned.0 turned.1)
-    (λ made made_is on. proposed_on (disks g.V.Disk.tells g.V.Disk.may_leave) round c.args.desk.now c.read-era.new.desk c.propose_on.new.desk c.read-era.ensures.desk turned.0 turned.1 turned.2
+    (λ made made_is on. proposed_on (disks g.V.Disk.tells g.V.Disk.may_leave g.V.Disk.fault_count) round c.args.desk.now c.read-era.new.desk c.propose_on.new.desk c.read-era.ensures.desk turned.0 turned.1 turned.2
     c.args.proposer c.args.caller.now.number c.in-Some.call c.args.flow.now c.propose_on.new.flow c.read-era.result.0 c.read-era.result.1 made (c.read-era.ensures.reads round is) same_key
     (quorum_in c.args.desk.now.round round is c.requires.quorum) made_is on))
 
@@ -39,6 +39,6 @@ returns-clause-proposes g c round is call is_open =
 pub returns-clause-refused : goal.returns-clause-refused
 returns-clause-refused g c round is =
     let turned = some_and c.read-era.new.desk.round (TurnsToAccept round) (c.read-era.ensures.turns round is) in
-    IfErr-weaker c.propose_on.result (FailsToPropose (disks g.V.Disk.tells g.V.Disk.may_leave) turned.0.key c.read-era.new.desk c.propose_on.new.desk) (FailsToPropose (disks g.V.Disk.tells g.V.Disk.may_leave) round.key c.args.desk.now c.propose_on.new.desk)
-    (λ told fails. failed_on (disks g.V.Disk.tells g.V.Disk.may_leave) round c.args.desk.now c.read-era.new.desk c.propose_on.new.desk c.read-era.ensures.desk turned.0 turned.1 turned.2 told is fails)
+    IfErr-weaker c.propose_on.result (FailsToPropose (disks g.V.Disk.tells g.V.Disk.may_leave g.V.Disk.fault_count) turned.0.key c.read-era.new.desk c.propose_on.new.desk) (FailsToPropose (disks g.V.Disk.tells g.V.Disk.may_leave g.V.Disk.fault_count) round.key c.args.desk.now c.propose_on.new.desk)
+    (λ told fails. failed_on (disks g.V.Disk.tells g.V.Disk.may_leave g.V.Disk.fault_count) round c.args.desk.now c.read-era.new.desk c.propose_on.new.desk c.read-era.ensures.desk turned.0 turned.1 turned.2 told is fails)
     (c.propose_on.ensures.refused turned.0 turned.1)

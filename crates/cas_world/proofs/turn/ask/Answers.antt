@@ -10,7 +10,7 @@ use Rattle.cas_world.proofs.turn.ask.Goals as goal
 -- src/turn.rt:143:1
 pub returns-in-Some-clause-ok : goal.returns-in-Some-clause-ok
 returns-in-Some-clause-ok g c =
-    let m = shelves g.S.Shelf.contents g.S.Shelf.tells g.S.Shelf.may_leave in
+    let m = shelves g.S.Shelf.contents g.S.Shelf.tells g.S.Shelf.may_leave g.S.Shelf.fault_count in
     let replied : Serves m c.args.acceptors.now.items c.args.request.now (served.Replied c.in-Replied.frame c.in-Replied.vote) c.serve.new.acceptors.items =
     subst (λ (s : Served). Serves m c.args.acceptors.now.items c.args.request.now s c.serve.new.acceptors.items) c.in-Replied.is c.in_ok-served.ensures.ok in
     let voted : Serves m c.args.acceptors.now.items c.args.request.now (served.Replied c.in-Replied.frame (Some c.in-Some.mark)) c.serve.new.acceptors.items =
@@ -22,7 +22,7 @@ returns-in-Some-clause-ok g c =
 -- src/turn.rt:143:1
 pub returns-in_default-clause-ok : goal.returns-in_default-clause-ok
 returns-in_default-clause-ok g c =
-    let m = shelves g.S.Shelf.contents g.S.Shelf.tells g.S.Shelf.may_leave in
+    let m = shelves g.S.Shelf.contents g.S.Shelf.tells g.S.Shelf.may_leave g.S.Shelf.fault_count in
     let replied : Serves m c.args.acceptors.now.items c.args.request.now (served.Replied c.in-Replied.frame c.in-Replied.vote) c.serve.new.acceptors.items =
     subst (λ (s : Served). Serves m c.args.acceptors.now.items c.args.request.now s c.serve.new.acceptors.items) c.in-Replied.is c.in_ok-served.ensures.ok in
     let voted : Serves m c.args.acceptors.now.items c.args.request.now (served.Replied c.in-Replied.frame None) c.serve.new.acceptors.items =
@@ -34,7 +34,7 @@ returns-in_default-clause-ok g c =
 -- src/turn.rt:143:1
 pub returns-in-Down-clause-ok : goal.returns-in-Down-clause-ok
 returns-in-Down-clause-ok g c =
-    let m = shelves g.S.Shelf.contents g.S.Shelf.tells g.S.Shelf.may_leave in
+    let m = shelves g.S.Shelf.contents g.S.Shelf.tells g.S.Shelf.may_leave g.S.Shelf.fault_count in
     let fell : Serves m c.args.acceptors.now.items c.args.request.now served.Down c.serve.new.acceptors.items =
     subst (λ (s : Served). Serves m c.args.acceptors.now.items c.args.request.now s c.serve.new.acceptors.items) c.in-Down.is c.in_ok-served.ensures.ok in
     is_down fell c.take.ensures

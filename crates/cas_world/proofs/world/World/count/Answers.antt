@@ -46,12 +46,12 @@ counts : (g : Over) (c : goal.After-self-in-None-1 g) → Counts (record { tells
     (found g c).may.call (found g c).may.outcome c.self.inside.record c.acknowledge.new.record c.acknowledge.result
 counts g c = c.acknowledge.ensures (found g c).may.round (found g c).may.is_round (found g c).may.call (found g c).may.is_open (found g c).may.outcome (found g c).may.proposed
 
-acknowledges : (g : Over) (c : goal.After-self-in-None-1 g) → StepCount (meaning g.S.Shelf.contents g.S.Shelf.tells g.S.Shelf.may_leave g.V.Disk.tells g.V.Disk.may_leave) (view_of c.self.inside.config.proposers c.self.inside.era c.self.inside.acceptors.items c.self.inside.desks.items c.self.inside.callers.items c.self.inside.flow c.self.inside.record) c.args.proposer
+acknowledges : (g : Over) (c : goal.After-self-in-None-1 g) → StepCount (meaning g.S.Shelf.contents g.S.Shelf.tells g.S.Shelf.may_leave g.S.Shelf.fault_count g.V.Disk.tells g.V.Disk.may_leave g.V.Disk.fault_count) (view_of c.self.inside.config.proposers c.self.inside.era c.self.inside.acceptors.items c.self.inside.desks.items c.self.inside.callers.items c.self.inside.flow c.self.inside.record) c.args.proposer
     (view_of c.self.inside.config.proposers c.self.inside.era c.self.inside.acceptors.items (slice_set c.self.inside.desks.items c.from-place.result c.acknowledge.new.desk) (slice_set c.self.inside.callers.items c.from-place.result c.acknowledge.new.caller) c.self.inside.flow c.acknowledge.new.record)
 acknowledges g c =
-    subst (λ (i : ℕ). StepCount (meaning g.S.Shelf.contents g.S.Shelf.tells g.S.Shelf.may_leave g.V.Disk.tells g.V.Disk.may_leave) (view_of c.self.inside.config.proposers c.self.inside.era c.self.inside.acceptors.items c.self.inside.desks.items c.self.inside.callers.items c.self.inside.flow c.self.inside.record) c.args.proposer
+    subst (λ (i : ℕ). StepCount (meaning g.S.Shelf.contents g.S.Shelf.tells g.S.Shelf.may_leave g.S.Shelf.fault_count g.V.Disk.tells g.V.Disk.may_leave g.V.Disk.fault_count) (view_of c.self.inside.config.proposers c.self.inside.era c.self.inside.acceptors.items c.self.inside.desks.items c.self.inside.callers.items c.self.inside.flow c.self.inside.record) c.args.proposer
     (view_of c.self.inside.config.proposers c.self.inside.era c.self.inside.acceptors.items (slice_set c.self.inside.desks.items i c.acknowledge.new.desk) (slice_set c.self.inside.callers.items i c.acknowledge.new.caller) c.self.inside.flow c.acknowledge.new.record)) (sym c.from-place.ensures)
-    (counted (meaning g.S.Shelf.contents g.S.Shelf.tells g.S.Shelf.may_leave g.V.Disk.tells g.V.Disk.may_leave) c.self.inside.config.proposers c.self.inside.era c.self.inside.acceptors.items c.self.inside.desks.items c.self.inside.callers.items c.self.inside.flow c.self.inside.record c.acknowledge.new.record c.args.proposer c.index_mut-desk.result.now c.acknowledge.new.desk c.index_mut-caller.result.now c.acknowledge.new.caller c.acknowledge.result
+    (counted (meaning g.S.Shelf.contents g.S.Shelf.tells g.S.Shelf.may_leave g.S.Shelf.fault_count g.V.Disk.tells g.V.Disk.may_leave g.V.Disk.fault_count) c.self.inside.config.proposers c.self.inside.era c.self.inside.acceptors.items c.self.inside.desks.items c.self.inside.callers.items c.self.inside.flow c.self.inside.record c.acknowledge.new.record c.args.proposer c.index_mut-desk.result.now c.acknowledge.new.desk c.index_mut-caller.result.now c.acknowledge.new.caller c.acknowledge.result
     (none_waits g c) (found g c) ((c.verdict.ensures.quorum (found g c).may.round (found g c).may.is_round).0 (quorum_of c.verdict.result (sym c.in-None.ensures))) (counts g c))
 
 pub invariant_of-self : goal.invariant_of-self
@@ -87,12 +87,12 @@ ends g c = record {
   goes_on = end_goes_on _ c.index_mut-desk.result.now.vault c.end.new.self.vault c.end.ensures.kept c.end.ensures.disk c.end.ensures.still_past;
 }
 
-falls_short : (g : Over) (c : goal.After-self-in-Some-2-1 g) → StepCount (meaning g.S.Shelf.contents g.S.Shelf.tells g.S.Shelf.may_leave g.V.Disk.tells g.V.Disk.may_leave) (view_of c.self.inside.config.proposers c.self.inside.era c.self.inside.acceptors.items c.self.inside.desks.items c.self.inside.callers.items c.self.inside.flow c.self.inside.record) c.args.proposer
+falls_short : (g : Over) (c : goal.After-self-in-Some-2-1 g) → StepCount (meaning g.S.Shelf.contents g.S.Shelf.tells g.S.Shelf.may_leave g.S.Shelf.fault_count g.V.Disk.tells g.V.Disk.may_leave g.V.Disk.fault_count) (view_of c.self.inside.config.proposers c.self.inside.era c.self.inside.acceptors.items c.self.inside.desks.items c.self.inside.callers.items c.self.inside.flow c.self.inside.record) c.args.proposer
     (view_of c.self.inside.config.proposers c.self.inside.era c.self.inside.acceptors.items (slice_set c.self.inside.desks.items c.from-place.result c.end.new.self) (slice_set c.self.inside.callers.items c.from-place.result c.end_round.new.self) c.self.inside.flow c.self.inside.record)
 falls_short g c =
-    subst (λ (i : ℕ). StepCount (meaning g.S.Shelf.contents g.S.Shelf.tells g.S.Shelf.may_leave g.V.Disk.tells g.V.Disk.may_leave) (view_of c.self.inside.config.proposers c.self.inside.era c.self.inside.acceptors.items c.self.inside.desks.items c.self.inside.callers.items c.self.inside.flow c.self.inside.record) c.args.proposer
+    subst (λ (i : ℕ). StepCount (meaning g.S.Shelf.contents g.S.Shelf.tells g.S.Shelf.may_leave g.S.Shelf.fault_count g.V.Disk.tells g.V.Disk.may_leave g.V.Disk.fault_count) (view_of c.self.inside.config.proposers c.self.inside.era c.self.inside.acceptors.items c.self.inside.desks.items c.self.inside.callers.items c.self.inside.flow c.self.inside.record) c.args.proposer
     (view_of c.self.inside.config.proposers c.self.inside.era c.self.inside.acceptors.items (slice_set c.self.inside.desks.items i c.end.new.self) (slice_set c.self.inside.callers.items i c.end_round.new.self) c.self.inside.flow c.self.inside.record)) (sym c.from-place.ensures)
-    (fell_short (meaning g.S.Shelf.contents g.S.Shelf.tells g.S.Shelf.may_leave g.V.Disk.tells g.V.Disk.may_leave) c.self.inside.config.proposers c.self.inside.era c.self.inside.acceptors.items c.self.inside.desks.items c.self.inside.callers.items c.self.inside.flow c.self.inside.record c.args.proposer c.index_mut-desk.result.now c.end.new.self c.index_mut-caller.result.now c.end_round.new.self c.verdict.result c.in-Some.why
+    (fell_short (meaning g.S.Shelf.contents g.S.Shelf.tells g.S.Shelf.may_leave g.S.Shelf.fault_count g.V.Disk.tells g.V.Disk.may_leave g.V.Disk.fault_count) c.self.inside.config.proposers c.self.inside.era c.self.inside.acceptors.items c.self.inside.desks.items c.self.inside.callers.items c.self.inside.flow c.self.inside.record c.args.proposer c.index_mut-desk.result.now c.end.new.self c.index_mut-caller.result.now c.end_round.new.self c.verdict.result c.in-Some.why
     (ap (λ (v : View _ _). (queue_at v.flow c.args.proposer).messages) c.self.view_is ∙ c.requires.counting.none_waits) (found_short g c)
     (c.verdict.ensures.verdict (found_short g c).may.round (found_short g c).may.is_round) (sym c.in-Some.ensures) (ends g c) c.end_round.ensures)
 

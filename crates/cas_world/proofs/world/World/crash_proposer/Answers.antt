@@ -31,17 +31,17 @@ none_open g c =
     (omega (arith, c.self.invariant.safe.desks, c.requires, ap (λ (v : View _ _). v.greatest) c.self.view_is)) c.index.ensures in
     ap (λ (d : DeskView _). d.round) (at_one c.self.inside.desks.items c.args.proposer (at_desk g c) at_index) ∙ not_lent (λ one. one.now) c.round.result c.index.result.now.round c.round.ensures (sym c.if-closes.ensures)
 
-crashes : (g : Over) (c : goal.Else-closes g) → Crashes (meaning {S = g.row.S.Denot} g.S.Shelf.contents g.S.Shelf.tells g.S.Shelf.may_leave g.V.Disk.tells g.V.Disk.may_leave).disks c.index_mut.result.now c.crash.new.self
+crashes : (g : Over) (c : goal.Else-closes g) → Crashes (meaning {S = g.row.S.Denot} g.S.Shelf.contents g.S.Shelf.tells g.S.Shelf.may_leave g.S.Shelf.fault_count g.V.Disk.tells g.V.Disk.may_leave g.V.Disk.fault_count).disks c.index_mut.result.now c.crash.new.self
 crashes g c = record {
   crashed = c.crash.ensures.crashed;
   goes_on = crash_goes_on _ c.index_mut.result.now.vault c.crash.new.self.vault (g.V.Disk.seen (disk_of c.crash.new.self.vault)) c.crash.ensures.vault.kept c.crash.ensures.image c.crash.ensures.settled c.crash.ensures.still_past;
 }
 
-idles : (g : Over) (c : goal.Else-closes g) → StepCrashProposer (meaning g.S.Shelf.contents g.S.Shelf.tells g.S.Shelf.may_leave g.V.Disk.tells g.V.Disk.may_leave)
+idles : (g : Over) (c : goal.Else-closes g) → StepCrashProposer (meaning g.S.Shelf.contents g.S.Shelf.tells g.S.Shelf.may_leave g.S.Shelf.fault_count g.V.Disk.tells g.V.Disk.may_leave g.V.Disk.fault_count)
     (view_of c.self.inside.config.proposers c.self.inside.era c.self.inside.acceptors.items c.self.inside.desks.items c.self.inside.callers.items c.self.inside.flow c.self.inside.record) c.args.proposer
     (view_of c.self.inside.config.proposers c.self.inside.era c.self.inside.acceptors.items (slice_set c.self.inside.desks.items c.from-place.result c.crash.new.self) c.self.inside.callers.items c.abandon.new.self c.self.inside.record)
 idles g c =
-    let m = meaning g.S.Shelf.contents g.S.Shelf.tells g.S.Shelf.may_leave g.V.Disk.tells g.V.Disk.may_leave in
+    let m = meaning g.S.Shelf.contents g.S.Shelf.tells g.S.Shelf.may_leave g.S.Shelf.fault_count g.V.Disk.tells g.V.Disk.may_leave g.V.Disk.fault_count in
     let old = view_of c.self.inside.config.proposers c.self.inside.era c.self.inside.acceptors.items c.self.inside.desks.items c.self.inside.callers.items c.self.inside.flow c.self.inside.record in
     subst (λ (f : FlowView). StepCrashProposer m old c.args.proposer
     (view_of c.self.inside.config.proposers c.self.inside.era c.self.inside.acceptors.items (slice_set c.self.inside.desks.items c.from-place.result c.crash.new.self) c.self.inside.callers.items f c.self.inside.record)) (sym c.abandon.ensures)
@@ -69,11 +69,11 @@ new_caller g c =
     closed_is c.index_mut-then-closes.result.now c.index-then-closes.result.now c.close_round.new.self (found g c).call c.crash_answer.result c.has_proposed-proposed.result (found g c).is_open
     (at_one c.self.inside.callers.items c.args.proposer at_read (found g c).at_caller) c.has_proposed-proposed.ensures c.crash_answer.ensures c.close_round.ensures
 
-closes : (g : Over) (c : goal.After-self-then-closes-1 g) → StepCrashProposer (meaning g.S.Shelf.contents g.S.Shelf.tells g.S.Shelf.may_leave g.V.Disk.tells g.V.Disk.may_leave)
+closes : (g : Over) (c : goal.After-self-then-closes-1 g) → StepCrashProposer (meaning g.S.Shelf.contents g.S.Shelf.tells g.S.Shelf.may_leave g.S.Shelf.fault_count g.V.Disk.tells g.V.Disk.may_leave g.V.Disk.fault_count)
     (view_of c.self.inside.config.proposers c.self.inside.era c.self.inside.acceptors.items c.self.inside.desks.items c.self.inside.callers.items c.self.inside.flow c.self.inside.record) c.args.proposer
     (view_of c.self.inside.config.proposers c.self.inside.era c.self.inside.acceptors.items (slice_set c.self.inside.desks.items c.from-place.result c.crash.new.self) (slice_set c.self.inside.callers.items c.from-place.result c.close_round.new.self) c.abandon.new.self c.self.inside.record)
 closes g c =
-    let m = meaning g.S.Shelf.contents g.S.Shelf.tells g.S.Shelf.may_leave g.V.Disk.tells g.V.Disk.may_leave in
+    let m = meaning g.S.Shelf.contents g.S.Shelf.tells g.S.Shelf.may_leave g.S.Shelf.fault_count g.V.Disk.tells g.V.Disk.may_leave g.V.Disk.fault_count in
     let old = view_of c.self.inside.config.proposers c.self.inside.era c.self.inside.acceptors.items c.self.inside.desks.items c.self.inside.callers.items c.self.inside.flow c.self.inside.record in
     subst (λ (f : FlowView). StepCrashProposer m old c.args.proposer
     (view_of c.self.inside.config.proposers c.self.inside.era c.self.inside.acceptors.items (slice_set c.self.inside.desks.items c.from-place.result c.crash.new.self) (slice_set c.self.inside.callers.items c.from-place.result c.close_round.new.self) f c.self.inside.record)) (sym c.abandon.ensures)

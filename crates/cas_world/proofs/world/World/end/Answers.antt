@@ -37,10 +37,10 @@ closed : (g : Over) (c : goal.After-push g) → ((c.index_mut.result.now.round �
     ⊎ ((r : Round) × (c.index_mut.result.now.round ≡ Some r) × EndsRound (record { tells = g.V.Disk.tells; may_leave = g.V.Disk.may_leave }) c.index_mut.result.now c.close.new.desk r None)
 closed g c = closed_or (record { tells = g.V.Disk.tells; may_leave = g.V.Disk.may_leave }) c.index_mut.result.now c.close.new.desk c.index_mut.result.now.round refl c.close.ensures.idle c.close.ensures.ends
 
-ends_it : (g : Over) (c : goal.After-push g) → StepEnd (meaning g.S.Shelf.contents g.S.Shelf.tells g.S.Shelf.may_leave g.V.Disk.tells g.V.Disk.may_leave) (view_of c.self.inside.config.proposers c.self.inside.era c.self.inside.acceptors.items c.self.inside.desks.items c.self.inside.callers.items c.self.inside.flow c.self.inside.record) c.args.caller c.args.answer
+ends_it : (g : Over) (c : goal.After-push g) → StepEnd (meaning g.S.Shelf.contents g.S.Shelf.tells g.S.Shelf.may_leave g.S.Shelf.fault_count g.V.Disk.tells g.V.Disk.may_leave g.V.Disk.fault_count) (view_of c.self.inside.config.proposers c.self.inside.era c.self.inside.acceptors.items c.self.inside.desks.items c.self.inside.callers.items c.self.inside.flow c.self.inside.record) c.args.caller c.args.answer
     (view_of c.self.inside.config.proposers c.self.inside.era c.self.inside.acceptors.items (slice_set c.self.inside.desks.items c.from-place.result c.close.new.desk) (slice_set c.self.inside.callers.items c.from-place.result c.end_call-rounds.new.self) c.abandon.new.self c.push.new.self)
 ends_it g c =
-    let m = meaning g.S.Shelf.contents g.S.Shelf.tells g.S.Shelf.may_leave g.V.Disk.tells g.V.Disk.may_leave in
+    let m = meaning g.S.Shelf.contents g.S.Shelf.tells g.S.Shelf.may_leave g.S.Shelf.fault_count g.V.Disk.tells g.V.Disk.may_leave g.V.Disk.fault_count in
     let old = view_of c.self.inside.config.proposers c.self.inside.era c.self.inside.acceptors.items c.self.inside.desks.items c.self.inside.callers.items c.self.inside.flow c.self.inside.record in
     subst (λ (f : FlowView). StepEnd m old c.args.caller c.args.answer
     (view_of c.self.inside.config.proposers c.self.inside.era c.self.inside.acceptors.items (slice_set c.self.inside.desks.items c.from-place.result c.close.new.desk) (slice_set c.self.inside.callers.items c.from-place.result c.end_call-rounds.new.self) f c.push.new.self)) (sym c.abandon.ensures)

@@ -10,13 +10,13 @@ use Rattle.cas_world.proofs.Parts.{at_place, left_now, seen_from, remembered_the
 use Rattle.cas_world.proofs.world.World.restart_acceptor.Given.{Over}
 use Rattle.cas_world.proofs.world.World.restart_acceptor.Goals as goal
 
-restarts : (g : Over) (c : goal.After-self-1 g) → StepRestartAcceptor (meaning g.S.Shelf.contents g.S.Shelf.tells g.S.Shelf.may_leave g.V.Disk.tells g.V.Disk.may_leave)
+restarts : (g : Over) (c : goal.After-self-1 g) → StepRestartAcceptor (meaning g.S.Shelf.contents g.S.Shelf.tells g.S.Shelf.may_leave g.S.Shelf.fault_count g.V.Disk.tells g.V.Disk.may_leave g.V.Disk.fault_count)
     (view_of c.self.inside.config.proposers c.self.inside.era c.self.inside.acceptors.items c.self.inside.desks.items c.self.inside.callers.items c.self.inside.flow c.self.inside.record) c.args.id
     (view_of c.self.inside.config.proposers c.self.inside.era (slice_set c.self.inside.acceptors.items c.from.result c.restart.new.self) c.self.inside.desks.items c.self.inside.callers.items c.self.inside.flow c.self.inside.record)
 restarts g c =
     let same : c.from.result ≡ c.args.id = c.from.ensures ∙ c.number.ensures.value in
     let by = c.restart.ensures in
-    subst (λ (i : ℕ). StepRestartAcceptor (meaning g.S.Shelf.contents g.S.Shelf.tells g.S.Shelf.may_leave g.V.Disk.tells g.V.Disk.may_leave)
+    subst (λ (i : ℕ). StepRestartAcceptor (meaning g.S.Shelf.contents g.S.Shelf.tells g.S.Shelf.may_leave g.S.Shelf.fault_count g.V.Disk.tells g.V.Disk.may_leave g.V.Disk.fault_count)
     (view_of c.self.inside.config.proposers c.self.inside.era c.self.inside.acceptors.items c.self.inside.desks.items c.self.inside.callers.items c.self.inside.flow c.self.inside.record) c.args.id
     (view_of c.self.inside.config.proposers c.self.inside.era (slice_set c.self.inside.acceptors.items i c.restart.new.self) c.self.inside.desks.items c.self.inside.callers.items c.self.inside.flow c.self.inside.record)) (sym same)
     (restarted _ _ c.args.id c.index_mut.result.now c.restart.new.self c.restart.result
@@ -39,7 +39,7 @@ pub returns-clause-tells : goal.returns-clause-tells
 returns-clause-tells g c was now at_was at_now =
     let same : c.from.result ≡ c.args.id = c.from.ensures ∙ c.number.ensures.value in
     let by = c.restart.ensures in
-    acceptor_tells (shelves g.S.Shelf.contents g.S.Shelf.tells g.S.Shelf.may_leave) g.S.Shelf.fault_count c.self.inside.acceptors.items c.from.result c.args.id c.index_mut.result.now c.restart.new.self was now c.restart.result same
+    acceptor_tells (shelves g.S.Shelf.contents g.S.Shelf.tells g.S.Shelf.may_leave g.S.Shelf.fault_count) g.S.Shelf.fault_count c.self.inside.acceptors.items c.from.result c.args.id c.index_mut.result.now c.restart.new.self was now c.restart.result same
     (at_place c.self.inside.acceptors.items c.from.result c.args.id c.index_mut.result.now same (omega (arith, c.self.invariant.safe.acceptors, c.number.ensures.value, c.number.ensures.within)) c.index_mut.ensures.value)
     (subst (λ (v : View _ _). IsAt v.acceptors c.args.id was) (sym c.self.view_is) at_was) at_now
     (record { up = by.up; down = by.still_down; cause = by.cause; foreign = by.foreign; not_full = by.not_full })

@@ -16,12 +16,12 @@ at_desk : (g : Over) (c : goal.After-self-1 g) → IsAt c.self.inside.desks.item
 at_desk g c = at_place c.self.inside.desks.items c.from.result c.args.proposer c.index_mut.result.now c.from.ensures
     (omega (arith, c.self.invariant.safe.desks, c.requires, ap (λ (v : View _ _). v.greatest) c.self.view_is)) c.index_mut.ensures.value
 
-restarts : (g : Over) (c : goal.After-self-1 g) → StepRestartProposer (meaning g.S.Shelf.contents g.S.Shelf.tells g.S.Shelf.may_leave g.V.Disk.tells g.V.Disk.may_leave)
+restarts : (g : Over) (c : goal.After-self-1 g) → StepRestartProposer (meaning g.S.Shelf.contents g.S.Shelf.tells g.S.Shelf.may_leave g.S.Shelf.fault_count g.V.Disk.tells g.V.Disk.may_leave g.V.Disk.fault_count)
     (view_of c.self.inside.config.proposers c.self.inside.era c.self.inside.acceptors.items c.self.inside.desks.items c.self.inside.callers.items c.self.inside.flow c.self.inside.record) c.args.proposer
     (view_of c.self.inside.config.proposers c.self.inside.era c.self.inside.acceptors.items (slice_set c.self.inside.desks.items c.from.result c.restart.new.self) c.self.inside.callers.items c.self.inside.flow c.self.inside.record)
 restarts g c =
     let by = c.restart.ensures in
-    subst (λ (i : ℕ). StepRestartProposer (meaning g.S.Shelf.contents g.S.Shelf.tells g.S.Shelf.may_leave g.V.Disk.tells g.V.Disk.may_leave)
+    subst (λ (i : ℕ). StepRestartProposer (meaning g.S.Shelf.contents g.S.Shelf.tells g.S.Shelf.may_leave g.S.Shelf.fault_count g.V.Disk.tells g.V.Disk.may_leave g.V.Disk.fault_count)
     (view_of c.self.inside.config.proposers c.self.inside.era c.self.inside.acceptors.items c.self.inside.desks.items c.self.inside.callers.items c.self.inside.flow c.self.inside.record) c.args.proposer
     (view_of c.self.inside.config.proposers c.self.inside.era c.self.inside.acceptors.items (slice_set c.self.inside.desks.items i c.restart.new.self) c.self.inside.callers.items c.self.inside.flow c.self.inside.record)) (sym c.from.ensures)
     (desk_restarted _ _ c.args.proposer c.index_mut.result.now c.restart.new.self c.restart.result (at_desk g c) (λ up. (by.up up).1) by.desk by.refused
@@ -45,7 +45,7 @@ pub returns-clause-tells : goal.returns-clause-tells
 returns-clause-tells g c was now at_was at_now =
     let by = c.restart.ensures in
     let desk = c.index_mut.result.now in
-    desk_tells (disks g.V.Disk.tells g.V.Disk.may_leave) g.V.Disk.fault_count c.self.inside.desks.items c.from.result c.args.proposer desk c.restart.new.self was now c.restart.result c.from.ensures (at_desk g c)
+    desk_tells (disks g.V.Disk.tells g.V.Disk.may_leave g.V.Disk.fault_count) g.V.Disk.fault_count c.self.inside.desks.items c.from.result c.args.proposer desk c.restart.new.self was now c.restart.result c.from.ensures (at_desk g c)
     (subst (λ (v : View _ _). IsAt v.desks c.args.proposer was) (sym c.self.view_is) at_was) at_now
     (record {
       up = desk_is_up desk c.restart.new.self c.restart.result by.desk by.up;
