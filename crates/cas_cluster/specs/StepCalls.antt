@@ -127,7 +127,7 @@ pub data BeginsRound {S V : Type 0} (m : Meaning S V) (old : View S V) (id : ℕ
       → BeginsByPromise m.disks old.era call.key desk now ready ride round → outcome ≡ outcome_of call.program ready.state
       → Sends old.flow id (accepts_to id (kept_of desk.vault).age round.key round.ballot round.era.number ride outcome.state round.era.acc) flow
       → new ≡ proposed_view old id caller call now flow (proposal_of id caller.number round ready.read ready.by) outcome → BeginsRound m old id caller call new
-  stays : (told : Answer) → IsNoBeginning told → ((desk : DeskView V) → IsAt old.desks id desk → (desk.round ≡ None) × (told ≡ answer.Down → desk.down ≡ true)) → (told ≡ answer.RecordFull → IsFull old id) → new ≡ with_call old id caller (over call told)
+  stays : (told : Answer) → IsNoBeginning told → ((desk : DeskView V) → IsAt old.desks id desk → (desk.round ≡ None) × (told ≡ answer.Down → desk.down ≡ true)) → (told ≡ answer.RecordFull → IsFull old id × (suc call.reserved < round_marks old.era)) → new ≡ with_call old id caller (over call told)
       → BeginsRound m old id caller call new
   spent : (desk now : DeskView V) → IsAt old.desks id desk → desk.round ≡ None → desk.down ≡ false → promise_at call.key desk.cache ≡ None → counter_of desk.vault ≡ 2 ^ 48 → HasKept m.disks desk.vault now.vault → now ≡ record desk { vault = now.vault }
       → new ≡ with_call (with_desk old id now) id caller (over call answer.Spent) → BeginsRound m old id caller call new
