@@ -52,14 +52,14 @@ accept_steps m id first_ mid prepared replies round was (one_more {before = befo
 
 -- ---- quorums
 -- a phase that has a quorum has one by its replies
-quorum_prepared : (round : Round) (replies : List Reply) → has_quorum round.phase ≡ true → IsPreparing replies round → IsPrepareVerdict round.era round.ballot replies Quorum
+pub quorum_prepared : (round : Round) (replies : List Reply) → has_quorum round.phase ≡ true → IsPreparing replies round → IsPrepareVerdict round.era round.ballot replies Quorum
 quorum_prepared round replies quorum is = by_phase round.phase quorum is.phase
   where
     by_phase : (phase : OpenPhase) → has_quorum phase ≡ true → IsPrepare round.era round.ballot replies phase → IsPrepareVerdict round.era round.ballot replies Quorum
     by_phase (Prepare phase) quorum after = sym (ap₂ (λ (e : Era) (l : List ℕ). holds_prep e l) after.same_era after.tally.confirmed) ∙ quorum
     by_phase (Accept phase) quorum after = absurd after
 
-quorum_accepted : (round : Round) (prepared replies : List Reply) → has_quorum round.phase ≡ true → IsAccepting prepared replies round → IsAcceptVerdict round.era round.ballot replies Quorum
+pub quorum_accepted : (round : Round) (prepared replies : List Reply) → has_quorum round.phase ≡ true → IsAccepting prepared replies round → IsAcceptVerdict round.era round.ballot replies Quorum
 quorum_accepted round prepared replies quorum is = by_phase round.phase quorum is.phase
   where
     by_phase : (phase : OpenPhase) → has_quorum phase ≡ true → IsAccept round.era round.ballot replies phase → IsAcceptVerdict round.era round.ballot replies Quorum
@@ -67,7 +67,7 @@ quorum_accepted round prepared replies quorum is = by_phase round.phase quorum i
     by_phase (Accept phase) quorum after = sym (ap₂ (λ (e : Era) (l : List ℕ). holds_acc e l) after.same_era after.tally.confirmed) ∙ quorum
 
 -- ---- what is told
-told_by : {S V : Type 0} (old new : View S V) (id : ℕ) (caller : CallerView) (next : CallView) → IsAt old.callers id caller → new.callers ≡ slice_set old.callers id (record caller { call = Some next }) → IsTold new id next.told
+pub told_by : {S V : Type 0} (old new : View S V) (id : ℕ) (caller : CallerView) (next : CallView) → IsAt old.callers id caller → new.callers ≡ slice_set old.callers id (record caller { call = Some next }) → IsTold new id next.told
 told_by old new id caller next at callers = record {
   caller = record caller { call = Some next };
   at_caller = subst (λ (l : List CallerView). IsAt l id (record caller { call = Some next })) (sym callers) (at_set old.callers id caller (record caller { call = Some next }) at);
@@ -76,7 +76,7 @@ told_by old new id caller next at callers = record {
   told_is = refl;
 }
 
-desk_by : {S V : Type 0} (old new : View S V) (id : ℕ) (desk now : DeskView V) → IsAt old.desks id desk → new.desks ≡ slice_set old.desks id now → IsAt new.desks id now
+pub desk_by : {S V : Type 0} (old new : View S V) (id : ℕ) (desk now : DeskView V) → IsAt old.desks id desk → new.desks ≡ slice_set old.desks id now → IsAt new.desks id now
 desk_by {S} {V} old new id desk now at same = subst (λ (l : List (DeskView V)). IsAt l id now) (sym same) (at_set old.desks id desk now at)
 
 -- a ballot that rides changes nothing of the phase

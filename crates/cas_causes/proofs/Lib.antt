@@ -1,2 +1,3 @@
 pub mod Ends
 pub mod Hearing
+pub mod Told

@@ -21,10 +21,8 @@ use Rattle.cas_causes.specs.Causes.{IsTold}
 
 -- ---- what is seen of a proposer
 -- its desk is down
-pub record IsDown {S V : Type 0} (view : View S V) (id : ℕ) : Type 0 where
-  pub desk : DeskView V
-  pub at_desk : IsAt view.desks id desk
-  pub down : desk.down ≡ true
+abbrev pub IsDown : {S V : Type 0} → View S V → ℕ → Type 0
+IsDown {S} {V} view id = (desk : DeskView V) → IsAt view.desks id desk → desk.down ≡ true
 
 -- it holds no promise of the key, and its counter stands at its end
 pub record IsSpent {S V : Type 0} (view : View S V) (id : ℕ) (key : List ℕ) : Type 0 where

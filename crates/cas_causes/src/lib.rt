@@ -5,6 +5,7 @@
 
 ghost use Rattle.cas_cluster.specs.View.{meaning};
 ghost use Rattle.cas_causes.specs.Causes.{StepsPassOrBring, RoundsBeginAfresh, PreparesEndByReplies, AcceptsEndByReplies};
+ghost use Rattle.cas_causes.specs.Told.{AnswersHaveCauses, WhatIsMetIsAbove};
 
 use cas_disk::Disk;
 use cas_slot::Shelf;
@@ -31,4 +32,15 @@ pub fn prepares_end_by_replies<S: Shelf, V: Disk>()
 /// otherwise it is unsettled by the first of those causes.
 pub fn accepts_end_by_replies<S: Shelf, V: Disk>()
     ensures { AcceptsEndByReplies (meaning S.contents S.tells S.may_leave S.fault_count V.tells V.may_leave V.fault_count) }
+{}
+
+/// What a call's step tells its caller has its cause: a round that does not begin, one that ends before it proposed, and one that is
+/// counted.
+pub fn answers_have_causes<S: Shelf, V: Disk>()
+    ensures { AnswersHaveCauses (meaning S.contents S.tells S.may_leave S.fault_count V.tells V.may_leave V.fault_count) }
+{}
+
+/// Where shelves and disks tell what they keep, a ballot that a round met is above its own.
+pub fn what_is_met_is_above<S: Shelf, V: Disk>()
+    ensures { WhatIsMetIsAbove (meaning S.contents S.tells S.may_leave S.fault_count V.tells V.may_leave V.fault_count) }
 {}

@@ -50,6 +50,12 @@ at_set [] place x y at = absurd (cc at)
 at_set (o ∷ old) zero x y at = refl
 at_set (o ∷ old) (suc place) x y at = at_set old place x y at
 
+-- what is put in a place last stays there
+pub set_set : {A : Type 0} (xs : List A) (place : ℕ) (x y : A) → slice_set (slice_set xs place x) place y ≡ slice_set xs place y
+set_set [] place x y = refl
+set_set (z ∷ zs) zero x y = refl
+set_set {A} (z ∷ zs) (suc place) x y = ap (λ (l : List A). z ∷ l) (set_set zs place x y)
+
 pub at_one : {A : Type 0} (old : List A) (place : ℕ) {x y : A} → IsAt old place x → IsAt old place y → x ≡ y
 at_one old place a b = some_is (sym a ∙ b)
 

@@ -27,7 +27,7 @@ use Rattle.cas_cluster.specs.StepCalls.{Opens, BeginsRound, RefusesCall, Sends, 
 use Rattle.cas_cluster.specs.StepDesks.{FailsToDraw, LosesMemory}
 use Rattle.cas_cluster.specs.View as seen
 use Rattle.cas_cluster.specs.View.{Meaning, DiskMeaning, View, CallView, CallerView, IsAt, new_call, new_caller}
-use Rattle.cas_cluster.proofs.Places.{at_one, at_set, some_is}
+use Rattle.cas_cluster.proofs.Places.{at_one, at_set, some_is, set_set}
 use Rattle.cas_world.specs.Beginning.{opening_of, call_opened, Prepares, ProposesBy, FailsToOpen, reserved_beside, entered, entry_marks, proposes_now, told_now, MayBegin}
 use Rattle.cas_world.specs.Call.{again, over, with_proposal, reserved_of}
 use Rattle.cas_world.specs.Proposing.{proposing_of}
@@ -61,11 +61,6 @@ beside_none callers id low =
     let new : Caller = record { number = 0; call = None } in
     let all : seen.reserved_of (map caller_view (slice_set callers id new)) ≡ reserved_beside callers id + reserved_of new = beside_seen callers id new low in
     let moved : seen.reserved_of (map caller_view (slice_set callers id new)) ≡ seen.reserved_of (slice_set (map caller_view callers) id new_caller) = ap seen.reserved_of (map_set caller_view callers id new) in omega (arith, all, moved)
-
-pub set_set : {A : Type 0} (xs : List A) (place : ℕ) (x y : A) → slice_set (slice_set xs place x) place y ≡ slice_set xs place y
-set_set [] place x y = refl
-set_set (z ∷ zs) zero x y = refl
-set_set {A} (z ∷ zs) (suc place) x y = ap (λ (l : List A). z ∷ l) (set_set zs place x y)
 
 -- ---- what may begin
 -- another round of the open call
