@@ -3,6 +3,7 @@ use Rattle.std.proofs.Common.{◌≡◌, ◌⊎◌, Bool, inl, inr, ℕ, suc, �
 use Rattle.cas_ballot.specs.declared.ballot.Ballot.{Ballot}
 use Rattle.cas_record.proofs.Tests.{ballot_same}
 use Rattle.cas_ballot.specs.Ballot.{ballot_cmp, BallotLess}
+use Rattle.std.specs.Prelude.{IfSome}
 use Rattle.std.specs.Ordering.{is_eq}
 use Rattle.cas_base.proofs.Bools.{and_left, and_right}
 use Rattle.cas_cache.specs.Entries.{promise_at}
@@ -21,6 +22,7 @@ use Rattle.cas_record.specs.Orderly.{Orderly, MayReply, IsTold as IsSo}
 use Rattle.cas_record.proofs.Orders.{reason}
 use Rattle.cas_record.specs.declared.answer.Answer.{Answer}
 use Rattle.cas_record.specs.declared.answer.Answer.TheVariants as answer
+use Rattle.cas_record.specs.declared.answer.Cause.TheVariants as cause
 use Rattle.cas_slot.specs.declared.message.Ask.{Ask}
 use Rattle.cas_slot.specs.declared.message.Ask.TheVariants as ask
 use Rattle.cas_slot.specs.declared.message.Phase.{Phase}
@@ -28,13 +30,14 @@ use Rattle.cas_slot.specs.declared.message.Reply.{Reply}
 use Rattle.cas_slot.specs.declared.message.Tell.{Tell}
 use Rattle.cas_slot.specs.declared.message.Tell.TheVariants as tell
 use Rattle.cas_slot.specs.Message.{phase_of, tag_of}
+use Rattle.cas_cluster.specs.History.{IsRemembered}
 use Rattle.cas_cluster.specs.Parties.{WereMade, WasMade, IsOpenTrue, IsPrepareTrue, IsAcceptTrue}
 use Rattle.cas_cluster.specs.Step.{Step, Begin, Propose, Count, OpenCallAt}
 use Rattle.cas_cluster.specs.StepCalls as calls
 use Rattle.cas_cluster.specs.View.{Meaning, View, CallView, CallerView, IsAt, new_call, new_caller, reserved_of}
 use Rattle.cas_cluster.proofs.Places.{at_one, at_set, set_set, some_is}
 use Rattle.cas_causes.specs.Causes.{IsTold}
-use Rattle.cas_causes.specs.Told.{HasVerdict, BeginsBy, PreparesBy, AcceptsBy, AnswersHaveCauses, WhatIsMetIsAbove}
+use Rattle.cas_causes.specs.Told.{HasVerdict, BeginsBy, PreparesBy, AcceptsBy, TellsAbove, AnswersHaveCauses, WhatIsMetIsAbove}
 use Rattle.cas_causes.proofs.Ends.{told_by, desk_by, quorum_accepted, quorum_prepared}
 
 -- ---- what is told
@@ -107,7 +110,7 @@ stays_by m old middle new id key call (answer.Unsettled _) is no_beginning desks
 stays_by m old middle new id key call answer.Spent is no_beginning desks full = absurd no_beginning
 stays_by m old middle new id key call answer.VaultFault is no_beginning desks full = absurd no_beginning
 
-begins_by : {S V : Type 0} (m : Meaning S V) (old new : View S V) (id : ℕ) (key : List ℕ) (program : List Clause) (told : Answer) → Step m old (Begin id key program) new → IsTold new id (Some told) → BeginsBy m old id key told new
+pub begins_by : {S V : Type 0} (m : Meaning S V) (old new : View S V) (id : ℕ) (key : List ℕ) (program : List Clause) (told : Answer) → Step m old (Begin id key program) new → IsTold new id (Some told) → BeginsBy m old id key told new
 begins_by {S} {V} m old new id key program told by was = in_round by.begins
   where
     opened : IsOpened old by.middle id key by.call
@@ -147,7 +150,7 @@ refuses_by m old new id (verdict.Full acceptor) told has is = subst (λ (a : Ans
 refuses_by m old new id (verdict.Short got need) told has is = subst (λ (a : Answer). PreparesBy m old id a new) (some_is is) (verdict.Short got need, has, refl)
 refuses_by m old new id verdict.Quorum told has is = absurd (cc is)
 
-prepares_by : {S V : Type 0} (m : Meaning S V) (old new : View S V) (id : ℕ) (told : Answer) → Step m old (Propose id) new → IsTold new id (Some told) → PreparesBy m old id told new
+pub prepares_by : {S V : Type 0} (m : Meaning S V) (old new : View S V) (id : ℕ) (told : Answer) → Step m old (Propose id) new → IsTold new id (Some told) → PreparesBy m old id told new
 prepares_by {S} {V} m old new id told by was = in_phase by.at_round.of_call by.at_round.desk by.at_round.at_desk by.at_round.round by.at_round.is_open by.proposes
   where
     in_phase : (at : OpenCallAt old id) (desk : DeskView V) → IsAt old.desks id desk → (round : Round) → desk.round ≡ Some round → calls.ProposesOrEnds m old id desk round at.caller at.call new → PreparesBy m old id told new
@@ -172,7 +175,7 @@ has_quorum_verdict round quorum = record {
   accept = λ prepared replies is. quorum_accepted round prepared replies quorum is;
 }
 
-accepts_by : {S V : Type 0} (m : Meaning S V) (old new : View S V) (id : ℕ) (told : Answer) → Step m old (Count id) new → IsTold new id (Some told) → AcceptsBy old id told
+pub accepts_by : {S V : Type 0} (m : Meaning S V) (old new : View S V) (id : ℕ) (told : Answer) → Step m old (Count id) new → IsTold new id (Some told) → AcceptsBy old id told
 accepts_by {S} {V} m old new id told by was = in_phase by.at_round.of_call by.at_round.desk by.at_round.at_desk by.at_round.round by.at_round.is_open by.counts
   where
     in_phase : (at : OpenCallAt old id) (desk : DeskView V) → IsAt old.desks id desk → (round : Round) → desk.round ≡ Some round → calls.CountsOrEnds m old id desk round at.caller at.call new → AcceptsBy old id told
@@ -180,8 +183,8 @@ accepts_by {S} {V} m old new id told by was = in_phase by.at_round.of_call by.at
         let done : Answer = answer.Done outcome.state outcome.took round.ballot in
         let same : Some told ≡ Some done = told_once new id (Some told) (Some done) was (told_by old new id at.caller (calls.over at.call done) at.at_caller (ap (λ (w : View S V). w.callers) is)) in
         subst (λ (a : Answer). AcceptsBy old id a) (sym (some_is same)) (record { desk = desk; at_desk = at_desk; round = round; is_round = is_open; verdict_is = has_quorum_verdict round quorum })
-    in_phase at desk at_desk round is_open (calls.ends now why cause verdict_is caused ends is) =
-        let same : Some told ≡ Some (answer.Unsettled cause) = told_once new id (Some told) (Some (answer.Unsettled cause)) was (told_by old new id at.caller (calls.over at.call (answer.Unsettled cause)) at.at_caller (ap (λ (w : View S V). w.callers) is)) in
+    in_phase at desk at_desk round is_open (calls.ends now why reason verdict_is caused ends is) =
+        let same : Some told ≡ Some (answer.Unsettled reason) = told_once new id (Some told) (Some (answer.Unsettled reason)) was (told_by old new id at.caller (calls.over at.call (answer.Unsettled reason)) at.at_caller (ap (λ (w : View S V). w.callers) is)) in
         subst (λ (a : Answer). AcceptsBy old id a) (sym (some_is same)) (why, record { desk = desk; at_desk = at_desk; round = round; is_round = is_open; verdict_is = verdict_is }, caused)
 
 pub causes : {S V : Type 0} (m : Meaning S V) → AnswersHaveCauses m
@@ -244,3 +247,82 @@ met_above {S} {V} m shelves_tell disks_tell view id caller desk round met is at_
     by_round : (open_ : Option Round) → open_ ≡ Some round → IsOpenTrue is.cluster log is.global.made id view.era.number caller (queue_at view.flow id).messages open_ → BallotLess round.ballot met
     by_round None e of = absurd (cc e)
     by_round (Some other) e of = in_phase of.call (subst (λ (r : Round). IsPrepareTrue log id of.call (queue_at view.flow id).messages r ⊎ IsAcceptTrue log is.global.made id caller.number of.call (queue_at view.flow id).messages r) (some_is e) of.phase)
+
+-- where a round's open phase meets a ballot, it is above
+pub verdict_above : {S V : Type 0} (m : Meaning S V) (view : View S V) (id : ℕ) (caller : CallerView) (met : Ballot) → m.shelves.tells → m.disks.tells → IsRemembered m view → IsAt view.callers id caller → HasVerdict view id (verdict.Met met) → (desk : DeskView V) → IsAt view.desks id desk
+    → IfSome desk.round (λ round. BallotLess round.ballot met)
+verdict_above {S} {V} m view id caller met shelves_tell disks_tell is at_caller has desk at_desk = by_round desk.round refl
+  where
+    by_round : (open_ : Option Round) → desk.round ≡ open_ → IfSome open_ (λ round. BallotLess round.ballot met)
+    by_round None e = tt
+    by_round (Some round) e =
+        let same : has.round ≡ round = some_is (sym has.is_round ∙ ap (λ (d : DeskView V). d.round) (at_one view.desks id has.at_desk at_desk) ∙ e) in
+        met_above m shelves_tell disks_tell view id caller desk round met is at_caller at_desk e (subst (λ (r : Round). IsVerdictOf r (verdict.Met met)) same has.verdict_is)
+
+-- only a ballot that was met is told as one
+conflict_is : (why : RoundVerdict) (met : Ballot) → calls.refusal_by why ≡ Some (answer.Conflict met) → why ≡ verdict.Met met
+conflict_is (verdict.Met ballot) met e = ap (λ (b : Ballot). verdict.Met b) (same_met (some_is e))
+  where
+    same_met : answer.Conflict ballot ≡ answer.Conflict met → ballot ≡ met
+    same_met e = cc e
+conflict_is (verdict.Aged least) met e = absurd (cc e)
+conflict_is (verdict.Full acceptor) met e = absurd (cc e)
+conflict_is (verdict.Short got need) met e = absurd (cc e)
+conflict_is verdict.Quorum met e = absurd (cc e)
+
+unsettled_is : (why : RoundVerdict) (met : Ballot) → calls.cause_by why ≡ Some (cause.Met met) → why ≡ verdict.Met met
+unsettled_is (verdict.Met ballot) met e = ap (λ (b : Ballot). verdict.Met b) (same_met (some_is e))
+  where
+    same_met : cause.Met ballot ≡ cause.Met met → ballot ≡ met
+    same_met e = cc e
+unsettled_is (verdict.Aged least) met e = absurd (cc e)
+unsettled_is (verdict.Full acceptor) met e = absurd (cc e)
+unsettled_is (verdict.Short got need) met e = absurd (cc e)
+unsettled_is verdict.Quorum met e = absurd (cc e)
+
+pub prepares_above : {S V : Type 0} (m : Meaning S V) (old new : View S V) (id : ℕ) (caller : CallerView) (told : Answer) → m.shelves.tells → m.disks.tells → IsRemembered m old → IsAt old.callers id caller → PreparesBy m old id told new → TellsAbove old id told
+prepares_above m old new id caller (answer.Conflict met) shelves_tell disks_tell is at by = verdict_above m old id caller met shelves_tell disks_tell is at (subst (HasVerdict old id) (conflict_is by.0 met by.2) by.1)
+prepares_above m old new id caller (answer.Unsettled (cause.Met met)) shelves_tell disks_tell is at by = absurd (no_cause by.0 by.2)
+  where
+    no_cause : (why : RoundVerdict) → calls.refusal_by why ≡ Some (answer.Unsettled (cause.Met met)) → ⊥
+    no_cause (verdict.Met ballot) e = absurd (cc e)
+    no_cause (verdict.Aged least) e = absurd (cc e)
+    no_cause (verdict.Full acceptor) e = absurd (cc e)
+    no_cause (verdict.Short got need) e = absurd (cc e)
+    no_cause verdict.Quorum e = absurd (cc e)
+prepares_above m old new id caller (answer.Unsettled (cause.Aged _)) shelves_tell disks_tell is at by = tt
+prepares_above m old new id caller (answer.Unsettled (cause.Full _)) shelves_tell disks_tell is at by = tt
+prepares_above m old new id caller (answer.Unsettled (cause.Short _ _)) shelves_tell disks_tell is at by = tt
+prepares_above m old new id caller (answer.Unsettled cause.Crashed) shelves_tell disks_tell is at by = tt
+prepares_above m old new id caller (answer.Unsettled (cause.Moved _)) shelves_tell disks_tell is at by = tt
+prepares_above m old new id caller (answer.Done _ _ _) shelves_tell disks_tell is at by = tt
+prepares_above m old new id caller (answer.Aged _) shelves_tell disks_tell is at by = tt
+prepares_above m old new id caller (answer.Full _) shelves_tell disks_tell is at by = tt
+prepares_above m old new id caller (answer.Short _ _) shelves_tell disks_tell is at by = tt
+prepares_above m old new id caller (answer.Moved _) shelves_tell disks_tell is at by = tt
+prepares_above m old new id caller answer.Crashed shelves_tell disks_tell is at by = tt
+prepares_above m old new id caller answer.Down shelves_tell disks_tell is at by = tt
+prepares_above m old new id caller answer.Spent shelves_tell disks_tell is at by = tt
+prepares_above m old new id caller answer.RecordFull shelves_tell disks_tell is at by = tt
+prepares_above m old new id caller answer.VaultFault shelves_tell disks_tell is at by = tt
+prepares_above m old new id caller (answer.NoMemory _) shelves_tell disks_tell is at by = tt
+
+pub accepts_above : {S V : Type 0} (m : Meaning S V) (old : View S V) (id : ℕ) (caller : CallerView) (told : Answer) → m.shelves.tells → m.disks.tells → IsRemembered m old → IsAt old.callers id caller → AcceptsBy old id told → TellsAbove old id told
+accepts_above m old id caller (answer.Unsettled (cause.Met met)) shelves_tell disks_tell is at by = verdict_above m old id caller met shelves_tell disks_tell is at (subst (HasVerdict old id) (unsettled_is by.0 met by.2) by.1)
+accepts_above m old id caller (answer.Conflict met) shelves_tell disks_tell is at by = absurd by
+accepts_above m old id caller (answer.Unsettled (cause.Aged _)) shelves_tell disks_tell is at by = tt
+accepts_above m old id caller (answer.Unsettled (cause.Full _)) shelves_tell disks_tell is at by = tt
+accepts_above m old id caller (answer.Unsettled (cause.Short _ _)) shelves_tell disks_tell is at by = tt
+accepts_above m old id caller (answer.Unsettled cause.Crashed) shelves_tell disks_tell is at by = tt
+accepts_above m old id caller (answer.Unsettled (cause.Moved _)) shelves_tell disks_tell is at by = tt
+accepts_above m old id caller (answer.Done _ _ _) shelves_tell disks_tell is at by = tt
+accepts_above m old id caller (answer.Aged _) shelves_tell disks_tell is at by = tt
+accepts_above m old id caller (answer.Full _) shelves_tell disks_tell is at by = tt
+accepts_above m old id caller (answer.Short _ _) shelves_tell disks_tell is at by = tt
+accepts_above m old id caller (answer.Moved _) shelves_tell disks_tell is at by = tt
+accepts_above m old id caller answer.Crashed shelves_tell disks_tell is at by = tt
+accepts_above m old id caller answer.Down shelves_tell disks_tell is at by = tt
+accepts_above m old id caller answer.Spent shelves_tell disks_tell is at by = tt
+accepts_above m old id caller answer.RecordFull shelves_tell disks_tell is at by = tt
+accepts_above m old id caller answer.VaultFault shelves_tell disks_tell is at by = tt
+accepts_above m old id caller (answer.NoMemory _) shelves_tell disks_tell is at by = tt

@@ -1,5 +1,5 @@
 -- What an answer tells of the cluster: the cause of each.
-use Rattle.std.specs.Prelude.{◌≡◌, ℕ, ◌^◌, true, false, List, Some, None}
+use Rattle.std.specs.Prelude.{◌≡◌, ℕ, ◌^◌, ⊤, false, true, List, Some, None, IfSome}
 use Rattle.cas_base.specs.Faults.{Rose}
 use Rattle.cas_ballot.specs.declared.ballot.Ballot.{Ballot}
 use Rattle.cas_ballot.specs.Ballot.{BallotLess}
@@ -13,6 +13,7 @@ use Rattle.cas_round.specs.declared.verdict.RoundVerdict.TheVariants as verdict
 use Rattle.cas_vault.specs.Vault.{disk_of, counter_of}
 use Rattle.cas_record.specs.declared.answer.Answer.{Answer}
 use Rattle.cas_record.specs.declared.answer.Answer.TheVariants as answer
+use Rattle.cas_record.specs.declared.answer.Cause.TheVariants as cause
 use Rattle.cas_cluster.specs.History.{IsRemembered}
 use Rattle.cas_cluster.specs.Step.{Step, Begin, Propose, Count}
 use Rattle.cas_cluster.specs.StepCalls.{IsFull, refusal_by, cause_by}
@@ -67,8 +68,14 @@ PreparesBy m old id told new = (why : RoundVerdict) × HasVerdict old id why × 
 -- A round is counted: a quorum accepted, or none did and this is what was met instead.
 abbrev pub AcceptsBy : {S V : Type 0} → View S V → ℕ → Answer → Type 0
 AcceptsBy old id (answer.Done state took ballot) = HasVerdict old id verdict.Quorum
-AcceptsBy old id (answer.Unsettled cause) = (why : RoundVerdict) × HasVerdict old id why × (cause_by why ≡ Some cause)
+AcceptsBy old id (answer.Unsettled reason) = (why : RoundVerdict) × HasVerdict old id why × (cause_by why ≡ Some reason)
 AcceptsBy old id other = ⊥
+
+-- a ballot that is told as met is above that of the round
+abbrev pub TellsAbove : {S V : Type 0} → View S V → ℕ → Answer → Type 0
+TellsAbove {S} {V} view id (answer.Conflict met) = (desk : DeskView V) → IsAt view.desks id desk → IfSome desk.round (λ round. BallotLess round.ballot met)
+TellsAbove {S} {V} view id (answer.Unsettled (cause.Met met)) = (desk : DeskView V) → IsAt view.desks id desk → IfSome desk.round (λ round. BallotLess round.ballot met)
+TellsAbove view id other = ⊤
 
 -- ---- the laws
 -- What a call's step tells its caller has its cause.

@@ -54,7 +54,7 @@ impl<D: Disk> Store<D> {
         ensures places { IfOk result (λ store. HasPlaces store.world) }
         ensures greatest { IfOk result (λ store. store.world.greatest ≡ config.proposers) }
         ensures acceptors { IfOk result (λ store. AreReached D.fault_count 1 (config.acceptors + 1) rack.acceptors.items (acceptor_disks store.world.acceptors)) }
-        ensures vaults { IfOk result (λ store. AreDesksBelow (disks_like D.tells D.may_leave) D.fault_count rack.vaults.items (config.proposers + 1) store.world.desks) }
+        ensures vaults { IfOk result (λ store. AreDesksBelow (disks_like D.tells D.may_leave D.fault_count) D.fault_count rack.vaults.items (config.proposers + 1) store.world.desks) }
         ensures fault { IfErr result (λ back. StaysClosed D.fault_count config.acceptors config.proposers rack.acceptors.items rack.vaults.items back.0 back.1.acceptors.items back.1.vaults.items) }
         ensures back { IfErr result (λ back. (vec_len back.1.acceptors ≡ 64) × (vec_len back.1.vaults ≡ 17)) }
     {

@@ -2,6 +2,7 @@
 use Rattle.std.proofs.Common.{◌≡◌, ◌⊎◌, ◌+◌, ◌≤◌, ℕ, Bool, true, false, not, if◌then◌else◌, List, refl, sym, ap, subst, ◌∙◌, arith, inl, inr}
 use Rattle.std.specs.Prelude.{Option, Some, None, is_none, nat_lt, IsTrue}
 use Rattle.cas_base.proofs.Bools.{and_right}
+use Rattle.cas_base.specs.Faults.{Rose}
 use Rattle.cas_proposer.proofs.DeskLemmas.{without_absent}
 use Rattle.cas_ballot.specs.declared.ballot.Ballot.{Ballot}
 use Rattle.cas_ballot.specs.Ballot.{FitsBallot}
@@ -32,6 +33,9 @@ use Rattle.cas_world.specs.declared.proposal.Proposing.{Proposing}
 use Rattle.cas_world.specs.Beginning.{FailsToOpen, ProposesBy}
 
 -- ---- what a draw keeps
+pub no_more : (old new : ℕ) → new ≡ old → old ≤ new
+no_more old new same = omega (arith, same)
+
 one_era : (b : Bool) (x y : Kept) (era : ℕ) → x.era ≡ era → y.era ≡ era → (if b then x else y).era ≡ era
 one_era true x y era a b = a
 one_era false x y era a b = b
@@ -51,26 +55,27 @@ none_there (Some b) none = let no : false ≡ true = none in absurd (cc)
 no_ride : (round : Round) → IsTrue (may_ride (Some round)) → Some round ≡ Some (record round { ride = None })
 no_ride round may = ap (λ (r : Option Ballot). Some (record round { ride = r })) (none_there round.ride (and_right (not (is_preparing round.phase)) (is_none round.ride) may))
 
-module _ {V : Type 0} (tells : Type 0) (may_leave : V → List ℕ → Type 0) where
+module _ {V : Type 0} (tells : Type 0) (may_leave : V → List ℕ → Type 0) (faults : V → ℕ) where
   -- a round's end keeps its vault's disk
-  pub goes_on_still : (old new : Vault V) → disk_of new ≡ disk_of old → kept_of new ≡ kept_of old → ((n : ℕ) → IsPast may_leave n old → IsPast may_leave n new) → GoesOn (disks tells may_leave) old new
+  pub goes_on_still : (old new : Vault V) → disk_of new ≡ disk_of old → kept_of new ≡ kept_of old → ((n : ℕ) → IsPast may_leave n old → IsPast may_leave n new) → GoesOn (disks tells may_leave faults) old new
   goes_on_still old new same_disk same_kept_of past = record {
     still_past = λ t. past;
     era = λ t era was. record {
       kept = ap (λ (k : Kept). k.era) same_kept_of ∙ was.kept;
       left = λ c kept left on. was.left c kept (subst (λ (d : V). may_leave d c) same_disk left) on;
     };
+    never_falls = no_more (faults (disk_of old)) (faults (disk_of new)) (ap faults same_disk);
   }
 
-  goes_on_same : (old : Vault V) → GoesOn (disks tells may_leave) old old
-  goes_on_same old = record { still_past = λ t n was. was; era = λ t era was. was }
+  goes_on_same : (old : Vault V) → GoesOn (disks tells may_leave faults) old old
+  goes_on_same old = record { still_past = λ t n was. was; era = λ t era was. was; never_falls = no_more (faults (disk_of old)) (faults (disk_of old)) refl }
 
   -- no memory was found once a ballot was drawn or not, and the round is ended
-  pub loses_after : (old mid new : DeskView V) (round : Round) (ride rides : Option Ballot) → old.round ≡ Some round → MayHaveDrawn (disks tells may_leave) old.id old.vault mid.vault ride
+  pub loses_after : (old mid new : DeskView V) (round : Round) (ride rides : Option Ballot) → old.round ≡ Some round → MayHaveDrawn (disks tells may_leave faults) old.id old.vault mid.vault ride
       → mid ≡ record old { vault = mid.vault; round = Some (record round { ride = rides }) }
       → ((r : Round) → mid.round ≡ Some r → new ≡ record mid { vault = new.vault; cache = cache_after r None mid.cache; round = None })
       → counter_of new.vault ≡ counter_without mid.round (counter_of mid.vault) → kept_of new.vault ≡ kept_of mid.vault → disk_of new.vault ≡ disk_of mid.vault
-      → ((n : ℕ) → IsPast may_leave n mid.vault → IsPast may_leave n new.vault) → LosesMemory (disks tells may_leave) round.key old new ride
+      → ((n : ℕ) → IsPast may_leave n mid.vault → IsPast may_leave n new.vault) → LosesMemory (disks tells may_leave faults) round.key old new ride
   loses_after old mid new round ride rides is drawn at ends counted same_kept_of same_disk past =
       let riding : mid.round ≡ Some (record round { ride = rides }) = ap (λ (d : DeskView V). d.round) at in
       let ended : new ≡ record mid { vault = new.vault; cache = without round.key mid.cache; round = None } = ends (record round { ride = rides }) riding in
@@ -89,14 +94,15 @@ module _ {V : Type 0} (tells : Type 0) (may_leave : V → List ℕ → Type 0) w
   module _ (seen : V → List ℕ) (moment : V → ℕ) (left_since : V → ℕ → List ℕ → Type 0) (counts_now : (disk : V) (t : ℕ) (c : List ℕ) → tells → t ≤ moment disk → may_leave disk c → left_since disk t c) where
     -- a draw keeps the era, wherever it stops
     pub goes_on : (old new : Vault V) → (tells → (n : ℕ) → IsPast may_leave n old → IsPast may_leave n new)
-        → (tells → LeavesOnly moment left_since (disk_of old) (disk_of new) (IsBeforeOrAfter (kept_of old) (kept_to_draw (counter_of old) (kept_of old)))) → (kept_of new).era ≡ (kept_of old).era
-        → GoesOn (disks tells may_leave) old new
-    goes_on old new past moments same = record {
+        → (tells → LeavesOnly moment left_since (disk_of old) (disk_of new) (IsBeforeOrAfter (kept_of old) (kept_to_draw (counter_of old) (kept_of old)))) → (kept_of new).era ≡ (kept_of old).era → faults (disk_of old) ≤ faults (disk_of new)
+        → GoesOn (disks tells may_leave faults) old new
+    goes_on old new past moments same never_falls = record {
       still_past = past;
       era = λ t era was. record {
         kept = same ∙ was.kept;
         left = λ c kept left on. era_on kept (kept_of old) (counter_of old) c on ((moments t).each c (counts_now (disk_of new) (moment (disk_of old)) c t (moments t).later left)) ∙ was.kept;
       };
+      never_falls = never_falls;
     }
 
     rides_fits : (old new : DeskView V) (ballot : Ballot) → old.id ≤ 16 → Draws old.id old.vault new.vault ballot → Stands tells seen may_leave new.vault → FitsBallot ballot
@@ -112,21 +118,21 @@ module _ {V : Type 0} (tells : Type 0) (may_leave : V → List ℕ → Type 0) w
         → ((b : Ballot) → ride ≡ Some b → Draws old.id old.vault new.vault b) → ((b : Ballot) → ride ≡ Some b → new ≡ record old { vault = new.vault; round = with_ride old.round b })
         → (tells → (b : Ballot) → ride ≡ Some b → IsPast may_leave b.counter new.vault) → (tells → (n : ℕ) → IsPast may_leave n old.vault → IsPast may_leave n new.vault)
         → (tells → LeavesOnly moment left_since (disk_of old.vault) (disk_of new.vault) (IsBeforeOrAfter (kept_of old.vault) (kept_to_draw (counter_of old.vault) (kept_of old.vault))))
-        → (new.down ≡ false → Stands tells seen may_leave new.vault) → RidesOn (disks tells may_leave) round old new ride
-    rides_by old new round None is may up few same draws at past still moments stands =
-        subst (λ (d : DeskView V). RidesOn (disks tells may_leave) round old d None) (sym (same refl)) (record {
+        → (new.down ≡ false → Stands tells seen may_leave new.vault) → faults (disk_of old.vault) ≤ faults (disk_of new.vault) → RidesOn (disks tells may_leave faults) round old new ride
+    rides_by old new round None is may up few same draws at past still moments stands never_falls =
+        subst (λ (d : DeskView V). RidesOn (disks tells may_leave faults) round old d None) (sym (same refl)) (record {
           drawn = record { shows = record { counter = refl; kept = refl }; goes_on = goes_on_same old.vault };
           desk = ap (λ (r : Option Round). record old { round = r }) (is ∙ no_ride round (subst (λ (r : Option Round). IsTrue (may_ride r)) is may));
           fits = tt;
         })
-    rides_by old new round (Some b) is may up few same draws at past still moments stands =
+    rides_by old new round (Some b) is may up few same draws at past still moments stands never_falls =
         let drew : Draws old.id old.vault new.vault b = draws b refl in
         let fits : FitsBallot b = rides_fits old new b few drew (stands (ap (λ (d : DeskView V). d.down) (at b refl) ∙ up)) in record {
           drawn = record {
             draws = drew;
             fits = fits;
             past = λ t. past t b refl;
-            goes_on = goes_on old.vault new.vault still moments (ap (λ (k : Kept). k.era) drew.kept ∙ draw_era (counter_of old.vault) (kept_of old.vault));
+            goes_on = goes_on old.vault new.vault still moments (ap (λ (k : Kept). k.era) drew.kept ∙ draw_era (counter_of old.vault) (kept_of old.vault)) never_falls;
           };
           desk = at b refl ∙ ap (λ (r : Option Round). record old { vault = new.vault; round = with_ride r b }) is;
           fits = fits;
@@ -135,14 +141,16 @@ module _ {V : Type 0} (tells : Type 0) (may_leave : V → List ℕ → Type 0) w
     -- the vault failed in a draw
     pub fails_by : (old new : DeskView V) (round : Round) → old.round ≡ Some round → GoesDown old new → (tells → (n : ℕ) → IsPast may_leave n old.vault → IsPast may_leave n new.vault)
         → (tells → LeavesOnly moment left_since (disk_of old.vault) (disk_of new.vault) (IsBeforeOrAfter (kept_of old.vault) (kept_to_draw (counter_of old.vault) (kept_of old.vault))))
-        → FailsToDraw (disks tells may_leave) round.key old new
-    fails_by old new round is goes still moments =
+        → faults (disk_of old.vault) ≤ faults (disk_of new.vault) → Rose (faults (disk_of old.vault)) (faults (disk_of new.vault))
+        → FailsToDraw (disks tells may_leave faults) round.key old new
+    fails_by old new round is goes still moments never_falls rose =
         let cache : new.cache ≡ cache_without old.round old.cache = ap (λ (d : DeskView V). d.cache) goes.desk in record {
           desk = goes.desk ∙ ap (λ (ready : List (List ℕ × Ready)). record old { vault = new.vault; cache = ready; round = None; down = true }) (sym cache);
           cache = inr (cache ∙ ap (λ (r : Option Round). cache_without r old.cache) is);
           counter = goes.counter;
           kept = goes.kept;
-          goes_on = goes_on old.vault new.vault still moments (ap (λ (k : Kept). k.era) goes.kept);
+          goes_on = goes_on old.vault new.vault still moments (ap (λ (k : Kept). k.era) goes.kept) never_falls;
+          faulted = rose;
         }
 
     -- no memory was found for a draw, and the round is ended
@@ -151,10 +159,10 @@ module _ {V : Type 0} (tells : Type 0) (may_leave : V → List ℕ → Type 0) w
         → (tells → LeavesOnly moment left_since (disk_of old.vault) (disk_of mid.vault) (IsBeforeOrAfter (kept_of old.vault) (kept_to_draw (counter_of old.vault) (kept_of old.vault))))
         → ((r : Round) → mid.round ≡ Some r → new ≡ record mid { vault = new.vault; cache = cache_after r None mid.cache; round = None })
         → counter_of new.vault ≡ counter_without mid.round (counter_of mid.vault) → kept_of new.vault ≡ kept_of mid.vault → disk_of new.vault ≡ disk_of mid.vault
-        → ((n : ℕ) → IsPast may_leave n mid.vault → IsPast may_leave n new.vault) → LosesMemory (disks tells may_leave) round.key old new None
-    loses_by old mid new round is at shows still moments ends counted same_kept_of same_disk past =
+        → ((n : ℕ) → IsPast may_leave n mid.vault → IsPast may_leave n new.vault) → faults (disk_of old.vault) ≤ faults (disk_of mid.vault) → LosesMemory (disks tells may_leave faults) round.key old new None
+    loses_by old mid new round is at shows still moments ends counted same_kept_of same_disk past never_falls =
         loses_after old mid new round None round.ride is
-        (record { shows = shows; goes_on = goes_on old.vault mid.vault still moments (ap (λ (k : Kept). k.era) shows.kept) })
+        (record { shows = shows; goes_on = goes_on old.vault mid.vault still moments (ap (λ (k : Kept). k.era) shows.kept) never_falls })
         (at ∙ ap (λ (r : Option Round). record old { vault = mid.vault; round = r }) is) ends counted same_kept_of same_disk past
 
 -- ---- a promise that is used up
@@ -190,6 +198,7 @@ module _ {V : Type 0} (m : DiskMeaning V) (key : List ℕ) (old new : DeskView V
       counter = by.counter ∙ not_met old.round round (counter_of old.vault) none met;
       kept = by.kept;
       goes_on = by.goes_on;
+      faulted = by.faulted;
     },
   )
   failed_at_once (answer.NoMemory proposed) by = (
@@ -242,13 +251,13 @@ pub preparing_desk : {V : Type 0} (old mid : DeskView V) (key : List ℕ) (round
     → mid ≡ record old { vault = mid.vault; cache = without key old.cache; round = Some round }
 preparing_desk {V} old mid key round at is = at ∙ ap (λ (r : Option Round). record old { vault = mid.vault; cache = without key old.cache; round = r }) is
 
-module _ {V : Type 0} (tells : Type 0) (may_leave : V → List ℕ → Type 0) where
+module _ {V : Type 0} (tells : Type 0) (may_leave : V → List ℕ → Type 0) (faults : V → ℕ) where
   -- no memory was found for the frames of a round that prepares, and it is ended
   pub lost_at_once : (key : List ℕ) (old mid new : DeskView V) (ballot : Ballot) (round : Round) → old.round ≡ None → round.key ≡ key → round.met ≡ None → promise_at key (without key old.cache) ≡ None
-      → HasDrawn (disks tells may_leave) old.id old.vault mid.vault ballot → mid ≡ record old { vault = mid.vault; cache = without key old.cache; round = Some round }
+      → HasDrawn (disks tells may_leave faults) old.id old.vault mid.vault ballot → mid ≡ record old { vault = mid.vault; cache = without key old.cache; round = Some round }
       → ((r : Round) → mid.round ≡ Some r → new ≡ record mid { vault = new.vault; cache = cache_after r None mid.cache; round = None })
       → counter_of new.vault ≡ counter_without mid.round (counter_of mid.vault) → kept_of new.vault ≡ kept_of mid.vault → disk_of new.vault ≡ disk_of mid.vault
-      → ((n : ℕ) → IsPast may_leave n mid.vault → IsPast may_leave n new.vault) → LosesMemory (disks tells may_leave) key old new (Some ballot)
+      → ((n : ℕ) → IsPast may_leave n mid.vault → IsPast may_leave n new.vault) → LosesMemory (disks tells may_leave faults) key old new (Some ballot)
   lost_at_once key old mid new ballot round none same met one drawn at ends counted same_kept_of same_disk past =
       let is : mid.round ≡ Some round = ap (λ (d : DeskView V). d.round) at in
       let from : new ≡ record old { vault = new.vault; cache = without round.key mid.cache; round = None } =
@@ -260,31 +269,33 @@ module _ {V : Type 0} (tells : Type 0) (may_leave : V → List ℕ → Type 0) w
         drawn = drawn;
         counter = counted ∙ (ap (λ (r : Option Round). counter_without r (counter_of mid.vault)) is ∙ not_met old.round round (counter_of mid.vault) none met);
         kept = same_kept_of;
-        goes_on = goes_on_still tells may_leave mid.vault new.vault same_disk same_kept_of past;
+        goes_on = goes_on_still tells may_leave faults mid.vault new.vault same_disk same_kept_of past;
       }
 
   module _ (seen : V → List ℕ) (moment : V → ℕ) (left_since : V → ℕ → List ℕ → Type 0) (counts_now : (disk : V) (t : ℕ) (c : List ℕ) → tells → t ≤ moment disk → may_leave disk c → left_since disk t c) where
     pub drew_by : (old new : DeskView V) (ballot : Ballot) → old.id ≤ 16 → Draws old.id old.vault new.vault ballot → Stands tells seen may_leave new.vault → (tells → IsPast may_leave (counter_of new.vault) new.vault)
         → (tells → (n : ℕ) → IsPast may_leave n old.vault → IsPast may_leave n new.vault)
         → (tells → LeavesOnly moment left_since (disk_of old.vault) (disk_of new.vault) (IsBeforeOrAfter (kept_of old.vault) (kept_to_draw (counter_of old.vault) (kept_of old.vault))))
-        → HasDrawn (disks tells may_leave) old.id old.vault new.vault ballot
-    drew_by old new ballot few draws stands past still moments = record {
+        → faults (disk_of old.vault) ≤ faults (disk_of new.vault)
+        → HasDrawn (disks tells may_leave faults) old.id old.vault new.vault ballot
+    drew_by old new ballot few draws stands past still moments never_falls = record {
       draws = draws;
-      fits = rides_fits tells may_leave seen moment left_since counts_now old new ballot few draws stands;
+      fits = rides_fits tells may_leave faults seen moment left_since counts_now old new ballot few draws stands;
       past = λ t. subst (λ (n : ℕ). IsPast may_leave n new.vault) (draws.counter ∙ sym (ap (λ (b : Ballot). b.counter) draws.next)) (past t);
-      goes_on = goes_on tells may_leave seen moment left_since counts_now old.vault new.vault still moments (ap (λ (k : Kept). k.era) draws.kept ∙ draw_era (counter_of old.vault) (kept_of old.vault));
+      goes_on = goes_on tells may_leave faults seen moment left_since counts_now old.vault new.vault still moments (ap (λ (k : Kept). k.era) draws.kept ∙ draw_era (counter_of old.vault) (kept_of old.vault)) never_falls;
     }
 
     -- nothing was drawn
     pub kept_by : (old new : DeskView V) → ShowsTheSame old.vault new.vault → (tells → (n : ℕ) → IsPast may_leave n old.vault → IsPast may_leave n new.vault)
         → (tells → LeavesOnly moment left_since (disk_of old.vault) (disk_of new.vault) (IsBeforeOrAfter (kept_of old.vault) (kept_to_draw (counter_of old.vault) (kept_of old.vault))))
-        → HasKept (disks tells may_leave) old.vault new.vault
-    kept_by old new shows still moments = record {
+        → faults (disk_of old.vault) ≤ faults (disk_of new.vault)
+        → HasKept (disks tells may_leave faults) old.vault new.vault
+    kept_by old new shows still moments never_falls = record {
       shows = shows;
-      goes_on = goes_on tells may_leave seen moment left_since counts_now old.vault new.vault still moments (ap (λ (k : Kept). k.era) shows.kept);
+      goes_on = goes_on tells may_leave faults seen moment left_since counts_now old.vault new.vault still moments (ap (λ (k : Kept). k.era) shows.kept) never_falls;
     }
 
-  pub lost_idle : (key : List ℕ) (old new : DeskView V) → old.round ≡ None → HasKept (disks tells may_leave) old.vault new.vault → new ≡ record old { vault = new.vault } → LosesMemory (disks tells may_leave) key old new None
+  pub lost_idle : (key : List ℕ) (old new : DeskView V) → old.round ≡ None → HasKept (disks tells may_leave faults) old.vault new.vault → new ≡ record old { vault = new.vault } → LosesMemory (disks tells may_leave faults) key old new None
   lost_idle key old new none kept at = record {
     desk = at ∙ (λ i. record old { vault = new.vault; cache = ap (λ (d : DeskView V). d.cache) (sym at) i; round = none i });
     cache = inl (ap (λ (d : DeskView V). d.cache) at);
@@ -292,16 +303,17 @@ module _ {V : Type 0} (tells : Type 0) (may_leave : V → List ℕ → Type 0) w
     drawn = kept;
     counter = sym (ap (λ (r : Option Round). counter_without r (counter_of new.vault)) none);
     kept = refl;
-    goes_on = goes_on_same tells may_leave new.vault;
+    goes_on = goes_on_same tells may_leave faults new.vault;
   }
 
-  pub failed_idle : (key : List ℕ) (old new : DeskView V) → old.round ≡ None → HasKept (disks tells may_leave) old.vault new.vault → new ≡ record old { vault = new.vault; down = new.down } → new.down ≡ true → FailsToDraw (disks tells may_leave) key old new
-  failed_idle key old new none kept at down = record {
+  pub failed_idle : (key : List ℕ) (old new : DeskView V) → old.round ≡ None → HasKept (disks tells may_leave faults) old.vault new.vault → new ≡ record old { vault = new.vault; down = new.down } → new.down ≡ true → Rose (faults (disk_of old.vault)) (faults (disk_of new.vault)) → FailsToDraw (disks tells may_leave faults) key old new
+  failed_idle key old new none kept at down rose = record {
     desk = at ∙ (λ i. record old { vault = new.vault; cache = ap (λ (d : DeskView V). d.cache) (sym at) i; round = none i; down = down i });
     cache = inl (ap (λ (d : DeskView V). d.cache) at);
     counter = kept.shows.counter ∙ sym (ap (λ (r : Option Round). counter_without r (counter_of old.vault)) none);
     kept = kept.shows.kept;
     goes_on = kept.goes_on;
+    faulted = rose;
   }
 
 pub up_desk : {V : Type 0} (old new : DeskView V) → new ≡ record old { vault = new.vault; down = new.down } → new.down ≡ false → old.down ≡ false → new ≡ record old { vault = new.vault }

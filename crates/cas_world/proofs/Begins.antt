@@ -2,6 +2,7 @@
 use Rattle.std.proofs.Common.{◌≡◌, ◌<◌, ◌≤◌, ℕ, zero, suc, Bool, false, List, [], ◌∷◌, ◌++◌, Option, None, Some, inl, inr, take, drop, sum_by, slice_set, refl, sym, ap, subst, ◌∙◌, arith, append-nil, length}
 use Rattle.std.specs.Prelude.{◌⊎◌, ◌+◌, ◌-◌, map, option_map}
 use Rattle.std.proofs.lemmas.List.Sums.{sum_by-cons}
+use Rattle.cas_cache.specs.Entries.{promise_at}
 use Rattle.cas_acceptor.specs.Acceptor.{AcceptorView}
 use Rattle.cas_ballot.specs.declared.ballot.Ballot.{Ballot}
 use Rattle.cas_change.specs.declared.program.Clause.{Clause}
@@ -254,11 +255,11 @@ module _ {S V : Type 0} (greatest : ℕ) (era : Era) (acceptors : List (Acceptor
     pub step_fails : (desk now : DeskView V) (told : Answer) → IsAt desks id desk → desk.round ≡ None → FailsToOpen m.disks key desk now told
         → StepBegin m (view_of greatest era acceptors desks callers flow book) id key program (view_of greatest era acceptors (slice_set desks id now) (slice_set callers id (told_now entry told)) flow middle)
     step_fails desk now answer.Down at_desk idle by =
-        begun_by _ (calls.stays answer.Down tt (λ d at_d. (ap (λ (x : DeskView V). x.round) (at_one desks id at_d at_desk) ∙ idle, λ e. ap (λ (x : DeskView V). x.down) (at_one desks id at_d at_desk) ∙ by.0))
+        begun_by _ (calls.stays answer.Down tt (λ d at_d. (ap (λ (x : DeskView V). x.round) (at_one desks id at_d at_desk) ∙ idle, λ e. ap (λ (x : DeskView V). x.down) (at_one desks id at_d at_desk) ∙ by.0)) (λ e. absurd (cc e))
         (ap (λ (l : List (DeskView V)). view_of greatest era acceptors l (slice_set callers id (told_now entry answer.Down)) flow middle) (ap (λ (d : DeskView V). slice_set desks id d) by.1 ∙ set_same desks id desk at_desk)
         ∙ next_seen desks flow middle (told_now entry answer.Down) (calls.over (call_view is.call) answer.Down) (told_view answer.Down)))
     step_fails desk now answer.Spent at_desk idle by =
-        begun_by _ (calls.spent desk now at_desk idle by.0 by.1 by.2 (next_seen (slice_set desks id now) flow middle (told_now entry answer.Spent) (calls.over (call_view is.call) answer.Spent) (told_view answer.Spent)))
+        begun_by _ (calls.spent desk now at_desk idle by.0 (subst (λ (k : List ℕ). promise_at k desk.cache ≡ None) (sym is.same_key) by.1) by.2 by.3 by.4 (next_seen (slice_set desks id now) flow middle (told_now entry answer.Spent) (calls.over (call_view is.call) answer.Spent) (told_view answer.Spent)))
     step_fails desk now answer.VaultFault at_desk idle by =
         begun_by _ (calls.fails desk now at_desk idle by.0 (subst (λ (k : List ℕ). FailsToDraw m.disks k desk now) (sym is.same_key) by.1)
         (next_seen (slice_set desks id now) flow middle (told_now entry answer.VaultFault) (calls.over (call_view is.call) answer.VaultFault) (told_view answer.VaultFault)))
@@ -277,8 +278,9 @@ module _ {S V : Type 0} (greatest : ℕ) (era : Era) (acceptors : List (Acceptor
     step_fails desk now answer.RecordFull at_desk idle by = elim by [ ]
 
     -- no room was made for its marks
-    pub step_stays : (told : Answer) → calls.IsNoBeginning told → (told ≡ answer.Down → ⊥) → (desk : DeskView V) → IsAt desks id desk → desk.round ≡ None
+    pub step_stays : (told : Answer) → calls.IsNoBeginning told → (told ≡ answer.Down → ⊥)
+        → (told ≡ answer.RecordFull → calls.IsFull (view_of greatest era acceptors desks (slice_set callers id entry) flow middle) id × (suc is.call.reserved < round_marks era)) → (desk : DeskView V) → IsAt desks id desk → desk.round ≡ None
         → StepBegin m (view_of greatest era acceptors desks callers flow book) id key program (view_of greatest era acceptors desks (slice_set callers id (told_now entry told)) flow middle)
-    step_stays told none_begun up desk at_desk idle =
-        begun_by _ (calls.stays told none_begun (λ d at_d. (ap (λ (x : DeskView V). x.round) (at_one desks id at_d at_desk) ∙ idle, λ e. absurd (up e)))
+    step_stays told none_begun up full desk at_desk idle =
+        begun_by _ (calls.stays told none_begun (λ d at_d. (ap (λ (x : DeskView V). x.round) (at_one desks id at_d at_desk) ∙ idle, λ e. absurd (up e))) full
         (next_seen desks flow middle (told_now entry told) (calls.over (call_view is.call) told) (told_view told)))

@@ -96,6 +96,7 @@ module _ {V : Type 0} (m : DiskMeaning V) (round : Round) (old mid new : DeskVie
     counter = by.counter ∙ ap (λ (b : Option Ballot). counter_after (counter_of old.vault) b) (ap (λ (r : Round). r.met) turns.same) ∙ sym (ap (λ (r : Option Round). counter_without r (counter_of old.vault)) is);
     kept = by.kept;
     goes_on = by.goes_on;
+    faulted = by.faulted;
   }
   failed_once_turned (answer.NoMemory proposed) is by = (
     by.0,

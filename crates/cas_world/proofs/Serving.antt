@@ -1,6 +1,7 @@
 -- What an acceptor did that was asked.
-use Rattle.std.proofs.Common.{◌≡◌, ◌≤◌, ℕ, true, false, List, [], ◌∷◌, Option, Some, slice_set, refl, sym, ap, ◌∙◌, inl, inr}
-use Rattle.std.specs.Prelude.{Result, Ok, Err}
+use Rattle.std.proofs.Common.{inl, inr, Bool, ◌≡◌, ◌≤◌, ℕ, true, false, List, [], ◌∷◌, Option, Some, slice_set, refl, sym, ap, ◌∙◌, inl, inr}
+use Rattle.std.specs.Prelude.{◌⊎◌, IsTrue, Result, Ok, Err}
+use Rattle.cas_base.specs.Faults.{Rose}
 use Rattle.cas_acceptor.specs.declared.fault.HandleFault.{HandleFault}
 use Rattle.cas_acceptor.specs.declared.fault.HandleFault.TheVariants as faults
 use Rattle.cas_acceptor.specs.Acceptor.{AcceptorView, LeavesByTable}
@@ -56,10 +57,10 @@ not_down r is memory fell = absurd (cc (is, memory, fell))
 pub replies_by : {S : Type 0} (m : ShelfMeaning S) (all now : List (AcceptorView S)) (request : Request) (frame : Option Message) (vote : Option Mark) (old new : AcceptorView S) (reply : Reply) (key : Option (List ℕ))
     → IsAt all request.to old → old.id ≡ request.to → old.down ≡ false → new.down ≡ false → new.id ≡ old.id → new.started ≡ old.started
     → IsAnswered old.id (m.contents old.shelf) request reply (m.contents new.shelf)
-    → (m.tells → new.down ≡ false → OnlyLeaves (m.contents new.shelf) (m.may_leave new.shelf))
+    → (m.tells → new.down ≡ false → OnlyLeaves (m.contents new.shelf) (m.may_leave new.shelf)) → m.faults old.shelf ≤ m.faults new.shelf
     → frame ≡ Some (message.Reply reply) → key ≡ voted_key request.ask → vote ≡ vote_by key reply reply.tell → now ≡ slice_set all request.to new
     → RepliesBy m all request frame vote now
-replies_by {S} m all now request frame vote old new reply key stands is up still same_id same_started table lasts bears of_key votes changed = record {
+replies_by {S} m all now request frame vote old new reply key stands is up still same_id same_started table lasts never_falls bears of_key votes changed = record {
   acceptor = old;
   after = new;
   stands = stands;
@@ -69,6 +70,7 @@ replies_by {S} m all now request frame vote old new reply key stands is up still
     acceptor = same_but old new old.down same_id same_started (still ∙ sym up);
     table = table;
     lasts = λ tells. lasts tells still;
+    never_falls = never_falls;
   };
   bears = bears;
   voted = ap mark_in votes ∙ ap (λ (k : Option (List ℕ)). mark_in (vote_by k reply reply.tell)) of_key ∙ vote_marked request.ask reply.tell reply request.to (table.from ∙ is) table.tag;
@@ -80,12 +82,18 @@ pub stops_within : {S : Type 0} (m : ShelfMeaning S) (moment : S → ℕ) (left_
     → old.down ≡ false → new.down ≡ true → new.id ≡ old.id → new.started ≡ old.started
     → (m.tells → old.down ≡ false → LeavesOnly moment left_since old.shelf new.shelf (LeavesByTable (m.contents old.shelf) request))
     → ((left : Left) → m.tells → moment old.shelf ≤ moment new.shelf → m.may_leave new.shelf left → left_since new.shelf (moment old.shelf) left)
-    → StopsWithin m old new request
-stops_within {S} m moment left_since request old new up down same_id same_started leaves counts_now = record {
+    → Rose (m.faults old.shelf) (m.faults new.shelf) → StopsWithin m old new request
+stops_within {S} m moment left_since request old new up down same_id same_started leaves counts_now rose = record {
+  faulted = rose;
   up = up;
   acceptor = same_but old new true same_id same_started down;
   leaves = λ tells left may. (leaves tells up).each left (counts_now left tells (leaves tells up).later may);
 }
+
+-- one that was up goes down only as its shelf failed
+rose_where : {A : Type 0} {down : Bool} → down ≡ false → IsTrue down ⊎ A → A
+rose_where up (inl was) = absurd (cc (up, was))
+rose_where up (inr rose) = rose
 
 -- it was down, or went down
 pub finds_down : {S : Type 0} (m : ShelfMeaning S) (moment : S → ℕ) (left_since : S → ℕ → Left → Type 0) (all now : List (AcceptorView S)) (request : Request) (old new : AcceptorView S)
@@ -93,18 +101,19 @@ pub finds_down : {S : Type 0} (m : ShelfMeaning S) (moment : S → ℕ) (left_si
     → (old.down ≡ true → new ≡ old)
     → (m.tells → old.down ≡ false → LeavesOnly moment left_since old.shelf new.shelf (LeavesByTable (m.contents old.shelf) request))
     → ((left : Left) → m.tells → moment old.shelf ≤ moment new.shelf → m.may_leave new.shelf left → left_since new.shelf (moment old.shelf) left)
-    → now ≡ slice_set all request.to new → FindsDown m all request now
-finds_down {S} m moment left_since all now request old new stands down same_id same_started stays leaves counts_now changed = elim (true_or_false old.down) [
+    → (IsTrue old.down ⊎ Rose (m.faults old.shelf) (m.faults new.shelf)) → now ≡ slice_set all request.to new → FindsDown m all request now
+finds_down {S} m moment left_since all now request old new stands down same_id same_started stays leaves counts_now cause changed = elim (true_or_false old.down) [
   | inl was ↦ was_down old stands was (changed ∙ ap (λ (a : AcceptorView S). slice_set all request.to a) (stays was) ∙ set_same all request.to old stands)
-  | inr up ↦ goes_down old new stands (stops_within m moment left_since request old new up down same_id same_started leaves counts_now) changed
+  | inr up ↦ goes_down old new stands (stops_within m moment left_since request old new up down same_id same_started leaves counts_now (rose_where up cause)) changed
 ]
 
 -- it found no memory
 pub finds_no_memory : {S : Type 0} (m : ShelfMeaning S) (old new : AcceptorView S)
     → old.down ≡ false → new.down ≡ false → new.id ≡ old.id → new.started ≡ old.started → m.contents new.shelf ≡ m.contents old.shelf
     → (m.tells → new.down ≡ false → OnlyLeaves (m.contents new.shelf) (m.may_leave new.shelf))
-    → FindsNoMemory m old new
-finds_no_memory {S} m old new up still same_id same_started kept lasts = record {
+    → m.faults old.shelf ≤ m.faults new.shelf → FindsNoMemory m old new
+finds_no_memory {S} m old new up still same_id same_started kept lasts never_falls = record {
+  never_falls = never_falls;
   up = up;
   acceptor = same_but old new old.down same_id same_started (still ∙ sym up);
   kept = kept;

@@ -1,5 +1,5 @@
 -- What a world keeps true as a round begins, or does not.
-use Rattle.std.proofs.Common.{◌≡◌, ◌<◌, ◌≤◌, ℕ, Bool, true, false, List, [], ◌∷◌, ◌++◌, Option, None, Some, Result, Ok, Err, inl, inr, slice_set, refl, sym, ap, subst, ◌∙◌, arith, append-nil, append_assoc, length, length-append}
+use Rattle.std.proofs.Common.{suc, ◌≡◌, ◌<◌, ◌≤◌, ℕ, Bool, true, false, List, [], ◌∷◌, ◌++◌, Option, None, Some, Result, Ok, Err, inl, inr, slice_set, refl, sym, ap, subst, ◌∙◌, arith, append-nil, append_assoc, length, length-append}
 use Rattle.std.specs.Prelude.{◌⊎◌, ◌+◌, is_some, not, IsSome, IfSome, IfOk, IfErr, OnOk, OnErr, IsOk, map, option_map, slice_index_or}
 use Rattle.std.proofs.lemmas.List.{length-map}
 use Rattle.cas_acceptor.specs.Acceptor.{AcceptorView}
@@ -26,7 +26,7 @@ use Rattle.cas_cluster.specs.Step.{Event, Step}
 use Rattle.cas_cluster.specs.StepCalls as calls
 use Rattle.cas_cluster.specs.StepCalls.{RefusesCall, most_marks, round_marks}
 use Rattle.cas_cluster.specs.View as seen
-use Rattle.cas_cluster.specs.View.{Meaning, DiskMeaning, View, CallView, CallerView, IsAt}
+use Rattle.cas_cluster.specs.View.{Meaning, DiskMeaning, View, CallView, CallerView, IsAt, new_caller}
 use Rattle.cas_cluster.proofs.Places.{some_is, at_one, at_set}
 use Rattle.cas_record.proofs.Eras.{le_or_lt}
 use Rattle.cas_cluster.proofs.Caches.{contains_promise}
@@ -39,7 +39,7 @@ use Rattle.cas_world.specs.declared.begin.Opening.{Opening}
 use Rattle.cas_world.specs.declared.call.Caller.{Caller}
 use Rattle.cas_world.specs.declared.call.OpenCall.{OpenCall}
 use Rattle.cas_world.specs.declared.proposal.Proposing.{Proposing}
-use Rattle.cas_world.proofs.Begins.{beside_seen, may_in, opened_book, IsFirst, IsAnother, IsEntered, opens_first, opens_again, step_prepares, step_proposes, step_fails, step_stays}
+use Rattle.cas_world.proofs.Begins.{beside_seen, beside_none, may_in, opened_book, IsFirst, IsAnother, IsEntered, opens_first, opens_again, step_prepares, step_proposes, step_fails, step_stays}
 use Rattle.cas_world.proofs.Callers.{at_map, seen_open}
 use Rattle.cas_world.proofs.Parts.{at_place, set_same, remembered_then}
 use Rattle.cas_world.proofs.Stops.{HaveCopies, copies_next}
@@ -232,10 +232,22 @@ module _ {S V : Type 0} (A : Type 0) (m : Meaning S V) (greatest : ℕ) (era : E
   told_one told another desks_now flow_now after = was_told greatest era acceptors desks_now callers flow_now after id number caller (refused caller told) (over (again another.call 1) told) told at_caller (sym another.same_number)
       (ap (λ (o : Option OpenCall). option_map (λ call. over (again call 1) told) o) another.is_call) refl
 
+  -- its marks do not fit beside the others
+  entered_full : (another : IsAnother desk caller number key program) → calls.most_marks < length book.marks + reserved_beside callers id + calls.round_marks era
+      → calls.IsFull (view_of greatest era acceptors desks (slice_set callers id (entered caller None 1)) flow (opened_book book None)) id × (suc (entered_one another).call.reserved < calls.round_marks era)
+  entered_full another over_full =
+      let entry : Caller = entered caller None 1 in
+      let no_caller : seen.reserved_of (slice_set (map caller_view (slice_set callers id entry)) id new_caller) ≡ reserved_beside callers id =
+      ap (λ (l : List CallerView). seen.reserved_of (slice_set l id new_caller)) (map_set caller_view callers id entry)
+      ∙ (ap seen.reserved_of (set_set (map caller_view callers) id (caller_view entry) new_caller) ∙ beside_none callers id low) in
+      let made : length (book.marks ++ []) ≡ length book.marks = ap (λ (l : List Mark). length l) (append-nil book.marks) in
+      (omega (arith, over_full, no_caller, made), omega (arith, (entered_one another).within))
+
   -- no room was made
-  pub not_made : (told : Answer) (after : Book) → IsFirst desk caller number ⊎ IsAnother desk caller number key program → IsRefusal told → after.marks ≡ book.marks → book.room ≤ after.room
+  pub not_made : (told : Answer) (after : Book) → IsFirst desk caller number ⊎ IsAnother desk caller number key program → IsRefusal told
+      → (told ≡ answer.RecordFull → calls.most_marks < length book.marks + reserved_beside callers id + calls.round_marks era) → after.marks ≡ book.marks → book.room ≤ after.room
       → Settles {A = A} m (view_of greatest era acceptors desks callers flow book) id number key program (view_of greatest era acceptors desks (slice_set callers id (refused caller told)) flow after) (slice_set callers id (refused caller told)) after.room (Err told)
-  not_made told after (inl first) why marks grows =
+  not_made told after (inl first) why full marks grows =
       let same : view_of greatest era acceptors desks (slice_set callers id (refused caller told)) flow after ≡ old =
       ap (λ (l : List Caller). view_of greatest era acceptors desks l flow after) (callers_same told first.none_open) ∙ ap (λ (l : List Mark). record old { marks = l }) marks in
       let by : Step m old (step.RefuseBegin id key) (view_of greatest era acceptors desks (slice_set callers id (refused caller told)) flow after) = calls.stays same in
@@ -250,7 +262,7 @@ module _ {S V : Type 0} (A : Type 0) (m : Meaning S V) (greatest : ℕ) (era : E
         };
         answers = inr (by, no_call first.none_open, why);
       }
-  not_made told after (inr another) why marks grows =
+  not_made told after (inr another) why full marks grows =
       let is = entered_one another in
       let same : view_of greatest era acceptors desks (slice_set callers id (refused caller told)) flow after ≡ view_of greatest era acceptors desks (slice_set callers id (told_now (entered caller None 1) told)) flow (opened_book book None) =
       ap (λ (c : Caller). view_of greatest era acceptors desks (slice_set callers id c) flow after) (refused_open told another.call another.is_call)
@@ -258,7 +270,7 @@ module _ {S V : Type 0} (A : Type 0) (m : Meaning S V) (greatest : ℕ) (era : E
       let by : Step m old (step.Begin id key program) (view_of greatest era acceptors desks (slice_set callers id (refused caller told)) flow after) =
       subst (λ (v : View S V). Step m old (step.Begin id key program) v) (sym same)
       (step_stays greatest era acceptors desks callers flow book id number key program m (entered caller None 1) (opened_book book None) caller at_caller 1 0 is told (elim why [ inl full ↦ subst calls.IsNoBeginning (sym full) tt | inr none ↦ subst calls.IsNoBeginning (sym none) refl ])
-      (λ down. elim why [ inl full ↦ absurd (cc (full, down)) | inr none ↦ absurd (cc (none, down)) ]) desk at_desk another.idle) in
+      (λ down. elim why [ inl full ↦ absurd (cc (full, down)) | inr none ↦ absurd (cc (none, down)) ]) (λ is_full. entered_full another (full is_full)) desk at_desk another.idle) in
       record {
         event = step.Begin id key program;
         by = by;
@@ -366,7 +378,7 @@ module _ {S V : Type 0} (A : Type 0) (m : Meaning S V) (greatest : ℕ) (era : E
       -- ---- its caller is told why not
       none_left : (told : Answer) → FailsToOpen m.disks key desk now told → now.round ≡ None
       none_left answer.Down by = ap (λ (d : DeskView V). d.round) by.1 ∙ idle
-      none_left answer.Spent by = ap (λ (d : DeskView V). d.round) by.2 ∙ idle
+      none_left answer.Spent by = ap (λ (d : DeskView V). d.round) by.4 ∙ idle
       none_left answer.VaultFault by = ap (λ (d : DeskView V). d.round) by.1.desk
       none_left (answer.NoMemory proposed) by = ap (λ (d : DeskView V). d.round) by.3.desk
       none_left (answer.Done _ _ _) by = elim by [ ]

@@ -1,6 +1,7 @@
 -- What stops and restarts of one party do to the whole.
 use Rattle.std.proofs.Common.{◌≡◌, ◌<◌, ◌≤◌, ℕ, Bool, true, false, List, Option, None, Some, Result, Ok, Err, slice_set, refl, sym, ap, subst, ◌∙◌, inl, inr, arith}
 use Rattle.std.specs.Prelude.{⊤, map, option_map, is_some, IfSome, OnOk, OnErr, IsTrue}
+use Rattle.cas_world.proofs.Beginning.{no_more}
 use Rattle.cas_base.proofs.Bools.{true_or_false}
 use Rattle.cas_acceptor.specs.Acceptor.{AcceptorView}
 use Rattle.cas_slot.specs.Contents.{nothing}
@@ -38,8 +39,9 @@ pub restarted : {S V : Type 0} (m : Meaning S V) (old : View S V) (id : ℕ) (ac
     → (IsTrue acceptor.down → acceptor.started ≡ false → OnOk r (m.shelves.contents now.shelf ≡ nothing))
     → (m.shelves.tells → IsTrue acceptor.down → IsTrue acceptor.started → OnOk r (m.shelves.may_leave acceptor.shelf (Ok (m.shelves.contents now.shelf))))
     → (m.shelves.tells → IsTrue acceptor.started → (left : Left) → m.shelves.may_leave now.shelf left → m.shelves.may_leave acceptor.shelf left)
+    → m.shelves.faults acceptor.shelf ≤ m.shelves.faults now.shelf
     → StepRestartAcceptor m old id (with_acceptor old id now)
-restarted {S} {V} m old id acceptor now r at same up still_down unchanged started not_started lasts afresh reopened leaves = elim (true_or_false acceptor.down) [
+restarted {S} {V} m old id acceptor now r at same up still_down unchanged started not_started lasts afresh reopened leaves never_falls = elim (true_or_false acceptor.down) [
   | inl down ↦ by_result down r up still_down started not_started (afresh down) (λ tells. reopened tells down)
   | inr is_up ↦ step.was_up acceptor at is_up (ap (λ (l : List (AcceptorView S)). record old { acceptors = l }) (ap (λ (a : AcceptorView S). slice_set old.acceptors id a) (unchanged is_up) ∙ set_same old.acceptors id acceptor at))
 ]
@@ -55,27 +57,29 @@ restarted {S} {V} m old id acceptor now r at same up still_down unchanged starte
       afresh = afresh;
       reopened = reopened;
       lasts = λ tells. lasts tells is_up;
+      never_falls = never_falls;
     }) refl
     by_result down (Err fault) is_up still started same_started afresh reopened = step.fails acceptor now at (record {
       was_down = down;
       acceptor = same_but acceptor now true same same_started still ∙ ap (λ (d : Bool). record acceptor { down = d; shelf = now.shelf }) (sym down);
       leaves = leaves;
+      never_falls = never_falls;
     }) refl
 
 -- what its answer tells of the acceptor, at its place before and after
-pub acceptor_tells : {S : Type 0} (m : ShelfMeaning S) (faults : S → ℕ) (acceptors : List (AcceptorView S)) (index id : ℕ) (acceptor started was now : AcceptorView S) (r : Result ⊤ ShelfFault)
-    → index ≡ id → IsAt acceptors id acceptor → IsAt acceptors id was → IsAt (slice_set acceptors index started) id now → TellsOfAcceptor m faults acceptor started r → TellsOfAcceptor m faults was now r
-acceptor_tells {S} m faults acceptors index id acceptor started was now r same at at_was at_now tells =
+pub acceptor_tells : {S : Type 0} (m : ShelfMeaning S) (acceptors : List (AcceptorView S)) (index id : ℕ) (acceptor started was now : AcceptorView S) (r : Result ⊤ ShelfFault)
+    → index ≡ id → IsAt acceptors id acceptor → IsAt acceptors id was → IsAt (slice_set acceptors index started) id now → TellsOfAcceptor m acceptor started r → TellsOfAcceptor m was now r
+acceptor_tells {S} m acceptors index id acceptor started was now r same at at_was at_now tells =
     let there : IsAt (slice_set acceptors id started) id now = subst (λ (i : ℕ). IsAt (slice_set acceptors i started) id now) same at_now in
-    subst (λ (a : AcceptorView S). TellsOfAcceptor m faults a now r) (at_one acceptors id at at_was)
-    (subst (λ (a : AcceptorView S). TellsOfAcceptor m faults acceptor a r) (at_one (slice_set acceptors id started) id (at_set acceptors id acceptor started at) there) tells)
+    subst (λ (a : AcceptorView S). TellsOfAcceptor m a now r) (at_one acceptors id at at_was)
+    (subst (λ (a : AcceptorView S). TellsOfAcceptor m acceptor a r) (at_one (slice_set acceptors id started) id (at_set acceptors id acceptor started at) there) tells)
 
-pub desk_tells : {V : Type 0} (m : DiskMeaning V) (faults : V → ℕ) (desks : List (DeskView V)) (index id : ℕ) (desk started was now : DeskView V) (r : Result ⊤ VaultError)
-    → index ≡ id → IsAt desks id desk → IsAt desks id was → IsAt (slice_set desks index started) id now → TellsOfDesk m faults desk started r → TellsOfDesk m faults was now r
-desk_tells {V} m faults desks index id desk started was now r same at at_was at_now tells =
+pub desk_tells : {V : Type 0} (m : DiskMeaning V) (desks : List (DeskView V)) (index id : ℕ) (desk started was now : DeskView V) (r : Result ⊤ VaultError)
+    → index ≡ id → IsAt desks id desk → IsAt desks id was → IsAt (slice_set desks index started) id now → TellsOfDesk m desk started r → TellsOfDesk m was now r
+desk_tells {V} m desks index id desk started was now r same at at_was at_now tells =
     let there : IsAt (slice_set desks id started) id now = subst (λ (i : ℕ). IsAt (slice_set desks i started) id now) same at_now in
-    subst (λ (d : DeskView V). TellsOfDesk m faults d now r) (at_one desks id at at_was)
-    (subst (λ (d : DeskView V). TellsOfDesk m faults desk d r) (at_one (slice_set desks id started) id (at_set desks id desk started at) there) tells)
+    subst (λ (d : DeskView V). TellsOfDesk m d now r) (at_one desks id at at_was)
+    (subst (λ (d : DeskView V). TellsOfDesk m desk d r) (at_one (slice_set desks id started) id (at_set desks id desk started at) there) tells)
 
 -- whether a desk is up after its restart, by the answer
 pub desk_is_up : {V : Type 0} (desk now : DeskView V) (r : Result ⊤ VaultError) → OnOk r (now ≡ record desk { vault = now.vault; down = false }) → (desk.down ≡ false → (r ≡ Ok tt) × (now ≡ desk)) → OnOk r (now.down ≡ false)
@@ -92,9 +96,10 @@ desk_stays_down {V} desk now (Err e) err up = elim (true_or_false desk.down) [
 -- ---- vaults
 -- a crash leaves a vault in the same era, past all that it was past
 pub crash_goes_on : {V : Type 0} (m : DiskMeaning V) (old new : Vault V) (seen : List ℕ) → kept_of new ≡ kept_of old → (m.tells → m.may_leave (disk_of old) seen) → (m.tells → Only seen (m.may_leave (disk_of new)))
-    → (m.tells → (n : ℕ) → IsPast m.may_leave n old → IsPast m.may_leave n new) → GoesOn m old new
-crash_goes_on m old new seen kept image settled past = record {
+    → (m.tells → (n : ℕ) → IsPast m.may_leave n old → IsPast m.may_leave n new) → m.faults (disk_of old) ≤ m.faults (disk_of new) → GoesOn m old new
+crash_goes_on m old new seen kept image settled past never_falls = record {
   still_past = past;
+  never_falls = never_falls;
   era = λ tells era is. record {
     kept = ap (λ (k : Kept). k.era) kept ∙ is.kept;
     left = λ c k may on. is.left seen k (image tells) (subst (KeptOn k) (settled tells c may) on);
@@ -105,6 +110,7 @@ crash_goes_on m old new seen kept image settled past = record {
 pub end_goes_on : {V : Type 0} (m : DiskMeaning V) (old new : Vault V) → kept_of new ≡ kept_of old → disk_of new ≡ disk_of old → ((n : ℕ) → IsPast m.may_leave n old → IsPast m.may_leave n new) → GoesOn m old new
 end_goes_on {V} m old new kept disk past = record {
   still_past = λ tells n is. past n is;
+  never_falls = no_more (m.faults (disk_of old)) (m.faults (disk_of new)) (ap m.faults disk);
   era = λ tells era is. record { kept = ap (λ (k : Kept). k.era) kept ∙ is.kept; left = λ c k may on. is.left c k (subst (λ (d : V). m.may_leave d c) disk may) on };
 }
 
@@ -114,13 +120,15 @@ kept_same old new (Err e) same = same.kept
 
 -- and so does a restart, whether it succeeds or not
 pub restart_goes_on : {V : Type 0} (m : DiskMeaning V) (old new : Vault V) (r : Result ⊤ VaultError) (seen : List ℕ) → (m.tells → m.may_leave (disk_of old) seen) → (m.tells → OnOk r (KeptOn (kept_of new) seen)) → OnErr r (kept_of new ≡ kept_of old)
-    → (m.tells → (c : List ℕ) → m.may_leave (disk_of new) c → m.may_leave (disk_of old) c) → (m.tells → (n : ℕ) → IsPast m.may_leave n old → IsPast m.may_leave n new) → GoesOn m old new
-restart_goes_on m old new (Ok x) seen image reopened same leaves past = record {
+    → (m.tells → (c : List ℕ) → m.may_leave (disk_of new) c → m.may_leave (disk_of old) c) → (m.tells → (n : ℕ) → IsPast m.may_leave n old → IsPast m.may_leave n new) → m.faults (disk_of old) ≤ m.faults (disk_of new) → GoesOn m old new
+restart_goes_on m old new (Ok x) seen image reopened same leaves past never_falls = record {
   still_past = past;
+  never_falls = never_falls;
   era = λ tells era is. record { kept = is.left seen (kept_of new) (image tells) (reopened tells); left = λ c k may on. is.left c k (leaves tells c may) on };
 }
-restart_goes_on m old new (Err e) seen image reopened same leaves past = record {
+restart_goes_on m old new (Err e) seen image reopened same leaves past never_falls = record {
   still_past = past;
+  never_falls = never_falls;
   era = λ tells era is. record { kept = ap (λ (k : Kept). k.era) same ∙ is.kept; left = λ c k may on. is.left c k (leaves tells c may) on };
 }
 

@@ -1,5 +1,5 @@
 -- A call, or another round of it, begins.
-use Rattle.std.specs.Prelude.{◌≡◌, ◌⊎◌, ℕ, ◌+◌, ◌-◌, Bool, true, false, List, [], ◌∷◌, ◌++◌, take, drop, sum_by, Option, Some, None, IsSome, option_map, Result, Ok, Err}
+use Rattle.std.specs.Prelude.{◌≡◌, ◌⊎◌, ℕ, ◌+◌, ◌-◌, ◌^◌, Bool, true, false, List, [], ◌∷◌, ◌++◌, take, drop, sum_by, Option, Some, None, IsSome, option_map, Result, Ok, Err}
 use Rattle.cas_ballot.specs.declared.ballot.Ballot.{Ballot}
 use Rattle.cas_cache.specs.declared.ready.Ready.{Ready}
 use Rattle.cas_change.specs.declared.program.Clause.{Clause}
@@ -8,7 +8,8 @@ use Rattle.cas_flow.specs.Flow.{FlowView}
 use Rattle.cas_proposer.specs.Desk.{DeskView}
 use Rattle.cas_proposer.specs.declared.round.Round.{Round}
 use Rattle.cas_quorum.specs.declared.era.Era.{Era}
-use Rattle.cas_vault.specs.Vault.{kept_of}
+use Rattle.cas_cache.specs.Entries.{promise_at}
+use Rattle.cas_vault.specs.Vault.{counter_of, kept_of}
 use Rattle.cas_record.specs.declared.answer.Answer.{Answer}
 use Rattle.cas_record.specs.declared.answer.Answer.TheVariants as answer
 use Rattle.cas_cluster.specs.StepCalls.{Sends, prepares_to, accepts_to, WasMet}
@@ -59,7 +60,7 @@ OpensRound m era key program author old new before after (Some proposing) = Prop
 -- why no round begins, and what becomes of the desk
 abbrev pub FailsToOpen : {V : Type 0} → DiskMeaning V → List ℕ → DeskView V → DeskView V → Answer → Type 0
 FailsToOpen m key old new answer.Down = (old.down ≡ true) × (new ≡ old)
-FailsToOpen m key old new answer.Spent = (old.down ≡ false) × HasKept m old.vault new.vault × (new ≡ record old { vault = new.vault })
+FailsToOpen m key old new answer.Spent = (old.down ≡ false) × (promise_at key old.cache ≡ None) × (counter_of old.vault ≡ 2 ^ 48) × HasKept m old.vault new.vault × (new ≡ record old { vault = new.vault })
 FailsToOpen m key old new answer.VaultFault = (old.down ≡ false) × FailsToDraw m key old new
 FailsToOpen m key old new (answer.NoMemory proposed) = (proposed ≡ false) × (old.down ≡ false) × (ballot : Option Ballot) × LosesMemory m key old new ballot
 FailsToOpen m key old new other = ⊥

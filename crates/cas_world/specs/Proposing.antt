@@ -34,8 +34,8 @@ proposing_of author key era program ready = record {
 }
 
 -- what the disks of vaults of a kind mean
-abbrev pub disks : {V : Type 0} → Type 0 → (V → List ℕ → Type 0) → DiskMeaning V
-disks tells may_leave = record { tells = tells; may_leave = may_leave }
+abbrev pub disks : {V : Type 0} → Type 0 → (V → List ℕ → Type 0) → (V → ℕ) → DiskMeaning V
+disks tells may_leave faults = record { tells = tells; may_leave = may_leave; faults = faults }
 
 -- the ballot that rides with the accepts of the open round is drawn, or there is none
 pub record RidesOn {V : Type 0} (m : DiskMeaning V) (round : Round) (old new : DeskView V) (ride : Option Ballot) : Type 0 where

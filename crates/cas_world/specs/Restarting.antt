@@ -13,17 +13,17 @@ use Rattle.cas_cluster.specs.View.{ShelfMeaning, DiskMeaning}
 
 -- the acceptor is up then, or stays down: where its shelf's count of faults rose, where a crash left a shelf that is foreign at that byte,
 -- or for want of memory
-pub record TellsOfAcceptor {S : Type 0} (m : ShelfMeaning S) (faults : S → ℕ) (was now : AcceptorView S) (result : Result ⊤ ShelfFault) : Type 0 where
+pub record TellsOfAcceptor {S : Type 0} (m : ShelfMeaning S) (was now : AcceptorView S) (result : Result ⊤ ShelfFault) : Type 0 where
   pub up : OnOk result (now.down ≡ false)
   pub down : OnErr result (now.down ≡ true)
-  pub cause : HasShelfCause result (faults was.shelf) (faults now.shelf)
+  pub cause : HasShelfCause result (m.faults was.shelf) (m.faults now.shelf)
   pub foreign : m.tells → (at : ℕ) → IsErrOf result (shelf_fault.Foreign at) → m.may_leave was.shelf (Err at)
   pub not_full : IsErrOf result shelf_fault.Full → ⊥
 
 -- the same of the desk of a proposer and its vault
-pub record TellsOfDesk {V : Type 0} (m : DiskMeaning V) (faults : V → ℕ) (was now : DeskView V) (result : Result ⊤ VaultError) : Type 0 where
+pub record TellsOfDesk {V : Type 0} (m : DiskMeaning V) (was now : DeskView V) (result : Result ⊤ VaultError) : Type 0 where
   pub up : OnOk result (now.down ≡ false)
   pub down : OnErr result (now.down ≡ true)
-  pub cause : HasVaultCause result (faults (disk_of was.vault)) (faults (disk_of now.vault))
+  pub cause : HasVaultCause result (m.faults (disk_of was.vault)) (m.faults (disk_of now.vault))
   pub foreign : m.tells → (at : ℕ) → IsErrOf result (vault_error.Foreign at) → (c : List ℕ) × m.may_leave (disk_of was.vault) c × IsForeignAt c at
   pub not_spent : IsErrOf result vault_error.Spent → ⊥

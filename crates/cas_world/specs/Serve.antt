@@ -35,8 +35,8 @@ mark_in None = []
 mark_in (Some mark) = mark ∷ []
 
 -- ---- what shelves of this kind mean
-abbrev pub shelves : {S : Type 0} → (S → Contents) → Type 0 → (S → Left → Type 0) → ShelfMeaning S
-shelves contents tells may_leave = record { contents = contents; tells = tells; may_leave = may_leave }
+abbrev pub shelves : {S : Type 0} → (S → Contents) → Type 0 → (S → Left → Type 0) → (S → ℕ) → ShelfMeaning S
+shelves contents tells may_leave faults = record { contents = contents; tells = tells; may_leave = may_leave; faults = faults }
 
 -- ---- what the acceptor does
 -- it answers by its table, the frame bears its reply, and its vote is the one to be marked

@@ -39,7 +39,7 @@ impl<S: Shelf, V: Disk> World<S, V> {
 /// Closes the round of the desk, if one is open.
 fn close<V: Disk>(desk: &mut Desk<V>)
     ensures idle { desk.old.round ≡ None → desk.new ≡ desk.old }
-    ensures ends { (round : Round) → desk.old.round ≡ Some round → EndsRound (record { tells = V.tells; may_leave = V.may_leave }) desk.old desk.new round None }
+    ensures ends { (round : Round) → desk.old.round ≡ Some round → EndsRound (record { tells = V.tells; may_leave = V.may_leave; faults = V.fault_count }) desk.old desk.new round None }
 {
     if desk.round().is_some() {
         desk.end(None);

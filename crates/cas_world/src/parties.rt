@@ -42,7 +42,7 @@ impl<S: Shelf, V: Disk> World<S, V> {
     /// bytes that are no shelf from that place on, and [`ShelfFault::Full`] never.
     pub fn restart_acceptor(&mut self, id: AcceptorId) -> Result<(), ShelfFault>
         ensures step { Step (meaning S.contents S.tells S.may_leave S.fault_count V.tells V.may_leave V.fault_count) self.old (RestartAcceptor id) self.new }
-        ensures tells { (was now : AcceptorView S) → IsAt self.old.acceptors id was → IsAt self.new.acceptors id now → TellsOfAcceptor (shelves S.contents S.tells S.may_leave S.fault_count) S.fault_count was now result }
+        ensures tells { (was now : AcceptorView S) → IsAt self.old.acceptors id was → IsAt self.new.acceptors id now → TellsOfAcceptor (shelves S.contents S.tells S.may_leave S.fault_count) was now result }
     {
         self.acceptors[usize::from(id.number())].restart()
     }
@@ -70,7 +70,7 @@ impl<S: Shelf, V: Disk> World<S, V> {
     pub fn restart_proposer(&mut self, proposer: u8) -> Result<(), VaultError>
         requires { proposer ≤ self.old.greatest }
         ensures step { Step (meaning S.contents S.tells S.may_leave S.fault_count V.tells V.may_leave V.fault_count) self.old (RestartProposer proposer) self.new }
-        ensures tells { (was now : DeskView V) → IsAt self.old.desks proposer was → IsAt self.new.desks proposer now → TellsOfDesk (disks V.tells V.may_leave V.fault_count) V.fault_count was now result }
+        ensures tells { (was now : DeskView V) → IsAt self.old.desks proposer was → IsAt self.new.desks proposer now → TellsOfDesk (disks V.tells V.may_leave V.fault_count) was now result }
     {
         self.desks[usize::from(proposer)].restart()
     }

@@ -197,7 +197,7 @@ fn accepted_or_empty(read: Option<Accepted>) -> (Ballot, State)
 fn acknowledge<V: Disk>(desk: &mut Desk<V>, caller: &mut Caller, record: &mut Record) -> Answer
     requires { MayCount desk.old caller.old «record».old.room }
     ensures { (round : Round) → desk.old.round ≡ Some round → (call : OpenCall) → caller.old.call ≡ Some call → (outcome : Outcome) → call.proposed ≡ Some outcome
-        → Counts (record { tells = V.tells; may_leave = V.may_leave }) desk.old desk.new round caller.old caller.new call outcome «record».old «record».new result }
+        → Counts (record { tells = V.tells; may_leave = V.may_leave; faults = V.fault_count }) desk.old desk.new round caller.old caller.new call outcome «record».old «record».new result }
 {
     let by = desk.confirmers();
     let (ballot, era, ride) = match desk.round() {

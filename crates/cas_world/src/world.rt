@@ -92,8 +92,8 @@ impl<S: Shelf, V: Disk> World<S, V> {
         ensures opening { IfOk result (IsOpening (meaning S.contents S.tells S.may_leave S.fault_count V.tells V.may_leave V.fault_count) (members_to config.acceptors)) }
         ensures places { IfOk result HasPlaces }
         ensures greatest { IfOk result (λ world. world.greatest ≡ config.proposers) }
-        ensures shelves { IfOk result (λ world. AreStartedBelow (shelves_like S.contents S.tells S.may_leave) S.fault_count (unstarted 0 shelves.items) (config.acceptors + 1) world.acceptors) }
-        ensures vaults { IfOk result (λ world. AreDesksBelow (disks_like V.tells V.may_leave) V.fault_count vaults.items (config.proposers + 1) world.desks) }
+        ensures shelves { IfOk result (λ world. AreStartedBelow (shelves_like S.contents S.tells S.may_leave S.fault_count) S.fault_count (unstarted 0 shelves.items) (config.acceptors + 1) world.acceptors) }
+        ensures vaults { IfOk result (λ world. AreDesksBelow (disks_like V.tells V.may_leave V.fault_count) V.fault_count vaults.items (config.proposers + 1) world.desks) }
         ensures fault { IfErr result (λ back. DoesNotOpen (meaning S.contents S.tells S.may_leave S.fault_count V.tells V.may_leave V.fault_count) S.fault_count V.fault_count config.acceptors config.proposers shelves.items vaults.items back.0 back.1.items back.2.items) }
         ensures back { IfErr result (λ back. (vec_len back.1 ≡ 64) × (vec_len back.2 ≡ 17)) }
     {

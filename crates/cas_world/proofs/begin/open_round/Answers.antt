@@ -20,12 +20,12 @@ returns-in-Ok-Prepare-clause-refused g c =
     let opened = some_and c.begin.new.self.round (IsOpened c.args.key.now c.args.era.now (began.Prepare c.in-Ok-Prepare.ballot)) (subst (λ (b : Began). IsSomeAnd c.begin.new.self.round (IsOpened c.args.key.now c.args.era.now b)) is told.opened) in
     let at = preparing_desk c.args.desk.now c.begin.new.self c.args.key.now opened.0 told.desk opened.1 in
     let drawn : HasDrawn (disks g.V.Disk.tells g.V.Disk.may_leave g.V.Disk.fault_count) c.args.desk.now.id c.args.desk.now.vault c.begin.new.self.vault c.in-Ok-Prepare.ballot =
-    drew_by g.V.Disk.tells g.V.Disk.may_leave g.V.Disk.seen g.V.Disk.moment g.V.Disk.left_since g.met.V.Disk.counts_now c.args.desk.now c.begin.new.self c.in-Ok-Prepare.ballot c.requires.proposer draws
-    (told.stands (up_from c.args.key.now c.args.desk.now c.begin.new.self told.desk up)) (λ t. told.past t (ap promise_used is)) told.still_past told.any_moment in (
+    drew_by g.V.Disk.tells g.V.Disk.may_leave g.V.Disk.fault_count g.V.Disk.seen g.V.Disk.moment g.V.Disk.left_since g.met.V.Disk.counts_now c.args.desk.now c.begin.new.self c.in-Ok-Prepare.ballot c.requires.proposer draws
+    (told.stands (up_from c.args.key.now c.args.desk.now c.begin.new.self told.desk up)) (λ t. told.past t (ap promise_used is)) told.still_past told.any_moment told.cause.never_falls in (
       refl,
       up,
       Some c.in-Ok-Prepare.ballot,
-      lost_at_once g.V.Disk.tells g.V.Disk.may_leave c.args.key.now c.args.desk.now c.begin.new.self c.end.new.self c.in-Ok-Prepare.ballot opened.0 c.requires.idle opened.2.0.of_key opened.2.0.met (gone_from c.args.key.now c.args.desk.now c.begin.new.self told.desk told.gone) drawn at
+      lost_at_once g.V.Disk.tells g.V.Disk.may_leave g.V.Disk.fault_count c.args.key.now c.args.desk.now c.begin.new.self c.end.new.self c.in-Ok-Prepare.ballot opened.0 c.requires.idle opened.2.0.of_key opened.2.0.met (gone_from c.args.key.now c.args.desk.now c.begin.new.self told.desk told.gone) drawn at
           c.end.ensures.desk c.end.ensures.counter c.end.ensures.kept c.end.ensures.disk c.end.ensures.still_past,
     )
 
@@ -55,9 +55,9 @@ pub returns-in-Err-VaultFault-clause-refused : goal.returns-in-Err-VaultFault-cl
 returns-in-Err-VaultFault-clause-refused g c =
     let told = c.in-Err-VaultFault.ensures in (
       sym c.is_down.ensures ∙ c.if-is_down.false,
-      failed_idle g.V.Disk.tells g.V.Disk.may_leave c.args.key.now c.args.desk.now c.begin.new.self c.requires.idle
-          (kept_by g.V.Disk.tells g.V.Disk.may_leave g.V.Disk.seen g.V.Disk.moment g.V.Disk.left_since g.met.V.Disk.counts_now c.args.desk.now c.begin.new.self told.same_vault told.still_past told.any_moment)
-          told.refused (told.down.0 (ap (λ e. Err e) c.in-Err-VaultFault.field-0-is)),
+      failed_idle g.V.Disk.tells g.V.Disk.may_leave g.V.Disk.fault_count c.args.key.now c.args.desk.now c.begin.new.self c.requires.idle
+          (kept_by g.V.Disk.tells g.V.Disk.may_leave g.V.Disk.fault_count g.V.Disk.seen g.V.Disk.moment g.V.Disk.left_since g.met.V.Disk.counts_now c.args.desk.now c.begin.new.self told.same_vault told.still_past told.any_moment told.cause.never_falls)
+          told.refused (told.down.0 (ap (λ e. Err e) c.in-Err-VaultFault.field-0-is)) (told.cause.failed (ap (λ e. Err e) c.in-Err-VaultFault.field-0-is)),
     )
 
 pub returns-in-Err-Spent-clause-refused : goal.returns-in-Err-Spent-clause-refused
@@ -65,7 +65,9 @@ returns-in-Err-Spent-clause-refused g c =
     let up : c.args.desk.now.down ≡ false = sym c.is_down.ensures ∙ c.if-is_down.false in
     let told = c.in-Err-Spent.ensures in (
       up,
-      kept_by g.V.Disk.tells g.V.Disk.may_leave g.V.Disk.seen g.V.Disk.moment g.V.Disk.left_since g.met.V.Disk.counts_now c.args.desk.now c.begin.new.self told.same_vault told.still_past told.any_moment,
+      (told.spent (ap (λ e. Err e) c.in-Err-Spent.field-0-is)).0,
+      (told.spent (ap (λ e. Err e) c.in-Err-Spent.field-0-is)).1,
+      kept_by g.V.Disk.tells g.V.Disk.may_leave g.V.Disk.fault_count g.V.Disk.seen g.V.Disk.moment g.V.Disk.left_since g.met.V.Disk.counts_now c.args.desk.now c.begin.new.self told.same_vault told.still_past told.any_moment told.cause.never_falls,
       up_desk c.args.desk.now c.begin.new.self told.refused (false_of_not c.begin.new.self.down (λ down. absurd (cc (told.down.1 down, c.in-Err-Spent.field-0-is)))) up,
     )
 
@@ -76,7 +78,7 @@ returns-in-Err-NoMemory-clause-refused g c =
       refl,
       up,
       None,
-      lost_idle g.V.Disk.tells g.V.Disk.may_leave c.args.key.now c.args.desk.now c.begin.new.self c.requires.idle
-          (kept_by g.V.Disk.tells g.V.Disk.may_leave g.V.Disk.seen g.V.Disk.moment g.V.Disk.left_since g.met.V.Disk.counts_now c.args.desk.now c.begin.new.self told.same_vault told.still_past told.any_moment)
+      lost_idle g.V.Disk.tells g.V.Disk.may_leave g.V.Disk.fault_count c.args.key.now c.args.desk.now c.begin.new.self c.requires.idle
+          (kept_by g.V.Disk.tells g.V.Disk.may_leave g.V.Disk.fault_count g.V.Disk.seen g.V.Disk.moment g.V.Disk.left_since g.met.V.Disk.counts_now c.args.desk.now c.begin.new.self told.same_vault told.still_past told.any_moment told.cause.never_falls)
           (up_desk c.args.desk.now c.begin.new.self told.refused (false_of_not c.begin.new.self.down (λ down. absurd (cc (told.down.1 down, c.in-Err-NoMemory.field-0-is)))) up),
     )

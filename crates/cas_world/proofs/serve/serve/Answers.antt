@@ -16,7 +16,7 @@ returns-in-Ok-clause-ok g c =
     let still : c.handle.new.self.down ≡ false = false_of_not _ (λ fell. no_failure _ refl (c.in-Ok.ensures.down.1 fell)) in
     replies_by (shelves g.S.Shelf.contents g.S.Shelf.tells g.S.Shelf.may_leave g.S.Shelf.fault_count) c.args.acceptors.now.items _ c.args.request.now c.fill.new.self c.vote_of-vote.result
     c.index_mut.result.now c.handle.new.self c.in-Ok.reply c.in_ok-key.key stands (c.requires.numbered.each _ _ stands) up still c.in-Ok.ensures.same.0 c.in-Ok.ensures.same.1
-    c.in-Ok.ensures.table c.in-Ok.ensures.kept c.fill.ensures c.in_ok-key.ensures c.vote_of-vote.ensures changed
+    c.in-Ok.ensures.table c.in-Ok.ensures.kept c.in-Ok.ensures.never_falls c.fill.ensures c.in_ok-key.ensures c.vote_of-vote.ensures changed
 
 -- src/serve.rt:34:1
 pub returns-in-Err-Down-clause-ok : goal.returns-in-Err-Down-clause-ok
@@ -26,7 +26,7 @@ returns-in-Err-Down-clause-ok g c =
     let changed = ap (λ (i : ℕ). slice_set c.args.acceptors.now.items i c.handle.new.self) same in
     finds_down (shelves g.S.Shelf.contents g.S.Shelf.tells g.S.Shelf.may_leave g.S.Shelf.fault_count) g.S.Shelf.moment g.S.Shelf.left_since c.args.acceptors.now.items _ c.args.request.now
     c.index_mut.result.now c.handle.new.self stands (c.in-Err-Down.ensures.down.0 (ap (λ (f : HandleFault). Err f) c.in-Err-Down.field-0-is)) c.in-Err-Down.ensures.same.0 c.in-Err-Down.ensures.same.1
-    (λ was. (c.in-Err-Down.ensures.was_down was).1) c.in-Err-Down.ensures.any_moment (λ left tells later may. g.met.S.Shelf.counts_now _ _ left tells later may) changed
+    (λ was. (c.in-Err-Down.ensures.was_down was).1) c.in-Err-Down.ensures.any_moment (λ left tells later may. g.met.S.Shelf.counts_now _ _ left tells later may) (c.in-Err-Down.ensures.cause (ap (λ (f : HandleFault). Err f) c.in-Err-Down.field-0-is)) changed
 
 -- src/serve.rt:25:1
 pub returns-clause-err : goal.returns-clause-err
@@ -38,5 +38,5 @@ returns-clause-err g c =
     let still : c.handle.new.self.down ≡ false = false_of_not _ (λ fell. not_down _ refl c.in-Err-NoMemory.field-0-is (c.in-Err-NoMemory.ensures.down.1 fell)) in
     was_kept c.args.request.now.to c.index_mut.result.now c.handle.new.self stands
     (finds_no_memory (shelves g.S.Shelf.contents g.S.Shelf.tells g.S.Shelf.may_leave g.S.Shelf.fault_count) c.index_mut.result.now c.handle.new.self up still c.in-Err-NoMemory.ensures.same.0 c.in-Err-NoMemory.ensures.same.1
-    c.in-Err-NoMemory.ensures.err c.in-Err-NoMemory.ensures.kept)
+    c.in-Err-NoMemory.ensures.err c.in-Err-NoMemory.ensures.kept c.in-Err-NoMemory.ensures.never_falls)
     changed

@@ -1,4 +1,4 @@
-use Rattle.std.proofs.Common.{◌≡◌, ℕ, ◌+◌, ◌++◌, List, Option, Err, inl, inr, length, sum_by, slice_set, refl, sym, ap, subst, ◌∙◌, arith}
+use Rattle.std.proofs.Common.{◌<◌, ◌≡◌, ℕ, ◌+◌, ◌++◌, List, Option, Err, inl, inr, length, sum_by, slice_set, refl, sym, ap, subst, ◌∙◌, arith}
 use Rattle.std.specs.Prelude.{⊤, IsSome}
 use Rattle.cas_record.specs.declared.answer.Answer.{Answer}
 use Rattle.cas_record.specs.declared.mark.Mark.{Mark}
@@ -22,13 +22,18 @@ make_room-requires-clause-few g c =
     omega (arith, all, sum_seen c.self.inside.callers.items, c.self.invariant.safe.room)
 
 -- ---- no room was made
+over_full : (g : Over) (c : goal.After-self-1 g) → c.in-Err.refusal ≡ answer.RecordFull → 1000000 < length c.self.inside.record.marks + reserved_beside c.self.inside.callers.items c.args.caller + round_marks c.self.inside.era
+over_full g c is_full =
+    let beside : reserved_beside c.deref.result.now c.args.caller ≡ reserved_beside c.self.inside.callers.items c.args.caller = ap (λ (l : List Caller). reserved_beside l c.args.caller) c.deref.ensures.value in
+    omega (arith, c.in-Err.ensures.full.0 (ap (λ (a : Answer). Err a) is_full), beside, c.round_marks-marks.ensures.value)
+
 not_begun : (g : Over) (c : goal.After-self-1 g) → Settles {A = ⊤} (meaning g.S.Shelf.contents g.S.Shelf.tells g.S.Shelf.may_leave g.S.Shelf.fault_count g.V.Disk.tells g.V.Disk.may_leave g.V.Disk.fault_count) (view_of c.self.inside.config.proposers c.self.inside.era c.self.inside.acceptors.items c.self.inside.desks.items c.self.inside.callers.items c.self.inside.flow c.self.inside.record) c.args.caller c.args.call c.args.key.now c.args.program.now (view_of c.self.inside.config.proposers c.self.inside.era c.self.inside.acceptors.items c.self.inside.desks.items (slice_set c.self.inside.callers.items c.from-place.result c.refuse.new.caller) c.self.inside.flow c.make_room.new.record) (slice_set c.self.inside.callers.items c.from-place.result c.refuse.new.caller) c.make_room.new.record.room (Err c.refuse.result)
 not_begun g c =
     let at = found_caller c.self.inside.config.proposers c.self.inside.era c.self.inside.acceptors.items c.self.inside.desks.items c.self.inside.callers.items c.self.inside.flow c.self.inside.record c.args.self.now c.from-place.result c.args.caller c.args.call c.args.key.now c.args.program.now c.from-place.ensures c.self.view_is c.requires.known c.self.invariant.safe c.requires.may c.index_mut.result.now c.index_mut.ensures.value in
     subst (λ (i : ℕ). Settles {A = ⊤} (meaning g.S.Shelf.contents g.S.Shelf.tells g.S.Shelf.may_leave g.S.Shelf.fault_count g.V.Disk.tells g.V.Disk.may_leave g.V.Disk.fault_count) (view_of c.self.inside.config.proposers c.self.inside.era c.self.inside.acceptors.items c.self.inside.desks.items c.self.inside.callers.items c.self.inside.flow c.self.inside.record) c.args.caller c.args.call c.args.key.now c.args.program.now (view_of c.self.inside.config.proposers c.self.inside.era c.self.inside.acceptors.items c.self.inside.desks.items (slice_set c.self.inside.callers.items i c.refuse.new.caller) c.self.inside.flow c.make_room.new.record) (slice_set c.self.inside.callers.items i c.refuse.new.caller) c.make_room.new.record.room (Err c.refuse.result)) (sym c.from-place.ensures)
     (subst (λ (x : Caller). Settles {A = ⊤} (meaning g.S.Shelf.contents g.S.Shelf.tells g.S.Shelf.may_leave g.S.Shelf.fault_count g.V.Disk.tells g.V.Disk.may_leave g.V.Disk.fault_count) (view_of c.self.inside.config.proposers c.self.inside.era c.self.inside.acceptors.items c.self.inside.desks.items c.self.inside.callers.items c.self.inside.flow c.self.inside.record) c.args.caller c.args.call c.args.key.now c.args.program.now (view_of c.self.inside.config.proposers c.self.inside.era c.self.inside.acceptors.items c.self.inside.desks.items (slice_set c.self.inside.callers.items c.args.caller x) c.self.inside.flow c.make_room.new.record) (slice_set c.self.inside.callers.items c.args.caller x) c.make_room.new.record.room (Err c.refuse.result)) (sym c.refuse.ensures.caller)
     (subst (λ (r : Answer). Settles {A = ⊤} (meaning g.S.Shelf.contents g.S.Shelf.tells g.S.Shelf.may_leave g.S.Shelf.fault_count g.V.Disk.tells g.V.Disk.may_leave g.V.Disk.fault_count) (view_of c.self.inside.config.proposers c.self.inside.era c.self.inside.acceptors.items c.self.inside.desks.items c.self.inside.callers.items c.self.inside.flow c.self.inside.record) c.args.caller c.args.call c.args.key.now c.args.program.now (view_of c.self.inside.config.proposers c.self.inside.era c.self.inside.acceptors.items c.self.inside.desks.items (slice_set c.self.inside.callers.items c.args.caller (refused c.index_mut.result.now c.in-Err.refusal)) c.self.inside.flow c.make_room.new.record) (slice_set c.self.inside.callers.items c.args.caller (refused c.index_mut.result.now c.in-Err.refusal)) c.make_room.new.record.room (Err r)) (sym c.refuse.ensures.answer)
-    (not_made ⊤ (meaning g.S.Shelf.contents g.S.Shelf.tells g.S.Shelf.may_leave g.S.Shelf.fault_count g.V.Disk.tells g.V.Disk.may_leave g.V.Disk.fault_count) c.self.inside.config.proposers c.self.inside.era c.self.inside.acceptors.items c.self.inside.desks.items c.self.inside.callers.items c.self.inside.flow c.self.inside.record c.args.caller c.args.call c.args.key.now c.args.program.now at.0 c.index_mut.result.now c.self.invariant at.1.at_desk at.1.at_caller c.in-Err.refusal c.make_room.new.record at.1.may c.in-Err.ensures.refused c.make_room.ensures.made c.make_room.ensures.grows)))
+    (not_made ⊤ (meaning g.S.Shelf.contents g.S.Shelf.tells g.S.Shelf.may_leave g.S.Shelf.fault_count g.V.Disk.tells g.V.Disk.may_leave g.V.Disk.fault_count) c.self.inside.config.proposers c.self.inside.era c.self.inside.acceptors.items c.self.inside.desks.items c.self.inside.callers.items c.self.inside.flow c.self.inside.record c.args.caller c.args.call c.args.key.now c.args.program.now at.0 c.index_mut.result.now c.self.invariant at.1.at_desk at.1.at_caller c.in-Err.refusal c.make_room.new.record at.1.may c.in-Err.ensures.refused (over_full g c) c.make_room.ensures.made c.make_room.ensures.grows)))
 
 pub invariant_of-self : goal.invariant_of-self
 invariant_of-self g c = (not_begun g c).world
@@ -98,6 +103,6 @@ returns-clause-full g c =
     ap (λ (v : View _ _). seen_reserved (slice_set v.callers c.args.caller new_caller)) (sym c.self.view_is) ∙ beside_none c.self.inside.callers.items c.args.caller at.place in
     let beside : reserved_beside c.deref.result.now c.args.caller ≡ reserved_beside c.self.inside.callers.items c.args.caller = ap (λ (l : List Caller). reserved_beside l c.args.caller) c.deref.ensures.value in
     let needs : round_marks c.args.self.now.era ≡ c.round_marks-marks.result = ap (λ (v : View _ _). round_marks v.era) (sym c.self.view_is) ∙ sym c.round_marks-marks.ensures.value in (
-      λ full. absurd (never_full (record { tells = g.V.Disk.tells; may_leave = g.V.Disk.may_leave }) c.args.key.now c.index_mut-desk.result.now c.open_round-begun.new.desk c.open_round-begun.result c.settle.result c.open_round-begun.ensures.refused c.settle.ensures.refused c.settle.ensures.begun_ full),
+      λ full. absurd (never_full (record { tells = g.V.Disk.tells; may_leave = g.V.Disk.may_leave; faults = g.V.Disk.fault_count }) c.args.key.now c.index_mut-desk.result.now c.open_round-begun.new.desk c.open_round-begun.result c.settle.result c.open_round-begun.ensures.refused c.settle.ensures.refused c.settle.ensures.begun_ full),
       λ many. absurd (cc (c.in-Ok.ensures.full.1 (omega (arith, many, counted, others, beside, needs)))),
     )

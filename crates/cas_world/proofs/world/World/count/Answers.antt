@@ -42,7 +42,7 @@ found g c = counting c.self.inside.config.proposers c.self.inside.era c.self.ins
 none_waits : (g : Over) (c : goal.After-self-in-None-1 g) → (queue_at c.self.inside.flow c.args.proposer).messages ≡ []
 none_waits g c = ap (λ (v : View _ _). (queue_at v.flow c.args.proposer).messages) c.self.view_is ∙ c.requires.counting.none_waits
 
-counts : (g : Over) (c : goal.After-self-in-None-1 g) → Counts (record { tells = g.V.Disk.tells; may_leave = g.V.Disk.may_leave }) c.index_mut-desk.result.now c.acknowledge.new.desk (found g c).may.round c.index_mut-caller.result.now c.acknowledge.new.caller
+counts : (g : Over) (c : goal.After-self-in-None-1 g) → Counts (record { tells = g.V.Disk.tells; may_leave = g.V.Disk.may_leave; faults = g.V.Disk.fault_count }) c.index_mut-desk.result.now c.acknowledge.new.desk (found g c).may.round c.index_mut-caller.result.now c.acknowledge.new.caller
     (found g c).may.call (found g c).may.outcome c.self.inside.record c.acknowledge.new.record c.acknowledge.result
 counts g c = c.acknowledge.ensures (found g c).may.round (found g c).may.is_round (found g c).may.call (found g c).may.is_open (found g c).may.outcome (found g c).may.proposed
 
@@ -80,7 +80,7 @@ found_short : (g : Over) (c : goal.After-self-in-Some-2-1 g) → IsCounting c.se
 found_short g c = counting c.self.inside.config.proposers c.self.inside.era c.self.inside.acceptors.items c.self.inside.desks.items c.self.inside.callers.items c.self.inside.flow c.self.inside.record c.args.self.now c.from-place.result c.args.proposer c.index_mut-desk.result.now c.index_mut-caller.result.now
     c.from-place.ensures c.self.view_is c.requires.known c.self.invariant c.index_mut-desk.ensures.value c.index_mut-caller.ensures.value c.requires.counting
 
-ends : (g : Over) (c : goal.After-self-in-Some-2-1 g) → EndsRound (record { tells = g.V.Disk.tells; may_leave = g.V.Disk.may_leave }) c.index_mut-desk.result.now c.end.new.self (found_short g c).may.round None
+ends : (g : Over) (c : goal.After-self-in-Some-2-1 g) → EndsRound (record { tells = g.V.Disk.tells; may_leave = g.V.Disk.may_leave; faults = g.V.Disk.fault_count }) c.index_mut-desk.result.now c.end.new.self (found_short g c).may.round None
 ends g c = record {
   desk = c.end.ensures.desk (found_short g c).may.round (found_short g c).may.is_round;
   counter = c.end.ensures.counter ∙ ap (λ (r : Option Round). counter_without r (counter_of c.index_mut-desk.result.now.vault)) (found_short g c).may.is_round;

@@ -34,8 +34,8 @@ found g c = ending c.self.inside.config.proposers c.self.inside.era c.self.insid
     c.from-place.result c.args.caller c.args.call c.args.answer c.index_mut.result.now c.index_mut-2.result.now c.from-place.ensures c.self.view_is c.requires.known c.self.invariant.safe c.index_mut.ensures.value c.index_mut-2.ensures.value c.requires.told
 
 closed : (g : Over) (c : goal.After-push g) → ((c.index_mut.result.now.round ≡ None) × (c.close.new.desk ≡ c.index_mut.result.now))
-    ⊎ ((r : Round) × (c.index_mut.result.now.round ≡ Some r) × EndsRound (record { tells = g.V.Disk.tells; may_leave = g.V.Disk.may_leave }) c.index_mut.result.now c.close.new.desk r None)
-closed g c = closed_or (record { tells = g.V.Disk.tells; may_leave = g.V.Disk.may_leave }) c.index_mut.result.now c.close.new.desk c.index_mut.result.now.round refl c.close.ensures.idle c.close.ensures.ends
+    ⊎ ((r : Round) × (c.index_mut.result.now.round ≡ Some r) × EndsRound (record { tells = g.V.Disk.tells; may_leave = g.V.Disk.may_leave; faults = g.V.Disk.fault_count }) c.index_mut.result.now c.close.new.desk r None)
+closed g c = closed_or (record { tells = g.V.Disk.tells; may_leave = g.V.Disk.may_leave; faults = g.V.Disk.fault_count }) c.index_mut.result.now c.close.new.desk c.index_mut.result.now.round refl c.close.ensures.idle c.close.ensures.ends
 
 ends_it : (g : Over) (c : goal.After-push g) → StepEnd (meaning g.S.Shelf.contents g.S.Shelf.tells g.S.Shelf.may_leave g.S.Shelf.fault_count g.V.Disk.tells g.V.Disk.may_leave g.V.Disk.fault_count) (view_of c.self.inside.config.proposers c.self.inside.era c.self.inside.acceptors.items c.self.inside.desks.items c.self.inside.callers.items c.self.inside.flow c.self.inside.record) c.args.caller c.args.answer
     (view_of c.self.inside.config.proposers c.self.inside.era c.self.inside.acceptors.items (slice_set c.self.inside.desks.items c.from-place.result c.close.new.desk) (slice_set c.self.inside.callers.items c.from-place.result c.end_call-rounds.new.self) c.abandon.new.self c.push.new.self)
@@ -61,7 +61,7 @@ invariant_of-self g c = record {
       (room_ended c.self.inside.callers.items c.from-place.result c.index_mut-2.result.now (found g c).told.call c.self.inside.record.room c.push.new.self.room
       (subst (λ (i : ℕ). IsAt c.self.inside.callers.items i c.index_mut-2.result.now) (sym c.from-place.ensures) (found g c).at_caller) (found g c).told.is_open (found g c).some c.push.ensures.room c.self.invariant.room);
   copies = copies_idle c.self.inside.desks.items c.self.inside.callers.items c.from-place.result c.close.new.desk c.end_call-rounds.new.self
-      (none_after (record { tells = g.V.Disk.tells; may_leave = g.V.Disk.may_leave }) c.index_mut.result.now c.close.new.desk (closed g c)) c.self.invariant.copies;
+      (none_after (record { tells = g.V.Disk.tells; may_leave = g.V.Disk.may_leave; faults = g.V.Disk.fault_count }) c.index_mut.result.now c.close.new.desk (closed g c)) c.self.invariant.copies;
 }
 
 pub returns-clause-step : goal.returns-clause-step

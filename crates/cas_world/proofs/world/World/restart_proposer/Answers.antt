@@ -26,7 +26,7 @@ restarts g c =
     (view_of c.self.inside.config.proposers c.self.inside.era c.self.inside.acceptors.items (slice_set c.self.inside.desks.items i c.restart.new.self) c.self.inside.callers.items c.self.inside.flow c.self.inside.record)) (sym c.from.ensures)
     (desk_restarted _ _ c.args.proposer c.index_mut.result.now c.restart.new.self c.restart.result (at_desk g c) (λ up. (by.up up).1) by.desk by.refused
     (λ down. restart_goes_on _ c.index_mut.result.now.vault c.restart.new.self.vault c.restart.result (g.V.Disk.seen (disk_of c.restart.new.self.vault)) (λ tells. by.image tells down) (λ tells. by.reopened tells down) (kept_same _ _ c.restart.result by.same_vault)
-    (λ tells image may. left_at g.V.Disk.moment g.V.Disk.left_since g.V.Disk.may_leave _ _ _ (λ t left later may_now. g.met.V.Disk.counts_now _ t left tells later may_now) (by.any_moment tells down) image may) by.still_past))
+    (λ tells image may. left_at g.V.Disk.moment g.V.Disk.left_since g.V.Disk.may_leave _ _ _ (λ t left later may_now. g.met.V.Disk.counts_now _ t left tells later may_now) (by.any_moment tells down) image may) by.still_past by.cause.never_falls))
 
 pub invariant_of-self : goal.invariant_of-self
 invariant_of-self g c = record {
@@ -45,7 +45,7 @@ pub returns-clause-tells : goal.returns-clause-tells
 returns-clause-tells g c was now at_was at_now =
     let by = c.restart.ensures in
     let desk = c.index_mut.result.now in
-    desk_tells (disks g.V.Disk.tells g.V.Disk.may_leave g.V.Disk.fault_count) g.V.Disk.fault_count c.self.inside.desks.items c.from.result c.args.proposer desk c.restart.new.self was now c.restart.result c.from.ensures (at_desk g c)
+    desk_tells (disks g.V.Disk.tells g.V.Disk.may_leave g.V.Disk.fault_count) c.self.inside.desks.items c.from.result c.args.proposer desk c.restart.new.self was now c.restart.result c.from.ensures (at_desk g c)
     (subst (λ (v : View _ _). IsAt v.desks c.args.proposer was) (sym c.self.view_is) at_was) at_now
     (record {
       up = desk_is_up desk c.restart.new.self c.restart.result by.desk by.up;
