@@ -16,5 +16,6 @@ pub mod Starting
 pub mod Stops
 pub mod Straying
 pub mod Strays
+pub mod Told
 pub mod Turning
 pub mod Turns

@@ -2,6 +2,7 @@
 
 ghost use Rattle.std.specs.Prelude.{◌≡◌, ◌≤◌, true, false, None, Some, slice_get, is_some, not, reverse, IsTrue, IsSome, IsSomeAnd, IfSome, IfOk, IfErr, OnOk, OnErr};
 ghost use Rattle.cas_change.specs.declared.outcome.Outcome.{Outcome};
+ghost use Rattle.cas_causes.specs.Told.{PreparesBy, AcceptsBy, TellsAbove};
 ghost use Rattle.cas_cluster.specs.Proposers.{state_read};
 ghost use Rattle.cas_cluster.specs.StepCalls.{offered_by};
 ghost use Rattle.cas_cluster.specs.Step.{Step, Propose, Count};
@@ -39,14 +40,20 @@ use std::alloc::Global;
 
 impl<S: Shelf, V: Disk> World<S, V> {
     /// Ends the prepare phase of the proposer's round, none of whose frames waits. With a quorum it proposes what the call's program
-    /// makes of the state that was read, and asks each member to accept it. Otherwise the round ends, and the caller is told why; so it
-    /// does where the vault fails or no memory is found.
+    /// makes of the state that was read, and asks each member to accept it. Otherwise the round ends, and the caller is told why:
+    /// [`Answer::Conflict`] with the greatest ballot that was met, if one was; else [`Answer::Aged`] with the greatest age that was told;
+    /// else [`Answer::Full`] of the least acceptor that was full; else [`Answer::Short`]. With a quorum only [`Answer::VaultFault`]
+    /// comes, where the count of faults of the vault's disk rose, and [`Answer::NoMemory`].
+    ///
+    /// Where the shelves and the disks tell what they keep, the ballot of a conflict is above the round's.
     pub fn propose(&mut self, proposer: u8) -> Result<(), Answer>
         requires known { proposer ≤ self.old.greatest }
         requires preparing { IsInPhase self.old proposer true }
         ensures step { Step (meaning S.contents S.tells S.may_leave S.fault_count V.tells V.may_leave V.fault_count) self.old (Propose proposer) self.new }
         ensures proposed { OnOk result (HasProposed self.new proposer) }
         ensures told { (caller : CallerView) → slice_get self.old.callers proposer ≡ Some caller → IfErr result (WasTold self.new proposer caller.number) }
+        ensures cause { IfErr result (λ told. PreparesBy (meaning S.contents S.tells S.may_leave S.fault_count V.tells V.may_leave V.fault_count) self.old proposer told self.new) }
+        ensures above { S.tells → V.tells → IfErr result (TellsAbove self.old proposer) }
     {
         let alloc = *self.acceptors.allocator();
         let place = usize::from(proposer);
@@ -65,7 +72,7 @@ impl<S: Shelf, V: Disk> World<S, V> {
     }
 
     /// Ends the accept phase of the proposer's round, none of whose frames waits: the change is done where a quorum accepted, which is
-    /// marked, and otherwise it is unsettled. It takes no memory.
+    /// marked, and otherwise it is unsettled, by the first of the causes that [`World::propose`] names. It takes no memory.
     ///
     /// Where the shelves and the disks tell what they keep, what is acknowledged, this change among it, stands on the shelves of those
     /// that confirmed it, who are an accept quorum, whatever a crash now leaves of each, until a floor is made at or above it.
@@ -74,6 +81,8 @@ impl<S: Shelf, V: Disk> World<S, V> {
         requires counting { IsInPhase self.old proposer false }
         ensures step { Step (meaning S.contents S.tells S.may_leave S.fault_count V.tells V.may_leave V.fault_count) self.old (Count proposer) self.new }
         ensures told { (caller : CallerView) → slice_get self.old.callers proposer ≡ Some caller → WasTold self.new proposer caller.number result }
+        ensures cause { AcceptsBy self.old proposer result }
+        ensures above { S.tells → V.tells → TellsAbove self.old proposer result }
         ensures kept { S.tells → V.tells → (a : AnAcknowledgment) → Stands (Acked a) (reverse self.new.marks) → IsAboveFloors (reverse self.new.marks) a.key a.ballot → IsKept (meaning S.contents S.tells S.may_leave S.fault_count V.tells V.may_leave V.fault_count) self.new a }
     {
         let place = usize::from(proposer);
