@@ -1,5 +1,5 @@
 -- How the phases of a round end that nothing disturbs.
-use Rattle.std.proofs.Common.{◌≡◌, ℕ, Bool, true, false, List, [], ◌++◌, Option, Some, slice_set, refl, sym, ap, subst, ◌∙◌, inl, inr}
+use Rattle.std.proofs.Common.{◌≡◌, ℕ, Bool, true, false, List, [], ◌++◌, Option, None, Some, slice_set, refl, sym, ap, subst, ◌∙◌, inl, inr}
 use Rattle.std.specs.Prelude.{◌⊎◌, map, Contains}
 use Rattle.cas_base.proofs.Bools.{not_both}
 use Rattle.cas_ballot.specs.declared.ballot.Ballot.{Ballot}
@@ -8,9 +8,12 @@ use Rattle.cas_flow.specs.Flow.{FlowView, queue_at}
 use Rattle.cas_flow.specs.declared.message.Message.{Message}
 use Rattle.cas_flow.specs.declared.message.Message.TheVariants as message
 use Rattle.cas_proposer.specs.Desk.{DeskView}
-use Rattle.cas_proposer.specs.Round.{IsPreparing, IsAccepting, confirmed_in}
+use Rattle.cas_proposer.specs.Round.{IsPreparing, IsAccepting, IsPrepare, IsAccept, IsAbout, confirmed_in}
+use Rattle.cas_proposer.specs.declared.round.OpenPhase.{OpenPhase}
+use Rattle.cas_proposer.specs.declared.round.OpenPhase.TheVariants.{Prepare, Accept}
 use Rattle.cas_proposer.specs.declared.round.Round.{Round}
 use Rattle.cas_quorum.specs.declared.era.Era.{Era}
+use Rattle.cas_quorum.specs.Era.{holds_acc}
 use Rattle.cas_quorum.specs.Quorum.{has_quorum}
 use Rattle.cas_record.specs.declared.answer.Answer.{Answer}
 use Rattle.cas_record.specs.declared.answer.Answer.TheVariants as answer
@@ -31,15 +34,17 @@ use Rattle.cas_cluster.specs.Safe.{IsSafe}
 use Rattle.cas_cluster.specs.Step as step
 use Rattle.cas_cluster.specs.Step.{OpenCallAt, OpenRoundAt}
 use Rattle.cas_cluster.specs.StepCalls as calls
-use Rattle.cas_cluster.specs.StepCalls.{refusal_by, cause_by, accepts_to}
+use Rattle.cas_cluster.specs.StepCalls.{refusal_by, cause_by, prepares_to, accepts_to}
 use Rattle.cas_cluster.specs.StepDesks.{TurnsWith}
 use Rattle.cas_cluster.specs.View.{Meaning, View, CallView, CallerView, IsAt}
 use Rattle.cas_cluster.proofs.Harms.{member_has, has_map_of}
 use Rattle.cas_cluster.proofs.Places.{at_one, at_set, some_is, contains_none}
+use Rattle.cas_cluster.proofs.SafeCalls.{opens_safe}
+use Rattle.cas_cluster.proofs.SafeParts.{idle_at}
 use Rattle.cas_cluster.proofs.SafeSteps.{steps_are_safe}
 use Rattle.cas_causes.specs.Causes.{IsTold}
 use Rattle.cas_causes.specs.Rounds.{RoundSteps, none, one_more, PreparesWith}
-use Rattle.cas_causes.specs.Undisturbed.{AreUndisturbed, HasProposed, AcceptsAfresh, ProposesUndisturbed, proposes, vault_fails, no_memory, UndisturbedPreparesPropose, UndisturbedRoundsAreDone}
+use Rattle.cas_causes.specs.Undisturbed.{AreUndisturbed, HasProposed, AcceptsAfresh, ProposesUndisturbed, proposes, vault_fails, no_memory, BeginsToAsk, RoundsBeginToAsk, UndisturbedPreparesPropose, UndisturbedAcceptsAreDone, UndisturbedRoundsAreDone}
 use Rattle.cas_causes.proofs.Coming.{IsKind, prepare_kind, accept_kind, Confirms, Coming, step_comes, quorum_more}
 use Rattle.cas_causes.proofs.Ends.{told_by, desk_by, ridden, prepare_steps}
 use Rattle.cas_causes.proofs.Queues.{KeepsProposed, Stays, OwnTurn, stays_or_turn, turn_proposed}
@@ -195,12 +200,12 @@ prepares_propose {S} {V} m first_ mid new id set replies round steps safe fresh 
         let same : seen ≡ now.round = seen_is mid.desks id desk now.is_open.desk seen now.round at_desk is_open now.is_open.at_desk now.is_open.is_open in
         absurd (no_refusal v told (ends_with_quorum prepare_kind mid.desks (queue_at mid.flow id).messages id set (λ e. e.prep) (λ e. e.need_prep) round seen v now by.at_round.none_waits quorum same (verdict_is.prepare now.replies)) refused)
     in_phase at desk at_desk seen is_open (calls.fails next fails is) =
-        vault_fails desk next at_desk (desk_by mid new id desk next at_desk (ap (λ (w : View S V). w.desks) is)) fails.faulted (told_by mid new id at.caller (calls.over at.call answer.VaultFault) at.at_caller (ap (λ (w : View S V). w.callers) is))
+        vault_fails (record { desk = desk; at_desk = at_desk; now = next; at_now = desk_by mid new id desk next at_desk (ap (λ (w : View S V). w.desks) is); rose = fails.faulted }) (told_by mid new id at.caller (calls.over at.call answer.VaultFault) at.at_caller (ap (λ (w : View S V). w.callers) is))
     in_phase at desk at_desk seen is_open (calls.loses next ballot loses is) = no_memory (told_by mid new id at.caller (calls.over at.call (answer.NoMemory false)) at.at_caller (ap (λ (w : View S V). w.callers) is))
 
 -- ---- the accept phase
-pub rounds_are_done : {S V : Type 0} (m : Meaning S V) → UndisturbedRoundsAreDone m
-rounds_are_done {S} {V} m first_ mid new id set prepared replies round outcome steps safe fresh quorum undisturbed by =
+pub accepts_are_done : {S V : Type 0} (m : Meaning S V) → UndisturbedAcceptsAreDone m
+accepts_are_done {S} {V} m first_ mid new id set prepared replies round outcome steps safe fresh quorum undisturbed by =
     in_phase by.at_round.of_call by.at_round.desk by.at_round.at_desk by.at_round.round by.at_round.is_open by.counts
   where
     begins : Coming is_accept is_acceptance (IsAccepting prepared) first_.desks (queue_at first_.flow id).messages id set round.era.acc round
@@ -222,3 +227,108 @@ rounds_are_done {S} {V} m first_ mid new id set prepared replies round outcome s
     in_phase at desk at_desk seen is_open (calls.ends next v why verdict_is cause ends is) =
         let same : seen ≡ now.round = seen_is mid.desks id desk now.is_open.desk seen now.round at_desk is_open now.is_open.at_desk now.is_open.is_open in
         absurd (no_cause v why (ends_with_quorum (accept_kind prepared) mid.desks (queue_at mid.flow id).messages id set (λ e. e.acc) (λ e. e.need_acc) round seen v now by.at_round.none_waits quorum same (verdict_is.accept prepared now.replies)) cause)
+
+-- ---- the beginning
+-- a round is in one phase
+one_phase : (replies prepared others : List Reply) (round : Round) → IsPreparing replies round → IsAccepting prepared others round → ⊥
+one_phase replies prepared others round prepares accepts = by_phase round.phase prepares.phase accepts.phase
+  where
+    by_phase : (phase : OpenPhase) → IsPrepare round.era round.ballot replies phase → IsAccept round.era round.ballot others phase → ⊥
+    by_phase (Prepare phase) is other = other
+    by_phase (Accept phase) is other = is
+
+-- what was asked at the beginning is about the round that began
+asked_about : (id age : ℕ) (key : List ℕ) (era : Era) (ballot : Ballot) (round : Round) → IsAbout key era ballot round → prepares_to id age key ballot era.prep ≡ prepares_to id age round.key round.ballot round.era.prep
+asked_about id age key era ballot round about =
+    ap (λ (k : List ℕ). prepares_to id age k ballot era.prep) (sym about.of_key) ∙ ap (λ (b : Ballot). prepares_to id age round.key b era.prep) (sym about.at) ∙ ap (λ (e : Era). prepares_to id age round.key round.ballot e.prep) (sym about.in_era)
+
+begins_none : {S V : Type 0} (new : View S V) (id : ℕ) → ((desk : DeskView V) → IsAt new.desks id desk → desk.round ≡ None) → BeginsToAsk new id
+begins_none new id none_open = record {
+  prepares = λ round was. absurd (cc (none_open was.desk was.at_desk, was.is_open));
+  accepts = λ round was. absurd (cc (none_open was.desk was.at_desk, was.is_open));
+}
+
+begins_to_prepare : {S V : Type 0} (new : View S V) (id age : ℕ) (desk : DeskView V) (round : Round) → IsAt new.desks id desk → desk.round ≡ Some round → IsPreparing [] round
+    → (queue_at new.flow id).messages ≡ prepares_to id age round.key round.ballot round.era.prep → BeginsToAsk new id
+begins_to_prepare new id age desk round at is_open preparing waits = record {
+  prepares = λ seen was. record {
+    prepares = was;
+    age = age;
+    waits = subst (λ (r : Round). (queue_at new.flow id).messages ≡ prepares_to id age r.key r.ballot r.era.prep) (seen_is new.desks id desk was.desk round seen at is_open was.at_desk was.is_open) waits;
+  };
+  accepts = λ seen was. absurd (one_phase [] [] [] seen (subst (IsPreparing []) (seen_is new.desks id desk was.desk round seen at is_open was.at_desk was.is_open) preparing) was.accepting);
+}
+
+begins_to_accept : {S V : Type 0} (new : View S V) (id age : ℕ) (desk : DeskView V) (round : Round) (outcome : Outcome) → IsAt new.desks id desk → desk.round ≡ Some round → IsAccepting [] [] round → HasProposed new.callers id outcome
+    → (queue_at new.flow id).messages ≡ accepts_to id age round.key round.ballot round.era.number round.ride outcome.state round.era.acc → BeginsToAsk new id
+begins_to_accept new id age desk round outcome at is_open accepting proposed waits = record {
+  prepares = λ seen was. absurd (one_phase [] [] [] seen was.preparing (subst (IsAccepting [] []) (seen_is new.desks id desk was.desk round seen at is_open was.at_desk was.is_open) accepting));
+  accepts = λ seen was. (
+    outcome,
+    record {
+      accepts = was;
+      proposed = proposed;
+      age = age;
+      waits = subst (λ (r : Round). (queue_at new.flow id).messages ≡ accepts_to id age r.key r.ballot r.era.number r.ride outcome.state r.era.acc) (seen_is new.desks id desk was.desk round seen at is_open was.at_desk was.is_open) waits;
+    },
+  );
+}
+
+pub begin_to_ask : {S V : Type 0} (m : Meaning S V) → RoundsBeginToAsk m
+begin_to_ask {S} {V} m old new id key program safe by = in_round by.begins
+  where
+    middle_safe : IsSafe by.middle
+    middle_safe = opens_safe old id key program by.middle safe by.opens
+
+    -- nothing waits at a desk that has no open round
+    empty : (desk : DeskView V) → IsAt by.middle.desks id desk → desk.round ≡ None → (queue_at by.middle.flow id).messages ≡ []
+    empty desk at none_open = (idle_at by.middle.era by.caller (queue_at by.middle.flow id) desk.round none_open (middle_safe.parties id desk by.caller at by.at_caller).round).none_waits
+
+    asks : (desk : DeskView V) (messages : List Message) (flow : FlowView) → IsAt by.middle.desks id desk → desk.round ≡ None → calls.Sends by.middle.flow id messages flow → new.flow ≡ flow → (queue_at new.flow id).messages ≡ messages
+    asks desk messages flow at none_open sends is = ap (λ (f : FlowView). (queue_at f id).messages) is ∙ sends.own ∙ ap (λ (l : List Message). l ++ messages) (empty desk at none_open)
+
+    idle_now : (desk now : DeskView V) → IsAt by.middle.desks id desk → now.round ≡ None → new.desks ≡ slice_set by.middle.desks id now → BeginsToAsk new id
+    idle_now desk now at none_open same = begins_none new id (λ seen at_seen. ap (λ (d : DeskView V). d.round) (at_one new.desks id at_seen (desk_by by.middle new id desk now at same)) ∙ none_open)
+
+    in_round : calls.BeginsRound m by.middle id by.caller by.call new → BeginsToAsk new id
+    in_round (calls.prepares desk now ballot round flow at up few begins sends is) =
+        begins_to_prepare new id (kept_of desk.vault).age now round (desk_by by.middle new id desk now at (ap (λ (w : View S V). w.desks) is)) (ap (λ (d : DeskView V). d.round) begins.desk) begins.opened.1
+        (asks desk _ flow at begins.none_open sends (ap (λ (w : View S V). w.flow) is) ∙ asked_about id (kept_of desk.vault).age by.call.key by.middle.era ballot round begins.opened.0)
+    in_round (calls.proposes desk now ready ride round outcome flow at up few begins made sends is) =
+        begins_to_accept new id (kept_of desk.vault).age now (record round { ride = ride }) outcome (desk_by by.middle new id desk now at (ap (λ (w : View S V). w.desks) is)) (ap (λ (d : DeskView V). d.round) begins.desk) (ridden [] [] round ride begins.opened.1)
+        (proposed_by by.middle new id by.caller by.call outcome by.at_caller (ap (λ (w : View S V). w.callers) is)) (asks desk _ flow at begins.none_open sends (ap (λ (w : View S V). w.flow) is))
+    in_round (calls.stays told no_beginning no_round full is) = begins_none new id (λ seen at_seen. (no_round seen (subst (λ (l : List (DeskView V)). IsAt l id seen) (ap (λ (w : View S V). w.desks) is) at_seen)).0)
+    in_round (calls.spent desk now at none_open up no_promise spent kept now_is is) = idle_now desk now at (ap (λ (d : DeskView V). d.round) now_is ∙ none_open) (ap (λ (w : View S V). w.desks) is)
+    in_round (calls.fails desk now at none_open up fails is) = idle_now desk now at (ap (λ (d : DeskView V). d.round) fails.desk) (ap (λ (w : View S V). w.desks) is)
+    in_round (calls.loses desk now ballot at none_open up loses is) = idle_now desk now at (ap (λ (d : DeskView V). d.round) loses.desk) (ap (λ (w : View S V). w.desks) is)
+
+-- ---- the round
+safe_along : {S V : Type 0} (m : Meaning S V) (id : ℕ) (first_ mid : View S V) (replies : List Reply) → RoundSteps m id first_ replies mid → IsSafe first_ → IsSafe mid
+safe_along m id first_ mid replies none safe = safe
+safe_along m id first_ mid replies (one_more {before = before} {mid = middle} event steps not_own by brings) safe = steps_are_safe m middle event mid (safe_along m id first_ middle before steps safe) by
+
+-- what a caller is told is one thing
+told_one : {S V : Type 0} (view : View S V) (id : ℕ) (a b : Option Answer) → IsTold view id a → IsTold view id b → a ≡ b
+told_one view id a b is other =
+    let same : is.call ≡ other.call = some_is (sym is.is_open ∙ ap (λ (c : CallerView). c.call) (at_one view.callers id is.at_caller other.at_caller) ∙ other.is_open) in
+    sym is.told_is ∙ ap (λ (c : CallView). c.told) same ∙ other.told_is
+
+pub rounds_are_done : {S V : Type 0} (m : Meaning S V) → UndisturbedRoundsAreDone m
+rounds_are_done {S} {V} m old first_ mid turned last new id key program promising accepting promised accepted round to_prepare to_accept safe prep acc begins prepares undisturbed_before proposes_it told undisturbed_after counts =
+    goes_on (prepares_propose m first_ mid turned id promising promised round to_prepare safe_first ((begin_to_ask m old first_ id key program safe begins).prepares round prepares) prep undisturbed_before proposes_it)
+  where
+    safe_first : IsSafe first_
+    safe_first = steps_are_safe m old (step.Begin id key program) first_ safe begins
+
+    safe_turned : IsSafe turned
+    safe_turned = steps_are_safe m mid (step.Propose id) turned (safe_along m id first_ mid promised to_prepare safe_first) proposes_it
+
+    goes_on : ProposesUndisturbed m mid turned id promised round → (outcome : Outcome) × HasProposed turned.callers id outcome × IsTold new id (Some (answer.Done outcome.state outcome.took round.ballot))
+    goes_on (proposes goes outcome same afresh none_told) = (
+      outcome,
+      afresh.proposed,
+      subst (λ (b : Ballot). IsTold new id (Some (answer.Done outcome.state outcome.took b))) (ap (λ (r : Round). r.ballot) same)
+          (accepts_are_done m turned last new id accepting promised accepted goes outcome to_accept safe_turned afresh (subst (λ (e : Era). holds_acc e accepting ≡ true) (sym (ap (λ (r : Round). r.era) same)) acc) undisturbed_after counts),
+    )
+    goes_on (vault_fails faulted fault_told) = absurd (cc (told_one turned id None (Some answer.VaultFault) told fault_told))
+    goes_on (no_memory loss_told) = absurd (cc (told_one turned id None (Some (answer.NoMemory false)) told loss_told))

@@ -4,6 +4,7 @@ use Rattle.cas_base.specs.Faults.{Rose}
 use Rattle.cas_ballot.specs.Ballot.{BallotAtMost}
 use Rattle.cas_ballot.specs.Members.{has_member}
 use Rattle.cas_change.specs.declared.outcome.Outcome.{Outcome}
+use Rattle.cas_change.specs.declared.program.Clause.{Clause}
 use Rattle.cas_flow.specs.Flow.{queue_at}
 use Rattle.cas_flow.specs.Message.{head_of}
 use Rattle.cas_flow.specs.Queue.{fall_of}
@@ -11,7 +12,6 @@ use Rattle.cas_flow.specs.declared.fall.Fall.TheVariants.{Handle, Gone}
 use Rattle.cas_flow.specs.declared.message.Message.{Message}
 use Rattle.cas_flow.specs.declared.message.Message.TheVariants as message
 use Rattle.cas_acceptor.specs.Acceptor.{AcceptorView}
-use Rattle.cas_proposer.specs.Desk.{DeskView}
 use Rattle.cas_proposer.specs.declared.round.Round.{Round}
 use Rattle.cas_quorum.specs.Era.{holds_prep, holds_acc}
 use Rattle.cas_record.specs.declared.answer.Answer.TheVariants as answer
@@ -23,12 +23,12 @@ use Rattle.cas_slot.specs.declared.message.Ask.{Ask}
 use Rattle.cas_slot.specs.declared.message.Ask.TheVariants as ask
 use Rattle.cas_slot.specs.declared.message.Reply.{Reply}
 use Rattle.cas_slot.specs.declared.message.Request.{Request}
-use Rattle.cas_vault.specs.Vault.{disk_of}
 use Rattle.cas_cluster.specs.Safe.{IsSafe}
-use Rattle.cas_cluster.specs.Step.{Event, Turn, Propose, Count, Step}
+use Rattle.cas_cluster.specs.Step.{Event, Begin, Turn, Propose, Count, Step}
 use Rattle.cas_cluster.specs.StepCalls.{prepares_to, accepts_to}
 use Rattle.cas_cluster.specs.View.{Meaning, View, CallView, CallerView, IsAt}
 use Rattle.cas_causes.specs.Causes.{IsTold}
+use Rattle.cas_causes.specs.Told.{HasFaulted}
 use Rattle.cas_causes.specs.Rounds.{RoundSteps, none, one_more, PreparesWith, AcceptsWith}
 
 -- ---- what disturbs no round
@@ -38,7 +38,7 @@ LetsPass kept (ask.Prepare key ballot) = BallotAtMost (seen_at kept key) ballot 
 LetsPass kept (ask.Accept key ballot era ride state) = IsRepeat kept key ballot ⊎ (BallotAtMost (seen_at kept key) ballot × (IsFullFor kept.slots key → ⊥))
 LetsPass kept other = ⊤
 
--- the acceptor is up, knows no greater age of the proposer, lets the request pass, and its shelf has no fault
+-- its acceptor is up, keeps no greater age of the proposer, lets it pass, and its shelf has no fault
 pub record IsHandledWell {S V : Type 0} (m : Meaning S V) (old new : View S V) (request : Request) : Type 0 where
   pub acceptor : AcceptorView S
   pub at_acceptor : IsAt old.acceptors request.to acceptor
@@ -55,7 +55,7 @@ GoesWell m old new (message.Request request) = IsHandledWell m old new request
 GoesWell m old new (message.Reply reply) = ⊤
 
 -- A step leaves the round of the proposer undisturbed with these acceptors: a frame of its own to or from one of them that has its turn
--- is neither lost nor late, and where it is handled, that goes well.
+-- is neither lost nor late, and where it is handled, that goes well. A frame that is held, or finds no memory, waits on.
 abbrev pub IsUndisturbedBy : {S V : Type 0} → Meaning S V → ℕ → List ℕ → View S V → Event → View S V → Type 0
 IsUndisturbedBy m id set old (Turn proposer verdict) new =
     proposer ≡ id → (front : Message) → IsAt (queue_at old.flow id).messages 0 front → has_member set (head_of front).1 ≡ true
@@ -89,14 +89,21 @@ pub record AcceptsAfresh {S V : Type 0} (view : View S V) (id : ℕ) (prepared :
   pub age : ℕ
   pub waits : (queue_at view.flow id).messages ≡ accepts_to id age round.key round.ballot round.era.number round.ride outcome.state round.era.acc
 
+-- a round that begins asks the members of its phase
+pub record BeginsToAsk {S V : Type 0} (new : View S V) (id : ℕ) : Type 0 where
+  pub prepares : (round : Round) → PreparesWith new.desks id [] round → PreparesAfresh new id round
+  pub accepts : (round : Round) → AcceptsWith new.desks id [] [] round → (outcome : Outcome) × AcceptsAfresh new id [] round outcome
+
+abbrev pub RoundsBeginToAsk : {S V : Type 0} → Meaning S V → Type 0
+RoundsBeginToAsk {S} {V} m = (old new : View S V) (id : ℕ) (key : List ℕ) (program : List Clause) → IsSafe old → Step m old (Begin id key program) new → BeginsToAsk new id
+
 -- ---- the prepare phase
 -- It proposes: the round goes on at its ballot with an accept phase that has just begun. Else its vault failed in this very step, or no
 -- memory was found.
 pub data ProposesUndisturbed {S V : Type 0} (m : Meaning S V) (old new : View S V) (id : ℕ) (replies : List Reply) (round : Round) : Type 0 where
   proposes : (turned : Round) (outcome : Outcome) → turned ≡ record round { phase = turned.phase; met = turned.met; ride = turned.ride } → AcceptsAfresh new id replies turned outcome → IsTold new id None
       → ProposesUndisturbed m old new id replies round
-  vault_fails : (desk now : DeskView V) → IsAt old.desks id desk → IsAt new.desks id now → Rose (m.disks.faults (disk_of desk.vault)) (m.disks.faults (disk_of now.vault)) → IsTold new id (Some answer.VaultFault)
-      → ProposesUndisturbed m old new id replies round
+  vault_fails : HasFaulted m.disks old new id → IsTold new id (Some answer.VaultFault) → ProposesUndisturbed m old new id replies round
   no_memory : IsTold new id (Some (answer.NoMemory false)) → ProposesUndisturbed m old new id replies round
 
 -- A prepare phase that a prepare quorum answers, and nothing disturbs with it, proposes.
@@ -106,6 +113,15 @@ UndisturbedPreparesPropose {S} {V} m = (first mid new : View S V) (id : ℕ) (se
 
 -- ---- the accept phase
 -- An accept phase that an accept quorum answers, and nothing disturbs with it, is done: with what its call proposed, at its ballot.
-abbrev pub UndisturbedRoundsAreDone : {S V : Type 0} → Meaning S V → Type 0
-UndisturbedRoundsAreDone {S} {V} m = (first mid new : View S V) (id : ℕ) (set : List ℕ) (prepared replies : List Reply) (round : Round) (outcome : Outcome) (steps : RoundSteps m id first replies mid) → IsSafe first → AcceptsAfresh first id prepared round outcome
+abbrev pub UndisturbedAcceptsAreDone : {S V : Type 0} → Meaning S V → Type 0
+UndisturbedAcceptsAreDone {S} {V} m = (first mid new : View S V) (id : ℕ) (set : List ℕ) (prepared replies : List Reply) (round : Round) (outcome : Outcome) (steps : RoundSteps m id first replies mid) → IsSafe first → AcceptsAfresh first id prepared round outcome
     → holds_acc round.era set ≡ true → AreUndisturbed m id set first mid replies steps → Step m mid (Count id) new → IsTold new id (Some (answer.Done outcome.state outcome.took round.ballot))
+
+-- ---- the round
+-- A round that begins to prepare, proposes and is counted, and that nothing disturbs with a quorum in each phase, is done.
+abbrev pub UndisturbedRoundsAreDone : {S V : Type 0} → Meaning S V → Type 0
+UndisturbedRoundsAreDone {S} {V} m = (old first mid turned last new : View S V) (id : ℕ) (key : List ℕ) (program : List Clause) (promising accepting : List ℕ) (promised accepted : List Reply) (round : Round)
+    (to_prepare : RoundSteps m id first promised mid) (to_accept : RoundSteps m id turned accepted last) → IsSafe old → holds_prep round.era promising ≡ true → holds_acc round.era accepting ≡ true
+    → Step m old (Begin id key program) first → PreparesWith first.desks id [] round → AreUndisturbed m id promising first mid promised to_prepare → Step m mid (Propose id) turned → IsTold turned id None
+    → AreUndisturbed m id accepting turned last accepted to_accept → Step m last (Count id) new
+    → (outcome : Outcome) × HasProposed turned.callers id outcome × IsTold new id (Some (answer.Done outcome.state outcome.took round.ballot))
