@@ -30,7 +30,7 @@ hears_prepare {S} {V} old new id before brought round was (one reply desk now se
     let same : seen ≡ round = some_is (sym is_open ∙ ap (λ (d : DeskView V). d.round) (at_one old.desks id at was.at_desk) ∙ was.is_open) in
     (heard, record { desk = now; at_desk = at_now; is_open = ap (λ (d : DeskView V). d.round) hears.desk; preparing = hears.hears.prepares before (subst (IsPreparing before) (sym same) was.preparing) })
 
-prepare_steps : {S V : Type 0} (m : Meaning S V) (id : ℕ) (first_ mid : View S V) (replies : List Reply) (round : Round) → PreparesWith first_.desks id [] round → RoundSteps m id first_ replies mid → (ended : Round) × PreparesWith mid.desks id replies ended
+pub prepare_steps : {S V : Type 0} (m : Meaning S V) (id : ℕ) (first_ mid : View S V) (replies : List Reply) (round : Round) → PreparesWith first_.desks id [] round → RoundSteps m id first_ replies mid → (ended : Round) × PreparesWith mid.desks id replies ended
 prepare_steps m id first_ mid replies round was none = (round, was)
 prepare_steps m id first_ mid replies round was (one_more {before = before} {brought = brought} {mid = middle} event steps not_own by brings) =
     let until_now = prepare_steps m id first_ middle before round was steps in
@@ -80,7 +80,7 @@ pub desk_by : {S V : Type 0} (old new : View S V) (id : ℕ) (desk now : DeskVie
 desk_by {S} {V} old new id desk now at same = subst (λ (l : List (DeskView V)). IsAt l id now) (sym same) (at_set old.desks id desk now at)
 
 -- a ballot that rides changes nothing of the phase
-ridden : (prepared replies : List Reply) (round : Round) (ride : Option Ballot) → IsAccepting prepared replies round → IsAccepting prepared replies (record round { ride = ride })
+pub ridden : (prepared replies : List Reply) (round : Round) (ride : Option Ballot) → IsAccepting prepared replies round → IsAccepting prepared replies (record round { ride = ride })
 ridden prepared replies round ride is = record { phase = is.phase; met = is.met }
 
 -- ---- the ends

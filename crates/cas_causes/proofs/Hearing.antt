@@ -21,7 +21,7 @@ use Rattle.cas_causes.specs.Causes.{StepsPassOrBring}
 use Rattle.cas_causes.specs.Rounds.{IsUnderWay, Brings, nothing, one}
 
 -- ---- desks
-at_other : {A : Type 0} (all : List A) (place : ℕ) (x : A) (p : ℕ) (y : A) → p ≢ place → IsAt all p y → IsAt (slice_set all place x) p y
+pub at_other : {A : Type 0} (all : List A) (place : ℕ) (x : A) (p : ℕ) (y : A) → p ≢ place → IsAt all p y → IsAt (slice_set all place x) p y
 at_other [] place x p y other at = at
 at_other (z ∷ all) zero x zero y other at = absurd (other refl)
 at_other (z ∷ all) zero x (suc p) y other at = at

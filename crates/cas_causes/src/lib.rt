@@ -1,4 +1,4 @@
-//! Why a round ends as it does: by the replies that arrived at it, and by nothing else.
+//! Why a round ends as it does: by the replies that arrived at it, and by nothing else; and that it is done where nothing disturbs it.
 //!
 //! Definitions and laws, and no code that runs. A law is the contract of a function that does nothing.
 #![tactic(auto)]
@@ -6,6 +6,7 @@
 ghost use Rattle.cas_cluster.specs.View.{meaning};
 ghost use Rattle.cas_causes.specs.Causes.{StepsPassOrBring, RoundsBeginAfresh, PreparesEndByReplies, AcceptsEndByReplies};
 ghost use Rattle.cas_causes.specs.Told.{AnswersHaveCauses, WhatIsMetIsAbove};
+ghost use Rattle.cas_causes.specs.Undisturbed.{RoundsBeginToAsk, UndisturbedPreparesPropose, UndisturbedAcceptsAreDone, UndisturbedRoundsAreDone};
 
 use cas_disk::Disk;
 use cas_slot::Shelf;
@@ -43,4 +44,29 @@ pub fn answers_have_causes<S: Shelf, V: Disk>()
 /// Where shelves and disks tell what they keep, a ballot that a round met is above its own.
 pub fn what_is_met_is_above<S: Shelf, V: Disk>()
     ensures { WhatIsMetIsAbove (meaning S.contents S.tells S.may_leave S.fault_count V.tells V.may_leave V.fault_count) }
+{}
+
+/// A round that begins asks each member of its phase, and no other frame waits at its proposer.
+pub fn rounds_begin_to_ask<S: Shelf, V: Disk>()
+    ensures { RoundsBeginToAsk (meaning S.contents S.tells S.may_leave S.fault_count V.tells V.may_leave V.fault_count) }
+{}
+
+/// A prepare phase proposes where a prepare quorum of its era is undisturbed: no frame to or from those acceptors is lost or late, and
+/// each of their requests is handled by an acceptor that is up, that keeps no greater age of the proposer and no greater ballot for the
+/// key, that has room for it, and whose shelf has no fault. Whatever befalls the others, the accept phase begins then, with no reply, and
+/// with its requests and no other frame of the proposer's own; unless the vault fails in that very step, or no memory is found.
+pub fn undisturbed_prepares_propose<S: Shelf, V: Disk>()
+    ensures { UndisturbedPreparesPropose (meaning S.contents S.tells S.may_leave S.fault_count V.tells V.may_leave V.fault_count) }
+{}
+
+/// An accept phase is done where an accept quorum of its era is undisturbed likewise: once it is counted, its caller is told so, with
+/// what its call proposed and at the ballot of its round. No vault and no want of memory is an exception.
+pub fn undisturbed_accepts_are_done<S: Shelf, V: Disk>()
+    ensures { UndisturbedAcceptsAreDone (meaning S.contents S.tells S.may_leave S.fault_count V.tells V.may_leave V.fault_count) }
+{}
+
+/// So a round that begins to prepare, proposes and is counted, and that is undisturbed with a quorum in each phase, is done with what it
+/// proposed: its count tells nothing else.
+pub fn undisturbed_rounds_are_done<S: Shelf, V: Disk>()
+    ensures { UndisturbedRoundsAreDone (meaning S.contents S.tells S.may_leave S.fault_count V.tells V.may_leave V.fault_count) }
 {}

@@ -1,0 +1,251 @@
+-- What stays of a proposer as others go on: its own frames, and what its caller's call proposed.
+use Rattle.std.proofs.Common.{◌≡◌, ◌≢◌, ℕ, List, Some, slice_set, refl, sym, ap, subst, ◌∙◌, inl, inr}
+use Rattle.std.specs.Prelude.{◌⊎◌, is_some}
+use Rattle.cas_change.specs.declared.outcome.Outcome.{Outcome}
+use Rattle.cas_change.specs.declared.program.Clause.{Clause}
+use Rattle.cas_fate.specs.declared.fate.Verdict.{Verdict}
+use Rattle.cas_flow.specs.Flow.{FlowView, queue_at, queue_after, taken, emptied, abandoned}
+use Rattle.cas_flow.specs.Message.{head_of}
+use Rattle.cas_flow.specs.Queue.{QueueView, pushed}
+use Rattle.cas_flow.specs.declared.message.Message.{Message}
+use Rattle.cas_flow.specs.declared.message.Message.TheVariants as message
+use Rattle.cas_proposer.specs.Desk.{DeskView}
+use Rattle.cas_proposer.specs.declared.round.Round.{Round}
+use Rattle.cas_record.specs.declared.answer.Answer.{Answer}
+use Rattle.cas_record.specs.declared.answer.Answer.TheVariants as answer
+use Rattle.cas_slot.specs.declared.message.Reply.{Reply}
+use Rattle.cas_cluster.specs.Step as step
+use Rattle.cas_cluster.specs.Step.{StepBegin, StepTurn, StepRefuseTurn, StepPropose, StepCount, StepEnd, StepStray, StepCrashAcceptor, StepRestartAcceptor, StepCrashProposer, StepRestartProposer, OpenCallAt}
+use Rattle.cas_cluster.specs.StepCalls as calls
+use Rattle.cas_cluster.specs.StepFrames as frames
+use Rattle.cas_cluster.specs.StepFrames.{replied_flow}
+use Rattle.cas_cluster.specs.View.{Meaning, View, CallView, CallerView, IsAt}
+use Rattle.cas_cluster.proofs.Places.{at_one, at_set, some_is, queue_other, same_or_not}
+use Rattle.cas_causes.specs.Rounds.{IsOwnCall}
+use Rattle.cas_causes.specs.Undisturbed.{HasProposed}
+use Rattle.cas_causes.proofs.Hearing.{at_other}
+
+-- ---- what was proposed
+abbrev pub KeepsProposed : List CallerView → List CallerView → ℕ → Type 0
+KeepsProposed old new id = (outcome : Outcome) → HasProposed old id outcome → HasProposed new id outcome
+
+keeps_same : (old new : List CallerView) (id : ℕ) → new ≡ old → KeepsProposed old new id
+keeps_same old new id same outcome was = subst (λ (l : List CallerView). HasProposed l id outcome) (sym same) was
+
+-- another caller changes
+keeps_other : (old new : List CallerView) (id place : ℕ) (next : CallerView) → id ≢ place → new ≡ slice_set old place next → KeepsProposed old new id
+keeps_other old new id place next other same outcome was = record {
+  caller = was.caller;
+  at_caller = subst (λ (l : List CallerView). IsAt l id was.caller) (sym same) (at_other old place next id was.caller other was.at_caller);
+  call = was.call;
+  is_open = was.is_open;
+  proposed = was.proposed;
+}
+
+-- the caller's call goes on with what it proposed
+keeps_own : (old new : List CallerView) (id : ℕ) (caller : CallerView) (call next : CallView) → IsAt old id caller → caller.call ≡ Some call → next.proposed ≡ call.proposed → new ≡ slice_set old id (record caller { call = Some next }) → KeepsProposed old new id
+keeps_own old new id caller call next at is_open kept same outcome was =
+    let one_call : call ≡ was.call = some_is (sym is_open ∙ ap (λ (c : CallerView). c.call) (at_one old id at was.at_caller) ∙ was.is_open) in
+    record {
+      caller = record caller { call = Some next };
+      at_caller = subst (λ (l : List CallerView). IsAt l id (record caller { call = Some next })) (sym same) (at_set old id caller (record caller { call = Some next }) at);
+      call = next;
+      is_open = refl;
+      proposed = kept ∙ ap (λ (c : CallView). c.proposed) one_call ∙ was.proposed;
+    }
+
+-- ---- what stays
+pub record Stays {S V : Type 0} (old new : View S V) (id : ℕ) : Type 0 where
+  pub waits : (queue_at new.flow id).messages ≡ (queue_at old.flow id).messages
+  pub proposed : KeepsProposed old.callers new.callers id
+
+stays_same : {S V : Type 0} (old new : View S V) (id : ℕ) → new.flow ≡ old.flow → new.callers ≡ old.callers → Stays old new id
+stays_same old new id flow callers = record { waits = ap (λ (f : FlowView). (queue_at f id).messages) flow; proposed = keeps_same old.callers new.callers id callers }
+
+-- the frames of another stay, and its caller or another changes
+stays_by : {S V : Type 0} (old new : View S V) (id : ℕ) → queue_at new.flow id ≡ queue_at old.flow id → KeepsProposed old.callers new.callers id → Stays old new id
+stays_by old new id queue proposed = record { waits = ap (λ (q : QueueView). q.messages) queue; proposed = proposed }
+
+stays_both : {S V : Type 0} (old mid new : View S V) (id : ℕ) → Stays old mid id → Stays mid new id → Stays old new id
+stays_both old mid new id before after = record { waits = after.waits ∙ before.waits; proposed = λ outcome was. after.proposed outcome (before.proposed outcome was) }
+
+-- ---- frames of others
+taken_other : (flow : FlowView) (place id : ℕ) (v : Verdict) → id ≢ place → queue_at (taken flow place v) id ≡ queue_at flow id
+taken_other flow place id v other = queue_other flow.own place id (queue_after (queue_at flow place) v) other
+
+replied_other : (flow : FlowView) (place id : ℕ) (v : Verdict) (reply : Reply) → id ≢ place → queue_at (replied_flow flow place v reply) id ≡ queue_at flow id
+replied_other flow place id v reply other = queue_other (taken flow place v).own place id (pushed (queue_at (taken flow place v) place) (message.Reply reply)) other ∙ taken_other flow place id v other
+
+abandoned_other : (flow : FlowView) (place id : ℕ) → id ≢ place → queue_at (abandoned flow place) id ≡ queue_at flow id
+abandoned_other flow place id other = queue_other flow.own place id (emptied (queue_at flow place)) other
+
+-- ---- calls of others
+begin_stays : {S V : Type 0} (m : Meaning S V) (old new : View S V) (id caller : ℕ) (key : List ℕ) (program : List Clause) → id ≢ caller → StepBegin m old caller key program new → Stays old new id
+begin_stays {S} {V} m old new id caller key program other by = stays_both old by.middle new id (opens by.opens) (in_round by.begins)
+  where
+    opens : calls.Opens old caller key program by.middle → Stays old by.middle id
+    opens (calls.first was at none_open room is) =
+        stays_by old by.middle id (ap (λ (w : View S V). queue_at w.flow id) is) (keeps_other old.callers by.middle.callers id caller _ other (ap (λ (w : View S V). w.callers) is))
+    opens (calls.again was open_call reserved at open_is key_is program_is none_proposed met no_round room some is) =
+        stays_by old by.middle id (ap (λ (w : View S V). queue_at w.flow id) is) (keeps_other old.callers by.middle.callers id caller _ other (ap (λ (w : View S V). w.callers) is))
+
+    sent : (flow : FlowView) (messages : List Message) → new.flow ≡ flow → calls.Sends by.middle.flow caller messages flow → queue_at new.flow id ≡ queue_at by.middle.flow id
+    sent flow messages is sends = ap (λ (f : FlowView). queue_at f id) is ∙ sends.others id other
+
+    told : (next : CallerView) → new.flow ≡ by.middle.flow → new.callers ≡ slice_set by.middle.callers caller next → Stays by.middle new id
+    told next flow callers = stays_by by.middle new id (ap (λ (f : FlowView). queue_at f id) flow) (keeps_other by.middle.callers new.callers id caller next other callers)
+
+    in_round : calls.BeginsRound m by.middle caller by.caller by.call new → Stays by.middle new id
+    in_round (calls.prepares desk now ballot round flow at up few begins sends is) =
+        stays_by by.middle new id (sent flow _ (ap (λ (w : View S V). w.flow) is) sends) (keeps_same by.middle.callers new.callers id (ap (λ (w : View S V). w.callers) is))
+    in_round (calls.proposes desk now ready ride round outcome flow at up few begins made sends is) =
+        stays_by by.middle new id (sent flow _ (ap (λ (w : View S V). w.flow) is) sends) (keeps_other by.middle.callers new.callers id caller _ other (ap (λ (w : View S V). w.callers) is))
+    in_round (calls.stays told_it no_beginning no_round full is) = told _ (ap (λ (w : View S V). w.flow) is) (ap (λ (w : View S V). w.callers) is)
+    in_round (calls.spent desk now at none_open up no_promise spent kept now_is is) = told _ (ap (λ (w : View S V). w.flow) is) (ap (λ (w : View S V). w.callers) is)
+    in_round (calls.fails desk now at none_open up fails is) = told _ (ap (λ (w : View S V). w.flow) is) (ap (λ (w : View S V). w.callers) is)
+    in_round (calls.loses desk now ballot at none_open up loses is) = told _ (ap (λ (w : View S V). w.flow) is) (ap (λ (w : View S V). w.callers) is)
+
+no_begin_stays : {S V : Type 0} (m : Meaning S V) (old new : View S V) (id caller : ℕ) (key : List ℕ) → calls.RefusesCall m old caller key new → Stays old new id
+no_begin_stays {S} {V} m old new id caller key (calls.stays is) = stays_same old new id (ap (λ (w : View S V). w.flow) is) (ap (λ (w : View S V). w.callers) is)
+no_begin_stays {S} {V} m old new id caller key (calls.loses at_caller desk now ballot at_it at_desk none_open up loses is) = stays_same old new id (ap (λ (w : View S V). w.flow) is) (ap (λ (w : View S V). w.callers) is)
+
+propose_stays : {S V : Type 0} (m : Meaning S V) (old new : View S V) (id proposer : ℕ) → id ≢ proposer → StepPropose m old proposer new → Stays old new id
+propose_stays {S} {V} m old new id proposer other by = in_phase by.at_round.of_call by.at_round.desk by.at_round.round by.proposes
+  where
+    told : (next : CallerView) → new.flow ≡ old.flow → new.callers ≡ slice_set old.callers proposer next → Stays old new id
+    told next flow callers = stays_by old new id (ap (λ (f : FlowView). queue_at f id) flow) (keeps_other old.callers new.callers id proposer next other callers)
+
+    in_phase : (of_call : OpenCallAt old proposer) (desk : DeskView V) (round : Round) → calls.ProposesOrEnds m old proposer desk round of_call.caller of_call.call new → Stays old new id
+    in_phase at desk round (calls.proposes now turned read by ride outcome flow quorum confirmers reads turns made sends is) =
+        stays_by old new id (ap (λ (w : View S V). queue_at w.flow id) is ∙ sends.others id other) (keeps_other old.callers new.callers id proposer _ other (ap (λ (w : View S V). w.callers) is))
+    in_phase at desk round (calls.ends now verdict told_it verdict_is refuses ends is) = told _ (ap (λ (w : View S V). w.flow) is) (ap (λ (w : View S V). w.callers) is)
+    in_phase at desk round (calls.fails now fails is) = told _ (ap (λ (w : View S V). w.flow) is) (ap (λ (w : View S V). w.callers) is)
+    in_phase at desk round (calls.loses now ballot loses is) = told _ (ap (λ (w : View S V). w.flow) is) (ap (λ (w : View S V). w.callers) is)
+
+count_stays : {S V : Type 0} (m : Meaning S V) (old new : View S V) (id proposer : ℕ) → id ≢ proposer → StepCount m old proposer new → Stays old new id
+count_stays {S} {V} m old new id proposer other by = in_phase by.at_round.of_call by.at_round.desk by.at_round.round by.counts
+  where
+    told : (next : CallerView) → new.flow ≡ old.flow → new.callers ≡ slice_set old.callers proposer next → Stays old new id
+    told next flow callers = stays_by old new id (ap (λ (f : FlowView). queue_at f id) flow) (keeps_other old.callers new.callers id proposer next other callers)
+
+    in_phase : (of_call : OpenCallAt old proposer) (desk : DeskView V) (round : Round) → calls.CountsOrEnds m old proposer desk round of_call.caller of_call.call new → Stays old new id
+    in_phase at desk round (calls.counts now by outcome quorum confirmers proposed ends is) = told _ (ap (λ (w : View S V). w.flow) is) (ap (λ (w : View S V). w.callers) is)
+    in_phase at desk round (calls.ends now verdict why verdict_is cause ends is) = told _ (ap (λ (w : View S V). w.flow) is) (ap (λ (w : View S V). w.callers) is)
+
+end_stays : {S V : Type 0} (m : Meaning S V) (old new : View S V) (id caller : ℕ) (told : Answer) → id ≢ caller → StepEnd m old caller told new → Stays old new id
+end_stays {S} {V} m old new id caller told other by =
+    stays_by old new id (ap (λ (w : View S V). queue_at w.flow id) by.ends.view ∙ abandoned_other old.flow caller id other) (keeps_other old.callers new.callers id caller _ other (ap (λ (w : View S V). w.callers) by.ends.view))
+
+crash_stays : {S V : Type 0} (m : Meaning S V) (old new : View S V) (id proposer : ℕ) → id ≢ proposer → StepCrashProposer m old proposer new → Stays old new id
+crash_stays {S} {V} m old new id proposer other (step.idle desk now at none_open crashes is) =
+    stays_by old new id (ap (λ (w : View S V). queue_at w.flow id) is ∙ abandoned_other old.flow proposer id other) (keeps_same old.callers new.callers id (ap (λ (w : View S V). w.callers) is))
+crash_stays {S} {V} m old new id proposer other (step.closes desk now round at there is_round crashes is) =
+    stays_by old new id (ap (λ (w : View S V). queue_at w.flow id) is ∙ abandoned_other old.flow proposer id other) (keeps_other old.callers new.callers id proposer _ other (ap (λ (w : View S V). w.callers) is))
+
+-- ---- turns
+-- the frames of others stay as one has its turn
+turn_waits : {S V : Type 0} (m : Meaning S V) (old new : View S V) (id proposer : ℕ) (v : Verdict) → id ≢ proposer → StepTurn m old proposer v new → queue_at new.flow id ≡ queue_at old.flow id
+turn_waits {S} {V} m old new id proposer v other by = in_turn by.of_call by.front by.turn
+  where
+    in_turn : (of_call : OpenCallAt old proposer) (front : Message) → frames.TakesTurn m old proposer v front of_call.caller of_call.call new → queue_at new.flow id ≡ queue_at old.flow id
+    in_turn at front (frames.held fall is) = ap (λ (w : View S V). queue_at w.flow id) is
+    in_turn at front (frames.gone fall is) = ap (λ (w : View S V). queue_at w.flow id) is ∙ taken_other old.flow proposer id v other
+    in_turn at front (frames.answers request acceptor now reply fall front_is there table is) = ap (λ (w : View S V). queue_at w.flow id) is ∙ replied_other old.flow proposer id v reply other
+    in_turn at front (frames.finds_down request acceptor fall front_is there down is) = ap (λ (w : View S V). queue_at w.flow id) is ∙ taken_other old.flow proposer id v other
+    in_turn at front (frames.brings_down request acceptor now fall front_is there stops is) = ap (λ (w : View S V). queue_at w.flow id) is ∙ taken_other old.flow proposer id v other
+    in_turn at front (frames.arrives reply desk now round heard fall front_is there is_round hears is) = ap (λ (w : View S V). queue_at w.flow id) is ∙ taken_other old.flow proposer id v other
+
+-- and each call goes on with what it proposed
+turn_callers : {S V : Type 0} (m : Meaning S V) (old new : View S V) (proposer : ℕ) (v : Verdict) (by : StepTurn m old proposer v new)
+    → (new.callers ≡ old.callers) ⊎ ((next : CallView) × (next.proposed ≡ by.of_call.call.proposed) × (new.callers ≡ slice_set old.callers proposer (record by.of_call.caller { call = Some next })))
+turn_callers {S} {V} m old new proposer v by = in_turn by.of_call by.front by.turn
+  where
+    in_turn : (of_call : OpenCallAt old proposer) (front : Message) → frames.TakesTurn m old proposer v front of_call.caller of_call.call new
+        → (new.callers ≡ old.callers) ⊎ ((next : CallView) × (next.proposed ≡ of_call.call.proposed) × (new.callers ≡ slice_set old.callers proposer (record of_call.caller { call = Some next })))
+    in_turn at front (frames.held fall is) = inl (ap (λ (w : View S V). w.callers) is)
+    in_turn at front (frames.gone fall is) = inr (frames.harmed_by at.call (head_of front).1, refl, ap (λ (w : View S V). w.callers) is)
+    in_turn at front (frames.answers request acceptor now reply fall front_is there table is) = inr (frames.marking at.call _, refl, ap (λ (w : View S V). w.callers) is)
+    in_turn at front (frames.finds_down request acceptor fall front_is there down is) = inr (frames.harmed_by at.call request.to, refl, ap (λ (w : View S V). w.callers) is)
+    in_turn at front (frames.brings_down request acceptor now fall front_is there stops is) = inr (frames.harmed_by at.call request.to, refl, ap (λ (w : View S V). w.callers) is)
+    in_turn at front (frames.arrives reply desk now round heard fall front_is there is_round hears is) = inr (frames.silent at.call, refl, ap (λ (w : View S V). w.callers) is)
+
+pub turn_proposed : {S V : Type 0} (m : Meaning S V) (old new : View S V) (id proposer : ℕ) (v : Verdict) → StepTurn m old proposer v new → KeepsProposed old.callers new.callers id
+turn_proposed m old new id proposer v by = elim (turn_callers m old new proposer v by) [
+  | inl same ↦ keeps_same old.callers new.callers id same
+  | inr goes ↦ elim (same_or_not id proposer) [
+    | inl own ↦ subst (KeepsProposed old.callers new.callers) (sym own) (keeps_own old.callers new.callers proposer by.of_call.caller by.of_call.call goes.0 by.of_call.at_caller by.of_call.is_open goes.1 goes.2)
+    | inr other ↦ keeps_other old.callers new.callers id proposer _ other goes.2
+  ]
+]
+
+-- ---- no memory
+no_room_stays : {S V : Type 0} (m : Meaning S V) (old new : View S V) (id : ℕ) → frames.FindsNoRoom m old new → Stays old new id
+no_room_stays {S} {V} m old new id (frames.stays is) = stays_same old new id (ap (λ (w : View S V). w.flow) is) (ap (λ (w : View S V). w.callers) is)
+no_room_stays {S} {V} m old new id (frames.kept at acceptor now there finds is) = stays_same old new id (ap (λ (w : View S V). w.flow) is) (ap (λ (w : View S V). w.callers) is)
+
+room_callers : {S V : Type 0} (m : Meaning S V) (old new : View S V) → frames.FindsNoRoom m old new → new.callers ≡ old.callers
+room_callers {S} {V} m old new (frames.stays is) = ap (λ (w : View S V). w.callers) is
+room_callers {S} {V} m old new (frames.kept at acceptor now there finds is) = ap (λ (w : View S V). w.callers) is
+
+-- a turn that finds none tells its caller so
+no_turn_stays : {S V : Type 0} (m : Meaning S V) (old new : View S V) (id proposer : ℕ) → StepRefuseTurn m old proposer new → Stays old new id
+no_turn_stays {S} {V} m old new id proposer by =
+    stays_both old by.middle new id (no_room_stays m old by.middle id by.refuses) (stays_by by.middle new id (ap (λ (w : View S V). queue_at w.flow id) by.view) (kept (same_or_not id proposer)))
+  where
+    next : CallView
+    next = calls.telling by.of_call.call (answer.NoMemory (is_some by.of_call.call.proposed))
+
+    kept : (id ≡ proposer) ⊎ (id ≡ proposer → ⊥) → KeepsProposed by.middle.callers new.callers id
+    kept (inl own) =
+        subst (KeepsProposed by.middle.callers new.callers) (sym own)
+        (keeps_own by.middle.callers new.callers proposer by.of_call.caller by.of_call.call next
+        (subst (λ (l : List CallerView). IsAt l proposer by.of_call.caller) (sym (room_callers m old by.middle by.refuses)) by.of_call.at_caller) by.of_call.is_open refl (ap (λ (w : View S V). w.callers) by.view))
+    kept (inr other) = keeps_other by.middle.callers new.callers id proposer _ other (ap (λ (w : View S V). w.callers) by.view)
+
+-- ---- strays and stops
+stray_stays : {S V : Type 0} (m : Meaning S V) (old new : View S V) (id index : ℕ) → StepStray m old index new → Stays old new id
+stray_stays {S} {V} m old new id index by = in_stray by.late by.strays
+  where
+    in_stray : (late : Message) → frames.Strays m old index late new → Stays old new id
+    in_stray late (frames.answers request acceptor now reply late_is at table is) =
+        stays_by old new id (ap (λ (w : View S V). queue_at w.flow id) is) (keeps_same old.callers new.callers id (ap (λ (w : View S V). w.callers) is))
+    in_stray late (frames.brings_down request acceptor now late_is at stops is) =
+        stays_by old new id (ap (λ (w : View S V). queue_at w.flow id) is) (keeps_same old.callers new.callers id (ap (λ (w : View S V). w.callers) is))
+    in_stray late (frames.arrives reply desk now round heard late_is at is_round hears is) =
+        stays_by old new id (ap (λ (w : View S V). queue_at w.flow id) is) (keeps_same old.callers new.callers id (ap (λ (w : View S V). w.callers) is))
+    in_stray late (frames.drops ignored is) =
+        stays_by old new id (ap (λ (w : View S V). queue_at w.flow id) is) (keeps_same old.callers new.callers id (ap (λ (w : View S V). w.callers) is))
+
+restart_stays : {S V : Type 0} (m : Meaning S V) (old new : View S V) (id acceptor : ℕ) → StepRestartAcceptor m old acceptor new → Stays old new id
+restart_stays {S} {V} m old new id acceptor (step.was_up it at up is) = stays_same old new id (ap (λ (w : View S V). w.flow) is) (ap (λ (w : View S V). w.callers) is)
+restart_stays {S} {V} m old new id acceptor (step.starts it now at starts is) = stays_same old new id (ap (λ (w : View S V). w.flow) is) (ap (λ (w : View S V). w.callers) is)
+restart_stays {S} {V} m old new id acceptor (step.fails it now at fails is) = stays_same old new id (ap (λ (w : View S V). w.flow) is) (ap (λ (w : View S V). w.callers) is)
+
+desk_stays : {S V : Type 0} (m : Meaning S V) (old new : View S V) (id proposer : ℕ) → StepRestartProposer m old proposer new → Stays old new id
+desk_stays {S} {V} m old new id proposer (step.was_up_already desk at up is) = stays_same old new id (ap (λ (w : View S V). w.flow) is) (ap (λ (w : View S V). w.callers) is)
+desk_stays {S} {V} m old new id proposer (step.restarts desk now at down restarts is) = stays_same old new id (ap (λ (w : View S V). w.flow) is) (ap (λ (w : View S V). w.callers) is)
+
+-- ---- all of them
+-- the proposer's own frame has its turn
+abbrev pub OwnTurn : {S V : Type 0} → Meaning S V → View S V → View S V → ℕ → step.Event → Type 0
+OwnTurn m old new id (step.Turn proposer v) = (proposer ≡ id) × StepTurn m old proposer v new
+OwnTurn m old new id other = ⊥
+
+-- it has, or all of the proposer's stays
+pub stays_or_turn : {S V : Type 0} (m : Meaning S V) (old new : View S V) (id : ℕ) (event : step.Event) → (IsOwnCall id event → ⊥) → step.Step m old event new → Stays old new id ⊎ OwnTurn m old new id event
+stays_or_turn m old new id (step.Begin caller key program) not_own by = inl (begin_stays m old new id caller key program (λ is. not_own (sym is)) by)
+stays_or_turn m old new id (step.RefuseBegin caller key) not_own by = inl (no_begin_stays m old new id caller key by)
+stays_or_turn m old new id (step.Turn proposer v) not_own by = elim (same_or_not id proposer) [
+  | inl own ↦ inr (sym own, by)
+  | inr other ↦ inl (stays_by old new id (turn_waits m old new id proposer v other by) (turn_proposed m old new id proposer v by))
+]
+stays_or_turn m old new id (step.RefuseTurn proposer) not_own by = inl (no_turn_stays m old new id proposer by)
+stays_or_turn m old new id (step.Propose proposer) not_own by = inl (propose_stays m old new id proposer (λ is. not_own (sym is)) by)
+stays_or_turn m old new id (step.Count proposer) not_own by = inl (count_stays m old new id proposer (λ is. not_own (sym is)) by)
+stays_or_turn m old new id (step.End caller told) not_own by = inl (end_stays m old new id caller told (λ is. not_own (sym is)) by)
+stays_or_turn m old new id (step.Stray index) not_own by = inl (stray_stays m old new id index by)
+stays_or_turn m old new id step.RefuseStray not_own by = inl (no_room_stays m old new id by)
+stays_or_turn {S} {V} m old new id (step.CrashAcceptor acceptor) not_own (step.crashes it now at crashes is) = inl (stays_same old new id (ap (λ (w : View S V). w.flow) is) (ap (λ (w : View S V). w.callers) is))
+stays_or_turn m old new id (step.RestartAcceptor acceptor) not_own by = inl (restart_stays m old new id acceptor by)
+stays_or_turn m old new id (step.CrashProposer proposer) not_own by = inl (crash_stays m old new id proposer (λ is. not_own (sym is)) by)
+stays_or_turn m old new id (step.RestartProposer proposer) not_own by = inl (desk_stays m old new id proposer by)
