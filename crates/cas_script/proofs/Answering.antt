@@ -7,12 +7,12 @@ use Rattle.cas_lines.specs.declared.answer.Shown.{Shown}
 use Rattle.cas_lines.specs.declared.command.Command.{Command}
 use Rattle.cas_lines.specs.declared.command.Command.TheVariants.{Show}
 use Rattle.cas_record.specs.declared.answer.Answer.{Answer}
-use Rattle.cas_cluster.specs.View.{View}
+use Rattle.cas_cluster.specs.View.{Meaning, View}
 use Rattle.cas_change.specs.declared.program.Clause.{Clause}
 use Rattle.cas_world.specs.Beginning.{HasNoCall}
 use Rattle.cas_script.specs.Changes.{IsChange}
 use Rattle.cas_script.specs.Conditions.{Rule}
-use Rattle.cas_script.specs.Events.{Kinds, IsShown}
+use Rattle.cas_script.specs.Events.{IsShown}
 use Rattle.cas_script.specs.Network.{IsNetwork}
 use Rattle.cas_script.specs.Script.{State, LineAnswer, Changed, Happened, Shows, RunsChange, RunsEvent, IsAnswered, changes, happens, shows, text_of, IsIn, AnswersLine, RanOrNot, ran, Runs, nowhere}
 use Rattle.cas_script.specs.Stage.{Stage, IsStage}
@@ -23,39 +23,39 @@ use Rattle.cas_script.proofs.Stages.{stage_of, halt_at, world_is, halts_are, net
 
 -- ---- results
 -- with its text, where there was memory for it
-pub with_text : {S V : Type 0} {T E : Type 0} (k : Kinds S V) (tries number : ℕ) (state : State S V) (line : List ℕ) (stage : Stage S V) (bytes : T → List ℕ) (r : Result T E) (answer : LineAnswer) (new : State S V) → IsIn stage new → IsAnswered k tries state line answer new
-    → IfOk r (λ text. bytes text ≡ text_of number answer) → IfOk r (λ text. AnswersLine k tries state line number (bytes text) stage)
-with_text k tries number state line stage bytes (Ok text) answer new is_in run text_is = record { answer = answer; new = new; is_in = is_in; run = run; text_is = text_is }
-with_text k tries number state line stage bytes (Err e) answer new is_in run text_is = tt
+pub with_text : {S V : Type 0} {T E : Type 0} (m : Meaning S V) (tries number : ℕ) (state : State S V) (line : List ℕ) (stage : Stage S V) (bytes : T → List ℕ) (r : Result T E) (answer : LineAnswer) (new : State S V) → IsIn stage new → IsAnswered m tries state line answer new
+    → IfOk r (λ text. bytes text ≡ text_of number answer) → IfOk r (λ text. AnswersLine m tries state line number (bytes text) stage)
+with_text m tries number state line stage bytes (Ok text) answer new is_in run text_is = record { answer = answer; new = new; is_in = is_in; run = run; text_is = text_is }
+with_text m tries number state line stage bytes (Err e) answer new is_in run text_is = tt
 
-pub without_text : {S V : Type 0} {T E : Type 0} (k : Kinds S V) (tries : ℕ) (state : State S V) (line : List ℕ) (stage : Stage S V) (r : Result T E) (answer : LineAnswer) (new : State S V) → IsIn stage new → IsAnswered k tries state line answer new → OnErr r (RanOrNot k tries state line stage)
-without_text k tries state line stage (Ok text) answer new is_in run = tt
-without_text k tries state line stage (Err e) answer new is_in run = ran answer new is_in run
+pub without_text : {S V : Type 0} {T E : Type 0} (m : Meaning S V) (tries : ℕ) (state : State S V) (line : List ℕ) (stage : Stage S V) (r : Result T E) (answer : LineAnswer) (new : State S V) → IsIn stage new → IsAnswered m tries state line answer new → OnErr r (RanOrNot m tries state line stage)
+without_text m tries state line stage (Ok text) answer new is_in run = tt
+without_text m tries state line stage (Err e) answer new is_in run = ran answer new is_in run
 
 -- ---- what is run
 -- the line says so of the world of the state
 pub line_of : {S V : Type 0} (stage : Stage S V) (state : State S V) (line : List ℕ) (said : Option Command) → IsIn stage state → IsLine stage.world.greatest line said → IsLine state.world.greatest line said
 line_of {S} {V} stage state line said at is = subst (λ (w : View S V). IsLine w.greatest line said) at.world is
 
-pub changes_run : {S V : Type 0} (k : Kinds S V) (tries : ℕ) (old stage : Stage S V) (state : State S V) (line : List ℕ) (command : Command) (asked : Asked) (answer : Answer) → IsIn old state → IsLine old.world.greatest line (Some command) → change_of command ≡ Some asked
-    → (runs : Runs (RunsChange k tries state asked answer) stage) → IsAnswered k tries state line (Changed asked.caller answer) runs.new
-changes_run k tries old stage state line command asked answer at is asks runs = changes command asked (line_of old state line (Some command) at is) asks runs.has
+pub changes_run : {S V : Type 0} (m : Meaning S V) (tries : ℕ) (old stage : Stage S V) (state : State S V) (line : List ℕ) (command : Command) (asked : Asked) (answer : Answer) → IsIn old state → IsLine old.world.greatest line (Some command) → change_of command ≡ Some asked
+    → (runs : Runs (RunsChange m tries state asked answer) stage) → IsAnswered m tries state line (Changed asked.caller answer) runs.new
+changes_run m tries old stage state line command asked answer at is asks runs = changes command asked (line_of old state line (Some command) at is) asks runs.has
 
-pub happens_run : {S V : Type 0} (k : Kinds S V) (tries : ℕ) (old stage : Stage S V) (state : State S V) (line : List ℕ) (command : Command) (answer : EventAnswer) → IsIn old state → IsLine old.world.greatest line (Some command)
-    → (runs : Runs (RunsEvent k state command answer) stage) → IsAnswered k tries state line (Happened answer) runs.new
-happens_run k tries old stage state line command answer at is runs = happens command (line_of old state line (Some command) at is) runs.has
+pub happens_run : {S V : Type 0} (m : Meaning S V) (tries : ℕ) (old stage : Stage S V) (state : State S V) (line : List ℕ) (command : Command) (answer : EventAnswer) → IsIn old state → IsLine old.world.greatest line (Some command)
+    → (runs : Runs (RunsEvent m state command answer) stage) → IsAnswered m tries state line (Happened answer) runs.new
+happens_run m tries old stage state line command answer at is runs = happens command (line_of old state line (Some command) at is) runs.has
 
-pub shows_run : {S V : Type 0} (k : Kinds S V) (tries : ℕ) (stage : Stage S V) (state : State S V) (line : List ℕ) (command : Command) (id : ℕ) (key : List ℕ) (shown : Shown) (world : View S V) → IsIn stage state → IsLine stage.world.greatest line (Some command) → command ≡ Show id key
-    → world ≡ state.world → IsShown k.meaning world id key shown → IsAnswered k tries state line (Shows id key shown) state
-shows_run {S} {V} k tries stage state line command id key shown world at is says same has =
-    shows id key (subst (λ (c : Command). IsLine state.world.greatest line (Some c)) says (line_of stage state line (Some command) at is)) (subst (λ (w : View S V). IsShown k.meaning w id key shown) same has)
+pub shows_run : {S V : Type 0} (m : Meaning S V) (tries : ℕ) (stage : Stage S V) (state : State S V) (line : List ℕ) (command : Command) (id : ℕ) (key : List ℕ) (shown : Shown) (world : View S V) → IsIn stage state → IsLine stage.world.greatest line (Some command) → command ≡ Show id key
+    → world ≡ state.world → IsShown m world id key shown → IsAnswered m tries state line (Shows id key shown) state
+shows_run {S} {V} m tries stage state line command id key shown world at is says same has =
+    shows id key (subst (λ (c : Command). IsLine state.world.greatest line (Some c)) says (line_of stage state line (Some command) at is)) (subst (λ (w : View S V). IsShown m w id key shown) same has)
 
 -- ---- a change
-pub change_runs : {S V : Type 0} (k : Kinds S V) (world now : View S V) (network next : Network) (halts : List Halt) (tries : ℕ) (seen : Stage S V) (state : State S V) (index : ℕ) (asked : Asked) (after : Halt) (answer : Answer)
+pub change_runs : {S V : Type 0} (m : Meaning S V) (world now : View S V) (network next : Network) (halts : List Halt) (tries : ℕ) (seen : Stage S V) (state : State S V) (index : ℕ) (asked : Asked) (after : Halt) (answer : Answer)
     → stage_of world network halts tries ≡ seen → IsIn seen state → index ≡ asked.caller → asked.caller < length halts
-    → (IsNetwork network state.rules → IsNetwork next state.rules) → (IsNetwork network state.rules → IsChange k.meaning tries state.rules asked.caller asked.key asked.program (slice_index_or halts index nowhere) world answer after now)
-    → Runs (RunsChange k tries state asked answer) (stage_of now next (slice_set halts index after) tries)
-change_runs {S} {V} k world now network next halts tries seen state index asked after answer is at same low still runs = record {
+    → (IsNetwork network state.rules → IsNetwork next state.rules) → (IsNetwork network state.rules → IsChange m tries state.rules asked.caller asked.key asked.program (slice_index_or halts index nowhere) world answer after now)
+    → Runs (RunsChange m tries state asked answer) (stage_of now next (slice_set halts index after) tries)
+change_runs {S} {V} m world now network next halts tries seen state index asked after answer is at same low still runs = record {
   new = record state { world = now; halts = slice_set state.halts asked.caller after };
   is_in = record {
     world = refl;
@@ -66,19 +66,19 @@ change_runs {S} {V} k world now network next halts tries seen state index asked 
     halt = slice_index_or halts index nowhere;
     at_halt = halt_at halts state.halts index asked.caller same low (halts_are world network halts tries seen state is at);
     after = after;
-    change = subst (λ (w : View S V). IsChange k.meaning tries state.rules asked.caller asked.key asked.program (slice_index_or halts index nowhere) w answer after now) (world_is world network halts tries seen state is at) (runs (network_is world network halts tries seen state is at));
+    change = subst (λ (w : View S V). IsChange m tries state.rules asked.caller asked.key asked.program (slice_index_or halts index nowhere) w answer after now) (world_is world network halts tries seen state is at) (runs (network_is world network halts tries seen state is at));
     rules = refl;
     halts = refl;
   };
 }
 
-pub change_stage : {S V : Type 0} (k : Kinds S V) (world now : View S V) (network next : Network) (halts afters : List Halt) (tries proposers : ℕ) (id : ℕ) (key : List ℕ) (program : List Clause) (halt after : Halt) (answer : Answer) → IsStage (stage_of world network halts tries) proposers
-    → now.greatest ≡ world.greatest → HasNoCall now id → ((rules : List Rule) → IsNetwork network rules → IsNetwork next rules) → ((rules : List Rule) → IsNetwork network rules → IsChange k.meaning tries rules id key program halt world answer after now)
+pub change_stage : {S V : Type 0} (m : Meaning S V) (world now : View S V) (network next : Network) (halts afters : List Halt) (tries proposers : ℕ) (id : ℕ) (key : List ℕ) (program : List Clause) (halt after : Halt) (answer : Answer) → IsStage (stage_of world network halts tries) proposers
+    → now.greatest ≡ world.greatest → HasNoCall now id → ((rules : List Rule) → IsNetwork network rules → IsNetwork next rules) → ((rules : List Rule) → IsNetwork network rules → IsChange m tries rules id key program halt world answer after now)
     → IsStage (stage_of now next afters tries) proposers
-change_stage k world now network next halts afters tries proposers id key program halt after answer is greatest idle still runs = record {
+change_stage m world now network next halts afters tries proposers id key program halt after answer is greatest idle still runs = record {
   known = greatest ∙ is.known;
   few = is.few;
   some = is.some;
-  idle = idle_then world now id (change_keeps k.meaning tries is.ruled.0 id key program halt after world now answer (runs is.ruled.0 is.ruled.1)) is.idle idle;
+  idle = idle_then world now id (change_keeps m tries is.ruled.0 id key program halt after world now answer (runs is.ruled.0 is.ruled.1)) is.idle idle;
   ruled = (is.ruled.0, still is.ruled.0 is.ruled.1);
 }

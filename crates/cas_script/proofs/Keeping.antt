@@ -20,7 +20,7 @@ use Rattle.cas_script.specs.Changes as changes
 use Rattle.cas_script.specs.Changes.{Turned, AllTurned, FailsToTurn, EndsPrepare, IsAccepted, IsRound, AreRounds, IsChange}
 use Rattle.cas_script.specs.Conditions.{Rule}
 use Rattle.cas_script.specs.Events as events
-use Rattle.cas_script.specs.Events.{Kinds, CrashesAcceptor, RestartsAcceptor, RestartsProposer, StraysIn}
+use Rattle.cas_script.specs.Events.{CrashesAcceptor, RestartsAcceptor, RestartsProposer, StraysIn}
 use Rattle.cas_script.specs.Stage.{AllIdle}
 use Rattle.cas_script.specs.declared.halt.Halt.{Halt}
 
@@ -175,16 +175,16 @@ restarts_step m old new id (step.was_up acceptor at up is) = by_view old old new
 restarts_step m old new id (step.starts acceptor now at starts is) = by_view old _ new is refl refl
 restarts_step m old new id (step.fails acceptor now at fails is) = by_view old _ new is refl refl
 
-pub restarts_keep : {S V : Type 0} (k : Kinds S V) (old new : View S V) (id : ℕ) (answer : EventAnswer) → RestartsAcceptor k old id answer new → KeepsCallers old new
-restarts_keep k old new id answer (events.absent none) = by_view old old old refl refl refl
-restarts_keep k old new id answer (events.restarts result there by tells) = restarts_step k.meaning old new id by
+pub restarts_keep : {S V : Type 0} (m : Meaning S V) (old new : View S V) (id : ℕ) (answer : EventAnswer) → RestartsAcceptor m old id answer new → KeepsCallers old new
+restarts_keep m old new id answer (events.absent none) = by_view old old old refl refl refl
+restarts_keep m old new id answer (events.restarts result there by tells) = restarts_step m old new id by
 
 desk_step : {S V : Type 0} (m : Meaning S V) (old new : View S V) (id : ℕ) → StepRestartProposer m old id new → KeepsCallers old new
 desk_step m old new id (step.was_up_already desk at up is) = by_view old old new is refl refl
 desk_step m old new id (step.restarts desk now at down restarts is) = by_view old _ new is refl refl
 
-pub proposer_keeps : {S V : Type 0} (k : Kinds S V) (old new : View S V) (id : ℕ) (answer : EventAnswer) → RestartsProposer k old id answer new → KeepsCallers old new
-proposer_keeps k old new id answer (events.restarts result by tells) = desk_step k.meaning old new id by
+pub proposer_keeps : {S V : Type 0} (m : Meaning S V) (old new : View S V) (id : ℕ) (answer : EventAnswer) → RestartsProposer m old id answer new → KeepsCallers old new
+proposer_keeps m old new id answer (events.restarts result by tells) = desk_step m old new id by
 
 -- a proposer that crashes between two calls
 pub crash_between : {S V : Type 0} (m : Meaning S V) (old new : View S V) (id : ℕ) → id ≤ old.greatest → AllIdle old → StepCrashProposer m old id new → KeepsCallers old new

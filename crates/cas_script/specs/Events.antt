@@ -18,15 +18,6 @@ use Rattle.cas_cluster.specs.View.{Meaning, View, IsAt, reserved_of}
 use Rattle.cas_world.specs.Readers.{up_in}
 use Rattle.cas_world.specs.Restarting.{TellsOfAcceptor, TellsOfDesk}
 
--- what shelves and disks mean, and how often each has failed
-pub record Kinds (S V : Type 0) : Type 1 where
-  pub meaning : Meaning S V
-  pub shelf_faults : S → ℕ
-  pub disk_faults : V → ℕ
-
-abbrev pub kinds : {S V : Type 0} → Meaning S V → (S → ℕ) → (V → ℕ) → Kinds S V
-kinds meaning shelf_faults disk_faults = record { meaning = meaning; shelf_faults = shelf_faults; disk_faults = disk_faults }
-
 -- whether the acceptor is up, where it is a member
 abbrev pub is_up : {S V : Type 0} → View S V → ℕ → Option Bool
 is_up view id = up_in view.era id (slice_get view.acceptors id)
@@ -52,15 +43,15 @@ vault_answer (Err vault_error.Spent) = event.NoMemory
 vault_answer (Err (vault_error.Foreign at)) = event.Foreign at
 vault_answer (Err vault_error.NoMemory) = event.NoMemory
 
-pub data RestartsAcceptor {S V : Type 0} (k : Kinds S V) (old : View S V) (id : ℕ) : EventAnswer → View S V → Type 0 where
-  absent : is_up old id ≡ None → RestartsAcceptor k old id event.Absent old
-  restarts : {new : View S V} (result : Result ⊤ ShelfFault) → IsSome (is_up old id) → Step k.meaning old (RestartAcceptor id) new
-      → ((was now : AcceptorView S) → IsAt old.acceptors id was → IsAt new.acceptors id now → TellsOfAcceptor k.meaning.shelves k.shelf_faults was now result) → RestartsAcceptor k old id (shelf_answer result) new
+pub data RestartsAcceptor {S V : Type 0} (m : Meaning S V) (old : View S V) (id : ℕ) : EventAnswer → View S V → Type 0 where
+  absent : is_up old id ≡ None → RestartsAcceptor m old id event.Absent old
+  restarts : {new : View S V} (result : Result ⊤ ShelfFault) → IsSome (is_up old id) → Step m old (RestartAcceptor id) new
+      → ((was now : AcceptorView S) → IsAt old.acceptors id was → IsAt new.acceptors id now → TellsOfAcceptor m.shelves m.shelves.faults was now result) → RestartsAcceptor m old id (shelf_answer result) new
 
 -- ---- proposers
-pub data RestartsProposer {S V : Type 0} (k : Kinds S V) (old : View S V) (id : ℕ) : EventAnswer → View S V → Type 0 where
-  restarts : {new : View S V} (result : Result ⊤ VaultError) → Step k.meaning old (RestartProposer id) new
-      → ((was now : DeskView V) → IsAt old.desks id was → IsAt new.desks id now → TellsOfDesk k.meaning.disks k.disk_faults was now result) → RestartsProposer k old id (vault_answer result) new
+pub data RestartsProposer {S V : Type 0} (m : Meaning S V) (old : View S V) (id : ℕ) : EventAnswer → View S V → Type 0 where
+  restarts : {new : View S V} (result : Result ⊤ VaultError) → Step m old (RestartProposer id) new
+      → ((was now : DeskView V) → IsAt old.desks id was → IsAt new.desks id now → TellsOfDesk m.disks m.disks.faults was now result) → RestartsProposer m old id (vault_answer result) new
 
 -- ---- late frames
 -- the late frame of that place strays in: there is none, the record is full, or there was no memory

@@ -12,10 +12,10 @@ use Rattle.cas_lines.specs.declared.command.Command.TheVariants.{Net, CrashAccep
 use Rattle.cas_record.specs.declared.answer.Answer.{Answer}
 use Rattle.cas_cluster.specs.Step as step
 use Rattle.cas_cluster.specs.Step.{Step}
-use Rattle.cas_cluster.specs.View.{View, IsAt}
+use Rattle.cas_cluster.specs.View.{Meaning, View, IsAt}
 use Rattle.cas_script.specs.Changes.{IsChange}
 use Rattle.cas_script.specs.Conditions.{Rule}
-use Rattle.cas_script.specs.Events.{Kinds, CrashesAcceptor, RestartsAcceptor, RestartsProposer, StraysIn, IsShown}
+use Rattle.cas_script.specs.Events.{CrashesAcceptor, RestartsAcceptor, RestartsProposer, StraysIn, IsShown}
 use Rattle.cas_script.specs.Network.{IsNetwork}
 use Rattle.cas_script.specs.Stage.{Stage}
 use Rattle.cas_script.specs.declared.halt.Halt.{Halt}
@@ -46,40 +46,40 @@ pub data LineAnswer : Type 0 where
   Remark : LineAnswer
 
 -- a line that asks for a change runs it, and the halts of its proposer may be used up
-pub record RunsChange {S V : Type 0} (k : Kinds S V) (tries : ℕ) (old : State S V) (asked : Asked) (answer : Answer) (new : State S V) : Type 0 where
+pub record RunsChange {S V : Type 0} (m : Meaning S V) (tries : ℕ) (old : State S V) (asked : Asked) (answer : Answer) (new : State S V) : Type 0 where
   pub halt : Halt
   pub at_halt : IsAt old.halts asked.caller halt
   pub after : Halt
-  pub change : IsChange k.meaning tries old.rules asked.caller asked.key asked.program halt old.world answer after new.world
+  pub change : IsChange m tries old.rules asked.caller asked.key asked.program halt old.world answer after new.world
   pub rules : new.rules ≡ old.rules
   pub halts : new.halts ≡ slice_set old.halts asked.caller after
 
 -- an event line: one more rule for frames, a stop or a restart, a halt that is due, or a late frame
-pub data RunsEvent {S V : Type 0} (k : Kinds S V) (old : State S V) : Command → EventAnswer → State S V → Type 0 where
-  net : {leg : _} {who : _} {verdict : _} {new : State S V} → new ≡ record old { rules = record { leg = leg; who = who; verdict = verdict } ∷ old.rules } → RunsEvent k old (Net leg who verdict) event.Ok new
-  crash_acceptor : {id : ℕ} {answer : EventAnswer} {world : View S V} → CrashesAcceptor k.meaning old.world id answer world → RunsEvent k old (CrashAcceptor id) answer (record old { world = world })
-  restart_acceptor : {id : ℕ} {answer : EventAnswer} {world : View S V} → RestartsAcceptor k old.world id answer world → RunsEvent k old (RestartAcceptor id) answer (record old { world = world })
-  crash_proposer : {proposer : ℕ} {world : View S V} → Step k.meaning old.world (step.CrashProposer proposer) world → RunsEvent k old (CrashProposer proposer) event.Ok (record old { world = world })
-  restart_proposer : {proposer : ℕ} {answer : EventAnswer} {world : View S V} → RestartsProposer k old.world proposer answer world → RunsEvent k old (RestartProposer proposer) answer (record old { world = world })
-  halt_prepared : {proposer : ℕ} (halt : Halt) {new : State S V} → IsAt old.halts proposer halt → new ≡ record old { halts = slice_set old.halts proposer (record halt { after_prepare = true }) } → RunsEvent k old (HaltPrepared proposer) event.Ok new
-  halt_proposed : {proposer : ℕ} (halt : Halt) {new : State S V} → IsAt old.halts proposer halt → new ≡ record old { halts = slice_set old.halts proposer (record halt { after_propose = true }) } → RunsEvent k old (HaltProposed proposer) event.Ok new
-  stray : {index : ℕ} {answer : EventAnswer} {world : View S V} → StraysIn k.meaning old.world index answer world → RunsEvent k old (Stray index) answer (record old { world = world })
+pub data RunsEvent {S V : Type 0} (m : Meaning S V) (old : State S V) : Command → EventAnswer → State S V → Type 0 where
+  net : {leg : _} {who : _} {verdict : _} {new : State S V} → new ≡ record old { rules = record { leg = leg; who = who; verdict = verdict } ∷ old.rules } → RunsEvent m old (Net leg who verdict) event.Ok new
+  crash_acceptor : {id : ℕ} {answer : EventAnswer} {world : View S V} → CrashesAcceptor m old.world id answer world → RunsEvent m old (CrashAcceptor id) answer (record old { world = world })
+  restart_acceptor : {id : ℕ} {answer : EventAnswer} {world : View S V} → RestartsAcceptor m old.world id answer world → RunsEvent m old (RestartAcceptor id) answer (record old { world = world })
+  crash_proposer : {proposer : ℕ} {world : View S V} → Step m old.world (step.CrashProposer proposer) world → RunsEvent m old (CrashProposer proposer) event.Ok (record old { world = world })
+  restart_proposer : {proposer : ℕ} {answer : EventAnswer} {world : View S V} → RestartsProposer m old.world proposer answer world → RunsEvent m old (RestartProposer proposer) answer (record old { world = world })
+  halt_prepared : {proposer : ℕ} (halt : Halt) {new : State S V} → IsAt old.halts proposer halt → new ≡ record old { halts = slice_set old.halts proposer (record halt { after_prepare = true }) } → RunsEvent m old (HaltPrepared proposer) event.Ok new
+  halt_proposed : {proposer : ℕ} (halt : Halt) {new : State S V} → IsAt old.halts proposer halt → new ≡ record old { halts = slice_set old.halts proposer (record halt { after_propose = true }) } → RunsEvent m old (HaltProposed proposer) event.Ok new
+  stray : {index : ℕ} {answer : EventAnswer} {world : View S V} → StraysIn m old.world index answer world → RunsEvent m old (Stray index) answer (record old { world = world })
 
 -- the line is run as its words say, by a script of so many tries
-pub data IsAnswered {S V : Type 0} (k : Kinds S V) (tries : ℕ) (old : State S V) (line : List ℕ) : LineAnswer → State S V → Type 0 where
-  changes : {answer : Answer} {new : State S V} (command : Command) (asked : Asked) → IsLine old.world.greatest line (Some command) → change_of command ≡ Some asked → RunsChange k tries old asked answer new
-      → IsAnswered k tries old line (Changed asked.caller answer) new
-  happens : {answer : EventAnswer} {new : State S V} (command : Command) → IsLine old.world.greatest line (Some command) → RunsEvent k old command answer new → IsAnswered k tries old line (Happened answer) new
-  shows : {shown : Shown} (id : ℕ) (key : List ℕ) → IsLine old.world.greatest line (Some (Show id key)) → IsShown k.meaning old.world id key shown → IsAnswered k tries old line (Shows id key shown) old
+pub data IsAnswered {S V : Type 0} (m : Meaning S V) (tries : ℕ) (old : State S V) (line : List ℕ) : LineAnswer → State S V → Type 0 where
+  changes : {answer : Answer} {new : State S V} (command : Command) (asked : Asked) → IsLine old.world.greatest line (Some command) → change_of command ≡ Some asked → RunsChange m tries old asked answer new
+      → IsAnswered m tries old line (Changed asked.caller answer) new
+  happens : {answer : EventAnswer} {new : State S V} (command : Command) → IsLine old.world.greatest line (Some command) → RunsEvent m old command answer new → IsAnswered m tries old line (Happened answer) new
+  shows : {shown : Shown} (id : ℕ) (key : List ℕ) → IsLine old.world.greatest line (Some (Show id key)) → IsShown m old.world id key shown → IsAnswered m tries old line (Shows id key shown) old
   -- a line that is refused changes nothing
-  refused : (why : Why) (word : ℕ) → line_in old.world.greatest line ≡ Err (record { why = why; word = word }) → IsAnswered k tries old line (Bad why) old
-  remark : IsLine old.world.greatest line None → IsAnswered k tries old line Remark old
+  refused : (why : Why) (word : ℕ) → line_in old.world.greatest line ≡ Err (record { why = why; word = word }) → IsAnswered m tries old line (Bad why) old
+  remark : IsLine old.world.greatest line None → IsAnswered m tries old line Remark old
 
 -- the lines were run one after another, with these answers
-pub data ScriptRun {S V : Type 0} (k : Kinds S V) (tries : ℕ) (old : State S V) : List (List ℕ) → List LineAnswer → State S V → Type 0 where
-  none : ScriptRun k tries old [] [] old
-  one_more : {lines : List (List ℕ)} {answers : List LineAnswer} {mid new : State S V} (line : List ℕ) (answer : LineAnswer) → ScriptRun k tries old lines answers mid → IsAnswered k tries mid line answer new
-      → ScriptRun k tries old (lines ++ line ∷ []) (answers ++ answer ∷ []) new
+pub data ScriptRun {S V : Type 0} (m : Meaning S V) (tries : ℕ) (old : State S V) : List (List ℕ) → List LineAnswer → State S V → Type 0 where
+  none : ScriptRun m tries old [] [] old
+  one_more : {lines : List (List ℕ)} {answers : List LineAnswer} {mid new : State S V} (line : List ℕ) (answer : LineAnswer) → ScriptRun m tries old lines answers mid → IsAnswered m tries mid line answer new
+      → ScriptRun m tries old (lines ++ line ∷ []) (answers ++ answer ∷ []) new
 
 -- the text of the answer to the line of that number
 abbrev pub text_of : ℕ → LineAnswer → List ℕ
@@ -102,17 +102,17 @@ pub record IsIn {S V : Type 0} (stage : Stage S V) (state : State S V) : Type 0 
   pub halts : stage.halts ≡ state.halts
 
 -- the line of that number was run, and this is the text of its answer
-pub record AnswersLine {S V : Type 0} (k : Kinds S V) (tries : ℕ) (old : State S V) (line : List ℕ) (number : ℕ) (text : List ℕ) (stage : Stage S V) : Type 0 where
+pub record AnswersLine {S V : Type 0} (m : Meaning S V) (tries : ℕ) (old : State S V) (line : List ℕ) (number : ℕ) (text : List ℕ) (stage : Stage S V) : Type 0 where
   pub answer : LineAnswer
   pub new : State S V
   pub is_in : IsIn stage new
-  pub run : IsAnswered k tries old line answer new
+  pub run : IsAnswered m tries old line answer new
   pub text_is : text ≡ text_of number answer
 
 -- where there was no memory the line was run, or was not
-pub data RanOrNot {S V : Type 0} (k : Kinds S V) (tries : ℕ) (old : State S V) (line : List ℕ) (stage : Stage S V) : Type 0 where
-  not_run : IsIn stage old → RanOrNot k tries old line stage
-  ran : (answer : LineAnswer) (new : State S V) → IsIn stage new → IsAnswered k tries old line answer new → RanOrNot k tries old line stage
+pub data RanOrNot {S V : Type 0} (m : Meaning S V) (tries : ℕ) (old : State S V) (line : List ℕ) (stage : Stage S V) : Type 0 where
+  not_run : IsIn stage old → RanOrNot m tries old line stage
+  ran : (answer : LineAnswer) (new : State S V) → IsIn stage new → IsAnswered m tries old line answer new → RanOrNot m tries old line stage
 
 -- a script is in some state that has P
 pub record Runs {S V : Type 0} (P : State S V → Type 0) (stage : Stage S V) : Type 0 where

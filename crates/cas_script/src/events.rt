@@ -2,7 +2,7 @@
 
 ghost use Rattle.std.specs.Prelude.{◌≡◌, ◌≤◌, IfOk};
 ghost use Rattle.cas_cluster.specs.View.{meaning};
-ghost use Rattle.cas_script.specs.Events.{kinds, CrashesAcceptor, RestartsAcceptor, RestartsProposer, StraysIn, IsShown, shelf_answer, vault_answer, shown_of};
+ghost use Rattle.cas_script.specs.Events.{CrashesAcceptor, RestartsAcceptor, RestartsProposer, StraysIn, IsShown, shelf_answer, vault_answer, shown_of};
 
 use cas_ballot::AcceptorId;
 use cas_change::Key;
@@ -34,7 +34,7 @@ pub(crate) fn restart_acceptor<S: Shelf, V: Disk>(
     world: &mut World<S, V>,
     id: AcceptorId,
 ) -> EventAnswer
-    ensures { RestartsAcceptor (kinds (meaning S.contents S.tells S.may_leave S.fault_count V.tells V.may_leave V.fault_count) S.fault_count V.fault_count) world.old id result world.new }
+    ensures { RestartsAcceptor (meaning S.contents S.tells S.may_leave S.fault_count V.tells V.may_leave V.fault_count) world.old id result world.new }
 {
     match world.acceptor_up(id) {
         Some(_) => shelf_answer(world.restart_acceptor(id)),
@@ -60,7 +60,7 @@ pub(crate) fn restart_proposer<S: Shelf, V: Disk>(
     proposer: u8,
 ) -> EventAnswer
     requires { proposer ≤ world.old.greatest }
-    ensures { RestartsProposer (kinds (meaning S.contents S.tells S.may_leave S.fault_count V.tells V.may_leave V.fault_count) S.fault_count V.fault_count) world.old proposer result world.new }
+    ensures { RestartsProposer (meaning S.contents S.tells S.may_leave S.fault_count V.tells V.may_leave V.fault_count) world.old proposer result world.new }
 {
     vault_answer(world.restart_proposer(proposer))
 }

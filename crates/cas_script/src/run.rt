@@ -5,7 +5,6 @@ ghost use Rattle.cas_cluster.specs.View.{meaning};
 ghost use Rattle.cas_lines.specs.Answers.{bad_line};
 ghost use Rattle.cas_lines.specs.Command.{IsLine, IsKnown, Asked, change_of};
 ghost use Rattle.cas_lines.specs.declared.command.Command.{Command as ACommand};
-ghost use Rattle.cas_script.specs.Events.{kinds};
 ghost use Rattle.cas_script.specs.Stage.{AllIdle};
 ghost use Rattle.cas_script.specs.Script.{State, IsIn, AnswersLine, RanOrNot, RunsChange, RunsEvent, Runs, is_event, opening_state};
 
@@ -53,8 +52,8 @@ impl<S: Shelf, V: Disk> Script<S, V> {
     /// Runs the line, and gives the text of its answer, which is empty for a remark. Only memory can fail, and the line was run then,
     /// or was not.
     pub fn answer(&mut self, alloc: Global, line: &Line) -> Result<Vec<u8>, AllocError>
-        ensures answers { (state : State _ _) → IsIn self.old state → IfOk result (λ text. AnswersLine (kinds (meaning S.contents S.tells S.may_leave S.fault_count V.tells V.may_leave V.fault_count) S.fault_count V.fault_count) self.old.tries state line.now.bytes line.now.number (vec_items text) self.new) }
-        ensures err { (state : State _ _) → IsIn self.old state → OnErr result (RanOrNot (kinds (meaning S.contents S.tells S.may_leave S.fault_count V.tells V.may_leave V.fault_count) S.fault_count V.fault_count) self.old.tries state line.now.bytes self.new) }
+        ensures answers { (state : State _ _) → IsIn self.old state → IfOk result (λ text. AnswersLine (meaning S.contents S.tells S.may_leave S.fault_count V.tells V.may_leave V.fault_count) self.old.tries state line.now.bytes line.now.number (vec_items text) self.new) }
+        ensures err { (state : State _ _) → IsIn self.old state → OnErr result (RanOrNot (meaning S.contents S.tells S.may_leave S.fault_count V.tells V.may_leave V.fault_count) self.old.tries state line.now.bytes self.new) }
         ensures tries { self.new.tries ≡ self.old.tries }
     {
         match read_command(alloc, line.bytes(), self.proposers) {
@@ -67,8 +66,8 @@ impl<S: Shelf, V: Disk> Script<S, V> {
     /// Runs what a line asks for, and gives the text of its answer.
     fn answer_command(&mut self, alloc: Global, command: &Command) -> Result<Vec<u8>, AllocError>
         requires { IsKnown self.old.world.greatest command.now }
-        ensures answers { (state : State _ _) (line : List ℕ) (number : ℕ) → IsIn self.old state → IsLine self.old.world.greatest line (Some command.now) → IfOk result (λ text. AnswersLine (kinds (meaning S.contents S.tells S.may_leave S.fault_count V.tells V.may_leave V.fault_count) S.fault_count V.fault_count) self.old.tries state line number (vec_items text) self.new) }
-        ensures err { (state : State _ _) (line : List ℕ) → IsIn self.old state → IsLine self.old.world.greatest line (Some command.now) → OnErr result (RanOrNot (kinds (meaning S.contents S.tells S.may_leave S.fault_count V.tells V.may_leave V.fault_count) S.fault_count V.fault_count) self.old.tries state line self.new) }
+        ensures answers { (state : State _ _) (line : List ℕ) (number : ℕ) → IsIn self.old state → IsLine self.old.world.greatest line (Some command.now) → IfOk result (λ text. AnswersLine (meaning S.contents S.tells S.may_leave S.fault_count V.tells V.may_leave V.fault_count) self.old.tries state line number (vec_items text) self.new) }
+        ensures err { (state : State _ _) (line : List ℕ) → IsIn self.old state → IsLine self.old.world.greatest line (Some command.now) → OnErr result (RanOrNot (meaning S.contents S.tells S.may_leave S.fault_count V.tells V.may_leave V.fault_count) self.old.tries state line self.new) }
         ensures tries { self.new.tries ≡ self.old.tries }
     {
         if let Command::Show { id, key } = command {
@@ -90,7 +89,7 @@ impl<S: Shelf, V: Disk> Script<S, V> {
     /// Runs a change, and gives its answer.
     fn run_change(&mut self, asked: &Change<'_>) -> Answer
         requires { asked.now.caller ≤ self.old.world.greatest }
-        ensures runs { (state : State _ _) → IsIn self.old state → Runs (λ new. RunsChange (kinds (meaning S.contents S.tells S.may_leave S.fault_count V.tells V.may_leave V.fault_count) S.fault_count V.fault_count) self.old.tries state (record { caller = asked.now.caller; key = asked.now.key.now; program = asked.now.program }) result new) self.new }
+        ensures runs { (state : State _ _) → IsIn self.old state → Runs (λ new. RunsChange (meaning S.contents S.tells S.may_leave S.fault_count V.tells V.may_leave V.fault_count) self.old.tries state (record { caller = asked.now.caller; key = asked.now.key.now; program = asked.now.program }) result new) self.new }
         ensures tries { self.new.tries ≡ self.old.tries }
     {
         let halt = &mut self.halts[usize::from(asked.caller)];
@@ -109,7 +108,7 @@ impl<S: Shelf, V: Disk> Script<S, V> {
     fn run_event(&mut self, command: &Command) -> EventAnswer
         requires known { IsKnown self.old.world.greatest command.now }
         requires event { is_event command.now ≡ true }
-        ensures runs { (state : State _ _) → IsIn self.old state → Runs (λ new. RunsEvent (kinds (meaning S.contents S.tells S.may_leave S.fault_count V.tells V.may_leave V.fault_count) S.fault_count V.fault_count) state command.now result new) self.new }
+        ensures runs { (state : State _ _) → IsIn self.old state → Runs (λ new. RunsEvent (meaning S.contents S.tells S.may_leave S.fault_count V.tells V.may_leave V.fault_count) state command.now result new) self.new }
         ensures tries { self.new.tries ≡ self.old.tries }
     {
         match command {

@@ -27,7 +27,7 @@ use Rattle.cas_cluster.specs.StepCalls as calls
 use Rattle.cas_cluster.specs.StepCalls.{RefusesCall, most_marks, round_marks}
 use Rattle.cas_cluster.specs.View as seen
 use Rattle.cas_cluster.specs.View.{Meaning, DiskMeaning, View, CallView, CallerView, IsAt, new_caller}
-use Rattle.cas_cluster.proofs.Places.{some_is, at_one, at_set}
+use Rattle.cas_cluster.proofs.Places.{set_set, some_is, at_one, at_set}
 use Rattle.cas_record.proofs.Eras.{le_or_lt}
 use Rattle.cas_cluster.proofs.Caches.{contains_promise}
 use Rattle.cas_cluster.proofs.SafeParts.{low_at, at_low, idle_at}
@@ -40,7 +40,7 @@ use Rattle.cas_world.specs.declared.call.Caller.{Caller}
 use Rattle.cas_world.specs.declared.call.OpenCall.{OpenCall}
 use Rattle.cas_world.specs.declared.proposal.Proposing.{Proposing}
 use Rattle.cas_world.proofs.Begins.{beside_seen, beside_none, may_in, opened_book, IsFirst, IsAnother, IsEntered, opens_first, opens_again, step_prepares, step_proposes, step_fails, step_stays}
-use Rattle.cas_world.proofs.Callers.{at_map, seen_open}
+use Rattle.cas_world.proofs.Callers.{map_set, at_map, seen_open}
 use Rattle.cas_world.proofs.Parts.{at_place, set_same, remembered_then}
 use Rattle.cas_world.proofs.Stops.{HaveCopies, copies_next}
 

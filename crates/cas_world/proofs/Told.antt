@@ -1,6 +1,6 @@
 -- Why a call is told what it is, from its step.
-use Rattle.std.proofs.Common.{◌≡◌, ◌⊎◌, inl, inr, ℕ, List, Result, Ok, Err, Some, refl, sym, ap, subst, ◌∙◌}
-use Rattle.std.specs.Prelude.{IfErr, IfSome}
+use Rattle.std.proofs.Common.{◌≡◌, inl, inr, ℕ, List, Result, Ok, Err, Some, refl, sym, ap, subst}
+use Rattle.std.specs.Prelude.{IfErr}
 use Rattle.cas_change.specs.declared.program.Clause.{Clause}
 use Rattle.cas_record.specs.declared.answer.Answer.{Answer}
 use Rattle.cas_record.specs.declared.answer.Answer.TheVariants as answer
@@ -21,9 +21,9 @@ told_so view id number told was = record { caller = was.caller; at_caller = was.
 pub begin_cause : {S V A : Type 0} (m : Meaning S V) (old new : View S V) (id number : ℕ) (key : List ℕ) (program : List Clause) (result : Result A Answer) → (result ≡ Err answer.RecordFull → IsFull old id) → BeginsOrNot m old id number key program result new
     → IfErr result (λ told. BeginsBy m old id key told new)
 begin_cause m old new id number key program (Ok done) full by = tt
-begin_cause {A = A} m old new id number key program (Err told) full (inl step) = begins_by m old new id key program told step.0 (told_so new id number told step.1)
+begin_cause m old new id number key program (Err told) full (inl step) = begins_by m old new id key program told step.0 (told_so new id number told step.1)
 begin_cause {A = A} m old new id number key program (Err told) full (inr refused) = elim refused.2 [
-  | inl is_full ↦ subst (λ (a : Answer). BeginsBy m old id key a new) (sym is_full) (full (ap (λ (a : Answer). Err {A} {Answer} a) is_full))
+  | inl is_full ↦ subst (λ (a : Answer). BeginsBy m old id key a new) (sym is_full) (full (ap (λ (a : Answer). Err a) is_full))
   | inr none ↦ subst (λ (a : Answer). BeginsBy m old id key a new) (sym none) refl
 ]
 

@@ -1,5 +1,5 @@
 -- What the answer of a restart tells of an acceptor, and of a desk.
-use Rattle.std.specs.Prelude.{◌≡◌, ⊤, ℕ, List, true, false, Result, Ok, Err, OnOk, OnErr, IsErrOf}
+use Rattle.std.specs.Prelude.{◌≡◌, ⊤, ℕ, List, true, false, Result, Err, OnOk, OnErr, IsErrOf}
 use Rattle.cas_acceptor.specs.Acceptor.{AcceptorView}
 use Rattle.cas_proposer.specs.Desk.{DeskView}
 use Rattle.cas_slot.specs.Shelf.{HasShelfCause}

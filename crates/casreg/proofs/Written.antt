@@ -26,7 +26,7 @@ use Rattle.cas_rack.specs.declared.rack.RackFault.{RackFault}
 use Rattle.cas_rack.specs.declared.rack.Rack.{Rack}
 use Rattle.cas_script.specs.Stage.{Stage}
 use Rattle.casreg.specs.Causes.{AnswersTo, AreFirstLines, WroteIn, EndsIn, IsOfDisk, IsRackOf, Ran, Wrote, not_empty, not_opened, status_of}
-use Rattle.cas_script.specs.Events.{Kinds}
+use Rattle.cas_cluster.specs.View.{Meaning}
 use Rattle.cas_script.specs.Script.{State, opening_state, AnswersLine, RanOrNot, not_run, ran, one_more, text_of, transcript_of}
 use Rattle.casreg.specs.Status.{status_of_fault, status_of_rack, status_of_opening}
 use Rattle.casreg.specs.Words.{AreWords}
@@ -54,9 +54,9 @@ handed_all None left lines reader h end = tt
 handed_all (Some bytes) left lines reader h end = (HasHandedOut-end (Some bytes) left lines reader h end).1
 
 -- ---- ends
-midway_to : {S H V : Type 0} (gives : S → Taken → S → Type 0) (k : Kinds H V) (tries : ℕ) (first : State H V) (start source : S) (P : List (List ℕ) → Type 0) (input left old new : Option (List ℕ)) (reader : LinesState) (world : State H V) → (at : IsMidway gives k tries first start source input reader left old new world) → P at.lines
-    → AnswersTo k tries P input old new first world
-midway_to gives k tries first start source P input left old new reader world at holds = record {
+midway_to : {S H V : Type 0} (gives : S → Taken → S → Type 0) (meant : Meaning H V) (tries : ℕ) (first : State H V) (start source : S) (P : List (List ℕ) → Type 0) (input left old new : Option (List ℕ)) (reader : LinesState) (world : State H V) → (at : IsMidway gives meant tries first start source input reader left old new world) → P at.lines
+    → AnswersTo meant tries P input old new first world
+midway_to gives meant tries first start source P input left old new reader world at holds = record {
   lines = at.lines;
   of_input = handed_first input left at.lines reader at.handed_out;
   are = holds;
@@ -65,24 +65,24 @@ midway_to gives k tries first start source P input left old new reader world at 
   written = at.written;
 }
 
-pub wrote_all : {S H V : Type 0} (gives : S → Taken → S → Type 0) (k : Kinds H V) (tries : ℕ) (first : State H V) (start source : S) (input left old new : Option (List ℕ)) (reader : LinesState) (world : State H V) → IsMidway gives k tries first start source input reader left old new world → IsAtEnd (ahead reader left)
-    → AnswersTo k tries (λ lines. IfSome input (λ bytes. lines ≡ lines_of bytes)) input old new first world
-wrote_all gives k tries first start source input left old new reader world at end =
-    midway_to gives k tries first start source (λ lines. IfSome input (λ bytes. lines ≡ lines_of bytes)) input left old new reader world at (handed_all input left at.lines reader at.handed_out end)
+pub wrote_all : {S H V : Type 0} (gives : S → Taken → S → Type 0) (meant : Meaning H V) (tries : ℕ) (first : State H V) (start source : S) (input left old new : Option (List ℕ)) (reader : LinesState) (world : State H V) → IsMidway gives meant tries first start source input reader left old new world → IsAtEnd (ahead reader left)
+    → AnswersTo meant tries (λ lines. IfSome input (λ bytes. lines ≡ lines_of bytes)) input old new first world
+wrote_all gives meant tries first start source input left old new reader world at end =
+    midway_to gives meant tries first start source (λ lines. IfSome input (λ bytes. lines ≡ lines_of bytes)) input left old new reader world at (handed_all input left at.lines reader at.handed_out end)
 
 -- the next line could not be read
-pub wrote_fault : {S H V : Type 0} (gives : S → Taken → S → Type 0) (k : Kinds H V) (tries : ℕ) (first : State H V) (start source new_source : S) (input left old new : Option (List ℕ)) (reader new_reader : LinesState) (world : State H V) (f : LineFault) → IsMidway gives k tries first start source input reader left old new world
+pub wrote_fault : {S H V : Type 0} (gives : S → Taken → S → Type 0) (meant : Meaning H V) (tries : ℕ) (first : State H V) (start source new_source : S) (input left old new : Option (List ℕ)) (reader new_reader : LinesState) (world : State H V) (f : LineFault) → IsMidway gives meant tries first start source input reader left old new world
     → (f ≡ fault.TooManyLines → (reader.handed ≡ MOST_LINES) × HasMore reader left)
     → ((line : ℕ) → f ≡ fault.Endless line → (line ≡ reader.handed + 1) × (reader.handed < MOST_LINES) × IsLongLine reader left)
     → TellsAtOnce gives reader source (Err f) new_reader new_source
-    → WroteIn k tries (FailsBehind gives start new_source) input old new first world (status_of_fault f)
-wrote_fault gives k tries first start source new_source input left old new reader new_reader world fault.ReadFault at many endless at_once = midway_to gives k tries first start source (FailsBehind gives start new_source) input left old new reader world at
+    → WroteIn meant tries (FailsBehind gives start new_source) input old new first world (status_of_fault f)
+wrote_fault gives meant tries first start source new_source input left old new reader new_reader world fault.ReadFault at many endless at_once = midway_to gives meant tries first start source (FailsBehind gives start new_source) input left old new reader world at
     (fails_told gives start at.lines reader new_reader source new_source at.told at_once)
-wrote_fault gives k tries first start source new_source input left old new reader new_reader world fault.TooManyLines at many endless at_once =
-    midway_to gives k tries first start source (λ lines. length lines ≡ MOST_LINES) input left old new reader world at (omega (arith, (many refl).0, at.counted))
-wrote_fault gives k tries first start source new_source input left old new reader new_reader world (fault.Endless line) at many endless at_once =
-    midway_to gives k tries first start source (λ lines. suc (length lines) ≡ line) input left old new reader world at (omega (arith, (endless line refl).0, at.counted))
-wrote_fault gives k tries first start source new_source input left old new reader new_reader world fault.NoMemory at many endless at_once = record {
+wrote_fault gives meant tries first start source new_source input left old new reader new_reader world fault.TooManyLines at many endless at_once =
+    midway_to gives meant tries first start source (λ lines. length lines ≡ MOST_LINES) input left old new reader world at (omega (arith, (many refl).0, at.counted))
+wrote_fault gives meant tries first start source new_source input left old new reader new_reader world (fault.Endless line) at many endless at_once =
+    midway_to gives meant tries first start source (λ lines. suc (length lines) ≡ line) input left old new reader world at (omega (arith, (endless line refl).0, at.counted))
+wrote_fault gives meant tries first start source new_source input left old new reader new_reader world fault.NoMemory at many endless at_once = record {
   lines = at.lines;
   of_input = handed_first input left at.lines reader at.handed_out;
   answers = at.answers;
@@ -94,9 +94,9 @@ wrote_fault gives k tries first start source new_source input left old new reade
 }
 
 -- there was no memory for the answer of the next line
-pub wrote_no_answer : {S H V : Type 0} (gives : S → Taken → S → Type 0) (k : Kinds H V) (tries : ℕ) (first : State H V) (start source : S) (P : List (List ℕ) → Type 0) (input left old new : Option (List ℕ)) (reader : LinesState) (state : State H V) (stage : Stage H V) (line : List ℕ) (number : ℕ) → IsNextLine gives k tries first start source input reader left old new state line number
-    → RanOrNot k tries state line stage → EndsIn k tries P input old new first stage status.NoMemory
-wrote_no_answer gives k tries first start source P input left old new reader state stage line number n (not_run is_in) = record {
+pub wrote_no_answer : {S H V : Type 0} (gives : S → Taken → S → Type 0) (meant : Meaning H V) (tries : ℕ) (first : State H V) (start source : S) (P : List (List ℕ) → Type 0) (input left old new : Option (List ℕ)) (reader : LinesState) (state : State H V) (stage : Stage H V) (line : List ℕ) (number : ℕ) → IsNextLine gives meant tries first start source input reader left old new state line number
+    → RanOrNot meant tries state line stage → EndsIn meant tries P input old new first stage status.NoMemory
+wrote_no_answer gives meant tries first start source P input left old new reader state stage line number n (not_run is_in) = record {
   last = state;
   is_in = is_in;
   wrote = record {
@@ -110,7 +110,7 @@ wrote_no_answer gives k tries first start source P input left old new reader sta
     written = n.written;
   };
 }
-wrote_no_answer gives k tries first start source P input left old new reader state stage line number n (ran answer after is_in is) = record {
+wrote_no_answer gives meant tries first start source P input left old new reader state stage line number n (ran answer after is_in is) = record {
   last = after;
   is_in = is_in;
   wrote = record {
@@ -126,9 +126,9 @@ wrote_no_answer gives k tries first start source P input left old new reader sta
 }
 
 -- the answer of the next line could not be written whole
-pub wrote_front : {S H V : Type 0} (gives : S → Taken → S → Type 0) (k : Kinds H V) (tries : ℕ) (first : State H V) (start source : S) (P : List (List ℕ) → Type 0) (input left old held new : Option (List ℕ)) (reader : LinesState) (state : State H V) (stage : Stage H V) (line : List ℕ) (number : ℕ) (text : List ℕ)
-    → IsNextLine gives k tries first start source input reader left old held state line number → AnswersLine k tries state line number text stage → AppendsFront held new text → EndsIn k tries P input old new first stage status.WriteFault
-wrote_front gives k tries first start source P input left old held new reader state stage line number text n a part = record {
+pub wrote_front : {S H V : Type 0} (gives : S → Taken → S → Type 0) (meant : Meaning H V) (tries : ℕ) (first : State H V) (start source : S) (P : List (List ℕ) → Type 0) (input left old held new : Option (List ℕ)) (reader : LinesState) (state : State H V) (stage : Stage H V) (line : List ℕ) (number : ℕ) (text : List ℕ)
+    → IsNextLine gives meant tries first start source input reader left old held state line number → AnswersLine meant tries state line number text stage → AppendsFront held new text → EndsIn meant tries P input old new first stage status.WriteFault
+wrote_front gives meant tries first start source P input left old held new reader state stage line number text n a part = record {
   last = a.new;
   is_in = a.is_in;
   wrote = record {
@@ -146,38 +146,38 @@ wrote_front gives k tries first start source P input left old held new reader st
 
 -- ---- results
 -- what a run wrote whose script is in the state that its lines led to
-pub ends_all : {S H V : Type 0} (gives : S → Taken → S → Type 0) (k : Kinds H V) (tries : ℕ) (first : State H V) (start source : S) (P : List (List ℕ) → Type 0) (input left old new : Option (List ℕ)) (reader : LinesState) (stage : Stage H V) → IsMidwayIn gives k tries first start source input reader left old new stage → IsAtEnd (ahead reader left)
-    → EndsIn k tries P input old new first stage status.Ok
-ends_all gives k tries first start source P input left old new reader stage at end = record { last = at.state; is_in = at.is_in; wrote = wrote_all gives k tries first start source input left old new reader at.state at.midway end }
+pub ends_all : {S H V : Type 0} (gives : S → Taken → S → Type 0) (meant : Meaning H V) (tries : ℕ) (first : State H V) (start source : S) (P : List (List ℕ) → Type 0) (input left old new : Option (List ℕ)) (reader : LinesState) (stage : Stage H V) → IsMidwayIn gives meant tries first start source input reader left old new stage → IsAtEnd (ahead reader left)
+    → EndsIn meant tries P input old new first stage status.Ok
+ends_all gives meant tries first start source P input left old new reader stage at end = record { last = at.state; is_in = at.is_in; wrote = wrote_all gives meant tries first start source input left old new reader at.state at.midway end }
 
-pub ends_fault : {S H V : Type 0} (gives : S → Taken → S → Type 0) (k : Kinds H V) (tries : ℕ) (first : State H V) (start source new_source : S) (input left old new : Option (List ℕ)) (reader new_reader : LinesState) (stage : Stage H V) (f : LineFault) → IsMidwayIn gives k tries first start source input reader left old new stage
+pub ends_fault : {S H V : Type 0} (gives : S → Taken → S → Type 0) (meant : Meaning H V) (tries : ℕ) (first : State H V) (start source new_source : S) (input left old new : Option (List ℕ)) (reader new_reader : LinesState) (stage : Stage H V) (f : LineFault) → IsMidwayIn gives meant tries first start source input reader left old new stage
     → (f ≡ fault.TooManyLines → (reader.handed ≡ MOST_LINES) × HasMore reader left)
     → ((line : ℕ) → f ≡ fault.Endless line → (line ≡ reader.handed + 1) × (reader.handed < MOST_LINES) × IsLongLine reader left)
     → TellsAtOnce gives reader source (Err f) new_reader new_source
-    → EndsIn k tries (FailsBehind gives start new_source) input old new first stage (status_of_fault f)
-ends_fault gives k tries first start source new_source input left old new reader new_reader stage f at many endless at_once =
-    record { last = at.state; is_in = at.is_in; wrote = wrote_fault gives k tries first start source new_source input left old new reader new_reader at.state f at.midway many endless at_once }
+    → EndsIn meant tries (FailsBehind gives start new_source) input old new first stage (status_of_fault f)
+ends_fault gives meant tries first start source new_source input left old new reader new_reader stage f at many endless at_once =
+    record { last = at.state; is_in = at.is_in; wrote = wrote_fault gives meant tries first start source new_source input left old new reader new_reader at.state f at.midway many endless at_once }
 
 -- ---- causes
 -- the end of an input that a fault of its reader tells
-pub fault_ends : {S H V : Type 0} (gives : S → Taken → S → Type 0) (k : Kinds H V) (tries : ℕ) (first : State H V) (start source : S) (input left old new : Option (List ℕ)) (reader : LinesState) (world : State H V) (f : LineFault) → IsMidway gives k tries first start source input reader left old new world
+pub fault_ends : {S H V : Type 0} (gives : S → Taken → S → Type 0) (meant : Meaning H V) (tries : ℕ) (first : State H V) (start source : S) (input left old new : Option (List ℕ)) (reader : LinesState) (world : State H V) (f : LineFault) → IsMidway gives meant tries first start source input reader left old new world
     → (f ≡ fault.TooManyLines → (reader.handed ≡ MOST_LINES) × HasMore reader left)
     → ((line : ℕ) → f ≡ fault.Endless line → (line ≡ reader.handed + 1) × (reader.handed < MOST_LINES) × IsLongLine reader left)
     → (ending : Ending) → status_of_fault f ≡ status_of ending → IfSome input (λ bytes. ending_of bytes ≡ ending)
-fault_ends gives k tries first start source input left old new reader world fault.ReadFault at many endless Whole is = absurd cc
-fault_ends gives k tries first start source input left old new reader world fault.ReadFault at many endless TooMany is = absurd cc
-fault_ends gives k tries first start source input left old new reader world fault.ReadFault at many endless (TooLong line) is = absurd cc
-fault_ends gives k tries first start source input left old new reader world fault.TooManyLines at many endless Whole is = absurd cc
-fault_ends gives k tries first start source input left old new reader world fault.TooManyLines at many endless TooMany is = midway-too_many gives k tries first start source input left old new reader world at (many refl)
-fault_ends gives k tries first start source input left old new reader world fault.TooManyLines at many endless (TooLong line) is = absurd cc
-fault_ends gives k tries first start source input left old new reader world (fault.Endless number) at many endless Whole is = absurd cc
-fault_ends gives k tries first start source input left old new reader world (fault.Endless number) at many endless TooMany is = absurd cc
-fault_ends gives k tries first start source input left old new reader world (fault.Endless number) at many endless (TooLong line) is =
+fault_ends gives meant tries first start source input left old new reader world fault.ReadFault at many endless Whole is = absurd cc
+fault_ends gives meant tries first start source input left old new reader world fault.ReadFault at many endless TooMany is = absurd cc
+fault_ends gives meant tries first start source input left old new reader world fault.ReadFault at many endless (TooLong line) is = absurd cc
+fault_ends gives meant tries first start source input left old new reader world fault.TooManyLines at many endless Whole is = absurd cc
+fault_ends gives meant tries first start source input left old new reader world fault.TooManyLines at many endless TooMany is = midway-too_many gives meant tries first start source input left old new reader world at (many refl)
+fault_ends gives meant tries first start source input left old new reader world fault.TooManyLines at many endless (TooLong line) is = absurd cc
+fault_ends gives meant tries first start source input left old new reader world (fault.Endless number) at many endless Whole is = absurd cc
+fault_ends gives meant tries first start source input left old new reader world (fault.Endless number) at many endless TooMany is = absurd cc
+fault_ends gives meant tries first start source input left old new reader world (fault.Endless number) at many endless (TooLong line) is =
     let same : number ≡ line = cc in
-    subst (λ n. IfSome input (λ bytes. ending_of bytes ≡ TooLong n)) same (midway-endless gives k tries first start source input left old new reader world number at (endless number refl))
-fault_ends gives k tries first start source input left old new reader world fault.NoMemory at many endless Whole is = absurd cc
-fault_ends gives k tries first start source input left old new reader world fault.NoMemory at many endless TooMany is = absurd cc
-fault_ends gives k tries first start source input left old new reader world fault.NoMemory at many endless (TooLong line) is = absurd cc
+    subst (λ n. IfSome input (λ bytes. ending_of bytes ≡ TooLong n)) same (midway-endless gives meant tries first start source input left old new reader world number at (endless number refl))
+fault_ends gives meant tries first start source input left old new reader world fault.NoMemory at many endless Whole is = absurd cc
+fault_ends gives meant tries first start source input left old new reader world fault.NoMemory at many endless TooMany is = absurd cc
+fault_ends gives meant tries first start source input left old new reader world fault.NoMemory at many endless (TooLong line) is = absurd cc
 
 -- a run that nothing hinders ends by its input, or finds no memory, or a disk is not as it must be
 pub completes_of : (input : Option (List ℕ)) (result : Status) (read wrote : Type 0) → (result ≡ status.Usage → ⊥) → (result ≡ status.ReadFault → read) → (result ≡ status.WriteFault → wrote)
@@ -201,11 +201,11 @@ ends_whole input whole TooMany is = absurd (cc is)
 ends_whole input whole (TooLong line) is = absurd (cc is)
 
 -- ---- the store is taken apart
-pub ran_from : {D : Type 0} (k : Kinds (DiskShelf D) D) (tells : Type 0) (tries made : ℕ) (P : List (List ℕ) → Type 0) (input old new : Option (List ℕ)) (world closed : View (DiskShelf D) D) (stage : Stage (DiskShelf D) D) (marks : List Mark) (result : Status) (back : Rack D) → made ≡ tries
-    → closed ≡ stage.world → EndsIn k made P input old new (opening_state world) stage result → marks ≡ closed.marks → (tells → IsLegal (reverse marks)) → back.acceptors.items ≡ acceptor_disks closed.acceptors
-    → take (closed.greatest + 1) back.vaults.items ≡ disks_of closed.desks → Ran k tells tries P input old new world result back
-ran_from {D} k tells tries made P input old new world closed stage marks result back tries_are is ends marks_are legal acceptors vaults =
-    let e : EndsIn k tries P input old new (opening_state world) stage result = subst (λ (n : ℕ). EndsIn k n P input old new (opening_state world) stage result) tries_are ends in
+pub ran_from : {D : Type 0} (meant : Meaning (DiskShelf D) D) (tells : Type 0) (tries made : ℕ) (P : List (List ℕ) → Type 0) (input old new : Option (List ℕ)) (world closed : View (DiskShelf D) D) (stage : Stage (DiskShelf D) D) (marks : List Mark) (result : Status) (back : Rack D) → made ≡ tries
+    → closed ≡ stage.world → EndsIn meant made P input old new (opening_state world) stage result → marks ≡ closed.marks → (tells → IsLegal (reverse marks)) → back.acceptors.items ≡ acceptor_disks closed.acceptors
+    → take (closed.greatest + 1) back.vaults.items ≡ disks_of closed.desks → Ran meant tells tries P input old new world result back
+ran_from {D} meant tells tries made P input old new world closed stage marks result back tries_are is ends marks_are legal acceptors vaults =
+    let e : EndsIn meant tries P input old new (opening_state world) stage result = subst (λ (n : ℕ). EndsIn meant n P input old new (opening_state world) stage result) tries_are ends in
     let same : closed ≡ e.last.world = is ∙ e.is_in.world in
     record {
       last = e.last;
@@ -215,10 +215,10 @@ ran_from {D} k tells tries made P input old new world closed stage marks result 
     }
 
 -- ---- nothing was run
-pub wrote_not_empty : {D : Type 0} (k : Kinds (DiskShelf D) D) (m : RackMeaning D) (words : List (List ℕ)) (P : List (List ℕ) → Type 0) (input old : Option (List ℕ)) (rack back : Rack D) (fault : RackFault) (result : Status) → result ≡ status_of_rack fault → IsNotEmpty m rack fault back
-    → Wrote k m words P input old old rack result back
-wrote_not_empty k m words P input old rack back fault result is not = subst (λ (s : Status). Wrote k m words P input old old rack s back) (sym is) (not_empty fault not refl)
+pub wrote_not_empty : {D : Type 0} (meant : Meaning (DiskShelf D) D) (m : RackMeaning D) (words : List (List ℕ)) (P : List (List ℕ) → Type 0) (input old : Option (List ℕ)) (rack back : Rack D) (fault : RackFault) (result : Status) → result ≡ status_of_rack fault → IsNotEmpty m rack fault back
+    → Wrote meant m words P input old old rack result back
+wrote_not_empty meant m words P input old rack back fault result is not = subst (λ (s : Status). Wrote meant m words P input old old rack s back) (sym is) (not_empty fault not refl)
 
-pub wrote_not_opened : {D : Type 0} (k : Kinds (DiskShelf D) D) (m : RackMeaning D) (words : List (List ℕ)) (P : List (List ℕ) → Type 0) (input old : Option (List ℕ)) (rack asked back : Rack D) (options : Options) (fault : OpenFault) (result : Status) → result ≡ status_of_opening fault
-    → AreWords words options → IsAllEmpty m rack asked → StaysClosed m.faults options.acceptors options.proposers asked.acceptors.items asked.vaults.items fault back.acceptors.items back.vaults.items → Wrote k m words P input old old rack result back
-wrote_not_opened k m words P input old rack asked back options fault result is are empty closed = subst (λ (s : Status). Wrote k m words P input old old rack s back) (sym is) (not_opened options fault are empty closed refl)
+pub wrote_not_opened : {D : Type 0} (meant : Meaning (DiskShelf D) D) (m : RackMeaning D) (words : List (List ℕ)) (P : List (List ℕ) → Type 0) (input old : Option (List ℕ)) (rack asked back : Rack D) (options : Options) (fault : OpenFault) (result : Status) → result ≡ status_of_opening fault
+    → AreWords words options → IsAllEmpty m rack asked → StaysClosed m.faults options.acceptors options.proposers asked.acceptors.items asked.vaults.items fault back.acceptors.items back.vaults.items → Wrote meant m words P input old old rack result back
+wrote_not_opened meant m words P input old rack asked back options fault result is are empty closed = subst (λ (s : Status). Wrote meant m words P input old old rack s back) (sym is) (not_opened options fault are empty closed refl)

@@ -15,7 +15,7 @@ use Rattle.cas_rack.specs.Rack.{RackMeaning, IsAllEmpty, IsNotEmpty}
 use Rattle.cas_rack.specs.Store.{acceptor_disks, AreReached, StaysClosed}
 use Rattle.cas_rack.specs.declared.rack.Rack.{Rack}
 use Rattle.cas_rack.specs.declared.rack.RackFault.{RackFault}
-use Rattle.cas_script.specs.Events.{Kinds}
+use Rattle.cas_cluster.specs.View.{Meaning}
 use Rattle.cas_script.specs.Script.{State, LineAnswer, ScriptRun, IsIn, opening_state, transcript_of}
 use Rattle.cas_script.specs.Stage.{Stage}
 use Rattle.casreg.specs.declared.status.Status.{Status}
@@ -56,20 +56,20 @@ abbrev pub AreFirstLines : Option (List ℕ) → List (List ℕ) → Type 0
 AreFirstLines input lines = IfSome input (λ bytes. (later : List (List ℕ)) × (lines_of bytes ≡ lines ++ later))
 
 -- the answers to first lines of the input, of which this holds, from the first world on
-pub record AnswersTo {S V : Type 0} (k : Kinds S V) (tries : ℕ) (P : List (List ℕ) → Type 0) (input old new : Option (List ℕ)) (first world : State S V) : Type 0 where
+pub record AnswersTo {S V : Type 0} (meant : Meaning S V) (tries : ℕ) (P : List (List ℕ) → Type 0) (input old new : Option (List ℕ)) (first world : State S V) : Type 0 where
   pub lines : List (List ℕ)
   pub of_input : AreFirstLines input lines
   pub are : P lines
   pub answers : List LineAnswer
-  pub run : ScriptRun k tries first lines answers world
+  pub run : ScriptRun meant tries first lines answers world
   pub written : Appends old new (transcript_of 1 answers)
 
 -- a front of the answers to first lines
-pub record AnswersFront {S V : Type 0} (k : Kinds S V) (tries : ℕ) (input old new : Option (List ℕ)) (first world : State S V) : Type 0 where
+pub record AnswersFront {S V : Type 0} (meant : Meaning S V) (tries : ℕ) (input old new : Option (List ℕ)) (first world : State S V) : Type 0 where
   pub lines : List (List ℕ)
   pub of_input : AreFirstLines input lines
   pub answers : List LineAnswer
-  pub run : ScriptRun k tries first lines answers world
+  pub run : ScriptRun meant tries first lines answers world
   pub front : List ℕ
   pub rest : List ℕ
   pub is_front : transcript_of 1 answers ≡ front ++ rest
@@ -77,32 +77,32 @@ pub record AnswersFront {S V : Type 0} (k : Kinds S V) (tries : ℕ) (input old 
 
 -- what was written by the end of a run from the first world to this one: to all lines of the input, to as many as there may be, to those
 -- before the one that is too long, to those that had ended when the source failed, or a front
-abbrev pub WroteIn : {S V : Type 0} → Kinds S V → ℕ → (List (List ℕ) → Type 0) → Option (List ℕ) → Option (List ℕ) → Option (List ℕ) → State S V → State S V → Status → Type 0
-WroteIn k tries HadEnded input old new first world status.Ok = AnswersTo k tries (λ lines. IfSome input (λ bytes. lines ≡ lines_of bytes)) input old new first world
-WroteIn k tries HadEnded input old new first world status.Usage = ⊥
-WroteIn k tries HadEnded input old new first world status.ReadFault = AnswersTo k tries HadEnded input old new first world
-WroteIn k tries HadEnded input old new first world status.WriteFault = AnswersFront k tries input old new first world
-WroteIn k tries HadEnded input old new first world (status.NotEmpty disk) = ⊥
-WroteIn k tries HadEnded input old new first world (status.DiskFault disk) = ⊥
-WroteIn k tries HadEnded input old new first world status.TooManyLines = AnswersTo k tries (λ lines. length lines ≡ MOST_LINES) input old new first world
-WroteIn k tries HadEnded input old new first world status.NoMemory = AnswersFront k tries input old new first world
-WroteIn k tries HadEnded input old new first world (status.Endless line) = AnswersTo k tries (λ lines. suc (length lines) ≡ line) input old new first world
+abbrev pub WroteIn : {S V : Type 0} → Meaning S V → ℕ → (List (List ℕ) → Type 0) → Option (List ℕ) → Option (List ℕ) → Option (List ℕ) → State S V → State S V → Status → Type 0
+WroteIn meant tries HadEnded input old new first world status.Ok = AnswersTo meant tries (λ lines. IfSome input (λ bytes. lines ≡ lines_of bytes)) input old new first world
+WroteIn meant tries HadEnded input old new first world status.Usage = ⊥
+WroteIn meant tries HadEnded input old new first world status.ReadFault = AnswersTo meant tries HadEnded input old new first world
+WroteIn meant tries HadEnded input old new first world status.WriteFault = AnswersFront meant tries input old new first world
+WroteIn meant tries HadEnded input old new first world (status.NotEmpty disk) = ⊥
+WroteIn meant tries HadEnded input old new first world (status.DiskFault disk) = ⊥
+WroteIn meant tries HadEnded input old new first world status.TooManyLines = AnswersTo meant tries (λ lines. length lines ≡ MOST_LINES) input old new first world
+WroteIn meant tries HadEnded input old new first world status.NoMemory = AnswersFront meant tries input old new first world
+WroteIn meant tries HadEnded input old new first world (status.Endless line) = AnswersTo meant tries (λ lines. suc (length lines) ≡ line) input old new first world
 
 -- the same of a script that is in some state then
-pub record EndsIn {S V : Type 0} (k : Kinds S V) (tries : ℕ) (HadEnded : List (List ℕ) → Type 0) (input old new : Option (List ℕ)) (first : State S V) (stage : Stage S V) (result : Status) : Type 0 where
+pub record EndsIn {S V : Type 0} (meant : Meaning S V) (tries : ℕ) (HadEnded : List (List ℕ) → Type 0) (input old new : Option (List ℕ)) (first : State S V) (stage : Stage S V) (result : Status) : Type 0 where
   pub last : State S V
   pub is_in : IsIn stage last
-  pub wrote : WroteIn k tries HadEnded input old new first last result
+  pub wrote : WroteIn meant tries HadEnded input old new first last result
 
 -- ---- the world of a run
 -- A world of so many acceptors and proposers in which nothing has happened, over the disks of a rack: each acceptor and each proposer on
 -- the disk at the place of its number, of which those of the members and of the proposers were started.
-pub record IsNewOver {D : Type 0} (k : Kinds (DiskShelf D) D) (options : Options) (rack : Rack D) (world : View (DiskShelf D) D) : Type 0 where
-  pub opening : IsOpening k.meaning (members_to options.acceptors) world
+pub record IsNewOver {D : Type 0} (meant : Meaning (DiskShelf D) D) (options : Options) (rack : Rack D) (world : View (DiskShelf D) D) : Type 0 where
+  pub opening : IsOpening meant (members_to options.acceptors) world
   pub places : HasPlaces world
   pub greatest : world.greatest ≡ options.proposers
-  pub acceptors : AreReached k.disk_faults 1 (options.acceptors + 1) rack.acceptors.items (acceptor_disks world.acceptors)
-  pub vaults : AreDesksBelow k.meaning.disks k.disk_faults rack.vaults.items (options.proposers + 1) world.desks
+  pub acceptors : AreReached meant.disks.faults 1 (options.acceptors + 1) rack.acceptors.items (acceptor_disks world.acceptors)
+  pub vaults : AreDesksBelow meant.disks meant.disks.faults rack.vaults.items (options.proposers + 1) world.desks
 
 -- the rack that comes back holds the disks of the world, each at its place
 pub record IsRackOf {D : Type 0} (world : View (DiskShelf D) D) (rack : Rack D) : Type 0 where
@@ -111,9 +111,9 @@ pub record IsRackOf {D : Type 0} (world : View (DiskShelf D) D) (rack : Rack D) 
 
 -- what a script wrote that ran from this world on, whose record was legal then, where disks tell what they keep, and the rack that comes
 -- back
-pub record Ran {D : Type 0} (k : Kinds (DiskShelf D) D) (tells : Type 0) (tries : ℕ) (HadEnded : List (List ℕ) → Type 0) (input old new : Option (List ℕ)) (world : View (DiskShelf D) D) (result : Status) (back : Rack D) : Type 0 where
+pub record Ran {D : Type 0} (meant : Meaning (DiskShelf D) D) (tells : Type 0) (tries : ℕ) (HadEnded : List (List ℕ) → Type 0) (input old new : Option (List ℕ)) (world : View (DiskShelf D) D) (result : Status) (back : Rack D) : Type 0 where
   pub last : State (DiskShelf D) D
-  pub wrote : WroteIn k tries HadEnded input old new (opening_state world) last result
+  pub wrote : WroteIn meant tries HadEnded input old new (opening_state world) last result
   pub legal : tells → IsLegal (reverse last.world.marks)
   pub rack : IsRackOf last.world back
 
@@ -121,11 +121,11 @@ pub record Ran {D : Type 0} (k : Kinds (DiskShelf D) D) (tells : Type 0) (tries 
 -- What was written by the end, and the rack that comes back: nothing, where the words are none of a command, where there was no memory,
 -- where a disk is not known to be empty, or where the store did not open; or what a run wrote, from a new world over the rack on to one
 -- whose record is legal.
-pub data Wrote {D : Type 0} (k : Kinds (DiskShelf D) D) (m : RackMeaning D) (words : List (List ℕ)) (HadEnded : List (List ℕ) → Type 0) (input old new : Option (List ℕ)) (rack : Rack D) : Status → Rack D → Type 0 where
-  wrong_words : new ≡ old → Wrote k m words HadEnded input old new rack status.Usage rack
-  no_words_read : new ≡ old → Wrote k m words HadEnded input old new rack status.NoMemory rack
-  not_empty : {back : Rack D} (fault : RackFault) → IsNotEmpty m rack fault back → new ≡ old → Wrote k m words HadEnded input old new rack (status_of_rack fault) back
+pub data Wrote {D : Type 0} (meant : Meaning (DiskShelf D) D) (m : RackMeaning D) (words : List (List ℕ)) (HadEnded : List (List ℕ) → Type 0) (input old new : Option (List ℕ)) (rack : Rack D) : Status → Rack D → Type 0 where
+  wrong_words : new ≡ old → Wrote meant m words HadEnded input old new rack status.Usage rack
+  no_words_read : new ≡ old → Wrote meant m words HadEnded input old new rack status.NoMemory rack
+  not_empty : {back : Rack D} (fault : RackFault) → IsNotEmpty m rack fault back → new ≡ old → Wrote meant m words HadEnded input old new rack (status_of_rack fault) back
   not_opened : {asked back : Rack D} (options : Options) (fault : OpenFault) → AreWords words options → IsAllEmpty m rack asked
-      → StaysClosed m.faults options.acceptors options.proposers asked.acceptors.items asked.vaults.items fault back.acceptors.items back.vaults.items → new ≡ old → Wrote k m words HadEnded input old new rack (status_of_opening fault) back
-  ran : {asked back : Rack D} {result : Status} (options : Options) (world : View (DiskShelf D) D) → AreWords words options → IsAllEmpty m rack asked → IsNewOver k options asked world
-      → Ran k m.tells options.tries HadEnded input old new world result back → Wrote k m words HadEnded input old new rack result back
+      → StaysClosed m.faults options.acceptors options.proposers asked.acceptors.items asked.vaults.items fault back.acceptors.items back.vaults.items → new ≡ old → Wrote meant m words HadEnded input old new rack (status_of_opening fault) back
+  ran : {asked back : Rack D} {result : Status} (options : Options) (world : View (DiskShelf D) D) → AreWords words options → IsAllEmpty m rack asked → IsNewOver meant options asked world
+      → Ran meant m.tells options.tries HadEnded input old new world result back → Wrote meant m words HadEnded input old new rack result back

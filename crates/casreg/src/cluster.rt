@@ -6,7 +6,6 @@ ghost use Rattle.cas_base.specs.Faults.{Rose};
 ghost use Rattle.cas_lines.specs.Lines.{Ending, Whole, ending_of, FailsBehind};
 ghost use Rattle.cas_cluster.specs.View.{meaning};
 ghost use Rattle.cas_rack.specs.Rack.{rack_meaning};
-ghost use Rattle.cas_script.specs.Events.{kinds};
 ghost use Rattle.cas_script.specs.Script.{State, IsIn};
 ghost use Rattle.cas_script.specs.Stage.{AllIdle};
 ghost use Rattle.casreg.specs.Causes.{Causes, EndsIn, Ran, Wrote, status_of};
@@ -45,7 +44,7 @@ pub fn cluster<R, S: Source, K: Sink, D: Disk + Drop>(
     // What was written is the transcript of a script run over the lines of the input, in a new world over the rack's disks; the record of
     // that run is legal, and the rack that comes back holds the disks of its last world. Where the source failed these are all lines that
     // had ended by then, and no others.
-    ensures wrote { Wrote (kinds (meaning ⟦<DiskShelf<D> as Shelf>⟧.contents ⟦<DiskShelf<D> as Shelf>⟧.tells ⟦<DiskShelf<D> as Shelf>⟧.may_leave ⟦<DiskShelf<D> as Shelf>⟧.fault_count D.tells D.may_leave D.fault_count) ⟦<DiskShelf<D> as Shelf>⟧.fault_count D.fault_count) (rack_meaning D.tells D.seen D.may_leave D.fault_count)
+    ensures wrote { Wrote (meaning ⟦<DiskShelf<D> as Shelf>⟧.contents ⟦<DiskShelf<D> as Shelf>⟧.tells ⟦<DiskShelf<D> as Shelf>⟧.may_leave ⟦<DiskShelf<D> as Shelf>⟧.fault_count D.tells D.may_leave D.fault_count) (rack_meaning D.tells D.seen D.may_leave D.fault_count)
         (map string_bytes words.now) (FailsBehind S.take_gives source.old source.new) (S.remaining source.old) (K.contents sink.old) (K.contents sink.new) rack result.0 result.1 }
     ensures causes { Causes (map string_bytes words.now) (S.remaining source.old)
         (S.faults_of source.old) (S.faults_of source.new) (K.faults_of sink.old) (K.faults_of sink.new) result.0 }
@@ -72,7 +71,7 @@ fn run<S: Source, K: Sink, D: Disk + Drop>(
     requires acceptors { vec_len rack.acceptors ≡ 64 }
     requires vaults { vec_len rack.vaults ≡ 17 }
     requires range { IsInRange options }
-    ensures wrote { (words : List (List ℕ)) → AreWords words options → Wrote (kinds (meaning ⟦<DiskShelf<D> as Shelf>⟧.contents ⟦<DiskShelf<D> as Shelf>⟧.tells ⟦<DiskShelf<D> as Shelf>⟧.may_leave ⟦<DiskShelf<D> as Shelf>⟧.fault_count D.tells D.may_leave D.fault_count) ⟦<DiskShelf<D> as Shelf>⟧.fault_count D.fault_count) (rack_meaning D.tells D.seen D.may_leave D.fault_count)
+    ensures wrote { (words : List (List ℕ)) → AreWords words options → Wrote (meaning ⟦<DiskShelf<D> as Shelf>⟧.contents ⟦<DiskShelf<D> as Shelf>⟧.tells ⟦<DiskShelf<D> as Shelf>⟧.may_leave ⟦<DiskShelf<D> as Shelf>⟧.fault_count D.tells D.may_leave D.fault_count) (rack_meaning D.tells D.seen D.may_leave D.fault_count)
         words (FailsBehind S.take_gives source.old source.new) (S.remaining source.old) (K.contents sink.old) (K.contents sink.new) rack result.0 result.1 }
     ensures usage { result.0 ≢ Status.Usage }
     ensures read_fault { result.0 ≡ Status.ReadFault → Rose (S.faults_of source.old) (S.faults_of source.new) }
@@ -106,7 +105,7 @@ fn run_script<S: Source, K: Sink, D: Disk + Drop>(
     requires range { IsInRange options }
     requires known { store.world.greatest ≡ options.proposers }
     requires idle { AllIdle store.world }
-    ensures ran { Ran (kinds (meaning ⟦<DiskShelf<D> as Shelf>⟧.contents ⟦<DiskShelf<D> as Shelf>⟧.tells ⟦<DiskShelf<D> as Shelf>⟧.may_leave ⟦<DiskShelf<D> as Shelf>⟧.fault_count D.tells D.may_leave D.fault_count) ⟦<DiskShelf<D> as Shelf>⟧.fault_count D.fault_count) D.tells options.tries
+    ensures ran { Ran (meaning ⟦<DiskShelf<D> as Shelf>⟧.contents ⟦<DiskShelf<D> as Shelf>⟧.tells ⟦<DiskShelf<D> as Shelf>⟧.may_leave ⟦<DiskShelf<D> as Shelf>⟧.fault_count D.tells D.may_leave D.fault_count) D.tells options.tries
         (FailsBehind S.take_gives source.old source.new) (S.remaining source.old) (K.contents sink.old) (K.contents sink.new) store.world result.0 result.1 }
     ensures usage { result.0 ≢ Status.Usage }
     ensures read_fault { result.0 ≡ Status.ReadFault → Rose (S.faults_of source.old) (S.faults_of source.new) }
@@ -138,8 +137,8 @@ fn answer_lines<S: Source, K: Sink, H: Shelf, D: Disk>(
     sink: &mut K,
 ) -> Result<(), Status>
     requires state { (first : State _ _) × IsIn script.old first }
-    ensures all { (first : State _ _) → IsIn script.old first → OnOk result (EndsIn (kinds (meaning H.contents H.tells H.may_leave D.tells D.may_leave) H.fault_count D.fault_count) script.old.tries (FailsBehind S.take_gives source.old source.new) (S.remaining source.old) (K.contents sink.old) (K.contents sink.new) first script.new Status.Ok) }
-    ensures wrote { (first : State _ _) → IsIn script.old first → IfErr result (λ status. EndsIn (kinds (meaning H.contents H.tells H.may_leave D.tells D.may_leave) H.fault_count D.fault_count) script.old.tries (FailsBehind S.take_gives source.old source.new) (S.remaining source.old) (K.contents sink.old) (K.contents sink.new) first script.new status) }
+    ensures all { (first : State _ _) → IsIn script.old first → OnOk result (EndsIn (meaning H.contents H.tells H.may_leave D.tells D.may_leave) script.old.tries (FailsBehind S.take_gives source.old source.new) (S.remaining source.old) (K.contents sink.old) (K.contents sink.new) first script.new Status.Ok) }
+    ensures wrote { (first : State _ _) → IsIn script.old first → IfErr result (λ status. EndsIn (meaning H.contents H.tells H.may_leave D.tells D.may_leave) script.old.tries (FailsBehind S.take_gives source.old source.new) (S.remaining source.old) (K.contents sink.old) (K.contents sink.new) first script.new status) }
     ensures read { OnOk result (IsAtEnd (S.remaining source.new)) }
     ensures whole { OnOk result (IfSome (S.remaining source.old) (λ input. ending_of input ≡ Whole)) }
     ensures fails { IfErr result (λ status. (status ≢ Status.Ok) × (status ≢ Status.Usage)) }

@@ -2,14 +2,13 @@ use Rattle.cas_cluster.specs.View.{meaning}
 use Rattle.cas_disk_shelf.specs.Shelf.{disk_of, contents_of, MayLeave}
 use Rattle.cas_disk_shelf.specs.declared.shelf.DiskShelf.{DiskShelf}
 use Rattle.cas_rack.specs.Rack.{rack_meaning}
-use Rattle.cas_script.specs.Events.{kinds}
 use Rattle.casreg.specs.Causes.{ran}
 use Rattle.casreg.proofs.Written.{wrote_not_empty, wrote_not_opened}
 use Rattle.cas_script.proofs.Opened.{new_idle}
 use Rattle.casreg.proofs.cluster.run.Goals as goal
 
 pub returns-in-Err-clause-wrote : goal.returns-in-Err-clause-wrote
-returns-in-Err-clause-wrote g c words are = wrote_not_empty (kinds (meaning {S = DiskShelf g.row.D.Denot} (λ shelf. contents_of shelf) g.D.Disk.tells (λ shelf left. MayLeave g.D.Disk.may_leave shelf left) g.D.Disk.tells g.D.Disk.may_leave) (λ shelf. g.D.Disk.fault_count (disk_of shelf)) g.D.Disk.fault_count) (rack_meaning g.D.Disk.tells g.D.Disk.seen g.D.Disk.may_leave g.D.Disk.fault_count) words _ _ _ c.args.rack c.expect_empty.new.self c.in-Err.fault c.from.result c.from.ensures c.in-Err.ensures.err
+returns-in-Err-clause-wrote g c words are = wrote_not_empty (meaning {S = DiskShelf g.row.D.Denot} (λ shelf. contents_of shelf) g.D.Disk.tells (λ shelf left. MayLeave g.D.Disk.may_leave shelf left) (λ shelf. g.D.Disk.fault_count (disk_of shelf)) g.D.Disk.tells g.D.Disk.may_leave g.D.Disk.fault_count) (rack_meaning g.D.Disk.tells g.D.Disk.seen g.D.Disk.may_leave g.D.Disk.fault_count) words _ _ _ c.args.rack c.expect_empty.new.self c.in-Err.fault c.from.result c.from.ensures c.in-Err.ensures.err
 
 pub run_script-requires-clause-idle : goal.run_script-requires-clause-idle
 run_script-requires-clause-idle g c = new_idle _ _ c.in-Ok.store.world c.in-Ok.ensures.opening c.in-Ok.ensures.places
@@ -20,4 +19,4 @@ returns-in-Ok-clause-wrote g c words are = ran c.args.options c.in-Ok.store.worl
 
 pub returns-in-Err-open-clause-wrote : goal.returns-in-Err-open-clause-wrote
 returns-in-Err-open-clause-wrote g c words are =
-    wrote_not_opened (kinds (meaning {S = DiskShelf g.row.D.Denot} (λ shelf. contents_of shelf) g.D.Disk.tells (λ shelf left. MayLeave g.D.Disk.may_leave shelf left) g.D.Disk.tells g.D.Disk.may_leave) (λ shelf. g.D.Disk.fault_count (disk_of shelf)) g.D.Disk.fault_count) (rack_meaning g.D.Disk.tells g.D.Disk.seen g.D.Disk.may_leave g.D.Disk.fault_count) words _ _ _ c.args.rack c.expect_empty.new.self c.in-Err-open.rack c.args.options c.in-Err-open.fault c.from-in-Err-open.result c.from-in-Err-open.ensures are c.in_default.ensures.ok c.in-Err-open.ensures.fault
+    wrote_not_opened (meaning {S = DiskShelf g.row.D.Denot} (λ shelf. contents_of shelf) g.D.Disk.tells (λ shelf left. MayLeave g.D.Disk.may_leave shelf left) (λ shelf. g.D.Disk.fault_count (disk_of shelf)) g.D.Disk.tells g.D.Disk.may_leave g.D.Disk.fault_count) (rack_meaning g.D.Disk.tells g.D.Disk.seen g.D.Disk.may_leave g.D.Disk.fault_count) words _ _ _ c.args.rack c.expect_empty.new.self c.in-Err-open.rack c.args.options c.in-Err-open.fault c.from-in-Err-open.result c.from-in-Err-open.ensures are c.in_default.ensures.ok c.in-Err-open.ensures.fault

@@ -6,7 +6,6 @@ use Rattle.cas_cluster.specs.View.{View, meaning}
 use Rattle.cas_lines.specs.Answers.{bad_line}
 use Rattle.cas_lines.specs.Command.{IsLine}
 use Rattle.cas_lines.specs.Reading.{line_in}
-use Rattle.cas_script.specs.Events.{kinds}
 use Rattle.cas_script.specs.Script.{Bad, Remark, remark, refused, AnswersLine}
 use Rattle.cas_script.specs.Stage.{Stage}
 use Rattle.cas_script.proofs.script.Script.answer.Goals as goal
@@ -27,7 +26,7 @@ pub returns-in-Err-clause-answers : goal.returns-in-Err-clause-answers
 returns-in-Err-clause-answers g c state at =
     let known : c.self.inside.proposers ≡ state.world.greatest = sym c.self.invariant.known ∙ ap (λ (v : Stage _ _). v.world.greatest) c.self.view_is ∙ ap (λ (w : View _ _). w.greatest) at.world in
     IfOk-weaker c.answer_refusal.result (λ text. (c.in-Err.refusal.why ≢ why.NoMemory) × (vec_items text ≡ bad_line c.number.result c.in-Err.refusal.why))
-    (λ text. AnswersLine (kinds (meaning {S = g.row.S.Denot} g.S.Shelf.contents g.S.Shelf.tells g.S.Shelf.may_leave g.S.Shelf.fault_count g.V.Disk.tells g.V.Disk.may_leave g.V.Disk.fault_count) g.S.Shelf.fault_count g.V.Disk.fault_count) c.args.self.now.tries state c.args.line.now.bytes c.args.line.now.number (vec_items text) c.args.self.now)
+    (λ text. AnswersLine (meaning {S = g.row.S.Denot} g.S.Shelf.contents g.S.Shelf.tells g.S.Shelf.may_leave g.S.Shelf.fault_count g.V.Disk.tells g.V.Disk.may_leave g.V.Disk.fault_count) c.args.self.now.tries state c.args.line.now.bytes c.args.line.now.number (vec_items text) c.args.self.now)
     (λ text h. record {
       answer = Bad c.in-Err.refusal.why;
       new = state;

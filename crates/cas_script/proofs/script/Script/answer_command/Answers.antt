@@ -2,7 +2,6 @@ use Rattle.std.proofs.Common.{◌≡◌, Option, Some, ap, subst, ◌∙◌}
 use Rattle.std.specs.Prelude.{IfSome, vec_items}
 use Rattle.cas_cluster.specs.View.{meaning}
 use Rattle.cas_lines.specs.Command.{change_of}
-use Rattle.cas_script.specs.Events.{kinds}
 use Rattle.cas_script.specs.Script.{Changed, Happened, Shows}
 use Rattle.cas_script.specs.Stage.{Stage}
 use Rattle.cas_script.proofs.Answering.{with_text, without_text, changes_run, happens_run, shows_run}
@@ -11,8 +10,8 @@ use Rattle.cas_script.proofs.script.Script.answer_command.Goals as goal
 
 pub returns-in-Show-clause-answers : goal.returns-in-Show-clause-answers
 returns-in-Show-clause-answers g c state line number at is =
-    with_text (kinds (meaning {S = g.row.S.Denot} g.S.Shelf.contents g.S.Shelf.tells g.S.Shelf.may_leave g.S.Shelf.fault_count g.V.Disk.tells g.V.Disk.may_leave g.V.Disk.fault_count) g.S.Shelf.fault_count g.V.Disk.fault_count) c.args.self.now.tries number state line c.args.self.now vec_items c.print_shown.result (Shows c.in-Show.id c.in-Show.key c.in_ok-shown.shown) state at
-    (shows_run (kinds (meaning {S = g.row.S.Denot} g.S.Shelf.contents g.S.Shelf.tells g.S.Shelf.may_leave g.S.Shelf.fault_count g.V.Disk.tells g.V.Disk.may_leave g.V.Disk.fault_count) g.S.Shelf.fault_count g.V.Disk.fault_count) c.args.self.now.tries c.args.self.now state line c.args.command.now c.in-Show.id c.in-Show.key c.in_ok-shown.shown c.self.inside.world at is c.in-Show.is (ap (λ (v : Stage _ _). v.world) c.self.view_is ∙ at.world) c.in_ok-shown.ensures)
+    with_text (meaning {S = g.row.S.Denot} g.S.Shelf.contents g.S.Shelf.tells g.S.Shelf.may_leave g.S.Shelf.fault_count g.V.Disk.tells g.V.Disk.may_leave g.V.Disk.fault_count) c.args.self.now.tries number state line c.args.self.now vec_items c.print_shown.result (Shows c.in-Show.id c.in-Show.key c.in_ok-shown.shown) state at
+    (shows_run (meaning {S = g.row.S.Denot} g.S.Shelf.contents g.S.Shelf.tells g.S.Shelf.may_leave g.S.Shelf.fault_count g.V.Disk.tells g.V.Disk.may_leave g.V.Disk.fault_count) c.args.self.now.tries c.args.self.now state line c.args.command.now c.in-Show.id c.in-Show.key c.in_ok-shown.shown c.self.inside.world at is c.in-Show.is (ap (λ (v : Stage _ _). v.world) c.self.view_is ∙ at.world) c.in_ok-shown.ensures)
     c.print_shown.ensures
 
 asks_is : (g : Over) (c : goal.After-drop-asked g) → change_of c.args.command.now ≡ Some (record { caller = c.in-Some.asked.caller; key = c.in-Some.asked.key.now; program = c.in-Some.asked.program })
@@ -22,13 +21,13 @@ pub returns-in-Some : goal.returns-in-Some
 returns-in-Some g c = record {
   answers = λ state line number at is.
       let runs = c.run_change-answer.ensures.runs state at in
-      with_text (kinds (meaning {S = g.row.S.Denot} g.S.Shelf.contents g.S.Shelf.tells g.S.Shelf.may_leave g.S.Shelf.fault_count g.V.Disk.tells g.V.Disk.may_leave g.V.Disk.fault_count) g.S.Shelf.fault_count g.V.Disk.fault_count) c.args.self.now.tries number state line c.run_change-answer.new.self vec_items c.print_answer.result (Changed c.in-Some.asked.caller c.run_change-answer.result) runs.new runs.is_in
-      (changes_run (kinds (meaning {S = g.row.S.Denot} g.S.Shelf.contents g.S.Shelf.tells g.S.Shelf.may_leave g.S.Shelf.fault_count g.V.Disk.tells g.V.Disk.may_leave g.V.Disk.fault_count) g.S.Shelf.fault_count g.V.Disk.fault_count) c.args.self.now.tries c.args.self.now c.run_change-answer.new.self state line c.args.command.now (record { caller = c.in-Some.asked.caller; key = c.in-Some.asked.key.now; program = c.in-Some.asked.program }) c.run_change-answer.result at is (asks_is g c) runs)
+      with_text (meaning {S = g.row.S.Denot} g.S.Shelf.contents g.S.Shelf.tells g.S.Shelf.may_leave g.S.Shelf.fault_count g.V.Disk.tells g.V.Disk.may_leave g.V.Disk.fault_count) c.args.self.now.tries number state line c.run_change-answer.new.self vec_items c.print_answer.result (Changed c.in-Some.asked.caller c.run_change-answer.result) runs.new runs.is_in
+      (changes_run (meaning {S = g.row.S.Denot} g.S.Shelf.contents g.S.Shelf.tells g.S.Shelf.may_leave g.S.Shelf.fault_count g.V.Disk.tells g.V.Disk.may_leave g.V.Disk.fault_count) c.args.self.now.tries c.args.self.now c.run_change-answer.new.self state line c.args.command.now (record { caller = c.in-Some.asked.caller; key = c.in-Some.asked.key.now; program = c.in-Some.asked.program }) c.run_change-answer.result at is (asks_is g c) runs)
       c.print_answer.ensures;
   err = λ state line at is.
       let runs = c.run_change-answer.ensures.runs state at in
-      without_text (kinds (meaning {S = g.row.S.Denot} g.S.Shelf.contents g.S.Shelf.tells g.S.Shelf.may_leave g.S.Shelf.fault_count g.V.Disk.tells g.V.Disk.may_leave g.V.Disk.fault_count) g.S.Shelf.fault_count g.V.Disk.fault_count) c.args.self.now.tries state line c.run_change-answer.new.self c.print_answer.result (Changed c.in-Some.asked.caller c.run_change-answer.result) runs.new runs.is_in
-      (changes_run (kinds (meaning {S = g.row.S.Denot} g.S.Shelf.contents g.S.Shelf.tells g.S.Shelf.may_leave g.S.Shelf.fault_count g.V.Disk.tells g.V.Disk.may_leave g.V.Disk.fault_count) g.S.Shelf.fault_count g.V.Disk.fault_count) c.args.self.now.tries c.args.self.now c.run_change-answer.new.self state line c.args.command.now (record { caller = c.in-Some.asked.caller; key = c.in-Some.asked.key.now; program = c.in-Some.asked.program }) c.run_change-answer.result at is (asks_is g c) runs);
+      without_text (meaning {S = g.row.S.Denot} g.S.Shelf.contents g.S.Shelf.tells g.S.Shelf.may_leave g.S.Shelf.fault_count g.V.Disk.tells g.V.Disk.may_leave g.V.Disk.fault_count) c.args.self.now.tries state line c.run_change-answer.new.self c.print_answer.result (Changed c.in-Some.asked.caller c.run_change-answer.result) runs.new runs.is_in
+      (changes_run (meaning {S = g.row.S.Denot} g.S.Shelf.contents g.S.Shelf.tells g.S.Shelf.may_leave g.S.Shelf.fault_count g.V.Disk.tells g.V.Disk.may_leave g.V.Disk.fault_count) c.args.self.now.tries c.args.self.now c.run_change-answer.new.self state line c.args.command.now (record { caller = c.in-Some.asked.caller; key = c.in-Some.asked.key.now; program = c.in-Some.asked.program }) c.run_change-answer.result at is (asks_is g c) runs);
   tries = c.run_change-answer.ensures.tries;
 }
 
@@ -36,12 +35,12 @@ pub returns-in-None : goal.returns-in-None
 returns-in-None g c = record {
   answers = λ state line number at is.
       let runs = c.run_event-answer.ensures.runs state at in
-      with_text (kinds (meaning {S = g.row.S.Denot} g.S.Shelf.contents g.S.Shelf.tells g.S.Shelf.may_leave g.S.Shelf.fault_count g.V.Disk.tells g.V.Disk.may_leave g.V.Disk.fault_count) g.S.Shelf.fault_count g.V.Disk.fault_count) c.args.self.now.tries number state line c.run_event-answer.new.self vec_items c.print_event.result (Happened c.run_event-answer.result) runs.new runs.is_in
-      (happens_run (kinds (meaning {S = g.row.S.Denot} g.S.Shelf.contents g.S.Shelf.tells g.S.Shelf.may_leave g.S.Shelf.fault_count g.V.Disk.tells g.V.Disk.may_leave g.V.Disk.fault_count) g.S.Shelf.fault_count g.V.Disk.fault_count) c.args.self.now.tries c.args.self.now c.run_event-answer.new.self state line c.args.command.now c.run_event-answer.result at is runs)
+      with_text (meaning {S = g.row.S.Denot} g.S.Shelf.contents g.S.Shelf.tells g.S.Shelf.may_leave g.S.Shelf.fault_count g.V.Disk.tells g.V.Disk.may_leave g.V.Disk.fault_count) c.args.self.now.tries number state line c.run_event-answer.new.self vec_items c.print_event.result (Happened c.run_event-answer.result) runs.new runs.is_in
+      (happens_run (meaning {S = g.row.S.Denot} g.S.Shelf.contents g.S.Shelf.tells g.S.Shelf.may_leave g.S.Shelf.fault_count g.V.Disk.tells g.V.Disk.may_leave g.V.Disk.fault_count) c.args.self.now.tries c.args.self.now c.run_event-answer.new.self state line c.args.command.now c.run_event-answer.result at is runs)
       c.print_event.ensures;
   err = λ state line at is.
       let runs = c.run_event-answer.ensures.runs state at in
-      without_text (kinds (meaning {S = g.row.S.Denot} g.S.Shelf.contents g.S.Shelf.tells g.S.Shelf.may_leave g.S.Shelf.fault_count g.V.Disk.tells g.V.Disk.may_leave g.V.Disk.fault_count) g.S.Shelf.fault_count g.V.Disk.fault_count) c.args.self.now.tries state line c.run_event-answer.new.self c.print_event.result (Happened c.run_event-answer.result) runs.new runs.is_in
-      (happens_run (kinds (meaning {S = g.row.S.Denot} g.S.Shelf.contents g.S.Shelf.tells g.S.Shelf.may_leave g.S.Shelf.fault_count g.V.Disk.tells g.V.Disk.may_leave g.V.Disk.fault_count) g.S.Shelf.fault_count g.V.Disk.fault_count) c.args.self.now.tries c.args.self.now c.run_event-answer.new.self state line c.args.command.now c.run_event-answer.result at is runs);
+      without_text (meaning {S = g.row.S.Denot} g.S.Shelf.contents g.S.Shelf.tells g.S.Shelf.may_leave g.S.Shelf.fault_count g.V.Disk.tells g.V.Disk.may_leave g.V.Disk.fault_count) c.args.self.now.tries state line c.run_event-answer.new.self c.print_event.result (Happened c.run_event-answer.result) runs.new runs.is_in
+      (happens_run (meaning {S = g.row.S.Denot} g.S.Shelf.contents g.S.Shelf.tells g.S.Shelf.may_leave g.S.Shelf.fault_count g.V.Disk.tells g.V.Disk.may_leave g.V.Disk.fault_count) c.args.self.now.tries c.args.self.now c.run_event-answer.new.self state line c.args.command.now c.run_event-answer.result at is runs);
   tries = c.run_event-answer.ensures.tries;
 }

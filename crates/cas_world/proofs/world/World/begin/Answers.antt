@@ -1,5 +1,6 @@
 use Rattle.std.proofs.Common.{◌<◌, ◌≡◌, ℕ, ◌+◌, ◌++◌, List, Option, Err, inl, inr, length, sum_by, slice_set, refl, sym, ap, subst, ◌∙◌, arith}
 use Rattle.std.specs.Prelude.{⊤, IsSome}
+use Rattle.cas_world.proofs.Told.{begin_cause}
 use Rattle.cas_record.specs.declared.answer.Answer.{Answer}
 use Rattle.cas_record.specs.declared.mark.Mark.{Mark}
 use Rattle.cas_cluster.specs.StepCalls.{round_marks}
@@ -106,3 +107,9 @@ returns-clause-full g c =
       λ full. absurd (never_full (record { tells = g.V.Disk.tells; may_leave = g.V.Disk.may_leave; faults = g.V.Disk.fault_count }) c.args.key.now c.index_mut-desk.result.now c.open_round-begun.new.desk c.open_round-begun.result c.settle.result c.open_round-begun.ensures.refused c.settle.ensures.refused c.settle.ensures.begun_ full),
       λ many. absurd (cc (c.in-Ok.ensures.full.1 (omega (arith, many, counted, others, beside, needs)))),
     )
+
+pub returns-in-Err-clause-cause : goal.returns-in-Err-clause-cause
+returns-in-Err-clause-cause g c = begin_cause _ c.args.self.now _ c.args.caller c.args.call c.args.key.now c.args.program.now _ (λ full. (returns-in-Err-clause-full g c).0 full) (returns-in-Err-clause-step g c)
+
+pub returns-clause-cause : goal.returns-clause-cause
+returns-clause-cause g c = begin_cause _ c.args.self.now _ c.args.caller c.args.call c.args.key.now c.args.program.now _ (λ full. (returns-clause-full g c).0 full) (returns-clause-step g c)

@@ -1,5 +1,7 @@
 use Rattle.std.proofs.Common.{◌≡◌, ℕ, [], Option, None, Some, slice_set, refl, sym, ap, subst, ◌∙◌, arith}
 use Rattle.std.specs.Prelude.{IsSome, IfSome}
+use Rattle.cas_cluster.specs.History.{IsRemembered}
+use Rattle.cas_world.proofs.Told.{count_cause, count_above}
 use Rattle.cas_flow.specs.Flow.{queue_at}
 use Rattle.cas_proposer.specs.Desk.{DeskView, counter_without}
 use Rattle.cas_proposer.specs.declared.round.Round.{Round}
@@ -119,3 +121,17 @@ returns-in-Some-clause-told g c seen at_seen =
 
 pub returns-in-Some-clause-kept : goal.returns-in-Some-clause-kept
 returns-in-Some-clause-kept g c shelves vaults a stands above = done_kept _ shelves _ a (remembered_then _ (step.Count c.args.proposer) (falls_short g c) c.self.invariant.remembered shelves vaults) stands above
+
+pub returns-in-None-clause-cause : goal.returns-in-None-clause-cause
+returns-in-None-clause-cause g c = count_cause (meaning g.S.Shelf.contents g.S.Shelf.tells g.S.Shelf.may_leave g.S.Shelf.fault_count g.V.Disk.tells g.V.Disk.may_leave g.V.Disk.fault_count) c.args.self.now _ c.args.proposer c.acknowledge.result (returns-in-None-clause-step g c) (returns-in-None-clause-told g c)
+
+pub returns-in-None-clause-above : goal.returns-in-None-clause-above
+returns-in-None-clause-above g c shelves vaults = count_above (meaning g.S.Shelf.contents g.S.Shelf.tells g.S.Shelf.may_leave g.S.Shelf.fault_count g.V.Disk.tells g.V.Disk.may_leave g.V.Disk.fault_count) c.args.self.now _ c.args.proposer c.acknowledge.result (returns-in-None-clause-step g c) (returns-in-None-clause-told g c) shelves vaults
+    (subst (λ (v : View _ _). IsRemembered (meaning g.S.Shelf.contents g.S.Shelf.tells g.S.Shelf.may_leave g.S.Shelf.fault_count g.V.Disk.tells g.V.Disk.may_leave g.V.Disk.fault_count) v) c.self.view_is (c.self.invariant.remembered shelves vaults))
+
+pub returns-in-Some-clause-cause : goal.returns-in-Some-clause-cause
+returns-in-Some-clause-cause g c = count_cause (meaning g.S.Shelf.contents g.S.Shelf.tells g.S.Shelf.may_leave g.S.Shelf.fault_count g.V.Disk.tells g.V.Disk.may_leave g.V.Disk.fault_count) c.args.self.now _ c.args.proposer (answer.Unsettled c.in-Some.why) (returns-in-Some-clause-step g c) (returns-in-Some-clause-told g c)
+
+pub returns-in-Some-clause-above : goal.returns-in-Some-clause-above
+returns-in-Some-clause-above g c shelves vaults = count_above (meaning g.S.Shelf.contents g.S.Shelf.tells g.S.Shelf.may_leave g.S.Shelf.fault_count g.V.Disk.tells g.V.Disk.may_leave g.V.Disk.fault_count) c.args.self.now _ c.args.proposer (answer.Unsettled c.in-Some.why) (returns-in-Some-clause-step g c) (returns-in-Some-clause-told g c) shelves vaults
+    (subst (λ (v : View _ _). IsRemembered (meaning g.S.Shelf.contents g.S.Shelf.tells g.S.Shelf.may_leave g.S.Shelf.fault_count g.V.Disk.tells g.V.Disk.may_leave g.V.Disk.fault_count) v) c.self.view_is (c.self.invariant.remembered shelves vaults))

@@ -1,5 +1,7 @@
-use Rattle.std.proofs.Common.{◌≡◌, ◌<◌, ℕ, Option, Some, slice_set, refl, sym, ap, subst, ◌∙◌, arith}
-use Rattle.std.specs.Prelude.{IsSome, IfSome}
+use Rattle.std.proofs.Common.{Err, ◌≡◌, ◌<◌, ℕ, Option, Some, slice_set, refl, sym, ap, subst, ◌∙◌, arith}
+use Rattle.std.specs.Prelude.{⊤, IsSome, IfSome}
+use Rattle.cas_cluster.specs.History.{IsRemembered}
+use Rattle.cas_world.proofs.Told.{propose_cause, propose_above}
 use Rattle.cas_flow.specs.Flow.{queue_at}
 use Rattle.cas_cluster.specs.Step as step
 use Rattle.cas_cluster.specs.Step.{StepPropose}
@@ -119,3 +121,10 @@ returns-in-Err-clause-told g c seen at_seen =
     subst (λ (i : ℕ). WasTold (view_of c.self.inside.config.proposers c.self.inside.era c.self.inside.acceptors.items (slice_set c.self.inside.desks.items i c.end_prepare.new.desk) (slice_set c.self.inside.callers.items i c.end_round.new.self) c.end_prepare.new.flow c.self.inside.record) c.args.proposer seen.number c.in-Err.refusal) (sym c.from-place.ensures)
     (was_told c.self.inside.config.proposers c.self.inside.era c.self.inside.acceptors.items c.self.inside.desks.items c.self.inside.callers.items c.self.inside.flow c.self.inside.record c.args.self.now (slice_set c.self.inside.desks.items c.args.proposer c.end_prepare.new.desk) c.end_prepare.new.flow c.self.inside.record c.args.proposer seen c.index_mut-caller.result.now c.end_round.new.self (found_short g c).may.call c.in-Err.refusal
     c.self.view_is at_seen (found_short g c).at_caller (over_is g c))
+
+pub returns-in-Err-clause-cause : goal.returns-in-Err-clause-cause
+returns-in-Err-clause-cause g c = propose_cause {A = ⊤} (meaning g.S.Shelf.contents g.S.Shelf.tells g.S.Shelf.may_leave g.S.Shelf.fault_count g.V.Disk.tells g.V.Disk.may_leave g.V.Disk.fault_count) c.args.self.now _ c.args.proposer (Err c.in-Err.refusal) (returns-in-Err-clause-step g c) (returns-in-Err-clause-told g c)
+
+pub returns-in-Err-clause-above : goal.returns-in-Err-clause-above
+returns-in-Err-clause-above g c shelves vaults = propose_above {A = ⊤} (meaning g.S.Shelf.contents g.S.Shelf.tells g.S.Shelf.may_leave g.S.Shelf.fault_count g.V.Disk.tells g.V.Disk.may_leave g.V.Disk.fault_count) c.args.self.now _ c.args.proposer (Err c.in-Err.refusal) (returns-in-Err-clause-step g c) (returns-in-Err-clause-told g c) shelves vaults
+    (subst (λ (v : View _ _). IsRemembered (meaning g.S.Shelf.contents g.S.Shelf.tells g.S.Shelf.may_leave g.S.Shelf.fault_count g.V.Disk.tells g.V.Disk.may_leave g.V.Disk.fault_count) v) c.self.view_is (c.self.invariant.remembered shelves vaults))
