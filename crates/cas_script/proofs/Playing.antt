@@ -429,7 +429,7 @@ begins_for {S} {V} m old new id key program by = in_round by.begins
     in_round : calls.BeginsRound m by.middle id by.caller by.call new → Begins new id key program
     in_round (calls.prepares desk now ballot round flow at up few begins sends same) = same_callers (ap (λ (w : View S V). w.callers) same)
     in_round (calls.proposes desk now ready ride round outcome flow at up few begins made sends same) = with_next (calls.proposing by.call outcome) (ap (λ (w : View S V). w.callers) same) refl refl (λ met. met)
-    in_round (calls.stays told is no_round full same) = with_next (calls.over by.call told) (ap (λ (w : View S V). w.callers) same) refl refl (no_beginning told is)
+    in_round (calls.stays told is no_round why_full same) = with_next (calls.over by.call told) (ap (λ (w : View S V). w.callers) same) refl refl (no_beginning told is)
     in_round (calls.spent desk now at none up no_promise spent kept is same) = with_next (calls.over by.call answer.Spent) (ap (λ (w : View S V). w.callers) same) refl refl (λ met. met)
     in_round (calls.fails desk now at none up fails same) = with_next (calls.over by.call answer.VaultFault) (ap (λ (w : View S V). w.callers) same) refl refl (λ met. met)
     in_round (calls.loses desk now ballot at none up loses same) = with_next (calls.over by.call (answer.NoMemory false)) (ap (λ (w : View S V). w.callers) same) refl refl (λ met. met)

@@ -46,12 +46,12 @@ vault_answer (Err vault_error.NoMemory) = event.NoMemory
 pub data RestartsAcceptor {S V : Type 0} (m : Meaning S V) (old : View S V) (id : ℕ) : EventAnswer → View S V → Type 0 where
   absent : is_up old id ≡ None → RestartsAcceptor m old id event.Absent old
   restarts : {new : View S V} (result : Result ⊤ ShelfFault) → IsSome (is_up old id) → Step m old (RestartAcceptor id) new
-      → ((was now : AcceptorView S) → IsAt old.acceptors id was → IsAt new.acceptors id now → TellsOfAcceptor m.shelves m.shelves.faults was now result) → RestartsAcceptor m old id (shelf_answer result) new
+      → ((was now : AcceptorView S) → IsAt old.acceptors id was → IsAt new.acceptors id now → TellsOfAcceptor m.shelves was now result) → RestartsAcceptor m old id (shelf_answer result) new
 
 -- ---- proposers
 pub data RestartsProposer {S V : Type 0} (m : Meaning S V) (old : View S V) (id : ℕ) : EventAnswer → View S V → Type 0 where
   restarts : {new : View S V} (result : Result ⊤ VaultError) → Step m old (RestartProposer id) new
-      → ((was now : DeskView V) → IsAt old.desks id was → IsAt new.desks id now → TellsOfDesk m.disks m.disks.faults was now result) → RestartsProposer m old id (vault_answer result) new
+      → ((was now : DeskView V) → IsAt old.desks id was → IsAt new.desks id now → TellsOfDesk m.disks was now result) → RestartsProposer m old id (vault_answer result) new
 
 -- ---- late frames
 -- the late frame of that place strays in: there is none, the record is full, or there was no memory
