@@ -1,3 +1,4 @@
+pub mod Blame
 pub mod Runs
 pub mod Scripts
 pub mod Taken

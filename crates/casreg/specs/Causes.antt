@@ -1,5 +1,5 @@
 -- When each status comes, and what was written by then.
-use Rattle.std.specs.Prelude.{◌≡◌, ◌⊎◌, ◌+◌, ℕ, suc, List, ◌++◌, ⊤, length, reverse, take, Option, IfSome}
+use Rattle.std.specs.Prelude.{◌≡◌, ◌≢◌, [], ◌⊎◌, ◌+◌, ℕ, suc, List, ◌++◌, ⊤, length, reverse, take, Option, IfSome}
 use Rattle.std.specs.Io.KnownBytes.{Appends}
 use Rattle.cas_base.specs.Faults.{Rose}
 use Rattle.cas_disk_shelf.specs.declared.shelf.DiskShelf.{DiskShelf}
@@ -8,14 +8,13 @@ use Rattle.cas_lines.specs.Lines.{lines_of, Ending, Whole, TooMany, TooLong, end
 use Rattle.cas_record.specs.Legal.{IsLegal}
 use Rattle.cas_cluster.specs.SafeLaws.{HasPlaces}
 use Rattle.cas_cluster.specs.Step.{IsOpening}
-use Rattle.cas_cluster.specs.View.{View}
 use Rattle.cas_world.specs.Opening.{members_to, disks_of, AreDesksBelow}
 use Rattle.cas_world.specs.declared.fault.OpenFault.{OpenFault}
 use Rattle.cas_rack.specs.Rack.{RackMeaning, IsAllEmpty, IsNotEmpty}
 use Rattle.cas_rack.specs.Store.{acceptor_disks, AreReached, StaysClosed}
 use Rattle.cas_rack.specs.declared.rack.Rack.{Rack}
 use Rattle.cas_rack.specs.declared.rack.RackFault.{RackFault}
-use Rattle.cas_cluster.specs.View.{Meaning}
+use Rattle.cas_cluster.specs.View.{Meaning, View, IsAt}
 use Rattle.cas_script.specs.Script.{State, LineAnswer, ScriptRun, IsIn, opening_state, transcript_of}
 use Rattle.cas_script.specs.Stage.{Stage}
 use Rattle.casreg.specs.declared.status.Status.{Status}
@@ -49,6 +48,32 @@ pub record Causes (words : List (List ℕ)) (input : Option (List ℕ)) (source_
   -- as the store is opened
   pub completes : (options : Options) → AreWords words options → (Rose source_old source_new → ⊥) → (Rose sink_old sink_new → ⊥)
       → IfSome input (λ bytes. (result ≡ status_of (ending_of bytes)) ⊎ (result ≡ status.NoMemory) ⊎ IsOfDisk result)
+
+-- ---- disks
+-- the disk of that number: those of acceptors are numbered from 0 on, and those of vaults from 64 on
+pub data IsDisk {D : Type 0} (rack : Rack D) : ℕ → D → Type 0 where
+  of_acceptor : (place : ℕ) (disk : D) → IsAt rack.acceptors.items place disk → IsDisk rack place disk
+  of_vault : (place : ℕ) (disk : D) → IsAt rack.vaults.items place disk → IsDisk rack (64 + place) disk
+
+-- it was not empty, where disks tell what they keep
+pub record WasNotEmpty {D : Type 0} (m : RackMeaning D) (rack : Rack D) (number : ℕ) : Type 0 where
+  pub disk : D
+  pub is_disk : IsDisk rack number disk
+  pub not_empty : m.tells → m.seen disk ≢ []
+
+-- its count of faults rose
+pub record HasFailed {D : Type 0} (m : RackMeaning D) (rack back : Rack D) (number : ℕ) : Type 0 where
+  pub was : D
+  pub is_was : IsDisk rack number was
+  pub now : D
+  pub is_now : IsDisk back number now
+  pub rose : Rose (m.faults was) (m.faults now)
+
+-- a status that names a disk comes only by what became of that disk
+abbrev pub AreDisksToBlame : {D : Type 0} → RackMeaning D → Rack D → Rack D → Status → Type 0
+AreDisksToBlame m rack back (status.NotEmpty disk) = WasNotEmpty m rack disk
+AreDisksToBlame m rack back (status.DiskFault disk) = HasFailed m rack back disk
+AreDisksToBlame m rack back other = ⊤
 
 -- ---- what was written, where input and sink tell their bytes
 -- the first lines of an input

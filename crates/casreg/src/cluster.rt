@@ -8,7 +8,7 @@ ghost use Rattle.cas_cluster.specs.View.{meaning};
 ghost use Rattle.cas_rack.specs.Rack.{rack_meaning};
 ghost use Rattle.cas_script.specs.Script.{State, IsIn};
 ghost use Rattle.cas_script.specs.Stage.{AllIdle};
-ghost use Rattle.casreg.specs.Causes.{Causes, EndsIn, Ran, Wrote, status_of};
+ghost use Rattle.casreg.specs.Causes.{AreDisksToBlame, Causes, EndsIn, Ran, Wrote, status_of};
 ghost use Rattle.casreg.specs.Words.{AreWords, IsInRange};
 
 use crate::status::Status;
@@ -30,7 +30,8 @@ use std::alloc::{AllocError, Global};
 /// The words are read by clap: `script`, with the options `--acceptors` (1 to 9, or 3 where it is not given), `--proposers` (1 to 16, or
 /// 1) and `--tries` (1 to 64, or 1). Then all disks are asked for their lengths in the order of their numbers, and each must be empty.
 /// Then the members' and the proposers' disks are started in that order. A line asks for a change or for an event, is a remark, which has
-/// no answer, or is answered as bad, with the reason. The statuses say how the run ended.
+/// no answer, or is answered as bad, with the reason. The statuses say how the run ended: [`Status::NotEmpty`] comes only of a disk that was
+/// not empty, where disks tell what they keep, and [`Status::DiskFault`] only of one whose count of faults rose.
 pub fn cluster<R, S: Source, K: Sink, D: Disk + Drop>(
     _rt: &R,
     alloc: Global,
@@ -48,6 +49,7 @@ pub fn cluster<R, S: Source, K: Sink, D: Disk + Drop>(
         (map string_bytes words.now) (FailsBehind S.take_gives source.old source.new) (S.remaining source.old) (K.contents sink.old) (K.contents sink.new) rack result.0 result.1 }
     ensures causes { Causes (map string_bytes words.now) (S.remaining source.old)
         (S.faults_of source.old) (S.faults_of source.new) (K.faults_of sink.old) (K.faults_of sink.new) result.0 }
+    ensures disks { AreDisksToBlame (rack_meaning D.tells D.seen D.may_leave D.fault_count) rack result.1 result.0 }
     ensures read { result.0 ≡ Status.Ok → IsAtEnd (S.remaining source.new) }
     ensures untouched { result.0 ≡ Status.Usage → (source.new ≡ source.old) × (sink.new ≡ sink.old) × (result.1 ≡ rack) }
     ensures all_acceptors { vec_len result.1.acceptors ≡ 64 }
@@ -137,8 +139,8 @@ fn answer_lines<S: Source, K: Sink, H: Shelf, D: Disk>(
     sink: &mut K,
 ) -> Result<(), Status>
     requires state { (first : State _ _) × IsIn script.old first }
-    ensures all { (first : State _ _) → IsIn script.old first → OnOk result (EndsIn (meaning H.contents H.tells H.may_leave D.tells D.may_leave) script.old.tries (FailsBehind S.take_gives source.old source.new) (S.remaining source.old) (K.contents sink.old) (K.contents sink.new) first script.new Status.Ok) }
-    ensures wrote { (first : State _ _) → IsIn script.old first → IfErr result (λ status. EndsIn (meaning H.contents H.tells H.may_leave D.tells D.may_leave) script.old.tries (FailsBehind S.take_gives source.old source.new) (S.remaining source.old) (K.contents sink.old) (K.contents sink.new) first script.new status) }
+    ensures all { (first : State _ _) → IsIn script.old first → OnOk result (EndsIn (meaning H.contents H.tells H.may_leave H.fault_count D.tells D.may_leave D.fault_count) script.old.tries (FailsBehind S.take_gives source.old source.new) (S.remaining source.old) (K.contents sink.old) (K.contents sink.new) first script.new Status.Ok) }
+    ensures wrote { (first : State _ _) → IsIn script.old first → IfErr result (λ status. EndsIn (meaning H.contents H.tells H.may_leave H.fault_count D.tells D.may_leave D.fault_count) script.old.tries (FailsBehind S.take_gives source.old source.new) (S.remaining source.old) (K.contents sink.old) (K.contents sink.new) first script.new status) }
     ensures read { OnOk result (IsAtEnd (S.remaining source.new)) }
     ensures whole { OnOk result (IfSome (S.remaining source.old) (λ input. ending_of input ≡ Whole)) }
     ensures fails { IfErr result (λ status. (status ≢ Status.Ok) × (status ≢ Status.Usage)) }

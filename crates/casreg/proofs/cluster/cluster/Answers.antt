@@ -3,6 +3,7 @@ use Rattle.std.specs.Prelude.{MatchOption}
 use Rattle.casreg.specs.Causes.{wrong_words, no_words_read}
 use Rattle.casreg.specs.Words.{AreWords, faults_of}
 use Rattle.casreg.specs.declared.words.Options.{Options}
+use Rattle.casreg.proofs.Blame.{blamed}
 use Rattle.casreg.proofs.Written.{completes_of}
 use Rattle.casreg.proofs.cluster.cluster.Given.{Over}
 use Rattle.casreg.proofs.cluster.cluster.Goals as goal
@@ -25,3 +26,6 @@ returns-in-Ok-Some-clause-causes g c = record {
   ends = c.run.ensures.ends;
   completes = λ options words no_read no_write. completes_of _ _ _ _ c.run.ensures.usage c.run.ensures.read_fault c.run.ensures.write_fault c.run.ensures.ends no_read no_write;
 }
+
+pub returns-in-Ok-Some-clause-disks : goal.returns-in-Ok-Some-clause-disks
+returns-in-Ok-Some-clause-disks g c = blamed _ _ (map string_bytes c.args.words.now) _ _ _ _ c.args.rack c.run.result.0 c.run.result.1 (c.run.ensures.wrote (map string_bytes c.args.words.now) (are_words g c))
