@@ -1,5 +1,5 @@
 -- Rows: what they tell stays with each further mark, and a search finds them.
-use Rattle.std.proofs.Common.{◌≡◌, ℕ, ◌+◌, ◌-◌, ◌<◌, ◌≤◌, true, false, List, [], ◌∷◌, ◌++◌, length, get_or, set, get_or-set_same, get_or-set_other, length-set, reverse, Some, None, Result, Ok, Err, IfOk, IfErr, refl, sym, ap, subst, arith, ◌∙◌}
+use Rattle.std.proofs.Common.{◌≡◌, ℕ, ◌+◌, ◌-◌, ◌<◌, ◌≤◌, true, false, List, [], ◌∷◌, ◌++◌, length, get_or, set, get_or-set_same, get_or-set_other, length-set, reverse, Some, None, Result, Ok, Err, refl, sym, ap, subst, arith, ◌∙◌}
 use Rattle.std.specs.Prelude.{◌⊎◌, Option, slice_get, not, ◌&&◌, ◌==◌}
 use Rattle.std.specs.List.{insert}
 use Rattle.std.specs.List.Sorted.{IsSearchInRange, IsBinarySearchResult, IsNonDecreasingBy}
@@ -12,6 +12,7 @@ use Rattle.std.proofs.lemmas.List.{length-reverse, reverse-reverse}
 use Rattle.std.proofs.lemmas.List.Sorted.{IsNonDecreasingBy-from_default}
 use Rattle.std.proofs.lemmas.List.Edits.{length-insert, get_or-insert_below, get_or-insert_at, get_or-insert_above}
 use Rattle.std.proofs.lemmas.Bool.{cases_lt}
+use Rattle.std.proofs.lemmas.Option.{slice_get-get_or}
 use mathlib.Core.Logic.{inl, inr}
 use Rattle.cas_base.proofs.Bools.{true_or_false, if_false, left_false, some_is, not_both, false_of_not}
 use Rattle.cas_record.specs.declared.mark.Mark.{Mark}
@@ -19,7 +20,7 @@ use Rattle.cas_record.specs.declared.mark.Mark.TheVariants.{Begun, Proposed, Ack
 use Rattle.cas_record.specs.declared.row.Row.{Row}
 use Rattle.cas_record.specs.Chain.{is_key, has_calls}
 use Rattle.cas_record.specs.Index.{named_by, names, key_at, home_of, TellsOf, IsRowOf, KeyLess}
-use Rattle.cas_record.specs.Tables.{row_cmp, AreRowsOf, HasRows, IsPlaceFor, IsGapFor}
+use Rattle.cas_record.specs.Tables.{row_cmp, AreRowsOf, HasRows, IsPlaceFor, IsGapFor, IsSearched, IsRowFor}
 use Rattle.cas_record.proofs.Tests.{key_same, nat_same, nat_is}
 use Rattle.cas_record.proofs.Homes.{there_or_not, names_one, home_cases, one_home, home_same, homeless}
 use Rattle.cas_record.proofs.Positions.{got, gets, get_front, get_last, read_more, made_more}
@@ -153,28 +154,37 @@ module _ (keys : List (List ℕ)) (rows : List Row) (marks : List Mark) (are : A
 
     -- what a search by key finds
     pub searched : (r : Result ℕ ℕ) → IsSearchInRange r (length rows) → IsBinarySearchResult (row_cmp marks key) rows r
-        → IfOk r (IsPlaceFor key rows marks) × IfErr r (IsGapFor key rows marks)
+        → IsSearched key rows marks r
     searched (Ok at) within equal =
         let same : get_or keys at [] ≡ key = key_of_equal (get_or keys at []) key (sym (compares at within) ∙ equal no_row) in
-        (record { within = within; own = λ row is. subst (λ (k : List ℕ). IsRowOf k (reverse marks) row) same (are.each at row is) }, tt)
+        record { within = within; own = λ row is. subst (λ (k : List ℕ). IsRowOf k (reverse marks) row) same (are.each at row is) }
     searched (Err at) within parted =
         let parts = parted rises in
         let below : (j : ℕ) → j < at → KeyLess (get_or keys j []) key = λ j less. sym (compares j (omega (arith, less, within))) ∙ parts.0 j no_row (omega arith) less in
-        let above : (j : ℕ) → at ≤ j → j < length rows → KeyLess key (get_or keys j []) = λ j most low. key_less_of_greater (get_or keys j []) key (sym (compares j low) ∙ parts.1 j no_row most low) in (
-          tt,
-          record {
-            within = within;
-            homeless = elim (there_or_not (home_of key (reverse marks))) [
-              | inl there ↦ let place = are.complete key there.0 there.1 in elim (cases_lt place.0 at) [
-                | inl less ↦ absurd (key_not_less key (subst (λ (k : List ℕ). KeyLess k key) place.1.1 (below place.0 less)))
-                | inr most ↦ absurd (key_not_less key (subst (λ (k : List ℕ). KeyLess key k) place.1.1 (above place.0 most (omega (arith, place.1.0, are.same_length)))))
-              ]
-              | inr gone ↦ gone
-            ];
-            smaller = λ j row other less is own. let e = got rows j row no_row is in sym (row_compares marks key other row own) ∙ sym (ap (row_cmp marks key) e.1) ∙ parts.0 j no_row (omega arith) less;
-            greater = λ j row other most is own. let e = got rows j row no_row is in key_less_of_greater other key (sym (row_compares marks key other row own) ∙ sym (ap (row_cmp marks key) e.1) ∙ parts.1 j no_row most e.0);
-          },
-        )
+        let above : (j : ℕ) → at ≤ j → j < length rows → KeyLess key (get_or keys j []) = λ j most low. key_less_of_greater (get_or keys j []) key (sym (compares j low) ∙ parts.1 j no_row most low) in
+        record {
+          within = within;
+          homeless = elim (there_or_not (home_of key (reverse marks))) [
+            | inl there ↦ let place = are.complete key there.0 there.1 in elim (cases_lt place.0 at) [
+              | inl less ↦ absurd (key_not_less key (subst (λ (k : List ℕ). KeyLess k key) place.1.1 (below place.0 less)))
+              | inr most ↦ absurd (key_not_less key (subst (λ (k : List ℕ). KeyLess key k) place.1.1 (above place.0 most (omega (arith, place.1.0, are.same_length)))))
+            ]
+            | inr gone ↦ gone
+          ];
+          smaller = λ j row other less is own. let e = got rows j row no_row is in sym (row_compares marks key other row own) ∙ sym (ap (row_cmp marks key) e.1) ∙ parts.0 j no_row (omega arith) less;
+          greater = λ j row other most is own. let e = got rows j row no_row is in key_less_of_greater other key (sym (row_compares marks key other row own) ∙ sym (ap (row_cmp marks key) e.1) ∙ parts.1 j no_row most e.0);
+        }
+
+pub equal_is : (o : Ordering) → is_eq o ≡ true → o ≡ Equal
+equal_is Less e = absurd cc
+equal_is Equal e = refl
+equal_is Greater e = absurd cc
+
+-- the row that a search found
+pub found_row : (key : List ℕ) (rows : List Row) (marks : List Mark) (at : ℕ) → IsPlaceFor key rows marks at → IsRowFor key marks (slice_get rows at)
+found_row key rows marks at place =
+    let there = slice_get-get_or rows at no_row place.within in
+    subst (IsRowFor key marks) (sym there) (place.own (get_or rows at no_row) there)
 
 -- ---- rows with one mark more
 same_or_not : (p q : ℕ) → (p ≡ q) ⊎ (p ≡ q → ⊥)

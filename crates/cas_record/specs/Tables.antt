@@ -1,5 +1,5 @@
 -- What the tables of a record are to its marks. The marks are read in the order in which they were made.
-use Rattle.std.specs.Prelude.{◌≡◌, ℕ, ◌+◌, ◌<◌, ◌≤◌, Bool, ◌&&◌, ◌==◌, List, [], length, reverse, Option, Some, None, vec_len, vec_capacity, slice_get, slice_index_or}
+use Rattle.std.specs.Prelude.{◌≡◌, ℕ, ◌+◌, ◌<◌, ◌≤◌, Bool, ◌&&◌, ◌==◌, List, [], length, reverse, Option, Some, None, Result, Ok, Err, vec_len, vec_capacity, slice_get, slice_index_or}
 use Rattle.std.specs.Ordering.{nat_cmp}
 use Rattle.std.specs.declared.cmp.Ordering.{Ordering}
 use Rattle.std.specs.declared.cmp.Ordering.TheVariants.{Less}
@@ -88,6 +88,11 @@ pub record IsLinkIn (marks : List Mark) (link : Link) : Type 0 where
   pub older : List Mark
   pub at : At (Proposed proposal) older (reverse marks)
   pub is : link ≡ link_by proposal older
+
+-- what a search for the key found: its row, or the place where that would be
+abbrev pub IsSearched : List ℕ → List Row → List Mark → Result ℕ ℕ → Type 0
+IsSearched key rows marks (Ok at) = IsPlaceFor key rows marks at
+IsSearched key rows marks (Err at) = IsGapFor key rows marks at
 
 -- ---- keys in order
 -- rows before this place are of keys that do not come after the key, if there is one, and those from it on of keys that do

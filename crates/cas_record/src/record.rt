@@ -10,7 +10,7 @@ use crate::entry::Entry;
 use crate::history;
 use crate::mark::Mark;
 use crate::row::key_at;
-use crate::rows::{first_after, row_of};
+use crate::rows::first_after;
 use crate::tables::Tables;
 use cas_ballot::Ballot;
 use cas_change::{Key, State};
@@ -94,7 +94,7 @@ impl Record {
     pub fn top(&self, key: &Key) -> Option<Ballot>
         ensures { result ≡ top_at key.now (reverse self.now.marks) }
     {
-        match row_of(&self.tables.rows, &self.marks, key) {
+        match self.tables.row_of(&self.marks, key) {
             Some(row) => row.top,
             None => None,
         }
@@ -107,7 +107,7 @@ impl Record {
         ensures least { (key : List ℕ) → IsListed key (reverse self.now.marks) → IsAfter (option_copied after.entry) key
             → MatchOption result ⊥ (λ next. KeyLess key next.now → ⊥) }
     {
-        let from = first_after(&self.tables.rows, &self.marks, after);
+        let from = first_after(&self.tables.rows, &self.marks, after, self.tables.last);
         match self.tables.next_listed(from) {
             Some(at) => key_at(&self.marks, self.tables.rows[at].home),
             None => None,
@@ -129,7 +129,7 @@ impl Record {
     pub fn start(&self, key: &Key) -> Result<State, AllocError>
         ensures { IfOk result (λ state. state ≡ opening_state key.now (reverse self.now.marks)) }
     {
-        match row_of(&self.tables.rows, &self.marks, key) {
+        match self.tables.row_of(&self.marks, key) {
             Some(row) => history::state_at(&self.marks, row.opening),
             None => Ok(State::Empty),
         }

@@ -1,10 +1,10 @@
 //! The rows of a record, in the order of their keys.
 
-ghost use Rattle.std.specs.Prelude.{◌≡◌, ◌+◌, ◌<◌, ◌≤◌, ℕ, List, [], ◌∷◌, ◌++◌, length, reverse, vec_len, vec_capacity, Some, None, IfOk, IfErr, option_copied};
+ghost use Rattle.std.specs.Prelude.{◌≡◌, ◌+◌, ◌<◌, ◌≤◌, ℕ, List, [], ◌∷◌, ◌++◌, length, reverse, vec_len, vec_capacity, Some, None, option_copied};
 ghost use Rattle.cas_record.specs.declared.mark.Mark.{Mark};
 ghost use Rattle.cas_record.specs.Chain.{has_calls};
 ghost use Rattle.cas_record.specs.Index.{named_by, home_of, IsRowOf};
-ghost use Rattle.cas_record.specs.Tables.{row_cmp, IsRowFor, HasRows, IsFirstAfter, IsPlaceFor, IsGapFor};
+ghost use Rattle.cas_record.specs.Tables.{row_cmp, IsRowFor, HasRows, IsFirstAfter, IsSearched};
 
 use crate::mark::Mark;
 use crate::row::{Row, empty_row, key_at, row_after};
@@ -20,29 +20,38 @@ fn compare(marks: &[Mark], row: &Row, key: &Key) -> Ordering
     }
 }
 
-/// The place of the key's row, or where it would be.
-pub fn search(rows: &[Row], marks: &[Mark], key: &Key) -> Result<usize, usize>
+/// The place of the key's row, or where it would be. The row at `hint` is looked at first, if there is one.
+pub fn search(rows: &[Row], marks: &[Mark], key: &Key, hint: usize) -> Result<usize, usize>
     requires { HasRows rows.now marks.now }
-    ensures found { IfOk result (IsPlaceFor key.now rows.now marks.now) }
-    ensures absent { IfErr result (IsGapFor key.now rows.now marks.now) }
+    ensures { IsSearched key.now rows.now marks.now result }
 {
+    if hint < rows.len() && compare(marks, &rows[hint], key).is_eq() {
+        return Ok(hint);
+    }
     rows.binary_search_by(|row| compare(marks, row, key))
 }
 
-/// The row of the key, if a mark names it.
-pub fn row_of(rows: &[Row], marks: &[Mark], key: &Key) -> Option<Row>
-    requires { HasRows rows.now marks.now }
-    ensures { IsRowFor key.now marks.now result }
+/// The row that a search found.
+pub fn row_at(rows: &[Row], found: Result<usize, usize>) -> Option<Row>
+    ensures { (key : List ℕ) (marks : List Mark) → IsSearched key rows.now marks found → IsRowFor key marks result }
 {
-    match search(rows, marks, key) {
-        Ok(at) => Some(rows[at]),
+    match found {
+        Ok(at) => rows.get(at).copied(),
         Err(_) => None,
     }
 }
 
-/// Notes a mark that names the key, in the room that was reserved, and answers the key's home.
-pub fn note_key(rows: &mut Vec<Row>, marks: &[Mark], key: &Key, mark: &Mark, begun: bool) -> usize
+/// Notes a mark that names the key, whose place was searched, in the room that was reserved, and answers the key's home.
+pub fn note_key(
+    rows: &mut Vec<Row>,
+    found: Result<usize, usize>,
+    marks: &[Mark],
+    key: &Key,
+    mark: &Mark,
+    begun: bool,
+) -> usize
     requires rows { HasRows rows.old.items marks.now }
+    requires found { IsSearched key.now rows.old.items marks.now found }
     requires named { named_by mark.now ≡ Some key.now }
     requires begun { has_calls (reverse marks.now) ≡ begun }
     requires room { vec_len rows.old < vec_capacity rows.old }
@@ -50,7 +59,7 @@ pub fn note_key(rows: &mut Vec<Row>, marks: &[Mark], key: &Key, mark: &Mark, beg
     ensures home { home_of key.now (mark.now ∷ reverse marks.now) ≡ Some result }
     ensures room { (n : ℕ) → vec_len rows.old + (n + 1) ≤ vec_capacity rows.old → vec_len rows.new + n ≤ vec_capacity rows.new }
 {
-    match search(rows, marks, key) {
+    match found {
         Ok(at) => {
             rows[at] = row_after(rows[at], key, mark, begun, marks.len());
             rows[at].home
@@ -64,14 +73,14 @@ pub fn note_key(rows: &mut Vec<Row>, marks: &[Mark], key: &Key, mark: &Mark, beg
 }
 
 /// The place of the first row whose key comes after this one, or that of the first of all where there is none.
-pub fn first_after(rows: &[Row], marks: &[Mark], after: Option<&Key>) -> usize
+pub fn first_after(rows: &[Row], marks: &[Mark], after: Option<&Key>, hint: usize) -> usize
     requires { HasRows rows.now marks.now }
     ensures { IsFirstAfter (option_copied after.entry) rows.now marks.now result }
 {
     let Some(key) = after else {
         return 0;
     };
-    match search(rows, marks, key) {
+    match search(rows, marks, key, hint) {
         Ok(at) => at + 1,
         Err(at) => at,
     }

@@ -15,7 +15,7 @@ use crate::first::keep_first;
 use crate::history::{self, entry_at};
 use crate::mark::{Acknowledgment, Mark, Proposal};
 use crate::row::{Link, Row, later_of};
-use crate::rows::{note_key, row_of};
+use crate::rows::{note_key, row_at, search};
 use cas_ballot::Ballot;
 use cas_change::Key;
 use indexmap::IndexMap;
@@ -48,6 +48,14 @@ fn floor_below(floor: Option<Ballot>, marks: &[Mark], key: &Key, ballot: Ballot)
     }
 }
 
+/// The place of the row that was found, or that of the row that was put in.
+fn place_of(found: Result<usize, usize>) -> usize {
+    match found {
+        Ok(at) => at,
+        Err(at) => at,
+    }
+}
+
 /// What is kept beside the marks.
 #[derive(Drop)]
 pub struct Tables {
@@ -61,6 +69,8 @@ pub struct Tables {
     pub calls: IndexMap<(u8, u32), usize>,
     /// Whether any call began.
     pub has_calls: bool,
+    /// The place of the row that was noted last, which is looked at first.
+    pub last: usize,
 }
 
 impl Tables {
@@ -74,6 +84,7 @@ impl Tables {
             openings: IndexMap::new(alloc),
             calls: IndexMap::new(alloc),
             has_calls: false,
+            last: 0,
         }
     }
 
@@ -89,6 +100,14 @@ impl Tables {
         self.calls.reserve(marks)
     }
 
+    /// The row of the key, if a mark names it.
+    pub fn row_of(&self, marks: &[Mark], key: &Key) -> Option<Row>
+        requires { IsTablesOf self.now marks.now }
+        ensures { IsRowFor key.now marks.now result }
+    {
+        row_at(&self.rows, search(&self.rows, marks, key, self.last))
+    }
+
     /// The ballot, where the history of the row's key up to it has an entry.
     pub fn standing(&self, row: Option<Row>, ballot: Ballot) -> Option<Ballot>
         ensures { (key : List ℕ) (marks : List Mark) → IsTablesOf self.now marks → IsRowFor key marks row → result ≡ standing_at key ballot (reverse marks) }
@@ -102,12 +121,12 @@ impl Tables {
         if found && !shut { Some(ballot) } else { None }
     }
 
-    /// What these marks tell of a proposal that is made next.
-    fn link_by(&self, marks: &[Mark], proposal: &Proposal) -> Link
-        requires { IsTablesOf self.now marks.now }
+    /// What these marks tell of a proposal that is made next, of the row's key.
+    fn link_by(&self, row: Option<Row>, marks: &[Mark], proposal: &Proposal) -> Link
+        requires tables { IsTablesOf self.now marks.now }
+        requires row { IsRowFor proposal.now.key marks.now row }
         ensures { result ≡ link_by proposal.now (reverse marks.now) }
     {
-        let row = row_of(&self.rows, marks, &proposal.key);
         let floor = floor_below(floor_of(row), marks, &proposal.key, proposal.ballot);
         let from = later_of(proposal.read, Some(floor));
         Link {
@@ -135,8 +154,17 @@ impl Tables {
         ensures tables { IsTablesOf self.new (marks.now ++ mark.now ∷ []) }
         ensures room { (n : ℕ) → HasRoomFor (n + 1) self.old → HasRoomFor n self.new }
     {
-        let link = self.link_by(marks, proposal);
-        let home = note_key(&mut self.rows, marks, &proposal.key, mark, self.has_calls);
+        let found = search(&self.rows, marks, &proposal.key, self.last);
+        let link = self.link_by(row_at(&self.rows, found), marks, proposal);
+        let home = note_key(
+            &mut self.rows,
+            found,
+            marks,
+            &proposal.key,
+            mark,
+            self.has_calls,
+        );
+        self.last = place_of(found);
         if !history::is_ballot(proposal.ballot, Ballot::ZERO) {
             keep_first(&mut self.links, (home, proposal.ballot), link);
         }
@@ -149,13 +177,10 @@ impl Tables {
         ensures tables { IsTablesOf self.new (marks.now ++ mark.now ∷ []) }
         ensures room { (n : ℕ) → HasRoomFor (n + 1) self.old → HasRoomFor n self.new }
     {
-        note_key(
-            &mut self.rows,
-            marks,
-            &acknowledgment.key,
-            mark,
-            self.has_calls,
-        );
+        let key = &acknowledgment.key;
+        let found = search(&self.rows, marks, key, self.last);
+        note_key(&mut self.rows, found, marks, key, mark, self.has_calls);
+        self.last = place_of(found);
     }
 
     fn note_floor(&mut self, marks: &[Mark], mark: &Mark, key: &Key, ballot: Ballot)
@@ -165,7 +190,9 @@ impl Tables {
         ensures tables { IsTablesOf self.new (marks.now ++ mark.now ∷ []) }
         ensures room { (n : ℕ) → HasRoomFor (n + 1) self.old → HasRoomFor n self.new }
     {
-        let home = note_key(&mut self.rows, marks, key, mark, self.has_calls);
+        let found = search(&self.rows, marks, key, self.last);
+        let home = note_key(&mut self.rows, found, marks, key, mark, self.has_calls);
+        self.last = place_of(found);
         if !self.has_calls {
             keep_first(&mut self.openings, (home, ballot), marks.len());
         }
@@ -208,7 +235,7 @@ impl Tables {
         ensures { IfOk result (λ entries. entries.items ≡ settled_of key.now (reverse marks.now)) }
     {
         let mut entries = Vec::new(alloc);
-        let Some(row) = row_of(&self.rows, marks, key) else {
+        let Some(row) = self.row_of(marks, key) else {
             return Ok(entries);
         };
         let top = row.top.unwrap_or(Ballot::ZERO);

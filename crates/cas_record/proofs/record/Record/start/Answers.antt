@@ -13,7 +13,7 @@ returns-in-Some c =
     let key = c.args.key.now in
     let marks = c.args.self.now.marks in
     let seen = ap (λ (b : Book). b.marks) c.self.view_is in
-    let row : IsRowOf key (reverse marks) c.in-Some.row = subst (λ (ms : List Mark). IsRowOf key (reverse ms) c.in-Some.row) (c.deref-2.ensures.value ∙ seen) c.in-Some.ensures in
+    let row : IsRowOf key (reverse marks) c.in-Some.row = subst (λ (ms : List Mark). IsRowOf key (reverse ms) c.in-Some.row) (c.deref.ensures.value ∙ seen) c.in-Some.ensures in
     let told : state_at c.deref-in-Some.result.now c.in-Some.row.opening ≡ opening_state key (reverse marks) =
     ap (λ (ms : List Mark). state_at ms c.in-Some.row.opening) (c.deref-in-Some.ensures.value ∙ seen) ∙ ap (state_at marks) row.tells.opening ∙ opening_read key (reverse marks) marks whole in
     subst (λ s. IfOk c.state_at.result (λ state. state ≡ s)) told c.state_at.ensures
@@ -23,5 +23,5 @@ returns-in-None c =
     let key = c.args.key.now in
     let marks = c.args.self.now.marks in
     let seen = ap (λ (b : Book). b.marks) c.self.view_is in
-    let gone : home_of key (reverse marks) ≡ None = subst (λ (ms : List Mark). home_of key (reverse ms) ≡ None) (c.deref-2.ensures.value ∙ seen) c.in-None.ensures in
+    let gone : home_of key (reverse marks) ≡ None = subst (λ (ms : List Mark). home_of key (reverse ms) ≡ None) (c.deref.ensures.value ∙ seen) c.in-None.ensures in
     ap (state_at marks) (tells_none key (reverse marks) no_row gone refl refl refl).opening ∙ opening_read key (reverse marks) marks whole

@@ -6,5 +6,5 @@ use Rattle.cas_record.proofs.«record».Record.top.Goals as goal
 
 pub returns-in-None : goal.returns-in-None
 returns-in-None c =
-    let marks_is = c.deref-2.ensures.value ∙ ap (λ (b : Book). b.marks) c.self.view_is in
+    let marks_is = c.deref.ensures.value ∙ ap (λ (b : Book). b.marks) c.self.view_is in
     sym (top_of_none c.args.key.now (reverse c.args.self.now.marks) (subst (λ marks. home_of c.args.key.now (reverse marks) ≡ None) marks_is c.in-None.ensures))
