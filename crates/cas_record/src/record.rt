@@ -107,7 +107,7 @@ impl Record {
         ensures least { (key : List ℕ) → IsListed key (reverse self.now.marks) → IsAfter (option_copied after.entry) key
             → MatchOption result ⊥ (λ next. KeyLess key next.now → ⊥) }
     {
-        let from = first_after(&self.tables.rows, &self.marks, after, self.tables.last);
+        let from = first_after(&self.tables.rows, &self.marks, after, &self.tables.hints);
         match self.tables.next_listed(from) {
             Some(at) => key_at(&self.marks, self.tables.rows[at].home),
             None => None,

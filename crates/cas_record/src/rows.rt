@@ -11,6 +11,36 @@ use crate::row::{Row, empty_row, key_at, row_after};
 use cas_change::Key;
 use std::cmp::Ordering;
 
+/// A slot of so many that the key picks, which may be any.
+fn slot_of(key: &Key, slots: usize) -> usize {
+    let mut mixed = 0x811c_9dc5u32;
+    for byte in key.bytes() {
+        mixed = (mixed ^ u32::from(*byte)).wrapping_mul(0x0100_0193);
+    }
+    let spread = (mixed ^ (mixed >> 15)) as usize;
+    if slots == 0 { 0 } else { spread % slots }
+}
+
+/// Where the key's row was when it was noted last, or any place where that is not known.
+pub fn hint_of(hints: &[usize], key: &Key) -> usize {
+    match hints.get(slot_of(key, hints.len())) {
+        Some(hint) => *hint,
+        None => 0,
+    }
+}
+
+/// Keeps where the key's row is.
+pub fn keep_hint(hints: &mut Vec<usize>, key: &Key, found: Result<usize, usize>) {
+    let slot = slot_of(key, hints.len());
+    let place = match found {
+        Ok(at) => at,
+        Err(at) => at,
+    };
+    if slot < hints.len() {
+        hints[slot] = place;
+    }
+}
+
 fn compare(marks: &[Mark], row: &Row, key: &Key) -> Ordering
     ensures { result ≡ row_cmp marks.now key.now row.now }
 {
@@ -73,14 +103,14 @@ pub fn note_key(
 }
 
 /// The place of the first row whose key comes after this one, or that of the first of all where there is none.
-pub fn first_after(rows: &[Row], marks: &[Mark], after: Option<&Key>, hint: usize) -> usize
+pub fn first_after(rows: &[Row], marks: &[Mark], after: Option<&Key>, hints: &[usize]) -> usize
     requires { HasRows rows.now marks.now }
     ensures { IsFirstAfter (option_copied after.entry) rows.now marks.now result }
 {
     let Some(key) = after else {
         return 0;
     };
-    match search(rows, marks, key, hint) {
+    match search(rows, marks, key, hint_of(hints, key)) {
         Ok(at) => at + 1,
         Err(at) => at,
     }

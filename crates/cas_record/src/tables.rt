@@ -15,7 +15,7 @@ use crate::first::keep_first;
 use crate::history::{self, entry_at};
 use crate::mark::{Acknowledgment, Mark, Proposal};
 use crate::row::{Link, Row, later_of};
-use crate::rows::{note_key, row_at, search};
+use crate::rows::{hint_of, keep_hint, note_key, row_at, search};
 use cas_ballot::Ballot;
 use cas_change::Key;
 use indexmap::IndexMap;
@@ -48,14 +48,6 @@ fn floor_below(floor: Option<Ballot>, marks: &[Mark], key: &Key, ballot: Ballot)
     }
 }
 
-/// The place of the row that was found, or that of the row that was put in.
-fn place_of(found: Result<usize, usize>) -> usize {
-    match found {
-        Ok(at) => at,
-        Err(at) => at,
-    }
-}
-
 /// What is kept beside the marks.
 #[derive(Drop)]
 pub struct Tables {
@@ -69,8 +61,8 @@ pub struct Tables {
     pub calls: IndexMap<(u8, u32), usize>,
     /// Whether any call began.
     pub has_calls: bool,
-    /// The place of the row that was noted last, which is looked at first.
-    pub last: usize,
+    /// Places of rows by slots that keys pick, each to be looked at before a search. They may be stale, or of another key.
+    pub hints: Vec<usize>,
 }
 
 impl Tables {
@@ -84,7 +76,7 @@ impl Tables {
             openings: IndexMap::new(alloc),
             calls: IndexMap::new(alloc),
             has_calls: false,
-            last: 0,
+            hints: Vec::new(alloc),
         }
     }
 
@@ -94,6 +86,10 @@ impl Tables {
         ensures grows { (n : ℕ) → HasRoomFor n self.old → HasRoomFor n self.new }
         ensures same { (marks : List Mark) → IsTablesOf self.old marks → IsTablesOf self.new marks }
     {
+        let slots = self.rows.len().saturating_mul(8).max(64);
+        if self.hints.len() < slots {
+            self.hints.resize(slots.saturating_mul(2), 0)?;
+        }
         self.rows.reserve(marks)?;
         self.links.reserve(marks)?;
         self.openings.reserve(marks)?;
@@ -105,7 +101,10 @@ impl Tables {
         requires { IsTablesOf self.now marks.now }
         ensures { IsRowFor key.now marks.now result }
     {
-        row_at(&self.rows, search(&self.rows, marks, key, self.last))
+        row_at(
+            &self.rows,
+            search(&self.rows, marks, key, hint_of(&self.hints, key)),
+        )
     }
 
     /// The ballot, where the history of the row's key up to it has an entry.
@@ -154,7 +153,8 @@ impl Tables {
         ensures tables { IsTablesOf self.new (marks.now ++ mark.now ∷ []) }
         ensures room { (n : ℕ) → HasRoomFor (n + 1) self.old → HasRoomFor n self.new }
     {
-        let found = search(&self.rows, marks, &proposal.key, self.last);
+        let key = &proposal.key;
+        let found = search(&self.rows, marks, key, hint_of(&self.hints, key));
         let link = self.link_by(row_at(&self.rows, found), marks, proposal);
         let home = note_key(
             &mut self.rows,
@@ -164,7 +164,7 @@ impl Tables {
             mark,
             self.has_calls,
         );
-        self.last = place_of(found);
+        keep_hint(&mut self.hints, key, found);
         if !history::is_ballot(proposal.ballot, Ballot::ZERO) {
             keep_first(&mut self.links, (home, proposal.ballot), link);
         }
@@ -178,9 +178,9 @@ impl Tables {
         ensures room { (n : ℕ) → HasRoomFor (n + 1) self.old → HasRoomFor n self.new }
     {
         let key = &acknowledgment.key;
-        let found = search(&self.rows, marks, key, self.last);
+        let found = search(&self.rows, marks, key, hint_of(&self.hints, key));
         note_key(&mut self.rows, found, marks, key, mark, self.has_calls);
-        self.last = place_of(found);
+        keep_hint(&mut self.hints, key, found);
     }
 
     fn note_floor(&mut self, marks: &[Mark], mark: &Mark, key: &Key, ballot: Ballot)
@@ -190,9 +190,9 @@ impl Tables {
         ensures tables { IsTablesOf self.new (marks.now ++ mark.now ∷ []) }
         ensures room { (n : ℕ) → HasRoomFor (n + 1) self.old → HasRoomFor n self.new }
     {
-        let found = search(&self.rows, marks, key, self.last);
+        let found = search(&self.rows, marks, key, hint_of(&self.hints, key));
         let home = note_key(&mut self.rows, found, marks, key, mark, self.has_calls);
-        self.last = place_of(found);
+        keep_hint(&mut self.hints, key, found);
         if !self.has_calls {
             keep_first(&mut self.openings, (home, ballot), marks.len());
         }

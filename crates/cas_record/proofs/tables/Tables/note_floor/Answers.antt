@@ -8,7 +8,7 @@ use Rattle.cas_record.proofs.tables.Tables.note_floor.Goals as goal
 pub returns-then-not-self-clause-tables : goal.returns-then-not-self-clause-tables
 returns-then-not-self-clause-tables c =
     let marks = c.args.marks.now in
-    let new : Tables = record { rows = c.note_key-home.new.rows; links = c.args.self.now.links; openings = c.keep_first.new.map; calls = c.args.self.now.calls; has_calls = c.args.self.now.has_calls; last = c.place_of-self.result } in
+    let new : Tables = record { rows = c.note_key-home.new.rows; links = c.args.self.now.links; openings = c.keep_first.new.map; calls = c.args.self.now.calls; has_calls = c.args.self.now.has_calls; hints = c.keep_hint.new.hints } in
     let mark_is = c.requires.mark.1 in
     subst (λ mark. IsTablesOf new (marks ++ mark ∷ [])) (sym mark_is)
     (opening_next marks c.args.self.now new c.requires.tables c.args.key.now c.args.ballot c.requires.mark.0
@@ -27,7 +27,7 @@ returns-then-not-self-clause-room c = λ n room. record {
 pub returns-else-not-self-clause-tables : goal.returns-else-not-self-clause-tables
 returns-else-not-self-clause-tables c =
     let marks = c.args.marks.now in
-    let new : Tables = record { rows = c.note_key-home.new.rows; links = c.args.self.now.links; openings = c.args.self.now.openings; calls = c.args.self.now.calls; has_calls = c.args.self.now.has_calls; last = c.place_of-self.result } in
+    let new : Tables = record { rows = c.note_key-home.new.rows; links = c.args.self.now.links; openings = c.args.self.now.openings; calls = c.args.self.now.calls; has_calls = c.args.self.now.has_calls; hints = c.keep_hint.new.hints } in
     let mark_is = c.requires.mark.1 in
     subst (λ mark. IsTablesOf new (marks ++ mark ∷ [])) (sym mark_is)
     (floor_next marks c.args.self.now new c.requires.tables c.args.key.now c.args.ballot c.requires.mark.0

@@ -15,13 +15,13 @@ pub link_by-link-requires-clause-row : goal.link_by-link-requires-clause-row
 link_by-link-requires-clause-row c =
     let key = c.args.proposal.now.key in
     let marks = c.args.marks.now in
-    c.row_at.ensures key marks (subst (λ rows. IsSearched key rows marks c.search-found.result) (c.deref.ensures.value ∙ sym c.deref-2.ensures.value) c.search-found.ensures)
+    c.row_at.ensures key marks (subst (λ rows. IsSearched key rows marks c.search-found.result) (c.deref.ensures.value ∙ sym c.deref-3.ensures.value) c.search-found.ensures)
 
 pub returns-then-not-is_ballot-clause-tables : goal.returns-then-not-is_ballot-clause-tables
 returns-then-not-is_ballot-clause-tables c =
     let marks = c.args.marks.now in
     let mark_is = c.requires.mark in
-    let new : Tables = record { rows = c.note_key-home.new.rows; links = c.keep_first.new.map; openings = c.args.self.now.openings; calls = c.args.self.now.calls; has_calls = c.args.self.now.has_calls; last = c.place_of-self.result } in
+    let new : Tables = record { rows = c.note_key-home.new.rows; links = c.keep_first.new.map; openings = c.args.self.now.openings; calls = c.args.self.now.calls; has_calls = c.args.self.now.has_calls; hints = c.keep_hint.new.hints } in
     subst (λ mark. IsTablesOf new (marks ++ mark ∷ [])) (sym mark_is)
     (proposed_next marks c.args.self.now new c.requires.tables c.args.proposal.now
     (subst (λ mark. HasRows c.note_key-home.new.rows.items (marks ++ mark ∷ [])) mark_is c.note_key-home.ensures.rows) refl refl refl
@@ -41,7 +41,7 @@ pub returns-else-not-is_ballot-clause-tables : goal.returns-else-not-is_ballot-c
 returns-else-not-is_ballot-clause-tables c =
     let marks = c.args.marks.now in
     let mark_is = c.requires.mark in
-    let new : Tables = record { rows = c.note_key-home.new.rows; links = c.args.self.now.links; openings = c.args.self.now.openings; calls = c.args.self.now.calls; has_calls = c.args.self.now.has_calls; last = c.place_of-self.result } in
+    let new : Tables = record { rows = c.note_key-home.new.rows; links = c.args.self.now.links; openings = c.args.self.now.openings; calls = c.args.self.now.calls; has_calls = c.args.self.now.has_calls; hints = c.keep_hint.new.hints } in
     subst (λ mark. IsTablesOf new (marks ++ mark ∷ [])) (sym mark_is)
     (zero_next marks c.args.self.now new c.requires.tables c.args.proposal.now
     (subst (λ mark. HasRows c.note_key-home.new.rows.items (marks ++ mark ∷ [])) mark_is c.note_key-home.ensures.rows) refl refl refl
