@@ -161,7 +161,8 @@ fn stands(
     for (entry, call) in settled.iter().zip(calls.iter()) {
         assert_eq!(rt; (entry.caller, entry.call), *call);
     }
-    assert!(rt; Record::replay(&settled)? == *state);
+    let start = record.start(&key(alloc)?)?;
+    assert!(rt; Record::replay(&start, &settled)? == *state);
     assert!(rt; record.settled(&Key::read(alloc, b"b")?)?.is_empty());
     Ok(())
 }
@@ -283,4 +284,72 @@ fn a_history_goes_on_behind_a_floor(rt: HostRuntime) -> Result<(), Fail> {
     settle(alloc, made, 1, 3, ballot(5, 1), number(0, 9), &ALL)?;
     let calls = [(1, 1), (1, 2), (0, 1), (1, 3)];
     stands(&rt, alloc, &record, &calls, &number(0, 9))
+}
+
+/// A floor of the key `a` at 7.1 with version 3 and number 9 opens the history, and `1 add a 1` goes on from it at 8.1.
+#[test]
+fn a_history_starts_at_its_opening_floor(rt: HostRuntime) -> Result<(), Fail> {
+    let alloc = rt.alloc();
+    let mut record = Record::new(alloc);
+    let made = &mut record;
+    let floor = Mark::Floor {
+        key: key(alloc)?,
+        ballot: ballot(7, 1),
+        state: number(3, 9),
+    };
+    make(made, floor)?;
+    assert!(rt; made.start(&key(alloc)?)? == number(3, 9));
+    assert_eq!(rt; made.top(&key(alloc)?), Some(ballot(7, 1)));
+    stands(&rt, alloc, made, &[], &number(3, 9))?;
+    begin(alloc, made, 1, 1, Act::Add(1))?;
+    propose(alloc, made, 1, 1, ballot(8, 1), ballot(7, 1), &ALL)?;
+    settle(alloc, made, 1, 1, ballot(8, 1), number(4, 10), &ALL)?;
+    assert_eq!(rt; made.top(&key(alloc)?), Some(ballot(8, 1)));
+    stands(&rt, alloc, made, &[(1, 1)], &number(4, 10))
+}
+
+/// Whether this is the key that comes next.
+fn comes_next(record: &Record, after: Option<&Key>, next: Option<&Key>) -> bool {
+    match (record.next_key(after), next) {
+        (None, None) => true,
+        (Some(found), Some(key)) => found == key,
+        _ => false,
+    }
+}
+
+/// `c` has a floor alone, `a` an entry, and `b` a proposal that nobody acknowledged.
+#[test]
+fn keys_with_a_history_come_in_their_order(rt: HostRuntime) -> Result<(), Fail> {
+    let alloc = rt.alloc();
+    let mut record = Record::new(alloc);
+    let made = &mut record;
+    let (a, b, c) = (
+        key(alloc)?,
+        Key::read(alloc, b"b")?,
+        Key::read(alloc, b"c")?,
+    );
+    assert!(rt; comes_next(made, None, None));
+    let floor = Mark::Floor {
+        key: c.copy()?,
+        ballot: ballot(2, 0),
+        state: State::Empty,
+    };
+    make(made, floor)?;
+    two_adds(alloc, made)?;
+    let unheard = Mark::Proposed(Proposal {
+        caller: 2,
+        call: 1,
+        key: b.copy()?,
+        ballot: ballot(3, 2),
+        read: Ballot::ZERO,
+        era: 0,
+        prepared_by: members(&ALL),
+    });
+    make(made, unheard)?;
+    assert!(rt; comes_next(made, None, Some(&a)));
+    assert!(rt; comes_next(made, Some(&a), Some(&c)));
+    assert!(rt; comes_next(made, Some(&b), Some(&c)));
+    assert!(rt; comes_next(made, Some(&c), None));
+    assert_eq!(rt; made.top(&b), None);
+    Ok(())
 }

@@ -8,6 +8,13 @@ pub mod LegalLemmas
 pub mod Eras
 pub mod LawLemmas
 pub mod ScanLemmas
+pub mod Homes
+pub mod Positions
+pub mod RowLemmas
+pub mod TableLemmas
+pub mod StandLemmas
+pub mod HistoryLemmas
+pub mod NextLemmas
 pub mod Checks
 pub mod Quorums
 pub mod WitnessLemmas

@@ -8,5 +8,6 @@ pub mod Lawful
 pub mod Listing
 pub mod Orderly
 pub mod Laws
-pub mod Scan
+pub mod Index
+pub mod Tables
 pub mod Witness

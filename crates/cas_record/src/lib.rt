@@ -5,11 +5,15 @@
 
 mod answer;
 mod entry;
+mod first;
 mod history;
 pub mod laws;
 mod mark;
 mod operator;
 mod record;
+mod row;
+mod rows;
+mod tables;
 
 pub use answer::{Answer, Cause};
 pub use entry::Entry;
