@@ -1,5 +1,6 @@
 pub mod Beginning
 pub mod Fitting
 pub mod Lines
+pub mod Openings
 pub mod Phases
 pub mod Standing

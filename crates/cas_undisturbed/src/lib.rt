@@ -1,10 +1,11 @@
 //! A change that nothing stands against: its line in a script is answered done.
 //!
-//! Definitions and one law, and no code that runs. The law is the contract of a function that does nothing.
+//! Definitions and laws, and no code that runs. A law is the contract of a function that does nothing.
 #![tactic(auto)]
 
 ghost use Rattle.cas_cluster.specs.View.{meaning};
 ghost use Rattle.cas_undisturbed.specs.Lines.{ReadyLinesAreDone};
+ghost use Rattle.cas_undisturbed.specs.Openings.{FirstLinesAreDone};
 
 use cas_disk::Disk;
 use cas_slot::Shelf;
@@ -16,4 +17,10 @@ use cas_slot::Shelf;
 /// of their disks failed in it.
 pub fn ready_lines_are_done<S: Shelf, V: Disk>()
     ensures { ReadyLinesAreDone (meaning S.contents S.tells S.may_leave S.fault_count V.tells V.may_leave V.fault_count) }
+{}
+
+/// So a change that is the first line of a script over a cluster that just opened is answered done, or that there was no memory: where the
+/// members and its proposer are up before it and after it, and the proposer has ballots left.
+pub fn first_lines_are_done<S: Shelf, V: Disk>()
+    ensures { FirstLinesAreDone (meaning S.contents S.tells S.may_leave S.fault_count V.tells V.may_leave V.fault_count) }
 {}
