@@ -4,6 +4,7 @@
 #![tactic(auto)]
 
 ghost use Rattle.cas_cluster.specs.View.{meaning};
+ghost use Rattle.cas_undisturbed.specs.Faults.{FaultlessLinesStayUp};
 ghost use Rattle.cas_undisturbed.specs.Lines.{ReadyLinesAreDone};
 ghost use Rattle.cas_undisturbed.specs.Openings.{FirstLinesAreDone};
 
@@ -23,4 +24,10 @@ pub fn ready_lines_are_done<S: Shelf, V: Disk>()
 /// members and its proposer are up before it and after it, and the proposer has ballots left.
 pub fn first_lines_are_done<S: Shelf, V: Disk>()
     ensures { FirstLinesAreDone (meaning S.contents S.tells S.may_leave S.fault_count V.tells V.may_leave V.fault_count) }
+{}
+
+/// A change line in which no disk of a member or of its proposer counts a fault, and whose proposer is to halt nowhere, leaves all of them
+/// up that were up before it, whatever it is answered.
+pub fn faultless_lines_stay_up<S: Shelf, V: Disk>()
+    ensures { FaultlessLinesStayUp (meaning S.contents S.tells S.may_leave S.fault_count V.tells V.may_leave V.fault_count) }
 {}
