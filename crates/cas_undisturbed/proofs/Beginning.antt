@@ -52,19 +52,19 @@ use Rattle.cas_undisturbed.proofs.Fitting.{IsOpenTo, AllAsked, IsUnderway}
 use Rattle.cas_undisturbed.proofs.Standing.{Shows, opens_in}
 
 -- ---- how a call stands
--- it was told nothing yet, or that it is done, or that there was no memory, or its desk went down by a fault of its vault
-pub data EndsWell {S V : Type 0} (view : View S V) (id : ℕ) : Type 0 where
-  untold : IsTold view id None → EndsWell view id
-  done : (state : State) (took : Took) (ballot : Ballot) → IsTold view id (Some (answer.Done state took ballot)) → EndsWell view id
-  no_memory : (proposed : Bool) → IsTold view id (Some (answer.NoMemory proposed)) → EndsWell view id
-  goes_down : IsTold view id (Some answer.VaultFault) → (desk : DeskView V) → IsAt view.desks id desk → desk.down ≡ true → EndsWell view id
+-- it was told nothing yet, or that it is done at this ballot, or that there was no memory, or its desk went down by a fault of its vault
+pub data EndsWell {S V : Type 0} (ballot : Ballot) (view : View S V) (id : ℕ) : Type 0 where
+  untold : IsTold view id None → EndsWell ballot view id
+  done : (state : State) (took : Took) → IsTold view id (Some (answer.Done state took ballot)) → EndsWell ballot view id
+  no_memory : (proposed : Bool) → IsTold view id (Some (answer.NoMemory proposed)) → EndsWell ballot view id
+  goes_down : IsTold view id (Some answer.VaultFault) → (desk : DeskView V) → IsAt view.desks id desk → desk.down ≡ true → EndsWell ballot view id
 
--- a phase has just begun whose members are ready for its requests, or no round is open and the call stands well
-pub data Begun {S V : Type 0} (m : Meaning S V) (era : Era) (id : ℕ) (view : View S V) : Type 0 where
-  prepares : (round : Round) (age : ℕ) → PreparesAfresh view id round → round.era ≡ era → IsUnderway m era id age (ask.Prepare round.key round.ballot) view → Shows view id (Some true) → IsTold view id None → IsSafe view → Begun m era id view
-  accepts : (prepared : List Reply) (round : Round) (outcome : Outcome) (age : ℕ) → AcceptsAfresh view id prepared round outcome → round.era ≡ era
-      → IsUnderway m era id age (ask.Accept round.key round.ballot round.era.number round.ride outcome.state) view → Shows view id (Some false) → IsTold view id None → IsSafe view → Begun m era id view
-  over : Shows view id None → EndsWell view id → Begun m era id view
+-- a phase at this ballot has just begun whose members are ready for its requests, or no round is open and the call stands well
+pub data Begun {S V : Type 0} (m : Meaning S V) (era : Era) (ballot : Ballot) (id : ℕ) (view : View S V) : Type 0 where
+  prepares : (round : Round) (age : ℕ) → PreparesAfresh view id round → round.era ≡ era → round.ballot ≡ ballot → IsUnderway m era id age (ask.Prepare round.key round.ballot) view → Shows view id (Some true) → IsTold view id None → IsSafe view → Begun m era ballot id view
+  accepts : (prepared : List Reply) (round : Round) (outcome : Outcome) (age : ℕ) → AcceptsAfresh view id prepared round outcome → round.era ≡ era → round.ballot ≡ ballot
+      → IsUnderway m era id age (ask.Accept round.key round.ballot round.era.number round.ride outcome.state) view → Shows view id (Some false) → IsTold view id None → IsSafe view → Begun m era ballot id view
+  over : Shows view id None → EndsWell ballot view id → Begun m era ballot id view
 
 -- ---- ages of vaults
 drawn_age : (low : Bool) (kept : Kept) (bound : ℕ) → (cond low (record kept { bound = bound }) kept).age ≡ kept.age
@@ -112,6 +112,7 @@ age_by {S} {V} old new id age now is aged desk at = ap (λ (d : DeskView V). (ke
 -- ---- a call that is opened
 record IsNew {S V : Type 0} (m : Meaning S V) (old middle : View S V) (id : ℕ) (key : List ℕ) (program : List Clause) (call : CallView) : Type 0 where
   pub era : middle.era ≡ old.era
+  pub desks : middle.desks ≡ old.desks
   pub all_ready : AreReady m middle id key
   pub call_is : call ≡ new_call key program (round_marks middle.era - 1)
 
@@ -119,6 +120,7 @@ is_new : {S V : Type 0} (m : Meaning S V) (old middle : View S V) (id : ℕ) (ke
     → (caller : CallerView) (call : CallView) → IsAt middle.callers id caller → caller.call ≡ Some call → IsNew m old middle id key program call
 is_new {S} {V} m old middle id key program ready none_open (calls.first was at was_none room is) caller call there is_call = record {
   era = ap (λ (w : View S V). w.era) is;
+  desks = ap (λ (w : View S V). w.desks) is;
   all_ready = subst (λ (w : View S V). AreReady m w id key) (sym is) (record { desk = ready.desk; at_desk = ready.at_desk; begins = ready.begins; members = ready.members });
   call_is = some_is (sym is_call ∙ ap (λ (c : CallerView). c.call) (sym same)) ∙ ap (λ (e : Era). new_call key program (round_marks e - 1)) (sym (ap (λ (w : View S V). w.era) is));
 }
@@ -139,9 +141,9 @@ ready_desk : {S V : Type 0} (m : Meaning S V) (view : View S V) (id : ℕ) (key 
 ready_desk {S} {V} m view id key desk ready at = subst (ReadyDesk m view id key) (at_one view.desks id ready.at_desk at) (record { begins = ready.begins; members = ready.members })
 
 -- ---- the beginning
-pub begins : {S V : Type 0} (m : Meaning S V) (old new : View S V) (id : ℕ) (key : List ℕ) (program : List Clause) → IsSafe old → AreReady m old id key → ((caller : CallerView) → IsAt old.callers id caller → caller.call ≡ None)
-    → StepBegin m old id key program new → Begun m old.era id new
-begins {S} {V} m old new id key program safe ready none_open by = subst (λ (e : Era). Begun m e id new) fresh.era (in_round by.begins)
+pub begins : {S V : Type 0} (m : Meaning S V) (old new : View S V) (id : ℕ) (key : List ℕ) (program : List Clause) → IsSafe old → (ready : AreReady m old id key) → ((caller : CallerView) → IsAt old.callers id caller → caller.call ≡ None)
+    → StepBegin m old id key program new → Begun m old.era (next_ballot ready.desk key) id new
+begins {S} {V} m old new id key program safe ready none_open by = subst (λ (e : Era). Begun m e (next_ballot ready.desk key) id new) fresh.era (in_round by.begins)
   where
     fresh : IsNew m old by.middle id key program by.call
     fresh = is_new m old by.middle id key program ready none_open by.opens by.caller by.call by.at_caller by.is_open
@@ -193,20 +195,24 @@ begins {S} {V} m old new id key program safe ready none_open by = subst (λ (e :
     drawn_is : (desk : DeskView V) (ballot : Ballot) → promise_at by.call.key desk.cache ≡ None → ballot ≡ record { counter = counter_of desk.vault + 1; proposer = desk.id } → next_ballot desk key ≡ ballot
     drawn_is desk ballot no_promise next = ap (λ (k : List ℕ). next_ballot desk k) (sym key_is) ∙ ap (ballot_by desk.id (counter_of desk.vault)) no_promise ∙ sym next
 
+    -- the desk is that of before
+    next_is : (desk : DeskView V) → IsAt by.middle.desks id desk → next_ballot desk key ≡ next_ballot ready.desk key
+    next_is desk at = ap (λ (d : DeskView V). next_ballot d key) (at_one old.desks id (subst (λ (l : List (DeskView V)). IsAt l id desk) fresh.desks at) ready.at_desk)
+
     promised_is : (desk : DeskView V) (ready_by : Ready) → promise_at by.call.key desk.cache ≡ Some ready_by → next_ballot desk key ≡ ready_by.ballot
     promised_is desk ready_by promise = ap (λ (k : List ℕ). next_ballot desk k) (sym key_is) ∙ ap (ballot_by desk.id (counter_of desk.vault)) promise
 
-    over_at : (desk now : DeskView V) → IsAt by.middle.desks id desk → new.desks ≡ slice_set by.middle.desks id now → now.round ≡ None → EndsWell new id → Begun m era id new
+    over_at : (desk now : DeskView V) → IsAt by.middle.desks id desk → new.desks ≡ slice_set by.middle.desks id now → now.round ≡ None → EndsWell (next_ballot ready.desk key) new id → Begun m era (next_ballot ready.desk key) id new
     over_at desk now at is none well = over (shows_by by.middle new id desk now None at is (ap opens_in none)) well
 
     stays_by : (told : Answer) → calls.IsNoBeginning told → ((desk : DeskView V) → IsAt by.middle.desks id desk → (desk.round ≡ None) × (told ≡ answer.Down → desk.down ≡ true)) → (told ≡ answer.RecordFull → calls.IsFull by.middle id × (suc by.call.reserved < round_marks era))
-        → IsTold new id (Some told) → EndsWell new id
+        → IsTold new id (Some told) → EndsWell (next_ballot ready.desk key) new id
     stays_by answer.Down no_beginning no_round full is = absurd (not_both _ ((no_round fresh.all_ready.desk fresh.all_ready.at_desk).1 refl) fresh.all_ready.begins.up)
     stays_by answer.RecordFull no_beginning no_round full is = absurd (omega (arith, (full refl).1, ap (λ (c : CallView). c.reserved) fresh.call_is))
     stays_by (answer.NoMemory proposed) no_beginning no_round full is = no_memory proposed is
     stays_by told no_beginning no_round full is = absurd no_beginning
 
-    in_round : calls.BeginsRound m by.middle id by.caller by.call new → Begun m era id new
+    in_round : calls.BeginsRound m by.middle id by.caller by.call new → Begun m era (next_ballot ready.desk key) id new
     in_round (calls.prepares desk now ballot round flow at up few begun sends is) =
         let desks = ap (λ (w : View S V). w.desks) is in
         let about = begun.opened.0 in
@@ -216,7 +222,7 @@ begins {S} {V} m old new id key program safe ready none_open by = subst (λ (e :
         let sent = waits desk (prepares_to id (kept_of desk.vault).age by.call.key ballot era.prep) flow at begun.none_open sends (ap (λ (w : View S V). w.flow) is) in
         let request : ℕ → Request = λ (to : ℕ). record { to = to; from = id; age = (kept_of desk.vault).age; ask = ask.Prepare by.call.key ballot } in
         prepares round (kept_of desk.vault).age
-        (asks.prepares round (record { desk = now; at_desk = desk_by by.middle new id desk now at desks; is_open = ap (λ (d : DeskView V). d.round) begun.desk; preparing = begun.opened.1 })) about.in_era
+        (asks.prepares round (record { desk = now; at_desk = desk_by by.middle new id desk now at desks; is_open = ap (λ (d : DeskView V). d.round) begun.desk; preparing = begun.opened.1 })) about.in_era (about.at ∙ sym (drawn_is desk ballot begun.no_promise begun.drawn.draws.next) ∙ next_is desk at)
         (record {
           asked = all_asked era id (kept_of desk.vault).age (ask.Prepare round.key round.ballot) (queue_at new.flow id).messages request request era.prep era.prep sent sent (λ n member. inl member) (λ n. refl) (λ n. question) (λ n. refl);
           members = opens desk at (ap (λ (w : View S V). w.acceptors) is) (ask.Prepare round.key round.ballot) (λ acceptor r. subst (LetsPass (m.shelves.contents acceptor.shelf)) question_next (r.seen, r.room));
@@ -232,7 +238,7 @@ begins {S} {V} m old new id key program safe ready none_open by = subst (λ (e :
         let afresh = asks.accepts goes (record { desk = now; at_desk = desk_by by.middle new id desk now at desks; is_open = ap (λ (d : DeskView V). d.round) begun.desk; accepting = accepting }) in
         let sent = waits desk (accepts_to id (kept_of desk.vault).age round.key round.ballot round.era.number ride outcome.state round.era.acc) flow at begun.none_open sends (ap (λ (w : View S V). w.flow) is) in
         let question : Ask = ask.Accept goes.key goes.ballot goes.era.number goes.ride afresh.0.state in
-        accepts [] goes afresh.0 (kept_of desk.vault).age afresh.1 about.in_era
+        accepts [] goes afresh.0 (kept_of desk.vault).age afresh.1 about.in_era (about.at ∙ sym (promised_is desk ready_by begun.promise) ∙ next_is desk at)
         (record {
           asked = all_asked era id (kept_of desk.vault).age question (queue_at new.flow id).messages (λ to. record { to = to; from = id; age = afresh.1.age; ask = question })
               (λ to. record { to = to; from = id; age = (kept_of desk.vault).age; ask = ask.Accept round.key round.ballot round.era.number ride outcome.state }) round.era.acc round.era.acc afresh.1.waits sent

@@ -1,6 +1,6 @@
 -- A script over a cluster that just opened is ready for its first line.
-use Rattle.std.proofs.Common.{◌≡◌, ◌<◌, ◌≤◌, ℕ, zero, suc, true, false, List, [], ◌∷◌, Option, refl, sym, ap, subst, inl, inr, arith}
-use Rattle.std.specs.Prelude.{◌||◌, length, replicate, slice_set}
+use Rattle.std.proofs.Common.{◌≡◌, ◌<◌, ◌≤◌, ◌^◌, ◌∙◌, ℕ, zero, suc, true, false, List, [], ◌∷◌, Option, None, refl, sym, ap, subst, inl, inr, arith}
+use Rattle.std.specs.Prelude.{◌+◌, ◌||◌, length, replicate, slice_set}
 use Rattle.std.specs.Cmp.Lexicographic.{slice_cmp}
 use Rattle.std.specs.FinMap as map
 use Rattle.std.specs.Ordering.{nat_cmp}
@@ -10,6 +10,8 @@ use Rattle.cas_ballot.specs.Ballot.{BallotAtMost}
 use Rattle.cas_ballot.specs.Members.{has_member, members_where}
 use Rattle.cas_ballot.proofs.BallotLemmas.{zero_at_most}
 use Rattle.cas_ballot.proofs.CountLemmas.{length-within}
+use Rattle.cas_cache.specs.declared.ready.Ready.{Ready}
+use Rattle.cas_cache.specs.Entries.{promise_at}
 use Rattle.cas_acceptor.specs.Acceptor.{AcceptorView}
 use Rattle.cas_lines.specs.Command.{Asked}
 use Rattle.cas_proposer.specs.Desk.{DeskView}
@@ -22,17 +24,17 @@ use Rattle.cas_slot.specs.Slot.{seen_of}
 use Rattle.cas_slot.specs.Slots.{IsFullFor}
 use Rattle.cas_slot.specs.Table.{seen_at}
 use Rattle.cas_slot.specs.declared.slot.Slot.{Slot}
-use Rattle.cas_vault.specs.Vault.{kept_of}
+use Rattle.cas_vault.specs.Vault.{counter_of, kept_of}
 use Rattle.cas_cluster.specs.SafeLaws.{HasPlaces}
 use Rattle.cas_cluster.specs.Step.{IsOpening, IsFreshDesk}
 use Rattle.cas_cluster.specs.View.{Meaning, View, CallerView, IsAt, new_caller, reserved_in, reserved_of}
 use Rattle.cas_cluster.proofs.Harms.{member_low}
-use Rattle.cas_cluster.proofs.Places.{but_set}
+use Rattle.cas_cluster.proofs.Places.{at_one, but_set}
 use Rattle.cas_cluster.proofs.SafeOpens.{opens_are_safe}
 use Rattle.cas_cluster.proofs.SafeParts.{at_low}
 use Rattle.cas_script.specs.Script.{nowhere, opening_state}
-use Rattle.cas_undisturbed.specs.Lines.{next_ballot, IsMemberOf, IsReadyFor, AreReady, AreUp, IsReadyLine}
-use Rattle.cas_undisturbed.specs.Openings.{HasBallots, FirstLinesAreDone}
+use Rattle.cas_undisturbed.specs.Lines.{ballot_by, next_ballot, IsMemberOf, IsReadyFor, AreReady, AreUp, IsReadyLine, IsDoneOrNoMemory}
+use Rattle.cas_undisturbed.specs.Openings.{FirstLinesAreDone}
 use Rattle.cas_undisturbed.proofs.Lines.{lines_are_done}
 
 -- ---- lists
@@ -80,26 +82,20 @@ ready_member m id key desk acceptor few same up keeps = record {
   room = λ full. has_room key (subst (λ (c : Contents). IsFullFor c.slots key) keeps full);
 }
 
-all_ready : {S V : Type 0} (m : Meaning S V) (members : List ℕ) (world : View S V) (id : ℕ) (key : List ℕ) → IsOpening m members world → HasPlaces world → id ≤ world.greatest → HasBallots world id → AreUp world.era world id → AreReady m world id key
-all_ready {S} {V} m members world id key opens places known ballots up = record {
+all_ready : {S V : Type 0} (m : Meaning S V) (members : List ℕ) (world : View S V) (id : ℕ) (key : List ℕ) (desk : DeskView V) → IsOpening m members world → HasPlaces world → IsAt world.desks id desk → counter_of desk.vault < 2 ^ 48 → AreUp world.era world id → AreReady m world id key
+all_ready {S} {V} m members world id key desk opens places at low up = record {
   desk = desk;
-  at_desk = at.1;
-  begins = record { up = up.desk desk at.1; none_open = fresh.none_open; unspent = λ none. ballots desk at.1 };
+  at_desk = at;
+  begins = record { up = up.desk desk at; none_open = fresh.1.none_open; unspent = λ none. low };
   members = λ member is.
       let has_it : has_member members member ≡ true = member_of members member (subst (λ (e : Era). IsMemberOf e member) opens.era is) in
       let there = at_low world.acceptors member (omega (arith, member_low members member opens.member_set has_it, places.acceptors)) in
       let is_up = up.members member is there.0 there.1 in
-      (there.0, there.1, ready_member m id key desk there.0 (omega (arith, known, opens.few)) fresh.same_id is_up ((opens.acceptors member there.0 there.1).keeps is_up));
+      (there.0, there.1, ready_member m id key desk there.0 (omega (arith, fresh.0, opens.few)) fresh.1.same_id is_up ((opens.acceptors member there.0 there.1).keeps is_up));
 }
   where
-    at : (desk : DeskView V) × IsAt world.desks id desk
-    at = at_low world.desks id (omega (arith, known, places.desks))
-
-    desk : DeskView V
-    desk = at.0
-
-    fresh : IsFreshDesk m id desk
-    fresh = (opens.desks id desk at.1).1
+    fresh : (id ≤ world.greatest) × IsFreshDesk m id desk
+    fresh = opens.desks id desk at
 
 caller_set : (callers : List CallerView) (id : ℕ) → ((place : ℕ) (caller : CallerView) → IsAt callers place caller → caller ≡ new_caller) → (place : ℕ) (caller : CallerView) → IsAt (slice_set callers id new_caller) place caller → caller ≡ new_caller
 caller_set callers id fresh place caller at = elim (but_set callers id new_caller place caller at) [
@@ -107,11 +103,11 @@ caller_set callers id fresh place caller at = elim (but_set callers id new_calle
   | inr other ↦ fresh place caller other.1
 ]
 
-line_ready : {S V : Type 0} (m : Meaning S V) (members : List ℕ) (world : View S V) (asked : Asked) → IsOpening m members world → HasPlaces world → asked.caller ≤ world.greatest → HasBallots world asked.caller → AreUp world.era world asked.caller → IsReadyLine m (opening_state world) asked
-line_ready {S} {V} m members world asked opens places known ballots up = record {
+line_ready : {S V : Type 0} (m : Meaning S V) (members : List ℕ) (world : View S V) (asked : Asked) (desk : DeskView V) → IsOpening m members world → HasPlaces world → IsAt world.desks asked.caller desk → counter_of desk.vault < 2 ^ 48 → AreUp world.era world asked.caller → IsReadyLine m (opening_state world) asked
+line_ready {S} {V} m members world asked desk opens places at low up = record {
   delivers = λ frame. refl;
-  goes_on = at_replicate 17 asked.caller nowhere (omega (arith, known, opens.few));
-  all_ready = all_ready m members world asked.caller asked.key opens places known ballots up;
+  goes_on = at_replicate 17 asked.caller nowhere (omega (arith, (opens.desks asked.caller desk at).0, opens.few));
+  all_ready = all_ready m members world asked.caller asked.key desk opens places at low up;
   no_call = λ caller at. ap (λ (c : CallerView). c.call) (opens.callers asked.caller caller at);
   room = omega (
     arith,
@@ -121,7 +117,18 @@ line_ready {S} {V} m members world asked opens places known ballots up = record 
   );
 }
 
+-- its first ballot
+first_ballot : {V : Type 0} (desk : DeskView V) (id : ℕ) (key : List ℕ) → desk.id ≡ id → desk.cache ≡ [] → next_ballot desk key ≡ record { counter = counter_of desk.vault + 1; proposer = id }
+first_ballot desk id key same none =
+    ap (λ (cache : List (List ℕ × Ready)). ballot_by desk.id (counter_of desk.vault) (promise_at key cache)) none ∙ ap (λ (p : ℕ). ballot_by p (counter_of desk.vault) None) same
+
 pub first_lines_are_done : {S V : Type 0} (m : Meaning S V) → FirstLinesAreDone m
-first_lines_are_done {S} {V} m tries members world new asked told opens places known ballots up runs up_then =
-    lines_are_done m tries (opening_state world) new asked told (opens_are_safe m members world opens places) (subst IsSized (sym opens.era) (majority_sized members opens.some))
-    (line_ready m members world asked opens places known ballots up) runs up_then
+first_lines_are_done {S} {V} m tries members world new asked told desk opens places at low up runs up_then =
+    subst (λ (b : Ballot). IsDoneOrNoMemory b told) (ap (λ (d : DeskView V). next_ballot d asked.key) (at_one world.desks asked.caller ready.all_ready.at_desk at) ∙ first_ballot desk asked.caller asked.key fresh.same_id fresh.no_promise)
+    (lines_are_done m tries (opening_state world) new asked told (opens_are_safe m members world opens places) (subst IsSized (sym opens.era) (majority_sized members opens.some)) ready runs up_then)
+  where
+    fresh : IsFreshDesk m asked.caller desk
+    fresh = (opens.desks asked.caller desk at).1
+
+    ready : IsReadyLine m (opening_state world) asked
+    ready = line_ready m members world asked desk opens places at low up

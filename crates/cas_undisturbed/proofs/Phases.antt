@@ -80,8 +80,8 @@ refuses_other (verdict.Full acceptor) told e = (λ is. cc (e, is), λ is. cc (e,
 refuses_other (verdict.Short got need) told e = (λ is. cc (e, is), λ is. cc (e, is))
 
 -- where a turn finds no memory, the caller is told so
-pub fails_told : {S V : Type 0} (m : Meaning S V) (rules : List Rule) (id : ℕ) (old new : View S V) → FailsToTurn m rules id old new → EndsWell new id
-fails_told {S} {V} m rules id old new by =
+pub fails_told : {S V : Type 0} (m : Meaning S V) (rules : List Rule) (ballot : Ballot) (id : ℕ) (old new : View S V) → FailsToTurn m rules id old new → EndsWell ballot new id
+fails_told {S} {V} m rules ballot id old new by =
     no_memory (is_some by.fails.of_call.call.proposed)
     (told_by by.fails.middle new id by.fails.of_call.caller (calls.telling by.fails.of_call.call (answer.NoMemory (is_some by.fails.of_call.call.proposed)))
     (subst (λ (l : List CallerView). IsAt l id by.fails.of_call.caller) (sym (same by.fails.refuses)) by.fails.of_call.at_caller) (ap (λ (w : View S V). w.callers) by.fails.view))
@@ -97,12 +97,12 @@ turned_safe m rules id old new (script.one_more {mid = mid} frame turned at by) 
 
 -- ---- the prepare phase
 -- the accept phase begins, and each member that let the prepares pass lets its accepts pass
-goes_on : {S V : Type 0} (m : Meaning S V) (era : Era) (mid new : View S V) (id age : ℕ) (replies : List Reply) (desk next : DeskView V) (seen round turned : Round) (outcome : Outcome) (ride : Option Ballot) (other : Outcome) → IsSafe new → round.era ≡ era
+goes_on : {S V : Type 0} (m : Meaning S V) (era : Era) (ballot : Ballot) (mid new : View S V) (id age : ℕ) (replies : List Reply) (desk next : DeskView V) (seen round turned : Round) (outcome : Outcome) (ride : Option Ballot) (other : Outcome) → IsSafe new → round.era ≡ era → round.ballot ≡ ballot
     → turned ≡ record round { phase = turned.phase; met = turned.met; ride = turned.ride } → AcceptsAfresh new id replies turned outcome → IsTold new id None → IsUnderway m era id age (ask.Prepare round.key round.ballot) mid
     → new.acceptors ≡ mid.acceptors → IsAt mid.desks id desk → new.desks ≡ slice_set mid.desks id next → (kept_of next.vault).age ≡ (kept_of desk.vault).age
-    → (queue_at new.flow id).messages ≡ calls.accepts_to id (kept_of desk.vault).age seen.key seen.ballot seen.era.number ride other.state seen.era.acc → Begun m era id new
-goes_on {S} {V} m era mid new id age replies desk next seen round turned outcome ride other safe era_is same afresh told was acceptors at desks kept sent =
-    accepts replies turned outcome age afresh turned_era (record {
+    → (queue_at new.flow id).messages ≡ calls.accepts_to id (kept_of desk.vault).age seen.key seen.ballot seen.era.number ride other.state seen.era.acc → Begun m era ballot id new
+goes_on {S} {V} m era ballot mid new id age replies desk next seen round turned outcome ride other safe era_is ballot_is same afresh told was acceptors at desks kept sent =
+    accepts replies turned outcome age afresh turned_era (ap (λ (r : Round). r.ballot) same ∙ ballot_is) (record {
       asked = all_asked era id age question (queue_at new.flow id).messages (λ to. record { to = to; from = id; age = afresh.age; ask = question })
           (λ to. record { to = to; from = id; age = (kept_of desk.vault).age; ask = ask.Accept seen.key seen.ballot seen.era.number ride other.state }) turned.era.acc seen.era.acc afresh.waits sent
           (λ n member. inr (subst (λ (e : Era). has_member e.acc n ≡ true) turned_era member)) (λ n. refl) (λ n. refl) (λ n. was.desk_age desk at);
@@ -132,13 +132,13 @@ goes_on {S} {V} m era mid new id age replies desk next seen round turned outcome
     }
 
 -- a prepare phase that goes undisturbed proposes, or ends well
-prepare_ends : {S V : Type 0} (m : Meaning S V) (era : Era) (mid new : View S V) (id age : ℕ) (replies : List Reply) (round : Round) → IsSafe new → round.era ≡ era → IsUnderway m era id age (ask.Prepare round.key round.ballot) mid → new.acceptors ≡ mid.acceptors
-    → (by : StepPropose m mid id new) → ProposesUndisturbed (without_faults m) mid new id replies round → Begun m era id new
-prepare_ends {S} {V} m era mid new id age replies round safe era_is was acceptors by result = in_phase by.at_round.of_call by.at_round.desk by.at_round.at_desk by.at_round.round by.proposes result
+prepare_ends : {S V : Type 0} (m : Meaning S V) (era : Era) (ballot : Ballot) (mid new : View S V) (id age : ℕ) (replies : List Reply) (round : Round) → IsSafe new → round.era ≡ era → round.ballot ≡ ballot → IsUnderway m era id age (ask.Prepare round.key round.ballot) mid → new.acceptors ≡ mid.acceptors
+    → (by : StepPropose m mid id new) → ProposesUndisturbed (without_faults m) mid new id replies round → Begun m era ballot id new
+prepare_ends {S} {V} m era ballot mid new id age replies round safe era_is ballot_is was acceptors by result = in_phase by.at_round.of_call by.at_round.desk by.at_round.at_desk by.at_round.round by.proposes result
   where
-    in_phase : (of_call : OpenCallAt mid id) (desk : DeskView V) → IsAt mid.desks id desk → (seen : Round) → calls.ProposesOrEnds m mid id desk seen of_call.caller of_call.call new → ProposesUndisturbed (without_faults m) mid new id replies round → Begun m era id new
+    in_phase : (of_call : OpenCallAt mid id) (desk : DeskView V) → IsAt mid.desks id desk → (seen : Round) → calls.ProposesOrEnds m mid id desk seen of_call.caller of_call.call new → ProposesUndisturbed (without_faults m) mid new id replies round → Begun m era ballot id new
     in_phase at desk at_desk seen (calls.proposes next turned read by_them ride outcome flow quorum confirmers reads turns made sends is) (undisturbed.proposes then_ other same afresh told) =
-        goes_on m era mid new id age replies desk next seen round then_ other ride outcome safe era_is same afresh told was acceptors at_desk (ap (λ (w : View S V). w.desks) is) (may_age m.disks desk.id desk.vault next.vault ride turns.drawn)
+        goes_on m era ballot mid new id age replies desk next seen round then_ other ride outcome safe era_is ballot_is same afresh told was acceptors at_desk (ap (λ (w : View S V). w.desks) is) (may_age m.disks desk.id desk.vault next.vault ride turns.drawn)
         (ap (λ (w : View S V). (queue_at w.flow id).messages) is ∙ sends.own ∙ ap (λ (l : List Message). l ++ calls.accepts_to id (kept_of desk.vault).age seen.key seen.ballot seen.era.number ride outcome.state seen.era.acc) by.at_round.none_waits)
     in_phase at desk at_desk seen (calls.proposes next turned read by_them ride outcome flow quorum confirmers reads turns made sends is) (undisturbed.vault_fails faulted told) =
         absurd (cc (told_one new id None (Some answer.VaultFault) (told_by mid new id at.caller (calls.proposing at.call outcome) at.at_caller (ap (λ (w : View S V). w.callers) is)) told))
@@ -157,9 +157,9 @@ prepare_ends {S} {V} m era mid new id age replies round safe era_is was acceptor
         over (shows_by mid new id desk next None at_desk (ap (λ (w : View S V). w.desks) is) (ap opens_in (ap (λ (d : DeskView V). d.round) loses.desk)))
         (no_memory false (told_by mid new id at.caller (calls.over at.call (answer.NoMemory false)) at.at_caller (ap (λ (w : View S V). w.callers) is)))
 
-pub prepare_ended : {S V : Type 0} (m : Meaning S V) (era : Era) (rules : List Rule) (id : ℕ) (halt : Halt) (view new : View S V) → Grounds era rules → Begun m era id view → EndsPrepare m rules id halt view new → StillUp era new → Begun m era id new
-prepare_ended {S} {V} m era rules id halt view new grounds (prepares round age afresh era_is underway shows told safe) ends up =
-    prepare_ends m era mid new id age turns.replies round (steps_are_safe m mid (step.Propose id) new (turned_safe m rules id view mid ends.turns.turned safe) ends.proposes) era_is turns.underway (propose_same m mid new id ends.proposes) ends.proposes
+pub prepare_ended : {S V : Type 0} (m : Meaning S V) (era : Era) (ballot : Ballot) (rules : List Rule) (id : ℕ) (halt : Halt) (view new : View S V) → Grounds era rules → Begun m era ballot id view → EndsPrepare m rules id halt view new → StillUp era new → Begun m era ballot id new
+prepare_ended {S} {V} m era ballot rules id halt view new grounds (prepares round age afresh era_is ballot_is underway shows told safe) ends up =
+    prepare_ends m era ballot mid new id age turns.replies round (steps_are_safe m mid (step.Propose id) new (turned_safe m rules id view mid ends.turns.turned safe) ends.proposes) era_is ballot_is turns.underway (propose_same m mid new id ends.proposes) ends.proposes
     (prepares_propose (without_faults m) view mid new id era.prep turns.replies round turns.steps safe afresh (subst (λ (e : Era). holds_prep e era.prep ≡ true) (sym era_is) grounds.prep) turns.undisturbed (faultless_propose m mid new id ends.proposes))
   where
     mid : View S V
@@ -167,25 +167,25 @@ prepare_ended {S} {V} m era rules id halt view new grounds (prepares round age a
 
     turns : Goes m era id age (ask.Prepare round.key round.ballot) era.prep view mid
     turns = goes m era rules id age (ask.Prepare round.key round.ballot) era.prep view mid grounds.delivers tt underway ends.turns.turned (up_before era mid new (propose_keeps m mid new id ends.proposes) up)
-prepare_ended m era rules id halt view new grounds (accepts prepared round outcome age afresh era_is underway shows told safe) ends up =
+prepare_ended m era ballot rules id halt view new grounds (accepts prepared round outcome age afresh era_is ballot_is underway shows told safe) ends up =
     absurd (cc (proposes_in m ends.turned new id (Some false) (turned_shows m rules id (Some false) view ends.turned ends.turns.turned shows) ends.proposes))
-prepare_ended m era rules id halt view new grounds (over shows well) ends up = absurd (cc (proposes_in m ends.turned new id None (turned_shows m rules id None view ends.turned ends.turns.turned shows) ends.proposes))
+prepare_ended m era ballot rules id halt view new grounds (over shows well) ends up = absurd (cc (proposes_in m ends.turned new id None (turned_shows m rules id None view ends.turned ends.turns.turned shows) ends.proposes))
 
 -- ---- the accept phase
-counted : {S V : Type 0} (m : Meaning S V) (era : Era) (rules : List Rule) (id : ℕ) (view mid new : View S V) → Grounds era rules → Begun m era id view → Turned m rules id view mid → step.StepCount m mid id new → StillUp era new → EndsWell new id
-counted {S} {V} m era rules id view mid new grounds (accepts prepared round outcome age afresh era_is underway shows told safe) turned by up =
-    done outcome.state outcome.took round.ballot
-    (accepts_are_done (without_faults m) view mid new id era.acc prepared turns.replies round outcome turns.steps safe afresh (subst (λ (e : Era). holds_acc e era.acc ≡ true) (sym era_is) grounds.acc) turns.undisturbed (faultless_count m mid new id by))
+counted : {S V : Type 0} (m : Meaning S V) (era : Era) (ballot : Ballot) (rules : List Rule) (id : ℕ) (view mid new : View S V) → Grounds era rules → Begun m era ballot id view → Turned m rules id view mid → step.StepCount m mid id new → StillUp era new → EndsWell ballot new id
+counted {S} {V} m era ballot rules id view mid new grounds (accepts prepared round outcome age afresh era_is ballot_is underway shows told safe) turned by up =
+    done outcome.state outcome.took
+    (subst (λ (b : Ballot). IsTold new id (Some (answer.Done outcome.state outcome.took b))) ballot_is (accepts_are_done (without_faults m) view mid new id era.acc prepared turns.replies round outcome turns.steps safe afresh (subst (λ (e : Era). holds_acc e era.acc ≡ true) (sym era_is) grounds.acc) turns.undisturbed (faultless_count m mid new id by)))
   where
     question : Ask
     question = ask.Accept round.key round.ballot round.era.number round.ride outcome.state
 
     turns : Goes m era id age question era.acc view mid
     turns = goes m era rules id age question era.acc view mid grounds.delivers tt underway turned (up_before era mid new (count_keeps m mid new id by) up)
-counted m era rules id view mid new grounds (prepares round age afresh era_is underway shows told safe) turned by up = absurd (cc (counts_in m mid new id (Some true) (turned_shows m rules id (Some true) view mid turned shows) by))
-counted m era rules id view mid new grounds (over shows well) turned by up = absurd (cc (counts_in m mid new id None (turned_shows m rules id None view mid turned shows) by))
+counted m era ballot rules id view mid new grounds (prepares round age afresh era_is ballot_is underway shows told safe) turned by up = absurd (cc (counts_in m mid new id (Some true) (turned_shows m rules id (Some true) view mid turned shows) by))
+counted m era ballot rules id view mid new grounds (over shows well) turned by up = absurd (cc (counts_in m mid new id None (turned_shows m rules id None view mid turned shows) by))
 
-pub accepted : {S V : Type 0} (m : Meaning S V) (era : Era) (rules : List Rule) (id : ℕ) (after : Halt) (view new : View S V) → Grounds era rules → Begun m era id view → IsAccepted m rules id nowhere view after new → StillUp era new → EndsWell new id
-accepted m era rules id after view new grounds begun (script.halts accepting due crashes) up = absurd (cc due)
-accepted m era rules id after view new grounds begun (script.no_memory due fails) up = fails_told m rules id view new fails
-accepted m era rules id after view new grounds begun (script.counts {turned = turned} due turns by) up = counted m era rules id view turned new grounds begun turns.turned by up
+pub accepted : {S V : Type 0} (m : Meaning S V) (era : Era) (ballot : Ballot) (rules : List Rule) (id : ℕ) (after : Halt) (view new : View S V) → Grounds era rules → Begun m era ballot id view → IsAccepted m rules id nowhere view after new → StillUp era new → EndsWell ballot new id
+accepted m era ballot rules id after view new grounds begun (script.halts accepting due crashes) up = absurd (cc due)
+accepted m era ballot rules id after view new grounds begun (script.no_memory due fails) up = fails_told m rules ballot id view new fails
+accepted m era ballot rules id after view new grounds begun (script.counts {turned = turned} due turns by) up = counted m era ballot rules id view turned new grounds begun turns.turned by up

@@ -75,13 +75,14 @@ pub record AreUp {S V : Type 0} (era : Era) (view : View S V) (id : ℕ) : Type 
   pub members : (member : ℕ) → IsMemberOf era member → (acceptor : AcceptorView S) → IsAt view.acceptors member acceptor → acceptor.down ≡ false
   pub desk : (desk : DeskView V) → IsAt view.desks id desk → desk.down ≡ false
 
--- a change is done, or there was no memory for it
-abbrev pub IsDoneOrNoMemory : Answer → Type 0
-IsDoneOrNoMemory (Done state took ballot) = ⊤
-IsDoneOrNoMemory (NoMemory proposed) = ⊤
-IsDoneOrNoMemory other = ⊥
+-- a change is done at this ballot, or there was no memory for it
+abbrev pub IsDoneOrNoMemory : Ballot → Answer → Type 0
+IsDoneOrNoMemory ballot (Done state took done_at) = done_at ≡ ballot
+IsDoneOrNoMemory ballot (NoMemory proposed) = ⊤
+IsDoneOrNoMemory ballot other = ⊥
 
--- A line whose change nothing stands against is answered done, but where no memory is found: whatever tries it has, if the members of the
--- era and its proposer's desk are up after it.
+-- A line whose change nothing stands against is answered done, at the ballot of the next round of its proposer, but where no memory is found:
+-- whatever tries it has, if the members of the era and its proposer's desk are up after it.
 abbrev pub ReadyLinesAreDone : {S V : Type 0} → Meaning S V → Type 0
-ReadyLinesAreDone {S} {V} m = (tries : ℕ) (old new : State S V) (asked : Asked) (answer : Answer) → IsSafe old.world → IsSized old.world.era → IsReadyLine m old asked → RunsChange m tries old asked answer new → AreUp old.world.era new.world asked.caller → IsDoneOrNoMemory answer
+ReadyLinesAreDone {S} {V} m = (tries : ℕ) (old new : State S V) (asked : Asked) (answer : Answer) → IsSafe old.world → IsSized old.world.era → (ready : IsReadyLine m old asked) → RunsChange m tries old asked answer new → AreUp old.world.era new.world asked.caller
+    → IsDoneOrNoMemory (next_ballot ready.all_ready.desk asked.key) answer
