@@ -70,7 +70,7 @@ pub record IsReadyLine {S V : Type 0} (m : Meaning S V) (old : State S V) (asked
   pub no_call : (caller : CallerView) → IsAt old.world.callers asked.caller caller → caller.call ≡ None
   pub room : HasRoom old.world asked.caller (round_marks old.world.era)
 
--- The members of the era and the proposer's desk are up: where they were before a line, none of their disks failed in it.
+-- the members of the era and the proposer's desk are up
 pub record AreUp {S V : Type 0} (era : Era) (view : View S V) (id : ℕ) : Type 0 where
   pub members : (member : ℕ) → IsMemberOf era member → (acceptor : AcceptorView S) → IsAt view.acceptors member acceptor → acceptor.down ≡ false
   pub desk : (desk : DeskView V) → IsAt view.desks id desk → desk.down ≡ false
@@ -81,7 +81,7 @@ IsDoneOrNoMemory ballot (Done state took done_at) = done_at ≡ ballot
 IsDoneOrNoMemory ballot (NoMemory proposed) = ⊤
 IsDoneOrNoMemory ballot other = ⊥
 
--- A line whose change nothing stands against is answered done, at the ballot of the next round of its proposer, but where no memory is found:
+-- A line whose change nothing stands against is answered done, at the ballot of its proposer's next round, but where no memory is found:
 -- whatever tries it has, if the members of the era and its proposer's desk are up after it.
 abbrev pub ReadyLinesAreDone : {S V : Type 0} → Meaning S V → Type 0
 ReadyLinesAreDone {S} {V} m = (tries : ℕ) (old new : State S V) (asked : Asked) (answer : Answer) → IsSafe old.world → IsSized old.world.era → (ready : IsReadyLine m old asked) → RunsChange m tries old asked answer new → AreUp old.world.era new.world asked.caller

@@ -12,11 +12,10 @@ use cas_disk::Disk;
 use cas_slot::Shelf;
 
 /// A script's change line that nothing stands against is answered done, at the ballot of its proposer's next round, or that there was no
-/// memory: over deliveries alone, with every
-/// member of the era up, none of them with a greater age of the proposer, a ballot for the key above that of the proposer's next round,
-/// or no room for the key; with the proposer up, in no round, to halt nowhere, and with ballots left where it holds no promise of the key;
-/// with no open call of the caller, and room for a round's marks; and where the members and the proposer are up after the line, since none
-/// of their disks failed in it.
+/// memory: over deliveries alone, with every member of the era up, none of them with a greater age of the proposer, a ballot for the key
+/// above that of the proposer's next round, or no room for the key; with the proposer up, in no round, to halt nowhere, and with ballots
+/// left where it holds no promise of the key; with no open call of the caller, and room for a round's marks; and where the members and the
+/// proposer are up after the line. They are where no disk of theirs counts a fault in it.
 pub fn ready_lines_are_done<S: Shelf, V: Disk>()
     ensures { ReadyLinesAreDone (meaning S.contents S.tells S.may_leave S.fault_count V.tells V.may_leave V.fault_count) }
 {}
