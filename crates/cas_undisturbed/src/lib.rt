@@ -1,0 +1,33 @@
+//! A change that nothing stands against: its line in a script is answered done.
+//!
+//! Definitions and laws, and no code that runs. A law is the contract of a function that does nothing.
+#![tactic(auto)]
+
+ghost use Rattle.cas_cluster.specs.View.{meaning};
+ghost use Rattle.cas_undisturbed.specs.Faults.{FaultlessLinesStayUp};
+ghost use Rattle.cas_undisturbed.specs.Lines.{ReadyLinesAreDone};
+ghost use Rattle.cas_undisturbed.specs.Openings.{FirstLinesAreDone};
+
+use cas_disk::Disk;
+use cas_slot::Shelf;
+
+/// A script's change line that nothing stands against is answered done, at the ballot of its proposer's next round, or that there was no
+/// memory: over deliveries alone, with every member of the era up, none of them with a greater age of the proposer, a ballot for the key
+/// above that of the proposer's next round, or no room for the key; with the proposer up, in no round, to halt nowhere, and with ballots
+/// left where it holds no promise of the key; with no open call of the caller, and room for a round's marks; and where the members and the
+/// proposer are up after the line. They are where no disk of theirs counts a fault in it.
+pub fn ready_lines_are_done<S: Shelf, V: Disk>()
+    ensures { ReadyLinesAreDone (meaning S.contents S.tells S.may_leave S.fault_count V.tells V.may_leave V.fault_count) }
+{}
+
+/// So a change that is the first line of a script over a cluster that just opened is answered done, at its proposer's first ballot, or that
+/// there was no memory: where the members and the proposer are up before it and after it, and the proposer has ballots left.
+pub fn first_lines_are_done<S: Shelf, V: Disk>()
+    ensures { FirstLinesAreDone (meaning S.contents S.tells S.may_leave S.fault_count V.tells V.may_leave V.fault_count) }
+{}
+
+/// A change line in which no disk of a member or of its proposer counts a fault, and whose proposer is to halt nowhere, leaves all of them
+/// up that were up before it, whatever it is answered.
+pub fn faultless_lines_stay_up<S: Shelf, V: Disk>()
+    ensures { FaultlessLinesStayUp (meaning S.contents S.tells S.may_leave S.fault_count V.tells V.may_leave V.fault_count) }
+{}
