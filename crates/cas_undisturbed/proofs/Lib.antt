@@ -1,7 +1,10 @@
 pub mod Beginning
+pub mod Eras
 pub mod Faults
 pub mod Fitting
 pub mod Lines
 pub mod Openings
 pub mod Phases
+pub mod Runs
 pub mod Standing
+pub mod Staying
