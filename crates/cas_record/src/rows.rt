@@ -11,11 +11,17 @@ use crate::row::{Row, empty_row, key_at, row_after};
 use cas_change::Key;
 use std::cmp::Ordering;
 
-/// A slot of so many that the key picks, which may be any.
+/// What the hash FNV-1a of 32 bits starts from.
+const FNV_BASIS: u32 = 0x811c_9dc5;
+
+/// What the hash FNV-1a of 32 bits multiplies by.
+const FNV_PRIME: u32 = 0x0100_0193;
+
+/// A slot of so many, picked by a hash of the key. Nothing rests on which it is.
 fn slot_of(key: &Key, slots: usize) -> usize {
-    let mut mixed = 0x811c_9dc5u32;
+    let mut mixed = FNV_BASIS;
     for byte in key.bytes() {
-        mixed = (mixed ^ u32::from(*byte)).wrapping_mul(0x0100_0193);
+        mixed = (mixed ^ u32::from(*byte)).wrapping_mul(FNV_PRIME);
     }
     let spread = (mixed ^ (mixed >> 15)) as usize;
     if slots == 0 { 0 } else { spread % slots }
