@@ -1,5 +1,5 @@
-//! Tests of the public calls of the parts that play the protocol: fates and flows of frames, rounds, acceptors, proposers and their
-//! promises, and the record. They stand in a crate of their own, so that each part is proved once.
+//! Tests of the public calls of the parts that play the protocol: fates and flows of frames, rounds, acceptors, and proposers and their
+//! promises. They stand in a crate of their own, so that each part is proved once.
 //!
 //! Nothing here runs in the program, and nothing here tells what a value or a disk is.
 #![tactic(auto)]
@@ -13,10 +13,6 @@ mod fate;
 #[cfg(test)]
 mod flow;
 #[cfg(test)]
-mod operator;
-#[cfg(test)]
 mod proposer;
-#[cfg(test)]
-mod record;
 #[cfg(test)]
 mod round;
