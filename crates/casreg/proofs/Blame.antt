@@ -112,4 +112,4 @@ blamed meant m words P input old new rack result back (wrong_words same) = tt
 blamed meant m words P input old new rack result back (no_words_read same) = tt
 blamed meant m words P input old new rack result back (not_empty fault is same) = rack_blamed m rack back fault is
 blamed meant m words P input old new rack result back (not_opened {asked = asked} options fault are empty closed same) = opening_blamed m options.acceptors options.proposers rack asked back fault empty closed
-blamed meant m words P input old new rack result back (ran options world are empty over run) = ran_blamed meant m options.tries P input old new _ run.last rack back result run.wrote
+blamed meant m words P input old new rack result back (ran options world are empty over run done) = ran_blamed meant m options.tries P input old new _ run.last rack back result run.wrote

@@ -1,3 +1,4 @@
+pub mod Along
 pub mod Blame
 pub mod Runs
 pub mod Scripts

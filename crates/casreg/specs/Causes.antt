@@ -17,6 +17,7 @@ use Rattle.cas_rack.specs.declared.rack.RackFault.{RackFault}
 use Rattle.cas_cluster.specs.View.{Meaning, View, IsAt}
 use Rattle.cas_script.specs.Script.{State, LineAnswer, ScriptRun, IsIn, opening_state, transcript_of}
 use Rattle.cas_script.specs.Stage.{Stage}
+use Rattle.cas_undisturbed.specs.Runs.{AreDoneWhereReady}
 use Rattle.casreg.specs.declared.status.Status.{Status}
 use Rattle.casreg.specs.declared.status.Status.TheVariants as status
 use Rattle.casreg.specs.declared.words.Options.{Options}
@@ -142,10 +143,23 @@ pub record Ran {D : Type 0} (meant : Meaning (DiskShelf D) D) (tells : Type 0) (
   pub legal : tells → IsLegal (reverse last.world.marks)
   pub rack : IsRackOf last.world back
 
+-- Along the run whose answers, or a front of them, were written, each change line that nothing stood against was answered done, or that
+-- there was no memory, where the members and its proposer were up after it.
+abbrev pub AreDoneAlong : {D : Type 0} {meant : Meaning (DiskShelf D) D} {tells : Type 0} {tries : ℕ} {HadEnded : List (List ℕ) → Type 0} {input old new : Option (List ℕ)} {world : View (DiskShelf D) D} {back : Rack D} (result : Status) → Ran meant tells tries HadEnded input old new world result back → Type 0
+AreDoneAlong {meant = meant} status.Ok by = AreDoneWhereReady meant by.wrote.run
+AreDoneAlong status.Usage by = ⊥
+AreDoneAlong {meant = meant} status.ReadFault by = AreDoneWhereReady meant by.wrote.run
+AreDoneAlong {meant = meant} status.WriteFault by = AreDoneWhereReady meant by.wrote.run
+AreDoneAlong (status.NotEmpty disk) by = ⊥
+AreDoneAlong (status.DiskFault disk) by = ⊥
+AreDoneAlong {meant = meant} status.TooManyLines by = AreDoneWhereReady meant by.wrote.run
+AreDoneAlong {meant = meant} status.NoMemory by = AreDoneWhereReady meant by.wrote.run
+AreDoneAlong {meant = meant} (status.Endless line) by = AreDoneWhereReady meant by.wrote.run
+
 -- ---- all of it
 -- What was written by the end, and the rack that comes back: nothing, where the words are none of a command, where there was no memory,
 -- where a disk is not known to be empty, or where the store did not open; or what a run wrote, from a new world over the rack on to one
--- whose record is legal.
+-- whose record is legal, and along which was done what nothing stood against.
 pub data Wrote {D : Type 0} (meant : Meaning (DiskShelf D) D) (m : RackMeaning D) (words : List (List ℕ)) (HadEnded : List (List ℕ) → Type 0) (input old new : Option (List ℕ)) (rack : Rack D) : Status → Rack D → Type 0 where
   wrong_words : new ≡ old → Wrote meant m words HadEnded input old new rack status.Usage rack
   no_words_read : new ≡ old → Wrote meant m words HadEnded input old new rack status.NoMemory rack
@@ -153,4 +167,4 @@ pub data Wrote {D : Type 0} (meant : Meaning (DiskShelf D) D) (m : RackMeaning D
   not_opened : {asked back : Rack D} (options : Options) (fault : OpenFault) → AreWords words options → IsAllEmpty m rack asked
       → StaysClosed m.faults options.acceptors options.proposers asked.acceptors.items asked.vaults.items fault back.acceptors.items back.vaults.items → new ≡ old → Wrote meant m words HadEnded input old new rack (status_of_opening fault) back
   ran : {asked back : Rack D} {result : Status} (options : Options) (world : View (DiskShelf D) D) → AreWords words options → IsAllEmpty m rack asked → IsNewOver meant options asked world
-      → Ran meant m.tells options.tries HadEnded input old new world result back → Wrote meant m words HadEnded input old new rack result back
+      → (by : Ran meant m.tells options.tries HadEnded input old new world result back) → AreDoneAlong result by → Wrote meant m words HadEnded input old new rack result back

@@ -43,8 +43,9 @@ pub fn cluster<R, S: Source, K: Sink, D: Disk + Drop>(
     requires acceptors { vec_len rack.acceptors ≡ 64 }
     requires vaults { vec_len rack.vaults ≡ 17 }
     // What was written is the transcript of a script run over the lines of the input, in a new world over the rack's disks; the record of
-    // that run is legal, and the rack that comes back holds the disks of its last world. Where the source failed these are all lines that
-    // had ended by then, and no others.
+    // that run is legal, along it each change line that nothing stood against was answered done, or that there was no memory, where the
+    // members and its proposer were up after it, and the rack that comes back holds the disks of its last world. Where the source failed
+    // these are all lines that had ended by then, and no others.
     ensures wrote { Wrote (meaning ⟦<DiskShelf<D> as Shelf>⟧.contents ⟦<DiskShelf<D> as Shelf>⟧.tells ⟦<DiskShelf<D> as Shelf>⟧.may_leave ⟦<DiskShelf<D> as Shelf>⟧.fault_count D.tells D.may_leave D.fault_count) (rack_meaning D.tells D.seen D.may_leave D.fault_count)
         (map string_bytes words.now) (FailsBehind S.take_gives source.old source.new) (S.remaining source.old) (K.contents sink.old) (K.contents sink.new) rack result.0 result.1 }
     ensures causes { Causes (map string_bytes words.now) (S.remaining source.old)

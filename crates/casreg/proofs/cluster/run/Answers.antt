@@ -2,7 +2,7 @@ use Rattle.cas_cluster.specs.View.{meaning}
 use Rattle.cas_disk_shelf.specs.Shelf.{disk_of, contents_of, MayLeave}
 use Rattle.cas_disk_shelf.specs.declared.shelf.DiskShelf.{DiskShelf}
 use Rattle.cas_rack.specs.Rack.{rack_meaning}
-use Rattle.casreg.specs.Causes.{ran}
+use Rattle.casreg.proofs.Along.{ran_over}
 use Rattle.casreg.proofs.Written.{wrote_not_empty, wrote_not_opened}
 use Rattle.cas_script.proofs.Opened.{new_idle}
 use Rattle.casreg.proofs.cluster.run.Goals as goal
@@ -14,7 +14,7 @@ pub run_script-requires-clause-idle : goal.run_script-requires-clause-idle
 run_script-requires-clause-idle g c = new_idle _ _ c.in-Ok.store.world c.in-Ok.ensures.opening c.in-Ok.ensures.places
 
 pub returns-in-Ok-clause-wrote : goal.returns-in-Ok-clause-wrote
-returns-in-Ok-clause-wrote g c words are = ran c.args.options c.in-Ok.store.world are c.in_default.ensures.ok
+returns-in-Ok-clause-wrote g c words are = ran_over c.args.options c.in-Ok.store.world are c.in_default.ensures.ok
     (record { opening = c.in-Ok.ensures.opening; places = c.in-Ok.ensures.places; greatest = c.in-Ok.ensures.greatest; acceptors = c.in-Ok.ensures.acceptors; vaults = c.in-Ok.ensures.vaults }) c.run_script.ensures.ran
 
 pub returns-in-Err-open-clause-wrote : goal.returns-in-Err-open-clause-wrote
