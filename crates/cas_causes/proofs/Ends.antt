@@ -15,7 +15,7 @@ use Rattle.cas_round.specs.declared.verdict.RoundVerdict.TheVariants.{Quorum}
 use Rattle.cas_slot.specs.declared.message.Reply.{Reply}
 use Rattle.cas_cluster.specs.Step.{OpenCallAt}
 use Rattle.cas_cluster.specs.StepCalls as calls
-use Rattle.cas_cluster.specs.View.{Meaning, View, CallView, CallerView, IsAt, new_call}
+use Rattle.cas_cluster.specs.View.{Meaning, View, CallView, CallerView, IsAt, new_call, era_at}
 use Rattle.cas_cluster.proofs.Places.{at_one, at_set, some_is}
 use Rattle.cas_causes.specs.Causes.{IsTold, BeginsOne, prepares, accepts, begins_none, PrepareEnds, proposes, refuses, vault_fails, no_memory, AcceptEnds, done, unsettled, RoundsBeginAfresh, PreparesEndByReplies, AcceptsEndByReplies}
 use Rattle.cas_causes.specs.Rounds.{Brings, nothing, one, RoundSteps, none, one_more, PreparesWith, AcceptsWith}
@@ -126,7 +126,7 @@ accepts_end {S} {V} m first_ mid new id prepared replies round was steps by =
 -- a call that was opened, or tries once more, was told nothing yet
 not_told : {S V : Type 0} (old middle : View S V) (id : ℕ) (key : List ℕ) (program : List Clause) → calls.Opens old id key program middle → (caller : CallerView) (call : CallView) → IsAt middle.callers id caller → caller.call ≡ Some call → call.told ≡ None
 not_told {S} {V} old middle id key program (calls.first was at none_open room is) caller call there is_call =
-    let made : CallView = new_call key program (calls.round_marks old.era - 1) in
+    let made : CallView = new_call key program (calls.round_marks (era_at old id) - 1) in
     let next : CallerView = record { number = suc was.number; call = Some made } in
     let same : next ≡ caller = at_one middle.callers id (subst (λ (l : List CallerView). IsAt l id next) (sym (ap (λ (w : View S V). w.callers) is)) (at_set old.callers id was next at)) there in
     ap (λ (c : CallView). c.told) (some_is (sym is_call ∙ ap (λ (c : CallerView). c.call) (sym same)))

@@ -34,7 +34,7 @@ use Rattle.cas_cluster.specs.History.{IsRemembered}
 use Rattle.cas_cluster.specs.Parties.{WereMade, WasMade, IsOpenTrue, IsPrepareTrue, IsAcceptTrue}
 use Rattle.cas_cluster.specs.Step.{Step, Begin, Propose, Count, OpenCallAt}
 use Rattle.cas_cluster.specs.StepCalls as calls
-use Rattle.cas_cluster.specs.View.{Meaning, View, CallView, CallerView, IsAt, new_call, new_caller, reserved_of}
+use Rattle.cas_cluster.specs.View.{Meaning, View, CallView, CallerView, IsAt, new_call, new_caller, reserved_of, era_at}
 use Rattle.cas_cluster.proofs.Places.{at_one, at_set, set_set, some_is}
 use Rattle.cas_causes.specs.Causes.{IsTold}
 use Rattle.cas_causes.specs.Told.{HasVerdict, BeginsBy, PreparesBy, AcceptsBy, TellsAbove, AnswersHaveCauses, WhatIsMetIsAbove}
@@ -54,18 +54,18 @@ record IsOpened {S V : Type 0} (old middle : View S V) (id : ℕ) (key : List �
   pub desks : middle.desks ≡ old.desks
   pub same_key : call.key ≡ key
   pub told : call.told ≡ None
-  pub full : calls.IsFull middle id → suc call.reserved < calls.round_marks middle.era → calls.IsFull old id
+  pub full : calls.IsFull middle id → suc call.reserved < calls.round_marks (era_at middle id) → calls.IsFull old id
 
 is_opened : {S V : Type 0} (old middle : View S V) (id : ℕ) (key : List ℕ) (program : List Clause) → calls.Opens old id key program middle → (caller : CallerView) (call : CallView) → IsAt middle.callers id caller → caller.call ≡ Some call → IsOpened old middle id key call
 is_opened {S} {V} old middle id key program (calls.first was at none_open room is) caller call there is_call =
-    let made : CallView = new_call key program (calls.round_marks old.era - 1) in
+    let made : CallView = new_call key program (calls.round_marks (era_at old id) - 1) in
     let next : CallerView = record { number = suc was.number; call = Some made } in
     let same : next ≡ caller = at_one middle.callers id (subst (λ (l : List CallerView). IsAt l id next) (sym (ap (λ (w : View S V). w.callers) is)) (at_set old.callers id was next at)) there in
     let made_is : made ≡ call = some_is (ap (λ (c : CallerView). c.call) same ∙ is_call) in record {
       desks = ap (λ (w : View S V). w.desks) is;
       same_key = sym (ap (λ (c : CallView). c.key) made_is);
       told = sym (ap (λ (c : CallView). c.told) made_is);
-      full = λ full short. absurd (too_short (calls.round_marks old.era) (calls.round_marks middle.era) call.reserved (ap (λ (w : View S V). calls.round_marks w.era) is) (sym (ap (λ (c : CallView). c.reserved) made_is)) short);
+      full = λ full short. absurd (too_short (calls.round_marks (era_at old id)) (calls.round_marks (era_at middle id)) call.reserved (ap (λ (w : View S V). calls.round_marks (era_at w id)) is) (sym (ap (λ (c : CallView). c.reserved) made_is)) short);
     }
   where
     too_short : (marks marks_then reserved : ℕ) → marks_then ≡ marks → reserved ≡ marks - 1 → suc reserved < marks_then → ⊥
@@ -86,7 +86,7 @@ is_opened {S} {V} old middle id key program (calls.again was open_call reserved 
         let callers_is : slice_set middle.callers id new_caller ≡ slice_set old.callers id new_caller =
         ap (λ (w : View S V). slice_set w.callers id new_caller) is ∙ set_set old.callers id (record was { call = Some (calls.tried_again open_call reserved) }) new_caller in
         let marks_is : length middle.marks ≡ length old.marks = ap (λ (w : View S V). length w.marks) is in
-        let era_is : calls.round_marks middle.era ≡ calls.round_marks old.era = ap (λ (w : View S V). calls.round_marks w.era) is in
+        let era_is : calls.round_marks (era_at middle id) ≡ calls.round_marks (era_at old id) = ap (λ (w : View S V). calls.round_marks (era_at w id)) is in
         let reserved_is : reserved_of (slice_set middle.callers id new_caller) ≡ reserved_of (slice_set old.callers id new_caller) = ap reserved_of callers_is in
         omega (arith, full, marks_is, era_is, reserved_is)
 
@@ -95,7 +95,7 @@ old_desk : {S V : Type 0} (old middle : View S V) (id : ℕ) (desk : DeskView V)
 old_desk {S} {V} old middle id desk same at = subst (λ (l : List (DeskView V)). IsAt l id desk) same at
 
 stays_by : {S V : Type 0} (m : Meaning S V) (old middle new : View S V) (id : ℕ) (key : List ℕ) (call : CallView) (told : Answer) → IsOpened old middle id key call → calls.IsNoBeginning told
-    → ((desk : DeskView V) → IsAt middle.desks id desk → (desk.round ≡ None) × (told ≡ answer.Down → desk.down ≡ true)) → (told ≡ answer.RecordFull → calls.IsFull middle id × (suc call.reserved < calls.round_marks middle.era)) → BeginsBy m old id key told new
+    → ((desk : DeskView V) → IsAt middle.desks id desk → (desk.round ≡ None) × (told ≡ answer.Down → desk.down ≡ true)) → (told ≡ answer.RecordFull → calls.IsFull middle id × (suc call.reserved < calls.round_marks (era_at middle id))) → BeginsBy m old id key told new
 stays_by {S} {V} m old middle new id key call answer.Down is no_beginning desks full = λ desk at. (desks desk (subst (λ (l : List (DeskView V)). IsAt l id desk) (sym is.desks) at)).1 refl
 stays_by m old middle new id key call answer.RecordFull is no_beginning desks full = is.full (full refl).0 (full refl).1
 stays_by m old middle new id key call (answer.NoMemory proposed) is no_beginning desks full = no_beginning
@@ -244,7 +244,7 @@ met_above {S} {V} m shelves_tell disks_tell view id caller desk round met is at_
     in_phase call (inr accept) =
         heard_above is.cluster log is_accept round.ballot met accept.replies is.history.orderly accept.replied (λ p e. inr e) ((verdict_is.accept accept.prepared accept.replies accept.accepting).1.stands)
 
-    by_round : (open_ : Option Round) → open_ ≡ Some round → IsOpenTrue is.cluster log is.global.made id view.era.number caller (queue_at view.flow id).messages open_ → BallotLess round.ballot met
+    by_round : (open_ : Option Round) → open_ ≡ Some round → IsOpenTrue is.cluster log is.global.made id (era_at view id).number caller (queue_at view.flow id).messages open_ → BallotLess round.ballot met
     by_round None e of = absurd (cc e)
     by_round (Some other) e of = in_phase of.call (subst (λ (r : Round). IsPrepareTrue log id of.call (queue_at view.flow id).messages r ⊎ IsAcceptTrue log is.global.made id caller.number of.call (queue_at view.flow id).messages r) (some_is e) of.phase)
 

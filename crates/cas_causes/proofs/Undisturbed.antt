@@ -36,7 +36,7 @@ use Rattle.cas_cluster.specs.Step.{OpenCallAt, OpenRoundAt}
 use Rattle.cas_cluster.specs.StepCalls as calls
 use Rattle.cas_cluster.specs.StepCalls.{refusal_by, cause_by, prepares_to, accepts_to}
 use Rattle.cas_cluster.specs.StepDesks.{TurnsWith}
-use Rattle.cas_cluster.specs.View.{Meaning, View, CallView, CallerView, IsAt}
+use Rattle.cas_cluster.specs.View.{Meaning, View, CallView, CallerView, IsAt, era_at}
 use Rattle.cas_cluster.proofs.Harms.{member_has, has_map_of}
 use Rattle.cas_cluster.proofs.Places.{at_one, at_set, some_is, contains_none}
 use Rattle.cas_cluster.proofs.SafeCalls.{opens_safe}
@@ -282,7 +282,7 @@ begin_to_ask {S} {V} m old new id key program safe by = in_round by.begins
 
     -- nothing waits at a desk that has no open round
     empty : (desk : DeskView V) → IsAt by.middle.desks id desk → desk.round ≡ None → (queue_at by.middle.flow id).messages ≡ []
-    empty desk at none_open = (idle_at by.middle.era by.caller (queue_at by.middle.flow id) desk.round none_open (middle_safe.parties id desk by.caller at by.at_caller).round).none_waits
+    empty desk at none_open = (idle_at (era_at by.middle id) by.caller (queue_at by.middle.flow id) desk.round none_open (middle_safe.parties id desk by.caller at by.at_caller).round).none_waits
 
     asks : (desk : DeskView V) (messages : List Message) (flow : FlowView) → IsAt by.middle.desks id desk → desk.round ≡ None → calls.Sends by.middle.flow id messages flow → new.flow ≡ flow → (queue_at new.flow id).messages ≡ messages
     asks desk messages flow at none_open sends is = ap (λ (f : FlowView). (queue_at f id).messages) is ∙ sends.own ∙ ap (λ (l : List Message). l ++ messages) (empty desk at none_open)
@@ -293,7 +293,7 @@ begin_to_ask {S} {V} m old new id key program safe by = in_round by.begins
     in_round : calls.BeginsRound m by.middle id by.caller by.call new → BeginsToAsk new id
     in_round (calls.prepares desk now ballot round flow at up few begins sends is) =
         begins_to_prepare new id (kept_of desk.vault).age now round (desk_by by.middle new id desk now at (ap (λ (w : View S V). w.desks) is)) (ap (λ (d : DeskView V). d.round) begins.desk) begins.opened.1
-        (asks desk _ flow at begins.none_open sends (ap (λ (w : View S V). w.flow) is) ∙ asked_about id (kept_of desk.vault).age by.call.key by.middle.era ballot round begins.opened.0)
+        (asks desk _ flow at begins.none_open sends (ap (λ (w : View S V). w.flow) is) ∙ asked_about id (kept_of desk.vault).age by.call.key (era_at by.middle id) ballot round begins.opened.0)
     in_round (calls.proposes desk now ready ride round outcome flow at up few begins made sends is) =
         begins_to_accept new id (kept_of desk.vault).age now (record round { ride = ride }) outcome (desk_by by.middle new id desk now at (ap (λ (w : View S V). w.desks) is)) (ap (λ (d : DeskView V). d.round) begins.desk) (ridden [] [] round ride begins.opened.1)
         (proposed_by by.middle new id by.caller by.call outcome by.at_caller (ap (λ (w : View S V). w.callers) is)) (asks desk _ flow at begins.none_open sends (ap (λ (w : View S V). w.flow) is))

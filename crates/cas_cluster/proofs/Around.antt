@@ -1,12 +1,13 @@
 -- What stays as it was while others go on: the desks and callers apart from those who act, the frames under way, and the acceptors. So a
 -- step of one proposer has to tell what becomes of its own desk, caller and frames alone.
 use Rattle.std.proofs.Common.{◌≡◌, ◌≤◌, ℕ, List, ◌∷◌, reverse, refl, sym, subst, ◌∙◌, inl, inr}
-use Rattle.std.specs.Prelude.{⊤, ◌⊎◌, slice_set}
+use Rattle.std.specs.Prelude.{⊤, ◌⊎◌, [], slice_set, slice_index_or}
 use Rattle.cas_flow.specs.Flow.{FlowView, queue_at}
 use Rattle.cas_flow.specs.declared.message.Message.{Message}
 use Rattle.cas_acceptor.specs.Acceptor.{AcceptorView}
 use Rattle.cas_proposer.specs.Desk.{DeskView}
 use Rattle.cas_quorum.specs.declared.era.Era.{Era}
+use Rattle.cas_quorum.specs.Era.{majority_era}
 use Rattle.cas_slot.specs.Contents.{Contents}
 use Rattle.cas_record.specs.declared.mark.Mark.{Mark}
 use Rattle.cas_record.specs.Happening.{Happening, marks_of}
@@ -17,7 +18,7 @@ use Rattle.cas_cluster.specs.Acceptors.{IsElsewhere}
 use Rattle.cas_cluster.specs.History.{AgreesWith, IsRemembered}
 use Rattle.cas_cluster.specs.Parties.{IsAcceptorTrue, AreMessagesTrue, IsEraOf, IsDeskTrue, IsCallerTrue}
 use Rattle.cas_cluster.specs.Protocol.{Made, GlobalState, HasHistory}
-use Rattle.cas_cluster.specs.View.{Meaning, View, CallerView, IsAt}
+use Rattle.cas_cluster.specs.View.{Meaning, View, CallerView, IsAt, era_at, era_in}
 use Rattle.cas_cluster.proofs.Others.{IsOfOthers, messages_still, desk_still, caller_still, calls_of_others, acceptor_still, desk_more, caller_more}
 use Rattle.cas_cluster.proofs.Places.{same_or_not, other_set}
 
@@ -26,9 +27,9 @@ use Rattle.cas_cluster.proofs.Places.{same_or_not, other_set}
 pub record Parties {S V : Type 0} (m : Meaning S V) (cluster : Cluster) (log : List Happening) (all : List Made) (view : View S V) (These : ℕ → Type 0) : Type 0 where
   pub greatest : cluster.greatest ≡ view.greatest
   pub few : view.greatest ≤ 16
-  pub era : IsEraOf cluster view.era
+  pub eras : (p : ℕ) → p ≤ view.greatest → IsEraOf cluster (era_at view p)
   pub desks : (p : ℕ) → These p → (desk : DeskView V) (caller : CallerView) → IsAt view.desks p desk → IsAt view.callers p caller
-      → IsDeskTrue m cluster log all view.era.number p caller (queue_at view.flow p).messages desk
+      → IsDeskTrue m cluster log all (era_at view p).number p caller (queue_at view.flow p).messages desk
   pub callers : (p : ℕ) → These p → (caller : CallerView) → IsAt view.callers p caller → IsCallerTrue log all p caller
   pub own : (p : ℕ) → AreMessagesTrue log (queue_at view.flow p).messages
   pub late : AreMessagesTrue log view.flow.late
@@ -37,7 +38,7 @@ pub parties_of : {S V : Type 0} (m : Meaning S V) (cluster : Cluster) (global : 
 parties_of m cluster global view These is = record {
   greatest = is.greatest;
   few = is.few;
-  era = is.era;
+  eras = is.eras;
   desks = λ p these desk caller at_desk at_caller. is.desks p desk caller at_desk at_caller;
   callers = λ p these caller at. is.callers p caller at;
   own = is.own;
@@ -50,8 +51,8 @@ pub parties_more : {S V : Type 0} (m : Meaning S V) (cluster : Cluster) (log : L
 parties_more m cluster log all view These h orderly of was = record {
   greatest = was.greatest;
   few = was.few;
-  era = was.era;
-  desks = λ p these desk caller at_desk at_caller. desk_still m cluster h log all view.era.number p caller (queue_at view.flow p).messages desk orderly (of p these) (was.desks p these desk caller at_desk at_caller);
+  eras = was.eras;
+  desks = λ p these desk caller at_desk at_caller. desk_still m cluster h log all (era_at view p).number p caller (queue_at view.flow p).messages desk orderly (of p these) (was.desks p these desk caller at_desk at_caller);
   callers = λ p these caller at. caller_still h log all caller (calls_of_others h p (of p these)) (was.callers p these caller at);
   own = λ p. messages_still h log (queue_at view.flow p).messages (was.own p);
   late = messages_still h log view.flow.late was.late;
@@ -63,8 +64,8 @@ parties_made : {S V : Type 0} (m : Meaning S V) (cluster : Cluster) (log : List 
 parties_made m cluster log all more view These grows was = record {
   greatest = was.greatest;
   few = was.few;
-  era = was.era;
-  desks = λ p these desk caller at_desk at_caller. desk_more m cluster log view.era.number p caller (queue_at view.flow p).messages desk grows (was.desks p these desk caller at_desk at_caller);
+  eras = was.eras;
+  desks = λ p these desk caller at_desk at_caller. desk_more m cluster log (era_at view p).number p caller (queue_at view.flow p).messages desk grows (was.desks p these desk caller at_desk at_caller);
   callers = λ p these caller at. caller_more log caller grows (was.callers p these caller at);
   own = was.own;
   late = was.late;
@@ -72,15 +73,15 @@ parties_made m cluster log all more view These grows was = record {
 
 -- a view with the same desks, callers and frames
 pub parties_seen : {S V : Type 0} (m : Meaning S V) (cluster : Cluster) (log : List Happening) (all : List Made) (old new : View S V) (These : ℕ → Type 0)
-    → new.greatest ≡ old.greatest → new.era ≡ old.era → new.desks ≡ old.desks → new.callers ≡ old.callers → new.flow ≡ old.flow
+    → new.greatest ≡ old.greatest → new.eras ≡ old.eras → new.desks ≡ old.desks → new.callers ≡ old.callers → new.flow ≡ old.flow
     → Parties m cluster log all old These → Parties m cluster log all new These
-parties_seen {S} {V} m cluster log all old new These greatest era desks callers flow was = record {
+parties_seen {S} {V} m cluster log all old new These greatest eras desks callers flow was = record {
   greatest = was.greatest ∙ sym greatest;
   few = subst (λ (n : ℕ). n ≤ 16) (sym greatest) was.few;
-  era = subst (IsEraOf cluster) (sym era) was.era;
+  eras = λ p low. subst (λ (l : List Era). IsEraOf cluster (era_in l p)) (sym eras) (was.eras p (subst (λ (n : ℕ). p ≤ n) greatest low));
   desks = λ p these desk caller at_desk at_caller.
-      subst (λ (e : Era). IsDeskTrue m cluster log all e.number p caller (queue_at new.flow p).messages desk) (sym era)
-      (subst (λ (f : FlowView). IsDeskTrue m cluster log all old.era.number p caller (queue_at f p).messages desk) (sym flow)
+      subst (λ (l : List Era). IsDeskTrue m cluster log all (era_in l p).number p caller (queue_at new.flow p).messages desk) (sym eras)
+      (subst (λ (f : FlowView). IsDeskTrue m cluster log all (era_at old p).number p caller (queue_at f p).messages desk) (sym flow)
       (was.desks p these desk caller (subst (λ (l : List (DeskView V)). IsAt l p desk) desks at_desk) (subst (λ (l : List CallerView). IsAt l p caller) callers at_caller)));
   callers = λ p these caller at. was.callers p these caller (subst (λ (l : List CallerView). IsAt l p caller) callers at);
   own = λ p. subst (λ (f : FlowView). AreMessagesTrue log (queue_at f p).messages) (sym flow) (was.own p);
@@ -116,7 +117,7 @@ remembered m cluster global view whole marks = record {
     marks = marks;
     greatest = whole.parties.greatest;
     few = whole.parties.few;
-    era = whole.parties.era;
+    eras = whole.parties.eras;
     acceptors = whole.acceptors;
     desks = λ id desk caller at_desk at_caller. whole.parties.desks id tt desk caller at_desk at_caller;
     callers = λ id caller at. whole.parties.callers id tt caller at;
@@ -141,7 +142,7 @@ around m cluster global view id whole = record {
   parties = record {
     greatest = whole.parties.greatest;
     few = whole.parties.few;
-    era = whole.parties.era;
+    eras = whole.parties.eras;
     desks = λ p other desk caller at_desk at_caller. whole.parties.desks p tt desk caller at_desk at_caller;
     callers = λ p other caller at. whole.parties.callers p tt caller at;
     own = whole.parties.own;
@@ -179,7 +180,7 @@ around_made m cluster log kept all more view id h of grows was history = record 
 -- what a step of the proposer leaves alone
 pub record Leaves {S V : Type 0} (old new : View S V) (id : ℕ) : Type 0 where
   pub greatest : new.greatest ≡ old.greatest
-  pub era : new.era ≡ old.era
+  pub eras : new.eras ≡ old.eras
   pub acceptors : new.acceptors ≡ old.acceptors
   pub desks : (p : ℕ) (desk : DeskView V) → (p ≡ id → ⊥) → IsAt new.desks p desk → IsAt old.desks p desk
   pub callers : (p : ℕ) (caller : CallerView) → (p ≡ id → ⊥) → IsAt new.callers p caller → IsAt old.callers p caller
@@ -187,7 +188,7 @@ pub record Leaves {S V : Type 0} (old new : View S V) (id : ℕ) : Type 0 where
 
 -- and what becomes of the proposer
 pub record Becomes {S V : Type 0} (m : Meaning S V) (cluster : Cluster) (global : GlobalState) (view : View S V) (id : ℕ) : Type 0 where
-  pub desk : (desk : DeskView V) (caller : CallerView) → IsAt view.desks id desk → IsAt view.callers id caller → IsDeskTrue m cluster global.log global.made view.era.number id caller (queue_at view.flow id).messages desk
+  pub desk : (desk : DeskView V) (caller : CallerView) → IsAt view.desks id desk → IsAt view.callers id caller → IsDeskTrue m cluster global.log global.made (era_at view id).number id caller (queue_at view.flow id).messages desk
   pub caller : (caller : CallerView) → IsAt view.callers id caller → IsCallerTrue global.log global.made id caller
   pub own : AreMessagesTrue global.log (queue_at view.flow id).messages
   pub late : AreMessagesTrue global.log view.flow.late
@@ -201,7 +202,7 @@ settles {S} {V} m cluster global old new id rest leaves becomes = record {
   parties = record {
     greatest = rest.parties.greatest ∙ sym leaves.greatest;
     few = subst (λ (n : ℕ). n ≤ 16) (sym leaves.greatest) rest.parties.few;
-    era = subst (IsEraOf cluster) (sym leaves.era) rest.parties.era;
+    eras = λ p low. subst (λ (l : List Era). IsEraOf cluster (era_in l p)) (sym leaves.eras) (rest.parties.eras p (subst (λ (n : ℕ). p ≤ n) leaves.greatest low));
     desks = λ p these desk caller at_desk at_caller. at_desks p desk caller at_desk at_caller (same_or_not p id);
     callers = λ p these caller at. at_callers p caller at (same_or_not p id);
     own = λ p. at_own p (same_or_not p id);
@@ -210,13 +211,13 @@ settles {S} {V} m cluster global old new id rest leaves becomes = record {
 }
   where
     at_desks : (p : ℕ) (desk : DeskView V) (caller : CallerView) → IsAt new.desks p desk → IsAt new.callers p caller → (p ≡ id) ⊎ (p ≡ id → ⊥)
-        → IsDeskTrue m cluster global.log global.made new.era.number p caller (queue_at new.flow p).messages desk
+        → IsDeskTrue m cluster global.log global.made (era_at new p).number p caller (queue_at new.flow p).messages desk
     at_desks p desk caller at_desk at_caller (inl same) =
-        subst (λ (q : ℕ). IsDeskTrue m cluster global.log global.made new.era.number q caller (queue_at new.flow q).messages desk) (sym same)
+        subst (λ (q : ℕ). IsDeskTrue m cluster global.log global.made (era_at new q).number q caller (queue_at new.flow q).messages desk) (sym same)
         (becomes.desk desk caller (subst (λ (q : ℕ). IsAt new.desks q desk) same at_desk) (subst (λ (q : ℕ). IsAt new.callers q caller) same at_caller))
     at_desks p desk caller at_desk at_caller (inr other) =
-        subst (λ (e : Era). IsDeskTrue m cluster global.log global.made e.number p caller (queue_at new.flow p).messages desk) (sym leaves.era)
-        (subst (λ (l : List Message). IsDeskTrue m cluster global.log global.made old.era.number p caller l desk) (sym (leaves.own p other))
+        subst (λ (l : List Era). IsDeskTrue m cluster global.log global.made (era_in l p).number p caller (queue_at new.flow p).messages desk) (sym leaves.eras)
+        (subst (λ (l : List Message). IsDeskTrue m cluster global.log global.made (era_at old p).number p caller l desk) (sym (leaves.own p other))
         (rest.parties.desks p other desk caller (leaves.desks p desk other at_desk) (leaves.callers p caller other at_caller)))
 
     at_callers : (p : ℕ) (caller : CallerView) → IsAt new.callers p caller → (p ≡ id) ⊎ (p ≡ id → ⊥) → IsCallerTrue global.log global.made p caller
@@ -232,7 +233,7 @@ pub leaves_both : {S V : Type 0} (old : View S V) (id : ℕ) (desk : DeskView V)
     → Leaves old (record old { desks = slice_set old.desks id desk; callers = slice_set old.callers id caller; flow = flow; marks = marks }) id
 leaves_both old id desk caller flow marks others = record {
   greatest = refl;
-  era = refl;
+  eras = refl;
   acceptors = refl;
   desks = λ p d other at. other_set old.desks id desk p d other at;
   callers = λ p c other at. other_set old.callers id caller p c other at;
@@ -243,7 +244,7 @@ pub leaves_desk : {S V : Type 0} (old : View S V) (id : ℕ) (desk : DeskView V)
     → Leaves old (record old { desks = slice_set old.desks id desk; flow = flow }) id
 leaves_desk old id desk flow others = record {
   greatest = refl;
-  era = refl;
+  eras = refl;
   acceptors = refl;
   desks = λ p d other at. other_set old.desks id desk p d other at;
   callers = λ p c other at. at;
@@ -254,7 +255,7 @@ pub leaves_caller : {S V : Type 0} (old : View S V) (id : ℕ) (caller : CallerV
     → Leaves old (record old { callers = slice_set old.callers id caller; flow = flow; marks = marks }) id
 leaves_caller old id caller flow marks others = record {
   greatest = refl;
-  era = refl;
+  eras = refl;
   acceptors = refl;
   desks = λ p d other at. at;
   callers = λ p c other at. other_set old.callers id caller p c other at;

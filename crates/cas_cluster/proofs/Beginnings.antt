@@ -27,7 +27,7 @@ use Rattle.cas_cluster.specs.Parties.{AreMessagesTrue, IsEraOf, AreReady, HaveOn
 use Rattle.cas_cluster.specs.Protocol.{GlobalState}
 use Rattle.cas_cluster.specs.StepCalls.{Sends, prepares_to}
 use Rattle.cas_cluster.specs.StepDesks.{BeginsToPrepare, HasDrawn}
-use Rattle.cas_cluster.specs.View.{Meaning, View, CallView, CallerView, IsAt, with_desk}
+use Rattle.cas_cluster.specs.View.{Meaning, View, CallView, CallerView, IsAt, with_desk, era_at}
 use Rattle.cas_cluster.proofs.Around.{Whole, around, settles, leaves_desk}
 use Rattle.cas_cluster.proofs.Asks.{asked_log, asked_global, asked_around, asked_messages, asked_vault, asked_caller, asked_still, asked_hand, asked_ready, may_prepare}
 use Rattle.cas_cluster.proofs.Caches.{contains_without, ready_fewer, one_without, none_without}
@@ -81,34 +81,37 @@ not_accept {id} {age} {key} {k} {ballot} {b} {to} {request} {e} {asked} {state} 
 
 pub begins_to_prepare : {S V : Type 0} (m : Meaning S V) (cluster : Cluster) (global : GlobalState) (old : View S V) (id : ℕ) (caller : CallerView) (call : CallView) (desk now : DeskView V) (ballot : Ballot) (round : Round) (flow : FlowView)
     → m.disks.tells → IsAt old.callers id caller → caller.call ≡ Some call → call.proposed ≡ None → IsAt old.desks id desk
-    → BeginsToPrepare m.disks old.era call.key desk now ballot round → Sends old.flow id (prepares_to id (kept_of desk.vault).age call.key ballot old.era.prep) flow → Whole m cluster global old
-    → Whole m cluster (asked_global (drew global (Some ballot) call.key old.era.number) (prepare_request id (kept_of desk.vault).age call.key ballot) old.era.prep) (record (with_desk old id now) { flow = flow })
+    → BeginsToPrepare m.disks (era_at old id) call.key desk now ballot round → Sends old.flow id (prepares_to id (kept_of desk.vault).age call.key ballot (era_at old id).prep) flow → Whole m cluster global old
+    → Whole m cluster (asked_global (drew global (Some ballot) call.key (era_at old id).number) (prepare_request id (kept_of desk.vault).age call.key ballot) (era_at old id).prep) (record (with_desk old id now) { flow = flow })
 begins_to_prepare {S} {V} m cluster global old id caller call desk now ballot round flow tells at_caller is_open unproposed at_desk begins sends whole =
     let low : id ≤ 16 = omega (arith, of.known, whole.parties.greatest, whole.parties.few) in
     let after_draw = drew_around m cluster global old id call.key desk.vault now.vault (Some ballot) of.known drawn of.vault (around m cluster global old id whole) in
-    let after_asks = asked_around m cluster middle old id f old.era.prep (λ to. refl)
+    let after_asks = asked_around m cluster middle old id f (era_at old id).prep (λ to. refl)
     (λ rest to h. may_prepare cluster (asked_global middle f rest) (f to) id era call.key ballot refl refl
-    (whole.parties.era.prep_members to (has_member_of to old.era.prep h)) low (member_low old.era.prep to whole.parties.era.prep_set (has_member_of to old.era.prep h))
+    (era_is.prep_members to (has_member_of to (era_at old id).prep h)) low (member_low (era_at old id).prep to era_is.prep_set (has_member_of to (era_at old id).prep h))
     (asked_hand f rest middle.log id era call.key ballot hand)) after_draw in
-    settles m cluster (asked_global middle f old.era.prep) old (record (with_desk old id now) { flow = flow }) id after_asks
+    settles m cluster (asked_global middle f (era_at old id).prep) old (record (with_desk old id now) { flow = flow }) id after_asks
     (leaves_desk old id now _ (λ p other. ap (λ (q : QueueView). q.messages) (sends.others p other)))
     (record {
       desk = λ d c at_d at_c.
           subst (λ (x : DeskView V). IsDeskTrue m cluster log global.made era id c (queue_at flow id).messages x) (sym (own_set old.desks id now d at_d))
           (subst (λ (x : CallerView). IsDeskTrue m cluster log global.made era id x (queue_at flow id).messages now) (at_one old.callers id at_caller at_c) desk_true);
-      caller = λ c at_c. asked_caller f old.era.prep middle.log global.made id c (drew_caller global.log global.made id c call.key era (Some ballot) (whole.parties.callers id tt c at_c));
-      own = subst (AreMessagesTrue log) (sym waiting) (asked_messages f old.era.prep middle.log);
-      late = subst (AreMessagesTrue log) (sym sends.late) (asked_still f old.era.prep middle.log old.flow.late (drew_messages global.log old.flow.late call.key era (Some ballot) whole.parties.late));
+      caller = λ c at_c. asked_caller f (era_at old id).prep middle.log global.made id c (drew_caller global.log global.made id c call.key era (Some ballot) (whole.parties.callers id tt c at_c));
+      own = subst (AreMessagesTrue log) (sym waiting) (asked_messages f (era_at old id).prep middle.log);
+      late = subst (AreMessagesTrue log) (sym sends.late) (asked_still f (era_at old id).prep middle.log old.flow.late (drew_messages global.log old.flow.late call.key era (Some ballot) whole.parties.late));
     })
   where
     era : ℕ
-    era = old.era.number
+    era = (era_at old id).number
 
     f : ℕ → Request
     f = prepare_request id (kept_of desk.vault).age call.key ballot
 
     of : IsDeskTrue m cluster global.log global.made era id caller (queue_at old.flow id).messages desk
     of = whole.parties.desks id tt desk caller at_desk at_caller
+
+    era_is : IsEraOf cluster (era_at old id)
+    era_is = whole.parties.eras id (omega (arith, of.known, whole.parties.greatest))
 
     drawn : HasDrawn m.disks id desk.vault now.vault ballot
     drawn = subst (λ (i : ℕ). HasDrawn m.disks i desk.vault now.vault ballot) of.same_id begins.drawn
@@ -117,7 +120,7 @@ begins_to_prepare {S} {V} m cluster global old id caller call desk now ballot ro
     middle = drew global (Some ballot) call.key era
 
     log : List Happening
-    log = asked_log f old.era.prep middle.log
+    log = asked_log f (era_at old id).prep middle.log
 
     hand : IsInHand middle.log id era call.key ballot
     hand = drew_in_hand m cluster global id era call.key desk.vault now.vault ballot of.known drawn of.vault whole.history
@@ -125,8 +128,8 @@ begins_to_prepare {S} {V} m cluster global old id caller call desk now ballot ro
     none_waits : (queue_at old.flow id).messages ≡ []
     none_waits = subst (λ (r : Option Round). IsOpenTrue cluster global.log global.made id era caller (queue_at old.flow id).messages r) begins.none_open of.round
 
-    waiting : (queue_at flow id).messages ≡ prepares_to id (kept_of desk.vault).age call.key ballot old.era.prep
-    waiting = sends.own ∙ ap (λ (l : List Message). l ++ prepares_to id (kept_of desk.vault).age call.key ballot old.era.prep) none_waits
+    waiting : (queue_at flow id).messages ≡ prepares_to id (kept_of desk.vault).age call.key ballot (era_at old id).prep
+    waiting = sends.own ∙ ap (λ (l : List Message). l ++ prepares_to id (kept_of desk.vault).age call.key ballot (era_at old id).prep) none_waits
 
     round_true : IsRoundTrue cluster log global.made id era caller (queue_at flow id).messages round
     round_true = record {
@@ -135,14 +138,14 @@ begins_to_prepare {S} {V} m cluster global old id caller call desk now ballot ro
       same_key = begins.opened.0.of_key;
       own = ap (λ (b : Ballot). b.proposer) begins.opened.0.at ∙ hand.own;
       same_era = ap (λ (e : Era). e.number) begins.opened.0.in_era;
-      is_era = subst (IsEraOf cluster) (sym begins.opened.0.in_era) whole.parties.era;
+      is_era = subst (IsEraOf cluster) (sym begins.opened.0.in_era) era_is;
       phase = inl (record {
         unproposed = unproposed;
-        in_hand = hand_about log id call.key old.era ballot round begins.opened.0 (asked_hand f old.era.prep middle.log id era call.key ballot hand);
+        in_hand = hand_about log id call.key (era_at old id) ballot round begins.opened.0 (asked_hand f (era_at old id).prep middle.log id era call.key ballot hand);
         replies = [];
         preparing = begins.opened.1;
         made = λ reply has_it. absurd (contains_none has_it);
-        heard = subst (λ (l : List Message). IsPhaseHeard round [] l call.harmed) (sym waiting) (prepares_heard id (kept_of desk.vault).age call.key old.era ballot round call.harmed begins.opened.0 begins.opened.1);
+        heard = subst (λ (l : List Message). IsPhaseHeard round [] l call.harmed) (sym waiting) (prepares_heard id (kept_of desk.vault).age call.key (era_at old id) ballot round call.harmed begins.opened.0 begins.opened.1);
       });
     }
 
@@ -150,10 +153,10 @@ begins_to_prepare {S} {V} m cluster global old id caller call desk now ballot ro
     desk_true = record {
       same_id = ap (λ (d : DeskView V). d.id) begins.desk ∙ of.same_id;
       known = of.known;
-      vault = asked_vault m f old.era.prep middle.log id era now.vault (drew_vault m global.log id era call.key desk.vault now.vault (Some ballot) tells drawn of.vault);
+      vault = asked_vault m f (era_at old id).prep middle.log id era now.vault (drew_vault m global.log id era call.key desk.vault now.vault (Some ballot) tells drawn of.vault);
       cached = subst (AreReady cluster log global.made id era) (sym (ap (λ (d : DeskView V). d.cache) begins.desk))
           (ready_fewer cluster log global.made id era (without call.key desk.cache) desk.cache (λ entry h. contains_without call.key desk.cache h)
-          (asked_ready cluster f old.era.prep middle.log global.made id era desk.cache (λ to k ready has_it request e asked state now is. absurd (not_accept now is))
+          (asked_ready cluster f (era_at old id).prep middle.log global.made id era desk.cache (λ to k ready has_it request e asked state now is. absurd (not_accept now is))
           (drew_ready cluster global.log global.made id era desk.cache call.key (Some ballot) of.cached)));
       one_each = subst HaveOneEach (sym (ap (λ (d : DeskView V). d.cache) begins.desk)) (one_without call.key desk.cache of.one_each);
       none_open = subst (λ (d : DeskView V). HasNone d.round d.cache) (sym begins.desk)

@@ -26,7 +26,7 @@ use Rattle.cas_cluster.specs.History.{IsRemembered}
 use Rattle.cas_cluster.specs.Parties.{AreReady, IsOpenTrue, IsCallTrue, IsCallerTrue}
 use Rattle.cas_cluster.specs.Protocol.{Made, GlobalState, Begins}
 use Rattle.cas_cluster.specs.StepCalls.{round_marks, Opens, first, again, opened, tried_again, with_call}
-use Rattle.cas_cluster.specs.View.{Meaning, View, CallView, CallerView, IsAt, new_call}
+use Rattle.cas_cluster.specs.View.{Meaning, View, CallView, CallerView, IsAt, new_call, era_at}
 use Rattle.cas_cluster.proofs.Around.{Whole, around, around_more, settles, whole_of, remembered, leaves_caller}
 use Rattle.cas_cluster.proofs.Events.{keeps}
 use Rattle.cas_cluster.proofs.Others.{ProposesNot, FloorsNot, AsksToRide, ready_still, vault_still, messages_still}
@@ -85,7 +85,7 @@ opens_first {S} {V} m cluster global old id key program caller at none whole =
     let was = whole.parties.callers id tt caller at in
     let number : suc caller.number ≡ suc (calls_of id (marks_of global.log)) = ap suc was.number in
     let history = keeps cluster whole.meets global whole.history (Begins id (suc caller.number) key program number) in
-    let now : CallerView = record { number = suc caller.number; call = Some (new_call key program (round_marks old.era - 1)) } in
+    let now : CallerView = record { number = suc caller.number; call = Some (new_call key program (round_marks (era_at old id) - 1)) } in
     settles m cluster (begun_global global id (suc caller.number) key program) old (opened old id caller key program) id
     (around_more m cluster global.log global.kept global.made old id (Marked (Begun id (suc caller.number) key program)) (λ p other same. other (sym same), λ a. tt) (around m cluster global old id whole) history)
     (leaves_caller old id now _ _ (λ p other. refl))
@@ -95,7 +95,7 @@ opens_first {S} {V} m cluster global old id key program caller at none whole =
             same_id = of.same_id;
             known = of.known;
             vault = vault_still m (Marked (Begun id (suc caller.number) key program)) global.log (λ b k e same own. absurd (cc same)) (λ e same. absurd (cc same)) (λ k f s same. absurd (cc same)) of.vault;
-            cached = ready_mild cluster (Marked (Begun id (suc caller.number) key program)) global.log global.made id old.era.number desk.cache (begun_mild id (suc caller.number) key program) of.cached;
+            cached = ready_mild cluster (Marked (Begun id (suc caller.number) key program)) global.log global.made id (era_at old id).number desk.cache (begun_mild id (suc caller.number) key program) of.cached;
             one_each = of.one_each;
             none_open = of.none_open;
             round = idle_round c desk.round of.round;
@@ -106,13 +106,13 @@ opens_first {S} {V} m cluster global old id key program caller at none whole =
     })
   where
     new : CallerView
-    new = record { number = suc caller.number; call = Some (new_call key program (round_marks old.era - 1)) }
+    new = record { number = suc caller.number; call = Some (new_call key program (round_marks (era_at old id) - 1)) }
 
     log : List Happening
     log = Marked (Begun id (suc caller.number) key program) ∷ global.log
 
-    idle_round : (c : CallerView) (round : Option Round) → IsOpenTrue cluster global.log global.made id old.era.number caller (queue_at old.flow id).messages round
-        → IsOpenTrue cluster log global.made id old.era.number c (queue_at old.flow id).messages round
+    idle_round : (c : CallerView) (round : Option Round) → IsOpenTrue cluster global.log global.made id (era_at old id).number caller (queue_at old.flow id).messages round
+        → IsOpenTrue cluster log global.made id (era_at old id).number c (queue_at old.flow id).messages round
     idle_round c None of = of
     idle_round c (Some round) of = absurd (cc (none, of.is_open))
 
@@ -163,7 +163,7 @@ opens_again {S} {V} m cluster global old id caller call reserved at is_open idle
             cached = of.cached;
             one_each = of.one_each;
             none_open = of.none_open;
-            round = open_idle cluster global.log global.log global.made old.era.number id caller c (queue_at old.flow id).messages desk.round (idle desk at_desk) of.round;
+            round = open_idle cluster global.log global.log global.made (era_at old id).number id caller c (queue_at old.flow id).messages desk.round (idle desk at_desk) of.round;
           };
       caller = λ c at_caller. subst (IsCallerTrue global.log global.made id) (sym (own_set old.callers id now c at_caller)) (record {
         number = was.number;
@@ -197,7 +197,7 @@ pub record BeginsAnew (call : CallView) : Type 0 where
 pub anew : {S V : Type 0} (old : View S V) (id : ℕ) (key : List ℕ) (program : List Clause) (middle : View S V) (caller : CallerView) (call : CallView) → Opens old id key program middle
     → IsAt middle.callers id caller → caller.call ≡ Some call → BeginsAnew call
 anew {S} {V} old id key program middle caller call (first was at none room view) at_caller is_open =
-    let now : CallerView = record { number = suc was.number; call = Some (new_call key program (round_marks old.era - 1)) } in
+    let now : CallerView = record { number = suc was.number; call = Some (new_call key program (round_marks (era_at old id) - 1)) } in
     let same : caller ≡ now = own_set old.callers id now caller (subst (λ (v : View S V). IsAt v.callers id caller) view at_caller) in
     subst BeginsAnew (some_is (sym (ap (λ (c : CallerView). c.call) same) ∙ is_open)) (record { unproposed = refl; unharmed = refl; some = omega arith })
 anew {S} {V} old id key program middle caller call (again was open_call reserved at was_open same_key same_program unproposed met idle room some view) at_caller is_open =

@@ -1,7 +1,7 @@
 -- What was proposed is counted, and a call ends; a desk is up again.
-use Rattle.std.proofs.Common.{◌≡◌, ℕ, true, List, [], Option, None, Some, refl, sym, ap, subst, ◌∙◌, inl, inr}
+use Rattle.std.proofs.Common.{◌≡◌, ℕ, true, false, List, [], Option, None, Some, refl, sym, ap, subst, ◌∙◌, inl, inr}
 use Rattle.std.specs.Prelude.{◌⊎◌, ◌&&◌, not}
-use Rattle.cas_base.proofs.Bools.{and_right}
+use Rattle.cas_base.proofs.Bools.{true_or_false, and_right}
 use Rattle.cas_ballot.specs.declared.ballot.Ballot.{Ballot}
 use Rattle.cas_ballot.proofs.BallotLemmas.{at_most_of_less}
 use Rattle.cas_cache.specs.declared.ready.Ready.{Ready}
@@ -27,11 +27,11 @@ use Rattle.cas_record.specs.Lawful.{Cluster, ClusterMeets}
 use Rattle.cas_record.specs.Legal.{IsBegun, IsEnded, IsAcked}
 use Rattle.cas_record.specs.Places.{here}
 use Rattle.cas_record.proofs.LogLemmas.{mark_at}
-use Rattle.cas_cluster.specs.Parties.{AreMessagesTrue, IsEraOf, AreReady, IsHeldReady, HaveOneEach, IsAcceptTrue, IsDeskTrue, IsDoneTrue, IsToldTrue, IsCallTrue, IsCallerTrue}
+use Rattle.cas_cluster.specs.Parties.{AreMessagesTrue, IsEraOf, AreReady, IsHeldReady, HaveOneEach, IsAcceptTrue, IsDeskTrue, IsDoneTrue, IsToldTrue, IsCallTrue, IsCallerTrue, IsVaultTrue}
 use Rattle.cas_cluster.specs.Protocol.{Made, GlobalState, HasHistory, Counts, EndsDone, EndsElse, with_mark}
 use Rattle.cas_cluster.specs.StepCalls.{offered_by, over, with_call}
 use Rattle.cas_cluster.specs.StepDesks.{EndsRound, Restarts}
-use Rattle.cas_cluster.specs.View.{Meaning, View, CallView, CallerView, IsAt, with_desk, with_caller}
+use Rattle.cas_cluster.specs.View.{Meaning, View, CallView, CallerView, IsAt, with_desk, with_caller, era_at}
 use Rattle.cas_cluster.proofs.Around.{Whole, around, around_more, settles, leaves_both, leaves_desk}
 use Rattle.cas_cluster.proofs.Caches.{IsKeptOr, kept, held, kept_or_held, one_after}
 use Rattle.cas_cluster.proofs.Draws.{vault_goes_on}
@@ -80,7 +80,7 @@ keeps_promise cluster log all id number call waiting round outcome by r of own e
     }
 
 pub counts : {S V : Type 0} (m : Meaning S V) (cluster : Cluster) (global : GlobalState) (old : View S V) (id : ℕ) (caller : CallerView) (call : CallView) (desk now : DeskView V) (round : Round) (outcome : Outcome) (by : List ℕ) → m.disks.tells
-    → IsAt old.callers id caller → caller.call ≡ Some call → IsAt old.desks id desk → (queue_at old.flow id).messages ≡ [] → round.ballot.proposer ≡ id → round.era.number ≡ old.era.number → IsEraOf cluster round.era
+    → IsAt old.callers id caller → caller.call ≡ Some call → IsAt old.desks id desk → (queue_at old.flow id).messages ≡ [] → round.ballot.proposer ≡ id → round.era.number ≡ (era_at old id).number → IsEraOf cluster round.era
     → IsAcceptTrue global.log global.made id caller.number call (queue_at old.flow id).messages round → has_quorum round.phase ≡ true → IsConfirmersOf round by → call.proposed ≡ Some outcome
     → EndsRound m.disks desk now round (offered_by round round.ride outcome.state by) → Whole m cluster global old
     → Whole m cluster (with_mark global (Marked (Acked (record { key = round.key; ballot = round.ballot; era = round.era.number; by = by }))))
@@ -99,7 +99,7 @@ counts {S} {V} m cluster global old id caller call desk now round outcome by tel
     after : GlobalState
     after = with_mark global h
 
-    of : IsDeskTrue m cluster global.log global.made old.era.number id caller (queue_at old.flow id).messages desk
+    of : IsDeskTrue m cluster global.log global.made (era_at old id).number id caller (queue_at old.flow id).messages desk
     of = whole.parties.desks id tt desk caller at_desk at_caller
 
     by_is : by ≡ accepters_of round.ballot accept.replies
@@ -135,26 +135,26 @@ counts {S} {V} m cluster global old id caller call desk now round outcome by tel
       acked = record { acknowledgment = a; stands = record { older = marks_of global.log; at = here }; same_key = sym accept.same_key; same_ballot = refl };
     }
 
-    held_ready : AreReady cluster global.log global.made id old.era.number (cache_after round (offered_by round round.ride outcome.state by) desk.cache)
+    held_ready : AreReady cluster global.log global.made id (era_at old id).number (cache_after round (offered_by round round.ride outcome.state by) desk.cache)
     held_ready key ready has_it = by_case (kept_or_held round (offered_by round round.ride outcome.state by) desk.cache (key, ready) has_it)
       where
-        by_case : IsKeptOr round (offered_by round round.ride outcome.state by) desk.cache (key, ready) → IsHeldReady cluster global.log global.made id old.era.number key ready
+        by_case : IsKeptOr round (offered_by round round.ride outcome.state by) desk.cache (key, ready) → IsHeldReady cluster global.log global.made id (era_at old id).number key ready
         by_case (kept one offers keep same) =
             let is = offered_is round round.ride outcome.state by one offers in
             let promise = keeps_promise cluster global.log global.made id caller.number call (queue_at old.flow id).messages round outcome by is.0 accept own era proposed confirmers is.1.0
             (subst (λ (x : Ready). may_keep round x ≡ true) (sym is.1.1) keep) in
-            subst (λ (e : List ℕ × Ready). IsHeldReady cluster global.log global.made id old.era.number e.0 e.1) same
-            (subst (IsHeldReady cluster global.log global.made id old.era.number round.key) is.1.1
+            subst (λ (e : List ℕ × Ready). IsHeldReady cluster global.log global.made id (era_at old id).number e.0 e.1) same
+            (subst (IsHeldReady cluster global.log global.made id (era_at old id).number round.key) is.1.1
             (subst (λ (e : ℕ). IsHeldReady cluster global.log global.made id e round.key (record { ballot = is.0; state = outcome.state; read = round.ballot; by = by })) same_era promise))
         by_case (held h) = of.cached key ready h
 
-    quiet : IsQuiet m cluster after.log global.made id old.era.number now
+    quiet : IsQuiet m cluster after.log global.made id (era_at old id).number now
     quiet = record {
       same_id = ap (λ (d : DeskView V). d.id) ends.desk ∙ of.same_id;
       known = of.known;
-      vault = vault_still m h global.log (λ b k e same x. absurd (cc same)) (λ e same. absurd (cc same)) (λ k f s same. absurd (cc same)) (vault_goes_on m global.log id old.era.number tells ends.goes_on of.vault);
-      cached = ready_mild cluster h global.log global.made id old.era.number now.cache (acked_mild a)
-          (subst (AreReady cluster global.log global.made id old.era.number) (sym (ap (λ (d : DeskView V). d.cache) ends.desk)) held_ready);
+      vault = vault_still m h global.log (λ b k e same x. absurd (cc same)) (λ e same. absurd (cc same)) (λ k f s same. absurd (cc same)) (vault_goes_on m global.log id (era_at old id).number tells ends.goes_on of.vault);
+      cached = ready_mild cluster h global.log global.made id (era_at old id).number now.cache (acked_mild a)
+          (subst (AreReady cluster global.log global.made id (era_at old id).number) (sym (ap (λ (d : DeskView V). d.cache) ends.desk)) held_ready);
       one_each = subst HaveOneEach (sym (ap (λ (d : DeskView V). d.cache) ends.desk)) (one_after round (offered_by round round.ride outcome.state by) desk.cache of.one_each);
       none_open = ap (λ (d : DeskView V). d.round) ends.desk;
     }
@@ -213,7 +213,7 @@ ends_call {S} {V} m cluster global old id caller call told desk now tells at_cal
     })
   where
     era : ℕ
-    era = old.era.number
+    era = (era_at old id).number
 
     h : Happening
     h = Marked (Ended id caller.number call.rounds told)
@@ -244,6 +244,22 @@ ends_call {S} {V} m cluster global old id caller call told desk now tells at_cal
     }
 
 -- ---- a desk is up again, or stays down
+one_of : {A : Type 0} → A ⊎ A → A
+one_of (inl x) = x
+one_of (inr x) = x
+
+vault_restarts : {V S : Type 0} (m : Meaning S V) (log : List Happening) (id era : ℕ) {desk now : DeskView V} → m.disks.tells → Restarts m.disks desk now → IsVaultTrue m log id era desk.vault → IsVaultTrue m log id era now.vault
+vault_restarts m log id era {desk} {now} tells by was = record {
+  past = λ ballot key e drawn own. by.still_past tells ballot.counter (was.past ballot key e drawn own);
+  past_floors = λ key floor has. by.still_past tells floor.counter (was.past_floors key floor has);
+  in_era = elim (true_or_false now.down) [
+    | inl down ↦ by.stays down tells era era was.in_era
+    | inr up ↦ one_of (by.shows up tells era era was.in_era)
+  ];
+  is_in = was.is_in;
+  not_beyond = was.not_beyond;
+}
+
 pub restarts : {S V : Type 0} (m : Meaning S V) (cluster : Cluster) (global : GlobalState) (old : View S V) (id : ℕ) (desk now : DeskView V) → m.disks.tells → IsAt old.desks id desk → Restarts m.disks desk now
     → Whole m cluster global old → Whole m cluster global (with_desk old id now)
 restarts {S} {V} m cluster global old id desk now tells at_desk by whole =
@@ -252,10 +268,10 @@ restarts {S} {V} m cluster global old id desk now tells at_desk by whole =
     (record {
       desk = λ d c at_d at_c.
           let of = whole.parties.desks id tt desk c at_desk at_c in
-          subst (λ (x : DeskView V). IsDeskTrue m cluster global.log global.made old.era.number id c (queue_at old.flow id).messages x) (sym (own_set old.desks id now d at_d ∙ by.desk)) (record {
+          subst (λ (x : DeskView V). IsDeskTrue m cluster global.log global.made (era_at old id).number id c (queue_at old.flow id).messages x) (sym (own_set old.desks id now d at_d ∙ by.desk)) (record {
             same_id = of.same_id;
             known = of.known;
-            vault = vault_goes_on m global.log id old.era.number tells by.goes_on of.vault;
+            vault = vault_restarts m global.log id (era_at old id).number tells by of.vault;
             cached = of.cached;
             one_each = of.one_each;
             none_open = of.none_open;

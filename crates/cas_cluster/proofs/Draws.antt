@@ -17,7 +17,7 @@ use Rattle.cas_cluster.specs.Desks.{IsPastAll}
 use Rattle.cas_cluster.specs.Parties.{AreMessagesTrue, WereMade, IsVaultTrue, AreReady, IsInHand, IsCallerTrue}
 use Rattle.cas_cluster.specs.Protocol.{Made, GlobalState, HasHistory, Draws as DrawsEvent}
 use Rattle.cas_cluster.specs.StepDesks.{GoesOn, HasDrawn, MayHaveDrawn}
-use Rattle.cas_cluster.specs.View.{Meaning, View, CallerView}
+use Rattle.cas_cluster.specs.View.{Meaning, View, CallerView, era_at}
 use Rattle.cas_cluster.proofs.Around.{Around, around_more}
 use Rattle.cas_cluster.proofs.Events.{keeps}
 use Rattle.cas_cluster.proofs.Others.{LeavesCalls, ProposesNot, FloorsNot, AsksToRide, later, hand_still, ready_still, replies_still, messages_still, caller_still}
@@ -29,7 +29,7 @@ pub vault_goes_on : {S V : Type 0} (m : Meaning S V) (log : List Happening) (id 
 vault_goes_on m log id era tells on was = record {
   past = λ ballot key e stands own. on.still_past tells ballot.counter (was.past ballot key e stands own);
   past_floors = λ key floor has. on.still_past tells floor.counter (was.past_floors key floor has);
-  in_era = on.era tells era was.in_era;
+  in_era = on.era tells era era was.in_era;
   is_in = was.is_in;
   not_beyond = was.not_beyond;
 }
@@ -105,11 +105,11 @@ drew_marks log key era (Some ballot) = refl
 
 -- what is around the proposer stays
 pub drew_around : {S V : Type 0} (m : Meaning S V) (cluster : Cluster) (global : GlobalState) (view : View S V) (id : ℕ) (key : List ℕ) (old new : Vault V) (ballot : Option Ballot)
-    → id ≤ cluster.greatest → MayHaveDrawn m.disks id old new ballot → IsVaultTrue m global.log id view.era.number old
-    → Around m cluster global view id → Around m cluster (drew global ballot key view.era.number) view id
+    → id ≤ cluster.greatest → MayHaveDrawn m.disks id old new ballot → IsVaultTrue m global.log id (era_at view id).number old
+    → Around m cluster global view id → Around m cluster (drew global ballot key (era_at view id).number) view id
 drew_around m cluster global view id key old new None known by vault around = around
 drew_around m cluster global view id key old new (Some ballot) known by vault around =
-    let era = view.era.number in
+    let era = (era_at view id).number in
     let all = past_all m cluster global.log id era key old known vault in
     let history : HasHistory cluster (drew global (Some ballot) key era) =
     subst (λ (b : Ballot). HasHistory cluster (drew global (Some b) key era)) (sym by.draws.next) (keeps cluster around.meets global around.history (DrawsEvent id era (counter_of old) key all)) in

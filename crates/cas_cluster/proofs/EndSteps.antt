@@ -30,7 +30,7 @@ use Rattle.cas_cluster.specs.Parties.{AreMessagesTrue, IsEraOf, IsVaultTrue, Are
 use Rattle.cas_cluster.specs.Protocol.{Made, GlobalState}
 use Rattle.cas_cluster.specs.StepCalls.{IsNoBeginning, over, with_call, refusal_by, cause_by}
 use Rattle.cas_cluster.specs.StepDesks.{GoesOn, MayHaveDrawn, EndsRound, FailsToDraw, LosesMemory, Crashes}
-use Rattle.cas_cluster.specs.View.{Meaning, View, CallView, CallerView, IsAt, with_desk}
+use Rattle.cas_cluster.specs.View.{Meaning, View, CallView, CallerView, IsAt, with_desk, era_at}
 use Rattle.cas_cluster.proofs.Around.{Whole, Around, around, settles, leaves_both, leaves_desk}
 use Rattle.cas_cluster.proofs.Caches.{contains_without, ready_fewer, one_without}
 use Rattle.cas_cluster.proofs.Draws.{drew, drew_log, drew_vault, drew_ready, drew_caller, drew_messages, drew_around, vault_goes_on}
@@ -195,7 +195,7 @@ quiet_crashes {S} {V} m cluster log all id era caller waiting desk now tells of 
 -- ---- the view then
 -- the proposer's round is closed, its frames are gone, and its caller is told how
 pub quiets : {S V : Type 0} (m : Meaning S V) (cluster : Cluster) (global : GlobalState) (old : View S V) (id : ℕ) (caller : CallerView) (call : CallView) (now : DeskView V) (flow : FlowView)
-    → Around m cluster global old id → IsCallerTrue global.log global.made id caller → IsCallTrue global.log global.made id caller.number call → IsQuiet m cluster global.log global.made id old.era.number now
+    → Around m cluster global old id → IsCallerTrue global.log global.made id caller → IsCallTrue global.log global.made id caller.number call → IsQuiet m cluster global.log global.made id (era_at old id).number now
     → (queue_at flow id).messages ≡ [] → ((p : ℕ) → (p ≡ id → ⊥) → (queue_at flow p).messages ≡ (queue_at old.flow p).messages) → AreMessagesTrue global.log flow.late
     → Whole m cluster global (record (with_call (with_desk old id now) id caller call) { flow = flow })
 quiets {S} {V} m cluster global old id caller call now flow rest was call_true quiet none others late =
@@ -203,8 +203,8 @@ quiets {S} {V} m cluster global old id caller call now flow rest was call_true q
     (leaves_both old id now (record caller { call = Some call }) _ _ (others))
     (record {
       desk = λ d c at_d at_c.
-          subst (λ (x : DeskView V). IsDeskTrue m cluster global.log global.made old.era.number id c (queue_at flow id).messages x) (sym (own_set old.desks id now d at_d))
-          (quiet_true m cluster global.log global.made id old.era.number c (queue_at flow id).messages now none quiet);
+          subst (λ (x : DeskView V). IsDeskTrue m cluster global.log global.made (era_at old id).number id c (queue_at flow id).messages x) (sym (own_set old.desks id now d at_d))
+          (quiet_true m cluster global.log global.made id (era_at old id).number c (queue_at flow id).messages now none quiet);
       caller = λ c at_c. subst (IsCallerTrue global.log global.made id) (sym (own_set old.callers id (record caller { call = Some call }) c at_c))
           (record { number = was.number; call = λ x is. subst (IsCallTrue global.log global.made id caller.number) (some_is is) call_true });
       own = subst (AreMessagesTrue global.log) (sym none) (λ each h. absurd (contains_none h));
@@ -235,7 +235,7 @@ told_fails m cluster global old id caller call key desk now told tells at_caller
     let was = whole.parties.callers id tt caller at_caller in
     quiets m cluster global old id caller (over call told) now old.flow (around m cluster global old id whole) was
     (call_told global.log global.made id caller.number call told call.is_closed 1 (was.call call is_open) is)
-    (quiet_fails m cluster global.log global.made id old.era.number caller (queue_at old.flow id).messages key desk now tells (whole.parties.desks id tt desk caller at_desk at_caller) by)
+    (quiet_fails m cluster global.log global.made id (era_at old id).number caller (queue_at old.flow id).messages key desk now tells (whole.parties.desks id tt desk caller at_desk at_caller) by)
     none (λ p other. refl) whole.parties.late
 
 pub told_ends : {S V : Type 0} (m : Meaning S V) (cluster : Cluster) (global : GlobalState) (old : View S V) (id : ℕ) (caller : CallerView) (call : CallView) (desk now : DeskView V) (round : Round) (told : Answer) → m.disks.tells
@@ -245,7 +245,7 @@ told_ends m cluster global old id caller call desk now round told tells at_calle
     let was = whole.parties.callers id tt caller at_caller in
     quiets m cluster global old id caller (over call told) now old.flow (around m cluster global old id whole) was
     (call_told global.log global.made id caller.number call told call.is_closed 1 (was.call call is_open) is)
-    (quiet_ends m cluster global.log global.made id old.era.number caller (queue_at old.flow id).messages desk now round tells (whole.parties.desks id tt desk caller at_desk at_caller) by)
+    (quiet_ends m cluster global.log global.made id (era_at old id).number caller (queue_at old.flow id).messages desk now round tells (whole.parties.desks id tt desk caller at_desk at_caller) by)
     none (λ p other. refl) whole.parties.late
 
 -- the desk stays as it was, but for what its vault does not show
@@ -260,20 +260,20 @@ told_kept {S} {V} m cluster global old id caller call desk now told tells at_cal
     (record {
       same_id = ap (λ (d : DeskView V). d.id) is_now ∙ of.same_id;
       known = of.known;
-      vault = vault_goes_on m global.log id old.era.number tells on of.vault;
-      cached = subst (AreReady cluster global.log global.made id old.era.number) (sym (ap (λ (d : DeskView V). d.cache) is_now)) of.cached;
+      vault = vault_goes_on m global.log id (era_at old id).number tells on of.vault;
+      cached = subst (AreReady cluster global.log global.made id (era_at old id).number) (sym (ap (λ (d : DeskView V). d.cache) is_now)) of.cached;
       one_each = subst HaveOneEach (sym (ap (λ (d : DeskView V). d.cache) is_now)) of.one_each;
       none_open = ap (λ (d : DeskView V). d.round) is_now ∙ idle;
     })
-    (none_waits cluster global.log global.made id old.era.number caller (queue_at old.flow id).messages desk.round idle of.round) (λ p other. refl) whole.parties.late
+    (none_waits cluster global.log global.made id (era_at old id).number caller (queue_at old.flow id).messages desk.round idle of.round) (λ p other. refl) whole.parties.late
 
 -- no memory was found, where nothing was proposed
 pub told_loses : {S V : Type 0} (m : Meaning S V) (cluster : Cluster) (global : GlobalState) (old : View S V) (id : ℕ) (caller : CallerView) (call : CallView) (key : List ℕ) (desk now : DeskView V) (ballot : Option Ballot) → m.disks.tells
     → IsAt old.callers id caller → caller.call ≡ Some call → call.proposed ≡ None → IsAt old.desks id desk → (queue_at old.flow id).messages ≡ [] → LosesMemory m.disks key desk now ballot
-    → Whole m cluster global old → Whole m cluster (drew global ballot key old.era.number) (with_call (with_desk old id now) id caller (over call (answer.NoMemory false)))
+    → Whole m cluster global old → Whole m cluster (drew global ballot key (era_at old id).number) (with_call (with_desk old id now) id caller (over call (answer.NoMemory false)))
 told_loses {S} {V} m cluster global old id caller call key desk now ballot tells at_caller is_open unproposed at_desk none by whole =
     let of = whole.parties.desks id tt desk caller at_desk at_caller in
-    let era = old.era.number in
+    let era = (era_at old id).number in
     let drawn = subst (λ (i : ℕ). MayHaveDrawn m.disks i desk.vault by.middle ballot) of.same_id by.drawn in
     let after = drew global ballot key era in
     let was = drew_caller global.log global.made id caller key era ballot (whole.parties.callers id tt caller at_caller) in
@@ -287,11 +287,11 @@ told_loses {S} {V} m cluster global old id caller call key desk now ballot tells
 -- the same of a call that did not begin: no caller is told
 pub lost : {S V : Type 0} (m : Meaning S V) (cluster : Cluster) (global : GlobalState) (old : View S V) (id : ℕ) (key : List ℕ) (desk now : DeskView V) (ballot : Option Ballot) → m.disks.tells
     → IsAt old.desks id desk → desk.round ≡ None → LosesMemory m.disks key desk now ballot → (caller : CallerView) → IsAt old.callers id caller
-    → Whole m cluster global old → Whole m cluster (drew global ballot key old.era.number) (with_desk old id now)
+    → Whole m cluster global old → Whole m cluster (drew global ballot key (era_at old id).number) (with_desk old id now)
 lost {S} {V} m cluster global old id key desk now ballot tells at_desk idle by caller at_caller whole =
     let of = whole.parties.desks id tt desk caller at_desk at_caller in
-    let none = none_waits cluster global.log global.made id old.era.number caller (queue_at old.flow id).messages desk.round idle of.round in
-    let era = old.era.number in
+    let none = none_waits cluster global.log global.made id (era_at old id).number caller (queue_at old.flow id).messages desk.round idle of.round in
+    let era = (era_at old id).number in
     let drawn = subst (λ (i : ℕ). MayHaveDrawn m.disks i desk.vault by.middle ballot) of.same_id by.drawn in
     let after = drew global ballot key era in
     settles m cluster after old (with_desk old id now) id (drew_around m cluster global old id key desk.vault by.middle ballot of.known drawn of.vault (around m cluster global old id whole))
@@ -312,5 +312,5 @@ pub crashes_desk : {S V : Type 0} (m : Meaning S V) (cluster : Cluster) (global 
     → Whole m cluster global old → Whole m cluster global (record (with_call (with_desk old id now) id caller new) { flow = abandoned old.flow id })
 crashes_desk m cluster global old id caller call new desk now tells at_caller is_open at_desk by call_true whole =
     quiets m cluster global old id caller new now (abandoned old.flow id) (around m cluster global old id whole) (whole.parties.callers id tt caller at_caller) call_true
-    (quiet_crashes m cluster global.log global.made id old.era.number caller (queue_at old.flow id).messages desk now tells (whole.parties.desks id tt desk caller at_desk at_caller) by)
+    (quiet_crashes m cluster global.log global.made id (era_at old id).number caller (queue_at old.flow id).messages desk now tells (whole.parties.desks id tt desk caller at_desk at_caller) by)
     (none_left old.flow id) (others_left old.flow id) (all_joined_true global.log (queue_at old.flow id).messages old.flow.late (whole.parties.own id) whole.parties.late)

@@ -53,7 +53,7 @@ use Rattle.cas_cluster.specs.StepCalls.{with_call, telling}
 use Rattle.cas_cluster.specs.StepDesks.{HearsReply}
 use Rattle.cas_cluster.specs.StepFrames as frames
 use Rattle.cas_cluster.specs.StepFrames.{TakesTurn, FindsNoRoom, Strays, silent, marking, votes_marked, harmed_by, harms_marked, harmed_view, replied_flow, without_late, with_late}
-use Rattle.cas_cluster.specs.View.{Meaning, View, CallView, CallerView, IsAt, with_acceptor, with_desk, with_marks}
+use Rattle.cas_cluster.specs.View.{Meaning, View, CallView, CallerView, IsAt, with_acceptor, with_desk, with_marks, era_at}
 use Rattle.cas_cluster.proofs.AcceptorSteps.{answers, answered_global, answered_marks, reply_made, stops_within, finds_none}
 use Rattle.cas_cluster.proofs.Around.{parties_more, Whole, whole_of, remembered, around, settles, Everyone, leaves_caller, leaves_desk, parties_seen, Everyone}
 use Rattle.cas_cluster.proofs.Events.{keeps}
@@ -375,7 +375,7 @@ moves {S} {V} m cluster global old id caller call new flow at is_open proposed k
     (record {
       desk = λ desk c at_desk at_caller.
           let of = whole.parties.desks id tt desk caller at_desk at in
-          subst (λ (k : CallerView). IsDeskTrue m cluster global.log global.made old.era.number id k (queue_at flow id).messages desk) (sym (own_set old.callers id (recalled caller new) c at_caller))
+          subst (λ (k : CallerView). IsDeskTrue m cluster global.log global.made (era_at old id).number id k (queue_at flow id).messages desk) (sym (own_set old.callers id (recalled caller new) c at_caller))
           (record {
             same_id = of.same_id;
             known = of.known;
@@ -383,7 +383,7 @@ moves {S} {V} m cluster global old id caller call new flow at is_open proposed k
             cached = of.cached;
             one_each = of.one_each;
             none_open = of.none_open;
-            round = open_moves cluster global.log global.made id old.era.number caller call new (queue_at old.flow id).messages (queue_at flow id).messages desk.round is_open proposed key flows.idle stays of.round;
+            round = open_moves cluster global.log global.made id (era_at old id).number caller call new (queue_at old.flow id).messages (queue_at flow id).messages desk.round is_open proposed key flows.idle stays of.round;
           });
       caller = λ c at_caller.
           subst (IsCallerTrue global.log global.made id) (sym (own_set old.callers id (recalled caller new) c at_caller))
@@ -406,7 +406,7 @@ hears {S} {V} m cluster global old id desk now round next reply flow at is_open 
     (record {
       desk = λ d c at_desk at_caller.
           let of = whole.parties.desks id tt desk c at at_caller in
-          subst (λ (k : DeskView V). IsDeskTrue m cluster global.log global.made old.era.number id c (queue_at flow id).messages k) (sym (own_set old.desks id now d at_desk ∙ by.desk))
+          subst (λ (k : DeskView V). IsDeskTrue m cluster global.log global.made (era_at old id).number id c (queue_at flow id).messages k) (sym (own_set old.desks id now d at_desk ∙ by.desk))
           (record {
             same_id = of.same_id;
             known = of.known;
@@ -415,8 +415,8 @@ hears {S} {V} m cluster global old id desk now round next reply flow at is_open 
             one_each = of.one_each;
             none_open = λ ready h. subst (λ (r : Option Round). HasNone r desk.cache) is_open of.none_open ready
                 (subst (λ (k : List ℕ). Contains desk.cache (k, ready)) (ap (λ (r : Round). r.key) by.hears.same) h);
-            round = round_hears cluster global.log global.made id old.era.number c (queue_at old.flow id).messages (queue_at flow id).messages round next reply by.hears made stays
-                (subst (IsOpenTrue cluster global.log global.made id old.era.number c (queue_at old.flow id).messages) is_open of.round);
+            round = round_hears cluster global.log global.made id (era_at old id).number c (queue_at old.flow id).messages (queue_at flow id).messages round next reply by.hears made stays
+                (subst (IsOpenTrue cluster global.log global.made id (era_at old id).number c (queue_at old.flow id).messages) is_open of.round);
           });
       caller = λ c at_caller. whole.parties.callers id tt c at_caller;
       own = flows.own;
@@ -433,7 +433,7 @@ relates m cluster global old late is whole = record {
   parties = record {
     greatest = whole.parties.greatest;
     few = whole.parties.few;
-    era = whole.parties.era;
+    eras = whole.parties.eras;
     desks = whole.parties.desks;
     callers = whole.parties.callers;
     own = whole.parties.own;

@@ -1,6 +1,7 @@
 -- A cluster that opens is remembered, and the record of one that is remembered is legal.
 use Rattle.std.proofs.Common.{◌≡◌, ◌<◌, ◌≤◌, ℕ, zero, suc, Bool, true, false, List, [], Option, reverse, refl, sym, ap, subst, ◌∙◌, inl, arith}
 use Rattle.std.specs.Prelude.{◌==◌, length, if◌then◌else◌, replicate, slice_index_or, Contains}
+use Rattle.std.proofs.lemmas.List.{get_or-replicate}
 use Rattle.cas_ballot.specs.Members.{IsMemberSet}
 use Rattle.cas_flow.specs.Flow.{FlowView, queue_at, empty_flow}
 use Rattle.cas_flow.specs.Queue.{QueueView, empty_queue}
@@ -16,10 +17,10 @@ use Rattle.cas_record.specs.declared.mark.Mark.{Mark}
 use Rattle.cas_record.proofs.LawLemmas.{lawful_is_legal}
 use Rattle.cas_record.proofs.PlaceLemmas.{none_at_nil}
 use Rattle.cas_cluster.specs.History.{IsRemembered}
-use Rattle.cas_cluster.specs.Parties.{AreMessagesTrue, IsEraOf, IsInEra, AreReady, HaveOneEach, HasNone, IsOpenTrue, IsCallerTrue}
+use Rattle.cas_cluster.specs.Parties.{AreMessagesTrue, IsEraOf, IsWithin, AreReady, HaveOneEach, HasNone, IsOpenTrue, IsCallerTrue}
 use Rattle.cas_cluster.specs.Protocol.{opening}
 use Rattle.cas_cluster.specs.Step.{IsOpening}
-use Rattle.cas_cluster.specs.View.{Meaning, View}
+use Rattle.cas_cluster.specs.View.{Meaning, View, era_at, era_in}
 use Rattle.cas_cluster.proofs.Around.{remembered}
 use Rattle.cas_cluster.proofs.Events.{opens}
 use Rattle.cas_cluster.proofs.Places.{contains_none}
@@ -85,21 +86,21 @@ opening_remembered {S} {V} m shelves disks members view is = remembered m cluste
   parties = record {
     greatest = refl;
     few = is.few;
-    era = subst (IsEraOf cluster) (sym is.era) (one_is view.greatest members is.member_set is.some);
+    eras = λ p low. subst (IsEraOf cluster) (sym (era_is p low)) (one_is view.greatest members is.member_set is.some);
     desks = λ p these desk caller at_desk at_caller. let fresh = is.desks p desk at_desk in record {
       same_id = fresh.1.same_id;
       known = fresh.0;
       vault = record {
         past = λ b k e stands own. absurd (none_at_nil stands.at);
         past_floors = λ k floor has. absurd (none_at_nil has.stands.at);
-        in_era = subst (λ (e : Era). IsInEra m.disks e.number desk.vault) (sym is.era) (fresh.1.in_era disks);
-        is_in = inl (ap (λ (e : Era). e.number) is.era);
+        in_era = subst (λ (e : Era). IsWithin m.disks e.number e.number desk.vault) (sym (era_is p fresh.0)) (fresh.1.in_era disks);
+        is_in = inl (ap (λ (e : Era). e.number) (era_is p fresh.0));
         not_beyond = λ stands. none_at_nil stands.at;
       };
-      cached = subst (AreReady cluster [] [] p view.era.number) (sym fresh.1.no_promise) (λ k ready h. absurd (contains_none h));
+      cached = subst (AreReady cluster [] [] p (era_at view p).number) (sym fresh.1.no_promise) (λ k ready h. absurd (contains_none h));
       one_each = subst HaveOneEach (sym fresh.1.no_promise) tt;
       none_open = subst (λ (r : Option Round). HasNone r desk.cache) (sym fresh.1.none_open) tt;
-      round = subst (IsOpenTrue cluster [] [] p view.era.number caller (queue_at view.flow p).messages) (sym fresh.1.none_open) (none_under_way view.flow p is.flow);
+      round = subst (IsOpenTrue cluster [] [] p (era_at view p).number caller (queue_at view.flow p).messages) (sym fresh.1.none_open) (none_under_way view.flow p is.flow);
     };
     callers = λ p these caller at. subst (IsCallerTrue [] [] p) (sym (is.callers p caller at)) (record { number = refl; call = λ call none. absurd (cc none) });
     own = λ p. no_messages (queue_at view.flow p).messages (none_under_way view.flow p is.flow);
@@ -109,6 +110,9 @@ opening_remembered {S} {V} m shelves disks members view is = remembered m cluste
   where
     cluster : Cluster
     cluster = one_era view.greatest members
+
+    era_is : (p : ℕ) → p ≤ view.greatest → era_at view p ≡ majority_era 0 members
+    era_is p low = ap (λ (l : List Era). era_in l p) is.eras ∙ get_or-replicate 17 p (majority_era 0 members) (majority_era 0 []) (omega (arith, low, is.few))
 
 pub remembered_legal : {S V : Type 0} (m : Meaning S V) (view : View S V) → IsRemembered m view → IsLegal (reverse view.marks)
 remembered_legal m view is = subst IsLegal is.agrees.marks (lawful_is_legal is.cluster is.meets is.global.log is.history.lawful)

@@ -37,7 +37,7 @@ use Rattle.cas_cluster.specs.Parties.{AreMessagesTrue, IsEraOf, IsVaultTrue, Are
 use Rattle.cas_cluster.specs.Proposers.{AllRide}
 use Rattle.cas_cluster.specs.Protocol.{Made, GlobalState, HasHistory, IsAskable, with_proposal}
 use Rattle.cas_cluster.specs.StepCalls.{Sends, accepts_to, proposal_of, proposing, proposed_view}
-use Rattle.cas_cluster.specs.View.{Meaning, View, CallView, CallerView, IsAt}
+use Rattle.cas_cluster.specs.View.{Meaning, View, CallView, CallerView, IsAt, era_at}
 use Rattle.cas_cluster.proofs.Around.{Whole, Around, around_made, IsOf, settles, leaves_both}
 use Rattle.cas_cluster.proofs.Asks.{asked_log, asked_global, asked_all, asked_around, asked_later, asked_messages, asked_vault, asked_caller, asked_still, asked_hand, asked_ready}
 use Rattle.cas_cluster.proofs.CallSteps.{no_harm}
@@ -122,13 +122,13 @@ pub record IsReadyToPropose {S V : Type 0} (m : Meaning S V) (cluster : Cluster)
   pub caller_true : IsCallerTrue global.log global.made id caller
   pub known : id ≤ cluster.greatest
   pub same_id : now.id ≡ id
-  pub vault : IsVaultTrue m global.log id old.era.number now.vault
-  pub cached : AreReady cluster global.log global.made id old.era.number now.cache
+  pub vault : IsVaultTrue m global.log id (era_at old id).number now.vault
+  pub cached : AreReady cluster global.log global.made id (era_at old id).number now.cache
   pub one_each : HaveOneEach now.cache
   pub none_open : HasNone (Some round) now.cache
   pub is_round : now.round ≡ Some round
   pub same_key : round.key ≡ call.key
-  pub same_era : round.era.number ≡ old.era.number
+  pub same_era : round.era.number ≡ (era_at old id).number
   pub is_era : IsEraOf cluster round.era
   pub in_hand : IsInHand global.log id round.era.number round.key round.ballot
   pub ride : (b : Ballot) → round.ride ≡ Some b → IsInHand global.log id round.era.number round.key b × BallotLess round.ballot b
@@ -167,7 +167,7 @@ proposes {S} {V} m cluster global old id age caller call now round outcome flow 
     h = Marked (Proposed p)
 
     era : ℕ
-    era = old.era.number
+    era = (era_at old id).number
 
     after : GlobalState
     after = with_proposal global p outcome

@@ -1,5 +1,5 @@
 -- A round proposes: by a promise at once, or once its prepare phase has a quorum.
-use Rattle.std.proofs.Common.{◌≡◌, ℕ, suc, true, List, [], Option, None, Some, refl, sym, ap, subst, ◌∙◌}
+use Rattle.std.proofs.Common.{◌≡◌, ◌≤◌, ℕ, suc, true, List, [], Option, None, Some, refl, sym, ap, subst, ◌∙◌, arith}
 use Rattle.std.specs.Prelude.{Contains}
 use Rattle.cas_ballot.specs.declared.ballot.Ballot.{Ballot}
 use Rattle.cas_ballot.specs.Ballot.{BallotLess}
@@ -32,7 +32,7 @@ use Rattle.cas_cluster.specs.Proposers.{IsOpenRound, state_read}
 use Rattle.cas_cluster.specs.Protocol.{Made, GlobalState, HasHistory, AllReplied, Proposes, ProposesByRide, with_proposal}
 use Rattle.cas_cluster.specs.StepCalls.{Sends, accepts_to, proposal_of, proposed_view}
 use Rattle.cas_cluster.specs.StepDesks.{MayHaveDrawn, BeginsByPromise}
-use Rattle.cas_cluster.specs.View.{Meaning, View, CallView, CallerView, IsAt}
+use Rattle.cas_cluster.specs.View.{Meaning, View, CallView, CallerView, IsAt, era_at}
 use Rattle.cas_cluster.proofs.Around.{Whole, Around, around}
 use Rattle.cas_cluster.proofs.Caches.{contains_without, contains_promise, ready_fewer, one_without, none_without}
 use Rattle.cas_cluster.proofs.Draws.{drew, drew_vault, drew_ready, drew_caller, drew_messages, drew_around, drew_hand, drew_replies, drew_ride}
@@ -68,15 +68,15 @@ begun_here log all id caller call key is_open same caller_true = subst (λ (k : 
 -- ---- by a promise
 pub begins_by_promise : {S V : Type 0} (m : Meaning S V) (cluster : Cluster) (global : GlobalState) (old : View S V) (id : ℕ) (caller : CallerView) (call : CallView) (desk now : DeskView V) (ready : Ready) (ride : Option Ballot) (round : Round)
     (outcome : Outcome) (flow : FlowView) → m.disks.tells → IsAt old.callers id caller → caller.call ≡ Some call → call.proposed ≡ None → IsAt old.desks id desk
-    → BeginsByPromise m.disks old.era call.key desk now ready ride round → outcome ≡ outcome_of call.program ready.state
+    → BeginsByPromise m.disks (era_at old id) call.key desk now ready ride round → outcome ≡ outcome_of call.program ready.state
     → Sends old.flow id (accepts_to id (kept_of desk.vault).age round.key round.ballot round.era.number ride outcome.state round.era.acc) flow → Whole m cluster global old
-    → Whole m cluster (proposed_global (drew global ride call.key old.era.number) id (kept_of desk.vault).age (record round { ride = ride }) (proposal_of id caller.number round ready.read ready.by) outcome)
+    → Whole m cluster (proposed_global (drew global ride call.key (era_at old id).number) id (kept_of desk.vault).age (record round { ride = ride }) (proposal_of id caller.number round ready.read ready.by) outcome)
     (proposed_view old id caller call now flow (proposal_of id caller.number round ready.read ready.by) outcome)
 begins_by_promise {S} {V} m cluster global old id caller call desk now ready ride round outcome flow tells at_caller is_open unproposed at_desk begins is_outcome sends whole =
     proposes m cluster before old id (kept_of desk.vault).age caller call now (record round { ride = ride }) outcome flow ready.read ready.by ready_to (drew_around m cluster global old id call.key desk.vault now.vault ride of.known drawn of.vault (around m cluster global old id whole)) history
   where
     era : ℕ
-    era = old.era.number
+    era = (era_at old id).number
 
     of : IsDeskTrue m cluster global.log global.made era id caller (queue_at old.flow id).messages desk
     of = whole.parties.desks id tt desk caller at_desk at_caller
@@ -90,7 +90,7 @@ begins_by_promise {S} {V} m cluster global old id caller call desk now ready rid
     about_key : round.key ≡ call.key
     about_key = begins.opened.0.of_key
 
-    about_era : round.era ≡ old.era
+    about_era : round.era ≡ (era_at old id)
     about_era = begins.opened.0.in_era
 
     about_ballot : round.ballot ≡ ready.ballot
@@ -159,7 +159,7 @@ begins_by_promise {S} {V} m cluster global old id caller call desk now ready rid
       is_round = ap (λ (d : DeskView V). d.round) begins.desk;
       same_key = about_key;
       same_era = ap (λ (e : Era). e.number) about_era;
-      is_era = subst (IsEraOf cluster) (sym about_era) whole.parties.era;
+      is_era = subst (IsEraOf cluster) (sym about_era) (whole.parties.eras id (omega (arith, of.known, whole.parties.greatest)));
       in_hand = hand;
       ride = rides;
       prepared = [];
@@ -177,17 +177,17 @@ promised_quorum era ballot replies (Accept p) is quorum = absurd is
 
 pub proposes_round : {S V : Type 0} (m : Meaning S V) (cluster : Cluster) (global : GlobalState) (old : View S V) (id : ℕ) (caller : CallerView) (call : CallView) (desk now : DeskView V) (round : Round) (phase_is : OpenPhase) (read : Option Accepted) (by : List ℕ)
     (ride : Option Ballot) (outcome : Outcome) (flow : FlowView) → m.disks.tells → IsAt old.callers id caller → caller.call ≡ Some call → IsAt old.desks id desk → desk.round ≡ Some round → (queue_at old.flow id).messages ≡ []
-    → IsPrepareTrue global.log id call (queue_at old.flow id).messages round → round.key ≡ call.key → round.era.number ≡ old.era.number → IsEraOf cluster round.era
+    → IsPrepareTrue global.log id call (queue_at old.flow id).messages round → round.key ≡ call.key → round.era.number ≡ (era_at old id).number → IsEraOf cluster round.era
     → has_quorum round.phase ≡ true → IsConfirmersOf round by → IsReadOf round read → ((replies : List Reply) → IsPreparing replies round → IsAccepting replies [] (record round { phase = phase_is }))
     → MayHaveDrawn m.disks desk.id desk.vault now.vault ride → now ≡ record desk { vault = now.vault; round = Some (record round { ride = ride; phase = phase_is }) } → outcome ≡ outcome_of call.program (state_read read)
     → Sends old.flow id (accepts_to id (kept_of desk.vault).age round.key round.ballot round.era.number ride outcome.state round.era.acc) flow → Whole m cluster global old
-    → Whole m cluster (proposed_global (drew global ride round.key old.era.number) id (kept_of desk.vault).age (record round { ride = ride; phase = phase_is }) (proposal_of id caller.number round (accepted_ballot read) by) outcome)
+    → Whole m cluster (proposed_global (drew global ride round.key (era_at old id).number) id (kept_of desk.vault).age (record round { ride = ride; phase = phase_is }) (proposal_of id caller.number round (accepted_ballot read) by) outcome)
     (proposed_view old id caller call now flow (proposal_of id caller.number round (accepted_ballot read) by) outcome)
 proposes_round {S} {V} m cluster global old id caller call desk now round phase_is read by ride outcome flow tells at_caller is_open at_desk is_round no_frames prepare same_key same_era is_era quorum confirmers is_read accepts may_drawn is_now is_outcome sends whole =
     proposes m cluster before old id (kept_of desk.vault).age caller call now final outcome flow (accepted_ballot read) by ready_to after_draw history
   where
     era : ℕ
-    era = old.era.number
+    era = (era_at old id).number
 
     final : Round
     final = record round { ride = ride; phase = phase_is }

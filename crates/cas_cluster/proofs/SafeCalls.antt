@@ -30,7 +30,7 @@ use Rattle.cas_cluster.specs.Safe.{requests_in, IsPartySafe, IsRoundSafe, IsOpen
 use Rattle.cas_cluster.specs.StepCalls as calls
 use Rattle.cas_cluster.specs.StepCalls.{most_marks, round_marks, HasRoom, Opens, opened, with_call, tried_again, over, Sends, prepares_to, accepts_to, BeginsRound}
 use Rattle.cas_cluster.specs.StepDesks.{BeginsToPrepare}
-use Rattle.cas_cluster.specs.View.{Meaning, View, CallView, CallerView, IsAt, new_call, new_caller, reserved_in, reserved_of, with_desk}
+use Rattle.cas_cluster.specs.View.{Meaning, View, CallView, CallerView, IsAt, new_call, new_caller, reserved_in, reserved_of, with_desk, era_at}
 use Rattle.cas_cluster.proofs.Beginnings.{prepare_request}
 use Rattle.cas_cluster.proofs.Caches.{contains_without}
 use Rattle.cas_cluster.proofs.CallSteps.{no_harm}
@@ -58,20 +58,20 @@ recalled era few marks id desk caller new queue none number reserved was =
 
 pub opens_safe : {S V : Type 0} (old : View S V) (id : ℕ) (key : List ℕ) (program : List Clause) (new : View S V) → IsSafe old → Opens old id key program new → IsSafe new
 opens_safe {S} {V} old id key program new was (calls.first caller at none room view) =
-    let now : CallerView = record { number = suc caller.number; call = Some (new_call key program (round_marks old.era - 1)) } in
+    let now : CallerView = record { number = suc caller.number; call = Some (new_call key program (round_marks (era_at old id) - 1)) } in
     subst IsSafe (sym view) (safe_but old (opened old id caller key program) id was (changes_caller old id now old.flow (old.marks ++ Begun id (suc caller.number) key program ∷ []) was refl (λ p other. refl) (more_by old.marks (Begun id (suc caller.number) key program ∷ [])))
-    (λ desk c at_desk at_caller. subst (λ (x : CallerView). IsPartySafe old.era (length (old.marks ++ Begun id (suc caller.number) key program ∷ [])) id desk x (queue_at old.flow id)) (sym (own_set old.callers id now c at_caller))
+    (λ desk c at_desk at_caller. subst (λ (x : CallerView). IsPartySafe (era_at old id) (length (old.marks ++ Begun id (suc caller.number) key program ∷ [])) id desk x (queue_at old.flow id)) (sym (own_set old.callers id now c at_caller))
     (let party = was.parties id desk caller at_desk at in
-    recalled old.era (length old.marks) (length (old.marks ++ Begun id (suc caller.number) key program ∷ [])) id desk caller now (queue_at old.flow id)
-    (none_open old.era (length old.marks) id desk caller (queue_at old.flow id) none party) (omega (arith, party.number, length-append old.marks (Begun id (suc caller.number) key program ∷ [])))
+    recalled (era_at old id) (length old.marks) (length (old.marks ++ Begun id (suc caller.number) key program ∷ [])) id desk caller now (queue_at old.flow id)
+    (none_open (era_at old id) (length old.marks) id desk caller (queue_at old.flow id) none party) (omega (arith, party.number, length-append old.marks (Begun id (suc caller.number) key program ∷ [])))
     (λ call is. subst (λ (x : CallView). 0 < x.reserved) (some_is is) (omega arith)) party))
     (room_for old.callers (length (old.marks ++ Begun id (suc caller.number) key program ∷ [])) id caller now at (omega (arith, room, length-append old.marks (Begun id (suc caller.number) key program ∷ [])))))
 opens_safe {S} {V} old id key program new was (calls.again caller call reserved at is_open same_key same_program unproposed met idle room some view) =
     let now : CallerView = record caller { call = Some (tried_again call reserved) } in
     subst IsSafe (sym view) (safe_but old (with_call old id caller (tried_again call reserved)) id was (changes_caller old id now old.flow old.marks was refl (λ p other. refl) (omega arith))
-    (λ desk c at_desk at_caller. subst (λ (x : CallerView). IsPartySafe old.era (length old.marks) id desk x (queue_at old.flow id)) (sym (own_set old.callers id now c at_caller))
+    (λ desk c at_desk at_caller. subst (λ (x : CallerView). IsPartySafe (era_at old id) (length old.marks) id desk x (queue_at old.flow id)) (sym (own_set old.callers id now c at_caller))
     (let party = was.parties id desk caller at_desk at in
-    recalled old.era (length old.marks) (length old.marks) id desk caller now (queue_at old.flow id) (idle desk at_desk) party.number
+    recalled (era_at old id) (length old.marks) (length old.marks) id desk caller now (queue_at old.flow id) (idle desk at_desk) party.number
     (λ x is. subst (λ (y : CallView). 0 < y.reserved) (some_is is) some) party))
     (room_for old.callers (length old.marks) id caller now at room))
 
@@ -106,32 +106,32 @@ pub enough : (era : Era) → IsMemberSet era.prep → IsMemberSet era.acc → (r
 enough era prep acc reserved low = omega (arith, low, left_within era.prep era.acc prep, right_within era.prep era.acc acc)
 
 pub prepares_safe : {S V : Type 0} (m : Meaning S V) (old : View S V) (id : ℕ) (caller : CallerView) (call : CallView) (desk now : DeskView V) (ballot : Ballot) (round : Round) (flow : FlowView) → IsSafe old
-    → IsAt old.callers id caller → caller.call ≡ Some call → call.proposed ≡ None → call.harmed ≡ [] → IsAt old.desks id desk → desk.down ≡ false → round_marks old.era ≤ suc call.reserved
-    → BeginsToPrepare m.disks old.era call.key desk now ballot round → Sends old.flow id (prepares_to id (kept_of desk.vault).age call.key ballot old.era.prep) flow → IsSafe (record (with_desk old id now) { flow = flow })
+    → IsAt old.callers id caller → caller.call ≡ Some call → call.proposed ≡ None → call.harmed ≡ [] → IsAt old.desks id desk → desk.down ≡ false → round_marks (era_at old id) ≤ suc call.reserved
+    → BeginsToPrepare m.disks (era_at old id) call.key desk now ballot round → Sends old.flow id (prepares_to id (kept_of desk.vault).age call.key ballot (era_at old id).prep) flow → IsSafe (record (with_desk old id now) { flow = flow })
 prepares_safe {S} {V} m old id caller call desk now ballot round flow was at_caller is_open unproposed unharmed at_desk up room begins sends =
     safe_but old (record (with_desk old id now) { flow = flow }) id was (changes_desk old id now flow was sends.queues sends.others)
-    (λ d c at_d at_c. subst (λ (x : DeskView V). IsPartySafe old.era (length old.marks) id x c (queue_at flow id)) (sym (own_set old.desks id now d at_d))
-    (subst (λ (x : CallerView). IsPartySafe old.era (length old.marks) id now x (queue_at flow id)) (at_one old.callers id at_caller at_c) safe)) was.room
+    (λ d c at_d at_c. subst (λ (x : DeskView V). IsPartySafe (era_at old id) (length old.marks) id x c (queue_at flow id)) (sym (own_set old.desks id now d at_d))
+    (subst (λ (x : CallerView). IsPartySafe (era_at old id) (length old.marks) id now x (queue_at flow id)) (at_one old.callers id at_caller at_c) safe)) was.room
   where
-    party : IsPartySafe old.era (length old.marks) id desk caller (queue_at old.flow id)
+    party : IsPartySafe (era_at old id) (length old.marks) id desk caller (queue_at old.flow id)
     party = was.parties id desk caller at_desk at_caller
 
     f : ℕ → Request
     f = prepare_request id (kept_of desk.vault).age call.key ballot
 
-    waiting : (queue_at flow id).messages ≡ prepares_to id (kept_of desk.vault).age call.key ballot old.era.prep
-    waiting = sends.own ∙ ap (λ (l : List Message). l ++ prepares_to id (kept_of desk.vault).age call.key ballot old.era.prep) (idle_at old.era caller (queue_at old.flow id) desk.round begins.none_open party.round).none_waits
+    waiting : (queue_at flow id).messages ≡ prepares_to id (kept_of desk.vault).age call.key ballot (era_at old id).prep
+    waiting = sends.own ∙ ap (λ (l : List Message). l ++ prepares_to id (kept_of desk.vault).age call.key ballot (era_at old id).prep) (idle_at (era_at old id) caller (queue_at old.flow id) desk.round begins.none_open party.round).none_waits
 
     preparing : (is_preparing round.phase ≡ true) × (asked_in round.era round.phase ≡ round.era.prep)
     preparing = prepares_is round.era round.ballot [] round.phase begins.opened.1.phase
 
-    asked : asked_in old.era round.phase ≡ old.era.prep
+    asked : asked_in (era_at old id) round.phase ≡ (era_at old id).prep
     asked = subst (λ (e : Era). asked_in e round.phase ≡ e.prep) begins.opened.0.in_era preparing.1
 
-    counted : requests_in (queue_at flow id).messages ≡ length old.era.prep
-    counted = ap requests_in waiting ∙ requests_of_map f old.era.prep
+    counted : requests_in (queue_at flow id).messages ≡ length (era_at old id).prep
+    counted = ap requests_in waiting ∙ requests_of_map f (era_at old id).prep
 
-    open_safe : IsOpenSafe old.era caller (queue_at flow id) round
+    open_safe : IsOpenSafe (era_at old id) caller (queue_at flow id) round
     open_safe = record {
       call = call;
       is_open = is_open;
@@ -139,22 +139,22 @@ prepares_safe {S} {V} m old id caller call desk now ballot round flow was at_cal
       same_era = begins.opened.0.in_era;
       ballot = subst FitsBallot (sym begins.opened.0.at) begins.drawn.fits;
       ride = λ b some. absurd (cc (some, begins.opened.0.ride));
-      about = about_members f old.era.prep (asked_in old.era round.phase) (queue_at flow id).messages (λ to. refl) waiting asked;
-      asks = λ e request h. ask_prepares f old.era.prep (queue_at flow id).messages (λ to. refl) waiting request h;
+      about = about_members f (era_at old id).prep (asked_in (era_at old id) round.phase) (queue_at flow id).messages (λ to. refl) waiting asked;
+      asks = λ e request h. ask_prepares f (era_at old id).prep (queue_at flow id).messages (λ to. refl) waiting request h;
       harmed_set = subst IsMemberSet (sym unharmed) no_harm;
       harmed_within = λ a h. absurd (cc (sym h ∙ ap (λ (l : List ℕ). has_member l a) unharmed));
       unproposed = λ e. unproposed;
-      prepare_room = λ e. omega (arith, enough old.era was.prep_set was.acc_set call.reserved room);
+      prepare_room = λ e. omega (arith, enough (era_at old id) (was.prep_sets id) (was.acc_sets id) call.reserved room);
       proposed = λ e. absurd (cc (e, preparing.0));
       accept_room = λ e. absurd (cc (e, preparing.0));
     }
 
-    safe : IsPartySafe old.era (length old.marks) id now caller (queue_at flow id)
+    safe : IsPartySafe (era_at old id) (length old.marks) id now caller (queue_at flow id)
     safe = record {
       same_id = ap (λ (d : DeskView V). d.id) begins.desk ∙ party.same_id;
       idle = λ down. absurd (cc (down, up, ap (λ (d : DeskView V). d.down) begins.desk));
       number = party.number;
       cached = λ key ready h. party.cached key ready (contains_without call.key desk.cache (subst (λ (l : List (List ℕ × Ready)). Contains l (key, ready)) (ap (λ (d : DeskView V). d.cache) begins.desk) h));
-      round = subst (IsRoundSafe old.era caller (queue_at flow id)) (sym (ap (λ (d : DeskView V). d.round) begins.desk)) open_safe;
-      room = omega (arith, sends.room, counted, length-map old.era.prep (λ (to : ℕ). message.Request (f to)));
+      round = subst (IsRoundSafe (era_at old id) caller (queue_at flow id)) (sym (ap (λ (d : DeskView V). d.round) begins.desk)) open_safe;
+      room = omega (arith, sends.room, counted, length-map (era_at old id).prep (λ (to : ℕ). message.Request (f to)));
     }

@@ -1,13 +1,14 @@
 -- A cluster that opens is safe.
-use Rattle.std.proofs.Common.{◌≡◌, ℕ, suc, List, [], ◌∷◌, refl, sym, ap, subst, arith}
-use Rattle.std.specs.Prelude.{length, Contains}
-use Rattle.cas_ballot.specs.Members.{IsMemberSet}
+use Rattle.std.proofs.Common.{◌≡◌, ℕ, zero, suc, List, [], ◌∷◌, refl, sym, ap, subst, arith}
+use Rattle.std.specs.Prelude.{length, Contains, replicate, slice_index_or}
+use Rattle.cas_ballot.specs.Members.{IsMemberSet, members_where}
 use Rattle.cas_cache.specs.declared.ready.Ready.{Ready}
 use Rattle.cas_flow.specs.Flow.{FlowView, queue_at}
 use Rattle.cas_quorum.specs.declared.era.Era.{Era}
+use Rattle.cas_quorum.specs.Era.{majority_era}
 use Rattle.cas_record.specs.declared.mark.Mark.{Mark}
 use Rattle.cas_cluster.specs.SafeLaws.{OpeningsAreSafe}
-use Rattle.cas_cluster.specs.View.{Meaning, CallerView, IsAt, new_caller, reserved_in, reserved_of}
+use Rattle.cas_cluster.specs.View.{Meaning, CallerView, IsAt, new_caller, reserved_in, reserved_of, era_at, era_in}
 use Rattle.cas_cluster.proofs.Opens.{none_under_way}
 use Rattle.cas_cluster.proofs.Places.{contains_none}
 use Rattle.cas_cluster.proofs.SafeParts.{party_idle}
@@ -17,11 +18,23 @@ none_reserved : (callers : List CallerView) → ((id : ℕ) (caller : CallerView
 none_reserved [] fresh = refl
 none_reserved (caller ∷ callers) fresh = omega (arith, ap (λ (c : CallerView). reserved_in c.call) (fresh 0 caller refl), none_reserved callers (λ id c at. fresh (suc id) c at))
 
+no_members : IsMemberSet []
+unfolding members_where
+no_members = record { lists = refl }
+
+-- the members of each era are a set, and so is what no proposer has
+sets : {members : List ℕ} (n id : ℕ) → IsMemberSet members
+    → IsMemberSet (slice_index_or (replicate n (majority_era 0 members)) id (majority_era 0 [])).prep × IsMemberSet (slice_index_or (replicate n (majority_era 0 members)) id (majority_era 0 [])).acc
+sets zero id set = (no_members, no_members)
+sets (suc n) zero set = (set, set)
+sets (suc n) (suc id) set = sets n id set
+
 pub opens_are_safe : {S V : Type 0} (m : Meaning S V) → OpeningsAreSafe m
 opens_are_safe {S} {V} m members view is places = record {
   few = is.few;
-  prep_set = subst (λ (e : Era). IsMemberSet e.prep) (sym is.era) is.member_set;
-  acc_set = subst (λ (e : Era). IsMemberSet e.acc) (sym is.era) is.member_set;
+  prep_sets = λ id. subst (λ (l : List Era). IsMemberSet (era_in l id).prep) (sym is.eras) (sets 17 id is.member_set).0;
+  acc_sets = λ id. subst (λ (l : List Era). IsMemberSet (era_in l id).acc) (sym is.eras) (sets 17 id is.member_set).1;
+  eras = ap (λ (l : List Era). length l) is.eras;
   acceptors = places.acceptors;
   acceptor_ids = λ id acceptor at. (is.acceptors id acceptor at).same_id;
   desks = places.desks;
@@ -30,7 +43,7 @@ opens_are_safe {S} {V} m members view is places = record {
   parties = λ id desk caller at_desk at_caller.
       let fresh = (is.desks id desk at_desk).1 in
       let new = is.callers id caller at_caller in
-      party_idle view.era (length view.marks) id desk caller (queue_at view.flow id) fresh.same_id fresh.none_open (none_under_way view.flow id is.flow) (omega (arith, ap (λ (c : CallerView). c.number) new))
+      party_idle (era_at view id) (length view.marks) id desk caller (queue_at view.flow id) fresh.same_id fresh.none_open (none_under_way view.flow id is.flow) (omega (arith, ap (λ (c : CallerView). c.number) new))
       (λ key ready h. absurd (contains_none (subst (λ (l : List (List ℕ × Ready)). Contains l (key, ready)) fresh.no_promise h)))
       (λ call some. absurd (cc (some, ap (λ (c : CallerView). c.call) new)));
   room = omega (arith, none_reserved view.callers is.callers, ap (λ (l : List Mark). length l) is.marks);

@@ -1,6 +1,6 @@
 -- Lists of callers and what is reserved for them; frames that wait; and parties that stay safe as others go on.
 use Rattle.std.proofs.Common.{◌≡◌, ◌<◌, ◌≤◌, ℕ, zero, suc, true, false, List, [], ◌∷◌, ◌++◌, Option, None, Some, refl, sym, ap, subst, ◌∙◌, inl, inr, arith, length-set, length-append}
-use Rattle.std.specs.Prelude.{◌⊎◌, ◌+◌, ◌||◌, ◌&&◌, ◌==◌, nat_lt, length, map, slice_set, Contains}
+use Rattle.std.specs.Prelude.{◌⊎◌, ◌+◌, ◌||◌, ◌&&◌, ◌==◌, nat_lt, length, map, slice_set, slice_index_or, Contains}
 use Rattle.cas_base.proofs.Bools.{true_or_false, and_left, and_right, or_left, or_right}
 use Rattle.cas_ballot.specs.Ballot.{FitsBallot}
 use Rattle.cas_ballot.specs.Members.{members_where, has_member, with_member, union_of, IsMemberSet}
@@ -15,13 +15,14 @@ use Rattle.cas_acceptor.specs.Acceptor.{AcceptorView}
 use Rattle.cas_proposer.specs.Desk.{DeskView}
 use Rattle.cas_proposer.specs.declared.round.Round.{Round}
 use Rattle.cas_quorum.specs.declared.era.Era.{Era}
+use Rattle.cas_quorum.specs.Era.{majority_era}
 use Rattle.cas_slot.specs.declared.message.Request.{Request}
 use Rattle.cas_record.specs.declared.mark.Mark.{Mark}
 use Rattle.cas_record.proofs.Tests.{nat_same, nat_is}
 use Rattle.cas_cluster.specs.Safe.{requests_in, IsPartySafe, IsRoundSafe, IsIdleSafe, IsSafe}
 use Rattle.cas_cluster.specs.StepCalls.{most_marks}
 use Rattle.cas_cluster.proofs.Places.{some_is, same_or_not, own_set, other_set}
-use Rattle.cas_cluster.specs.View.{View, CallView, CallerView, IsAt, reserved_in, reserved_of}
+use Rattle.cas_cluster.specs.View.{View, CallView, CallerView, IsAt, reserved_in, reserved_of, era_at, era_in}
 
 -- ---- what is reserved
 pub reserved_set : (callers : List CallerView) (place : ℕ) (old new : CallerView) → IsAt callers place old → reserved_of (slice_set callers place new) + reserved_in old.call ≡ reserved_of callers + reserved_in new.call
@@ -88,7 +89,7 @@ at_low (y ∷ xs) (suc place) low = at_low xs place (omega (arith, low))
 -- what changes of it: acceptors that keep their identities, one proposer and its caller and frames, and more marks
 pub record Changes {S V : Type 0} (old new : View S V) (id : ℕ) : Type 0 where
   pub greatest : new.greatest ≡ old.greatest
-  pub era : new.era ≡ old.era
+  pub eras : new.eras ≡ old.eras
   pub acceptors : length new.acceptors ≡ length old.acceptors
   pub acceptor_ids : (a : ℕ) (acceptor : AcceptorView S) → IsAt new.acceptors a acceptor → acceptor.id ≡ a
   pub desks_length : length new.desks ≡ length old.desks
@@ -111,28 +112,29 @@ more_marks era few more id desk caller queue low was = record {
 }
 
 pub safe_but : {S V : Type 0} (old new : View S V) (id : ℕ) → IsSafe old → Changes old new id
-    → ((desk : DeskView V) (caller : CallerView) → IsAt new.desks id desk → IsAt new.callers id caller → IsPartySafe old.era (length new.marks) id desk caller (queue_at new.flow id))
+    → ((desk : DeskView V) (caller : CallerView) → IsAt new.desks id desk → IsAt new.callers id caller → IsPartySafe (era_at old id) (length new.marks) id desk caller (queue_at new.flow id))
     → length new.marks + reserved_of new.callers ≤ most_marks → IsSafe new
 safe_but {S} {V} old new id was changes party room = record {
   few = subst (λ (n : ℕ). n ≤ 16) (sym changes.greatest) was.few;
-  prep_set = subst (λ (e : Era). IsMemberSet e.prep) (sym changes.era) was.prep_set;
-  acc_set = subst (λ (e : Era). IsMemberSet e.acc) (sym changes.era) was.acc_set;
+  prep_sets = λ p. subst (λ (l : List Era). IsMemberSet (era_in l p).prep) (sym changes.eras) (was.prep_sets p);
+  acc_sets = λ p. subst (λ (l : List Era). IsMemberSet (era_in l p).acc) (sym changes.eras) (was.acc_sets p);
+  eras = ap (λ (l : List Era). length l) changes.eras ∙ was.eras;
   acceptors = changes.acceptors ∙ was.acceptors;
   acceptor_ids = changes.acceptor_ids;
   desks = changes.desks_length ∙ was.desks ∙ ap suc (sym changes.greatest);
   callers = changes.callers_length ∙ was.callers ∙ ap suc (sym changes.greatest);
   own = changes.own_length ∙ was.own;
-  parties = λ p desk caller at_desk at_caller. subst (λ (e : Era). IsPartySafe e (length new.marks) p desk caller (queue_at new.flow p)) (sym changes.era) (by_place p desk caller at_desk at_caller (same_or_not p id));
+  parties = λ p desk caller at_desk at_caller. subst (λ (l : List Era). IsPartySafe (era_in l p) (length new.marks) p desk caller (queue_at new.flow p)) (sym changes.eras) (by_place p desk caller at_desk at_caller (same_or_not p id));
   room = room;
 }
   where
-    by_place : (p : ℕ) (desk : DeskView V) (caller : CallerView) → IsAt new.desks p desk → IsAt new.callers p caller → (p ≡ id) ⊎ (p ≡ id → ⊥) → IsPartySafe old.era (length new.marks) p desk caller (queue_at new.flow p)
+    by_place : (p : ℕ) (desk : DeskView V) (caller : CallerView) → IsAt new.desks p desk → IsAt new.callers p caller → (p ≡ id) ⊎ (p ≡ id → ⊥) → IsPartySafe (era_at old p) (length new.marks) p desk caller (queue_at new.flow p)
     by_place p desk caller at_desk at_caller (inl same) =
-        subst (λ (q : ℕ). IsPartySafe old.era (length new.marks) q desk caller (queue_at new.flow q)) (sym same)
+        subst (λ (q : ℕ). IsPartySafe (era_at old q) (length new.marks) q desk caller (queue_at new.flow q)) (sym same)
         (party desk caller (subst (λ (q : ℕ). IsAt new.desks q desk) same at_desk) (subst (λ (q : ℕ). IsAt new.callers q caller) same at_caller))
     by_place p desk caller at_desk at_caller (inr other) =
-        more_marks old.era (length old.marks) (length new.marks) p desk caller (queue_at new.flow p) changes.marks
-        (subst (λ (q : QueueView). IsPartySafe old.era (length old.marks) p desk caller q) (sym (changes.own p other))
+        more_marks (era_at old p) (length old.marks) (length new.marks) p desk caller (queue_at new.flow p) changes.marks
+        (subst (λ (q : QueueView). IsPartySafe (era_at old p) (length old.marks) p desk caller q) (sym (changes.own p other))
         (was.parties p desk caller (changes.desks p desk other at_desk) (changes.callers p caller other at_caller)))
 
 pub more_by : (marks more : List Mark) → length marks ≤ length (marks ++ more)
@@ -144,7 +146,7 @@ pub changes_both : {S V : Type 0} (old : View S V) (id : ℕ) (desk : DeskView V
     → Changes old (record old { desks = slice_set old.desks id desk; callers = slice_set old.callers id caller; flow = flow; marks = marks }) id
 changes_both old id desk caller flow marks was own others more = record {
   greatest = refl;
-  era = refl;
+  eras = refl;
   acceptors = refl;
   acceptor_ids = was.acceptor_ids;
   desks_length = length-set old.desks id desk;
@@ -161,7 +163,7 @@ pub changes_caller : {S V : Type 0} (old : View S V) (id : ℕ) (caller : Caller
     → Changes old (record old { callers = slice_set old.callers id caller; flow = flow; marks = marks }) id
 changes_caller old id caller flow marks was own others more = record {
   greatest = refl;
-  era = refl;
+  eras = refl;
   acceptors = refl;
   acceptor_ids = was.acceptor_ids;
   desks_length = refl;
@@ -177,7 +179,7 @@ pub changes_desk : {S V : Type 0} (old : View S V) (id : ℕ) (desk : DeskView V
     → ((p : ℕ) → (p ≡ id → ⊥) → queue_at flow p ≡ queue_at old.flow p) → Changes old (record old { desks = slice_set old.desks id desk; flow = flow }) id
 changes_desk old id desk flow was own others = record {
   greatest = refl;
-  era = refl;
+  eras = refl;
   acceptors = refl;
   acceptor_ids = was.acceptor_ids;
   desks_length = length-set old.desks id desk;
@@ -197,7 +199,7 @@ pub changes_all : {S V : Type 0} (old : View S V) (id : ℕ) (acceptors : List (
     → Changes old (record old { acceptors = acceptors; desks = desks; callers = slice_set old.callers id caller; flow = flow; marks = marks }) id
 changes_all old id acceptors desks caller flow marks acceptors_length ids desks_length other_desks own others more = record {
   greatest = refl;
-  era = refl;
+  eras = refl;
   acceptors = acceptors_length;
   acceptor_ids = ids;
   desks_length = desks_length;

@@ -30,7 +30,7 @@ use Rattle.cas_cluster.specs.Step.{OpenRoundAt, StepPropose, StepCount}
 use Rattle.cas_cluster.specs.StepCalls as calls
 use Rattle.cas_cluster.specs.StepCalls.{most_marks, round_marks, with_call, over, proposing, proposed_view, proposal_of, Sends, accepts_to, offered_by, BeginsRound, ProposesOrEnds, CountsOrEnds}
 use Rattle.cas_cluster.specs.StepDesks.{MayHaveDrawn}
-use Rattle.cas_cluster.specs.View.{DiskMeaning, Meaning, View, CallView, CallerView, IsAt, reserved_in}
+use Rattle.cas_cluster.specs.View.{DiskMeaning, Meaning, View, CallView, CallerView, IsAt, reserved_in, era_at}
 use Rattle.cas_cluster.proofs.Caches.{contains_without, contains_promise}
 use Rattle.cas_cluster.proofs.CallSteps.{no_harm}
 use Rattle.cas_cluster.proofs.Places.{own_set, some_is}
@@ -64,13 +64,13 @@ prepare_reserves era caller queue round call prep is_open preparing is =
 -- ---- a change is proposed
 pub proposed_safe : {S V : Type 0} (old : View S V) (id : ℕ) (caller : CallerView) (call : CallView) (desk now : DeskView V) (round : Round) (flow : FlowView) (p : Proposal) (age : ℕ) (key : List ℕ) (ballot : Ballot) (ride : Option Ballot) (outcome : Outcome)
     → IsSafe old → IsAt old.callers id caller → caller.call ≡ Some call → IsAt old.desks id desk → now.id ≡ desk.id → now.down ≡ false → now.round ≡ Some round
-    → round.key ≡ call.key → round.era ≡ old.era → FitsBallot round.ballot → ((b : Ballot) → round.ride ≡ Some b → FitsBallot b) → is_preparing round.phase ≡ false
+    → round.key ≡ call.key → round.era ≡ (era_at old id) → FitsBallot round.ballot → ((b : Ballot) → round.ride ≡ Some b → FitsBallot b) → is_preparing round.phase ≡ false
     → ((key : List ℕ) (ready : Ready) → Contains now.cache (key, ready) → Contains desk.cache (key, ready)) → (queue_at old.flow id).messages ≡ []
-    → Sends old.flow id (accepts_to id age key ballot old.era.number ride outcome.state old.era.acc) flow → 3 + 3 * length old.era.acc ≤ call.reserved → IsSafe (proposed_view old id caller call now flow p outcome)
+    → Sends old.flow id (accepts_to id age key ballot (era_at old id).number ride outcome.state (era_at old id).acc) flow → 3 + 3 * length (era_at old id).acc ≤ call.reserved → IsSafe (proposed_view old id caller call now flow p outcome)
 proposed_safe {S} {V} old id caller call desk now round flow p age key ballot ride outcome was at_caller is_open at_desk same up is_round same_key same_era fits rides accepting fewer none sends reserved =
     safe_but old (proposed_view old id caller call now flow p outcome) id was (changes_both old id now after flow marks was sends.queues sends.others (more_by old.marks (Proposed p ∷ [])))
-    (λ d c at_d at_c. subst (λ (x : DeskView V). IsPartySafe old.era (length marks) id x c (queue_at flow id)) (sym (own_set old.desks id now d at_d))
-    (subst (λ (x : CallerView). IsPartySafe old.era (length marks) id now x (queue_at flow id)) (sym (own_set old.callers id after c at_c)) safe))
+    (λ d c at_d at_c. subst (λ (x : DeskView V). IsPartySafe (era_at old id) (length marks) id x c (queue_at flow id)) (sym (own_set old.desks id now d at_d))
+    (subst (λ (x : CallerView). IsPartySafe (era_at old id) (length marks) id now x (queue_at flow id)) (sym (own_set old.callers id after c at_c)) safe))
     (omega (arith, was.room, reserved, length-append old.marks (Proposed p ∷ []), reserved_set old.callers id caller after at_caller, ap reserved_in is_open))
   where
     after : CallerView
@@ -79,19 +79,19 @@ proposed_safe {S} {V} old id caller call desk now round flow p age key ballot ri
     marks : List Mark
     marks = old.marks ++ Proposed p ∷ []
 
-    party : IsPartySafe old.era (length old.marks) id desk caller (queue_at old.flow id)
+    party : IsPartySafe (era_at old id) (length old.marks) id desk caller (queue_at old.flow id)
     party = was.parties id desk caller at_desk at_caller
 
     f : ℕ → Request
-    f = accept_request id age key ballot old.era.number ride outcome.state
+    f = accept_request id age key ballot (era_at old id).number ride outcome.state
 
-    waiting : (queue_at flow id).messages ≡ map (λ to. message.Request (f to)) old.era.acc
-    waiting = sends.own ∙ ap (λ (l : List Message). l ++ map (λ to. message.Request (f to)) old.era.acc) none
+    waiting : (queue_at flow id).messages ≡ map (λ to. message.Request (f to)) (era_at old id).acc
+    waiting = sends.own ∙ ap (λ (l : List Message). l ++ map (λ to. message.Request (f to)) (era_at old id).acc) none
 
-    counted : requests_in (queue_at flow id).messages ≡ length old.era.acc
-    counted = ap requests_in waiting ∙ requests_of_map f old.era.acc
+    counted : requests_in (queue_at flow id).messages ≡ length (era_at old id).acc
+    counted = ap requests_in waiting ∙ requests_of_map f (era_at old id).acc
 
-    open_safe : IsOpenSafe old.era after (queue_at flow id) round
+    open_safe : IsOpenSafe (era_at old id) after (queue_at flow id) round
     open_safe = record {
       call = proposing call outcome;
       is_open = refl;
@@ -99,7 +99,7 @@ proposed_safe {S} {V} old id caller call desk now round flow p age key ballot ri
       same_era = same_era;
       ballot = fits;
       ride = rides;
-      about = about_members f old.era.acc (asked_in old.era round.phase) (queue_at flow id).messages (λ to. refl) waiting (asks_to_accept old.era round.phase accepting);
+      about = about_members f (era_at old id).acc (asked_in (era_at old id) round.phase) (queue_at flow id).messages (λ to. refl) waiting (asks_to_accept (era_at old id) round.phase accepting);
       asks = λ e. absurd (cc (e, accepting));
       harmed_set = no_harm;
       harmed_within = λ a h. absurd (cc h);
@@ -109,14 +109,14 @@ proposed_safe {S} {V} old id caller call desk now round flow p age key ballot ri
       accept_room = λ e. omega (arith, counted, reserved);
     }
 
-    safe : IsPartySafe old.era (length marks) id now after (queue_at flow id)
+    safe : IsPartySafe (era_at old id) (length marks) id now after (queue_at flow id)
     safe = record {
       same_id = same ∙ party.same_id;
       idle = λ down. absurd (cc (down, up));
       number = omega (arith, party.number, more_by old.marks (Proposed p ∷ []));
       cached = λ key ready h. party.cached key ready (fewer key ready h);
-      round = subst (IsRoundSafe old.era after (queue_at flow id)) (sym is_round) open_safe;
-      room = omega (arith, sends.room, counted, length-map old.era.acc (λ (to : ℕ). message.Request (f to)));
+      round = subst (IsRoundSafe (era_at old id) after (queue_at flow id)) (sym is_round) open_safe;
+      room = omega (arith, sends.room, counted, length-map (era_at old id).acc (λ (to : ℕ). message.Request (f to)));
     }
 
 -- ---- what is drawn
@@ -132,15 +132,15 @@ begins_safe m old id caller call new was at_caller is_open unproposed unharmed (
 begins_safe {S} {V} m old id caller call new was at_caller is_open unproposed unharmed (calls.proposes desk now ready ride round outcome flow at_desk up room begins is_outcome sends view) =
     let party = was.parties id desk caller at_desk at_caller in
     let about = begins.opened.0 in
-    let sent : Sends old.flow id (accepts_to id (kept_of desk.vault).age round.key round.ballot old.era.number ride outcome.state old.era.acc) flow =
+    let sent : Sends old.flow id (accepts_to id (kept_of desk.vault).age round.key round.ballot (era_at old id).number ride outcome.state (era_at old id).acc) flow =
     subst (λ (e : Era). Sends old.flow id (accepts_to id (kept_of desk.vault).age round.key round.ballot e.number ride outcome.state e.acc) flow) about.in_era sends in
     subst IsSafe (sym view) (proposed_safe old id caller call desk now (record round { ride = ride }) flow (proposal_of id caller.number round ready.read ready.by) (kept_of desk.vault).age round.key round.ballot ride outcome
     was at_caller is_open at_desk (ap (λ (d : DeskView V). d.id) begins.desk) (ap (λ (d : DeskView V). d.down) begins.desk ∙ up) (ap (λ (d : DeskView V). d.round) begins.desk)
     about.of_key about.in_era (subst FitsBallot (sym about.at) (party.cached call.key ready (contains_promise call.key ready desk.cache begins.promise)))
     (drawn_fits m.disks desk.id desk.vault now.vault ride begins.drawn) (accepts_is round.era round.ballot [] round.phase begins.opened.1.phase).0
     (λ key r c. contains_without call.key desk.cache (subst (λ (l : List (List ℕ × Ready)). Contains l (key, r)) (ap (λ (d : DeskView V). d.cache) begins.desk) c))
-    (idle_at old.era caller (queue_at old.flow id) desk.round begins.none_open party.round).none_waits sent
-    (omega (arith, enough old.era was.prep_set was.acc_set call.reserved room)))
+    (idle_at (era_at old id) caller (queue_at old.flow id) desk.round begins.none_open party.round).none_waits sent
+    (omega (arith, enough (era_at old id) (was.prep_sets id) (was.acc_sets id) call.reserved room)))
 begins_safe {S} {V} m old id caller call new was at_caller is_open unproposed unharmed (calls.stays told nothing idle full view) =
     begin_stays_safe old id caller call told new was at_caller is_open (λ desk at. (idle desk at).0) view
 begins_safe {S} {V} m old id caller call new was at_caller is_open unproposed unharmed (calls.spent desk now at_desk idle up no_promise spent kept is_now view) =
@@ -151,8 +151,8 @@ begins_safe {S} {V} m old id caller call new was at_caller is_open unproposed un
     loses_safe m old id caller call call.key desk now ballot (answer.NoMemory false) new was at_caller is_open at_desk (none_waits_at old id caller desk was at_caller at_desk idle) by view
 
 -- ---- the prepare phase ends
-open_at : {S V : Type 0} (old : View S V) (id : ℕ) → IsSafe old → (at : OpenRoundAt old id) → IsOpenSafe old.era at.of_call.caller (queue_at old.flow id) at.round
-open_at old id was at = subst (IsRoundSafe old.era at.of_call.caller (queue_at old.flow id)) at.is_open (was.parties id at.desk at.of_call.caller at.at_desk at.of_call.at_caller).round
+open_at : {S V : Type 0} (old : View S V) (id : ℕ) → IsSafe old → (at : OpenRoundAt old id) → IsOpenSafe (era_at old id) at.of_call.caller (queue_at old.flow id) at.round
+open_at old id was at = subst (IsRoundSafe (era_at old id) at.of_call.caller (queue_at old.flow id)) at.is_open (was.parties id at.desk at.of_call.caller at.at_desk at.of_call.at_caller).round
 
 pub proposes_safe : {S V : Type 0} (m : Meaning S V) (old : View S V) (id : ℕ) (new : View S V) → IsSafe old → StepPropose m old id new → IsSafe new
 proposes_safe {S} {V} m old id new was step = by_case step.proposes
@@ -166,19 +166,19 @@ proposes_safe {S} {V} m old id new was step = by_case step.proposes
     call : CallView
     call = at.of_call.call
 
-    is : IsOpenSafe old.era caller (queue_at old.flow id) at.round
+    is : IsOpenSafe (era_at old id) caller (queue_at old.flow id) at.round
     is = open_at old id was at
 
     same : is.call ≡ call
     same = some_is (sym is.is_open ∙ at.of_call.is_open)
 
-    reserved : 3 + 3 * length old.era.acc ≤ call.reserved
-    reserved = prepare_reserves old.era caller (queue_at old.flow id) at.round call was.prep_set at.of_call.is_open step.preparing is
+    reserved : 3 + 3 * length (era_at old id).acc ≤ call.reserved
+    reserved = prepare_reserves (era_at old id) caller (queue_at old.flow id) at.round call (was.prep_sets id) at.of_call.is_open step.preparing is
 
     by_case : ProposesOrEnds m old id at.desk at.round caller call new → IsSafe new
     by_case (calls.proposes now turned read by ride outcome flow quorum confirmers is_read turns is_outcome sends view) =
         let same_round = turns.turns.same in
-        let sent : Sends old.flow id (accepts_to id (kept_of at.desk.vault).age at.round.key at.round.ballot old.era.number ride outcome.state old.era.acc) flow =
+        let sent : Sends old.flow id (accepts_to id (kept_of at.desk.vault).age at.round.key at.round.ballot (era_at old id).number ride outcome.state (era_at old id).acc) flow =
         subst (λ (e : Era). Sends old.flow id (accepts_to id (kept_of at.desk.vault).age at.round.key at.round.ballot e.number ride outcome.state e.acc) flow) is.same_era sends in
         subst IsSafe (sym view) (proposed_safe old id caller call at.desk now (record turned { ride = ride }) flow _ (kept_of at.desk.vault).age at.round.key at.round.ballot ride outcome
         was at.of_call.at_caller at.of_call.is_open at.at_desk (ap (λ (d : DeskView V). d.id) turns.desk) (ap (λ (d : DeskView V). d.down) turns.desk ∙ at.up) (ap (λ (d : DeskView V). d.round) turns.desk)

@@ -40,7 +40,7 @@ use Rattle.cas_cluster.specs.StepCalls.{most_marks, with_call, telling, over, Re
 use Rattle.cas_cluster.specs.StepDesks.{HearsReply, EndsRound, FailsToDraw, LosesMemory}
 use Rattle.cas_cluster.specs.StepFrames as frames
 use Rattle.cas_cluster.specs.StepFrames.{FindsNoRoom, Strays, votes_marked, without_late, with_late}
-use Rattle.cas_cluster.specs.View.{Meaning, View, CallView, CallerView, IsAt, reserved_in, reserved_of, with_acceptor, with_desk, with_marks}
+use Rattle.cas_cluster.specs.View.{Meaning, View, CallView, CallerView, IsAt, reserved_in, reserved_of, with_acceptor, with_desk, with_marks, era_at}
 use Rattle.cas_cluster.proofs.Caches.{contains_without, IsKeptOr, kept, held, kept_or_held}
 use Rattle.cas_cluster.proofs.EndSteps.{none_left}
 use Rattle.cas_cluster.proofs.Places.{own_set, some_is, queue_other, contains_none}
@@ -54,14 +54,15 @@ pub acceptors_safe : {S V : Type 0} (old : View S V) (acceptors : List (Acceptor
     → IsSafe (record old { acceptors = acceptors; flow = record { own = old.flow.own; late = late }; marks = marks })
 acceptors_safe old acceptors late marks was same ids more room = record {
   few = was.few;
-  prep_set = was.prep_set;
-  acc_set = was.acc_set;
+  prep_sets = was.prep_sets;
+  acc_sets = was.acc_sets;
+  eras = was.eras;
   acceptors = same ∙ was.acceptors;
   acceptor_ids = ids;
   desks = was.desks;
   callers = was.callers;
   own = was.own;
-  parties = λ id desk caller at_desk at_caller. more_marks old.era (length old.marks) (length marks) id desk caller (queue_at old.flow id) more (was.parties id desk caller at_desk at_caller);
+  parties = λ id desk caller at_desk at_caller. more_marks (era_at old id) (length old.marks) (length marks) id desk caller (queue_at old.flow id) more (was.parties id desk caller at_desk at_caller);
   room = room;
 }
 
@@ -131,14 +132,14 @@ pub tells_safe : {S V : Type 0} (old : View S V) (id : ℕ) (caller : CallerView
 tells_safe {S} {V} old id caller call now was at is_open key reserved proposed harmed =
     let next : CallerView = record caller { call = Some now } in
     safe_but old (with_call old id caller now) id was (changes_caller old id next old.flow old.marks was refl (λ p other. refl) (omega arith))
-    (λ desk c at_desk at_caller. subst (λ (x : CallerView). IsPartySafe old.era (length old.marks) id desk x (queue_at old.flow id)) (sym (own_set old.callers id next c at_caller))
+    (λ desk c at_desk at_caller. subst (λ (x : CallerView). IsPartySafe (era_at old id) (length old.marks) id desk x (queue_at old.flow id)) (sym (own_set old.callers id next c at_caller))
     (let party = was.parties id desk caller at_desk at in
     record {
       same_id = party.same_id;
       idle = party.idle;
       number = party.number;
       cached = party.cached;
-      round = told_safe old.era caller call now (queue_at old.flow id) desk.round is_open key reserved proposed harmed party.round;
+      round = told_safe (era_at old id) caller call now (queue_at old.flow id) desk.round is_open key reserved proposed harmed party.round;
       room = party.room;
     }))
     (omega (arith, was.room, reserved, ap reserved_in is_open, reserved_set old.callers id caller next at))
@@ -206,8 +207,8 @@ strays_safe {S} {V} m old index new was by = by_stray by.strays
         ((keeps_set old.acceptors request.to acceptor now at (ap (λ (a : AcceptorView S). a.id) stops.acceptor)).ids was.acceptor_ids) (omega arith) was.room)
     by_stray (frames.arrives reply desk now round heard late at has_round hears view) =
         subst IsSafe (sym view) (safe_but old (record (with_desk old reply.to now) { flow = without_late old.flow index }) reply.to was (changes_desk old reply.to now (without_late old.flow index) was refl (λ p other. refl))
-        (λ d c at_d at_c. subst (λ (x : DeskView V). IsPartySafe old.era (length old.marks) reply.to x c (queue_at old.flow reply.to)) (sym (own_set old.desks reply.to now d at_d))
-        (heard_party old.era (length old.marks) reply.to desk now c (queue_at old.flow reply.to) round heard reply has_round hears (was.parties reply.to desk c at at_c)))
+        (λ d c at_d at_c. subst (λ (x : DeskView V). IsPartySafe (era_at old reply.to) (length old.marks) reply.to x c (queue_at old.flow reply.to)) (sym (own_set old.desks reply.to now d at_d))
+        (heard_party (era_at old reply.to) (length old.marks) reply.to desk now c (queue_at old.flow reply.to) round heard reply has_round hears (was.parties reply.to desk c at at_c)))
         was.room)
     by_stray (frames.drops ignored view) =
         subst IsSafe (sym view) (acceptors_safe old old.acceptors (without_late old.flow index).late old.marks was refl was.acceptor_ids (omega arith) was.room)
@@ -242,7 +243,7 @@ call_reserves era caller call queue (Some round) is_open prep acc was = omega (a
 
 pub call_reserves_at : {S V : Type 0} (old : View S V) (id : ℕ) (caller : CallerView) (call : CallView) (desk : DeskView V) → IsSafe old → IsAt old.callers id caller → caller.call ≡ Some call → IsAt old.desks id desk → 0 < call.reserved
 call_reserves_at old id caller call desk was at_caller is_open at_desk =
-    call_reserves old.era caller call (queue_at old.flow id) desk.round is_open was.prep_set was.acc_set (was.parties id desk caller at_desk at_caller).round
+    call_reserves (era_at old id) caller call (queue_at old.flow id) desk.round is_open (was.prep_sets id) (was.acc_sets id) (was.parties id desk caller at_desk at_caller).round
 
 -- ---- a desk without an open round
 -- each promise that a cache holds is within its limits
@@ -260,10 +261,10 @@ pub desk_idles : {S V : Type 0} (old : View S V) (id : ℕ) (desk now : DeskView
     → IsSafe (record (with_desk old id now) { flow = flow })
 desk_idles {S} {V} old id desk now flow was at same none fit idle own others =
     safe_but old (record (with_desk old id now) { flow = flow }) id was (changes_desk old id now flow was own others)
-    (λ d caller at_d at_caller. subst (λ (x : DeskView V). IsPartySafe old.era (length old.marks) id x caller (queue_at flow id)) (sym (own_set old.desks id now d at_d))
+    (λ d caller at_d at_caller. subst (λ (x : DeskView V). IsPartySafe (era_at old id) (length old.marks) id x caller (queue_at flow id)) (sym (own_set old.desks id now d at_d))
     (let party = was.parties id desk caller at at_caller in
     let is = idle caller at_caller in
-    party_idle old.era (length old.marks) id now caller (queue_at flow id) (same ∙ party.same_id) none is.none_waits party.number (fit party.cached) is.reserved))
+    party_idle (era_at old id) (length old.marks) id now caller (queue_at flow id) (same ∙ party.same_id) none is.none_waits party.number (fit party.cached) is.reserved))
     was.room
 
 -- the same, with what its caller's call is now, and more marks within what was reserved for them
@@ -274,10 +275,10 @@ pub call_idles : {S V : Type 0} (old : View S V) (id : ℕ) (caller next : Calle
     → IsSafe (record old { desks = slice_set old.desks id now; callers = slice_set old.callers id next; flow = flow; marks = marks })
 call_idles {S} {V} old id caller next desk now flow marks was at_caller at_desk same none fit number reserved waits own others more room =
     safe_but old (record old { desks = slice_set old.desks id now; callers = slice_set old.callers id next; flow = flow; marks = marks }) id was (changes_both old id now next flow marks was own others more)
-    (λ d c at_d at_c. subst (λ (x : DeskView V). IsPartySafe old.era (length marks) id x c (queue_at flow id)) (sym (own_set old.desks id now d at_d))
-    (subst (λ (x : CallerView). IsPartySafe old.era (length marks) id now x (queue_at flow id)) (sym (own_set old.callers id next c at_c))
+    (λ d c at_d at_c. subst (λ (x : DeskView V). IsPartySafe (era_at old id) (length marks) id x c (queue_at flow id)) (sym (own_set old.desks id now d at_d))
+    (subst (λ (x : CallerView). IsPartySafe (era_at old id) (length marks) id now x (queue_at flow id)) (sym (own_set old.callers id next c at_c))
     (let party = was.parties id desk caller at_desk at_caller in
-    party_idle old.era (length marks) id now next (queue_at flow id) (same ∙ party.same_id) none waits (omega (arith, number, party.number, more)) (fit party.cached) reserved)))
+    party_idle (era_at old id) (length marks) id now next (queue_at flow id) (same ∙ party.same_id) none waits (omega (arith, number, party.number, more)) (fit party.cached) reserved)))
     (omega (arith, room, was.room, reserved_set old.callers id caller next at_caller))
 
 -- a round is over, or none began, and the caller is told so
@@ -302,7 +303,7 @@ crashes_proposer_safe {S} {V} m old id new was (step.idle desk now at none by vi
     (crashed_fit desk now (ap (λ (d : DeskView V). d.cache) by.crashed))
     (λ caller at_caller. record {
       none_waits = none_left old.flow id;
-      reserved = (idle_at old.era caller (queue_at old.flow id) desk.round none (was.parties id desk caller at at_caller).round).reserved;
+      reserved = (idle_at (era_at old id) caller (queue_at old.flow id) desk.round none (was.parties id desk caller at at_caller).round).reserved;
     })
     (length-set old.flow.own id (emptied (queue_at old.flow id))) (left_alone old.flow id))
 crashes_proposer_safe {S} {V} m old id new was (step.closes desk now round of_call at some by view) =
@@ -317,10 +318,10 @@ pub restarts_proposer_safe : {S V : Type 0} (m : Meaning S V) (old : View S V) (
 restarts_proposer_safe {S} {V} m old id new was (step.was_up_already desk at up view) = subst IsSafe (sym view) was
 restarts_proposer_safe {S} {V} m old id new was (step.restarts desk now at down by view) =
     subst IsSafe (sym view) (safe_but old (with_desk old id now) id was (changes_desk old id now old.flow was refl (λ p other. refl))
-    (λ d caller at_d at_caller. subst (λ (x : DeskView V). IsPartySafe old.era (length old.marks) id x caller (queue_at old.flow id)) (sym (own_set old.desks id now d at_d))
+    (λ d caller at_d at_caller. subst (λ (x : DeskView V). IsPartySafe (era_at old id) (length old.marks) id x caller (queue_at old.flow id)) (sym (own_set old.desks id now d at_d))
     (let party = was.parties id desk caller at at_caller in
-    let is = idle_at old.era caller (queue_at old.flow id) desk.round (party.idle down) party.round in
-    party_idle old.era (length old.marks) id now caller (queue_at old.flow id) (ap (λ (d : DeskView V). d.id) by.desk ∙ party.same_id) (ap (λ (d : DeskView V). d.round) by.desk ∙ party.idle down)
+    let is = idle_at (era_at old id) caller (queue_at old.flow id) desk.round (party.idle down) party.round in
+    party_idle (era_at old id) (length old.marks) id now caller (queue_at old.flow id) (ap (λ (d : DeskView V). d.id) by.desk ∙ party.same_id) (ap (λ (d : DeskView V). d.round) by.desk ∙ party.idle down)
     is.none_waits party.number (subst AreFit (sym (ap (λ (d : DeskView V). d.cache) by.desk)) party.cached) is.reserved))
     was.room)
 
@@ -347,7 +348,7 @@ pub refuses_call_safe : {S V : Type 0} (m : Meaning S V) (old : View S V) (id : 
 refuses_call_safe {S} {V} m old id key new was (calls.stays view) = subst IsSafe (sym view) was
 refuses_call_safe {S} {V} m old id key new was (calls.loses caller desk now ballot at_caller at_desk none up by view) =
     subst IsSafe (sym view) (desk_idles old id desk now old.flow was at_desk (ap (λ (d : DeskView V). d.id) by.desk) (ap (λ (d : DeskView V). d.round) by.desk) (fit_fewer key desk.cache now.cache by.cache)
-    (λ c at_c. idle_at old.era c (queue_at old.flow id) desk.round none (was.parties id desk c at_desk at_c).round) refl (λ p other. refl))
+    (λ c at_c. idle_at (era_at old id) c (queue_at old.flow id) desk.round none (was.parties id desk c at_desk at_c).round) refl (λ p other. refl))
 
 -- ---- rounds that do not begin
 -- two lists as long as each other have the same places
@@ -364,15 +365,15 @@ begin_stays_safe {S} {V} old id caller call told new was at_caller is_open idle 
     let next : CallerView = record caller { call = Some (over call told) } in
     let its = place_of_both old.callers old.desks id caller (was.callers ∙ sym was.desks) at_caller in
     subst IsSafe (sym view) (safe_but old (with_call old id caller (over call told)) id was (changes_caller old id next old.flow old.marks was refl (λ p other. refl) (omega arith))
-    (λ desk c at_desk at_c. subst (λ (x : CallerView). IsPartySafe old.era (length old.marks) id desk x (queue_at old.flow id)) (sym (own_set old.callers id next c at_c))
+    (λ desk c at_desk at_c. subst (λ (x : CallerView). IsPartySafe (era_at old id) (length old.marks) id desk x (queue_at old.flow id)) (sym (own_set old.callers id next c at_c))
     (let party = was.parties id desk caller at_desk at_caller in
-    party_idle old.era (length old.marks) id desk next (queue_at old.flow id) party.same_id (idle desk at_desk) (idle_at old.era caller (queue_at old.flow id) desk.round (idle desk at_desk) party.round).none_waits
+    party_idle (era_at old id) (length old.marks) id desk next (queue_at old.flow id) party.same_id (idle desk at_desk) (idle_at (era_at old id) caller (queue_at old.flow id) desk.round (idle desk at_desk) party.round).none_waits
     party.number party.cached (λ other is. subst (λ (x : CallView). 0 < x.reserved) (some_is is) (omega arith))))
     (omega (arith, was.room, ap reserved_in is_open, reserved_set old.callers id caller next at_caller, call_reserves_at old id caller call its.0 was at_caller is_open its.1)))
 
 -- no frame of a proposer waits where its desk has no open round
 pub none_waits_at : {S V : Type 0} (old : View S V) (id : ℕ) (caller : CallerView) (desk : DeskView V) → IsSafe old → IsAt old.callers id caller → IsAt old.desks id desk → desk.round ≡ None → (queue_at old.flow id).messages ≡ []
-none_waits_at old id caller desk was at_caller at_desk none = (idle_at old.era caller (queue_at old.flow id) desk.round none (was.parties id desk caller at_desk at_caller).round).none_waits
+none_waits_at old id caller desk was at_caller at_desk none = (idle_at (era_at old id) caller (queue_at old.flow id) desk.round none (was.parties id desk caller at_desk at_caller).round).none_waits
 
 -- the desk has drawn its last ballot
 pub begin_spent_safe : {S V : Type 0} (old : View S V) (id : ℕ) (caller : CallerView) (call : CallView) (desk now : DeskView V) (new : View S V) → IsSafe old → IsAt old.callers id caller → caller.call ≡ Some call
@@ -420,10 +421,10 @@ pub counted_safe : {S V : Type 0} (m : Meaning S V) (old : View S V) (id : ℕ) 
     → IsAt old.callers id caller → caller.call ≡ Some call → IsAt old.desks id desk → desk.round ≡ Some round → (queue_at old.flow id).messages ≡ [] → EndsRound m.disks desk now round (offered_by round round.ride state by_whom)
     → new ≡ with_marks (with_call (with_desk old id now) id caller (over call told)) (mark ∷ []) → IsSafe new
 counted_safe {S} {V} m old id caller call desk now round state by_whom told mark new was at_caller is_open at_desk has_round waits by view =
-    let safe : IsOpenSafe old.era caller (queue_at old.flow id) round = subst (IsRoundSafe old.era caller (queue_at old.flow id)) has_round (was.parties id desk caller at_desk at_caller).round in
+    let safe : IsOpenSafe (era_at old id) caller (queue_at old.flow id) round = subst (IsRoundSafe (era_at old id) caller (queue_at old.flow id)) has_round (was.parties id desk caller at_desk at_caller).round in
     subst IsSafe (sym view) (call_idles old id caller (record caller { call = Some (over call told) }) desk now old.flow (old.marks ++ mark ∷ []) was at_caller at_desk
     (ap (λ (d : DeskView V). d.id) by.desk) (ap (λ (d : DeskView V). d.round) by.desk)
     (λ were. subst AreFit (sym (ap (λ (d : DeskView V). d.cache) by.desk))
     (fit_after round (offered_by round round.ride state by_whom) desk.cache (offered_fit round round.ride state by_whom safe.ride) were)) refl
     (λ other is. subst (λ (c : CallView). 0 < c.reserved) (some_is is) (omega arith)) waits refl (λ p other. refl) (more_by old.marks (mark ∷ []))
-    (omega (arith, length-append old.marks (mark ∷ []), ap reserved_in is_open, ap reserved_in safe.is_open, reserves_one old.era caller (queue_at old.flow id) round safe was.prep_set was.acc_set)))
+    (omega (arith, length-append old.marks (mark ∷ []), ap reserved_in is_open, ap reserved_in safe.is_open, reserves_one (era_at old id) caller (queue_at old.flow id) round safe (was.prep_sets id) (was.acc_sets id))))

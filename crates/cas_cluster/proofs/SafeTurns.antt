@@ -38,7 +38,7 @@ use Rattle.cas_cluster.specs.StepCalls.{with_call}
 use Rattle.cas_cluster.specs.StepDesks.{HearsReply}
 use Rattle.cas_cluster.specs.StepFrames as frames
 use Rattle.cas_cluster.specs.StepFrames.{TakesTurn, silent, marking, votes_marked, harmed_by, harms_marked, harmed_view, replied_flow}
-use Rattle.cas_cluster.specs.View.{Meaning, View, CallView, CallerView, IsAt, reserved_in, with_acceptor, with_desk, with_marks}
+use Rattle.cas_cluster.specs.View.{Meaning, View, CallView, CallerView, IsAt, reserved_in, with_acceptor, with_desk, with_marks, era_at}
 use Rattle.cas_cluster.proofs.FrameSteps.{Thins, taken_own, taken_thins, same_asked, recalled}
 use Rattle.cas_cluster.proofs.Harms.{member_low}
 use Rattle.cas_cluster.proofs.Places.{own_set, other_set, at_one, some_is, queue_same, queue_other, has_queue, contains_at, contains_append, newest_or_older, contains_none}
@@ -272,7 +272,7 @@ record IsOpenAt {S V : Type 0} (old : View S V) (id : ℕ) (caller : CallerView)
   pub at_desk : IsAt old.desks id desk
   pub round : Round
   pub is_round : desk.round ≡ Some round
-  pub safe : IsOpenSafe old.era caller (queue_at old.flow id) round
+  pub safe : IsOpenSafe (era_at old id) caller (queue_at old.flow id) round
   pub same : safe.call ≡ call
 
 open_at : {S V : Type 0} (old : View S V) (id : ℕ) (caller : CallerView) (call : CallView) (front : Message) → IsSafe old → IsAt old.callers id caller → caller.call ≡ Some call
@@ -281,7 +281,7 @@ open_at {S} {V} old id caller call front was at is_open waits =
     let desk = at_low old.desks id (omega (arith, low_at old.callers id at, was.desks, was.callers)) in
     by_round desk.0 desk.1 desk.0.round refl (was.parties id desk.0 caller desk.1 at).round
   where
-    by_round : (desk : DeskView V) → IsAt old.desks id desk → (r : Option Round) → desk.round ≡ r → IsRoundSafe old.era caller (queue_at old.flow id) r → IsOpenAt old id caller call
+    by_round : (desk : DeskView V) → IsAt old.desks id desk → (r : Option Round) → desk.round ≡ r → IsRoundSafe (era_at old id) caller (queue_at old.flow id) r → IsOpenAt old id caller call
     by_round desk at_desk None e idle = absurd (cc (waits, ap (λ (l : List Message). slice_get l 0) idle.none_waits))
     by_round desk at_desk (Some round) e safe = record { desk = desk; at_desk = at_desk; round = round; is_round = e; safe = safe; same = some_is (sym safe.is_open ∙ is_open) }
 
@@ -316,22 +316,22 @@ record KeepsDesks {V : Type 0} (old new : List (DeskView V)) (id : ℕ) (next : 
 -- the proposer's open round goes on, and marks are made
 turned : {S V : Type 0} (old : View S V) (id : ℕ) (caller : CallerView) (call new : CallView) (acceptors : List (AcceptorView S)) (desks : List (DeskView V)) (flow : FlowView) (more : List Mark) (desk next : DeskView V) (round now : Round) (votes : ℕ)
     → IsSafe old → IsAt old.callers id caller → caller.call ≡ Some call → IsAt old.desks id desk → desk.round ≡ Some round → next ≡ record desk { round = Some now }
-    → (safe : IsOpenSafe old.era caller (queue_at old.flow id) round) → safe.call ≡ call → Stays round now
+    → (safe : IsOpenSafe (era_at old id) caller (queue_at old.flow id) round) → safe.call ≡ call → Stays round now
     → KeepsIds old.acceptors acceptors → KeepsDesks old.desks desks id next → KeepsOthers old.flow flow id → length more + new.reserved ≤ call.reserved
-    → Spends (asked_in old.era round.phase) call new votes → Moves (asked_in old.era round.phase) (queue_at old.flow id) (queue_at flow id) votes → (is_preparing round.phase ≡ true → votes ≡ 0)
+    → Spends (asked_in (era_at old id) round.phase) call new votes → Moves (asked_in (era_at old id) round.phase) (queue_at old.flow id) (queue_at flow id) votes → (is_preparing round.phase ≡ true → votes ≡ 0)
     → IsSafe (record old { acceptors = acceptors; desks = desks; callers = slice_set old.callers id (recalled caller new); flow = flow; marks = old.marks ++ more })
 turned {S} {V} old id caller call new acceptors desks flow more desk next round now votes was at_caller is_open at_desk is_round next_is safe same stays ids keeps others fits spends moves unvoted =
     safe_but old (record old { acceptors = acceptors; desks = desks; callers = slice_set old.callers id (recalled caller new); flow = flow; marks = old.marks ++ more }) id was
     (changes_all old id acceptors desks (recalled caller new) flow (old.marks ++ more) ids.length (ids.ids was.acceptor_ids) keeps.length keeps.others others.own others.others (more_by old.marks more))
-    (λ d c at_d at_c. subst (λ (x : DeskView V). IsPartySafe old.era (length (old.marks ++ more)) id x c (queue_at flow id)) (sym (keeps.own d at_d))
-    (subst (λ (x : CallerView). IsPartySafe old.era (length (old.marks ++ more)) id next x (queue_at flow id)) (sym (own_set old.callers id (recalled caller new) c at_c))
-    (party_goes_on old.era (length old.marks) (length (old.marks ++ more)) id desk next caller call new (queue_at old.flow id) (queue_at flow id) round now votes (more_by old.marks more) (was.parties id desk caller at_desk at_caller) is_round next_is safe same stays spends moves unvoted)))
+    (λ d c at_d at_c. subst (λ (x : DeskView V). IsPartySafe (era_at old id) (length (old.marks ++ more)) id x c (queue_at flow id)) (sym (keeps.own d at_d))
+    (subst (λ (x : CallerView). IsPartySafe (era_at old id) (length (old.marks ++ more)) id next x (queue_at flow id)) (sym (own_set old.callers id (recalled caller new) c at_c))
+    (party_goes_on (era_at old id) (length old.marks) (length (old.marks ++ more)) id desk next caller call new (queue_at old.flow id) (queue_at flow id) round now votes (more_by old.marks more) (was.parties id desk caller at_desk at_caller) is_round next_is safe same stays spends moves unvoted)))
     (omega (arith, was.room, fits, length-append old.marks more, reserved_set old.callers id caller (recalled caller new) at_caller, ap reserved_in is_open))
 
 -- the round is as it was
 turned_here : {S V : Type 0} (old : View S V) (id : ℕ) (caller : CallerView) (call new : CallView) (acceptors : List (AcceptorView S)) (flow : FlowView) (more : List Mark) (votes : ℕ) (is_at : IsOpenAt old id caller call)
     → IsSafe old → IsAt old.callers id caller → caller.call ≡ Some call → KeepsIds old.acceptors acceptors → KeepsOthers old.flow flow id → length more + new.reserved ≤ call.reserved
-    → Spends (asked_in old.era is_at.round.phase) call new votes → Moves (asked_in old.era is_at.round.phase) (queue_at old.flow id) (queue_at flow id) votes → (is_preparing is_at.round.phase ≡ true → votes ≡ 0)
+    → Spends (asked_in (era_at old id) is_at.round.phase) call new votes → Moves (asked_in (era_at old id) is_at.round.phase) (queue_at old.flow id) (queue_at flow id) votes → (is_preparing is_at.round.phase ≡ true → votes ≡ 0)
     → IsSafe (record old { acceptors = acceptors; callers = slice_set old.callers id (recalled caller new); flow = flow; marks = old.marks ++ more })
 turned_here {S} {V} old id caller call new acceptors flow more votes is_at was at_caller is_open ids others fits spends moves unvoted =
     turned old id caller call new acceptors old.desks flow more is_at.desk is_at.desk is_at.round is_at.round votes was at_caller is_open is_at.at_desk is_at.is_round
@@ -344,16 +344,16 @@ harmed_safe : {S V : Type 0} (old : View S V) (id : ℕ) (v : Verdict) (front : 
     → IsSafe (harmed_view (record old { acceptors = acceptors; flow = taken old.flow id v }) id caller call acceptor down)
 harmed_safe {S} {V} old id v front caller call acceptors acceptor down was at is_open waits to ids =
     turned_here old id caller call (harmed_by call acceptor) acceptors (taken old.flow id v) (harms_marked id caller.number call acceptor down) 0 is_at was at is_open ids (taken_others old.flow id v)
-    (harm_fits id caller.number call acceptor down (subst (λ (c : CallView). 0 < c.reserved) is_at.same (some_reserved old.era caller (queue_at old.flow id) is_at.round was.prep_set was.acc_set is_at.safe)))
-    (spends_harm (asked_in old.era is_at.round.phase) call acceptor (subst (λ (c : CallView). IsMemberSet c.harmed) is_at.same is_at.safe.harmed_set) (subst (λ (c : CallView). IsWithin (asked_in old.era is_at.round.phase) c.harmed) is_at.same is_at.safe.harmed_within)
-    (member_low (asked_in old.era is_at.round.phase) acceptor (asked_set old.era is_at.round.phase was.prep_set was.acc_set) member) member)
-    (taken_moves old.flow id v (asked_in old.era is_at.round.phase) waits) (λ e. refl)
+    (harm_fits id caller.number call acceptor down (subst (λ (c : CallView). 0 < c.reserved) is_at.same (some_reserved (era_at old id) caller (queue_at old.flow id) is_at.round (was.prep_sets id) (was.acc_sets id) is_at.safe)))
+    (spends_harm (asked_in (era_at old id) is_at.round.phase) call acceptor (subst (λ (c : CallView). IsMemberSet c.harmed) is_at.same is_at.safe.harmed_set) (subst (λ (c : CallView). IsWithin (asked_in (era_at old id) is_at.round.phase) c.harmed) is_at.same is_at.safe.harmed_within)
+    (member_low (asked_in (era_at old id) is_at.round.phase) acceptor (asked_set (era_at old id) is_at.round.phase (was.prep_sets id) (was.acc_sets id)) member) member)
+    (taken_moves old.flow id v (asked_in (era_at old id) is_at.round.phase) waits) (λ e. refl)
   where
     is_at : IsOpenAt old id caller call
     is_at = open_at old id caller call front was at is_open waits
 
-    member : has_member (asked_in old.era is_at.round.phase) acceptor ≡ true
-    member = subst (λ (a : ℕ). has_member (asked_in old.era is_at.round.phase) a ≡ true) (sym to) (is_at.safe.about front (contains_at (queue_at old.flow id).messages 0 front waits))
+    member : has_member (asked_in (era_at old id) is_at.round.phase) acceptor ≡ true
+    member = subst (λ (a : ℕ). has_member (asked_in (era_at old id) is_at.round.phase) a ≡ true) (sym to) (is_at.safe.about front (contains_at (queue_at old.flow id).messages 0 front waits))
 
 -- an acceptor answers
 answers_safe : {S V : Type 0} (m : Meaning S V) (old : View S V) (id : ℕ) (v : Verdict) (caller : CallerView) (call : CallView) (request : Request) (acceptor now : AcceptorView S) (reply : Reply) → IsSafe old → IsAt old.callers id caller → caller.call ≡ Some call
@@ -362,10 +362,10 @@ answers_safe : {S V : Type 0} (m : Meaning S V) (old : View S V) (id : ℕ) (v :
 answers_safe {S} {V} m old id v caller call request acceptor now reply was at is_open waits handle at_acceptor by =
     turned_here old id caller call (marking call (length (votes_marked request reply))) (slice_set old.acceptors request.to now) (replied_flow old.flow id v reply) (votes_marked request reply) (length (votes_marked request reply)) is_at was at is_open
     (keeps_set old.acceptors request.to acceptor now at_acceptor (ap (λ (a : AcceptorView S). a.id) by.acceptor)) (replied_others old.flow id v reply)
-    (omega (arith, few, subst (λ (c : CallView). 0 < c.reserved) is_at.same (some_reserved old.era caller (queue_at old.flow id) is_at.round was.prep_set was.acc_set is_at.safe)))
-    (spends_votes (asked_in old.era is_at.round.phase) call (length (votes_marked request reply)) (subst (λ (c : CallView). IsMemberSet c.harmed) is_at.same is_at.safe.harmed_set)
-    (subst (λ (c : CallView). IsWithin (asked_in old.era is_at.round.phase) c.harmed) is_at.same is_at.safe.harmed_within))
-    (replied_moves old.flow id v request reply (asked_in old.era is_at.round.phase) (length (votes_marked request reply)) waits handle member few)
+    (omega (arith, few, subst (λ (c : CallView). 0 < c.reserved) is_at.same (some_reserved (era_at old id) caller (queue_at old.flow id) is_at.round (was.prep_sets id) (was.acc_sets id) is_at.safe)))
+    (spends_votes (asked_in (era_at old id) is_at.round.phase) call (length (votes_marked request reply)) (subst (λ (c : CallView). IsMemberSet c.harmed) is_at.same is_at.safe.harmed_set)
+    (subst (λ (c : CallView). IsWithin (asked_in (era_at old id) is_at.round.phase) c.harmed) is_at.same is_at.safe.harmed_within))
+    (replied_moves old.flow id v request reply (asked_in (era_at old id) is_at.round.phase) (length (votes_marked request reply)) waits handle member few)
     (λ e. no_votes request.to request.ask reply.tell (is_at.safe.asks e request (contains_at (queue_at old.flow id).messages 0 (message.Request request) waits)))
   where
     is_at : IsOpenAt old id caller call
@@ -374,9 +374,9 @@ answers_safe {S} {V} m old id v caller call request acceptor now reply was at is
     few : length (votes_marked request reply) ≤ 1
     few = votes_few request reply
 
-    member : has_member (asked_in old.era is_at.round.phase) reply.from ≡ true
+    member : has_member (asked_in (era_at old id) is_at.round.phase) reply.from ≡ true
     member =
-        subst (λ (a : ℕ). has_member (asked_in old.era is_at.round.phase) a ≡ true) (sym (by.table.from ∙ was.acceptor_ids request.to acceptor at_acceptor))
+        subst (λ (a : ℕ). has_member (asked_in (era_at old id) is_at.round.phase) a ≡ true) (sym (by.table.from ∙ was.acceptor_ids request.to acceptor at_acceptor))
         (is_at.safe.about (message.Request request) (contains_at (queue_at old.flow id).messages 0 (message.Request request) waits))
 
 -- a reply arrives at the open round
@@ -387,11 +387,11 @@ arrives_safe {S} {V} old id v front caller call reply desk now round next was at
     subst (λ (l : List Mark). IsSafe (record old { desks = slice_set old.desks id now; callers = slice_set old.callers id (recalled caller (silent call)); flow = taken old.flow id v; marks = l })) (append-nil old.marks)
     (turned old id caller call (silent call) old.acceptors (slice_set old.desks id now) (taken old.flow id v) [] desk now round next 0 was at is_open at_desk is_round hears.desk safe same (stays_heard round next reply hears.hears)
     (keeps_same old.acceptors) (record { length = length-set old.desks id now; others = λ p d other at_d. other_set old.desks id now p d other at_d; own = λ d at_d. own_set old.desks id now d at_d }) (taken_others old.flow id v) (omega arith)
-    (spends_none (asked_in old.era round.phase) call (subst (λ (c : CallView). IsMemberSet c.harmed) same safe.harmed_set) (subst (λ (c : CallView). IsWithin (asked_in old.era round.phase) c.harmed) same safe.harmed_within))
-    (taken_moves old.flow id v (asked_in old.era round.phase) waits) (λ e. refl))
+    (spends_none (asked_in (era_at old id) round.phase) call (subst (λ (c : CallView). IsMemberSet c.harmed) same safe.harmed_set) (subst (λ (c : CallView). IsWithin (asked_in (era_at old id) round.phase) c.harmed) same safe.harmed_within))
+    (taken_moves old.flow id v (asked_in (era_at old id) round.phase) waits) (λ e. refl))
   where
-    safe : IsOpenSafe old.era caller (queue_at old.flow id) round
-    safe = subst (IsRoundSafe old.era caller (queue_at old.flow id)) is_round (was.parties id desk caller at_desk at).round
+    safe : IsOpenSafe (era_at old id) caller (queue_at old.flow id) round
+    safe = subst (IsRoundSafe (era_at old id) caller (queue_at old.flow id)) is_round (was.parties id desk caller at_desk at).round
 
     same : safe.call ≡ call
     same = some_is (sym safe.is_open ∙ is_open)

@@ -28,7 +28,7 @@ use Rattle.cas_cluster.specs.Step as step
 use Rattle.cas_cluster.specs.Step.{Step, StepBegin, StepPropose, StepCount, StepEnd, StepCrashAcceptor, StepRestartAcceptor, StepCrashProposer, StepRestartProposer, OpenCallAt, OpenRoundAt, closed_by_crash}
 use Rattle.cas_cluster.specs.StepCalls as calls
 use Rattle.cas_cluster.specs.StepCalls.{round_marks, Opens, BeginsRound, RefusesCall, ProposesOrEnds, CountsOrEnds, EndsCall, over, with_call, tried_again}
-use Rattle.cas_cluster.specs.View.{Meaning, View, CallView, CallerView, IsAt, with_acceptor, with_desk, with_caller}
+use Rattle.cas_cluster.specs.View.{Meaning, View, CallView, CallerView, IsAt, with_acceptor, with_desk, with_caller, era_at}
 use Rattle.cas_cluster.proofs.AcceptorSteps as acceptor
 use Rattle.cas_cluster.specs.StepDesks.{Crashes}
 use Rattle.cas_cluster.proofs.Around.{Whole, whole_of, remembered, around, settles, leaves_desk}
@@ -50,12 +50,12 @@ begins : {S V : Type 0} (m : Meaning S V) (old : View S V) (id : ℕ) (caller : 
 begins m old id caller call new tells at_caller is_open unproposed is (calls.prepares desk now ballot round flow at_desk up room by sends view) =
     subst (IsRemembered m) (sym view) (remembered m is.cluster _ (record (with_desk old id now) { flow = flow })
     (begins_to_prepare m is.cluster is.global old id caller call desk now ballot round flow tells at_caller is_open unproposed at_desk by sends (whole_of m old is))
-    (asked_marks (prepare_request id (kept_of desk.vault).age call.key ballot) old.era.prep (drew is.global (Some ballot) call.key old.era.number).log ∙ is.agrees.marks))
+    (asked_marks (prepare_request id (kept_of desk.vault).age call.key ballot) (era_at old id).prep (drew is.global (Some ballot) call.key (era_at old id).number).log ∙ is.agrees.marks))
 begins m old id caller call new tells at_caller is_open unproposed is (calls.proposes desk now ready ride round outcome flow at_desk up room by is_outcome sends view) =
     subst (IsRemembered m) (sym view) (remembered m is.cluster _ _
     (begins_by_promise m is.cluster is.global old id caller call desk now ready ride round outcome flow tells at_caller is_open unproposed at_desk by is_outcome sends (whole_of m old is))
     (asked_marks (accept_requests id (kept_of desk.vault).age (record round { ride = ride }) outcome) round.era.acc _
-    ∙ marked (marks_of (drew_log ride call.key old.era.number is.global.log)) old.marks (Proposed (calls.proposal_of id caller.number round ready.read ready.by)) (drew_marks is.global.log call.key old.era.number ride ∙ is.agrees.marks)))
+    ∙ marked (marks_of (drew_log ride call.key (era_at old id).number is.global.log)) old.marks (Proposed (calls.proposal_of id caller.number round ready.read ready.by)) (drew_marks is.global.log call.key (era_at old id).number ride ∙ is.agrees.marks)))
 begins m old id caller call new tells at_caller is_open unproposed is (calls.stays told nothing idle full view) =
     let was = is.agrees.callers id caller at_caller in
     let call_true = was.call call is_open in
@@ -73,20 +73,20 @@ begins m old id caller call new tells at_caller is_open unproposed is (calls.fai
     let of = is.agrees.desks id desk caller at_desk at_caller in
     subst (IsRemembered m) (sym view) (remembered m is.cluster is.global (with_call (with_desk old id now) id caller (over call answer.VaultFault))
     (told_fails m is.cluster is.global old id caller call call.key desk now answer.VaultFault tells at_caller is_open at_desk
-    (none_waits is.cluster is.global.log is.global.made id old.era.number caller (queue_at old.flow id).messages desk.round idle of.round) by
+    (none_waits is.cluster is.global.log is.global.made id (era_at old id).number caller (queue_at old.flow id).messages desk.round idle of.round) by
     (told_fault is.global.log is.global.made id caller.number (call_true.unproposed unproposed)) (whole_of m old is)) is.agrees.marks)
 begins m old id caller call new tells at_caller is_open unproposed is (calls.loses desk now ballot at_desk idle up by view) =
     let of = is.agrees.desks id desk caller at_desk at_caller in
-    subst (IsRemembered m) (sym view) (remembered m is.cluster (drew is.global ballot call.key old.era.number) (with_call (with_desk old id now) id caller (over call (answer.NoMemory false)))
+    subst (IsRemembered m) (sym view) (remembered m is.cluster (drew is.global ballot call.key (era_at old id).number) (with_call (with_desk old id now) id caller (over call (answer.NoMemory false)))
     (told_loses m is.cluster is.global old id caller call call.key desk now ballot tells at_caller is_open unproposed at_desk
-    (none_waits is.cluster is.global.log is.global.made id old.era.number caller (queue_at old.flow id).messages desk.round idle of.round) by (whole_of m old is))
-    (drew_marks is.global.log call.key old.era.number ballot ∙ is.agrees.marks))
+    (none_waits is.cluster is.global.log is.global.made id (era_at old id).number caller (queue_at old.flow id).messages desk.round idle of.round) by (whole_of m old is))
+    (drew_marks is.global.log call.key (era_at old id).number ballot ∙ is.agrees.marks))
 
 refuses : {S V : Type 0} (m : Meaning S V) (old : View S V) (id : ℕ) (key : List ℕ) (new : View S V) → m.disks.tells → IsRemembered m old → RefusesCall m old id key new → IsRemembered m new
 refuses m old id key new tells is (calls.stays view) = subst (IsRemembered m) (sym view) is
 refuses m old id key new tells is (calls.loses caller desk now ballot at_caller at_desk idle up by view) =
-    subst (IsRemembered m) (sym view) (remembered m is.cluster (drew is.global ballot key old.era.number) (with_desk old id now)
-    (lost m is.cluster is.global old id key desk now ballot tells at_desk idle by caller at_caller (whole_of m old is)) (drew_marks is.global.log key old.era.number ballot ∙ is.agrees.marks))
+    subst (IsRemembered m) (sym view) (remembered m is.cluster (drew is.global ballot key (era_at old id).number) (with_desk old id now)
+    (lost m is.cluster is.global old id key desk now ballot tells at_desk idle by caller at_caller (whole_of m old is)) (drew_marks is.global.log key (era_at old id).number ballot ∙ is.agrees.marks))
 
 -- ---- a round goes on
 not_accept : (era : Era) (ballot : Ballot) (replies : List Reply) (phase_is : OpenPhase) → IsAccept era ballot replies phase_is → is_preparing phase_is ≡ false
@@ -109,9 +109,9 @@ accept_at log all id number call waiting round accepting (inl of) = absurd (cc (
 accept_at log all id number call waiting round accepting (inr of) = of
 
 round_at : {S V : Type 0} (m : Meaning S V) (old : View S V) (id : ℕ) (is : IsRemembered m old) (at : OpenRoundAt old id)
-    → IsRoundTrue is.cluster is.global.log is.global.made id old.era.number at.of_call.caller (queue_at old.flow id).messages at.round
+    → IsRoundTrue is.cluster is.global.log is.global.made id (era_at old id).number at.of_call.caller (queue_at old.flow id).messages at.round
 round_at m old id is at =
-    subst (IsOpenTrue is.cluster is.global.log is.global.made id old.era.number at.of_call.caller (queue_at old.flow id).messages) at.is_open (is.agrees.desks id at.desk at.of_call.caller at.at_desk at.of_call.at_caller).round
+    subst (IsOpenTrue is.cluster is.global.log is.global.made id (era_at old id).number at.of_call.caller (queue_at old.flow id).messages) at.is_open (is.agrees.desks id at.desk at.of_call.caller at.at_desk at.of_call.at_caller).round
 
 -- the call of the round is the caller's
 call_at : {S V : Type 0} (m : Meaning S V) (old : View S V) (id : ℕ) (is : IsRemembered m old) (at : OpenRoundAt old id) → (round_at m old id is at).call ≡ at.of_call.call
@@ -127,7 +127,7 @@ proposes_or_ends {S} {V} m old id new tells is at preparing by = by_case by
     call : CallView
     call = at.of_call.call
 
-    of : IsRoundTrue is.cluster is.global.log is.global.made id old.era.number caller (queue_at old.flow id).messages at.round
+    of : IsRoundTrue is.cluster is.global.log is.global.made id (era_at old id).number caller (queue_at old.flow id).messages at.round
     of = round_at m old id is at
 
     prepare : IsPrepareTrue is.global.log id call (queue_at old.flow id).messages at.round
@@ -145,7 +145,7 @@ proposes_or_ends {S} {V} m old id new tells is at preparing by = by_case by
         (λ replies preparing_is. subst (IsAccepting replies []) turns.turns.same (turns.turns.accepts replies preparing_is)) turns.drawn
         (turns.desk ∙ ap (λ (r : Round). record at.desk { vault = now.vault; round = Some (record r { ride = ride }) }) turns.turns.same) is_outcome sends (whole_of m old is))
         (asked_marks (accept_requests id (kept_of at.desk.vault).age (record at.round { ride = ride; phase = turned.phase }) outcome) at.round.era.acc _
-        ∙ marked (marks_of (drew_log ride at.round.key old.era.number is.global.log)) old.marks (Proposed (calls.proposal_of id caller.number at.round (accepted_ballot read) by)) (drew_marks is.global.log at.round.key old.era.number ride ∙ is.agrees.marks)))
+        ∙ marked (marks_of (drew_log ride at.round.key (era_at old id).number is.global.log)) old.marks (Proposed (calls.proposal_of id caller.number at.round (accepted_ballot read) by)) (drew_marks is.global.log at.round.key (era_at old id).number ride ∙ is.agrees.marks)))
     by_case (calls.ends now how told is_verdict tells_why ends view) =
         subst (IsRemembered m) (sym view) (remembered m is.cluster is.global (with_call (with_desk old id now) id caller (over call told))
         (told_ends m is.cluster is.global old id caller call at.desk now at.round told tells at.of_call.at_caller at.of_call.is_open at.at_desk at.none_waits ends
@@ -160,9 +160,9 @@ proposes_or_ends {S} {V} m old id new tells is at preparing by = by_case by
         (told_fails m is.cluster is.global old id caller call at.round.key at.desk now answer.VaultFault tells at.of_call.at_caller at.of_call.is_open at.at_desk at.none_waits by
         (told_fault is.global.log is.global.made id caller.number (call_true.unproposed prepare.unproposed)) (whole_of m old is)) is.agrees.marks)
     by_case (calls.loses now ballot by view) =
-        subst (IsRemembered m) (sym view) (remembered m is.cluster (drew is.global ballot at.round.key old.era.number) (with_call (with_desk old id now) id caller (over call (answer.NoMemory false)))
+        subst (IsRemembered m) (sym view) (remembered m is.cluster (drew is.global ballot at.round.key (era_at old id).number) (with_call (with_desk old id now) id caller (over call (answer.NoMemory false)))
         (told_loses m is.cluster is.global old id caller call at.round.key at.desk now ballot tells at.of_call.at_caller at.of_call.is_open prepare.unproposed at.at_desk at.none_waits by (whole_of m old is))
-        (drew_marks is.global.log at.round.key old.era.number ballot ∙ is.agrees.marks))
+        (drew_marks is.global.log at.round.key (era_at old id).number ballot ∙ is.agrees.marks))
 
 counts_or_ends : {S V : Type 0} (m : Meaning S V) (old : View S V) (id : ℕ) (new : View S V) → m.disks.tells → IsRemembered m old → (at : OpenRoundAt old id) → is_preparing at.round.phase ≡ false
     → CountsOrEnds m old id at.desk at.round at.of_call.caller at.of_call.call new → IsRemembered m new
@@ -174,7 +174,7 @@ counts_or_ends {S} {V} m old id new tells is at accepting by = by_case by
     call : CallView
     call = at.of_call.call
 
-    of : IsRoundTrue is.cluster is.global.log is.global.made id old.era.number caller (queue_at old.flow id).messages at.round
+    of : IsRoundTrue is.cluster is.global.log is.global.made id (era_at old id).number caller (queue_at old.flow id).messages at.round
     of = round_at m old id is at
 
     accept : IsAcceptTrue is.global.log is.global.made id caller.number call (queue_at old.flow id).messages at.round
@@ -229,9 +229,9 @@ idle_crash {S} {V} m cluster global old id desk now tells at_desk idle by whole 
     (leaves_desk old id now _ (others_left old.flow id))
     (record {
       desk = λ d c at_d at_c.
-          subst (λ (x : DeskView V). IsDeskTrue m cluster global.log global.made old.era.number id c (queue_at (abandoned old.flow id) id).messages x) (sym (own_set old.desks id now d at_d))
-          (quiet_true m cluster global.log global.made id old.era.number c (queue_at (abandoned old.flow id) id).messages now (none_left old.flow id)
-          (quiet_crashes m cluster global.log global.made id old.era.number c (queue_at old.flow id).messages desk now tells (whole.parties.desks id tt desk c at_desk at_c) by));
+          subst (λ (x : DeskView V). IsDeskTrue m cluster global.log global.made (era_at old id).number id c (queue_at (abandoned old.flow id) id).messages x) (sym (own_set old.desks id now d at_d))
+          (quiet_true m cluster global.log global.made id (era_at old id).number c (queue_at (abandoned old.flow id) id).messages now (none_left old.flow id)
+          (quiet_crashes m cluster global.log global.made id (era_at old id).number c (queue_at old.flow id).messages desk now tells (whole.parties.desks id tt desk c at_desk at_c) by));
       caller = λ c at_c. whole.parties.callers id tt c at_c;
       own = subst (AreMessagesTrue global.log) (sym (none_left old.flow id)) (λ each has_it. absurd (contains_none has_it));
       late = all_joined_true global.log (queue_at old.flow id).messages old.flow.late (whole.parties.own id) whole.parties.late;

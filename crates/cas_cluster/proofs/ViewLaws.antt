@@ -62,7 +62,7 @@ nothing_holds key ballot low =
 
 pub done_kept : {S V : Type 0} (m : Meaning S V) → WhatIsDoneIsKept m
 done_kept {S} {V} m tells view a is stands above = record {
-  quorum = λ same. sym (is.agrees.era.accepts a.by) ∙ sym (ap (λ (e : ℕ). is.cluster.accepts e a.by) same) ∙ held.0;
+  quorum = λ id low same. sym ((is.agrees.eras id low).accepts a.by) ∙ sym (ap (λ (e : ℕ). is.cluster.accepts e a.by) same) ∙ held.0;
   kept = λ id acceptor member at. kept_by id acceptor member (is.agrees.acceptors id acceptor at);
 }
   where

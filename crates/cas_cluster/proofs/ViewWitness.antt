@@ -1,6 +1,6 @@
 -- A history, call by call: a change is prepared by two acceptors while the third stops within its write, is accepted by the two and
 -- Done; a promise rode along with the accepts, and the next change is proposed by it. Another proposer is met by its ballot, and crashes.
-use Rattle.std.proofs.Common.{◌≡◌, ◌≤◌, ◌+◌, ℕ, zero, suc, true, false, List, [], ◌∷◌, ◌++◌, Option, Some, None, refl, sym, ap, subst, inl, inr, arith}
+use Rattle.std.proofs.Common.{◌≡◌, ◌≤◌, ◌+◌, ℕ, zero, suc, true, false, List, [], ◌∷◌, ◌++◌, Option, Some, None, refl, sym, ap, subst, ◌∙◌, inl, inr, arith}
 use Rattle.std.specs.Prelude.{length, replicate, slice_set, Ok}
 use Rattle.cas_ballot.specs.declared.ballot.Ballot.{Ballot}
 use Rattle.cas_ballot.specs.Members.{members_where, with_member}
@@ -48,13 +48,13 @@ use Rattle.cas_cache.specs.declared.ready.Ready.{Ready}
 use Rattle.cas_change.specs.declared.outcome.Took.TheVariants.{Clause as ByClause}
 use Rattle.cas_record.specs.Places.{here, past}
 use Rattle.cas_record.specs.Witness.{three, key_a, at}
-use Rattle.cas_cluster.specs.Parties.{IsInEra}
+use Rattle.cas_cluster.specs.Parties.{IsWithin}
 use Rattle.cas_cluster.specs.Step.{Begin, Turn, Propose, Count, End, Stray, CrashAcceptor, RestartAcceptor, CrashProposer, RestartProposer, Step, IsOpening, IsFreshAcceptor, IsFreshDesk, History, opens, steps, crashes, starts, closes, restarts}
 use Rattle.cas_cluster.specs.StepAcceptors.{AnswersByTable, StopsWithin}
 use Rattle.cas_cluster.specs.StepCalls as calls
 use Rattle.cas_cluster.specs.StepCalls.{Sends, prepares_to, accepts_to}
 use Rattle.cas_cluster.specs.StepFrames as frames
-use Rattle.cas_cluster.specs.StepDesks.{GoesOn, HasDrawn}
+use Rattle.cas_cluster.specs.StepDesks.{GoesOn, HasDrawn, Restarts}
 use Rattle.cas_cluster.specs.View.{View, CallView, CallerView, IsAt, new_caller, new_call, with_acceptor}
 use Rattle.cas_cluster.specs.ViewWitness.{ToyShelf, ToyDisk, toys, ShownHistory}
 use Rattle.cas_cluster.proofs.Handling as handling
@@ -82,13 +82,13 @@ module _ {D : Type 0} (begun : Vault D) where
   abbrev vault_at : ℕ → Vault ToyDisk
   vault_at counter = record { cells = record { disk = record { kept = kept }; alloc = begun.cells.alloc; cells = begun.cells.cells; change = begun.cells.change }; counter = counter; kept = kept }
 
-  in_era : (counter : ℕ) → IsInEra toys.disks 0 (vault_at counter)
-  in_era counter = record { kept = refl; left = λ c other on too. ap (λ (k : Kept). k.era) (same_kept other kept c too on) }
+  in_era : (counter : ℕ) → IsWithin toys.disks 0 0 (vault_at counter)
+  in_era counter = record { kept = refl; left = λ c other on too. inl (ap (λ (k : Kept). k.era) (same_kept other kept c too on)) }
 
   goes_on : (old new : ℕ) → old ≤ new → GoesOn toys.disks (vault_at old) (vault_at new)
   goes_on old new up = record {
     still_past = λ tells n past. record { counter = omega (arith, up, past.counter); images = past.images };
-    era = λ tells e is. record { kept = is.kept; left = is.left };
+    era = λ tells e other is. record { kept = is.kept; left = is.left };
     never_falls = omega arith;
   }
 
@@ -135,7 +135,7 @@ module _ {D : Type 0} (begun : Vault D) where
   abbrev seen : AcceptorView ToyShelf → AcceptorView ToyShelf → AcceptorView ToyShelf → DeskView ToyDisk → CallerView → FlowView → List Mark → View ToyShelf ToyDisk
   seen a b c desk caller flow marks = record {
     greatest = 2;
-    era = era;
+    eras = replicate 17 era;
     acceptors = never_up ∷ a ∷ b ∷ c ∷ [];
     desks = idle_desk 0 ∷ desk ∷ idle_desk 2 ∷ [];
     callers = new_caller ∷ caller ∷ new_caller ∷ [];
@@ -184,7 +184,7 @@ module _ {D : Type 0} (begun : Vault D) where
   is_opening : IsOpening toys three opening
   unfolding members_where
   is_opening = record {
-    era = refl;
+    eras = refl;
     few = omega arith;
     member_set = record { lists = refl };
     some = omega arith;
@@ -776,8 +776,17 @@ module _ {D : Type 0} (begun : Vault D) where
   abbrev view_last : View ToyShelf ToyDisk
   view_last = with_other (record (idle_desk 2) { vault = vault_at 1 }) (record { number = 1; call = None }) queue_left late_other marks_crashed
 
+  restarted : Restarts toys.disks down_other (record (idle_desk 2) { vault = vault_at 1 })
+  restarted = record {
+    desk = refl;
+    still_past = λ tells n past. past;
+    shows = λ up tells e other is. inl (record { kept = is.kept; left = λ c k may on. inl (ap (λ (x : Kept). x.era) (same_kept k kept c on may) ∙ is.kept) });
+    stays = λ down. absurd (cc down);
+    never_falls = omega arith;
+  }
+
   step_last : Step toys view_over (RestartProposer 2) view_last
-  step_last = restarts down_other (record (idle_desk 2) { vault = vault_at 1 }) refl refl (record { desk = refl; goes_on = goes_on 1 1 (omega arith) }) refl
+  step_last = restarts down_other (record (idle_desk 2) { vault = vault_at 1 }) refl refl restarted refl
 
   history_last : History toys three view_last
   history_last = steps view_over (RestartProposer 2) view_last (steps view_crashed (End 2 answer.Crashed) view_over (steps view_met (CrashProposer 2) view_crashed

@@ -8,16 +8,16 @@ use Rattle.cas_record.specs.Happening.{marks_of}
 use Rattle.cas_record.specs.Lawful.{Cluster, ClusterMeets}
 use Rattle.cas_cluster.specs.Parties.{IsAcceptorTrue, AreMessagesTrue, IsEraOf, IsDeskTrue, IsCallerTrue}
 use Rattle.cas_cluster.specs.Protocol.{GlobalState, HasHistory}
-use Rattle.cas_cluster.specs.View.{Meaning, View, CallerView, IsAt}
+use Rattle.cas_cluster.specs.View.{Meaning, View, CallerView, IsAt, era_at}
 
 -- each party and each frame is as the cluster's log tells
 pub record AgreesWith {S V : Type 0} (m : Meaning S V) (cluster : Cluster) (global : GlobalState) (view : View S V) : Type 0 where
   pub marks : marks_of global.log ≡ reverse view.marks
   pub greatest : cluster.greatest ≡ view.greatest
   pub few : view.greatest ≤ 16
-  pub era : IsEraOf cluster view.era
+  pub eras : (id : ℕ) → id ≤ view.greatest → IsEraOf cluster (era_at view id)
   pub acceptors : (id : ℕ) (acceptor : AcceptorView S) → IsAt view.acceptors id acceptor → IsAcceptorTrue m global.log id (global.kept id) acceptor
-  pub desks : (id : ℕ) (desk : DeskView V) (caller : CallerView) → IsAt view.desks id desk → IsAt view.callers id caller → IsDeskTrue m cluster global.log global.made view.era.number id caller (queue_at view.flow id).messages desk
+  pub desks : (id : ℕ) (desk : DeskView V) (caller : CallerView) → IsAt view.desks id desk → IsAt view.callers id caller → IsDeskTrue m cluster global.log global.made (era_at view id).number id caller (queue_at view.flow id).messages desk
   pub callers : (id : ℕ) (caller : CallerView) → IsAt view.callers id caller → IsCallerTrue global.log global.made id caller
   pub own : (id : ℕ) → AreMessagesTrue global.log (queue_at view.flow id).messages
   pub late : AreMessagesTrue global.log view.flow.late

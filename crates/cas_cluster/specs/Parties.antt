@@ -95,10 +95,10 @@ pub record IsEraOf (cluster : Cluster) (era : Era) : Type 0 where
   pub acc_set : IsMemberSet era.acc
   pub sized : IsSized era
 
--- the vault keeps this era, and so does whatever a crash leaves of it
-pub record IsInEra {V : Type 0} (m : DiskMeaning V) (era : ℕ) (vault : Vault V) : Type 0 where
+-- the vault keeps this era, and whatever a crash leaves of it keeps this one or the other
+pub record IsWithin {V : Type 0} (m : DiskMeaning V) (era other : ℕ) (vault : Vault V) : Type 0 where
   pub kept : (kept_of vault).era ≡ era
-  pub left : (c : List ℕ) (kept : Kept) → m.may_leave (disk_of vault) c → KeptOn kept c → kept.era ≡ era
+  pub left : (c : List ℕ) (kept : Kept) → m.may_leave (disk_of vault) c → KeptOn kept c → (kept.era ≡ era) ⊎ (kept.era ≡ other)
 
 -- ---- ballots in hand
 -- A ballot that the proposer drew for the key in the era and proposed nothing at, above the floors of the key.
@@ -198,7 +198,7 @@ IsOpenTrue cluster log all id era caller waiting (Some round) = IsRoundTrue clus
 pub record IsVaultTrue {S V : Type 0} (m : Meaning S V) (log : List Happening) (id era : ℕ) (vault : Vault V) : Type 0 where
   pub past : (ballot : Ballot) (key : List ℕ) (e : ℕ) → Stands (Drew ballot key e) log → ballot.proposer ≡ id → IsPast m.disks.may_leave ballot.counter vault
   pub past_floors : (key : List ℕ) (floor : Ballot) → HasFloor key floor (marks_of log) → IsPast m.disks.may_leave floor.counter vault
-  pub in_era : IsInEra m.disks era vault
+  pub in_era : IsWithin m.disks era era vault
   pub is_in : IsIn log id era
   pub not_beyond : Stands (Entered id (suc era)) log → ⊥
 

@@ -20,7 +20,7 @@ use Rattle.cas_slot.specs.Message.{phase_of}
 use Rattle.cas_slot.specs.declared.message.Request.{Request}
 use Rattle.cas_cluster.specs.Parties.{asked_in}
 use Rattle.cas_cluster.specs.StepCalls.{most_marks}
-use Rattle.cas_cluster.specs.View.{View, CallView, CallerView, IsAt, reserved_of}
+use Rattle.cas_cluster.specs.View.{View, CallView, CallerView, IsAt, era_at, reserved_of}
 
 -- ---- frames that wait
 -- how many of them are requests
@@ -82,12 +82,13 @@ pub record IsPartySafe {V : Type 0} (era : Era) (marks id : ℕ) (desk : DeskVie
 -- ---- the whole
 pub record IsSafe {S V : Type 0} (view : View S V) : Type 0 where
   pub few : view.greatest ≤ 16
-  pub prep_set : IsMemberSet view.era.prep
-  pub acc_set : IsMemberSet view.era.acc
+  pub prep_sets : (id : ℕ) → IsMemberSet (era_at view id).prep
+  pub acc_sets : (id : ℕ) → IsMemberSet (era_at view id).acc
+  pub eras : length view.eras ≡ 17
   pub acceptors : length view.acceptors ≡ 64
   pub acceptor_ids : (id : ℕ) (acceptor : AcceptorView S) → IsAt view.acceptors id acceptor → acceptor.id ≡ id
   pub desks : length view.desks ≡ suc view.greatest
   pub callers : length view.callers ≡ suc view.greatest
   pub own : length view.flow.own ≡ 17
-  pub parties : (id : ℕ) (desk : DeskView V) (caller : CallerView) → IsAt view.desks id desk → IsAt view.callers id caller → IsPartySafe view.era (length view.marks) id desk caller (queue_at view.flow id)
+  pub parties : (id : ℕ) (desk : DeskView V) (caller : CallerView) → IsAt view.desks id desk → IsAt view.callers id caller → IsPartySafe (era_at view id) (length view.marks) id desk caller (queue_at view.flow id)
   pub room : length view.marks + reserved_of view.callers ≤ most_marks

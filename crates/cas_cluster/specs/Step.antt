@@ -1,5 +1,5 @@
 -- What each call on a cluster does to it.
-use Rattle.std.specs.Prelude.{◌+◌, ◌≡◌, ℕ, ◌<◌, ◌≤◌, true, false, List, [], None, Some, is_some, length, if◌then◌else◌, slice_get}
+use Rattle.std.specs.Prelude.{◌+◌, ◌≡◌, ℕ, ◌<◌, ◌≤◌, true, false, List, [], None, Some, is_some, length, replicate, if◌then◌else◌, slice_get}
 use Rattle.cas_ballot.specs.Members.{IsMemberSet}
 use Rattle.cas_change.specs.declared.program.Clause.{Clause}
 use Rattle.cas_fate.specs.declared.fate.Verdict.{Verdict}
@@ -15,7 +15,7 @@ use Rattle.cas_proposer.specs.declared.round.Round.{Round}
 use Rattle.cas_record.specs.declared.answer.Answer.{Answer}
 use Rattle.cas_record.specs.declared.answer.Answer.TheVariants as answer
 use Rattle.cas_record.specs.declared.answer.Cause.TheVariants as cause
-use Rattle.cas_cluster.specs.Parties.{IsInEra}
+use Rattle.cas_cluster.specs.Parties.{IsWithin}
 use Rattle.cas_cluster.specs.StepAcceptors.{CrashesShelf, StartsShelf, FailsToStart}
 use Rattle.cas_cluster.specs.StepCalls.{most_marks, Opens, BeginsRound, RefusesCall, ProposesOrEnds, CountsOrEnds, EndsCall, telling, with_call}
 use Rattle.cas_cluster.specs.StepDesks.{Crashes, Restarts}
@@ -157,13 +157,13 @@ pub record IsFreshAcceptor {S V : Type 0} (m : Meaning S V) (id : ℕ) (acceptor
 -- it holds no promise and has no open round, and its vault is in era 0
 pub record IsFreshDesk {S V : Type 0} (m : Meaning S V) (id : ℕ) (desk : DeskView V) : Type 0 where
   pub same_id : desk.id ≡ id
-  pub in_era : m.disks.tells → IsInEra m.disks 0 desk.vault
+  pub in_era : m.disks.tells → IsWithin m.disks 0 0 desk.vault
   pub no_promise : desk.cache ≡ []
   pub none_open : desk.round ≡ None
 
 -- nothing has happened yet
 pub record IsOpening {S V : Type 0} (m : Meaning S V) (members : List ℕ) (view : View S V) : Type 0 where
-  pub era : view.era ≡ majority_era 0 members
+  pub eras : view.eras ≡ replicate 17 (majority_era 0 members)
   pub few : view.greatest ≤ 16
   pub member_set : IsMemberSet members
   pub some : 0 < length members

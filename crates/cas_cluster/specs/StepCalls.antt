@@ -29,7 +29,7 @@ use Rattle.cas_record.specs.declared.mark.Mark.TheVariants.{Begun, Proposed, Ack
 use Rattle.cas_record.specs.declared.mark.Proposal.{Proposal}
 use Rattle.cas_cluster.specs.Proposers.{state_read}
 use Rattle.cas_cluster.specs.StepDesks.{BeginsToPrepare, BeginsByPromise, TurnsWith, EndsRound, FailsToDraw, LosesMemory, HasKept}
-use Rattle.cas_cluster.specs.View.{Meaning, CallView, CallerView, View, IsAt, new_call, new_caller, reserved_of, with_desk, with_caller, with_marks}
+use Rattle.cas_cluster.specs.View.{Meaning, CallView, CallerView, View, IsAt, era_at, new_call, new_caller, reserved_of, with_desk, with_caller, with_marks}
 
 -- ---- frames that are sent
 -- the proposer's own frames are followed by these, and no other frame moves
@@ -64,12 +64,12 @@ HasRoom view id reserved = length view.marks + reserved_of (slice_set view.calle
 
 -- the round's marks do not fit beside them
 abbrev pub IsFull : {S V : Type 0} → View S V → ℕ → Type 0
-IsFull view id = most_marks < length view.marks + reserved_of (slice_set view.callers id new_caller) + round_marks view.era
+IsFull view id = most_marks < length view.marks + reserved_of (slice_set view.callers id new_caller) + round_marks (era_at view id)
 
 -- a new call, with its mark
 abbrev pub opened : {S V : Type 0} → View S V → ℕ → CallerView → List ℕ → List Clause → View S V
 opened view id caller key program =
-    with_marks (with_caller view id (record { number = suc caller.number; call = Some (new_call key program (round_marks view.era - 1)) })) (Begun id (suc caller.number) key program ∷ [])
+    with_marks (with_caller view id (record { number = suc caller.number; call = Some (new_call key program (round_marks (era_at view id) - 1)) })) (Begun id (suc caller.number) key program ∷ [])
 
 -- the caller's open call is this
 abbrev pub with_call : {S V : Type 0} → View S V → ℕ → CallerView → CallView → View S V
@@ -85,7 +85,7 @@ WasMet (Some (answer.Conflict met)) = ⊤
 WasMet other = ⊥
 
 pub data Opens {S V : Type 0} (old : View S V) (id : ℕ) (key : List ℕ) (program : List Clause) (new : View S V) : Type 0 where
-  first : (caller : CallerView) → IsAt old.callers id caller → caller.call ≡ None → HasRoom old id (round_marks old.era) → new ≡ opened old id caller key program → Opens old id key program new
+  first : (caller : CallerView) → IsAt old.callers id caller → caller.call ≡ None → HasRoom old id (round_marks (era_at old id)) → new ≡ opened old id caller key program → Opens old id key program new
   again : (caller : CallerView) (call : CallView) (reserved : ℕ) → IsAt old.callers id caller → caller.call ≡ Some call → call.key ≡ key → call.program ≡ program → call.proposed ≡ None → WasMet call.told
       → ((desk : DeskView V) → IsAt old.desks id desk → desk.round ≡ None) → HasRoom old id reserved → 0 < reserved → new ≡ with_call old id caller (tried_again call reserved) → Opens old id key program new
 
@@ -119,15 +119,15 @@ proposed_view view id caller call desk flow p outcome =
 -- ---- a round begins
 -- at a ballot that is drawn; by a promise, and then what its program makes of the promised state is proposed at once; or not at all
 pub data BeginsRound {S V : Type 0} (m : Meaning S V) (old : View S V) (id : ℕ) (caller : CallerView) (call : CallView) (new : View S V) : Type 0 where
-  prepares : (desk now : DeskView V) (ballot : Ballot) (round : Round) (flow : FlowView) → IsAt old.desks id desk → desk.down ≡ false → round_marks old.era ≤ suc call.reserved
-      → BeginsToPrepare m.disks old.era call.key desk now ballot round
-      → Sends old.flow id (prepares_to id (kept_of desk.vault).age call.key ballot old.era.prep) flow
+  prepares : (desk now : DeskView V) (ballot : Ballot) (round : Round) (flow : FlowView) → IsAt old.desks id desk → desk.down ≡ false → round_marks (era_at old id) ≤ suc call.reserved
+      → BeginsToPrepare m.disks (era_at old id) call.key desk now ballot round
+      → Sends old.flow id (prepares_to id (kept_of desk.vault).age call.key ballot (era_at old id).prep) flow
       → new ≡ record (with_desk old id now) { flow = flow } → BeginsRound m old id caller call new
-  proposes : (desk now : DeskView V) (ready : Ready) (ride : Option Ballot) (round : Round) (outcome : Outcome) (flow : FlowView) → IsAt old.desks id desk → desk.down ≡ false → round_marks old.era ≤ suc call.reserved
-      → BeginsByPromise m.disks old.era call.key desk now ready ride round → outcome ≡ outcome_of call.program ready.state
+  proposes : (desk now : DeskView V) (ready : Ready) (ride : Option Ballot) (round : Round) (outcome : Outcome) (flow : FlowView) → IsAt old.desks id desk → desk.down ≡ false → round_marks (era_at old id) ≤ suc call.reserved
+      → BeginsByPromise m.disks (era_at old id) call.key desk now ready ride round → outcome ≡ outcome_of call.program ready.state
       → Sends old.flow id (accepts_to id (kept_of desk.vault).age round.key round.ballot round.era.number ride outcome.state round.era.acc) flow
       → new ≡ proposed_view old id caller call now flow (proposal_of id caller.number round ready.read ready.by) outcome → BeginsRound m old id caller call new
-  stays : (told : Answer) → IsNoBeginning told → ((desk : DeskView V) → IsAt old.desks id desk → (desk.round ≡ None) × (told ≡ answer.Down → desk.down ≡ true)) → (told ≡ answer.RecordFull → IsFull old id × (suc call.reserved < round_marks old.era)) → new ≡ with_call old id caller (over call told)
+  stays : (told : Answer) → IsNoBeginning told → ((desk : DeskView V) → IsAt old.desks id desk → (desk.round ≡ None) × (told ≡ answer.Down → desk.down ≡ true)) → (told ≡ answer.RecordFull → IsFull old id × (suc call.reserved < round_marks (era_at old id))) → new ≡ with_call old id caller (over call told)
       → BeginsRound m old id caller call new
   spent : (desk now : DeskView V) → IsAt old.desks id desk → desk.round ≡ None → desk.down ≡ false → promise_at call.key desk.cache ≡ None → counter_of desk.vault ≡ 2 ^ 48 → HasKept m.disks desk.vault now.vault → now ≡ record desk { vault = now.vault }
       → new ≡ with_call (with_desk old id now) id caller (over call answer.Spent) → BeginsRound m old id caller call new

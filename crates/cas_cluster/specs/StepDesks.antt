@@ -1,5 +1,5 @@
 -- What a step does to a desk and its vault.
-use Rattle.std.specs.Prelude.{◌≡◌, ◌⊎◌, ℕ, ◌≤◌, true, List, Option, None, Some}
+use Rattle.std.specs.Prelude.{◌≡◌, ◌⊎◌, ℕ, ◌≤◌, true, false, List, Option, None, Some}
 use Rattle.cas_base.specs.Faults.{Rose}
 use Rattle.cas_ballot.specs.declared.ballot.Ballot.{Ballot}
 use Rattle.cas_ballot.specs.Ballot.{FitsBallot}
@@ -13,14 +13,14 @@ use Rattle.cas_quorum.specs.declared.era.Era.{Era}
 use Rattle.cas_slot.specs.declared.message.Reply.{Reply}
 use Rattle.cas_vault.specs.declared.vault.Vault.{Vault}
 use Rattle.cas_vault.specs.Vault.{disk_of, counter_of, kept_of, IsPast}
-use Rattle.cas_cluster.specs.Parties.{IsInEra}
+use Rattle.cas_cluster.specs.Parties.{IsWithin}
 use Rattle.cas_cluster.specs.View.{DiskMeaning}
 
 -- ---- vaults
--- the vault is past all that it was past, and in the same era, wherever it stops; the count of its disk's faults does not fall
+-- the vault is past all that it was past, and in the same eras, wherever it stops; the count of its disk's faults does not fall
 pub record GoesOn {V : Type 0} (m : DiskMeaning V) (old new : Vault V) : Type 0 where
   pub still_past : m.tells → (n : ℕ) → IsPast m.may_leave n old → IsPast m.may_leave n new
-  pub era : m.tells → (era : ℕ) → IsInEra m era old → IsInEra m era new
+  pub era : m.tells → (era other : ℕ) → IsWithin m era other old → IsWithin m era other new
   pub never_falls : m.faults (disk_of old) ≤ m.faults (disk_of new)
 
 -- a ballot of this proposer was drawn, and is never drawn again
@@ -98,7 +98,10 @@ pub record Crashes {V : Type 0} (m : DiskMeaning V) (old new : DeskView V) : Typ
   pub crashed : IsCrashed old new
   pub goes_on : GoesOn m old.vault new.vault
 
--- a desk is up again, or stays down
+-- A desk is up again, in the era that its vault showed, or stays down.
 pub record Restarts {V : Type 0} (m : DiskMeaning V) (old new : DeskView V) : Type 0 where
   pub desk : new ≡ record old { vault = new.vault; down = new.down }
-  pub goes_on : GoesOn m old.vault new.vault
+  pub still_past : m.tells → (n : ℕ) → IsPast m.may_leave n old.vault → IsPast m.may_leave n new.vault
+  pub shows : new.down ≡ false → m.tells → (era other : ℕ) → IsWithin m era other old.vault → IsWithin m era era new.vault ⊎ IsWithin m other other new.vault
+  pub stays : new.down ≡ true → m.tells → (era other : ℕ) → IsWithin m era other old.vault → IsWithin m era other new.vault
+  pub never_falls : m.faults (disk_of old.vault) ≤ m.faults (disk_of new.vault)

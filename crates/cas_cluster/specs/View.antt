@@ -1,9 +1,10 @@
 -- What a cluster is seen as: its acceptors and desks, the calls of its callers, the frames under way, and the marks. Shelves and vaults
 -- are seen as they are, and what they mean is said apart.
-use Rattle.std.specs.Prelude.{◌+◌, ◌∷◌, ℕ, List, [], ◌++◌, Bool, false, Option, None, Some, slice_get, slice_set, ◌≡◌}
+use Rattle.std.specs.Prelude.{◌+◌, ◌∷◌, ℕ, List, [], ◌++◌, Bool, false, Option, None, Some, slice_get, slice_set, slice_index_or, ◌≡◌}
 use Rattle.cas_change.specs.declared.program.Clause.{Clause}
 use Rattle.cas_change.specs.declared.outcome.Outcome.{Outcome}
 use Rattle.cas_quorum.specs.declared.era.Era.{Era}
+use Rattle.cas_quorum.specs.Era.{majority_era}
 use Rattle.cas_slot.specs.Contents.{Contents}
 use Rattle.cas_slot.specs.Shelf.{Left}
 use Rattle.cas_acceptor.specs.Acceptor.{AcceptorView}
@@ -71,8 +72,8 @@ reserved_of (caller ∷ callers) = reserved_in caller.call + reserved_of callers
 pub record View (S V : Type 0) : Type 0 where
   -- the greatest number of a proposer
   pub greatest : ℕ
-  -- the era that all are in
-  pub era : Era
+  -- the era in which each proposer works, at the place of its number
+  pub eras : List Era
   -- each at the place of its number
   pub acceptors : List (AcceptorView S)
   pub desks : List (DeskView V)
@@ -82,6 +83,13 @@ pub record View (S V : Type 0) : Type 0 where
   pub marks : List Mark
 
 -- ---- parts of it
+-- the era in which a proposer works; a number that no proposer has is in one without members
+abbrev pub era_in : List Era → ℕ → Era
+era_in eras id = slice_index_or eras id (majority_era 0 [])
+
+abbrev pub era_at : {S V : Type 0} → View S V → ℕ → Era
+era_at view id = era_in view.eras id
+
 abbrev pub with_acceptor : {S V : Type 0} → View S V → ℕ → AcceptorView S → View S V
 with_acceptor view id acceptor = record view { acceptors = slice_set view.acceptors id acceptor }
 

@@ -1,5 +1,5 @@
 -- What is true of every cluster as it is seen, where its disks tell what they keep.
-use Rattle.std.specs.Prelude.{◌≡◌, ℕ, true, List, reverse, Ok}
+use Rattle.std.specs.Prelude.{◌≡◌, ℕ, ◌≤◌, true, List, reverse, Ok}
 use Rattle.cas_ballot.specs.declared.ballot.Ballot.{Ballot}
 use Rattle.cas_ballot.specs.Ballot.{BallotAtMost}
 use Rattle.cas_ballot.specs.Members.{has_member}
@@ -17,7 +17,7 @@ use Rattle.cas_record.specs.Orderly.{IsAboveFloors}
 use Rattle.cas_record.specs.Places.{Stands, IsPrefix}
 use Rattle.cas_cluster.specs.History.{IsRemembered}
 use Rattle.cas_cluster.specs.Step.{Event, Step, IsOpening, History}
-use Rattle.cas_cluster.specs.View.{Meaning, View, IsAt}
+use Rattle.cas_cluster.specs.View.{Meaning, View, IsAt, era_at}
 
 -- A cluster that has just opened is remembered.
 abbrev pub OpeningsAreRemembered : {S V : Type 0} → Meaning S V → Type 0
@@ -41,7 +41,7 @@ pub record IsKeptBy {S V : Type 0} (m : Meaning S V) (marks : List Mark) (key : 
 -- What is acknowledged stands on the shelves of those that confirmed it, who are an accept quorum of its era, until a floor is made at or
 -- above it.
 pub record IsKept {S V : Type 0} (m : Meaning S V) (view : View S V) (a : Acknowledgment) : Type 0 where
-  pub quorum : a.era ≡ view.era.number → holds_acc view.era a.by ≡ true
+  pub quorum : (id : ℕ) → id ≤ view.greatest → a.era ≡ (era_at view id).number → holds_acc (era_at view id) a.by ≡ true
   pub kept : (id : ℕ) (acceptor : AcceptorView S) → has_member a.by id ≡ true → IsAt view.acceptors id acceptor → IsKeptBy m (reverse view.marks) a.key a.ballot acceptor
 
 abbrev pub WhatIsDoneIsKept : {S V : Type 0} → Meaning S V → Type 0

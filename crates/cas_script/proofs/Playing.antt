@@ -20,7 +20,7 @@ use Rattle.cas_cluster.specs.Step.{StepBegin, StepTurn, StepRefuseTurn, StepProp
 use Rattle.cas_cluster.specs.StepCalls as calls
 use Rattle.cas_cluster.specs.StepCalls.{most_marks, round_marks, WasMet}
 use Rattle.cas_cluster.specs.StepFrames as frames
-use Rattle.cas_cluster.specs.View.{Meaning, View, CallView, CallerView, IsAt, new_call, new_caller, reserved_of}
+use Rattle.cas_cluster.specs.View.{Meaning, View, CallView, CallerView, IsAt, new_call, new_caller, reserved_of, era_at}
 use Rattle.cas_cluster.proofs.Places.{at_one, at_set, some_is}
 use Rattle.cas_world.specs.Beginning.{HasNoCall, HasRound, MayBegin, first, another, is_refusal, BeginsOrNot}
 use Rattle.cas_world.specs.Readers.{next_number, closed_in, told_if, IsVerdictIn}
@@ -375,7 +375,7 @@ record IsOpened (call : CallView) (key : List ℕ) (program : List Clause) : Typ
 
 opened_by : {S V : Type 0} (old middle : View S V) (id : ℕ) (key : List ℕ) (program : List Clause) → calls.Opens old id key program middle → (caller : CallerView) (call : CallView) → IsAt middle.callers id caller → caller.call ≡ Some call → IsOpened call key program
 opened_by {S} {V} old middle id key program (calls.first was at none room same) caller call there is_call =
-    let made : CallView = new_call key program (round_marks old.era - 1) in
+    let made : CallView = new_call key program (round_marks (era_at old id) - 1) in
     let next : CallerView = record { number = suc was.number; call = Some made } in
     let one : next ≡ caller = at_one middle.callers id (subst (λ (l : List CallerView). IsAt l id next) (sym (ap (λ (w : View S V). w.callers) same)) (at_set old.callers id was next at)) there in
     subst (λ (c : CallView). IsOpened c key program) (some_is (ap (λ (c : CallerView). c.call) one ∙ is_call)) (record { key_is = refl; program_is = refl; not_told = refl })
@@ -460,10 +460,10 @@ begun_not_met m old new id key program P by met =
     absurd (b.no_conflict (subst (λ (c : CallView). WasMet c.told) (some_is (sym met.of_call.is_open ∙ ap (λ (c : CallerView). c.call) one ∙ b.is_call)) met.met))
 
 -- a call that is refused as it would begin
-refused_by : {S V : Type 0} {A : Type 0} (world : View S V) (id : ℕ) (told : Answer) → (IsErrOf {T = A} (Err told) answer.RecordFull ↔ (most_marks < length world.marks + reserved_of (slice_set world.callers id new_caller) + round_marks world.era))
+refused_by : {S V : Type 0} {A : Type 0} (world : View S V) (id : ℕ) (told : Answer) → (IsErrOf {T = A} (Err told) answer.RecordFull ↔ (most_marks < length world.marks + reserved_of (slice_set world.callers id new_caller) + round_marks (era_at world id)))
     → (told ≡ answer.RecordFull) ⊎ (told ≡ answer.NoMemory false) → IsRefused world id told
 refused_by world id told cause (inl is) = subst (IsRefused world id) (sym is) (full (cause.0 (ap (λ (a : Answer). Err a) is)))
-refused_by {S} {V} {A} world id told cause (inr is) = subst (IsRefused world id) (sym is) (no_memory (elim (le_or_lt (length world.marks + reserved_of (slice_set world.callers id new_caller) + round_marks world.era) most_marks) [
+refused_by {S} {V} {A} world id told cause (inr is) = subst (IsRefused world id) (sym is) (no_memory (elim (le_or_lt (length world.marks + reserved_of (slice_set world.callers id new_caller) + round_marks (era_at world id)) most_marks) [
   | inl low ↦ low
   | inr more ↦ absurd (other (cause.1 more))
 ]))
@@ -472,7 +472,7 @@ refused_by {S} {V} {A} world id told cause (inr is) = subst (IsRefused world id)
     other full_is = let same : told ≡ answer.RecordFull = cc full_is in absurd (cc (same, is))
 
 pub refusal_is : {S V : Type 0} {A : Type 0} (m : Meaning S V) (old new : View S V) (id number : ℕ) (key : List ℕ) (program : List Clause) (told : Answer) → HasNoCall old id → is_refusal told ≡ true
-    → (IsErrOf {T = A} (Err told) answer.RecordFull ↔ (most_marks < length old.marks + reserved_of (slice_set old.callers id new_caller) + round_marks old.era))
+    → (IsErrOf {T = A} (Err told) answer.RecordFull ↔ (most_marks < length old.marks + reserved_of (slice_set old.callers id new_caller) + round_marks (era_at old id)))
     → BeginsOrNot {A = A} m old id number key program (Err told) new → IsRefused old id told × calls.RefusesCall m old id key new × HasNoCall new id
 refusal_is m old new id number key program told none is cause (inl begun) = absurd (cc (begun.2 none, is))
 refusal_is m old new id number key program told none is cause (inr not_begun) = (refused_by old id told cause not_begun.2, not_begun.0, no_begin_idle m old new id key not_begun.0 none)

@@ -37,7 +37,7 @@ use Rattle.cas_cluster.specs.Step.{StepBegin}
 use Rattle.cas_cluster.specs.StepCalls as calls
 use Rattle.cas_cluster.specs.StepCalls.{round_marks, opened, prepares_to, accepts_to}
 use Rattle.cas_cluster.specs.StepDesks.{MayHaveDrawn, HasDrawn}
-use Rattle.cas_cluster.specs.View.{Meaning, DiskMeaning, View, CallView, CallerView, IsAt, new_call}
+use Rattle.cas_cluster.specs.View.{Meaning, DiskMeaning, View, CallView, CallerView, IsAt, new_call, era_at}
 use Rattle.cas_cluster.proofs.Harms.{has_of_map, has_member_of}
 use Rattle.cas_cluster.proofs.Places.{at_one, at_set, own_set, some_is}
 use Rattle.cas_cluster.proofs.SafeCalls.{opens_safe, accepts_is}
@@ -111,22 +111,22 @@ age_by {S} {V} old new id age now is aged desk at = ap (λ (d : DeskView V). (ke
 
 -- ---- a call that is opened
 record IsNew {S V : Type 0} (m : Meaning S V) (old middle : View S V) (id : ℕ) (key : List ℕ) (program : List Clause) (call : CallView) : Type 0 where
-  pub era : middle.era ≡ old.era
+  pub era : era_at middle id ≡ era_at old id
   pub desks : middle.desks ≡ old.desks
   pub all_ready : AreReady m middle id key
-  pub call_is : call ≡ new_call key program (round_marks middle.era - 1)
+  pub call_is : call ≡ new_call key program (round_marks (era_at middle id) - 1)
 
 is_new : {S V : Type 0} (m : Meaning S V) (old middle : View S V) (id : ℕ) (key : List ℕ) (program : List Clause) → AreReady m old id key → ((caller : CallerView) → IsAt old.callers id caller → caller.call ≡ None) → calls.Opens old id key program middle
     → (caller : CallerView) (call : CallView) → IsAt middle.callers id caller → caller.call ≡ Some call → IsNew m old middle id key program call
 is_new {S} {V} m old middle id key program ready none_open (calls.first was at was_none room is) caller call there is_call = record {
-  era = ap (λ (w : View S V). w.era) is;
+  era = ap (λ (w : View S V). era_at w id) is;
   desks = ap (λ (w : View S V). w.desks) is;
   all_ready = subst (λ (w : View S V). AreReady m w id key) (sym is) (record { desk = ready.desk; at_desk = ready.at_desk; begins = ready.begins; members = ready.members });
-  call_is = some_is (sym is_call ∙ ap (λ (c : CallerView). c.call) (sym same)) ∙ ap (λ (e : Era). new_call key program (round_marks e - 1)) (sym (ap (λ (w : View S V). w.era) is));
+  call_is = some_is (sym is_call ∙ ap (λ (c : CallerView). c.call) (sym same)) ∙ ap (λ (e : Era). new_call key program (round_marks e - 1)) (sym (ap (λ (w : View S V). era_at w id) is));
 }
   where
     next : CallerView
-    next = record { number = suc was.number; call = Some (new_call key program (round_marks old.era - 1)) }
+    next = record { number = suc was.number; call = Some (new_call key program (round_marks (era_at old id) - 1)) }
 
     same : next ≡ caller
     same = at_one middle.callers id (subst (λ (l : List CallerView). IsAt l id next) (sym (ap (λ (w : View S V). w.callers) is)) (at_set old.callers id was next at)) there
@@ -135,21 +135,21 @@ is_new m old middle id key program ready none_open (calls.again was open_call re
 -- what is ready of the desk that stands there
 record ReadyDesk {S V : Type 0} (m : Meaning S V) (view : View S V) (id : ℕ) (key : List ℕ) (desk : DeskView V) : Type 0 where
   pub begins : IsReadyToBegin desk key
-  pub members : (member : ℕ) → IsMemberOf view.era member → (acceptor : AcceptorView S) × IsAt view.acceptors member acceptor × IsReadyFor m.shelves desk key acceptor
+  pub members : (member : ℕ) → IsMemberOf (era_at view id) member → (acceptor : AcceptorView S) × IsAt view.acceptors member acceptor × IsReadyFor m.shelves desk key acceptor
 
 ready_desk : {S V : Type 0} (m : Meaning S V) (view : View S V) (id : ℕ) (key : List ℕ) (desk : DeskView V) → AreReady m view id key → IsAt view.desks id desk → ReadyDesk m view id key desk
 ready_desk {S} {V} m view id key desk ready at = subst (ReadyDesk m view id key) (at_one view.desks id ready.at_desk at) (record { begins = ready.begins; members = ready.members })
 
 -- ---- the beginning
 pub begins : {S V : Type 0} (m : Meaning S V) (old new : View S V) (id : ℕ) (key : List ℕ) (program : List Clause) → IsSafe old → (ready : AreReady m old id key) → ((caller : CallerView) → IsAt old.callers id caller → caller.call ≡ None)
-    → StepBegin m old id key program new → Begun m old.era (next_ballot ready.desk key) id new
+    → StepBegin m old id key program new → Begun m (era_at old id) (next_ballot ready.desk key) id new
 begins {S} {V} m old new id key program safe ready none_open by = subst (λ (e : Era). Begun m e (next_ballot ready.desk key) id new) fresh.era (in_round by.begins)
   where
     fresh : IsNew m old by.middle id key program by.call
     fresh = is_new m old by.middle id key program ready none_open by.opens by.caller by.call by.at_caller by.is_open
 
     era : Era
-    era = by.middle.era
+    era = era_at by.middle id
 
     key_is : by.call.key ≡ key
     key_is = ap (λ (c : CallView). c.key) fresh.call_is
@@ -170,7 +170,7 @@ begins {S} {V} m old new id key program safe ready none_open by = subst (λ (e :
     ready_at desk at = ready_desk m by.middle id key desk fresh.all_ready at
 
     empty : (desk : DeskView V) → IsAt by.middle.desks id desk → desk.round ≡ None → (queue_at by.middle.flow id).messages ≡ []
-    empty desk at none = (idle_at by.middle.era by.caller (queue_at by.middle.flow id) desk.round none (middle_safe.parties id desk by.caller at by.at_caller).round).none_waits
+    empty desk at none = (idle_at (era_at by.middle id) by.caller (queue_at by.middle.flow id) desk.round none (middle_safe.parties id desk by.caller at by.at_caller).round).none_waits
 
     waits : (desk : DeskView V) (messages : List Message) (flow : FlowView) → IsAt by.middle.desks id desk → desk.round ≡ None → calls.Sends by.middle.flow id messages flow → new.flow ≡ flow → (queue_at new.flow id).messages ≡ messages
     waits desk messages flow at none sends is = ap (λ (f : FlowView). (queue_at f id).messages) is ∙ sends.own ∙ ap (λ (l : List Message). l ++ messages) (empty desk at none)

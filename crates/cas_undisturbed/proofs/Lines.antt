@@ -9,7 +9,7 @@ use Rattle.cas_record.specs.declared.answer.Answer.{Answer}
 use Rattle.cas_record.specs.declared.answer.Answer.TheVariants as answer
 use Rattle.cas_cluster.specs.Step.{StepEnd}
 use Rattle.cas_cluster.specs.StepCalls.{HasRoom, WasMet, round_marks}
-use Rattle.cas_cluster.specs.View.{Meaning, View, IsAt}
+use Rattle.cas_cluster.specs.View.{Meaning, View, IsAt, era_at}
 use Rattle.cas_cluster.proofs.Places.{at_one, some_is}
 use Rattle.cas_causes.specs.Causes.{IsTold}
 use Rattle.cas_causes.proofs.Ends.{desk_by}
@@ -86,7 +86,7 @@ answered {S} {V} m ballot old new id answer_is by well up = by_end well
     by_end (goes_down is desk at down) = let now = end_down m old new id answer_is desk by at down in absurd (not_both now.0.down now.2 (up now.0 now.1))
 
 -- a call that the record has room for is refused for want of memory alone
-refused_well : {S V : Type 0} (ballot : Ballot) (world : View S V) (id : ℕ) (told : Answer) → HasRoom world id (round_marks world.era) → IsRefused world id told → IsDoneOrNoMemory ballot told
+refused_well : {S V : Type 0} (ballot : Ballot) (world : View S V) (id : ℕ) (told : Answer) → HasRoom world id (round_marks (era_at world id)) → IsRefused world id told → IsDoneOrNoMemory ballot told
 refused_well ballot world id told room (script.full no_room) = absurd (omega (arith, room, no_room))
 refused_well ballot world id told room (script.no_memory fits) = tt
 
@@ -97,12 +97,12 @@ lines_are_done {S} {V} m tries old new asked told safe sized ready runs up =
     ballot : Ballot
     ballot = next_ballot ready.all_ready.desk asked.key
 
-    grounds : Grounds old.world.era old.rules
-    grounds = has_grounds old.world.era old.rules sized safe.prep_set safe.acc_set ready.delivers
+    grounds : Grounds (era_at old.world asked.caller) old.rules
+    grounds = has_grounds (era_at old.world asked.caller) old.rules sized (safe.prep_sets asked.caller) (safe.acc_sets asked.caller) ready.delivers
 
     in_change : {answer_is : Answer} {after : Halt} → IsChange m tries old.rules asked.caller asked.key asked.program nowhere old.world answer_is after new.world → IsDoneOrNoMemory ballot answer_is
     in_change (script.refused refused by) = refused_well ballot old.world asked.caller _ ready.room refused
     in_change {answer_is} {after} (script.ended {begun = begun} {told = last} begin rounds end) =
         answered m ballot last new.world asked.caller answer_is end
-        (rounds_end m old.world.era ballot old.rules asked.caller asked.key asked.program tries after begun last grounds (begins m old.world begun asked.caller asked.key asked.program safe ready.all_ready ready.no_call begin) rounds
-        (up_before old.world.era last new.world (end_keeps m last new.world asked.caller answer_is end) up.members)) up.desk
+        (rounds_end m (era_at old.world asked.caller) ballot old.rules asked.caller asked.key asked.program tries after begun last grounds (begins m old.world begun asked.caller asked.key asked.program safe ready.all_ready ready.no_call begin) rounds
+        (up_before (era_at old.world asked.caller) last new.world (end_keeps m last new.world asked.caller answer_is end) up.members)) up.desk

@@ -1,6 +1,6 @@
 -- A script over a cluster that just opened is ready for its first line.
 use Rattle.std.proofs.Common.{◌≡◌, ◌<◌, ◌≤◌, ◌^◌, ◌∙◌, ℕ, zero, suc, true, false, List, [], ◌∷◌, Option, None, refl, sym, ap, subst, inl, inr, arith}
-use Rattle.std.specs.Prelude.{◌+◌, ◌||◌, length, replicate, slice_set}
+use Rattle.std.specs.Prelude.{◌+◌, ◌||◌, length, replicate, slice_set, slice_index_or}
 use Rattle.std.specs.Cmp.Lexicographic.{slice_cmp}
 use Rattle.std.specs.FinMap as map
 use Rattle.std.specs.Ordering.{nat_cmp}
@@ -27,7 +27,7 @@ use Rattle.cas_slot.specs.declared.slot.Slot.{Slot}
 use Rattle.cas_vault.specs.Vault.{counter_of, kept_of}
 use Rattle.cas_cluster.specs.SafeLaws.{HasPlaces}
 use Rattle.cas_cluster.specs.Step.{IsOpening, IsFreshDesk}
-use Rattle.cas_cluster.specs.View.{Meaning, View, CallerView, IsAt, new_caller, reserved_in, reserved_of}
+use Rattle.cas_cluster.specs.View.{Meaning, View, CallerView, IsAt, new_caller, reserved_in, reserved_of, era_at, era_in}
 use Rattle.cas_cluster.proofs.Harms.{member_low}
 use Rattle.cas_cluster.proofs.Places.{at_one, but_set}
 use Rattle.cas_cluster.proofs.SafeOpens.{opens_are_safe}
@@ -67,7 +67,7 @@ none_reserved [] fresh = refl
 none_reserved (caller ∷ callers) fresh = omega (arith, ap (λ (c : CallerView). reserved_in c.call) (fresh 0 caller refl), none_reserved callers (λ id c at. fresh (suc id) c at))
 
 -- ---- a cluster that just opened
-majority_sized : (members : List ℕ) → 0 < length members → IsSized (majority_era 0 members)
+pub majority_sized : (members : List ℕ) → 0 < length members → IsSized (majority_era 0 members)
 majority_sized members some = record { some_prep = omega arith; prep = omega (arith, some); some_acc = omega arith; acc = omega (arith, some) }
 
 member_of : (members : List ℕ) (member : ℕ) → IsMemberOf (majority_era 0 members) member → has_member members member ≡ true
@@ -82,13 +82,17 @@ ready_member m id key desk acceptor few same up keeps = record {
   room = λ full. has_room key (subst (λ (c : Contents). IsFullFor c.slots key) keeps full);
 }
 
-all_ready : {S V : Type 0} (m : Meaning S V) (members : List ℕ) (world : View S V) (id : ℕ) (key : List ℕ) (desk : DeskView V) → IsOpening m members world → HasPlaces world → IsAt world.desks id desk → counter_of desk.vault < 2 ^ 48 → AreUp world.era world id → AreReady m world id key
+-- each proposer works in the era of the opening
+pub opening_era : {S V : Type 0} (m : Meaning S V) (members : List ℕ) (world : View S V) (id : ℕ) → IsOpening m members world → id ≤ 16 → era_at world id ≡ majority_era 0 members
+opening_era m members world id opens low = ap (λ (l : List Era). era_in l id) opens.eras ∙ get_or-replicate 17 id (majority_era 0 members) (majority_era 0 []) (omega (arith, low))
+
+all_ready : {S V : Type 0} (m : Meaning S V) (members : List ℕ) (world : View S V) (id : ℕ) (key : List ℕ) (desk : DeskView V) → IsOpening m members world → HasPlaces world → IsAt world.desks id desk → counter_of desk.vault < 2 ^ 48 → AreUp (era_at world id) world id → AreReady m world id key
 all_ready {S} {V} m members world id key desk opens places at low up = record {
   desk = desk;
   at_desk = at;
   begins = record { up = up.desk desk at; none_open = fresh.1.none_open; unspent = λ none. low };
   members = λ member is.
-      let has_it : has_member members member ≡ true = member_of members member (subst (λ (e : Era). IsMemberOf e member) opens.era is) in
+      let has_it : has_member members member ≡ true = member_of members member (subst (λ (e : Era). IsMemberOf e member) era_is is) in
       let there = at_low world.acceptors member (omega (arith, member_low members member opens.member_set has_it, places.acceptors)) in
       let is_up = up.members member is there.0 there.1 in
       (there.0, there.1, ready_member m id key desk there.0 (omega (arith, fresh.0, opens.few)) fresh.1.same_id is_up ((opens.acceptors member there.0 there.1).keeps is_up));
@@ -97,13 +101,16 @@ all_ready {S} {V} m members world id key desk opens places at low up = record {
     fresh : (id ≤ world.greatest) × IsFreshDesk m id desk
     fresh = opens.desks id desk at
 
+    era_is : era_at world id ≡ majority_era 0 members
+    era_is = opening_era m members world id opens (omega (arith, fresh.0, opens.few))
+
 caller_set : (callers : List CallerView) (id : ℕ) → ((place : ℕ) (caller : CallerView) → IsAt callers place caller → caller ≡ new_caller) → (place : ℕ) (caller : CallerView) → IsAt (slice_set callers id new_caller) place caller → caller ≡ new_caller
 caller_set callers id fresh place caller at = elim (but_set callers id new_caller place caller at) [
   | inl own ↦ own.1
   | inr other ↦ fresh place caller other.1
 ]
 
-line_ready : {S V : Type 0} (m : Meaning S V) (members : List ℕ) (world : View S V) (asked : Asked) (desk : DeskView V) → IsOpening m members world → HasPlaces world → IsAt world.desks asked.caller desk → counter_of desk.vault < 2 ^ 48 → AreUp world.era world asked.caller → IsReadyLine m (opening_state world) asked
+line_ready : {S V : Type 0} (m : Meaning S V) (members : List ℕ) (world : View S V) (asked : Asked) (desk : DeskView V) → IsOpening m members world → HasPlaces world → IsAt world.desks asked.caller desk → counter_of desk.vault < 2 ^ 48 → AreUp (era_at world asked.caller) world asked.caller → IsReadyLine m (opening_state world) asked
 line_ready {S} {V} m members world asked desk opens places at low up = record {
   delivers = λ frame. refl;
   goes_on = at_replicate 17 asked.caller nowhere (omega (arith, (opens.desks asked.caller desk at).0, opens.few));
@@ -113,7 +120,7 @@ line_ready {S} {V} m members world asked desk opens places at low up = record {
     arith,
     ap (λ (l : List Mark). length l) opens.marks,
     none_reserved (slice_set world.callers asked.caller new_caller) (caller_set world.callers asked.caller opens.callers),
-    few_members (λ n. has_member world.era.prep n || has_member world.era.acc n),
+    few_members (λ n. has_member (era_at world asked.caller).prep n || has_member (era_at world asked.caller).acc n),
   );
 }
 
@@ -125,7 +132,7 @@ first_ballot desk id key same none =
 pub first_lines_are_done : {S V : Type 0} (m : Meaning S V) → FirstLinesAreDone m
 first_lines_are_done {S} {V} m tries members world new asked told desk opens places at low up runs up_then =
     subst (λ (b : Ballot). IsDoneOrNoMemory b told) (ap (λ (d : DeskView V). next_ballot d asked.key) (at_one world.desks asked.caller ready.all_ready.at_desk at) ∙ first_ballot desk asked.caller asked.key fresh.same_id fresh.no_promise)
-    (lines_are_done m tries (opening_state world) new asked told (opens_are_safe m members world opens places) (subst IsSized (sym opens.era) (majority_sized members opens.some)) ready runs up_then)
+    (lines_are_done m tries (opening_state world) new asked told (opens_are_safe m members world opens places) (subst IsSized (sym (opening_era m members world asked.caller opens (omega (arith, (opens.desks asked.caller desk at).0, opens.few)))) (majority_sized members opens.some)) ready runs up_then)
   where
     fresh : IsFreshDesk m asked.caller desk
     fresh = (opens.desks asked.caller desk at).1

@@ -18,22 +18,22 @@ use Rattle.cas_script.specs.Script as script
 use Rattle.cas_script.specs.Script.{State, LineAnswer, RunsEvent, IsAnswered}
 use Rattle.cas_script.specs.declared.halt.Halt.{Halt}
 use Rattle.cas_undisturbed.specs.Runs.{LinesKeepSafe}
-use Rattle.cas_undisturbed.proofs.Eras.{steps_keep_era}
+use Rattle.cas_undisturbed.proofs.Eras.{steps_keep_eras}
 
 -- ---- what stays
--- a cluster that was safe is safe, in the same era
+-- a cluster that was safe is safe, and its proposers are in the same eras
 pub record Stays {S V : Type 0} (old new : View S V) : Type 0 where
   pub safe : IsSafe old → IsSafe new
-  pub era : new.era ≡ old.era
+  pub eras : new.eras ≡ old.eras
 
 pub same : {S V : Type 0} (old : View S V) → Stays old old
-same old = record { safe = λ was. was; era = refl }
+same old = record { safe = λ was. was; eras = refl }
 
 pub both : {S V : Type 0} (old mid new : View S V) → Stays old mid → Stays mid new → Stays old new
-both old mid new before after = record { safe = λ was. after.safe (before.safe was); era = after.era ∙ before.era }
+both old mid new before after = record { safe = λ was. after.safe (before.safe was); eras = after.eras ∙ before.eras }
 
 by_step : {S V : Type 0} (m : Meaning S V) (old new : View S V) (event : Event) → Step m old event new → Stays old new
-by_step m old new event by = record { safe = λ was. steps_are_safe m old event new was by; era = steps_keep_era m old new event by }
+by_step m old new event by = record { safe = λ was. steps_are_safe m old event new was by; eras = steps_keep_eras m old new event by }
 
 -- ---- a change
 turned_stays : {S V : Type 0} (m : Meaning S V) (rules : List Rule) (id : ℕ) (old new : View S V) → Turned m rules id old new → Stays old new
@@ -111,4 +111,4 @@ line_stays m tries old new line answer (script.refused why word is_line) = same 
 line_stays m tries old new line answer (script.remark is_line) = same old.world
 
 pub lines_keep_safe : {S V : Type 0} (m : Meaning S V) → LinesKeepSafe m
-lines_keep_safe m tries old new line answer was by = let stays = line_stays m tries old new line answer by in (stays.safe was, stays.era)
+lines_keep_safe m tries old new line answer was by = let stays = line_stays m tries old new line answer by in (stays.safe was, stays.eras)

@@ -20,7 +20,7 @@ use Rattle.cas_slot.specs.Table.{seen_at}
 use Rattle.cas_vault.specs.Vault.{counter_of, kept_of}
 use Rattle.cas_cluster.specs.Safe.{IsSafe}
 use Rattle.cas_cluster.specs.StepCalls.{HasRoom, round_marks}
-use Rattle.cas_cluster.specs.View.{Meaning, ShelfMeaning, View, CallerView, IsAt}
+use Rattle.cas_cluster.specs.View.{Meaning, ShelfMeaning, View, CallerView, IsAt, era_at}
 use Rattle.cas_script.specs.Conditions.{verdict_on}
 use Rattle.cas_script.specs.Script.{State, RunsChange, nowhere}
 
@@ -53,12 +53,12 @@ pub record IsReadyToBegin {V : Type 0} (desk : DeskView V) (key : List ℕ) : Ty
   pub none_open : desk.round ≡ None
   pub unspent : promise_at key desk.cache ≡ None → counter_of desk.vault < 2 ^ 48
 
--- every member of the era is ready for the next round of the key at the proposer's desk, and so is that desk
+-- every member of the proposer's era is ready for the next round of the key at the proposer's desk, and so is that desk
 pub record AreReady {S V : Type 0} (m : Meaning S V) (view : View S V) (id : ℕ) (key : List ℕ) : Type 0 where
   pub desk : DeskView V
   pub at_desk : IsAt view.desks id desk
   pub begins : IsReadyToBegin desk key
-  pub members : (member : ℕ) → IsMemberOf view.era member → (acceptor : AcceptorView S) × IsAt view.acceptors member acceptor × IsReadyFor m.shelves desk key acceptor
+  pub members : (member : ℕ) → IsMemberOf (era_at view id) member → (acceptor : AcceptorView S) × IsAt view.acceptors member acceptor × IsReadyFor m.shelves desk key acceptor
 
 -- ---- the line
 -- Nothing stands against the change of a line: each frame is delivered, its proposer is to halt nowhere, all are ready for it, its caller
@@ -68,7 +68,7 @@ pub record IsReadyLine {S V : Type 0} (m : Meaning S V) (old : State S V) (asked
   pub goes_on : IsAt old.halts asked.caller nowhere
   pub all_ready : AreReady m old.world asked.caller asked.key
   pub no_call : (caller : CallerView) → IsAt old.world.callers asked.caller caller → caller.call ≡ None
-  pub room : HasRoom old.world asked.caller (round_marks old.world.era)
+  pub room : HasRoom old.world asked.caller (round_marks (era_at old.world asked.caller))
 
 -- the members of the era and the proposer's desk are up
 pub record AreUp {S V : Type 0} (era : Era) (view : View S V) (id : ℕ) : Type 0 where
@@ -84,5 +84,5 @@ IsDoneOrNoMemory ballot other = ⊥
 -- A line whose change nothing stands against is answered done, at the ballot of its proposer's next round, but where no memory is found:
 -- whatever tries it has, if the members of the era and its proposer's desk are up after it.
 abbrev pub ReadyLinesAreDone : {S V : Type 0} → Meaning S V → Type 0
-ReadyLinesAreDone {S} {V} m = (tries : ℕ) (old new : State S V) (asked : Asked) (answer : Answer) → IsSafe old.world → IsSized old.world.era → (ready : IsReadyLine m old asked) → RunsChange m tries old asked answer new → AreUp old.world.era new.world asked.caller
+ReadyLinesAreDone {S} {V} m = (tries : ℕ) (old new : State S V) (asked : Asked) (answer : Answer) → IsSafe old.world → IsSized (era_at old.world asked.caller) → (ready : IsReadyLine m old asked) → RunsChange m tries old asked answer new → AreUp (era_at old.world asked.caller) new.world asked.caller
     → IsDoneOrNoMemory (next_ballot ready.all_ready.desk asked.key) answer

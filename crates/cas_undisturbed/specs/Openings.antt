@@ -6,7 +6,7 @@ use Rattle.cas_record.specs.declared.answer.Answer.{Answer}
 use Rattle.cas_vault.specs.Vault.{counter_of}
 use Rattle.cas_cluster.specs.SafeLaws.{HasPlaces}
 use Rattle.cas_cluster.specs.Step.{IsOpening}
-use Rattle.cas_cluster.specs.View.{Meaning, View, IsAt}
+use Rattle.cas_cluster.specs.View.{Meaning, View, IsAt, era_at}
 use Rattle.cas_script.specs.Script.{State, RunsChange, opening_state}
 use Rattle.cas_undisturbed.specs.Lines.{AreUp, IsDoneOrNoMemory}
 
@@ -14,4 +14,4 @@ use Rattle.cas_undisturbed.specs.Lines.{AreUp, IsDoneOrNoMemory}
 -- proposer's first ballot, but where no memory is found, if the members and the proposer's desk are up before and after it.
 abbrev pub FirstLinesAreDone : {S V : Type 0} → Meaning S V → Type 0
 FirstLinesAreDone {S} {V} m = (tries : ℕ) (members : List ℕ) (world : View S V) (new : State S V) (asked : Asked) (answer : Answer) (desk : DeskView V) → IsOpening m members world → HasPlaces world → IsAt world.desks asked.caller desk → counter_of desk.vault < 2 ^ 48
-    → AreUp world.era world asked.caller → RunsChange m tries (opening_state world) asked answer new → AreUp world.era new.world asked.caller → IsDoneOrNoMemory (record { counter = counter_of desk.vault + 1; proposer = asked.caller }) answer
+    → AreUp (era_at world asked.caller) world asked.caller → RunsChange m tries (opening_state world) asked answer new → AreUp (era_at world asked.caller) new.world asked.caller → IsDoneOrNoMemory (record { counter = counter_of desk.vault + 1; proposer = asked.caller }) answer

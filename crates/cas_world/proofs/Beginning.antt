@@ -60,7 +60,7 @@ module _ {V : Type 0} (tells : Type 0) (may_leave : V → List ℕ → Type 0) (
   pub goes_on_still : (old new : Vault V) → disk_of new ≡ disk_of old → kept_of new ≡ kept_of old → ((n : ℕ) → IsPast may_leave n old → IsPast may_leave n new) → GoesOn (disks tells may_leave faults) old new
   goes_on_still old new same_disk same_kept_of past = record {
     still_past = λ t. past;
-    era = λ t era was. record {
+    era = λ t era other was. record {
       kept = ap (λ (k : Kept). k.era) same_kept_of ∙ was.kept;
       left = λ c kept left on. was.left c kept (subst (λ (d : V). may_leave d c) same_disk left) on;
     };
@@ -68,7 +68,7 @@ module _ {V : Type 0} (tells : Type 0) (may_leave : V → List ℕ → Type 0) (
   }
 
   goes_on_same : (old : Vault V) → GoesOn (disks tells may_leave faults) old old
-  goes_on_same old = record { still_past = λ t n was. was; era = λ t era was. was; never_falls = no_more (faults (disk_of old)) (faults (disk_of old)) refl }
+  goes_on_same old = record { still_past = λ t n was. was; era = λ t era other was. was; never_falls = no_more (faults (disk_of old)) (faults (disk_of old)) refl }
 
   -- no memory was found once a ballot was drawn or not, and the round is ended
   pub loses_after : (old mid new : DeskView V) (round : Round) (ride rides : Option Ballot) → old.round ≡ Some round → MayHaveDrawn (disks tells may_leave faults) old.id old.vault mid.vault ride
@@ -98,9 +98,9 @@ module _ {V : Type 0} (tells : Type 0) (may_leave : V → List ℕ → Type 0) (
         → GoesOn (disks tells may_leave faults) old new
     goes_on old new past moments same never_falls = record {
       still_past = past;
-      era = λ t era was. record {
+      era = λ t era other was. record {
         kept = same ∙ was.kept;
-        left = λ c kept left on. era_on kept (kept_of old) (counter_of old) c on ((moments t).each c (counts_now (disk_of new) (moment (disk_of old)) c t (moments t).later left)) ∙ was.kept;
+        left = λ c kept left on. inl (era_on kept (kept_of old) (counter_of old) c on ((moments t).each c (counts_now (disk_of new) (moment (disk_of old)) c t (moments t).later left)) ∙ was.kept);
       };
       never_falls = never_falls;
     }

@@ -72,7 +72,7 @@ fresh_desk {S} {V} m faults id disk desk over = record {
   same_id = ap (λ (d : DeskView V). d.id) over.is;
   in_era = λ tells. record {
     kept = ap (λ (k : Kept). k.era) over.kept;
-    left = λ c kept may on. ap (λ (k : Kept). k.era) (same_kept kept fresh c on (over.lasts tells c may));
+    left = λ c kept may on. inl (ap (λ (k : Kept). k.era) (same_kept kept fresh c on (over.lasts tells c may)));
   };
   no_promise = ap (λ (d : DeskView V). d.cache) over.is;
   none_open = ap (λ (d : DeskView V). d.round) over.is;
@@ -93,12 +93,12 @@ none_reserved [] fresh = refl
 none_reserved (caller ∷ callers) fresh = omega (arith, ap (λ (c : CallerView). reserved_in c.call) (fresh 0 caller refl), none_reserved callers (λ id c at. fresh (suc id) c at))
 
 -- ---- the whole
-module _ {S V : Type 0} (m : Meaning S V) (shelf_faults : S → ℕ) (disk_faults : V → ℕ) (count greatest : ℕ) (shelves : List S) (disks : List V) (era : Era) (acceptors : List (AcceptorView S)) (desks : List (DeskView V)) (callers : List Caller) (flow : FlowView) (book : Book) (left : List V)
+module _ {S V : Type 0} (m : Meaning S V) (shelf_faults : S → ℕ) (disk_faults : V → ℕ) (count greatest : ℕ) (shelves : List S) (disks : List V) (eras : List Era) (acceptors : List (AcceptorView S)) (desks : List (DeskView V)) (callers : List Caller) (flow : FlowView) (book : Book) (left : List V)
     (some : 0 < count) (few : count ≤ 9) (few_proposers : greatest ≤ 16) (all_shelves : length shelves ≡ 64)
-    (starts : AllStart m shelf_faults disk_faults count greatest (unstarted 0 shelves) disks acceptors desks left) (era_is : era ≡ majority_era 0 (members_to count)) (callers_are : callers ≡ replicate (greatest + 1) unbegun) (flow_is : flow ≡ empty_flow) (marks : book.marks ≡ []) where
-  pub is_opening : IsOpening m (members_to count) (view_of greatest era acceptors desks callers flow book)
+    (starts : AllStart m shelf_faults disk_faults count greatest (unstarted 0 shelves) disks acceptors desks left) (eras_are : eras ≡ replicate 17 (majority_era 0 (members_to count))) (callers_are : callers ≡ replicate (greatest + 1) unbegun) (flow_is : flow ≡ empty_flow) (marks : book.marks ≡ []) where
+  pub is_opening : IsOpening m (members_to count) (view_of greatest eras acceptors desks callers flow book)
   is_opening = record {
-    era = era_is;
+    eras = eras_are;
     few = few_proposers;
     member_set = members_set count (omega (arith, few));
     some = omega (arith, some, length-range_with_len 1 count);
@@ -112,17 +112,17 @@ module _ {S V : Type 0} (m : Meaning S V) (shelf_faults : S → ℕ) (disk_fault
     marks = marks;
   }
 
-  pub has_places : HasPlaces (view_of greatest era acceptors desks callers flow book)
+  pub has_places : HasPlaces (view_of greatest eras acceptors desks callers flow book)
   has_places = record {
     acceptors = starts.members.places ∙ (unstarted_places 0 shelves ∙ all_shelves);
     desks = omega (arith, starts.made.places);
     callers = omega (arith, length-map callers caller_view, ap (λ (l : List Caller). length l) callers_are, length-replicate (greatest + 1) unbegun);
   }
 
-  pub is_world : IsWorld m (view_of greatest era acceptors desks callers flow book) callers book.room
+  pub is_world : IsWorld m (view_of greatest eras acceptors desks callers flow book) callers book.room
   is_world = record {
-    safe = opens_are_safe m (members_to count) (view_of greatest era acceptors desks callers flow book) is_opening has_places;
-    remembered = λ shelves_tell disks_tell. opening_remembered m shelves_tell disks_tell (members_to count) (view_of greatest era acceptors desks callers flow book) is_opening;
+    safe = opens_are_safe m (members_to count) (view_of greatest eras acceptors desks callers flow book) is_opening has_places;
+    remembered = λ shelves_tell disks_tell. opening_remembered m shelves_tell disks_tell (members_to count) (view_of greatest eras acceptors desks callers flow book) is_opening;
     room = omega (arith, none_reserved (map caller_view callers) (fresh_callers (greatest + 1) callers callers_are));
     copies = λ id desk caller at_desk at_caller.
         (let found = starts.made.each id desk at_desk in

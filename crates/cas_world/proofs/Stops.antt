@@ -1,6 +1,6 @@
 -- What stops and restarts of one party do to the whole.
 use Rattle.std.proofs.Common.{◌≡◌, ◌<◌, ◌≤◌, ℕ, Bool, true, false, List, Option, None, Some, Result, Ok, Err, slice_set, refl, sym, ap, subst, ◌∙◌, inl, inr, arith}
-use Rattle.std.specs.Prelude.{⊤, map, option_map, is_some, IfSome, OnOk, OnErr, IsTrue}
+use Rattle.std.specs.Prelude.{⊤, ◌⊎◌, map, option_map, is_some, IfSome, OnOk, OnErr, IsTrue}
 use Rattle.cas_world.proofs.Beginning.{no_more}
 use Rattle.cas_base.proofs.Bools.{true_or_false}
 use Rattle.cas_acceptor.specs.Acceptor.{AcceptorView}
@@ -17,10 +17,12 @@ use Rattle.cas_proposer.specs.declared.round.Round.{Round}
 use Rattle.cas_vault.specs.declared.kept.Kept.{Kept}
 use Rattle.cas_vault.specs.declared.error.VaultError.{VaultError}
 use Rattle.cas_vault.specs.declared.vault.Vault.{Vault}
-use Rattle.cas_vault.specs.Vault.{kept_of, disk_of, KeptOn, IsPast}
+use Rattle.cas_vault.specs.Vault.{kept_of, disk_of, KeptOn, IsPast, Stands}
+use Rattle.cas_vault.proofs.Keeping.{same_kept}
 use Rattle.cas_cluster.specs.Step as step
 use Rattle.cas_cluster.specs.Step.{StepRestartAcceptor, StepCrashProposer, StepRestartProposer}
-use Rattle.cas_cluster.specs.StepDesks.{GoesOn, Crashes}
+use Rattle.cas_cluster.specs.Parties.{IsWithin}
+use Rattle.cas_cluster.specs.StepDesks.{GoesOn, Crashes, Restarts}
 use Rattle.cas_cluster.specs.View.{DiskMeaning, Meaning, ShelfMeaning, View, CallerView, IsAt, reserved_in, reserved_of, with_acceptor, with_desk}
 use Rattle.cas_cluster.proofs.Places.{at_one, at_set, but_set, own_set, other_set}
 use Rattle.cas_cluster.proofs.SafeParts.{reserved_set}
@@ -94,13 +96,13 @@ desk_stays_down {V} desk now (Err e) err up = elim (true_or_false desk.down) [
 ]
 
 -- ---- vaults
--- a crash leaves a vault in the same era, past all that it was past
+-- a crash leaves a vault in the same eras, past all that it was past
 pub crash_goes_on : {V : Type 0} (m : DiskMeaning V) (old new : Vault V) (seen : List ℕ) → kept_of new ≡ kept_of old → (m.tells → m.may_leave (disk_of old) seen) → (m.tells → Only seen (m.may_leave (disk_of new)))
     → (m.tells → (n : ℕ) → IsPast m.may_leave n old → IsPast m.may_leave n new) → m.faults (disk_of old) ≤ m.faults (disk_of new) → GoesOn m old new
 crash_goes_on m old new seen kept image settled past never_falls = record {
   still_past = past;
   never_falls = never_falls;
-  era = λ tells era is. record {
+  era = λ tells era other is. record {
     kept = ap (λ (k : Kept). k.era) kept ∙ is.kept;
     left = λ c k may on. is.left seen k (image tells) (subst (KeptOn k) (settled tells c may) on);
   };
@@ -111,26 +113,56 @@ pub end_goes_on : {V : Type 0} (m : DiskMeaning V) (old new : Vault V) → kept_
 end_goes_on {V} m old new kept disk past = record {
   still_past = λ tells n is. past n is;
   never_falls = no_more (m.faults (disk_of old)) (m.faults (disk_of new)) (ap m.faults disk);
-  era = λ tells era is. record { kept = ap (λ (k : Kept). k.era) kept ∙ is.kept; left = λ c k may on. is.left c k (subst (λ (d : V). m.may_leave d c) disk may) on };
+  era = λ tells era other is. record { kept = ap (λ (k : Kept). k.era) kept ∙ is.kept; left = λ c k may on. is.left c k (subst (λ (d : V). m.may_leave d c) disk may) on };
 }
 
 pub kept_same : {V : Type 0} (old new : Vault V) (r : Result ⊤ VaultError) → OnErr r (ShowsTheSame old new) → OnErr r (kept_of new ≡ kept_of old)
 kept_same old new (Ok x) same = same
 kept_same old new (Err e) same = same.kept
 
--- and so does a restart, whether it succeeds or not
-pub restart_goes_on : {V : Type 0} (m : DiskMeaning V) (old new : Vault V) (r : Result ⊤ VaultError) (seen : List ℕ) → (m.tells → m.may_leave (disk_of old) seen) → (m.tells → OnOk r (KeptOn (kept_of new) seen)) → OnErr r (kept_of new ≡ kept_of old)
-    → (m.tells → (c : List ℕ) → m.may_leave (disk_of new) c → m.may_leave (disk_of old) c) → (m.tells → (n : ℕ) → IsPast m.may_leave n old → IsPast m.may_leave n new) → m.faults (disk_of old) ≤ m.faults (disk_of new) → GoesOn m old new
-restart_goes_on m old new (Ok x) seen image reopened same leaves past never_falls = record {
+-- a restart shows one era, and a crash leaves just that from then on
+pub shows_era : {V : Type 0} (m : DiskMeaning V) (old new : Vault V) (seen : List ℕ) → m.may_leave (disk_of old) seen → KeptOn (kept_of new) seen → ((c : List ℕ) → m.may_leave (disk_of new) c → KeptOn (kept_of new) c)
+    → (era other : ℕ) → IsWithin m era other old → IsWithin m era era new ⊎ IsWithin m other other new
+shows_era {V} m old new seen image on lasts era other is = elim (is.left seen (kept_of new) image on) [
+  | inl same ↦ inl (within era same)
+  | inr next ↦ inr (within other next)
+]
+  where
+    within : (n : ℕ) → (kept_of new).era ≡ n → IsWithin m n n new
+    within n is_n = record { kept = is_n; left = λ c k may k_on. inl (ap (λ (x : Kept). x.era) (same_kept k (kept_of new) c k_on (lasts c may)) ∙ is_n) }
+
+-- one that fails leaves what the vault kept
+pub stays_within : {V : Type 0} (m : DiskMeaning V) (old new : Vault V) → kept_of new ≡ kept_of old → ((c : List ℕ) → m.may_leave (disk_of new) c → m.may_leave (disk_of old) c) → (era other : ℕ) → IsWithin m era other old → IsWithin m era other new
+stays_within m old new same leaves era other is = record { kept = ap (λ (k : Kept). k.era) same ∙ is.kept; left = λ c k may on. is.left c k (leaves c may) on }
+
+-- what a restart does to the vault of a desk that was down
+pub record RestartsVault {V : Type 0} (m : DiskMeaning V) (old new : Vault V) (r : Result ⊤ VaultError) : Type 0 where
+  pub still_past : m.tells → (n : ℕ) → IsPast m.may_leave n old → IsPast m.may_leave n new
+  pub shows : OnOk r (m.tells → (era other : ℕ) → IsWithin m era other old → IsWithin m era era new ⊎ IsWithin m other other new)
+  pub stays : OnErr r (m.tells → (era other : ℕ) → IsWithin m era other old → IsWithin m era other new)
+  pub never_falls : m.faults (disk_of old) ≤ m.faults (disk_of new)
+
+pub restarts_vault : {V : Type 0} (m : DiskMeaning V) (old new : Vault V) (r : Result ⊤ VaultError) (seen : List ℕ) → (m.tells → m.may_leave (disk_of old) seen) → (m.tells → OnOk r (KeptOn (kept_of new) seen))
+    → OnOk r (m.tells → (c : List ℕ) → m.may_leave (disk_of new) c → KeptOn (kept_of new) c) → OnErr r (kept_of new ≡ kept_of old)
+    → (m.tells → (c : List ℕ) → m.may_leave (disk_of new) c → m.may_leave (disk_of old) c) → (m.tells → (n : ℕ) → IsPast m.may_leave n old → IsPast m.may_leave n new) → m.faults (disk_of old) ≤ m.faults (disk_of new) → RestartsVault m old new r
+restarts_vault m old new (Ok x) seen image reopened lasts same leaves past never_falls = record {
   still_past = past;
+  shows = λ tells. shows_era m old new seen (image tells) (reopened tells) (lasts tells);
+  stays = tt;
   never_falls = never_falls;
-  era = λ tells era is. record { kept = is.left seen (kept_of new) (image tells) (reopened tells); left = λ c k may on. is.left c k (leaves tells c may) on };
 }
-restart_goes_on m old new (Err e) seen image reopened same leaves past never_falls = record {
+restarts_vault m old new (Err e) seen image reopened lasts same leaves past never_falls = record {
   still_past = past;
+  shows = tt;
+  stays = λ tells. stays_within m old new same (leaves tells);
   never_falls = never_falls;
-  era = λ tells era is. record { kept = ap (λ (k : Kept). k.era) same ∙ is.kept; left = λ c k may on. is.left c k (leaves tells c may) on };
 }
+
+-- a vault that stands leaves what it keeps, where its desk is up
+pub lasts_then : {V : Type 0} (m : DiskMeaning V) (seen : V → List ℕ) (desk now : DeskView V) (r : Result ⊤ VaultError) → OnOk r (now ≡ record desk { vault = now.vault; down = false }) → (now.down ≡ false → Stands m.tells seen m.may_leave now.vault)
+    → OnOk r (m.tells → (c : List ℕ) → m.may_leave (disk_of now.vault) c → KeptOn (kept_of now.vault) c)
+lasts_then {V} m seen desk now (Ok x) ok stands = λ tells. (stands (ap (λ (d : DeskView V). d.down) ok)).images tells
+lasts_then m seen desk now (Err e) ok stands = tt
 
 -- a desk is up again, or stays down, or was up
 pub same_round : {V : Type 0} (desk now : DeskView V) (r : Result ⊤ VaultError) → (OnOk r (now ≡ record desk { vault = now.vault; down = false })) → OnErr r (now ≡ record desk { vault = now.vault }) → now.round ≡ desk.round
@@ -138,15 +170,27 @@ same_round {V} desk now (Ok x) ok err = ap (λ (d : DeskView V). d.round) ok
 same_round {V} desk now (Err e) ok err = ap (λ (d : DeskView V). d.round) err
 
 pub desk_restarted : {S V : Type 0} (m : Meaning S V) (old : View S V) (id : ℕ) (desk now : DeskView V) (r : Result ⊤ VaultError) → IsAt old.desks id desk → (desk.down ≡ false → now ≡ desk)
-    → OnOk r (now ≡ record desk { vault = now.vault; down = false }) → OnErr r (now ≡ record desk { vault = now.vault }) → (IsTrue desk.down → GoesOn m.disks desk.vault now.vault) → StepRestartProposer m old id (with_desk old id now)
+    → OnOk r (now ≡ record desk { vault = now.vault; down = false }) → OnErr r (now ≡ record desk { vault = now.vault }) → (IsTrue desk.down → RestartsVault m.disks desk.vault now.vault r) → StepRestartProposer m old id (with_desk old id now)
 desk_restarted {S} {V} m old id desk now r at unchanged ok err on = elim (true_or_false desk.down) [
-  | inl down ↦ step.restarts desk now at down (record { desk = by_result r ok err; goes_on = on down }) refl
+  | inl down ↦ step.restarts desk now at down (by_result r down ok err (on down)) refl
   | inr up ↦ step.was_up_already desk at up (ap (λ (l : List (DeskView V)). record old { desks = l }) (ap (λ (d : DeskView V). slice_set old.desks id d) (unchanged up) ∙ set_same old.desks id desk at))
 ]
   where
-    by_result : (r : Result ⊤ VaultError) → OnOk r (now ≡ record desk { vault = now.vault; down = false }) → OnErr r (now ≡ record desk { vault = now.vault }) → now ≡ record desk { vault = now.vault; down = now.down }
-    by_result (Ok x) ok err = ok ∙ ap (λ (d : Bool). record desk { vault = now.vault; down = d }) (sym (ap (λ (d : DeskView V). d.down) ok))
-    by_result (Err e) ok err = err ∙ ap (λ (d : Bool). record desk { vault = now.vault; down = d }) (sym (ap (λ (d : DeskView V). d.down) err))
+    by_result : (r : Result ⊤ VaultError) → IsTrue desk.down → OnOk r (now ≡ record desk { vault = now.vault; down = false }) → OnErr r (now ≡ record desk { vault = now.vault }) → RestartsVault m.disks desk.vault now.vault r → Restarts m.disks desk now
+    by_result (Ok x) down ok err of = let up : now.down ≡ false = ap (λ (d : DeskView V). d.down) ok in record {
+      desk = ok ∙ ap (λ (d : Bool). record desk { vault = now.vault; down = d }) (sym up);
+      still_past = of.still_past;
+      shows = λ is_up. of.shows;
+      stays = λ is_down. absurd (cc (is_down, up));
+      never_falls = of.never_falls;
+    }
+    by_result (Err e) down ok err of = let still : now.down ≡ true = ap (λ (d : DeskView V). d.down) err ∙ down in record {
+      desk = err ∙ ap (λ (d : Bool). record desk { vault = now.vault; down = d }) (sym (ap (λ (d : DeskView V). d.down) err));
+      still_past = of.still_past;
+      shows = λ is_up. absurd (cc (is_up, still));
+      stays = λ is_down. of.stays;
+      never_falls = of.never_falls;
+    }
 
 -- ---- copies
 abbrev pub HaveCopies : {V : Type 0} → List (DeskView V) → List Caller → Type 0
@@ -185,13 +229,13 @@ copies_closed {V} desks callers id now none were p d caller at_d at_caller = eli
 abbrev pub crashed_caller : Caller → OpenCall → Caller
 crashed_caller caller call = record caller { call = Some (record (over call (crash_answer (is_some call.proposed))) { is_closed = true }) }
 
-pub crash_closes : {S V : Type 0} (m : Meaning S V) (greatest : ℕ) (era : Era) (acceptors : List (AcceptorView S)) (desks : List (DeskView V)) (callers : List Caller) (flow : FlowView) (book : Book) (id : ℕ) (desk now : DeskView V) (round : Round) (caller : Caller) (call : OpenCall)
+pub crash_closes : {S V : Type 0} (m : Meaning S V) (greatest : ℕ) (eras : List Era) (acceptors : List (AcceptorView S)) (desks : List (DeskView V)) (callers : List Caller) (flow : FlowView) (book : Book) (id : ℕ) (desk now : DeskView V) (round : Round) (caller : Caller) (call : OpenCall)
     → IsAt desks id desk → IsAt callers id caller → caller.call ≡ Some call → desk.round ≡ Some round → Crashes m.disks desk now
-    → StepCrashProposer m (view_of greatest era acceptors desks callers flow book) id (view_of greatest era acceptors (slice_set desks id now) (slice_set callers id (crashed_caller caller call)) (abandoned flow id) book)
-crash_closes {S} {V} m greatest era acceptors desks callers flow book id desk now round caller call at_desk at_caller is_open is_round by =
+    → StepCrashProposer m (view_of greatest eras acceptors desks callers flow book) id (view_of greatest eras acceptors (slice_set desks id now) (slice_set callers id (crashed_caller caller call)) (abandoned flow id) book)
+crash_closes {S} {V} m greatest eras acceptors desks callers flow book id desk now round caller call at_desk at_caller is_open is_round by =
     step.closes desk now round (record { caller = caller_view caller; at_caller = at_map caller_view callers id caller at_caller; call = call_view call; is_open = ap (λ (o : Option OpenCall). option_map call_view o) is_open })
     at_desk is_round by
-    (ap (λ (l : List CallerView). record (view_of greatest era acceptors (slice_set desks id now) callers (abandoned flow id) book) { callers = l }) (map_set caller_view callers id (crashed_caller caller call)))
+    (ap (λ (l : List CallerView). record (view_of greatest eras acceptors (slice_set desks id now) callers (abandoned flow id) book) { callers = l }) (map_set caller_view callers id (crashed_caller caller call)))
 
 pub crash_idle : {S V : Type 0} (m : Meaning S V) (old : View S V) (id : ℕ) (desk now : DeskView V) → IsAt old.desks id desk → desk.round ≡ None → Crashes m.disks desk now
     → StepCrashProposer m old id (record (with_desk old id now) { flow = abandoned old.flow id })

@@ -31,10 +31,10 @@ call_view call = record {
 abbrev pub caller_view : Caller → CallerView
 caller_view caller = record { number = caller.number; call = option_map call_view caller.call }
 
-abbrev pub view_of : {S V : Type 0} → ℕ → Era → List (AcceptorView S) → List (DeskView V) → List Caller → FlowView → Book → View S V
-view_of greatest era acceptors desks callers flow book = record {
+abbrev pub view_of : {S V : Type 0} → ℕ → List Era → List (AcceptorView S) → List (DeskView V) → List Caller → FlowView → Book → View S V
+view_of greatest eras acceptors desks callers flow book = record {
   greatest = greatest;
-  era = era;
+  eras = eras;
   acceptors = acceptors;
   desks = desks;
   callers = map caller_view callers;

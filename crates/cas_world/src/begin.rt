@@ -5,7 +5,7 @@ ghost use Rattle.cas_ballot.specs.Ballot.{FitsBallot};
 ghost use Rattle.cas_cache.specs.Entries.{promise_at};
 ghost use Rattle.cas_cluster.specs.StepCalls.{Sends, prepares_to, most_marks, round_marks};
 ghost use Rattle.cas_causes.specs.Told.{BeginsBy};
-ghost use Rattle.cas_cluster.specs.View.{meaning, new_caller, reserved_of as reserved_in_all};
+ghost use Rattle.cas_cluster.specs.View.{era_at, meaning, new_caller, reserved_of as reserved_in_all};
 ghost use Rattle.cas_world.specs.Answers.{is_done};
 ghost use Rattle.cas_world.specs.Beginning.{opening_of, refused, entered, entry_marks, settled, settled_marks, OpensRound, FailsToOpen, reserved_beside, MayBegin, BeginsOrNot};
 ghost use Rattle.cas_world.specs.Call.{reserved_of};
@@ -54,14 +54,15 @@ impl<S: Shelf, V: Disk> World<S, V> {
     ) -> Result<(), Answer>
         requires known { caller ≤ self.old.greatest }
         requires may { MayBegin self.old caller call key.now program.now }
-        ensures full { IsErrOf result Answer.RecordFull ↔ (most_marks < length self.old.marks + reserved_in_all (slice_set self.old.callers caller new_caller) + round_marks self.old.era) }
+        ensures full { IsErrOf result Answer.RecordFull ↔ (most_marks < length self.old.marks + reserved_in_all (slice_set self.old.callers caller new_caller) + round_marks (era_at self.old caller)) }
         ensures cause { IfErr result (λ told. BeginsBy (meaning S.contents S.tells S.may_leave S.fault_count V.tells V.may_leave V.fault_count) self.old caller key.now told self.new) }
         ensures step { BeginsOrNot (meaning S.contents S.tells S.may_leave S.fault_count V.tells V.may_leave V.fault_count) self.old caller call key.now program.now result self.new }
     {
         let alloc = *self.acceptors.allocator();
         let place = usize::from(caller);
         let author = Author { caller, call };
-        let marks = round_marks(&self.era);
+        let era = *self.eras.of(caller);
+        let marks = round_marks(&era);
         let opening = match make_room(
             &mut self.record,
             &self.callers,
@@ -74,7 +75,7 @@ impl<S: Shelf, V: Disk> World<S, V> {
             Err(refusal) => return Err(refuse(&mut self.callers[place], refusal)),
         };
         let desk = &mut self.desks[place];
-        let begun = open_round(alloc, desk, &mut self.flow, &self.era, author, key, program);
+        let begun = open_round(alloc, desk, &mut self.flow, &era, author, key, program);
         let caller = &mut self.callers[place];
         settle(caller, &mut self.record, opening, marks, begun)
     }

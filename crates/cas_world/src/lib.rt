@@ -7,6 +7,7 @@ mod answers;
 mod begin;
 mod call;
 mod end;
+mod eras;
 mod fault;
 mod open;
 mod parties;

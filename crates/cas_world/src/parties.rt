@@ -3,7 +3,7 @@
 ghost use Rattle.std.specs.Prelude.{◌≡◌, ◌≤◌, slice_get};
 ghost use Rattle.cas_world.specs.Readers.{up_in};
 ghost use Rattle.cas_cluster.specs.Step.{Step, CrashAcceptor, RestartAcceptor, CrashProposer, RestartProposer};
-ghost use Rattle.cas_cluster.specs.View.{IsAt, meaning};
+ghost use Rattle.cas_cluster.specs.View.{IsAt, era_at, meaning};
 ghost use Rattle.cas_acceptor.specs.Acceptor.{AcceptorView};
 ghost use Rattle.cas_proposer.specs.Desk.{DeskView};
 ghost use Rattle.cas_world.specs.Proposing.{disks};
@@ -20,9 +20,9 @@ use cas_vault::VaultError;
 impl<S: Shelf, V: Disk> World<S, V> {
     /// Whether the acceptor is up. `None` comes exactly where it is no member.
     pub fn acceptor_up(&self, id: AcceptorId) -> Option<bool>
-        ensures { result ≡ up_in self.now.era id (slice_get self.now.acceptors id) }
+        ensures { result ≡ up_in (era_at self.now 0) id (slice_get self.now.acceptors id) }
     {
-        if self.era.everyone().has(id) {
+        if self.era().everyone().has(id) {
             Some(!self.acceptors[usize::from(id.number())].is_down())
         } else {
             None

@@ -4,7 +4,7 @@ ghost use Rattle.std.specs.Prelude.{◌≡◌, ◌+◌, ◌<◌, ◌≤◌, take
 ghost use Rattle.cas_acceptor.specs.Acceptor.{AcceptorView};
 ghost use Rattle.cas_cluster.specs.SafeLaws.{HasPlaces};
 ghost use Rattle.cas_cluster.specs.Step.{IsOpening};
-ghost use Rattle.cas_cluster.specs.View.{CallerView, IsAt, meaning};
+ghost use Rattle.cas_cluster.specs.View.{CallerView, IsAt, era_at, meaning};
 ghost use Rattle.cas_world.specs.Opening.{members_to, unstarted, shelves_of, disks_of, AreStartedBelow, AreDesksBelow, DoesNotOpen};
 ghost use Rattle.cas_world.specs.Answers.{is_done};
 ghost use Rattle.cas_world.specs.Readers.{next_number, told_if, closed_in, IsVerdictIn};
@@ -18,6 +18,7 @@ ghost use Rattle.cas_record.specs.Legal.{IsLegal};
 
 use crate::answers::copy_of;
 use crate::call::{Caller, OpenCall};
+use crate::eras::Eras;
 use crate::fault::OpenFault;
 use crate::open::{Lists, Setup, first_members, give_disks, give_shelves, start, take_shelves};
 use cas_acceptor::Acceptor;
@@ -49,8 +50,7 @@ pub struct Config {
 pub struct World<S: Shelf, V: Disk> {
     /// How many proposers there are, and the lists in which all is handed back.
     pub(crate) config: Setup<S, V>,
-    /// The era that all are in.
-    pub(crate) era: Era,
+    pub(crate) eras: Eras,
     /// The acceptors, each at the place of its number.
     pub(crate) acceptors: Vec<Acceptor<S>>,
     /// The desks of the proposers, likewise.
@@ -68,9 +68,9 @@ impl<S: Shelf, V: Disk> Model for World<S, V> {
 
     ghost Value = { View S V };
 
-    ghost view = { λ w. view_of w.config.proposers w.era w.acceptors.items w.desks.items w.callers.items w.flow w.«record» };
+    ghost view = { λ w. view_of w.config.proposers w.eras.0 w.acceptors.items w.desks.items w.callers.items w.flow w.«record» };
 
-    ghost invariant = { λ w. IsWorld (meaning S.contents S.tells S.may_leave S.fault_count V.tells V.may_leave V.fault_count) (view_of w.config.proposers w.era w.acceptors.items w.desks.items w.callers.items w.flow w.«record») w.callers.items w.«record».room };
+    ghost invariant = { λ w. IsWorld (meaning S.contents S.tells S.may_leave S.fault_count V.tells V.may_leave V.fault_count) (view_of w.config.proposers w.eras.0 w.acceptors.items w.desks.items w.callers.items w.flow w.«record») w.callers.items w.«record».room };
 }
 
 impl<S: Shelf, V: Disk> World<S, V> {
@@ -115,7 +115,7 @@ impl<S: Shelf, V: Disk> World<S, V> {
                     shelves,
                     disks: vaults,
                 },
-                era: Era::majority(0, first_members(config.acceptors)),
+                eras: Eras::all_in(Era::majority(0, first_members(config.acceptors))),
                 acceptors,
                 desks,
                 callers,
@@ -142,7 +142,7 @@ impl<S: Shelf, V: Disk> World<S, V> {
     {
         let World {
             config,
-            era: _,
+            eras: _,
             acceptors,
             desks,
             callers: _,
@@ -169,11 +169,11 @@ impl<S: Shelf, V: Disk> World<S, V> {
         &self.record
     }
 
-    /// The era that all are in.
+    /// The era in which the operator's proposer works.
     pub fn era(&self) -> &Era
-        ensures { result.now ≡ self.now.era }
+        ensures { result.now ≡ era_at self.now 0 }
     {
-        &self.era
+        self.eras.of(0)
     }
 
     /// The number of the caller's next call.
