@@ -13,7 +13,7 @@ use std::test::Fail;
 
 const SCRIPT: &str = "script --acceptors 3 --proposers 1";
 
-/// A disk of an acceptor that is not like the others: these bytes are on it, it has trouble at that call, from 1, or none where it is 0,
+/// A disk that is not like the others of its kind: these bytes are on it, it has trouble at that call, from 1, or none where it is 0,
 /// and a crash leaves that image.
 #[derive(Clone, Copy)]
 struct Odd<'a> {
@@ -52,12 +52,12 @@ fn disks(alloc: Global, count: u8, odd: &Odd<'_>) -> Result<Vec<MemoryDisk>, All
     Ok(disks)
 }
 
-fn rack(alloc: Global, odd: &Odd<'_>) -> Result<Rack<MemoryDisk>, AllocError>
+fn rack(alloc: Global, odd: &Odd<'_>, odd_vault: &Odd<'_>) -> Result<Rack<MemoryDisk>, AllocError>
     ensures acceptors { IfOk result (λ rack. vec_len rack.acceptors ≡ 64) }
     ensures vaults { IfOk result (λ rack. vec_len rack.vaults ≡ 17) }
 {
     let acceptors = disks(alloc, ACCEPTORS, odd)?;
-    let vaults = disks(alloc, VAULTS, &NONE_ODD)?;
+    let vaults = disks(alloc, VAULTS, odd_vault)?;
     Ok(Rack { acceptors, vaults })
 }
 
@@ -69,14 +69,15 @@ struct Finished {
     lengths: Vec<usize>,
 }
 
-/// What a run gets from outside: in pieces of that size, with a call of the source and of the sink that fail, from 1, and with a disk
-/// that is odd.
+/// What a run gets from outside: in pieces of that size, with a call of the source and of the sink that fail, from 1, with a disk of an
+/// acceptor that is odd, and one of a vault.
 #[derive(Clone, Copy)]
 struct Outside<'a> {
     piece: usize,
     source_fails: u64,
     sink_fails: u64,
     odd: Odd<'a>,
+    odd_vault: Odd<'a>,
 }
 
 /// Nothing fails.
@@ -85,6 +86,7 @@ const FINE: Outside<'static> = Outside {
     source_fails: 0,
     sink_fails: 0,
     odd: NONE_ODD,
+    odd_vault: NONE_ODD,
 };
 
 /// Runs the words over the input.
@@ -103,7 +105,7 @@ fn run(
     let piece = outside.piece.max(1);
     let mut source = MemorySource::new(bytes, piece, [outside.source_fails].to_vec(alloc)?);
     let mut sink = MemorySink::new(alloc, piece, [outside.sink_fails].to_vec(alloc)?);
-    let rack = rack(alloc, &outside.odd)?;
+    let rack = rack(alloc, &outside.odd, &outside.odd_vault)?;
     let (status, rack) = cluster(rt, alloc, &list, &mut source, &mut sink, rack);
     let mut lengths = Vec::new(alloc);
     for disk in &rack.acceptors {
@@ -336,6 +338,38 @@ fn goes_on_where_a_disk_stops(rt: HostRuntime) -> Result<(), Fail> {
                 );
             }
         }
+    }
+    Ok(())
+}
+
+/// The number of calls of a vault's disk at opening. The next ones are those of its proposer's first draw.
+const VAULT_CALLS_AT_OPENING: u64 = 7;
+
+#[test]
+fn tells_a_vault_fault_before_what_a_round_meets(rt: HostRuntime) -> Result<(), Fail> {
+    let odd_vault = Odd {
+        number: 1,
+        call: VAULT_CALLS_AT_OPENING + 1,
+        ..NONE_ODD
+    };
+    for (lines, answers) in [
+        ("1 add a 1\n", "1: vault fault\n"),
+        (
+            "2 add a 1\n1 add a 1\n",
+            "2: done v0 num 1 at 1.2\n1: vault fault\n",
+        ),
+        ("net prepare * lose\n1 add a 1\n", "ok\n1: vault fault\n"),
+        ("halt 1 after-prepare\n1 add a 1\n", "ok\n1: vault fault\n"),
+        ("crash proposer 1\n1 add a 1\n", "ok\n1: down\n"),
+        (
+            "1 add a 1\n1 add a 1\nrestart proposer 1\n1 add a 1\n",
+            "1: vault fault\n1: down\nok\n1: done v0 num 1 at 1.1\n",
+        ),
+    ] {
+        let outside = Outside { odd_vault, ..FINE };
+        let run = run(&rt, "script --proposers 2", lines.as_bytes(), outside)?;
+        assert_eq!(rt; run.status, Status::Ok, "{lines}");
+        assert_eq!(rt; run.written.as_slice(), answers.as_bytes(), "{lines}");
     }
     Ok(())
 }
