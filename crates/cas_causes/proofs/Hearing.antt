@@ -10,9 +10,12 @@ use Rattle.cas_flow.specs.declared.message.Message.TheVariants as message
 use Rattle.cas_proposer.specs.Desk.{DeskView}
 use Rattle.cas_proposer.specs.declared.round.Round.{Round}
 use Rattle.cas_slot.specs.declared.message.Reply.{Reply}
+use Rattle.cas_cluster.specs.Council.{Question}
 use Rattle.cas_cluster.specs.Step as step
-use Rattle.cas_cluster.specs.Step.{Event, Step, StepBegin, StepTurn, StepRefuseTurn, StepPropose, StepCount, StepEnd, StepStray, StepCrashAcceptor, StepRestartAcceptor, StepCrashProposer, StepRestartProposer, OpenCallAt}
+use Rattle.cas_cluster.specs.Step.{Event, Step, StepBegin, StepTurn, StepRefuseTurn, StepPropose, StepCount, StepEnd, StepStray, StepCrashAcceptor, StepRestartAcceptor, CrashesDesk, StepCrashProposer, StepRestartProposer, OpenCallAt}
 use Rattle.cas_cluster.specs.StepCalls as calls
+use Rattle.cas_cluster.specs.StepCouncil as council
+use Rattle.cas_cluster.specs.StepCouncil.{StepAskAll, StepTurnExchange, StepGather}
 use Rattle.cas_cluster.specs.StepDesks.{HearsReply}
 use Rattle.cas_cluster.specs.StepFrames as frames
 use Rattle.cas_cluster.specs.View.{Meaning, View, IsAt}
@@ -90,9 +93,14 @@ count_passes {S} {V} m old new id proposer other by = in_phase by.at_round.of_ca
     in_phase at desk round (calls.counts now by outcome quorum confirmers proposed ends is) = other_desk old new id proposer now other (ap (λ (w : View S V). w.desks) is)
     in_phase at desk round (calls.ends now verdict why verdict_is cause ends is) = other_desk old new id proposer now other (ap (λ (w : View S V). w.desks) is)
 
+desk_crash_passes : {S V : Type 0} (m : Meaning S V) (old new : View S V) (id proposer : ℕ) → id ≢ proposer → CrashesDesk m old proposer new → Passes old new id
+desk_crash_passes {S} {V} m old new id proposer other (step.idle desk now at none crashes is) = passes_other old new id proposer now other (ap (λ (w : View S V). w.desks) is)
+desk_crash_passes {S} {V} m old new id proposer other (step.closes desk now round at there is_round crashes is) = passes_other old new id proposer now other (ap (λ (w : View S V). w.desks) is)
+
 crash_passes : {S V : Type 0} (m : Meaning S V) (old new : View S V) (id proposer : ℕ) → id ≢ proposer → StepCrashProposer m old proposer new → Something old new id
-crash_passes {S} {V} m old new id proposer other (step.idle desk now at none crashes is) = other_desk old new id proposer now other (ap (λ (w : View S V). w.desks) is)
-crash_passes {S} {V} m old new id proposer other (step.closes desk now round at there is_round crashes is) = other_desk old new id proposer now other (ap (λ (w : View S V). w.desks) is)
+crash_passes m old new id proposer other (step.of_client client crashes) = ([], nothing (desk_crash_passes m old new id proposer other crashes))
+crash_passes {S} {V} m old new id proposer other (step.of_operator middle operator crashes is) =
+    both_nothing old middle new id (desk_crash_passes m old middle id proposer other crashes) (passes_same middle new id (ap (λ (w : View S V). w.desks) is))
 
 -- ---- frames
 -- a reply arrives at a desk
@@ -156,6 +164,37 @@ desk_passes {S} {V} m old new id proposer (step.restarts desk now at down restar
   | inr other ↦ other_desk old new id proposer now (eqb-false id proposer other) (ap (λ (w : View S V). w.desks) is)
 ]
 
+-- ---- the operator's calls
+ask_passes : {S V : Type 0} (m : Meaning S V) (old new : View S V) (id : ℕ) (question : Question) → id ≢ 0 → StepAskAll m old question new → Something old new id
+ask_passes {S} {V} m old new id question other by = in_asks by.asks
+  where
+    in_asks : council.AsksAll m old question by.desk new → Something old new id
+    in_asks (council.asks now tag flow up room drawn now_is sends is) = other_desk old new id 0 now other (ap (λ (w : View S V). w.desks) is)
+    in_asks (council.is_down down is) = same_desks old new id (ap (λ (w : View S V). w.desks) is)
+    in_asks (council.is_full up full is) = same_desks old new id (ap (λ (w : View S V). w.desks) is)
+    in_asks (council.is_spent now up spent kept now_is is) = other_desk old new id 0 now other (ap (λ (w : View S V). w.desks) is)
+    in_asks (council.fails now up fails is) = other_desk old new id 0 now other (ap (λ (w : View S V). w.desks) is)
+    in_asks (council.no_memory now tag up loses is) = other_desk old new id 0 now other (ap (λ (w : View S V). w.desks) is)
+
+exchange_passes : {S V : Type 0} (m : Meaning S V) (old new : View S V) (id : ℕ) (v : Verdict) → StepTurnExchange m old v new → Something old new id
+exchange_passes {S} {V} m old new id v by = in_turn by.turn
+  where
+    in_turn : council.TurnsExchange m old v by.front by.at.exchange new → Something old new id
+    in_turn (council.held fall is) = same_desks old new id (ap (λ (w : View S V). w.desks) is)
+    in_turn (council.gone fall is) = same_desks old new id (ap (λ (w : View S V). w.desks) is)
+    in_turn (council.answers request acceptor now reply fall front_is there table is) = same_desks old new id (ap (λ (w : View S V). w.desks) is)
+    in_turn (council.finds_down request acceptor fall front_is there down is) = same_desks old new id (ap (λ (w : View S V). w.desks) is)
+    in_turn (council.brings_down request acceptor now fall front_is there stops is) = same_desks old new id (ap (λ (w : View S V). w.desks) is)
+    in_turn (council.arrives reply fall front_is is) = same_desks old new id (ap (λ (w : View S V). w.desks) is)
+
+gather_passes : {S V : Type 0} (old new : View S V) (id : ℕ) → StepGather old new → Something old new id
+gather_passes {S} {V} old new id by = in_gather by.gathers
+  where
+    in_gather : council.Gathers old by.at.exchange new → Something old new id
+    in_gather (council.crashed crashed is) = same_desks old new id (ap (λ (w : View S V). w.desks) is)
+    in_gather (council.probed key found up question found_is is) = same_desks old new id (ap (λ (w : View S V). w.desks) is)
+    in_gather (council.no_memory up is) = same_desks old new id (ap (λ (w : View S V). w.desks) is)
+
 -- ---- all of them
 pub steps : {S V : Type 0} (m : Meaning S V) → StepsPassOrBring m
 steps m old new id (step.Begin caller key program) not_own by = begin_passes m old new id caller key program (λ is. not_own (sym is)) by
@@ -171,3 +210,10 @@ steps {S} {V} m old new id (step.CrashAcceptor acceptor) not_own (step.crashes i
 steps m old new id (step.RestartAcceptor acceptor) not_own by = restart_passes m old new id acceptor by
 steps m old new id (step.CrashProposer proposer) not_own by = crash_passes m old new id proposer (λ is. not_own (sym is)) by
 steps m old new id (step.RestartProposer proposer) not_own by = desk_passes m old new id proposer by
+steps {S} {V} m old new id (step.Order asked) not_own by = same_desks old new id (ap (λ (w : View S V). w.desks) by.view)
+steps {S} {V} m old new id step.RefuseOrder not_own by = same_desks old new id (ap (λ (w : View S V). w.desks) by)
+steps {S} {V} m old new id (step.Tell answer) not_own by = same_desks old new id (ap (λ (w : View S V). w.desks) by.view)
+steps m old new id (step.AskAll question) not_own by = ask_passes m old new id question (λ is. not_own (sym is)) by
+steps m old new id (step.TurnExchange v) not_own by = exchange_passes m old new id v by
+steps {S} {V} m old new id step.RefuseTurnExchange not_own by = both_nothing old by.middle new id (no_room_passes m old by.middle id by.refuses) (passes_same by.middle new id (ap (λ (w : View S V). w.desks) by.view))
+steps m old new id step.Gather not_own by = gather_passes old new id by

@@ -15,8 +15,11 @@ use Rattle.cas_record.specs.declared.answer.Answer.{Answer}
 use Rattle.cas_record.specs.declared.answer.Answer.TheVariants as answer
 use Rattle.cas_slot.specs.declared.message.Reply.{Reply}
 use Rattle.cas_cluster.specs.Step as step
-use Rattle.cas_cluster.specs.Step.{StepBegin, StepTurn, StepRefuseTurn, StepPropose, StepCount, StepEnd, StepStray, StepCrashAcceptor, StepRestartAcceptor, StepCrashProposer, StepRestartProposer, OpenCallAt}
+use Rattle.cas_cluster.specs.Step.{StepBegin, StepTurn, StepRefuseTurn, StepPropose, StepCount, StepEnd, StepStray, StepCrashAcceptor, StepRestartAcceptor, CrashesDesk, StepCrashProposer, StepRestartProposer, OpenCallAt}
 use Rattle.cas_cluster.specs.StepCalls as calls
+use Rattle.cas_cluster.specs.Council.{Question, exchange_place}
+use Rattle.cas_cluster.specs.StepCouncil as council
+use Rattle.cas_cluster.specs.StepCouncil.{StepAskAll, StepTurnExchange, StepGather}
 use Rattle.cas_cluster.specs.StepFrames as frames
 use Rattle.cas_cluster.specs.StepFrames.{replied_flow}
 use Rattle.cas_cluster.specs.View.{Meaning, View, CallView, CallerView, IsAt}
@@ -136,11 +139,17 @@ end_stays : {S V : Type 0} (m : Meaning S V) (old new : View S V) (id caller : �
 end_stays {S} {V} m old new id caller told other by =
     stays_by old new id (ap (λ (w : View S V). queue_at w.flow id) by.ends.view ∙ abandoned_other old.flow caller id other) (keeps_other old.callers new.callers id caller _ other (ap (λ (w : View S V). w.callers) by.ends.view))
 
-crash_stays : {S V : Type 0} (m : Meaning S V) (old new : View S V) (id proposer : ℕ) → id ≢ proposer → StepCrashProposer m old proposer new → Stays old new id
-crash_stays {S} {V} m old new id proposer other (step.idle desk now at none_open crashes is) =
+desk_crash_stays : {S V : Type 0} (m : Meaning S V) (old new : View S V) (id proposer : ℕ) → id ≢ proposer → CrashesDesk m old proposer new → Stays old new id
+desk_crash_stays {S} {V} m old new id proposer other (step.idle desk now at none_open crashes is) =
     stays_by old new id (ap (λ (w : View S V). queue_at w.flow id) is ∙ abandoned_other old.flow proposer id other) (keeps_same old.callers new.callers id (ap (λ (w : View S V). w.callers) is))
-crash_stays {S} {V} m old new id proposer other (step.closes desk now round at there is_round crashes is) =
+desk_crash_stays {S} {V} m old new id proposer other (step.closes desk now round at there is_round crashes is) =
     stays_by old new id (ap (λ (w : View S V). queue_at w.flow id) is ∙ abandoned_other old.flow proposer id other) (keeps_other old.callers new.callers id proposer _ other (ap (λ (w : View S V). w.callers) is))
+
+crash_stays : {S V : Type 0} (m : Meaning S V) (old new : View S V) (id proposer : ℕ) → id ≢ exchange_place → id ≢ proposer → StepCrashProposer m old proposer new → Stays old new id
+crash_stays m old new id proposer apart other (step.of_client client crashes) = desk_crash_stays m old new id proposer other crashes
+crash_stays {S} {V} m old new id proposer apart other (step.of_operator middle operator crashes is) =
+    stays_both old middle new id (desk_crash_stays m old middle id proposer other crashes)
+    (stays_by middle new id (ap (λ (w : View S V). queue_at w.flow id) is ∙ abandoned_other middle.flow exchange_place id apart) (keeps_same middle.callers new.callers id (ap (λ (w : View S V). w.callers) is)))
 
 -- ---- turns
 -- the frames of others stay as one has its turn
@@ -225,6 +234,44 @@ desk_stays : {S V : Type 0} (m : Meaning S V) (old new : View S V) (id proposer 
 desk_stays {S} {V} m old new id proposer (step.was_up_already desk at up is) = stays_same old new id (ap (λ (w : View S V). w.flow) is) (ap (λ (w : View S V). w.callers) is)
 desk_stays {S} {V} m old new id proposer (step.restarts desk now at down restarts is) = stays_same old new id (ap (λ (w : View S V). w.flow) is) (ap (λ (w : View S V). w.callers) is)
 
+-- ---- the operator's calls
+ask_stays : {S V : Type 0} (m : Meaning S V) (old new : View S V) (id : ℕ) (question : Question) → id ≢ exchange_place → StepAskAll m old question new → Stays old new id
+ask_stays {S} {V} m old new id question apart by = in_asks by.asks
+  where
+    same : new.flow ≡ old.flow → new.callers ≡ old.callers → Stays old new id
+    same flow callers = stays_same old new id flow callers
+
+    in_asks : council.AsksAll m old question by.desk new → Stays old new id
+    in_asks (council.asks now tag flow up room drawn now_is sends is) =
+        stays_by old new id (ap (λ (w : View S V). queue_at w.flow id) is ∙ sends.others id apart) (keeps_same old.callers new.callers id (ap (λ (w : View S V). w.callers) is))
+    in_asks (council.is_down down is) = same (ap (λ (w : View S V). w.flow) is) (ap (λ (w : View S V). w.callers) is)
+    in_asks (council.is_full up full is) = same (ap (λ (w : View S V). w.flow) is) (ap (λ (w : View S V). w.callers) is)
+    in_asks (council.is_spent now up spent kept now_is is) = same (ap (λ (w : View S V). w.flow) is) (ap (λ (w : View S V). w.callers) is)
+    in_asks (council.fails now up fails is) = same (ap (λ (w : View S V). w.flow) is) (ap (λ (w : View S V). w.callers) is)
+    in_asks (council.no_memory now tag up loses is) = same (ap (λ (w : View S V). w.flow) is) (ap (λ (w : View S V). w.callers) is)
+
+exchange_stays : {S V : Type 0} (m : Meaning S V) (old new : View S V) (id : ℕ) (v : Verdict) → id ≢ exchange_place → StepTurnExchange m old v new → Stays old new id
+exchange_stays {S} {V} m old new id v apart by = in_turn by.turn
+  where
+    moves : queue_at new.flow id ≡ queue_at old.flow id → new.callers ≡ old.callers → Stays old new id
+    moves queue callers = stays_by old new id queue (keeps_same old.callers new.callers id callers)
+
+    in_turn : council.TurnsExchange m old v by.front by.at.exchange new → Stays old new id
+    in_turn (council.held fall is) = stays_same old new id (ap (λ (w : View S V). w.flow) is) (ap (λ (w : View S V). w.callers) is)
+    in_turn (council.gone fall is) = moves (ap (λ (w : View S V). queue_at w.flow id) is ∙ taken_other old.flow exchange_place id v apart) (ap (λ (w : View S V). w.callers) is)
+    in_turn (council.answers request acceptor now reply fall front_is there table is) = moves (ap (λ (w : View S V). queue_at w.flow id) is ∙ replied_other old.flow exchange_place id v reply apart) (ap (λ (w : View S V). w.callers) is)
+    in_turn (council.finds_down request acceptor fall front_is there down is) = moves (ap (λ (w : View S V). queue_at w.flow id) is ∙ taken_other old.flow exchange_place id v apart) (ap (λ (w : View S V). w.callers) is)
+    in_turn (council.brings_down request acceptor now fall front_is there stops is) = moves (ap (λ (w : View S V). queue_at w.flow id) is ∙ taken_other old.flow exchange_place id v apart) (ap (λ (w : View S V). w.callers) is)
+    in_turn (council.arrives reply fall front_is is) = moves (ap (λ (w : View S V). queue_at w.flow id) is ∙ taken_other old.flow exchange_place id v apart) (ap (λ (w : View S V). w.callers) is)
+
+gather_stays : {S V : Type 0} (old new : View S V) (id : ℕ) → StepGather old new → Stays old new id
+gather_stays {S} {V} old new id by = in_gather by.gathers
+  where
+    in_gather : council.Gathers old by.at.exchange new → Stays old new id
+    in_gather (council.crashed crashed is) = stays_same old new id (ap (λ (w : View S V). w.flow) is) (ap (λ (w : View S V). w.callers) is)
+    in_gather (council.probed key found up question found_is is) = stays_same old new id (ap (λ (w : View S V). w.flow) is) (ap (λ (w : View S V). w.callers) is)
+    in_gather (council.no_memory up is) = stays_same old new id (ap (λ (w : View S V). w.flow) is) (ap (λ (w : View S V). w.callers) is)
+
 -- ---- all of them
 -- the proposer's own frame has its turn
 abbrev pub OwnTurn : {S V : Type 0} → Meaning S V → View S V → View S V → ℕ → step.Event → Type 0
@@ -232,20 +279,29 @@ OwnTurn m old new id (step.Turn proposer v) = (proposer ≡ id) × StepTurn m ol
 OwnTurn m old new id other = ⊥
 
 -- it has, or all of the proposer's stays
-pub stays_or_turn : {S V : Type 0} (m : Meaning S V) (old new : View S V) (id : ℕ) (event : step.Event) → (IsOwnCall id event → ⊥) → step.Step m old event new → Stays old new id ⊎ OwnTurn m old new id event
-stays_or_turn m old new id (step.Begin caller key program) not_own by = inl (begin_stays m old new id caller key program (λ is. not_own (sym is)) by)
-stays_or_turn m old new id (step.RefuseBegin caller key) not_own by = inl (no_begin_stays m old new id caller key by)
-stays_or_turn m old new id (step.Turn proposer v) not_own by = elim (same_or_not id proposer) [
+pub stays_or_turn : {S V : Type 0} (m : Meaning S V) (old new : View S V) (id : ℕ) (event : step.Event) → id ≢ exchange_place → (IsOwnCall id event → ⊥) → step.Step m old event new → Stays old new id ⊎ OwnTurn m old new id event
+stays_or_turn m old new id (step.Begin caller key program) apart not_own by = inl (begin_stays m old new id caller key program (λ is. not_own (sym is)) by)
+stays_or_turn m old new id (step.RefuseBegin caller key) apart not_own by = inl (no_begin_stays m old new id caller key by)
+stays_or_turn m old new id (step.Turn proposer v) apart not_own by = elim (same_or_not id proposer) [
   | inl own ↦ inr (sym own, by)
   | inr other ↦ inl (stays_by old new id (turn_waits m old new id proposer v other by) (turn_proposed m old new id proposer v by))
 ]
-stays_or_turn m old new id (step.RefuseTurn proposer) not_own by = inl (no_turn_stays m old new id proposer by)
-stays_or_turn m old new id (step.Propose proposer) not_own by = inl (propose_stays m old new id proposer (λ is. not_own (sym is)) by)
-stays_or_turn m old new id (step.Count proposer) not_own by = inl (count_stays m old new id proposer (λ is. not_own (sym is)) by)
-stays_or_turn m old new id (step.End caller told) not_own by = inl (end_stays m old new id caller told (λ is. not_own (sym is)) by)
-stays_or_turn m old new id (step.Stray index) not_own by = inl (stray_stays m old new id index by)
-stays_or_turn m old new id step.RefuseStray not_own by = inl (no_room_stays m old new id by)
-stays_or_turn {S} {V} m old new id (step.CrashAcceptor acceptor) not_own (step.crashes it now at crashes is) = inl (stays_same old new id (ap (λ (w : View S V). w.flow) is) (ap (λ (w : View S V). w.callers) is))
-stays_or_turn m old new id (step.RestartAcceptor acceptor) not_own by = inl (restart_stays m old new id acceptor by)
-stays_or_turn m old new id (step.CrashProposer proposer) not_own by = inl (crash_stays m old new id proposer (λ is. not_own (sym is)) by)
-stays_or_turn m old new id (step.RestartProposer proposer) not_own by = inl (desk_stays m old new id proposer by)
+stays_or_turn m old new id (step.RefuseTurn proposer) apart not_own by = inl (no_turn_stays m old new id proposer by)
+stays_or_turn m old new id (step.Propose proposer) apart not_own by = inl (propose_stays m old new id proposer (λ is. not_own (sym is)) by)
+stays_or_turn m old new id (step.Count proposer) apart not_own by = inl (count_stays m old new id proposer (λ is. not_own (sym is)) by)
+stays_or_turn m old new id (step.End caller told) apart not_own by = inl (end_stays m old new id caller told (λ is. not_own (sym is)) by)
+stays_or_turn m old new id (step.Stray index) apart not_own by = inl (stray_stays m old new id index by)
+stays_or_turn m old new id step.RefuseStray apart not_own by = inl (no_room_stays m old new id by)
+stays_or_turn {S} {V} m old new id (step.CrashAcceptor acceptor) apart not_own (step.crashes it now at crashes is) = inl (stays_same old new id (ap (λ (w : View S V). w.flow) is) (ap (λ (w : View S V). w.callers) is))
+stays_or_turn m old new id (step.RestartAcceptor acceptor) apart not_own by = inl (restart_stays m old new id acceptor by)
+stays_or_turn m old new id (step.CrashProposer proposer) apart not_own by = inl (crash_stays m old new id proposer apart (λ is. not_own (sym is)) by)
+stays_or_turn m old new id (step.RestartProposer proposer) apart not_own by = inl (desk_stays m old new id proposer by)
+stays_or_turn {S} {V} m old new id (step.Order asked) apart not_own by = inl (stays_same old new id (ap (λ (w : View S V). w.flow) by.view) (ap (λ (w : View S V). w.callers) by.view))
+stays_or_turn {S} {V} m old new id step.RefuseOrder apart not_own by = inl (stays_same old new id (ap (λ (w : View S V). w.flow) by) (ap (λ (w : View S V). w.callers) by))
+stays_or_turn {S} {V} m old new id (step.Tell answer) apart not_own by =
+    inl (stays_by old new id (ap (λ (w : View S V). queue_at w.flow id) by.view ∙ abandoned_other old.flow exchange_place id apart) (keeps_same old.callers new.callers id (ap (λ (w : View S V). w.callers) by.view)))
+stays_or_turn m old new id (step.AskAll question) apart not_own by = inl (ask_stays m old new id question apart by)
+stays_or_turn m old new id (step.TurnExchange v) apart not_own by = inl (exchange_stays m old new id v apart by)
+stays_or_turn {S} {V} m old new id step.RefuseTurnExchange apart not_own by =
+    inl (stays_both old by.middle new id (no_room_stays m old by.middle id by.refuses) (stays_same by.middle new id (ap (λ (w : View S V). w.flow) by.view) (ap (λ (w : View S V). w.callers) by.view)))
+stays_or_turn m old new id step.Gather apart not_own by = inl (gather_stays old new id by)

@@ -33,6 +33,7 @@ use Rattle.cas_slot.specs.Message.{phase_of, tag_of}
 use Rattle.cas_cluster.specs.History.{IsRemembered}
 use Rattle.cas_cluster.specs.Parties.{WereMade, WasMade, IsOpenTrue, IsPrepareTrue, IsAcceptTrue}
 use Rattle.cas_cluster.specs.Step.{Step, Begin, Propose, Count, OpenCallAt}
+use Rattle.cas_cluster.specs.Council.{reserved_by}
 use Rattle.cas_cluster.specs.StepCalls as calls
 use Rattle.cas_cluster.specs.View.{Meaning, View, CallView, CallerView, IsAt, new_call, new_caller, reserved_of, era_at}
 use Rattle.cas_cluster.proofs.Places.{at_one, at_set, set_set, some_is}
@@ -88,7 +89,8 @@ is_opened {S} {V} old middle id key program (calls.again was open_call reserved 
         let marks_is : length middle.marks ≡ length old.marks = ap (λ (w : View S V). length w.marks) is in
         let era_is : calls.round_marks (era_at middle id) ≡ calls.round_marks (era_at old id) = ap (λ (w : View S V). calls.round_marks (era_at w id)) is in
         let reserved_is : reserved_of (slice_set middle.callers id new_caller) ≡ reserved_of (slice_set old.callers id new_caller) = ap reserved_of callers_is in
-        omega (arith, full, marks_is, era_is, reserved_is)
+        let council_is : reserved_by middle.council ≡ reserved_by old.council = ap (λ (w : View S V). reserved_by w.council) is in
+        omega (arith, full, marks_is, era_is, reserved_is, council_is)
 
 -- the view's desk of a place is the old one's, or the new one that was put there
 old_desk : {S V : Type 0} (old middle : View S V) (id : ℕ) (desk : DeskView V) → middle.desks ≡ old.desks → IsAt middle.desks id desk → IsAt old.desks id desk

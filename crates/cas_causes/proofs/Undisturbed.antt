@@ -1,5 +1,5 @@
 -- How the phases of a round end that nothing disturbs.
-use Rattle.std.proofs.Common.{◌≡◌, ℕ, Bool, true, false, List, [], ◌++◌, Option, None, Some, slice_set, refl, sym, ap, subst, ◌∙◌, inl, inr}
+use Rattle.std.proofs.Common.{◌≡◌, ℕ, Bool, true, false, List, [], ◌++◌, Option, None, Some, slice_set, refl, sym, ap, subst, ◌∙◌, inl, inr, arith}
 use Rattle.std.specs.Prelude.{◌⊎◌, map, Contains}
 use Rattle.cas_base.proofs.Bools.{not_both}
 use Rattle.cas_ballot.specs.declared.ballot.Ballot.{Ballot}
@@ -40,7 +40,7 @@ use Rattle.cas_cluster.specs.View.{Meaning, View, CallView, CallerView, IsAt, er
 use Rattle.cas_cluster.proofs.Harms.{member_has, has_map_of}
 use Rattle.cas_cluster.proofs.Places.{at_one, at_set, some_is, contains_none}
 use Rattle.cas_cluster.proofs.SafeCalls.{opens_safe}
-use Rattle.cas_cluster.proofs.SafeParts.{idle_at}
+use Rattle.cas_cluster.proofs.SafeParts.{idle_at, desk_low}
 use Rattle.cas_cluster.proofs.SafeSteps.{steps_are_safe}
 use Rattle.cas_causes.specs.Causes.{IsTold}
 use Rattle.cas_causes.specs.Rounds.{RoundSteps, none, one_more, PreparesWith}
@@ -66,7 +66,8 @@ along : {S V : Type 0} (m : Meaning S V) {is_phase : Phase → Bool} {confirms :
 along m kind id set asked begun first_ mid replies none safe undisturbed was = record { coming = was; safe = safe; proposed = λ outcome has. has }
 along m kind id set asked begun first_ mid replies (one_more {before = before} {brought = brought} {mid = middle} event steps not_own by brings) safe undisturbed was =
     let until_now = along m kind id set asked begun first_ middle before steps safe undisturbed.0 was in
-    let stays = stays_or_turn m middle mid id event not_own by in
+    let low = desk_low middle id until_now.coming.is_open.desk until_now.safe until_now.coming.is_open.at_desk in
+    let stays = stays_or_turn m middle mid id event (λ same. omega (arith, same, low)) not_own by in
     record {
       coming = step_comes m kind middle mid id set asked begun event until_now.safe stays undisturbed.1 brought brings until_now.coming;
       safe = steps_are_safe m middle event mid until_now.safe by;

@@ -102,7 +102,7 @@ replaces m cluster global view to now own whole = record {
   meets = whole.meets;
   history = whole.history;
   acceptors = each_but m global.log global.kept view to now own (λ a acceptor other at. whole.acceptors a acceptor at);
-  parties = parties_seen m cluster global.log global.made view (with_acceptor view to now) Everyone refl refl refl refl refl whole.parties;
+  parties = parties_seen m cluster global.log global.made view (with_acceptor view to now) Everyone refl refl refl refl refl refl whole.parties;
 }
 
 -- ---- answers
@@ -142,7 +142,7 @@ answers {S} {V} m cluster global view request reply acceptor now tells at by ask
           })
           (λ a one other at_one. subst (λ (c : Contents). IsAcceptorTrue m (answered_global global request reply new).log a c one) (sym (kept_there global.kept to a new other))
           (other_answered m cluster global.log a to (global.kept a) (global.kept to) one request reply (λ same. other (sym same)) history.lawful history.orderly (whole.acceptors a one at_one)));
-      parties = parties_seen m cluster (answered_global global request reply new).log global.made view (with_acceptor view to now) Everyone refl refl refl refl refl
+      parties = parties_seen m cluster (answered_global global request reply new).log global.made view (with_acceptor view to now) Everyone refl refl refl refl refl refl
           (parties_answered m cluster global.log global.made view to (global.kept to) request reply history.lawful history.orderly whole.parties);
     }
 
@@ -309,7 +309,7 @@ starts {S} {V} m cluster global view id acceptor now tells at by whole = elim (t
                 (up_true m after.log id (after.kept id) acceptor now tells was.same_id by (subst (λ (i : ℕ). new ≡ kept_but global.kept request.to new i) to_id (sym (kept_here global.kept request.to new))))
                 (λ a one other at_one. subst (λ (c : Contents). IsAcceptorTrue m after.log a c one) (sym (kept_there global.kept request.to a new (λ e. other (e ∙ to_id))))
                 (other_done m cluster global.log a request.to (global.kept a) (global.kept request.to) one request tell (λ e. other (sym e ∙ to_id)) history.lawful history.orderly (whole.acceptors a one at_one)));
-            parties = parties_seen m cluster after.log global.made view (with_acceptor view id now) Everyone refl refl refl refl refl
+            parties = parties_seen m cluster after.log global.made view (with_acceptor view id now) Everyone refl refl refl refl refl refl
                 (parties_done m cluster global.log global.made view request.to (global.kept request.to) request tell history.lawful history.orderly whole.parties);
           };
           marks = deeds_marks request.to (global.kept request.to) global.log request.ask tell;

@@ -1,13 +1,12 @@
 -- What stays as it was while others go on: the desks and callers apart from those who act, the frames under way, and the acceptors. So a
 -- step of one proposer has to tell what becomes of its own desk, caller and frames alone.
 use Rattle.std.proofs.Common.{◌≡◌, ◌≤◌, ℕ, List, ◌∷◌, reverse, refl, sym, subst, ◌∙◌, inl, inr}
-use Rattle.std.specs.Prelude.{⊤, ◌⊎◌, [], slice_set, slice_index_or}
+use Rattle.std.specs.Prelude.{⊤, ◌⊎◌, slice_set}
 use Rattle.cas_flow.specs.Flow.{FlowView, queue_at}
 use Rattle.cas_flow.specs.declared.message.Message.{Message}
 use Rattle.cas_acceptor.specs.Acceptor.{AcceptorView}
 use Rattle.cas_proposer.specs.Desk.{DeskView}
 use Rattle.cas_quorum.specs.declared.era.Era.{Era}
-use Rattle.cas_quorum.specs.Era.{majority_era}
 use Rattle.cas_slot.specs.Contents.{Contents}
 use Rattle.cas_record.specs.declared.mark.Mark.{Mark}
 use Rattle.cas_record.specs.Happening.{Happening, marks_of}
@@ -16,10 +15,10 @@ use Rattle.cas_record.specs.Orderly.{Orderly}
 use Rattle.cas_record.specs.Places.{Stands}
 use Rattle.cas_cluster.specs.Acceptors.{IsElsewhere}
 use Rattle.cas_cluster.specs.History.{AgreesWith, IsRemembered}
-use Rattle.cas_cluster.specs.Parties.{IsAcceptorTrue, AreMessagesTrue, IsEraOf, IsDeskTrue, IsCallerTrue}
+use Rattle.cas_cluster.specs.Parties.{IsAcceptorTrue, AreMessagesTrue, IsEraOf, IsDeskTrue, IsCouncilTrue, IsCallerTrue}
 use Rattle.cas_cluster.specs.Protocol.{Made, GlobalState, HasHistory}
 use Rattle.cas_cluster.specs.View.{Meaning, View, CallerView, IsAt, era_at, era_in}
-use Rattle.cas_cluster.proofs.Others.{IsOfOthers, messages_still, desk_still, caller_still, calls_of_others, acceptor_still, desk_more, caller_more}
+use Rattle.cas_cluster.proofs.Others.{IsOfOthers, council_still, messages_still, desk_still, caller_still, calls_of_others, acceptor_still, desk_more, caller_more}
 use Rattle.cas_cluster.proofs.Places.{same_or_not, other_set}
 
 -- ---- parties
@@ -31,6 +30,7 @@ pub record Parties {S V : Type 0} (m : Meaning S V) (cluster : Cluster) (log : L
   pub desks : (p : ℕ) → These p → (desk : DeskView V) (caller : CallerView) → IsAt view.desks p desk → IsAt view.callers p caller
       → IsDeskTrue m cluster log all (era_at view p).number p caller (queue_at view.flow p).messages desk
   pub callers : (p : ℕ) → These p → (caller : CallerView) → IsAt view.callers p caller → IsCallerTrue log all p caller
+  pub council : IsCouncilTrue log view.council
   pub own : (p : ℕ) → AreMessagesTrue log (queue_at view.flow p).messages
   pub late : AreMessagesTrue log view.flow.late
 
@@ -41,6 +41,7 @@ parties_of m cluster global view These is = record {
   eras = is.eras;
   desks = λ p these desk caller at_desk at_caller. is.desks p desk caller at_desk at_caller;
   callers = λ p these caller at. is.callers p caller at;
+  council = is.council;
   own = is.own;
   late = is.late;
 }
@@ -54,6 +55,7 @@ parties_more m cluster log all view These h orderly of was = record {
   eras = was.eras;
   desks = λ p these desk caller at_desk at_caller. desk_still m cluster h log all (era_at view p).number p caller (queue_at view.flow p).messages desk orderly (of p these) (was.desks p these desk caller at_desk at_caller);
   callers = λ p these caller at. caller_still h log all caller (calls_of_others h p (of p these)) (was.callers p these caller at);
+  council = council_still h log view.council was.council;
   own = λ p. messages_still h log (queue_at view.flow p).messages (was.own p);
   late = messages_still h log view.flow.late was.late;
 }
@@ -67,15 +69,16 @@ parties_made m cluster log all more view These grows was = record {
   eras = was.eras;
   desks = λ p these desk caller at_desk at_caller. desk_more m cluster log (era_at view p).number p caller (queue_at view.flow p).messages desk grows (was.desks p these desk caller at_desk at_caller);
   callers = λ p these caller at. caller_more log caller grows (was.callers p these caller at);
+  council = was.council;
   own = was.own;
   late = was.late;
 }
 
 -- a view with the same desks, callers and frames
 pub parties_seen : {S V : Type 0} (m : Meaning S V) (cluster : Cluster) (log : List Happening) (all : List Made) (old new : View S V) (These : ℕ → Type 0)
-    → new.greatest ≡ old.greatest → new.eras ≡ old.eras → new.desks ≡ old.desks → new.callers ≡ old.callers → new.flow ≡ old.flow
+    → new.greatest ≡ old.greatest → new.eras ≡ old.eras → new.desks ≡ old.desks → new.callers ≡ old.callers → new.flow ≡ old.flow → new.council ≡ old.council
     → Parties m cluster log all old These → Parties m cluster log all new These
-parties_seen {S} {V} m cluster log all old new These greatest eras desks callers flow was = record {
+parties_seen {S} {V} m cluster log all old new These greatest eras desks callers flow council was = record {
   greatest = was.greatest ∙ sym greatest;
   few = subst (λ (n : ℕ). n ≤ 16) (sym greatest) was.few;
   eras = λ p low. subst (λ (l : List Era). IsEraOf cluster (era_in l p)) (sym eras) (was.eras p (subst (λ (n : ℕ). p ≤ n) greatest low));
@@ -84,6 +87,7 @@ parties_seen {S} {V} m cluster log all old new These greatest eras desks callers
       (subst (λ (f : FlowView). IsDeskTrue m cluster log all (era_at old p).number p caller (queue_at f p).messages desk) (sym flow)
       (was.desks p these desk caller (subst (λ (l : List (DeskView V)). IsAt l p desk) desks at_desk) (subst (λ (l : List CallerView). IsAt l p caller) callers at_caller)));
   callers = λ p these caller at. was.callers p these caller (subst (λ (l : List CallerView). IsAt l p caller) callers at);
+  council = subst (IsCouncilTrue log) (sym council) was.council;
   own = λ p. subst (λ (f : FlowView). AreMessagesTrue log (queue_at f p).messages) (sym flow) (was.own p);
   late = subst (λ (f : FlowView). AreMessagesTrue log f.late) (sym flow) was.late;
 }
@@ -121,6 +125,7 @@ remembered m cluster global view whole marks = record {
     acceptors = whole.acceptors;
     desks = λ id desk caller at_desk at_caller. whole.parties.desks id tt desk caller at_desk at_caller;
     callers = λ id caller at. whole.parties.callers id tt caller at;
+    council = whole.parties.council;
     own = whole.parties.own;
     late = whole.parties.late;
   };
@@ -145,6 +150,7 @@ around m cluster global view id whole = record {
     eras = whole.parties.eras;
     desks = λ p other desk caller at_desk at_caller. whole.parties.desks p tt desk caller at_desk at_caller;
     callers = λ p other caller at. whole.parties.callers p tt caller at;
+    council = whole.parties.council;
     own = whole.parties.own;
     late = whole.parties.late;
   };
@@ -184,6 +190,7 @@ pub record Leaves {S V : Type 0} (old new : View S V) (id : ℕ) : Type 0 where
   pub acceptors : new.acceptors ≡ old.acceptors
   pub desks : (p : ℕ) (desk : DeskView V) → (p ≡ id → ⊥) → IsAt new.desks p desk → IsAt old.desks p desk
   pub callers : (p : ℕ) (caller : CallerView) → (p ≡ id → ⊥) → IsAt new.callers p caller → IsAt old.callers p caller
+  pub council : new.council ≡ old.council
   pub own : (p : ℕ) → (p ≡ id → ⊥) → (queue_at new.flow p).messages ≡ (queue_at old.flow p).messages
 
 -- and what becomes of the proposer
@@ -205,6 +212,7 @@ settles {S} {V} m cluster global old new id rest leaves becomes = record {
     eras = λ p low. subst (λ (l : List Era). IsEraOf cluster (era_in l p)) (sym leaves.eras) (rest.parties.eras p (subst (λ (n : ℕ). p ≤ n) leaves.greatest low));
     desks = λ p these desk caller at_desk at_caller. at_desks p desk caller at_desk at_caller (same_or_not p id);
     callers = λ p these caller at. at_callers p caller at (same_or_not p id);
+    council = subst (IsCouncilTrue global.log) (sym leaves.council) rest.parties.council;
     own = λ p. at_own p (same_or_not p id);
     late = becomes.late;
   };
@@ -237,6 +245,7 @@ leaves_both old id desk caller flow marks others = record {
   acceptors = refl;
   desks = λ p d other at. other_set old.desks id desk p d other at;
   callers = λ p c other at. other_set old.callers id caller p c other at;
+  council = refl;
   own = others;
 }
 
@@ -248,6 +257,7 @@ leaves_desk old id desk flow others = record {
   acceptors = refl;
   desks = λ p d other at. other_set old.desks id desk p d other at;
   callers = λ p c other at. at;
+  council = refl;
   own = others;
 }
 
@@ -259,5 +269,6 @@ leaves_caller old id caller flow marks others = record {
   acceptors = refl;
   desks = λ p d other at. at;
   callers = λ p c other at. other_set old.callers id caller p c other at;
+  council = refl;
   own = others;
 }

@@ -93,6 +93,17 @@ asked_around m cluster global view id f (to ∷ tos) own may around =
     around_more m cluster (asked_log f tos global.log) global.kept global.made view id (Asked (f to)) (λ p other same. other (sym same ∙ own to), λ a. tt) before
     (keeps cluster before.meets (asked_global global f tos) before.history (Asks (f to) (may tos to (inl refl))))
 
+-- a request of an exchange whose tag is in hand
+pub may_probe : (cluster : Cluster) (global : GlobalState) (request : Request) (id era : ℕ) (key : List ℕ) (tag : Ballot) → request.from ≡ id → request.ask ≡ ask.Probe tag key
+    → has_member (cluster.members era) request.to ≡ true → id ≤ 16 → request.to < 64 → IsInHand global.log id era [] tag → IsAskable cluster global request
+may_probe cluster global request id era key tag from is member low small hand = record {
+  may = subst (MayAsk cluster global.log request) (sym is)
+      (record { era = era; drawn = hand.drawn; own = hand.own ∙ sym from; member = member; above = hand.above_floors });
+  made = subst (IsMadeAsk global.made) (sym is) tt;
+  from = subst (λ (n : ℕ). n ≤ 16) (sym from) low;
+  to = small;
+}
+
 -- a request to prepare a ballot that is in hand
 pub may_prepare : (cluster : Cluster) (global : GlobalState) (request : Request) (id era : ℕ) (key : List ℕ) (ballot : Ballot) → request.from ≡ id → request.ask ≡ ask.Prepare key ballot
     → has_member (cluster.members era) request.to ≡ true → id ≤ 16 → request.to < 64 → IsInHand global.log id era key ballot → IsAskable cluster global request

@@ -1,5 +1,5 @@
 -- What was proposed is counted, and a call ends; a desk is up again.
-use Rattle.std.proofs.Common.{◌≡◌, ℕ, true, false, List, [], Option, None, Some, refl, sym, ap, subst, ◌∙◌, inl, inr}
+use Rattle.std.proofs.Common.{◌≡◌, ℕ, true, List, [], Option, None, Some, refl, sym, ap, subst, ◌∙◌, inl, inr}
 use Rattle.std.specs.Prelude.{◌⊎◌, ◌&&◌, not}
 use Rattle.cas_base.proofs.Bools.{true_or_false, and_right}
 use Rattle.cas_ballot.specs.declared.ballot.Ballot.{Ballot}

@@ -142,7 +142,7 @@ same_or_without m cluster log all id era key old new (inl same) were one = (subs
 same_or_without m cluster log all id era key old new (inr fewer) were one =
     (subst (AreReady cluster log all id era) (sym fewer) (ready_fewer cluster log all id era (without key old) old (λ entry h. contains_without key old h) were), subst HaveOneEach (sym fewer) (one_without key old one))
 
-quiet_fails : {S V : Type 0} (m : Meaning S V) (cluster : Cluster) (log : List Happening) (all : List Made) (id era : ℕ) (caller : CallerView) (waiting : List Message) (key : List ℕ) (desk now : DeskView V) → m.disks.tells
+pub quiet_fails : {S V : Type 0} (m : Meaning S V) (cluster : Cluster) (log : List Happening) (all : List Made) (id era : ℕ) (caller : CallerView) (waiting : List Message) (key : List ℕ) (desk now : DeskView V) → m.disks.tells
     → IsDeskTrue m cluster log all era id caller waiting desk → FailsToDraw m.disks key desk now → IsQuiet m cluster log all id era now
 quiet_fails {S} {V} m cluster log all id era caller waiting key desk now tells of by =
     let cache = same_or_without m cluster log all id era key desk.cache now.cache by.cache of.cached of.one_each in

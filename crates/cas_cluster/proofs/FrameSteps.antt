@@ -99,7 +99,7 @@ pub taken_thins : (flow : FlowView) (id : ℕ) (verdict : Verdict) {front : Mess
 taken_thins flow id verdict {front} e =
     subst (λ (q : QueueView). Thins (queue_at flow id).messages q.messages (head_of front).1) (sym (taken_own flow id verdict e)) (thins_by (fall_of (queue_at flow id).again verdict) (queue_at flow id) verdict e)
 
-taken_others : (flow : FlowView) (id : ℕ) (verdict : Verdict) (p : ℕ) → (p ≡ id → ⊥) → (queue_at (taken flow id verdict) p).messages ≡ (queue_at flow p).messages
+pub taken_others : (flow : FlowView) (id : ℕ) (verdict : Verdict) (p : ℕ) → (p ≡ id → ⊥) → (queue_at (taken flow id verdict) p).messages ≡ (queue_at flow p).messages
 taken_others flow id verdict p other = ap (λ (q : QueueView). q.messages) (queue_other flow.own id p (queue_after (queue_at flow id) verdict) other)
 
 -- ---- late frames
@@ -127,7 +127,7 @@ joined_by_true log late None were is = were
 joined_by_true log late (Some new) were is = joined_true log late new were (is new refl)
 
 -- what is late once a first frame is taken
-late_true : (log : List Happening) (late : List Message) (queue : QueueView) (verdict : Verdict) → AreMessagesTrue log late → AreMessagesTrue log queue.messages → AreMessagesTrue log (late_after late queue verdict)
+pub late_true : (log : List Happening) (late : List Message) (queue : QueueView) (verdict : Verdict) → AreMessagesTrue log late → AreMessagesTrue log queue.messages → AreMessagesTrue log (late_after late queue verdict)
 late_true log late queue verdict were own = by_late (is_late queue.again verdict)
   where
     by_late : (b : Bool) → AreMessagesTrue log (if b then joined_by late (slice_get queue.messages 0) else late)
@@ -436,6 +436,7 @@ relates m cluster global old late is whole = record {
     eras = whole.parties.eras;
     desks = whole.parties.desks;
     callers = whole.parties.callers;
+    council = whole.parties.council;
     own = whole.parties.own;
     late = is;
   };
@@ -448,7 +449,7 @@ marked m cluster global view marks before whole was goes = remembered m cluster 
   meets = whole.meets;
   history = whole.history;
   acceptors = whole.acceptors;
-  parties = parties_seen m cluster global.log global.made view (with_marks view marks) Everyone refl refl refl refl refl whole.parties;
+  parties = parties_seen m cluster global.log global.made view (with_marks view marks) Everyone refl refl refl refl refl refl whole.parties;
 }) (goes ∙ ap (λ (l : List Mark). reverse marks ++ l) was ∙ sym (reverse-append view.marks marks))
 
 -- ---- calls
@@ -548,7 +549,7 @@ harms {S} {V} m cluster global view id caller call acceptor down at is_open low 
 
 -- ---- a first frame is taken
 -- the acceptor that a frame is about
-front_low : (cluster : Cluster) (global : GlobalState) (front : Message) → HasHistory cluster global → IsMessageTrue global.log front → (head_of front).1 < 64
+pub front_low : (cluster : Cluster) (global : GlobalState) (front : Message) → HasHistory cluster global → IsMessageTrue global.log front → (head_of front).1 < 64
 front_low cluster global (message.Request request) history is = (history.knows.known request is).1
 front_low cluster global (message.Reply reply) history is = (history.knows.replied is.request reply is.replied).from
 
@@ -556,7 +557,7 @@ none_front : (waiting : List Message) {front : Message} → slice_get waiting 0 
 none_front [] e none = absurd (cc e)
 none_front (x ∷ waiting) e none = absurd (cc none)
 
-taken_flows : (log : List Happening) (flow : FlowView) (id : ℕ) (verdict : Verdict) {front : Message} → slice_get (queue_at flow id).messages 0 ≡ Some front → AreMessagesTrue log (queue_at flow id).messages → AreMessagesTrue log flow.late
+pub taken_flows : (log : List Happening) (flow : FlowView) (id : ℕ) (verdict : Verdict) {front : Message} → slice_get (queue_at flow id).messages 0 ≡ Some front → AreMessagesTrue log (queue_at flow id).messages → AreMessagesTrue log flow.late
     → Flows log flow (taken flow id verdict) id
 taken_flows log flow id verdict e own late = record {
   others = λ p other. taken_others flow id verdict p other;
@@ -612,7 +613,7 @@ replied_others : (flow : FlowView) (id : ℕ) (verdict : Verdict) (reply : Reply
 replied_others flow id verdict reply p other =
     ap (λ (q : QueueView). q.messages) (queue_other (taken flow id verdict).own id p (pushed (queue_at (taken flow id verdict) id) (message.Reply reply)) other) ∙ taken_others flow id verdict p other
 
-replied_flows : (log : List Happening) (flow : FlowView) (id : ℕ) (verdict : Verdict) (reply : Reply) {front : Message} → slice_get (queue_at flow id).messages 0 ≡ Some front → AreMessagesTrue log (queue_at flow id).messages → AreMessagesTrue log flow.late
+pub replied_flows : (log : List Happening) (flow : FlowView) (id : ℕ) (verdict : Verdict) (reply : Reply) {front : Message} → slice_get (queue_at flow id).messages 0 ≡ Some front → AreMessagesTrue log (queue_at flow id).messages → AreMessagesTrue log flow.late
     → WasMade log reply → Flows log flow (replied_flow flow id verdict reply) id
 replied_flows log flow id verdict reply e own late made = record {
   others = λ p other. replied_others flow id verdict reply p other;
@@ -633,7 +634,7 @@ votes_one to (ask.Accept key ballot era ride state) tell.Accepted = refl
 votes_one to question answer = refl
 
 -- the marks of an answer, as the record tells them
-answer_marks : (global : GlobalState) (request : Request) (reply : Reply) (new : Contents) → marks_of (answered_global global request reply new).log ≡ reverse (votes_marked request reply) ++ marks_of global.log
+pub answer_marks : (global : GlobalState) (request : Request) (reply : Reply) (new : Contents) → marks_of (answered_global global request reply new).log ≡ reverse (votes_marked request reply) ++ marks_of global.log
 answer_marks global request reply new = answered_marks global request reply new ∙ ap (λ (l : List Mark). l ++ marks_of global.log) (sym (votes_one request.to request.ask reply.tell))
 
 -- the reply that waits accounts for the acceptor that the request was to

@@ -6,6 +6,7 @@ pub mod Asks
 pub mod Beginnings
 pub mod Caches
 pub mod CallSteps
+pub mod CouncilSteps
 pub mod CountSteps
 pub mod Deeds
 pub mod Draws
@@ -28,6 +29,7 @@ pub mod Proposing
 pub mod Rides
 pub mod RoundSteps
 pub mod SafeCalls
+pub mod SafeCouncil
 pub mod SafeOpens
 pub mod SafeParts
 pub mod SafeRounds

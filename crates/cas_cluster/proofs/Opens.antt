@@ -16,6 +16,7 @@ use Rattle.cas_record.specs.Legal.{IsLegal}
 use Rattle.cas_record.specs.declared.mark.Mark.{Mark}
 use Rattle.cas_record.proofs.LawLemmas.{lawful_is_legal}
 use Rattle.cas_record.proofs.PlaceLemmas.{none_at_nil}
+use Rattle.cas_cluster.specs.Council.{Council}
 use Rattle.cas_cluster.specs.History.{IsRemembered}
 use Rattle.cas_cluster.specs.Parties.{AreMessagesTrue, IsEraOf, IsWithin, AreReady, HaveOneEach, HasNone, IsOpenTrue, IsCallerTrue}
 use Rattle.cas_cluster.specs.Protocol.{opening}
@@ -65,7 +66,7 @@ empty_queues (suc n) zero = refl
 empty_queues (suc n) (suc p) = empty_queues n p
 
 pub none_under_way : (flow : FlowView) (p : ℕ) → flow ≡ empty_flow → (queue_at flow p).messages ≡ []
-none_under_way flow p is = ap (λ (f : FlowView). (queue_at f p).messages) is ∙ ap (λ (q : QueueView). q.messages) (empty_queues 17 p)
+none_under_way flow p is = ap (λ (f : FlowView). (queue_at f p).messages) is ∙ ap (λ (q : QueueView). q.messages) (empty_queues 18 p)
 
 no_messages : (messages : List Message) → messages ≡ [] → AreMessagesTrue [] messages
 no_messages messages none each has_it = absurd (contains_none (subst (λ (l : List Message). Contains l each) none has_it))
@@ -103,6 +104,7 @@ opening_remembered {S} {V} m shelves disks members view is = remembered m cluste
       round = subst (IsOpenTrue cluster [] [] p (era_at view p).number caller (queue_at view.flow p).messages) (sym fresh.1.none_open) (none_under_way view.flow p is.flow);
     };
     callers = λ p these caller at. subst (IsCallerTrue [] [] p) (sym (is.callers p caller at)) (record { number = refl; call = λ call none. absurd (cc none) });
+    council = λ exchange is_open. absurd (cc (is_open, ap (λ (c : Council). c.exchange) is.council));
     own = λ p. no_messages (queue_at view.flow p).messages (none_under_way view.flow p is.flow);
     late = no_messages view.flow.late (ap (λ (f : FlowView). f.late) is.flow);
   };

@@ -30,7 +30,8 @@ use Rattle.cas_record.specs.Places.{Stands, past}
 use Rattle.cas_record.proofs.PlaceLemmas.{newest_or}
 use Rattle.cas_record.proofs.Tests.{nat_same, step_up}
 use Rattle.cas_cluster.specs.Acceptors.{IsElsewhere}
-use Rattle.cas_cluster.specs.Parties.{IsAcceptorTrue, WasMade, IsMessageTrue, AreMessagesTrue, WereMade, IsInHand, IsHeldReady, IsPrepareTrue, IsRideTrue, IsAcceptTrue, IsRoundTrue, IsOpenTrue, IsVaultTrue, IsDeskTrue, IsRefusalTrue, IsToldTrue, IsCallTrue, IsCallerTrue}
+use Rattle.cas_cluster.specs.Council.{Council}
+use Rattle.cas_cluster.specs.Parties.{IsAcceptorTrue, WasMade, IsMessageTrue, AreMessagesTrue, WereMade, IsInHand, IsHeldReady, IsPrepareTrue, IsRideTrue, IsAcceptTrue, IsRoundTrue, IsOpenTrue, IsVaultTrue, IsDeskTrue, IsRefusalTrue, IsToldTrue, IsCallTrue, IsCallerTrue, IsCouncilTrue}
 use Rattle.cas_cluster.specs.Proposers.{AllRide}
 use Rattle.cas_cluster.specs.Protocol.{Made, HasMade}
 use Rattle.cas_cluster.specs.View.{Meaning, CallView, CallerView}
@@ -68,6 +69,15 @@ replies_still h log replies were reply has = reply_still h log (were reply has)
 pub message_still : (h : Happening) (log : List Happening) (each : Message) → IsMessageTrue log each → IsMessageTrue (h ∷ log) each
 message_still h log (message.Request request) was = later was
 message_still h log (message.Reply reply) was = reply_still h log was
+
+-- what is known of an exchange stays
+pub council_still : (h : Happening) (log : List Happening) (council : Council) → IsCouncilTrue log council → IsCouncilTrue (h ∷ log) council
+council_still h log council were exchange is_open = let was = were exchange is_open in record {
+  own = was.own;
+  era = was.era;
+  drawn = later was.drawn;
+  told = λ place answer told at is. let before = was.told place answer told at is in record { reply = before.reply; made = reply_still h log before.made; same_from = before.same_from; same_tell = before.same_tell };
+}
 
 pub messages_still : (h : Happening) (log : List Happening) (messages : List Message) → AreMessagesTrue log messages → AreMessagesTrue (h ∷ log) messages
 messages_still h log messages were each has = message_still h log each (were each has)

@@ -26,6 +26,7 @@ use Rattle.cas_slot.specs.declared.message.Request.{Request}
 use Rattle.cas_vault.specs.Vault.{kept_of}
 use Rattle.cas_record.specs.declared.mark.Mark.TheVariants.{Begun}
 use Rattle.cas_cluster.specs.Parties.{asked_in}
+use Rattle.cas_cluster.specs.Council.{reserved_by}
 use Rattle.cas_cluster.specs.Safe.{requests_in, IsPartySafe, IsRoundSafe, IsOpenSafe, IsSafe}
 use Rattle.cas_cluster.specs.StepCalls as calls
 use Rattle.cas_cluster.specs.StepCalls.{most_marks, round_marks, HasRoom, Opens, opened, with_call, tried_again, over, Sends, prepares_to, accepts_to, BeginsRound}
@@ -36,14 +37,15 @@ use Rattle.cas_cluster.proofs.Caches.{contains_without}
 use Rattle.cas_cluster.proofs.CallSteps.{no_harm}
 use Rattle.cas_cluster.proofs.Harms.{has_of_map, has_member_of}
 use Rattle.cas_cluster.proofs.Places.{own_set, at_one, some_is}
-use Rattle.cas_cluster.proofs.SafeParts.{more_by, reserved_set, requests_of_map, left_within, right_within, safe_but, changes_caller, changes_desk, party_idle, idle_at}
+use Rattle.cas_cluster.proofs.SafeParts.{more_by, reserved_set, requests_of_map, left_within, right_within, safe_but, caller_low, desk_low, changes_caller, changes_desk, party_idle, idle_at}
 
 -- ---- a call opens
 -- there is room for what a call reserves
-room_for : (callers : List CallerView) (marks id : ℕ) (old new : CallerView) → IsAt callers id old → marks + reserved_of (slice_set callers id new_caller) + reserved_in new.call ≤ most_marks → marks + reserved_of (slice_set callers id new) ≤ most_marks
-room_for callers marks id old new at low = omega (arith, low, reserved_set callers id old new at, reserved_set callers id old new_caller at)
+room_for : (callers : List CallerView) (marks others id : ℕ) (old new : CallerView) → IsAt callers id old → marks + reserved_of (slice_set callers id new_caller) + others + reserved_in new.call ≤ most_marks
+    → marks + (reserved_of (slice_set callers id new) + others) ≤ most_marks
+room_for callers marks others id old new at low = omega (arith, low, reserved_set callers id old new at, reserved_set callers id old new_caller at)
 
-none_open : {V : Type 0} (era : Era) (marks id : ℕ) (desk : DeskView V) (caller : CallerView) (queue : QueueView) → caller.call ≡ None → IsPartySafe era marks id desk caller queue → desk.round ≡ None
+pub none_open : {V : Type 0} (era : Era) (marks id : ℕ) (desk : DeskView V) (caller : CallerView) (queue : QueueView) → caller.call ≡ None → IsPartySafe era marks id desk caller queue → desk.round ≡ None
 none_open era marks id desk caller queue none was = by_round desk.round was.round
   where
     by_round : (round : Option Round) → IsRoundSafe era caller queue round → round ≡ None
@@ -59,21 +61,21 @@ recalled era few marks id desk caller new queue none number reserved was =
 pub opens_safe : {S V : Type 0} (old : View S V) (id : ℕ) (key : List ℕ) (program : List Clause) (new : View S V) → IsSafe old → Opens old id key program new → IsSafe new
 opens_safe {S} {V} old id key program new was (calls.first caller at none room view) =
     let now : CallerView = record { number = suc caller.number; call = Some (new_call key program (round_marks (era_at old id) - 1)) } in
-    subst IsSafe (sym view) (safe_but old (opened old id caller key program) id was (changes_caller old id now old.flow (old.marks ++ Begun id (suc caller.number) key program ∷ []) was refl (λ p other. refl) (more_by old.marks (Begun id (suc caller.number) key program ∷ [])))
+    subst IsSafe (sym view) (safe_but old (opened old id caller key program) id was (caller_low old id caller was at) (changes_caller old id now old.flow (old.marks ++ Begun id (suc caller.number) key program ∷ []) was refl (λ p other. refl) (more_by old.marks (Begun id (suc caller.number) key program ∷ [])))
     (λ desk c at_desk at_caller. subst (λ (x : CallerView). IsPartySafe (era_at old id) (length (old.marks ++ Begun id (suc caller.number) key program ∷ [])) id desk x (queue_at old.flow id)) (sym (own_set old.callers id now c at_caller))
     (let party = was.parties id desk caller at_desk at in
     recalled (era_at old id) (length old.marks) (length (old.marks ++ Begun id (suc caller.number) key program ∷ [])) id desk caller now (queue_at old.flow id)
     (none_open (era_at old id) (length old.marks) id desk caller (queue_at old.flow id) none party) (omega (arith, party.number, length-append old.marks (Begun id (suc caller.number) key program ∷ [])))
     (λ call is. subst (λ (x : CallView). 0 < x.reserved) (some_is is) (omega arith)) party))
-    (room_for old.callers (length (old.marks ++ Begun id (suc caller.number) key program ∷ [])) id caller now at (omega (arith, room, length-append old.marks (Begun id (suc caller.number) key program ∷ [])))))
+    (room_for old.callers (length (old.marks ++ Begun id (suc caller.number) key program ∷ [])) (reserved_by old.council) id caller now at (omega (arith, room, length-append old.marks (Begun id (suc caller.number) key program ∷ [])))))
 opens_safe {S} {V} old id key program new was (calls.again caller call reserved at is_open same_key same_program unproposed met idle room some view) =
     let now : CallerView = record caller { call = Some (tried_again call reserved) } in
-    subst IsSafe (sym view) (safe_but old (with_call old id caller (tried_again call reserved)) id was (changes_caller old id now old.flow old.marks was refl (λ p other. refl) (omega arith))
+    subst IsSafe (sym view) (safe_but old (with_call old id caller (tried_again call reserved)) id was (caller_low old id caller was at) (changes_caller old id now old.flow old.marks was refl (λ p other. refl) (omega arith))
     (λ desk c at_desk at_caller. subst (λ (x : CallerView). IsPartySafe (era_at old id) (length old.marks) id desk x (queue_at old.flow id)) (sym (own_set old.callers id now c at_caller))
     (let party = was.parties id desk caller at_desk at in
     recalled (era_at old id) (length old.marks) (length old.marks) id desk caller now (queue_at old.flow id) (idle desk at_desk) party.number
     (λ x is. subst (λ (y : CallView). 0 < y.reserved) (some_is is) some) party))
-    (room_for old.callers (length old.marks) id caller now at room))
+    (room_for old.callers (length old.marks) (reserved_by old.council) id caller now at room))
 
 -- ---- a round begins
 -- the phase of a round that has just begun
@@ -109,7 +111,7 @@ pub prepares_safe : {S V : Type 0} (m : Meaning S V) (old : View S V) (id : ℕ)
     → IsAt old.callers id caller → caller.call ≡ Some call → call.proposed ≡ None → call.harmed ≡ [] → IsAt old.desks id desk → desk.down ≡ false → round_marks (era_at old id) ≤ suc call.reserved
     → BeginsToPrepare m.disks (era_at old id) call.key desk now ballot round → Sends old.flow id (prepares_to id (kept_of desk.vault).age call.key ballot (era_at old id).prep) flow → IsSafe (record (with_desk old id now) { flow = flow })
 prepares_safe {S} {V} m old id caller call desk now ballot round flow was at_caller is_open unproposed unharmed at_desk up room begins sends =
-    safe_but old (record (with_desk old id now) { flow = flow }) id was (changes_desk old id now flow was sends.queues sends.others)
+    safe_but old (record (with_desk old id now) { flow = flow }) id was (desk_low old id desk was at_desk) (changes_desk old id now flow was sends.queues sends.others)
     (λ d c at_d at_c. subst (λ (x : DeskView V). IsPartySafe (era_at old id) (length old.marks) id x c (queue_at flow id)) (sym (own_set old.desks id now d at_d))
     (subst (λ (x : CallerView). IsPartySafe (era_at old id) (length old.marks) id now x (queue_at flow id)) (at_one old.callers id at_caller at_c) safe)) was.room
   where

@@ -7,6 +7,8 @@ use Rattle.cas_flow.specs.Flow.{FlowView, queue_at}
 use Rattle.cas_quorum.specs.declared.era.Era.{Era}
 use Rattle.cas_quorum.specs.Era.{majority_era}
 use Rattle.cas_record.specs.declared.mark.Mark.{Mark}
+use Rattle.cas_cluster.specs.Council.{Council, exchange_place, reserved_by}
+use Rattle.cas_cluster.specs.Safe.{IsAskingSafe}
 use Rattle.cas_cluster.specs.SafeLaws.{OpeningsAreSafe}
 use Rattle.cas_cluster.specs.View.{Meaning, CallerView, IsAt, new_caller, reserved_in, reserved_of, era_at, era_in}
 use Rattle.cas_cluster.proofs.Opens.{none_under_way}
@@ -18,7 +20,7 @@ none_reserved : (callers : List CallerView) → ((id : ℕ) (caller : CallerView
 none_reserved [] fresh = refl
 none_reserved (caller ∷ callers) fresh = omega (arith, ap (λ (c : CallerView). reserved_in c.call) (fresh 0 caller refl), none_reserved callers (λ id c at. fresh (suc id) c at))
 
-no_members : IsMemberSet []
+pub no_members : IsMemberSet []
 unfolding members_where
 no_members = record { lists = refl }
 
@@ -46,5 +48,6 @@ opens_are_safe {S} {V} m members view is places = record {
       party_idle (era_at view id) (length view.marks) id desk caller (queue_at view.flow id) fresh.same_id fresh.none_open (none_under_way view.flow id is.flow) (omega (arith, ap (λ (c : CallerView). c.number) new))
       (λ key ready h. absurd (contains_none (subst (λ (l : List (List ℕ × Ready)). Contains l (key, ready)) fresh.no_promise h)))
       (λ call some. absurd (cc (some, ap (λ (c : CallerView). c.call) new)));
-  room = omega (arith, none_reserved view.callers is.callers, ap (λ (l : List Mark). length l) is.marks);
+  asking = subst (λ (c : Council). IsAskingSafe c.exchange (queue_at view.flow exchange_place)) (sym is.council) (none_under_way view.flow exchange_place is.flow);
+  room = omega (arith, none_reserved view.callers is.callers, ap (λ (l : List Mark). length l) is.marks, ap (λ (c : Council). reserved_by c) is.council);
 }

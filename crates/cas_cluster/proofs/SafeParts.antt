@@ -1,6 +1,6 @@
 -- Lists of callers and what is reserved for them; frames that wait; and parties that stay safe as others go on.
 use Rattle.std.proofs.Common.{◌≡◌, ◌<◌, ◌≤◌, ℕ, zero, suc, true, false, List, [], ◌∷◌, ◌++◌, Option, None, Some, refl, sym, ap, subst, ◌∙◌, inl, inr, arith, length-set, length-append}
-use Rattle.std.specs.Prelude.{◌⊎◌, ◌+◌, ◌||◌, ◌&&◌, ◌==◌, nat_lt, length, map, slice_set, slice_index_or, Contains}
+use Rattle.std.specs.Prelude.{◌⊎◌, ◌+◌, ◌||◌, ◌&&◌, ◌==◌, nat_lt, length, map, slice_set, Contains}
 use Rattle.cas_base.proofs.Bools.{true_or_false, and_left, and_right, or_left, or_right}
 use Rattle.cas_ballot.specs.Ballot.{FitsBallot}
 use Rattle.cas_ballot.specs.Members.{members_where, has_member, with_member, union_of, IsMemberSet}
@@ -15,14 +15,14 @@ use Rattle.cas_acceptor.specs.Acceptor.{AcceptorView}
 use Rattle.cas_proposer.specs.Desk.{DeskView}
 use Rattle.cas_proposer.specs.declared.round.Round.{Round}
 use Rattle.cas_quorum.specs.declared.era.Era.{Era}
-use Rattle.cas_quorum.specs.Era.{majority_era}
 use Rattle.cas_slot.specs.declared.message.Request.{Request}
 use Rattle.cas_record.specs.declared.mark.Mark.{Mark}
 use Rattle.cas_record.proofs.Tests.{nat_same, nat_is}
-use Rattle.cas_cluster.specs.Safe.{requests_in, IsPartySafe, IsRoundSafe, IsIdleSafe, IsSafe}
+use Rattle.cas_cluster.specs.Council.{Council, exchange_place, reserved_by}
+use Rattle.cas_cluster.specs.Safe.{requests_in, IsPartySafe, IsRoundSafe, IsIdleSafe, IsSafe, IsAskingSafe}
 use Rattle.cas_cluster.specs.StepCalls.{most_marks}
 use Rattle.cas_cluster.proofs.Places.{some_is, same_or_not, own_set, other_set}
-use Rattle.cas_cluster.specs.View.{View, CallView, CallerView, IsAt, reserved_in, reserved_of, era_at, era_in}
+use Rattle.cas_cluster.specs.View.{View, CallView, CallerView, IsAt, reserved_in, reserved_of, reserved_in_all, era_at, era_in}
 
 -- ---- what is reserved
 pub reserved_set : (callers : List CallerView) (place : ℕ) (old new : CallerView) → IsAt callers place old → reserved_of (slice_set callers place new) + reserved_in old.call ≡ reserved_of callers + reserved_in new.call
@@ -90,6 +90,7 @@ at_low (y ∷ xs) (suc place) low = at_low xs place (omega (arith, low))
 pub record Changes {S V : Type 0} (old new : View S V) (id : ℕ) : Type 0 where
   pub greatest : new.greatest ≡ old.greatest
   pub eras : new.eras ≡ old.eras
+  pub council : new.council ≡ old.council
   pub acceptors : length new.acceptors ≡ length old.acceptors
   pub acceptor_ids : (a : ℕ) (acceptor : AcceptorView S) → IsAt new.acceptors a acceptor → acceptor.id ≡ a
   pub desks_length : length new.desks ≡ length old.desks
@@ -111,10 +112,17 @@ more_marks era few more id desk caller queue low was = record {
   room = was.room;
 }
 
-pub safe_but : {S V : Type 0} (old new : View S V) (id : ℕ) → IsSafe old → Changes old new id
+-- the number of a proposer that has a desk, or a caller
+pub desk_low : {S V : Type 0} (view : View S V) (id : ℕ) (desk : DeskView V) → IsSafe view → IsAt view.desks id desk → id ≤ 16
+desk_low view id desk was at = omega (arith, low_at view.desks id at, was.desks, was.few)
+
+pub caller_low : {S V : Type 0} (view : View S V) (id : ℕ) (caller : CallerView) → IsSafe view → IsAt view.callers id caller → id ≤ 16
+caller_low view id caller was at = omega (arith, low_at view.callers id at, was.callers, was.few)
+
+pub safe_but : {S V : Type 0} (old new : View S V) (id : ℕ) → IsSafe old → id ≤ 16 → Changes old new id
     → ((desk : DeskView V) (caller : CallerView) → IsAt new.desks id desk → IsAt new.callers id caller → IsPartySafe (era_at old id) (length new.marks) id desk caller (queue_at new.flow id))
-    → length new.marks + reserved_of new.callers ≤ most_marks → IsSafe new
-safe_but {S} {V} old new id was changes party room = record {
+    → length new.marks + reserved_in_all new ≤ most_marks → IsSafe new
+safe_but {S} {V} old new id was low changes party room = record {
   few = subst (λ (n : ℕ). n ≤ 16) (sym changes.greatest) was.few;
   prep_sets = λ p. subst (λ (l : List Era). IsMemberSet (era_in l p).prep) (sym changes.eras) (was.prep_sets p);
   acc_sets = λ p. subst (λ (l : List Era). IsMemberSet (era_in l p).acc) (sym changes.eras) (was.acc_sets p);
@@ -125,6 +133,8 @@ safe_but {S} {V} old new id was changes party room = record {
   callers = changes.callers_length ∙ was.callers ∙ ap suc (sym changes.greatest);
   own = changes.own_length ∙ was.own;
   parties = λ p desk caller at_desk at_caller. subst (λ (l : List Era). IsPartySafe (era_in l p) (length new.marks) p desk caller (queue_at new.flow p)) (sym changes.eras) (by_place p desk caller at_desk at_caller (same_or_not p id));
+  asking = subst (λ (c : Council). IsAskingSafe c.exchange (queue_at new.flow exchange_place)) (sym changes.council)
+      (subst (λ (q : QueueView). IsAskingSafe old.council.exchange q) (sym (changes.own exchange_place (λ same. omega (arith, low, same)))) was.asking);
   room = room;
 }
   where
@@ -137,6 +147,27 @@ safe_but {S} {V} old new id was changes party room = record {
         (subst (λ (q : QueueView). IsPartySafe (era_at old p) (length old.marks) p desk caller q) (sym (changes.own p other))
         (was.parties p desk caller (changes.desks p desk other at_desk) (changes.callers p caller other at_caller)))
 
+-- what changes of the exchange and its frames, and of the marks
+pub council_safe : {S V : Type 0} (old : View S V) (flow : FlowView) (next : Council) (marks : List Mark) → IsSafe old → length flow.own ≡ length old.flow.own
+    → ((p : ℕ) → (p ≡ exchange_place → ⊥) → queue_at flow p ≡ queue_at old.flow p) → length old.marks ≤ length marks → IsAskingSafe next.exchange (queue_at flow exchange_place)
+    → length marks + (reserved_of old.callers + reserved_by next) ≤ most_marks → IsSafe (record old { flow = flow; council = next; marks = marks })
+council_safe {S} {V} old flow next marks was own others more asking room = record {
+  few = was.few;
+  prep_sets = was.prep_sets;
+  acc_sets = was.acc_sets;
+  eras = was.eras;
+  acceptors = was.acceptors;
+  acceptor_ids = was.acceptor_ids;
+  desks = was.desks;
+  callers = was.callers;
+  own = own ∙ was.own;
+  parties = λ id desk caller at_desk at_caller.
+      more_marks (era_at old id) (length old.marks) (length marks) id desk caller (queue_at flow id) more
+      (subst (λ (q : QueueView). IsPartySafe (era_at old id) (length old.marks) id desk caller q) (sym (others id (λ same. omega (arith, same, desk_low old id desk was at_desk)))) (was.parties id desk caller at_desk at_caller));
+  asking = asking;
+  room = room;
+}
+
 pub more_by : (marks more : List Mark) → length marks ≤ length (marks ++ more)
 more_by marks more = omega (arith, length-append marks more)
 
@@ -147,6 +178,7 @@ pub changes_both : {S V : Type 0} (old : View S V) (id : ℕ) (desk : DeskView V
 changes_both old id desk caller flow marks was own others more = record {
   greatest = refl;
   eras = refl;
+  council = refl;
   acceptors = refl;
   acceptor_ids = was.acceptor_ids;
   desks_length = length-set old.desks id desk;
@@ -164,6 +196,7 @@ pub changes_caller : {S V : Type 0} (old : View S V) (id : ℕ) (caller : Caller
 changes_caller old id caller flow marks was own others more = record {
   greatest = refl;
   eras = refl;
+  council = refl;
   acceptors = refl;
   acceptor_ids = was.acceptor_ids;
   desks_length = refl;
@@ -180,6 +213,7 @@ pub changes_desk : {S V : Type 0} (old : View S V) (id : ℕ) (desk : DeskView V
 changes_desk old id desk flow was own others = record {
   greatest = refl;
   eras = refl;
+  council = refl;
   acceptors = refl;
   acceptor_ids = was.acceptor_ids;
   desks_length = length-set old.desks id desk;
@@ -200,6 +234,7 @@ pub changes_all : {S V : Type 0} (old : View S V) (id : ℕ) (acceptors : List (
 changes_all old id acceptors desks caller flow marks acceptors_length ids desks_length other_desks own others more = record {
   greatest = refl;
   eras = refl;
+  council = refl;
   acceptors = acceptors_length;
   acceptor_ids = ids;
   desks_length = desks_length;

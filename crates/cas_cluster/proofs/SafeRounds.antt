@@ -36,7 +36,7 @@ use Rattle.cas_cluster.proofs.CallSteps.{no_harm}
 use Rattle.cas_cluster.proofs.Places.{own_set, some_is}
 use Rattle.cas_cluster.proofs.Proposals.{accept_request}
 use Rattle.cas_cluster.proofs.SafeCalls.{prepares_safe, about_members, accepts_is, enough}
-use Rattle.cas_cluster.proofs.SafeParts.{more_by, reserved_set, requests_of_map, set_within, safe_but, changes_both, idle_at}
+use Rattle.cas_cluster.proofs.SafeParts.{more_by, reserved_set, requests_of_map, set_within, safe_but, desk_low, changes_both, idle_at}
 use Rattle.cas_cluster.proofs.SafeStops.{none_waits_at, begin_stays_safe, begin_spent_safe, fails_safe, loses_safe, ends_safe, counted_safe}
 
 -- ---- what is reserved for an open round
@@ -68,7 +68,7 @@ pub proposed_safe : {S V : Type 0} (old : View S V) (id : ℕ) (caller : CallerV
     → ((key : List ℕ) (ready : Ready) → Contains now.cache (key, ready) → Contains desk.cache (key, ready)) → (queue_at old.flow id).messages ≡ []
     → Sends old.flow id (accepts_to id age key ballot (era_at old id).number ride outcome.state (era_at old id).acc) flow → 3 + 3 * length (era_at old id).acc ≤ call.reserved → IsSafe (proposed_view old id caller call now flow p outcome)
 proposed_safe {S} {V} old id caller call desk now round flow p age key ballot ride outcome was at_caller is_open at_desk same up is_round same_key same_era fits rides accepting fewer none sends reserved =
-    safe_but old (proposed_view old id caller call now flow p outcome) id was (changes_both old id now after flow marks was sends.queues sends.others (more_by old.marks (Proposed p ∷ [])))
+    safe_but old (proposed_view old id caller call now flow p outcome) id was (desk_low old id desk was at_desk) (changes_both old id now after flow marks was sends.queues sends.others (more_by old.marks (Proposed p ∷ [])))
     (λ d c at_d at_c. subst (λ (x : DeskView V). IsPartySafe (era_at old id) (length marks) id x c (queue_at flow id)) (sym (own_set old.desks id now d at_d))
     (subst (λ (x : CallerView). IsPartySafe (era_at old id) (length marks) id now x (queue_at flow id)) (sym (own_set old.callers id after c at_c)) safe))
     (omega (arith, was.room, reserved, length-append old.marks (Proposed p ∷ []), reserved_set old.callers id caller after at_caller, ap reserved_in is_open))

@@ -1,4 +1,5 @@
 -- Whatever is called on a cluster that is safe, it is safe then.
+use Rattle.std.proofs.Common.{sym, subst}
 use Rattle.std.specs.Prelude.{ℕ, List}
 use Rattle.cas_change.specs.declared.program.Clause.{Clause}
 use Rattle.cas_cluster.specs.Safe.{IsSafe}
@@ -10,6 +11,7 @@ use Rattle.cas_cluster.proofs.CallSteps.{anew}
 use Rattle.cas_cluster.proofs.SafeCalls.{opens_safe}
 use Rattle.cas_cluster.proofs.SafeRounds.{begins_safe, proposes_safe, counts_safe}
 use Rattle.cas_cluster.proofs.SafeStops.{refuses_call_safe, refuses_turn_safe, ends_call_safe, strays_safe, room_not_found_safe, crashes_acceptor_safe, restarts_acceptor_safe, crashes_proposer_safe, restarts_proposer_safe}
+use Rattle.cas_cluster.proofs.SafeCouncil as council
 use Rattle.cas_cluster.proofs.SafeTurns.{turns_safe}
 
 begin_safe : {S V : Type 0} (m : Meaning S V) (old : View S V) (id : ℕ) (key : List ℕ) (program : List Clause) (new : View S V) → IsSafe old → StepBegin m old id key program new → IsSafe new
@@ -31,3 +33,10 @@ steps_are_safe m old (step.CrashAcceptor id) new was by = crashes_acceptor_safe 
 steps_are_safe m old (step.RestartAcceptor id) new was by = restarts_acceptor_safe m old id new was by
 steps_are_safe m old (step.CrashProposer id) new was by = crashes_proposer_safe m old id new was by
 steps_are_safe m old (step.RestartProposer id) new was by = restarts_proposer_safe m old id new was by
+steps_are_safe m old (step.Order asked) new was by = council.order_safe old asked new was by
+steps_are_safe m old step.RefuseOrder new was by = subst IsSafe (sym by) was
+steps_are_safe m old (step.Tell answer) new was by = council.tell_safe old answer new was by
+steps_are_safe m old (step.AskAll question) new was by = council.ask_safe m old question new was by
+steps_are_safe m old (step.TurnExchange verdict) new was by = council.turn_exchange_safe m old verdict new was by
+steps_are_safe m old step.RefuseTurnExchange new was by = council.refuse_exchange_safe m old new was by
+steps_are_safe m old step.Gather new was by = council.gather_safe old new was by

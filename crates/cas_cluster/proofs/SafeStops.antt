@@ -1,6 +1,6 @@
 -- A cluster stays safe as acceptors and proposers stop and are up again, as late frames stray in, and as calls end.
 use Rattle.std.proofs.Common.{◌≡◌, ◌<◌, ◌≤◌, ℕ, zero, suc, Bool, true, false, List, [], ◌∷◌, ◌++◌, Option, None, Some, refl, sym, ap, subst, ◌∙◌, inl, inr, arith, length-set, length-append}
-use Rattle.std.specs.Prelude.{◌⊎◌, ◌+◌, ◌*◌, length, is_some, slice_set, Contains}
+use Rattle.std.specs.Prelude.{◌⊎◌, ◌+◌, ◌*◌, length, is_some, option_map, slice_set, Contains}
 use Rattle.cas_ballot.specs.declared.ballot.Ballot.{Ballot}
 use Rattle.cas_ballot.specs.Ballot.{FitsBallot}
 use Rattle.cas_ballot.specs.Members.{has_member, IsMemberSet}
@@ -32,25 +32,26 @@ use Rattle.cas_record.specs.declared.mark.Mark.TheVariants.{Ended}
 use Rattle.cas_record.specs.Happening.{marks_of}
 use Rattle.cas_cluster.specs.Acceptors.{votes_of}
 use Rattle.cas_cluster.specs.Parties.{asked_in}
-use Rattle.cas_cluster.specs.Safe.{requests_in, handled_in, handled_once, IsPartySafe, IsRoundSafe, IsOpenSafe, IsIdleSafe, IsSafe}
+use Rattle.cas_cluster.specs.Council.{ExchangeView, broken_off, crashed_in, exchange_place, reserved_for_exchange}
+use Rattle.cas_cluster.specs.Safe.{requests_in, handled_in, handled_once, IsPartySafe, IsRoundSafe, IsOpenSafe, IsIdleSafe, IsSafe, IsAskingSafe}
 use Rattle.cas_cluster.specs.Step as step
-use Rattle.cas_cluster.specs.Step.{StepRefuseTurn, StepStray, StepCrashAcceptor, StepRestartAcceptor, StepCrashProposer, StepRestartProposer, closed_by_crash}
+use Rattle.cas_cluster.specs.Step.{StepRefuseTurn, StepStray, StepCrashAcceptor, StepRestartAcceptor, CrashesDesk, broken_off_view, StepCrashProposer, StepRestartProposer, closed_by_crash}
 use Rattle.cas_cluster.specs.StepCalls as calls
 use Rattle.cas_cluster.specs.StepCalls.{most_marks, with_call, telling, over, RefusesCall, EndsCall, offered_by}
 use Rattle.cas_cluster.specs.StepDesks.{HearsReply, EndsRound, FailsToDraw, LosesMemory}
 use Rattle.cas_cluster.specs.StepFrames as frames
 use Rattle.cas_cluster.specs.StepFrames.{FindsNoRoom, Strays, votes_marked, without_late, with_late}
-use Rattle.cas_cluster.specs.View.{Meaning, View, CallView, CallerView, IsAt, reserved_in, reserved_of, with_acceptor, with_desk, with_marks, era_at}
+use Rattle.cas_cluster.specs.View.{Meaning, View, CallView, CallerView, IsAt, reserved_in, reserved_in_all, with_acceptor, with_desk, with_marks, era_at}
 use Rattle.cas_cluster.proofs.Caches.{contains_without, IsKeptOr, kept, held, kept_or_held}
 use Rattle.cas_cluster.proofs.EndSteps.{none_left}
-use Rattle.cas_cluster.proofs.Places.{own_set, some_is, queue_other, contains_none}
-use Rattle.cas_cluster.proofs.SafeParts.{more_marks, more_by, reserved_set, set_within, safe_but, changes_both, changes_caller, changes_desk, party_idle, idle_at, keeps_set}
+use Rattle.cas_cluster.proofs.Places.{own_set, some_is, queue_same, queue_other, contains_none}
+use Rattle.cas_cluster.proofs.SafeParts.{more_marks, more_by, reserved_set, set_within, safe_but, council_safe, caller_low, desk_low, changes_both, changes_caller, changes_desk, party_idle, idle_at, keeps_set}
 use Rattle.cas_cluster.proofs.FrameSteps.{same_asked}
 
 -- ---- acceptors
 -- other acceptors with the same identities, other late frames, and more marks within their room
 pub acceptors_safe : {S V : Type 0} (old : View S V) (acceptors : List (AcceptorView S)) (late : List Message) (marks : List Mark) → IsSafe old → length acceptors ≡ length old.acceptors
-    → ((id : ℕ) (acceptor : AcceptorView S) → IsAt acceptors id acceptor → acceptor.id ≡ id) → length old.marks ≤ length marks → length marks + reserved_of old.callers ≤ most_marks
+    → ((id : ℕ) (acceptor : AcceptorView S) → IsAt acceptors id acceptor → acceptor.id ≡ id) → length old.marks ≤ length marks → length marks + reserved_in_all old ≤ most_marks
     → IsSafe (record old { acceptors = acceptors; flow = record { own = old.flow.own; late = late }; marks = marks })
 acceptors_safe old acceptors late marks was same ids more room = record {
   few = was.few;
@@ -63,6 +64,7 @@ acceptors_safe old acceptors late marks was same ids more room = record {
   callers = was.callers;
   own = was.own;
   parties = λ id desk caller at_desk at_caller. more_marks (era_at old id) (length old.marks) (length marks) id desk caller (queue_at old.flow id) more (was.parties id desk caller at_desk at_caller);
+  asking = was.asking;
   room = room;
 }
 
@@ -131,7 +133,7 @@ pub tells_safe : {S V : Type 0} (old : View S V) (id : ℕ) (caller : CallerView
     → now.key ≡ call.key → now.reserved ≡ call.reserved → now.proposed ≡ call.proposed → now.harmed ≡ call.harmed → IsSafe (with_call old id caller now)
 tells_safe {S} {V} old id caller call now was at is_open key reserved proposed harmed =
     let next : CallerView = record caller { call = Some now } in
-    safe_but old (with_call old id caller now) id was (changes_caller old id next old.flow old.marks was refl (λ p other. refl) (omega arith))
+    safe_but old (with_call old id caller now) id was (caller_low old id caller was at) (changes_caller old id next old.flow old.marks was refl (λ p other. refl) (omega arith))
     (λ desk c at_desk at_caller. subst (λ (x : CallerView). IsPartySafe (era_at old id) (length old.marks) id desk x (queue_at old.flow id)) (sym (own_set old.callers id next c at_caller))
     (let party = was.parties id desk caller at_desk at in
     record {
@@ -206,7 +208,7 @@ strays_safe {S} {V} m old index new was by = by_stray by.strays
         subst IsSafe (sym view) (acceptors_safe old (slice_set old.acceptors request.to now) (without_late old.flow index).late old.marks was (length-set old.acceptors request.to now)
         ((keeps_set old.acceptors request.to acceptor now at (ap (λ (a : AcceptorView S). a.id) stops.acceptor)).ids was.acceptor_ids) (omega arith) was.room)
     by_stray (frames.arrives reply desk now round heard late at has_round hears view) =
-        subst IsSafe (sym view) (safe_but old (record (with_desk old reply.to now) { flow = without_late old.flow index }) reply.to was (changes_desk old reply.to now (without_late old.flow index) was refl (λ p other. refl))
+        subst IsSafe (sym view) (safe_but old (record (with_desk old reply.to now) { flow = without_late old.flow index }) reply.to was (desk_low old reply.to desk was at) (changes_desk old reply.to now (without_late old.flow index) was refl (λ p other. refl))
         (λ d c at_d at_c. subst (λ (x : DeskView V). IsPartySafe (era_at old reply.to) (length old.marks) reply.to x c (queue_at old.flow reply.to)) (sym (own_set old.desks reply.to now d at_d))
         (heard_party (era_at old reply.to) (length old.marks) reply.to desk now c (queue_at old.flow reply.to) round heard reply has_round hears (was.parties reply.to desk c at at_c)))
         was.room)
@@ -260,7 +262,7 @@ pub desk_idles : {S V : Type 0} (old : View S V) (id : ℕ) (desk now : DeskView
     → ((caller : CallerView) → IsAt old.callers id caller → IsIdleSafe caller (queue_at flow id)) → length flow.own ≡ length old.flow.own → ((p : ℕ) → (p ≡ id → ⊥) → queue_at flow p ≡ queue_at old.flow p)
     → IsSafe (record (with_desk old id now) { flow = flow })
 desk_idles {S} {V} old id desk now flow was at same none fit idle own others =
-    safe_but old (record (with_desk old id now) { flow = flow }) id was (changes_desk old id now flow was own others)
+    safe_but old (record (with_desk old id now) { flow = flow }) id was (desk_low old id desk was at) (changes_desk old id now flow was own others)
     (λ d caller at_d at_caller. subst (λ (x : DeskView V). IsPartySafe (era_at old id) (length old.marks) id x caller (queue_at flow id)) (sym (own_set old.desks id now d at_d))
     (let party = was.parties id desk caller at at_caller in
     let is = idle caller at_caller in
@@ -274,7 +276,7 @@ pub call_idles : {S V : Type 0} (old : View S V) (id : ℕ) (caller next : Calle
     → length old.marks ≤ length marks → length marks + reserved_in next.call ≤ length old.marks + reserved_in caller.call
     → IsSafe (record old { desks = slice_set old.desks id now; callers = slice_set old.callers id next; flow = flow; marks = marks })
 call_idles {S} {V} old id caller next desk now flow marks was at_caller at_desk same none fit number reserved waits own others more room =
-    safe_but old (record old { desks = slice_set old.desks id now; callers = slice_set old.callers id next; flow = flow; marks = marks }) id was (changes_both old id now next flow marks was own others more)
+    safe_but old (record old { desks = slice_set old.desks id now; callers = slice_set old.callers id next; flow = flow; marks = marks }) id was (desk_low old id desk was at_desk) (changes_both old id now next flow marks was own others more)
     (λ d c at_d at_c. subst (λ (x : DeskView V). IsPartySafe (era_at old id) (length marks) id x c (queue_at flow id)) (sym (own_set old.desks id now d at_d))
     (subst (λ (x : CallerView). IsPartySafe (era_at old id) (length marks) id now x (queue_at flow id)) (sym (own_set old.callers id next c at_c))
     (let party = was.parties id desk caller at_desk at_caller in
@@ -297,8 +299,27 @@ left_alone flow id p other = queue_other flow.own id p (emptied (queue_at flow i
 crashed_fit : {V : Type 0} (desk now : DeskView V) → now.cache ≡ [] → AreFit desk.cache → AreFit now.cache
 crashed_fit desk now none were = subst AreFit (sym none) (λ key ready h. absurd (contains_none h))
 
-pub crashes_proposer_safe : {S V : Type 0} (m : Meaning S V) (old : View S V) (id : ℕ) (new : View S V) → IsSafe old → StepCrashProposer m old id new → IsSafe new
-crashes_proposer_safe {S} {V} m old id new was (step.idle desk now at none by view) =
+-- as much stays reserved for it
+broken_reserved : (exchange : Option ExchangeView) → reserved_for_exchange (option_map broken_off exchange) ≡ reserved_for_exchange exchange
+broken_reserved None = refl
+broken_reserved (Some exchange) = refl
+
+-- an exchange whose frames joined the late ones is as it was, but that nothing of it waits
+broken_safe : (exchange : Option ExchangeView) (queue : QueueView) → IsAskingSafe exchange queue → IsAskingSafe (option_map broken_off exchange) (emptied queue)
+broken_safe None queue was = refl
+broken_safe (Some exchange) queue was = record {
+  tag = was.tag;
+  member_set = was.member_set;
+  about = λ each h. absurd (contains_none h);
+  asks = λ request h. absurd (contains_none h);
+  harmed_set = was.harmed_set;
+  harmed_within = was.harmed_within;
+  reserved = was.reserved;
+  room = omega arith;
+}
+
+pub crashed_desk_safe : {S V : Type 0} (m : Meaning S V) (old : View S V) (id : ℕ) (new : View S V) → IsSafe old → CrashesDesk m old id new → IsSafe new
+crashed_desk_safe {S} {V} m old id new was (step.idle desk now at none by view) =
     subst IsSafe (sym view) (desk_idles old id desk now (abandoned old.flow id) was at (ap (λ (d : DeskView V). d.id) by.crashed) (ap (λ (d : DeskView V). d.round) by.crashed)
     (crashed_fit desk now (ap (λ (d : DeskView V). d.cache) by.crashed))
     (λ caller at_caller. record {
@@ -306,7 +327,7 @@ crashes_proposer_safe {S} {V} m old id new was (step.idle desk now at none by vi
       reserved = (idle_at (era_at old id) caller (queue_at old.flow id) desk.round none (was.parties id desk caller at at_caller).round).reserved;
     })
     (length-set old.flow.own id (emptied (queue_at old.flow id))) (left_alone old.flow id))
-crashes_proposer_safe {S} {V} m old id new was (step.closes desk now round of_call at some by view) =
+crashed_desk_safe {S} {V} m old id new was (step.closes desk now round of_call at some by view) =
     let caller = of_call.caller in
     let call = of_call.call in
     subst IsSafe (sym view) (call_idles old id caller (record caller { call = Some (closed_by_crash call) }) desk now (abandoned old.flow id) old.marks was of_call.at_caller at
@@ -314,10 +335,20 @@ crashes_proposer_safe {S} {V} m old id new was (step.closes desk now round of_ca
     (λ other is. subst (λ (c : CallView). 0 < c.reserved) (some_is is) (omega arith)) (none_left old.flow id) (length-set old.flow.own id (emptied (queue_at old.flow id))) (left_alone old.flow id) (omega arith)
     (omega (arith, ap reserved_in of_call.is_open, call_reserves_at old id caller call desk was of_call.at_caller of_call.is_open at)))
 
+pub broken_off_safe : {S V : Type 0} (old : View S V) → IsSafe old → IsSafe (broken_off_view old)
+broken_off_safe old was =
+    council_safe old (abandoned old.flow exchange_place) (crashed_in old.council) old.marks was (length-set old.flow.own exchange_place (emptied (queue_at old.flow exchange_place))) (left_alone old.flow exchange_place) (omega arith)
+    (subst (IsAskingSafe (option_map broken_off old.council.exchange)) (sym (queue_same old.flow.own exchange_place (emptied (queue_at old.flow exchange_place)) (omega (arith, was.own)))) (broken_safe old.council.exchange (queue_at old.flow exchange_place) was.asking))
+    (omega (arith, was.room, broken_reserved old.council.exchange))
+
+pub crashes_proposer_safe : {S V : Type 0} (m : Meaning S V) (old : View S V) (id : ℕ) (new : View S V) → IsSafe old → StepCrashProposer m old id new → IsSafe new
+crashes_proposer_safe m old id new was (step.of_client apart by) = crashed_desk_safe m old id new was by
+crashes_proposer_safe m old id new was (step.of_operator middle is_first by view) = subst IsSafe (sym view) (broken_off_safe middle (crashed_desk_safe m old id middle was by))
+
 pub restarts_proposer_safe : {S V : Type 0} (m : Meaning S V) (old : View S V) (id : ℕ) (new : View S V) → IsSafe old → StepRestartProposer m old id new → IsSafe new
 restarts_proposer_safe {S} {V} m old id new was (step.was_up_already desk at up view) = subst IsSafe (sym view) was
 restarts_proposer_safe {S} {V} m old id new was (step.restarts desk now at down by view) =
-    subst IsSafe (sym view) (safe_but old (with_desk old id now) id was (changes_desk old id now old.flow was refl (λ p other. refl))
+    subst IsSafe (sym view) (safe_but old (with_desk old id now) id was (desk_low old id desk was at) (changes_desk old id now old.flow was refl (λ p other. refl))
     (λ d caller at_d at_caller. subst (λ (x : DeskView V). IsPartySafe (era_at old id) (length old.marks) id x caller (queue_at old.flow id)) (sym (own_set old.desks id now d at_d))
     (let party = was.parties id desk caller at at_caller in
     let is = idle_at (era_at old id) caller (queue_at old.flow id) desk.round (party.idle down) party.round in
@@ -364,7 +395,7 @@ pub begin_stays_safe : {S V : Type 0} (old : View S V) (id : ℕ) (caller : Call
 begin_stays_safe {S} {V} old id caller call told new was at_caller is_open idle view =
     let next : CallerView = record caller { call = Some (over call told) } in
     let its = place_of_both old.callers old.desks id caller (was.callers ∙ sym was.desks) at_caller in
-    subst IsSafe (sym view) (safe_but old (with_call old id caller (over call told)) id was (changes_caller old id next old.flow old.marks was refl (λ p other. refl) (omega arith))
+    subst IsSafe (sym view) (safe_but old (with_call old id caller (over call told)) id was (caller_low old id caller was at_caller) (changes_caller old id next old.flow old.marks was refl (λ p other. refl) (omega arith))
     (λ desk c at_desk at_c. subst (λ (x : CallerView). IsPartySafe (era_at old id) (length old.marks) id desk x (queue_at old.flow id)) (sym (own_set old.callers id next c at_c))
     (let party = was.parties id desk caller at_desk at_caller in
     party_idle (era_at old id) (length old.marks) id desk next (queue_at old.flow id) party.same_id (idle desk at_desk) (idle_at (era_at old id) caller (queue_at old.flow id) desk.round (idle desk at_desk) party.round).none_waits

@@ -42,7 +42,7 @@ use Rattle.cas_cluster.specs.View.{Meaning, View, CallView, CallerView, IsAt, re
 use Rattle.cas_cluster.proofs.FrameSteps.{Thins, taken_own, taken_thins, same_asked, recalled}
 use Rattle.cas_cluster.proofs.Harms.{member_low}
 use Rattle.cas_cluster.proofs.Places.{own_set, other_set, at_one, some_is, queue_same, queue_other, has_queue, contains_at, contains_append, newest_or_older, contains_none}
-use Rattle.cas_cluster.proofs.SafeParts.{requests_append, length_with_member, low_at, at_low, reserved_set, safe_but, changes_all, more_by, KeepsIds, keeps_same, keeps_set}
+use Rattle.cas_cluster.proofs.SafeParts.{requests_append, length_with_member, low_at, at_low, reserved_set, safe_but, caller_low, changes_all, more_by, KeepsIds, keeps_same, keeps_set}
 use Rattle.cas_cluster.proofs.SafeStops.{asked_set, votes_few, reserves_one}
 
 -- ---- frames that are taken
@@ -50,7 +50,7 @@ abbrev queue_of : List Message → Bool → ℕ → QueueView
 queue_of messages again room = record { messages = messages; again = again; room = room }
 
 -- so many marks may be made as a queue goes on, and there is room for the replies still, beside so many more
-record Counts (queue rest : QueueView) (votes more : ℕ) : Type 0 where
+pub record Counts (queue rest : QueueView) (votes more : ℕ) : Type 0 where
   pub count : votes + 2 * requests_in rest.messages + handled_once queue ≤ 2 * requests_in queue.messages + handled_once rest
   pub room : requests_in queue.messages ≤ queue.room + handled_once queue → requests_in rest.messages ≤ rest.room - more + handled_once rest
 
@@ -94,13 +94,13 @@ handled_append true (message.Request request ∷ rest) reply = refl
 handled_append true (message.Reply other ∷ rest) reply = refl
 
 -- ---- what becomes of a proposer's frames
-record Moves (asked : List ℕ) (queue rest : QueueView) (votes : ℕ) : Type 0 where
+pub record Moves (asked : List ℕ) (queue rest : QueueView) (votes : ℕ) : Type 0 where
   pub about : (each : Message) → Contains rest.messages each → Contains queue.messages each ⊎ (has_member asked (head_of each).1 ≡ true)
   pub requests : (request : Request) → Contains rest.messages (message.Request request) → Contains queue.messages (message.Request request)
   pub counted : Counts queue rest votes 0
 
 -- the first one is taken
-taken_moves : (flow : FlowView) (id : ℕ) (v : Verdict) {front : Message} (asked : List ℕ) → slice_get (queue_at flow id).messages 0 ≡ Some front → Moves asked (queue_at flow id) (queue_at (taken flow id v) id) 0
+pub taken_moves : (flow : FlowView) (id : ℕ) (v : Verdict) {front : Message} (asked : List ℕ) → slice_get (queue_at flow id).messages 0 ≡ Some front → Moves asked (queue_at flow id) (queue_at (taken flow id v) id) 0
 taken_moves flow id v {front} asked e = record {
   about = λ each h. inl ((taken_thins flow id v e).before each h);
   requests = λ request h. (taken_thins flow id v e).before (message.Request request) h;
@@ -114,7 +114,7 @@ replied_own flow id v reply e =
     (omega (arith, has_queue flow.own id e, length-set flow.own id (queue_after (queue_at flow id) v)))
 
 -- and its reply waits behind the others
-replied_moves : (flow : FlowView) (id : ℕ) (v : Verdict) (request : Request) (reply : Reply) (asked : List ℕ) (votes : ℕ) → slice_get (queue_at flow id).messages 0 ≡ Some (message.Request request)
+pub replied_moves : (flow : FlowView) (id : ℕ) (v : Verdict) (request : Request) (reply : Reply) (asked : List ℕ) (votes : ℕ) → slice_get (queue_at flow id).messages 0 ≡ Some (message.Request request)
     → fall_of (queue_at flow id).again v ≡ Handle → has_member asked reply.from ≡ true → votes ≤ 1 → Moves asked (queue_at flow id) (queue_at (replied_flow flow id v reply) id) votes
 replied_moves flow id v request reply asked votes e handle member few = subst (λ (q : QueueView). Moves asked (queue_at flow id) q votes) (sym (replied_own flow id v reply e)) (record {
   about = λ each h. elim (contains_append (queue_at (taken flow id v) id).messages (message.Reply reply ∷ []) h) [
@@ -145,11 +145,11 @@ replied_moves flow id v request reply asked votes e handle member few = subst (�
 
 -- ---- what a call spends
 -- the acceptors are some of those that were asked
-abbrev IsWithin : List ℕ → List ℕ → Type 0
+abbrev pub IsWithin : List ℕ → List ℕ → Type 0
 IsWithin asked harmed = (a : ℕ) → has_member harmed a ≡ true → has_member asked a ≡ true
 
 -- of the marks that it reserved, so many for votes; those that were harmed stay some of those that were asked
-record Spends (asked : List ℕ) (call new : CallView) (votes : ℕ) : Type 0 where
+pub record Spends (asked : List ℕ) (call new : CallView) (votes : ℕ) : Type 0 where
   pub key : new.key ≡ call.key
   pub proposed : new.proposed ≡ call.proposed
   pub harmed_set : IsMemberSet new.harmed
@@ -170,7 +170,7 @@ harmed_if call acceptor b = record call {
   reserved = if b then call.reserved else call.reserved - 1;
 }
 
-spends_harm : (asked : List ℕ) (call : CallView) (acceptor : ℕ) → IsMemberSet call.harmed → IsWithin asked call.harmed → acceptor < 64 → has_member asked acceptor ≡ true → Spends asked call (harmed_by call acceptor) 0
+pub spends_harm : (asked : List ℕ) (call : CallView) (acceptor : ℕ) → IsMemberSet call.harmed → IsWithin asked call.harmed → acceptor < 64 → has_member asked acceptor ≡ true → Spends asked call (harmed_by call acceptor) 0
 spends_harm asked call acceptor set within low member = by_test (has_member call.harmed acceptor) refl
   where
     by_test : (b : Bool) → has_member call.harmed acceptor ≡ b → Spends asked call (harmed_if call acceptor b) 0
@@ -291,17 +291,17 @@ some_reserved era caller queue round prep acc was = omega (arith, reserves_one e
 
 -- ---- a turn
 -- frames of other proposers stay
-record KeepsOthers (old new : FlowView) (id : ℕ) : Type 0 where
+pub record KeepsOthers (old new : FlowView) (id : ℕ) : Type 0 where
   pub own : length new.own ≡ length old.own
   pub others : (p : ℕ) → (p ≡ id → ⊥) → queue_at new p ≡ queue_at old p
 
-taken_others : (flow : FlowView) (id : ℕ) (v : Verdict) → KeepsOthers flow (taken flow id v) id
+pub taken_others : (flow : FlowView) (id : ℕ) (v : Verdict) → KeepsOthers flow (taken flow id v) id
 taken_others flow id v = record {
   own = length-set flow.own id (queue_after (queue_at flow id) v);
   others = λ p other. queue_other flow.own id p (queue_after (queue_at flow id) v) other;
 }
 
-replied_others : (flow : FlowView) (id : ℕ) (v : Verdict) (reply : Reply) → KeepsOthers flow (replied_flow flow id v reply) id
+pub replied_others : (flow : FlowView) (id : ℕ) (v : Verdict) (reply : Reply) → KeepsOthers flow (replied_flow flow id v reply) id
 replied_others flow id v reply = record {
   own = length-set (taken flow id v).own id (pushed (queue_at (taken flow id v) id) (message.Reply reply)) ∙ (taken_others flow id v).own;
   others = λ p other. queue_other (taken flow id v).own id p (pushed (queue_at (taken flow id v) id) (message.Reply reply)) other ∙ (taken_others flow id v).others p other;
@@ -321,7 +321,7 @@ turned : {S V : Type 0} (old : View S V) (id : ℕ) (caller : CallerView) (call 
     → Spends (asked_in (era_at old id) round.phase) call new votes → Moves (asked_in (era_at old id) round.phase) (queue_at old.flow id) (queue_at flow id) votes → (is_preparing round.phase ≡ true → votes ≡ 0)
     → IsSafe (record old { acceptors = acceptors; desks = desks; callers = slice_set old.callers id (recalled caller new); flow = flow; marks = old.marks ++ more })
 turned {S} {V} old id caller call new acceptors desks flow more desk next round now votes was at_caller is_open at_desk is_round next_is safe same stays ids keeps others fits spends moves unvoted =
-    safe_but old (record old { acceptors = acceptors; desks = desks; callers = slice_set old.callers id (recalled caller new); flow = flow; marks = old.marks ++ more }) id was
+    safe_but old (record old { acceptors = acceptors; desks = desks; callers = slice_set old.callers id (recalled caller new); flow = flow; marks = old.marks ++ more }) id was (caller_low old id caller was at_caller)
     (changes_all old id acceptors desks (recalled caller new) flow (old.marks ++ more) ids.length (ids.ids was.acceptor_ids) keeps.length keeps.others others.own others.others (more_by old.marks more))
     (λ d c at_d at_c. subst (λ (x : DeskView V). IsPartySafe (era_at old id) (length (old.marks ++ more)) id x c (queue_at flow id)) (sym (keeps.own d at_d))
     (subst (λ (x : CallerView). IsPartySafe (era_at old id) (length (old.marks ++ more)) id next x (queue_at flow id)) (sym (own_set old.callers id (recalled caller new) c at_c))

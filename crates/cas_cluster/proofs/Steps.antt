@@ -25,7 +25,7 @@ use Rattle.cas_cluster.specs.History.{IsRemembered}
 use Rattle.cas_cluster.specs.Parties.{AreMessagesTrue, IsPrepareTrue, IsAcceptTrue, IsRoundTrue, IsOpenTrue, IsDeskTrue, IsToldTrue, IsCallTrue}
 use Rattle.cas_cluster.specs.Protocol.{Made, GlobalState}
 use Rattle.cas_cluster.specs.Step as step
-use Rattle.cas_cluster.specs.Step.{Step, StepBegin, StepPropose, StepCount, StepEnd, StepCrashAcceptor, StepRestartAcceptor, StepCrashProposer, StepRestartProposer, OpenCallAt, OpenRoundAt, closed_by_crash}
+use Rattle.cas_cluster.specs.Step.{Step, StepBegin, StepPropose, StepCount, StepEnd, StepCrashAcceptor, StepRestartAcceptor, CrashesDesk, StepCrashProposer, StepRestartProposer, OpenCallAt, OpenRoundAt, closed_by_crash}
 use Rattle.cas_cluster.specs.StepCalls as calls
 use Rattle.cas_cluster.specs.StepCalls.{round_marks, Opens, BeginsRound, RefusesCall, ProposesOrEnds, CountsOrEnds, EndsCall, over, with_call, tried_again}
 use Rattle.cas_cluster.specs.View.{Meaning, View, CallView, CallerView, IsAt, with_acceptor, with_desk, with_caller, era_at}
@@ -34,6 +34,7 @@ use Rattle.cas_cluster.specs.StepDesks.{Crashes}
 use Rattle.cas_cluster.proofs.Around.{Whole, whole_of, remembered, around, settles, leaves_desk}
 use Rattle.cas_cluster.proofs.Asks.{asked_marks}
 use Rattle.cas_cluster.proofs.Beginnings.{begins_to_prepare, prepare_request}
+use Rattle.cas_cluster.proofs.CouncilSteps as council
 use Rattle.cas_cluster.proofs.CallSteps.{anew, opens, marked}
 use Rattle.cas_cluster.proofs.CountSteps.{counts, ends_call, restarts}
 use Rattle.cas_cluster.proofs.Draws.{drew, drew_log, drew_marks}
@@ -246,13 +247,17 @@ crash_told log all id number call was = call_told log all id number call (if is_
     by_proposed None none some = record { refused = λ e. none refl; unsettled = λ e. absurd (cc e); harmed = omega arith }
     by_proposed (Some outcome) none some = record { refused = λ e. absurd (cc e); unsettled = λ e. some refl; harmed = omega arith }
 
-crashes_proposer : {S V : Type 0} (m : Meaning S V) (old : View S V) (id : ℕ) (new : View S V) → m.disks.tells → IsRemembered m old → StepCrashProposer m old id new → IsRemembered m new
-crashes_proposer m old id new tells is (step.idle desk now at none by view) =
+pub crashed_desk : {S V : Type 0} (m : Meaning S V) (old : View S V) (id : ℕ) (new : View S V) → m.disks.tells → IsRemembered m old → CrashesDesk m old id new → IsRemembered m new
+crashed_desk m old id new tells is (step.idle desk now at none by view) =
     subst (IsRemembered m) (sym view) (remembered m is.cluster is.global (record (with_desk old id now) { flow = abandoned old.flow id }) (idle_crash m is.cluster is.global old id desk now tells at none by (whole_of m old is)) is.agrees.marks)
-crashes_proposer m old id new tells is (step.closes desk now round of_call at some by view) =
+crashed_desk m old id new tells is (step.closes desk now round of_call at some by view) =
     subst (IsRemembered m) (sym view) (remembered m is.cluster is.global (record (with_call (with_desk old id now) id of_call.caller (closed_by_crash of_call.call)) { flow = abandoned old.flow id })
     (crashes_desk m is.cluster is.global old id of_call.caller of_call.call (closed_by_crash of_call.call) desk now tells of_call.at_caller of_call.is_open at by
     (crash_told is.global.log is.global.made id of_call.caller.number of_call.call ((is.agrees.callers id of_call.caller of_call.at_caller).call of_call.call of_call.is_open)) (whole_of m old is)) is.agrees.marks)
+
+crashes_proposer : {S V : Type 0} (m : Meaning S V) (old : View S V) (id : ℕ) (new : View S V) → m.disks.tells → IsRemembered m old → StepCrashProposer m old id new → IsRemembered m new
+crashes_proposer m old id new tells is (step.of_client apart by) = crashed_desk m old id new tells is by
+crashes_proposer m old id new tells is (step.of_operator middle is_first by view) = subst (IsRemembered m) (sym view) (council.breaks_off m middle (crashed_desk m old id middle tells is by))
 
 restarts_proposer : {S V : Type 0} (m : Meaning S V) (old : View S V) (id : ℕ) (new : View S V) → m.disks.tells → IsRemembered m old → StepRestartProposer m old id new → IsRemembered m new
 restarts_proposer m old id new tells is (step.was_up_already desk at up view) = subst (IsRemembered m) (sym view) is
@@ -275,3 +280,10 @@ keeps m old (step.CrashAcceptor id) new shelves disks is by = crashes_acceptor m
 keeps m old (step.RestartAcceptor id) new shelves disks is by = restarts_acceptor m old id new shelves is by
 keeps m old (step.CrashProposer id) new shelves disks is by = crashes_proposer m old id new disks is by
 keeps m old (step.RestartProposer id) new shelves disks is by = restarts_proposer m old id new disks is by
+keeps m old (step.Order asked) new shelves disks is by = council.orders m old asked new is by
+keeps m old step.RefuseOrder new shelves disks is by = subst (IsRemembered m) (sym by) is
+keeps m old (step.Tell answer) new shelves disks is by = council.tells m old answer new is by
+keeps m old (step.AskAll question) new shelves disks is by = council.asks_all m old question new disks is by
+keeps m old (step.TurnExchange verdict) new shelves disks is by = council.turns_exchange m old verdict new shelves is by
+keeps m old step.RefuseTurnExchange new shelves disks is by = council.refuses_exchange m old new shelves is by
+keeps m old step.Gather new shelves disks is by = council.gathers m old new is by

@@ -48,8 +48,9 @@ use Rattle.cas_cache.specs.declared.ready.Ready.{Ready}
 use Rattle.cas_change.specs.declared.outcome.Took.TheVariants.{Clause as ByClause}
 use Rattle.cas_record.specs.Places.{here, past}
 use Rattle.cas_record.specs.Witness.{three, key_a, at}
+use Rattle.cas_cluster.specs.Council.{no_council}
 use Rattle.cas_cluster.specs.Parties.{IsWithin}
-use Rattle.cas_cluster.specs.Step.{Begin, Turn, Propose, Count, End, Stray, CrashAcceptor, RestartAcceptor, CrashProposer, RestartProposer, Step, IsOpening, IsFreshAcceptor, IsFreshDesk, History, opens, steps, crashes, starts, closes, restarts}
+use Rattle.cas_cluster.specs.Step.{Begin, Turn, Propose, Count, End, Stray, CrashAcceptor, RestartAcceptor, CrashProposer, RestartProposer, Step, IsOpening, IsFreshAcceptor, IsFreshDesk, History, opens, steps, crashes, starts, of_client, closes, restarts}
 use Rattle.cas_cluster.specs.StepAcceptors.{AnswersByTable, StopsWithin}
 use Rattle.cas_cluster.specs.StepCalls as calls
 use Rattle.cas_cluster.specs.StepCalls.{Sends, prepares_to, accepts_to}
@@ -129,7 +130,7 @@ module _ {D : Type 0} (begun : Vault D) where
 
   -- what waits for proposer 1, how many more have room, and what is late
   abbrev flow_of : List Message → ℕ → List Message → FlowView
-  flow_of messages room late = record { own = slice_set (replicate 17 empty_queue) 1 (record { messages = messages; again = false; room = room }); late = late }
+  flow_of messages room late = record { own = slice_set (replicate 18 empty_queue) 1 (record { messages = messages; again = false; room = room }); late = late }
 
   -- proposer 1 and its caller among the others, with acceptors 1 to 3
   abbrev seen : AcceptorView ToyShelf → AcceptorView ToyShelf → AcceptorView ToyShelf → DeskView ToyDisk → CallerView → FlowView → List Mark → View ToyShelf ToyDisk
@@ -140,6 +141,7 @@ module _ {D : Type 0} (begun : Vault D) where
     desks = idle_desk 0 ∷ desk ∷ idle_desk 2 ∷ [];
     callers = new_caller ∷ caller ∷ new_caller ∷ [];
     flow = flow;
+    council = no_council;
     marks = marks;
   }
 
@@ -185,6 +187,7 @@ module _ {D : Type 0} (begun : Vault D) where
   unfolding members_where
   is_opening = record {
     eras = refl;
+    council = refl;
     few = omega arith;
     member_set = record { lists = refl };
     some = omega arith;
@@ -758,8 +761,8 @@ module _ {D : Type 0} (begun : Vault D) where
   view_crashed = with_other down_other (record { number = 1; call = Some call_crashed }) queue_left late_other marks_other
 
   step_crashed : Step toys view_met (CrashProposer 2) view_crashed
-  step_crashed = closes desk_other down_other (preparing other []) (record { caller = caller_other; at_caller = refl; call = new_call key_a program 19; is_open = refl }) refl refl
-      (record { crashed = refl; goes_on = goes_on 1 1 (omega arith) }) refl
+  step_crashed = of_client (λ same. cc same) (closes desk_other down_other (preparing other []) (record { caller = caller_other; at_caller = refl; call = new_call key_a program 19; is_open = refl }) refl refl
+      (record { crashed = refl; goes_on = goes_on 1 1 (omega arith) }) refl)
 
   abbrev marks_crashed : List Mark
   marks_crashed = marks_other ++ Ended 2 1 1 answer.Crashed ∷ []

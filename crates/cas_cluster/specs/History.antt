@@ -6,7 +6,7 @@ use Rattle.cas_acceptor.specs.Acceptor.{AcceptorView}
 use Rattle.cas_proposer.specs.Desk.{DeskView}
 use Rattle.cas_record.specs.Happening.{marks_of}
 use Rattle.cas_record.specs.Lawful.{Cluster, ClusterMeets}
-use Rattle.cas_cluster.specs.Parties.{IsAcceptorTrue, AreMessagesTrue, IsEraOf, IsDeskTrue, IsCallerTrue}
+use Rattle.cas_cluster.specs.Parties.{IsAcceptorTrue, AreMessagesTrue, IsEraOf, IsDeskTrue, IsCouncilTrue, IsCallerTrue}
 use Rattle.cas_cluster.specs.Protocol.{GlobalState, HasHistory}
 use Rattle.cas_cluster.specs.View.{Meaning, View, CallerView, IsAt, era_at}
 
@@ -19,6 +19,7 @@ pub record AgreesWith {S V : Type 0} (m : Meaning S V) (cluster : Cluster) (glob
   pub acceptors : (id : ℕ) (acceptor : AcceptorView S) → IsAt view.acceptors id acceptor → IsAcceptorTrue m global.log id (global.kept id) acceptor
   pub desks : (id : ℕ) (desk : DeskView V) (caller : CallerView) → IsAt view.desks id desk → IsAt view.callers id caller → IsDeskTrue m cluster global.log global.made (era_at view id).number id caller (queue_at view.flow id).messages desk
   pub callers : (id : ℕ) (caller : CallerView) → IsAt view.callers id caller → IsCallerTrue global.log global.made id caller
+  pub council : IsCouncilTrue global.log view.council
   pub own : (id : ℕ) → AreMessagesTrue global.log (queue_at view.flow id).messages
   pub late : AreMessagesTrue global.log view.flow.late
 

@@ -1,4 +1,5 @@
 pub mod Acceptors
+pub mod Council
 pub mod Desks
 pub mod Held
 pub mod History
@@ -11,6 +12,7 @@ pub mod SafeLaws
 pub mod Step
 pub mod StepAcceptors
 pub mod StepCalls
+pub mod StepCouncil
 pub mod StepDesks
 pub mod StepFrames
 pub mod View

@@ -40,9 +40,11 @@ use Rattle.cas_record.specs.Legal.{HasProposal, HasFloor, IsProposed, IsEnded, I
 use Rattle.cas_record.specs.Orderly.{IsAboveFloors}
 use Rattle.cas_record.specs.Places.{Stands}
 use Rattle.cas_cluster.specs.Acceptors.{IsLeft}
+use Rattle.cas_record.specs.declared.operator.Probe.{Probe as Answered}
+use Rattle.cas_cluster.specs.Council.{ExchangeView, Council}
 use Rattle.cas_cluster.specs.Proposers.{AllRide}
 use Rattle.cas_cluster.specs.Protocol.{Made, HasMade}
-use Rattle.cas_cluster.specs.View.{DiskMeaning, Meaning, CallView, CallerView}
+use Rattle.cas_cluster.specs.View.{DiskMeaning, Meaning, CallView, CallerView, IsAt}
 
 -- ---- acceptors
 -- One that is up keeps this, and a crash leaves just that. One that is down leaves that, or what the answer to a
@@ -224,6 +226,27 @@ pub record IsDeskTrue {S V : Type 0} (m : Meaning S V) (cluster : Cluster) (log 
   pub one_each : HaveOneEach desk.cache
   pub none_open : HasNone desk.round desk.cache
   pub round : IsOpenTrue cluster log all id era caller waiting desk.round
+
+-- ---- the operator
+-- a reply was made in which the acceptor told it
+pub record WasToldBy (log : List Happening) (acceptor : ℕ) (told : Tell) : Type 0 where
+  pub reply : Reply
+  pub made : WasMade log reply
+  pub same_from : reply.from ≡ acceptor
+  pub same_tell : reply.tell ≡ told
+
+abbrev pub WereTold : List Happening → List Answered → Type 0
+WereTold log answers = (place : ℕ) (answer : Answered) (told : Tell) → IsAt answers place answer → answer.told ≡ Some told → WasToldBy log answer.acceptor told
+
+-- the tag of an exchange was drawn, and what its members told was told in replies that were made
+pub record IsExchangeTrue (log : List Happening) (exchange : ExchangeView) : Type 0 where
+  pub own : exchange.tag.proposer ≡ 0
+  pub era : ℕ
+  pub drawn : Stands (Drew exchange.tag [] era) log
+  pub told : WereTold log exchange.told
+
+abbrev pub IsCouncilTrue : List Happening → Council → Type 0
+IsCouncilTrue log council = (exchange : ExchangeView) → council.exchange ≡ Some exchange → IsExchangeTrue log exchange
 
 -- ---- callers
 -- what the call made is acknowledged

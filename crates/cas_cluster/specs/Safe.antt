@@ -18,9 +18,10 @@ use Rattle.cas_quorum.specs.declared.era.Era.{Era}
 use Rattle.cas_round.specs.Replies.{is_prepare}
 use Rattle.cas_slot.specs.Message.{phase_of}
 use Rattle.cas_slot.specs.declared.message.Request.{Request}
+use Rattle.cas_cluster.specs.Council.{ExchangeView, ask_of, exchange_place}
 use Rattle.cas_cluster.specs.Parties.{asked_in}
 use Rattle.cas_cluster.specs.StepCalls.{most_marks}
-use Rattle.cas_cluster.specs.View.{View, CallView, CallerView, IsAt, era_at, reserved_of}
+use Rattle.cas_cluster.specs.View.{View, CallView, CallerView, IsAt, era_at, reserved_in_all}
 
 -- ---- frames that wait
 -- how many of them are requests
@@ -79,6 +80,24 @@ pub record IsPartySafe {V : Type 0} (era : Era) (marks id : ℕ) (desk : DeskVie
   -- there is room for the reply to each request that was not handled yet
   pub room : requests_in queue.messages ≤ queue.room + handled_once queue
 
+-- ---- exchanges
+-- Each frame is to or from one of its members, and each request asks its question. The marks of the harms that may still come are
+-- reserved, and there is room for the reply to each request that was not handled yet.
+pub record IsExchangeSafe (exchange : ExchangeView) (queue : QueueView) : Type 0 where
+  pub tag : FitsBallot exchange.tag
+  pub member_set : IsMemberSet exchange.members
+  pub about : (each : Message) → Contains queue.messages each → has_member exchange.members (head_of each).1 ≡ true
+  pub asks : (request : Request) → Contains queue.messages (message.Request request) → request.ask ≡ ask_of exchange.tag exchange.question
+  pub harmed_set : IsMemberSet exchange.harmed
+  pub harmed_within : (acceptor : ℕ) → has_member exchange.harmed acceptor ≡ true → has_member exchange.members acceptor ≡ true
+  pub reserved : length exchange.members ≤ exchange.reserved + length exchange.harmed
+  pub room : requests_in queue.messages ≤ queue.room + handled_once queue
+
+-- where none is open, no frame waits
+abbrev pub IsAskingSafe : Option ExchangeView → QueueView → Type 0
+IsAskingSafe None queue = queue.messages ≡ []
+IsAskingSafe (Some exchange) queue = IsExchangeSafe exchange queue
+
 -- ---- the whole
 pub record IsSafe {S V : Type 0} (view : View S V) : Type 0 where
   pub few : view.greatest ≤ 16
@@ -89,6 +108,7 @@ pub record IsSafe {S V : Type 0} (view : View S V) : Type 0 where
   pub acceptor_ids : (id : ℕ) (acceptor : AcceptorView S) → IsAt view.acceptors id acceptor → acceptor.id ≡ id
   pub desks : length view.desks ≡ suc view.greatest
   pub callers : length view.callers ≡ suc view.greatest
-  pub own : length view.flow.own ≡ 17
+  pub own : length view.flow.own ≡ 18
   pub parties : (id : ℕ) (desk : DeskView V) (caller : CallerView) → IsAt view.desks id desk → IsAt view.callers id caller → IsPartySafe (era_at view id) (length view.marks) id desk caller (queue_at view.flow id)
-  pub room : length view.marks + reserved_of view.callers ≤ most_marks
+  pub asking : IsAskingSafe view.council.exchange (queue_at view.flow exchange_place)
+  pub room : length view.marks + reserved_in_all view ≤ most_marks

@@ -15,12 +15,16 @@ use Rattle.cas_proposer.specs.declared.round.Round.{Round}
 use Rattle.cas_record.specs.declared.answer.Answer.{Answer}
 use Rattle.cas_record.specs.declared.answer.Answer.TheVariants as answer
 use Rattle.cas_record.specs.declared.answer.Cause.TheVariants as cause
+use Rattle.cas_record.specs.declared.operator.Asked.{Asked}
+use Rattle.cas_record.specs.declared.operator.OpAnswer.{OpAnswer}
+use Rattle.cas_cluster.specs.Council.{Question, no_council, exchange_place, crashed_in}
 use Rattle.cas_cluster.specs.Parties.{IsWithin}
 use Rattle.cas_cluster.specs.StepAcceptors.{CrashesShelf, StartsShelf, FailsToStart}
 use Rattle.cas_cluster.specs.StepCalls.{most_marks, Opens, BeginsRound, RefusesCall, ProposesOrEnds, CountsOrEnds, EndsCall, telling, with_call}
+use Rattle.cas_cluster.specs.StepCouncil.{with_council, StepOrder, StepTell, StepAskAll, StepTurnExchange, StepRefuseTurnExchange, StepGather}
 use Rattle.cas_cluster.specs.StepDesks.{Crashes, Restarts}
 use Rattle.cas_cluster.specs.StepFrames.{TakesTurn, FindsNoRoom, Strays}
-use Rattle.cas_cluster.specs.View.{Meaning, CallView, CallerView, View, IsAt, new_caller, reserved_of, with_acceptor, with_desk}
+use Rattle.cas_cluster.specs.View.{Meaning, CallView, CallerView, View, IsAt, new_caller, reserved_in_all, with_acceptor, with_desk}
 
 -- ---- the calls
 pub data Event : Type 0 where
@@ -43,6 +47,15 @@ pub data Event : Type 0 where
   RestartAcceptor : (id : ℕ) → Event
   CrashProposer : (proposer : ℕ) → Event
   RestartProposer : (proposer : ℕ) → Event
+  -- the operator's call begins, or is refused, and is told its answer
+  Order : (asked : Asked) → Event
+  RefuseOrder : Event
+  Tell : (answer : OpAnswer) → Event
+  -- proposer 0 asks all members; the first frame of that has its turn, or no memory is found for it; and what was told is gathered
+  AskAll : (question : Question) → Event
+  TurnExchange : (verdict : Verdict) → Event
+  RefuseTurnExchange : Event
+  Gather : Event
 
 -- ---- what they do
 -- a call is begun or goes on, and its round begins, or its caller is told why not
@@ -103,7 +116,7 @@ pub record StepStray {S V : Type 0} (m : Meaning S V) (old : View S V) (index : 
   pub late : Message
   pub waits : slice_get old.flow.late index ≡ Some late
   -- there is room for a mark
-  pub room : length old.marks + reserved_of old.callers < most_marks
+  pub room : length old.marks + reserved_in_all old < most_marks
   pub strays : Strays m old index late new
 
 -- ---- stops
@@ -119,11 +132,20 @@ pub data StepRestartAcceptor {S V : Type 0} (m : Meaning S V) (old : View S V) (
 abbrev pub closed_by_crash : CallView → CallView
 closed_by_crash call = record call { reserved = 1; told = Some (if is_some call.proposed then answer.Unsettled cause.Crashed else answer.Crashed); is_closed = true }
 
--- a desk that crashes: the frames of its round join the late ones
-pub data StepCrashProposer {S V : Type 0} (m : Meaning S V) (old : View S V) (id : ℕ) (new : View S V) : Type 0 where
-  idle : (desk now : DeskView V) → IsAt old.desks id desk → desk.round ≡ None → Crashes m.disks desk now → new ≡ record (with_desk old id now) { flow = abandoned old.flow id } → StepCrashProposer m old id new
+-- a desk crashes: the frames of its round join the late ones
+pub data CrashesDesk {S V : Type 0} (m : Meaning S V) (old : View S V) (id : ℕ) (new : View S V) : Type 0 where
+  idle : (desk now : DeskView V) → IsAt old.desks id desk → desk.round ≡ None → Crashes m.disks desk now → new ≡ record (with_desk old id now) { flow = abandoned old.flow id } → CrashesDesk m old id new
   closes : (desk now : DeskView V) (round : Round) (of_call : OpenCallAt old id) → IsAt old.desks id desk → desk.round ≡ Some round → Crashes m.disks desk now
-      → new ≡ record (with_call (with_desk old id now) id of_call.caller (closed_by_crash of_call.call)) { flow = abandoned old.flow id } → StepCrashProposer m old id new
+      → new ≡ record (with_call (with_desk old id now) id of_call.caller (closed_by_crash of_call.call)) { flow = abandoned old.flow id } → CrashesDesk m old id new
+
+-- an exchange, if one is open, is broken off, and its frames join the late ones
+abbrev pub broken_off_view : {S V : Type 0} → View S V → View S V
+broken_off_view view = with_council (record view { flow = abandoned view.flow exchange_place }) (crashed_in view.council)
+
+-- only the operator has exchanges
+pub data StepCrashProposer {S V : Type 0} (m : Meaning S V) (old : View S V) (id : ℕ) (new : View S V) : Type 0 where
+  of_client : (id ≡ 0 → ⊥) → CrashesDesk m old id new → StepCrashProposer m old id new
+  of_operator : (middle : View S V) → id ≡ 0 → CrashesDesk m old id middle → new ≡ broken_off_view middle → StepCrashProposer m old id new
 
 pub data StepRestartProposer {S V : Type 0} (m : Meaning S V) (old : View S V) (id : ℕ) (new : View S V) : Type 0 where
   was_up_already : (desk : DeskView V) → IsAt old.desks id desk → desk.down ≡ false → new ≡ old → StepRestartProposer m old id new
@@ -144,6 +166,13 @@ Step m old (CrashAcceptor id) new = StepCrashAcceptor m old id new
 Step m old (RestartAcceptor id) new = StepRestartAcceptor m old id new
 Step m old (CrashProposer proposer) new = StepCrashProposer m old proposer new
 Step m old (RestartProposer proposer) new = StepRestartProposer m old proposer new
+Step m old (Order asked) new = StepOrder old asked new
+Step m old RefuseOrder new = new ≡ old
+Step m old (Tell answer) new = StepTell old answer new
+Step m old (AskAll question) new = StepAskAll m old question new
+Step m old (TurnExchange verdict) new = StepTurnExchange m old verdict new
+Step m old RefuseTurnExchange new = StepRefuseTurnExchange m old new
+Step m old Gather new = StepGather old new
 
 -- ---- the beginning
 -- it is up and keeps nothing, or never started
@@ -170,6 +199,7 @@ pub record IsOpening {S V : Type 0} (m : Meaning S V) (members : List ℕ) (view
   pub acceptors : (id : ℕ) (acceptor : AcceptorView S) → IsAt view.acceptors id acceptor → IsFreshAcceptor m id acceptor
   pub desks : (id : ℕ) (desk : DeskView V) → IsAt view.desks id desk → (id ≤ view.greatest) × IsFreshDesk m id desk
   pub callers : (id : ℕ) (caller : CallerView) → IsAt view.callers id caller → caller ≡ new_caller
+  pub council : view.council ≡ no_council
   pub flow : view.flow ≡ empty_flow
   pub marks : view.marks ≡ []
 

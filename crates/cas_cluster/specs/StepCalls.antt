@@ -27,6 +27,7 @@ use Rattle.cas_record.specs.declared.answer.Cause.{Cause}
 use Rattle.cas_record.specs.declared.answer.Cause.TheVariants as cause
 use Rattle.cas_record.specs.declared.mark.Mark.TheVariants.{Begun, Proposed, Acked, Ended}
 use Rattle.cas_record.specs.declared.mark.Proposal.{Proposal}
+use Rattle.cas_cluster.specs.Council.{reserved_by}
 use Rattle.cas_cluster.specs.Proposers.{state_read}
 use Rattle.cas_cluster.specs.StepDesks.{BeginsToPrepare, BeginsByPromise, TurnsWith, EndsRound, FailsToDraw, LosesMemory, HasKept}
 use Rattle.cas_cluster.specs.View.{Meaning, CallView, CallerView, View, IsAt, era_at, new_call, new_caller, reserved_of, with_desk, with_caller, with_marks}
@@ -58,13 +59,17 @@ most_marks = 1000000
 abbrev pub round_marks : Era → ℕ
 round_marks era = 4 * length (union_of era.prep era.acc) + 8
 
--- so many may be reserved for the caller's call, beside the marks that are made and those that others reserved
+-- how many marks are made or reserved by others
+abbrev pub marks_beside : {S V : Type 0} → View S V → ℕ → ℕ
+marks_beside view id = length view.marks + reserved_of (slice_set view.callers id new_caller) + reserved_by view.council
+
+-- so many may be reserved for the caller's call beside them
 abbrev pub HasRoom : {S V : Type 0} → View S V → ℕ → ℕ → Type 0
-HasRoom view id reserved = length view.marks + reserved_of (slice_set view.callers id new_caller) + reserved ≤ most_marks
+HasRoom view id reserved = marks_beside view id + reserved ≤ most_marks
 
 -- the round's marks do not fit beside them
 abbrev pub IsFull : {S V : Type 0} → View S V → ℕ → Type 0
-IsFull view id = most_marks < length view.marks + reserved_of (slice_set view.callers id new_caller) + round_marks (era_at view id)
+IsFull view id = most_marks < marks_beside view id + round_marks (era_at view id)
 
 -- a new call, with its mark
 abbrev pub opened : {S V : Type 0} → View S V → ℕ → CallerView → List ℕ → List Clause → View S V

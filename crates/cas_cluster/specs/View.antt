@@ -12,6 +12,7 @@ use Rattle.cas_proposer.specs.Desk.{DeskView}
 use Rattle.cas_flow.specs.Flow.{FlowView}
 use Rattle.cas_record.specs.declared.answer.Answer.{Answer}
 use Rattle.cas_record.specs.declared.mark.Mark.{Mark}
+use Rattle.cas_cluster.specs.Council.{Council, reserved_by}
 
 -- ---- what disks mean
 -- what a shelf holds, what a crash may leave of it, where shelves tell that, and its count of faults
@@ -78,9 +79,15 @@ pub record View (S V : Type 0) : Type 0 where
   pub acceptors : List (AcceptorView S)
   pub desks : List (DeskView V)
   pub callers : List CallerView
+  -- what the operator has under way
+  pub council : Council
   pub flow : FlowView
   -- in the order in which they were made
   pub marks : List Mark
+
+-- how many marks are reserved in all
+abbrev pub reserved_in_all : {S V : Type 0} → View S V → ℕ
+reserved_in_all view = reserved_of view.callers + reserved_by view.council
 
 -- ---- parts of it
 -- the era in which a proposer works; a number that no proposer has is in one without members

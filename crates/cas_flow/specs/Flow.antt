@@ -7,13 +7,13 @@ use Rattle.cas_flow.specs.declared.fall.Fall.{Fall}
 use Rattle.cas_flow.specs.declared.fall.Fall.TheVariants.{Handle, Gone, Held}
 use Rattle.cas_flow.specs.Queue.{QueueView, empty_queue, popped, fall_of, joined}
 
--- the queue of each proposer, 0 first, and the late messages
+-- the queue of each proposer, 0 first, that of the exchange, and the late messages
 pub record FlowView : Type 0 where
   pub own : List QueueView
   pub late : List Message
 
 abbrev pub empty_flow : FlowView
-empty_flow = record { own = replicate 17 empty_queue; late = [] }
+empty_flow = record { own = replicate 18 empty_queue; late = [] }
 
 abbrev pub queue_at : FlowView → ℕ → QueueView
 queue_at flow proposer = slice_index_or flow.own proposer empty_queue

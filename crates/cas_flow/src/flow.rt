@@ -13,7 +13,8 @@ use cas_fate::{Leg, Verdict};
 use std::alloc::{AllocError, Global};
 use std::marker::Model;
 
-/// For each proposer, 0 to 16, the queue of its own frames, and one pool of late frames, whose room is taken at once.
+/// For each proposer, 0 to 16, the queue of its own frames, in place 17 that of the exchange with all members, and one pool of late frames,
+/// whose room is taken at once.
 ///
 /// It is seen as lists of messages. Only the calls that answer `AllocError` take memory.
 #[derive(Drop)]
@@ -30,8 +31,8 @@ impl Model for Flow {
 
     ghost view = { λ flow. record { own = flow.own.items; late = flow.late } };
 
-    // Each proposer has a queue.
-    ghost invariant = { λ flow. vec_len flow.own ≡ 17 };
+    // Each proposer has a queue, and so has the exchange.
+    ghost invariant = { λ flow. vec_len flow.own ≡ 18 };
 }
 
 impl Flow {
@@ -49,7 +50,7 @@ impl Flow {
 
     /// Makes room for so many more own frames of the proposer. All frames stay, and after an `Err` all is as before.
     pub fn reserve_own(&mut self, proposer: u8, frames: usize) -> Result<(), AllocError>
-        requires { proposer ≤ 16 }
+        requires { proposer ≤ 17 }
         ensures same { self.new ≡ with_queue self.old proposer (record (queue_at self.old proposer) { room = (queue_at self.new proposer).room }) }
         ensures ok { OnOk result (frames ≤ (queue_at self.new proposer).room) }
         ensures grows { (queue_at self.old proposer).room ≤ (queue_at self.new proposer).room }
@@ -60,7 +61,7 @@ impl Flow {
 
     /// One more own frame of the proposer, behind its others. There is room for it, and it is not blank.
     pub fn push_own(&mut self, proposer: u8, frame: Frame)
-        requires proposer { proposer ≤ 16 }
+        requires proposer { proposer ≤ 17 }
         requires room { 0 < (queue_at self.old proposer).room }
         requires bears { IsSome frame }
         ensures { IfSome frame (λ message. self.new ≡ with_queue self.old proposer (pushed (queue_at self.old proposer) message)) }
@@ -79,7 +80,7 @@ impl Flow {
     /// The leg of the proposer's first frame, and the acceptor at its other end. `None` comes exactly where the proposer has no
     /// own frame.
     pub fn front(&self, proposer: u8) -> Option<(Leg, AcceptorId)>
-        requires { proposer ≤ 16 }
+        requires { proposer ≤ 17 }
         ensures { result ≡ option_map head_of (slice_get (queue_at self.now proposer).messages 0) }
     {
         match self.own[usize::from(proposer)].front() {
@@ -90,7 +91,7 @@ impl Flow {
 
     /// The proposer's first frame, which is not blank. `None` comes exactly where the proposer has no own frame.
     pub fn look(&self, proposer: u8) -> Option<&Frame>
-        requires { proposer ≤ 16 }
+        requires { proposer ≤ 17 }
         ensures { MatchOption result ((queue_at self.now proposer).messages ≡ []) (λ frame. (frame.now ≡ slice_get (queue_at self.now proposer).messages 0) × IsSome frame.now) }
     {
         self.own[usize::from(proposer)].front()
@@ -98,7 +99,7 @@ impl Flow {
 
     /// What the verdict means for the proposer's first frame. In its second turn it is handled whatever the verdict.
     pub fn falls(&self, proposer: u8, verdict: Verdict) -> Fall
-        requires proposer { proposer ≤ 16 }
+        requires proposer { proposer ≤ 17 }
         requires front { (queue_at self.now proposer).messages ≢ [] }
         ensures { result ≡ fall_of (queue_at self.now proposer).again verdict }
     {
@@ -108,7 +109,7 @@ impl Flow {
     /// Carries out what [`Flow::falls`] tells. A frame that is handled leaves, unless a second turn follows; one that is gone
     /// leaves, and joins the late ones or is lost; one that is held stays.
     pub fn take(&mut self, proposer: u8, verdict: Verdict)
-        requires proposer { proposer ≤ 16 }
+        requires proposer { proposer ≤ 17 }
         requires front { (queue_at self.old proposer).messages ≢ [] }
         ensures { self.new ≡ taken self.old proposer verdict }
     {
@@ -145,7 +146,7 @@ impl Flow {
 
     /// The proposer's own frames join the late ones, in their order. Those that find no room are lost.
     pub fn abandon(&mut self, proposer: u8)
-        requires { proposer ≤ 16 }
+        requires { proposer ≤ 17 }
         ensures { self.new ≡ abandoned self.old proposer }
     {
         settle::abandon(&mut self.own[usize::from(proposer)], &mut self.late);

@@ -7,8 +7,8 @@ use std::alloc::{AllocError, Global};
 use std::collections::VecDeque;
 use std::marker::Model;
 
-/// How many queues there are: one for each proposer, from 0 on.
-const QUEUES: usize = 17;
+/// How many queues there are: one for each proposer, from 0 on, and that of the exchange.
+const QUEUES: usize = 18;
 
 /// The own frames of one proposer, in the order in which they are handled. They are seen as their messages, with whether the first
 /// was handled once of two times, and how many more frames have room.
@@ -94,9 +94,9 @@ impl Queue {
     }
 }
 
-/// An empty queue for each proposer.
+/// An empty queue for each proposer, and one for the exchange.
 pub(crate) fn empty_queues(alloc: Global) -> Result<Vec<Queue>, AllocError>
-    ensures { IfOk result (λ queues. queues.items ≡ replicate 17 empty_queue) }
+    ensures { IfOk result (λ queues. queues.items ≡ replicate 18 empty_queue) }
 {
     let mut queues = Vec::with_capacity(alloc, QUEUES)?;
     for _ in 0..QUEUES {

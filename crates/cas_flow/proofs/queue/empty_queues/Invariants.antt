@@ -6,5 +6,5 @@ abbrev pub invariant-loop : goal.invariant-loop
 invariant-loop l = record {
   made : l.queues.items ≡ replicate l.counter empty_queue;
   count : vec_len l.queues ≡ l.counter;
-  room : 17 ≤ vec_capacity l.queues;
+  room : 18 ≤ vec_capacity l.queues;
 }

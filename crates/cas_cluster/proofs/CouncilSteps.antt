@@ -1,0 +1,456 @@
+-- What the operator's calls do to what is remembered: a call is opened and told, all members are asked, they answer, and what they told
+-- is gathered.
+use Rattle.std.proofs.Common.{◌≡◌, ◌<◌, ℕ, suc, Bool, true, false, List, [], ◌∷◌, ◌++◌, Option, None, Some, reverse, refl, sym, ap, subst, ◌∙◌, inl, inr, arith}
+use Rattle.std.specs.Prelude.{◌⊎◌, ◌||◌, zero, map, position, option_map, slice_get, slice_set}
+use Rattle.std.specs.Option.{option_map_or}
+use Rattle.cas_base.proofs.Bools.{or_cases, if_true, if_false}
+use Rattle.cas_ballot.specs.declared.ballot.Ballot.{Ballot}
+use Rattle.cas_ballot.specs.Members.{has_member, union_of}
+use Rattle.cas_ballot.proofs.MemberLemmas.{members_where_tells, IsMemberSet-members_where}
+use Rattle.cas_flow.specs.Flow.{FlowView, queue_at, taken, abandoned}
+use Rattle.cas_flow.specs.declared.message.Message.{Message}
+use Rattle.cas_cache.specs.declared.ready.Ready.{Ready}
+use Rattle.cas_change.specs.declared.state.State.{State}
+use Rattle.cas_proposer.specs.Desk.{DeskView, counter_without}
+use Rattle.cas_proposer.specs.declared.round.Round.{Round}
+use Rattle.cas_quorum.specs.declared.era.Era.{Era}
+use Rattle.cas_round.proofs.Lists.{Has}
+use Rattle.cas_slot.specs.declared.message.Ask.TheVariants as ask
+use Rattle.cas_vault.specs.Vault.{counter_of, kept_of}
+use Rattle.cas_slot.specs.declared.message.Reply.{Reply}
+use Rattle.cas_slot.specs.declared.message.Tell.{Tell}
+use Rattle.cas_record.specs.declared.operator.Probe.{Probe as Answered}
+use Rattle.cas_cluster.specs.Step.{broken_off_view}
+use Rattle.cas_slot.specs.declared.message.Request.{Request}
+use Rattle.cas_record.specs.declared.mark.Mark.{Mark}
+use Rattle.cas_record.specs.declared.mark.Mark.TheVariants.{Told, Harmed}
+use Rattle.cas_record.specs.declared.operator.Asked.{Asked as OperatorAsked}
+use Rattle.cas_record.specs.declared.operator.OpAnswer.{OpAnswer}
+use Rattle.cas_record.specs.declared.operator.OpAnswer.TheVariants as told
+use Rattle.cas_record.specs.Happening.{Happening, Marked, Asked, marks_of}
+use Rattle.cas_record.specs.Lawful.{Cluster}
+use Rattle.cas_fate.specs.declared.fate.Verdict.{Verdict}
+use Rattle.cas_flow.specs.Queue.{QueueView}
+use Rattle.cas_cluster.specs.StepCalls.{Sends}
+use Rattle.cas_cluster.specs.StepFrames.{replied_flow, votes_marked}
+use Rattle.cas_cluster.proofs.AcceptorSteps.{answered_global, answers, reply_made, stops_within}
+use Rattle.cas_cluster.proofs.Harms.{member_low, has_member_of}
+use Rattle.cas_cluster.specs.Acceptors.{IsElsewhere}
+use Rattle.cas_cluster.specs.Council.{Question, Probe, ExchangeView, Council, no_council, exchange_place, telling, broken_off, crashed_in}
+use Rattle.cas_cluster.specs.History.{IsRemembered}
+use Rattle.cas_cluster.specs.Parties.{AreMessagesTrue, IsEraOf, IsExchangeTrue, IsCouncilTrue, IsInHand, IsOpenTrue, IsDeskTrue, IsMessageTrue, WasMade, WereTold}
+use Rattle.cas_cluster.specs.Protocol.{GlobalState, HasHistory, Harms, TellsOperator, with_mark}
+use Rattle.cas_cluster.specs.StepDesks.{MayHaveDrawn, HasDrawn, LosesMemory, FailsToDraw}
+use Rattle.cas_cluster.specs.StepCouncil as council
+use Rattle.cas_cluster.specs.StepCouncil.{question_to, StepOrder, StepTell, StepGather, Gathers, with_council, with_exchange, told_view, gathered, told_marks, harm_marks, harmed_exchange, questions_to, everyone, new_exchange, awaits, hears, harms, MayAskAll, AsksAll, StepAskAll, TurnsExchange, StepTurnExchange, StepRefuseTurnExchange}
+use Rattle.cas_cluster.specs.View.{DiskMeaning, Meaning, View, CallerView, IsAt, era_at, with_desk, with_acceptor}
+use Rattle.cas_cluster.proofs.Around.{Whole, whole_of, remembered, around, settles, parties_more, Everyone, leaves_desk}
+use Rattle.cas_cluster.proofs.Asks.{asked_log, asked_global, asked_around, asked_vault, asked_caller, asked_still, asked_hand, asked_later, asked_messages, asked_marks, asked_ready, may_probe}
+use Rattle.cas_cluster.proofs.Draws.{drew, drew_in_hand, drew_marks}
+use Rattle.cas_cluster.proofs.EndSteps.{lost, none_left, others_left, all_joined_true, IsQuiet, quiet_true, quiet_fails}
+use Rattle.cas_cluster.proofs.Events.{keeps}
+use Rattle.cas_cluster.proofs.FrameSteps.{marked, taken_flows, replied_flows, answer_marks, refuses_stray}
+use Rattle.cas_cluster.proofs.RoundSteps.{none_waits}
+use Rattle.cas_cluster.proofs.Others.{IsOfOthers, acceptor_still}
+use Rattle.cas_cluster.proofs.Places.{same_or_not, some_is, at_one, contains_none, at_set, own_set, but_set, contains_append, contains_at}
+
+-- ---- what the operator has under way
+-- something else is under way, and is so
+pub counsels : {S V : Type 0} (m : Meaning S V) (cluster : Cluster) (global : GlobalState) (view : View S V) (next : Council) → IsCouncilTrue global.log next → Whole m cluster global view → Whole m cluster global (with_council view next)
+counsels m cluster global view next is whole = record {
+  meets = whole.meets;
+  history = whole.history;
+  acceptors = whole.acceptors;
+  parties = record {
+    greatest = whole.parties.greatest;
+    few = whole.parties.few;
+    eras = whole.parties.eras;
+    desks = whole.parties.desks;
+    callers = whole.parties.callers;
+    council = is;
+    own = whole.parties.own;
+    late = whole.parties.late;
+  };
+}
+
+-- the frames of the exchange go on, and all are as the log tells
+pub record ReFlows (log : List Happening) (old new : FlowView) : Type 0 where
+  pub others : (p : ℕ) → (p ≡ exchange_place → ⊥) → (queue_at new p).messages ≡ (queue_at old p).messages
+  pub own : AreMessagesTrue log (queue_at new exchange_place).messages
+  pub late : AreMessagesTrue log new.late
+
+pub reflows : {S V : Type 0} (m : Meaning S V) (cluster : Cluster) (global : GlobalState) (old : View S V) (flow : FlowView) → ReFlows global.log old.flow flow → Whole m cluster global old → Whole m cluster global (record old { flow = flow })
+reflows {S} {V} m cluster global old flow flows whole = record {
+  meets = whole.meets;
+  history = whole.history;
+  acceptors = whole.acceptors;
+  parties = record {
+    greatest = whole.parties.greatest;
+    few = whole.parties.few;
+    eras = whole.parties.eras;
+    desks = λ p these desk caller at_desk at_caller.
+        let of = whole.parties.desks p these desk caller at_desk at_caller in
+        subst (λ (l : List Message). IsDeskTrue m cluster global.log global.made (era_at old p).number p caller l desk) (sym (flows.others p (λ same. omega (arith, same, of.known, whole.parties.greatest, whole.parties.few)))) of;
+    callers = whole.parties.callers;
+    council = whole.parties.council;
+    own = λ p. own p (same_or_not p exchange_place);
+    late = flows.late;
+  };
+}
+  where
+    own : (p : ℕ) → (p ≡ exchange_place) ⊎ (p ≡ exchange_place → ⊥) → AreMessagesTrue global.log (queue_at flow p).messages
+    own p (inl same) = subst (λ (q : ℕ). AreMessagesTrue global.log (queue_at flow q).messages) (sym same) flows.own
+    own p (inr other) = subst (AreMessagesTrue global.log) (sym (flows.others p other)) (whole.parties.own p)
+
+-- its frames join the late ones
+pub abandoned_flows : (log : List Happening) (flow : FlowView) → AreMessagesTrue log (queue_at flow exchange_place).messages → AreMessagesTrue log flow.late → ReFlows log flow (abandoned flow exchange_place)
+abandoned_flows log flow own late = record {
+  others = others_left flow exchange_place;
+  own = subst (AreMessagesTrue log) (sym (none_left flow exchange_place)) (λ each has_it. absurd (contains_none has_it));
+  late = all_joined_true log (queue_at flow exchange_place).messages flow.late own late;
+}
+
+-- ---- a mark of nobody's
+-- the log goes on with what is no deed of any proposer or acceptor
+pub whole_more : {S V : Type 0} (m : Meaning S V) (cluster : Cluster) (global : GlobalState) (view : View S V) (h : Happening) → ((p : ℕ) → IsOfOthers p h) → ((a : ℕ) → IsElsewhere a h) → HasHistory cluster (with_mark global h)
+    → Whole m cluster global view → Whole m cluster (with_mark global h) view
+whole_more m cluster global view h others elsewhere history whole = record {
+  meets = whole.meets;
+  history = history;
+  acceptors = λ a acceptor at. acceptor_still m cluster h global.log a (global.kept a) history.lawful (elsewhere a) (whole.acceptors a acceptor at);
+  parties = parties_more m cluster global.log global.made view Everyone h history.orderly (λ p these. others p) whole.parties;
+}
+
+-- ---- the operator's call
+pub orders : {S V : Type 0} (m : Meaning S V) (old : View S V) (asked : OperatorAsked) (new : View S V) → IsRemembered m old → StepOrder old asked new → IsRemembered m new
+orders m old asked new is by =
+    subst (IsRemembered m) (sym by.view) (remembered m is.cluster is.global _ (counsels m is.cluster is.global old _ is.agrees.council (whole_of m old is)) is.agrees.marks)
+
+-- it is told something
+pub tells_view : {S V : Type 0} (m : Meaning S V) (cluster : Cluster) (global : GlobalState) (view : View S V) (answer : OpAnswer) → Whole m cluster global view → Whole m cluster global (told_view view answer)
+tells_view m cluster global view answer whole = counsels m cluster global view (telling view.council answer) whole.parties.council whole
+
+-- it is over, and so is an exchange
+closes : {S V : Type 0} (m : Meaning S V) (cluster : Cluster) (global : GlobalState) (old : View S V) → Whole m cluster global old → Whole m cluster global (record (with_council old no_council) { flow = abandoned old.flow exchange_place })
+closes m cluster global old whole =
+    counsels m cluster global (record old { flow = abandoned old.flow exchange_place }) no_council (λ exchange open_. absurd (cc open_))
+    (reflows m cluster global old (abandoned old.flow exchange_place) (abandoned_flows global.log old.flow (whole.parties.own exchange_place) whole.parties.late) whole)
+
+-- the mark of what it was told, where it leaves one
+record IsToldTo {S V : Type 0} (m : Meaning S V) (cluster : Cluster) (global : GlobalState) (view : View S V) (marks : List Mark) : Type 0 where
+  pub after : GlobalState
+  pub whole : Whole m cluster after view
+  pub marks_are : marks_of after.log ≡ reverse marks ++ marks_of global.log
+
+told_to : {S V : Type 0} (m : Meaning S V) (cluster : Cluster) (global : GlobalState) (view : View S V) (asked : OperatorAsked) (answer : OpAnswer) → Whole m cluster global view → IsToldTo m cluster global view (told_marks asked answer)
+told_to {S} {V} m cluster global view asked answer whole = by_case answer
+  where
+    marks : (answer : OpAnswer) → IsToldTo m cluster global view (Told asked answer ∷ [])
+    marks answer = record {
+      after = with_mark global (Marked (Told asked answer));
+      whole = whole_more m cluster global view (Marked (Told asked answer)) (λ p. tt) (λ a. tt) (keeps cluster whole.meets global whole.history (TellsOperator asked answer)) whole;
+      marks_are = refl;
+    }
+
+    by_case : (answer : OpAnswer) → IsToldTo m cluster global view (told_marks asked answer)
+    by_case (told.Probed key found) = record { after = global; whole = whole; marks_are = refl }
+    by_case (told.Joined id era rescanned) = marks (told.Joined id era rescanned)
+    by_case (told.Left id era rescanned) = marks (told.Left id era rescanned)
+    by_case (told.Refused fault) = marks (told.Refused fault)
+    by_case (told.Busy era) = marks (told.Busy era)
+    by_case (told.Collected key ballot removed kept) = marks (told.Collected key ballot removed kept)
+    by_case (told.NotEmpty version) = marks (told.NotEmpty version)
+    by_case (told.Absent acceptor) = marks (told.Absent acceptor)
+    by_case (told.ProposerDown proposer) = marks (told.ProposerDown proposer)
+    by_case (told.Stopped answer) = marks (told.Stopped answer)
+
+pub tells : {S V : Type 0} (m : Meaning S V) (old : View S V) (answer : OpAnswer) (new : View S V) → IsRemembered m old → StepTell old answer new → IsRemembered m new
+tells m old answer new is by =
+    let closed = closes m is.cluster is.global old (whole_of m old is) in
+    let told = told_to m is.cluster is.global _ by.order.asked answer closed in
+    subst (IsRemembered m) (sym by.view) (marked m is.cluster told.after (record (with_council old no_council) { flow = abandoned old.flow exchange_place }) (told_marks by.order.asked answer) (marks_of is.global.log) told.whole is.agrees.marks told.marks_are)
+
+-- ---- what was told is gathered
+pub gathers : {S V : Type 0} (m : Meaning S V) (old : View S V) (new : View S V) → IsRemembered m old → StepGather old new → IsRemembered m new
+gathers {S} {V} m old new is by = by_case by.gathers
+  where
+    over : (answer : OpAnswer) → IsRemembered m (gathered old answer)
+    over answer = remembered m is.cluster is.global (gathered old answer) (counsels m is.cluster is.global old _ (λ exchange open_. absurd (cc open_)) (whole_of m old is)) is.agrees.marks
+
+    by_case : Gathers old by.at.exchange new → IsRemembered m new
+    by_case (council.crashed crashed view) = subst (IsRemembered m) (sym view) (over _)
+    by_case (council.probed key found up question found_is view) = subst (IsRemembered m) (sym view) (over _)
+    by_case (council.no_memory up view) = subst (IsRemembered m) (sym view) (remembered m is.cluster is.global _ (tells_view m is.cluster is.global old _ (whole_of m old is)) is.agrees.marks)
+
+-- ---- all members are asked
+-- a desk that drew a ballot for a tag, or none, is as one that lost its memory after a draw
+drew_only : {V : Type 0} (m : DiskMeaning V) (desk now : DeskView V) (tag : Option Ballot) → desk.round ≡ None → MayHaveDrawn m desk.id desk.vault now.vault tag → now ≡ record desk { vault = now.vault } → LosesMemory m [] desk now tag
+drew_only {V} m desk now tag idle drawn is_now = record {
+  desk = is_now ∙ ap (λ (c : List (List ℕ × Ready)). record desk { vault = now.vault; cache = c }) (sym cache) ∙ ap (λ (r : Option Round). record desk { vault = now.vault; cache = now.cache; round = r }) idle;
+  cache = inl cache;
+  middle = now.vault;
+  drawn = drawn;
+  counter = sym (ap (λ (r : Option Round). counter_without r (counter_of now.vault)) idle);
+  kept = refl;
+  goes_on = record { still_past = λ tells n past. past; era = λ tells era other is. is; never_falls = omega arith };
+}
+  where
+    cache : now.cache ≡ desk.cache
+    cache = ap (λ (d : DeskView V). d.cache) is_now
+
+-- the members of an era are members of the cluster in it
+member_in : (cluster : Cluster) (era : Era) (to : ℕ) → IsEraOf cluster era → has_member (union_of era.prep era.acc) to ≡ true → has_member (cluster.members era.number) to ≡ true
+member_in cluster era to is has = elim (or_cases (has_member era.prep to) (has_member era.acc to) (members_where_tells (λ n. has_member era.prep n || has_member era.acc n) to has)) [
+  | inl prepares ↦ is.prep_members to prepares
+  | inr accepts ↦ is.acc_members to accepts
+]
+
+-- each of them is asked
+asks_whole : {S V : Type 0} (m : Meaning S V) (cluster : Cluster) (global : GlobalState) (view : View S V) (age : ℕ) (tag : Ballot) (key : List ℕ) (tos : List ℕ) (desk : DeskView V) (caller : CallerView) → IsAt view.desks 0 desk → IsAt view.callers 0 caller → desk.round ≡ None
+    → IsInHand global.log 0 (era_at view 0).number [] tag → ((to : ℕ) → Has to tos → (has_member (cluster.members (era_at view 0).number) to ≡ true) × (to < 64))
+    → Whole m cluster global view → Whole m cluster (asked_global global (question_to age tag (Probe key)) tos) view
+asks_whole {S} {V} m cluster global view age tag key tos desk caller at_desk at_caller idle hand members whole =
+    settles m cluster (asked_global global f tos) view view 0
+    (asked_around m cluster global view 0 f tos (λ to. refl) (λ rest to h. may_probe cluster (asked_global global f rest) (f to) 0 era key tag refl refl (members to h).0 (omega arith) (members to h).1 (asked_hand f rest global.log 0 era [] tag hand)) (around m cluster global view 0 whole))
+    (record { greatest = refl; eras = refl; acceptors = refl; desks = λ p d other at. at; callers = λ p c other at. at; council = refl; own = λ p other. refl })
+    (record {
+      desk = λ d c at_d at_c. still d c at_d at_c (whole.parties.desks 0 tt d c at_d at_c) (ap (λ (x : DeskView V). x.round) (at_one view.desks 0 at_d at_desk) ∙ idle);
+      caller = λ c at_c. asked_caller f tos global.log global.made 0 c (whole.parties.callers 0 tt c at_c);
+      own = asked_still f tos global.log (queue_at view.flow 0).messages (whole.parties.own 0);
+      late = asked_still f tos global.log view.flow.late whole.parties.late;
+    })
+  where
+    era : ℕ
+    era = (era_at view 0).number
+
+    f : ℕ → Request
+    f = question_to age tag (Probe key)
+
+    log : List Happening
+    log = asked_log f tos global.log
+
+    not_accept : {to : ℕ} {request : Request} {k : List ℕ} {b : Ballot} {e : ℕ} {asked : Option Ballot} {state : State} → Asked request ≡ Asked (f to) → request.ask ≡ ask.Accept k b e asked state → ⊥
+    not_accept {to} {request} {k} {b} {e} {asked} {state} now is = let same : request ≡ f to = cc now in absurd (cc (is, ap (λ (q : Request). q.ask) same))
+
+    still : (d : DeskView V) (c : CallerView) → IsAt view.desks 0 d → IsAt view.callers 0 c → IsDeskTrue m cluster global.log global.made era 0 c (queue_at view.flow 0).messages d → d.round ≡ None
+        → IsDeskTrue m cluster log global.made era 0 c (queue_at view.flow 0).messages d
+    still d c at_d at_c of none = record {
+      same_id = of.same_id;
+      known = of.known;
+      vault = asked_vault m f tos global.log 0 era d.vault of.vault;
+      cached = asked_ready cluster f tos global.log global.made 0 era d.cache (λ to k ready has_it request e asked state now is. absurd (not_accept now is)) of.cached;
+      one_each = of.one_each;
+      none_open = of.none_open;
+      round = subst (IsOpenTrue cluster log global.made 0 era c (queue_at view.flow 0).messages) (sym none)
+          (none_waits cluster global.log global.made 0 era c (queue_at view.flow 0).messages d.round none of.round);
+    }
+
+-- a desk without an open round that stays quiet
+quiets_desk : {S V : Type 0} (m : Meaning S V) (cluster : Cluster) (global : GlobalState) (old : View S V) (id : ℕ) (desk now : DeskView V) → IsAt old.desks id desk → desk.round ≡ None
+    → ((caller : CallerView) → IsAt old.callers id caller → IsQuiet m cluster global.log global.made id (era_at old id).number now) → Whole m cluster global old → Whole m cluster global (with_desk old id now)
+quiets_desk {S} {V} m cluster global old id desk now at_desk idle quiet whole =
+    settles m cluster global old (with_desk old id now) id (around m cluster global old id whole) (leaves_desk old id now old.flow (λ p other. refl))
+    (record {
+      desk = λ d c at_d at_c.
+          let of = whole.parties.desks id tt desk c at_desk at_c in
+          let none = none_waits cluster global.log global.made id (era_at old id).number c (queue_at old.flow id).messages desk.round idle of.round in
+          subst (λ (x : DeskView V). IsDeskTrue m cluster global.log global.made (era_at old id).number id c (queue_at old.flow id).messages x) (sym (own_set old.desks id now d at_d))
+          (quiet_true m cluster global.log global.made id (era_at old id).number c (queue_at old.flow id).messages now none (quiet c at_c));
+      caller = λ c at_c. whole.parties.callers id tt c at_c;
+      own = whole.parties.own id;
+      late = whole.parties.late;
+    })
+
+-- a desk of proposer 0 whose vault fails in the draw of the tag
+fails_whole : {S V : Type 0} (m : Meaning S V) (cluster : Cluster) (global : GlobalState) (old : View S V) (id : ℕ) (key : List ℕ) (desk now : DeskView V) → m.disks.tells → IsAt old.desks id desk → desk.round ≡ None → FailsToDraw m.disks key desk now
+    → Whole m cluster global old → Whole m cluster global (with_desk old id now)
+fails_whole m cluster global old id key desk now tells at_desk idle by whole =
+    quiets_desk m cluster global old id desk now at_desk idle
+    (λ c at_c. quiet_fails m cluster global.log global.made id (era_at old id).number c (queue_at old.flow id).messages key desk now tells (whole.parties.desks id tt desk c at_desk at_c) by) whole
+
+-- at first no member has told anything
+none_told : (members : List ℕ) (place : ℕ) (answer : Answered) (told : Tell) → IsAt (map (λ member. record { acceptor = member; told = None }) members) place answer → answer.told ≡ Some told → ⊥
+none_told [] place answer told at is = cc at
+none_told (member ∷ members) zero answer told at is = cc (is, ap (λ (a : Answered). a.told) (some_is at))
+none_told (member ∷ members) (suc place) answer told at is = none_told members place answer told at is
+
+pub asks_all : {S V : Type 0} (m : Meaning S V) (old : View S V) (question : Question) (new : View S V) → m.disks.tells → IsRemembered m old → StepAskAll m old question new → IsRemembered m new
+asks_all {S} {V} m old (Probe key) new tells is by = by_case by.asks
+  where
+    may : MayAskAll old (Probe key) by.desk
+    may = by.may
+
+    whole : Whole m is.cluster is.global old
+    whole = whole_of m old is
+
+    era : ℕ
+    era = (era_at old 0).number
+
+    of : IsDeskTrue m is.cluster is.global.log is.global.made era 0 may.caller (queue_at old.flow 0).messages by.desk
+    of = whole.parties.desks 0 tt by.desk may.caller may.at_desk may.at_caller
+
+    era_is : IsEraOf is.cluster (era_at old 0)
+    era_is = whole.parties.eras 0 (omega arith)
+
+    -- a tag is drawn, or none
+    drawn_whole : (now : DeskView V) (tag : Option Ballot) → MayHaveDrawn m.disks by.desk.id by.desk.vault now.vault tag → now ≡ record by.desk { vault = now.vault } → Whole m is.cluster (drew is.global tag [] era) (with_desk old 0 now)
+    drawn_whole now tag drawn is_now = lost m is.cluster is.global old 0 [] by.desk now tag tells may.at_desk may.idle (drew_only m.disks by.desk now tag may.idle drawn is_now) may.caller may.at_caller whole
+
+    -- the open call is told something
+    told_one : (view : View S V) (global : GlobalState) (answer : OpAnswer) → Whole m is.cluster global view → marks_of global.log ≡ reverse view.marks → IsRemembered m (told_view view answer)
+    told_one view global answer then_ marks = remembered m is.cluster global (told_view view answer) (tells_view m is.cluster global view answer then_) marks
+
+    asked : (now : DeskView V) (tag : Ballot) (flow : FlowView) → HasDrawn m.disks by.desk.id by.desk.vault now.vault tag → now ≡ record by.desk { vault = now.vault }
+        → Sends old.flow exchange_place (questions_to (kept_of by.desk.vault).age tag (Probe key) (everyone old)) flow
+        → IsRemembered m (with_exchange (record (with_desk old 0 now) { flow = flow }) (new_exchange (Probe key) tag (everyone old)))
+    asked now tag flow drawn is_now sends =
+        let before : GlobalState = drew is.global (Some tag) [] era in
+        let view : View S V = with_desk old 0 now in
+        let age : ℕ = (kept_of by.desk.vault).age in
+        let f : ℕ → Request = question_to age tag (Probe key) in
+        let hand : IsInHand before.log 0 era [] tag =
+        drew_in_hand m is.cluster is.global 0 era [] by.desk.vault now.vault tag of.known (subst (λ (i : ℕ). HasDrawn m.disks i by.desk.vault now.vault tag) of.same_id drawn) of.vault whole.history in
+        let then_ : Whole m is.cluster (asked_global before f (everyone old)) view =
+        asks_whole m is.cluster before view age tag key (everyone old) now may.caller (at_set old.desks 0 by.desk now may.at_desk) may.at_caller (ap (λ (d : DeskView V). d.round) is_now ∙ may.idle) hand
+        (λ to h. let has = has_member_of to (everyone old) h in (member_in is.cluster (era_at old 0) to era_is has, member_low (everyone old) to (IsMemberSet-members_where (λ n. has_member (era_at old 0).prep n || has_member (era_at old 0).acc n)) has))
+        (drawn_whole now (Some tag) drawn is_now) in
+        let log : List Happening = asked_log f (everyone old) before.log in
+        let flows : ReFlows log old.flow flow = record {
+          others = λ p other. ap (λ (q : QueueView). q.messages) (sends.others p other);
+          own = subst (AreMessagesTrue log) (sym sends.own) (λ each h. elim (contains_append (queue_at old.flow exchange_place).messages (questions_to age tag (Probe key) (everyone old)) h) [
+            | inl front ↦ then_.parties.own exchange_place each front
+            | inr back ↦ asked_messages f (everyone old) before.log each back
+          ]);
+          late = subst (AreMessagesTrue log) (sym sends.late) then_.parties.late;
+        } in
+        let moved : View S V = record view { flow = flow } in
+        remembered m is.cluster (asked_global before f (everyone old)) (with_exchange moved (new_exchange (Probe key) tag (everyone old)))
+        (counsels m is.cluster (asked_global before f (everyone old)) moved _ (λ exchange open_. subst (IsExchangeTrue log) (some_is open_) (record {
+          own = hand.own;
+          era = era;
+          drawn = asked_later f (everyone old) before.log hand.drawn;
+          told = λ place answer told at is_told. absurd (none_told (everyone old) place answer told at is_told);
+        })) (reflows m is.cluster (asked_global before f (everyone old)) view flow flows then_))
+        (asked_marks f (everyone old) before.log ∙ drew_marks is.global.log [] era (Some tag) ∙ is.agrees.marks)
+
+    by_case : AsksAll m old (Probe key) by.desk new → IsRemembered m new
+    by_case (council.asks now tag flow up room drawn is_now sends view) = subst (IsRemembered m) (sym view) (asked now tag flow drawn is_now sends)
+    by_case (council.is_down down view) = subst (IsRemembered m) (sym view) (told_one old is.global _ whole is.agrees.marks)
+    by_case (council.is_full up full view) = subst (IsRemembered m) (sym view) (told_one old is.global _ whole is.agrees.marks)
+    by_case (council.is_spent now up spent kept is_now view) = subst (IsRemembered m) (sym view) (told_one (with_desk old 0 now) is.global _ (drawn_whole now None kept is_now) is.agrees.marks)
+    by_case (council.fails now up by_fault view) =
+        subst (IsRemembered m) (sym view) (told_one (with_desk old 0 now) is.global _ (fails_whole m is.cluster is.global old 0 [] by.desk now tells may.at_desk may.idle by_fault whole) is.agrees.marks)
+    by_case (council.no_memory now tag up by_loss view) =
+        subst (IsRemembered m) (sym view) (told_one (with_desk old 0 now) (drew is.global tag [] era) _
+        (lost m is.cluster is.global old 0 [] by.desk now tag tells may.at_desk may.idle by_loss may.caller may.at_caller whole) (drew_marks is.global.log [] era tag ∙ is.agrees.marks))
+
+-- ---- a turn of the exchange
+-- a reply that was made tells what its sender told
+heard_told : (log : List Happening) (reply : Reply) (told : List Answered) (place : Option ℕ) → WasMade log reply → WereTold log told
+    → WereTold log (option_map_or (λ at. slice_set told at (record { acceptor = reply.from; told = Some reply.tell })) place told)
+heard_told log reply told None made were place answer tell at is = were place answer tell at is
+heard_told log reply told (Some here) made were place answer tell at is = elim (but_set told here (record { acceptor = reply.from; told = Some reply.tell }) place answer at) [
+  | inl same ↦ record { reply = reply; made = made; same_from = ap (λ (a : Answered). a.acceptor) (sym same.1); same_tell = some_is (ap (λ (a : Answered). a.told) (sym same.1) ∙ is) }
+  | inr other ↦ were place answer tell other.1 is
+]
+
+-- a frame to or from the member is harmed, and marked once
+record IsHarmedBy {S V : Type 0} (m : Meaning S V) (cluster : Cluster) (global : GlobalState) (view : View S V) (exchange : ExchangeView) (member : ℕ) (down : Bool) : Type 0 where
+  pub after : GlobalState
+  pub whole : Whole m cluster after view
+  pub marks : marks_of after.log ≡ reverse (harm_marks exchange member down) ++ marks_of global.log
+
+harms_by : {S V : Type 0} (m : Meaning S V) (cluster : Cluster) (global : GlobalState) (view : View S V) (exchange : ExchangeView) (member : ℕ) (down : Bool) → Whole m cluster global view → IsHarmedBy m cluster global view exchange member down
+harms_by {S} {V} m cluster global view exchange member down whole = by_test (has_member exchange.harmed member) refl
+  where
+    by_test : (b : Bool) → has_member exchange.harmed member ≡ b → IsHarmedBy m cluster global view exchange member down
+    by_test true e = record { after = global; whole = whole; marks = sym (ap (λ (l : List Mark). reverse l ++ marks_of global.log) (if_true (has_member exchange.harmed member) [] (Harmed 0 0 down ∷ []) e)) }
+    by_test false e = record {
+      after = with_mark global (Marked (Harmed 0 0 down));
+      whole = whole_more m cluster global view (Marked (Harmed 0 0 down)) (λ p. tt) (λ a. tt) (keeps cluster whole.meets global whole.history (Harms 0 0 down)) whole;
+      marks = sym (ap (λ (l : List Mark). reverse l ++ marks_of global.log) (if_false (has_member exchange.harmed member) [] (Harmed 0 0 down ∷ []) e));
+    }
+
+-- the first frame is taken
+taken_reflows : (log : List Happening) (flow : FlowView) (verdict : Verdict) {front : Message} → slice_get (queue_at flow exchange_place).messages 0 ≡ Some front → AreMessagesTrue log (queue_at flow exchange_place).messages → AreMessagesTrue log flow.late
+    → ReFlows log flow (taken flow exchange_place verdict)
+taken_reflows log flow verdict e own late = let flows = taken_flows log flow exchange_place verdict e own late in record { others = flows.others; own = flows.own; late = flows.late }
+
+harmed_turn : {S V : Type 0} (m : Meaning S V) (cluster : Cluster) (global : GlobalState) (view : View S V) (verdict : Verdict) (front : Message) (exchange : ExchangeView) (member : ℕ) (down : Bool) → view.council.exchange ≡ Some exchange
+    → slice_get (queue_at view.flow exchange_place).messages 0 ≡ Some front → marks_of global.log ≡ reverse view.marks → Whole m cluster global view
+    → IsRemembered m (harms (record view { flow = taken view.flow exchange_place verdict }) exchange member down)
+harmed_turn m cluster global view verdict front exchange member down is_open in_front marks whole =
+    let is = harms_by m cluster global view exchange member down whole in
+    let was = is.whole.parties.council exchange is_open in
+    let moved = record view { flow = taken view.flow exchange_place verdict } in
+    marked m cluster is.after (with_exchange moved (harmed_exchange exchange member)) (harm_marks exchange member down) (marks_of global.log)
+    (counsels m cluster is.after moved _ (λ other open_. subst (IsExchangeTrue is.after.log) (some_is open_) (record { own = was.own; era = was.era; drawn = was.drawn; told = was.told }))
+    (reflows m cluster is.after view (taken view.flow exchange_place verdict) (taken_reflows is.after.log view.flow verdict in_front (is.whole.parties.own exchange_place) is.whole.parties.late) is.whole))
+    marks is.marks
+
+pub turns_exchange : {S V : Type 0} (m : Meaning S V) (old : View S V) (verdict : Verdict) (new : View S V) → m.shelves.tells → IsRemembered m old → StepTurnExchange m old verdict new → IsRemembered m new
+turns_exchange {S} {V} m old verdict new tells is step = by_turn step.turn
+  where
+    exchange : ExchangeView
+    exchange = step.at.exchange
+
+    whole : Whole m is.cluster is.global old
+    whole = whole_of m old is
+
+    in_front : {each : Message} → step.front ≡ each → slice_get (queue_at old.flow exchange_place).messages 0 ≡ Some each
+    in_front same = step.waits ∙ ap (λ (each : Message). Some each) same
+
+    front_true : {each : Message} → step.front ≡ each → IsMessageTrue is.global.log each
+    front_true {each} same = whole.parties.own exchange_place each (contains_at (queue_at old.flow exchange_place).messages 0 each (in_front same))
+
+    by_turn : TurnsExchange m old verdict step.front exchange new → IsRemembered m new
+    by_turn (council.held fall view) = subst (IsRemembered m) (sym view) is
+    by_turn (council.gone fall view) = subst (IsRemembered m) (sym view) (harmed_turn m is.cluster is.global old verdict step.front exchange _ false step.at.is_open step.waits is.agrees.marks whole)
+    by_turn (council.answers request acceptor now reply fall front at by view) =
+        let answered = answered_global is.global request reply (m.shelves.contents now.shelf) in
+        let then_ = answers m is.cluster is.global old request reply acceptor now tells at by (front_true front) whole in
+        let flows = replied_flows answered.log old.flow exchange_place verdict reply (in_front front) (then_.parties.own exchange_place) then_.parties.late (reply_made m is.global request reply acceptor now by) in
+        subst (IsRemembered m) (sym view)
+        (marked m is.cluster answered (record (with_acceptor old request.to now) { flow = replied_flow old.flow exchange_place verdict reply }) (votes_marked request reply) (marks_of is.global.log)
+        (reflows m is.cluster answered (with_acceptor old request.to now) (replied_flow old.flow exchange_place verdict reply) (record { others = flows.others; own = flows.own; late = flows.late }) then_)
+        is.agrees.marks (answer_marks is.global request reply (m.shelves.contents now.shelf)))
+    by_turn (council.finds_down request acceptor fall front at down view) =
+        subst (IsRemembered m) (sym view) (harmed_turn m is.cluster is.global old verdict step.front exchange _ true step.at.is_open step.waits is.agrees.marks whole)
+    by_turn (council.brings_down request acceptor now fall front at by view) =
+        subst (IsRemembered m) (sym view)
+        (harmed_turn m is.cluster is.global (with_acceptor old request.to now) verdict step.front exchange _ true step.at.is_open step.waits is.agrees.marks
+        (stops_within m is.cluster is.global old request acceptor now tells at by (front_true front) whole))
+    by_turn (council.arrives reply fall front view) =
+        let was = whole.parties.council exchange step.at.is_open in
+        let moved = record old { flow = taken old.flow exchange_place verdict } in
+        subst (IsRemembered m) (sym view)
+        (remembered m is.cluster is.global (with_exchange moved (record exchange { told = hears reply exchange.told }))
+        (counsels m is.cluster is.global moved _ (λ other open_. subst (IsExchangeTrue is.global.log) (some_is open_) (record {
+          own = was.own;
+          era = was.era;
+          drawn = was.drawn;
+          told = heard_told is.global.log reply exchange.told (position (awaits reply.from) exchange.told) (front_true front) was.told;
+        })) (reflows m is.cluster is.global old (taken old.flow exchange_place verdict) (taken_reflows is.global.log old.flow verdict step.waits (whole.parties.own exchange_place) whole.parties.late) whole))
+        is.agrees.marks)
+
+-- the open call is told something
+pub told_remembered : {S V : Type 0} (m : Meaning S V) (view : View S V) (answer : OpAnswer) → IsRemembered m view → IsRemembered m (told_view view answer)
+told_remembered m view answer is = remembered m is.cluster is.global (told_view view answer) (tells_view m is.cluster is.global view answer (whole_of m view is)) is.agrees.marks
+
+-- no memory was found for one
+pub refuses_exchange : {S V : Type 0} (m : Meaning S V) (old : View S V) (new : View S V) → m.shelves.tells → IsRemembered m old → StepRefuseTurnExchange m old new → IsRemembered m new
+refuses_exchange m old new tells is step =
+    subst (IsRemembered m) (sym step.view) (told_remembered m step.middle _ (refuses_stray m old step.middle tells is step.refuses))
+
+-- ---- proposer 0 crashes within it
+broken_true : (log : List Happening) (open_ : Option ExchangeView) → ((exchange : ExchangeView) → open_ ≡ Some exchange → IsExchangeTrue log exchange) → (exchange : ExchangeView) → option_map broken_off open_ ≡ Some exchange → IsExchangeTrue log exchange
+broken_true log None were exchange e = absurd (cc e)
+broken_true log (Some was) were exchange e = let is = were was refl in subst (IsExchangeTrue log) (some_is e) (record { own = is.own; era = is.era; drawn = is.drawn; told = is.told })
+
+pub breaks_off : {S V : Type 0} (m : Meaning S V) (old : View S V) → IsRemembered m old → IsRemembered m (broken_off_view old)
+breaks_off m old is =
+    let whole = whole_of m old is in
+    remembered m is.cluster is.global (broken_off_view old)
+    (counsels m is.cluster is.global (record old { flow = abandoned old.flow exchange_place }) (crashed_in old.council) (broken_true is.global.log old.council.exchange whole.parties.council)
+    (reflows m is.cluster is.global old (abandoned old.flow exchange_place) (abandoned_flows is.global.log old.flow (whole.parties.own exchange_place) whole.parties.late) whole))
+    is.agrees.marks

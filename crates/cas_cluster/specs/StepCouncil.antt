@@ -1,0 +1,198 @@
+-- What the operator's calls do to a cluster, and the exchange in which proposer 0 asks all members.
+use Rattle.std.specs.Option.{option_map_or}
+use Rattle.std.specs.Prelude.{◌≡◌, ℕ, ◌&&◌, is_none, position, slice_set, ◌+◌, ◌-◌, ◌^◌, ◌<◌, ◌≤◌, ◌==◌, Bool, true, false, if◌then◌else◌, List, [], ◌∷◌, length, map, Option, None, Some, slice_get}
+use Rattle.cas_ballot.specs.declared.ballot.Ballot.{Ballot}
+use Rattle.cas_ballot.specs.Members.{has_member, with_member, union_of}
+use Rattle.cas_fate.specs.declared.fate.Verdict.{Verdict}
+use Rattle.cas_flow.specs.Flow.{FlowView, queue_at, taken, abandoned}
+use Rattle.cas_flow.specs.Message.{head_of}
+use Rattle.cas_flow.specs.Queue.{fall_of}
+use Rattle.cas_flow.specs.declared.fall.Fall.TheVariants.{Handle, Gone, Held}
+use Rattle.cas_flow.specs.declared.message.Message.{Message}
+use Rattle.cas_flow.specs.declared.message.Message.TheVariants as message
+use Rattle.cas_acceptor.specs.Acceptor.{AcceptorView}
+use Rattle.cas_proposer.specs.Desk.{DeskView}
+use Rattle.cas_slot.specs.declared.message.Reply.{Reply}
+use Rattle.cas_slot.specs.declared.message.Request.{Request}
+use Rattle.cas_vault.specs.Vault.{counter_of, kept_of}
+use Rattle.cas_record.specs.declared.answer.Answer.TheVariants as answer
+use Rattle.cas_record.specs.declared.mark.Mark.{Mark}
+use Rattle.cas_record.specs.declared.mark.Mark.TheVariants.{Harmed, Told}
+use Rattle.cas_record.specs.declared.operator.Asked.{Asked}
+use Rattle.cas_record.specs.declared.operator.Asked.TheVariants as asked
+use Rattle.cas_record.specs.declared.operator.OpAnswer.{OpAnswer}
+use Rattle.cas_record.specs.declared.operator.OpAnswer.TheVariants as told
+use Rattle.cas_record.specs.declared.operator.Probe.{Probe as ProbeOf}
+use Rattle.cas_record.specs.declared.operator.Probes.{Probes}
+use Rattle.cas_cluster.specs.Council.{Question, Probe, ask_of, ExchangeView, OrderView, Council, no_council, exchange_place, telling}
+use Rattle.cas_cluster.specs.StepAcceptors.{AnswersByTable, StopsWithin}
+use Rattle.cas_cluster.specs.StepCalls.{Sends, most_marks}
+use Rattle.cas_cluster.specs.StepDesks.{HasDrawn, HasKept, FailsToDraw, LosesMemory}
+use Rattle.cas_cluster.specs.StepFrames.{replied_flow, votes_marked, FindsNoRoom}
+use Rattle.cas_cluster.specs.View.{Meaning, View, CallerView, IsAt, era_at, reserved_in_all, with_acceptor, with_desk, with_marks}
+
+-- ---- parts
+abbrev pub with_council : {S V : Type 0} → View S V → Council → View S V
+with_council view council = record view { council = council }
+
+abbrev pub with_exchange : {S V : Type 0} → View S V → ExchangeView → View S V
+with_exchange view exchange = with_council view (record view.council { exchange = Some exchange })
+
+-- the open call is told this
+abbrev pub told_view : {S V : Type 0} → View S V → OpAnswer → View S V
+told_view view answer = with_council view (telling view.council answer)
+
+-- the exchange is over, and the open call is told this
+abbrev pub gathered : {S V : Type 0} → View S V → OpAnswer → View S V
+gathered view answer = with_council view (record (telling view.council answer) { exchange = None })
+
+-- ---- the operator's call
+-- it is open from then on, with its mark reserved
+pub record StepOrder {S V : Type 0} (old : View S V) (asked : Asked) (new : View S V) : Type 0 where
+  pub none_open : old.council.order ≡ None
+  pub room : length old.marks + reserved_in_all old < most_marks
+  pub view : new ≡ with_council old (record old.council { order = Some (record { asked = asked; told = None }) })
+
+-- what a probe found leaves no mark
+abbrev pub told_marks : Asked → OpAnswer → List Mark
+told_marks asked (told.Probed key found) = []
+told_marks asked other = Told asked other ∷ []
+
+-- two answers that say the same, be it from lists of their own
+abbrev pub SaysTheSame : OpAnswer → OpAnswer → Type 0
+SaysTheSame (told.Probed key found) (told.Probed other seen) = (key ≡ other) × (found.probes.items ≡ seen.probes.items)
+SaysTheSame said answer = said ≡ answer
+
+-- it is told what its last step told, and an exchange that is open is over: its frames join the late ones
+pub record StepTell {S V : Type 0} (old : View S V) (answer : OpAnswer) (new : View S V) : Type 0 where
+  pub order : OrderView
+  pub is_open : old.council.order ≡ Some order
+  pub said : OpAnswer
+  pub was_said : order.told ≡ Some said
+  pub same : SaysTheSame said answer
+  pub view : new ≡ with_marks (record (with_council old no_council) { flow = abandoned old.flow exchange_place }) (told_marks order.asked answer)
+
+-- ---- proposer 0 asks all members
+-- who they are
+abbrev pub everyone : {S V : Type 0} → View S V → List ℕ
+everyone view = union_of (era_at view 0).prep (era_at view 0).acc
+
+abbrev pub question_to : ℕ → Ballot → Question → ℕ → Request
+question_to age tag question to = record { to = to; from = 0; age = age; ask = ask_of tag question }
+
+abbrev pub questions_to : ℕ → Ballot → Question → List ℕ → List Message
+questions_to age tag question members = map (λ to. message.Request (question_to age tag question to)) members
+
+-- the open call was asked for just that
+abbrev pub IsForQuestion : Asked → Question → Type 0
+IsForQuestion (asked.Probe key) (Probe k) = key ≡ k
+IsForQuestion other question = ⊥
+
+-- the marks of its harms fit
+abbrev pub HasRoomToAsk : {S V : Type 0} → View S V → Type 0
+HasRoomToAsk view = length view.marks + reserved_in_all view + length (everyone view) ≤ most_marks
+
+-- what the exchange is at first
+abbrev pub new_exchange : Question → Ballot → List ℕ → ExchangeView
+new_exchange question tag members = record { question = question; tag = tag; members = members; told = map (λ member. record { acceptor = member; told = None }) members; harmed = []; reserved = length members; crashed = false }
+
+-- The open call asks for it, and proposer 0, whose caller is the operator's, has no open round.
+pub record MayAskAll {S V : Type 0} (old : View S V) (question : Question) (desk : DeskView V) : Type 0 where
+  pub order : OrderView
+  pub is_open : old.council.order ≡ Some order
+  pub is_for : IsForQuestion order.asked question
+  pub none_open : old.council.exchange ≡ None
+  pub caller : CallerView
+  pub at_caller : IsAt old.callers 0 caller
+  pub at_desk : IsAt old.desks 0 desk
+  pub idle : desk.round ≡ None
+
+-- Its tag is drawn, and each member is asked; or the open call is told why not.
+pub data AsksAll {S V : Type 0} (m : Meaning S V) (old : View S V) (question : Question) (desk : DeskView V) (new : View S V) : Type 0 where
+  asks : (now : DeskView V) (tag : Ballot) (flow : FlowView) → desk.down ≡ false → HasRoomToAsk old → HasDrawn m.disks desk.id desk.vault now.vault tag → now ≡ record desk { vault = now.vault }
+      → Sends old.flow exchange_place (questions_to (kept_of desk.vault).age tag question (everyone old)) flow
+      → new ≡ with_exchange (record (with_desk old 0 now) { flow = flow }) (new_exchange question tag (everyone old)) → AsksAll m old question desk new
+  is_down : desk.down ≡ true → new ≡ told_view old (told.Stopped answer.Down) → AsksAll m old question desk new
+  is_full : desk.down ≡ false → (HasRoomToAsk old → ⊥) → new ≡ told_view old (told.Stopped answer.RecordFull) → AsksAll m old question desk new
+  is_spent : (now : DeskView V) → desk.down ≡ false → counter_of desk.vault ≡ 2 ^ 48 → HasKept m.disks desk.vault now.vault → now ≡ record desk { vault = now.vault }
+      → new ≡ told_view (with_desk old 0 now) (told.Stopped answer.Spent) → AsksAll m old question desk new
+  fails : (now : DeskView V) → desk.down ≡ false → FailsToDraw m.disks [] desk now → new ≡ told_view (with_desk old 0 now) (told.Stopped answer.VaultFault) → AsksAll m old question desk new
+  no_memory : (now : DeskView V) (tag : Option Ballot) → desk.down ≡ false → LosesMemory m.disks [] desk now tag → new ≡ told_view (with_desk old 0 now) (told.Stopped (answer.NoMemory false)) → AsksAll m old question desk new
+
+pub record StepAskAll {S V : Type 0} (m : Meaning S V) (old : View S V) (question : Question) (new : View S V) : Type 0 where
+  pub desk : DeskView V
+  pub may : MayAskAll old question desk
+  pub asks : AsksAll m old question desk new
+
+-- ---- a turn of its frames
+-- the first harm of a member is marked, and no other
+abbrev pub harmed_exchange : ExchangeView → ℕ → ExchangeView
+harmed_exchange exchange member = record exchange {
+  harmed = if has_member exchange.harmed member then exchange.harmed else with_member exchange.harmed member;
+  reserved = if has_member exchange.harmed member then exchange.reserved else exchange.reserved - 1;
+}
+
+abbrev pub harm_marks : ExchangeView → ℕ → Bool → List Mark
+harm_marks exchange member down = if has_member exchange.harmed member then [] else Harmed 0 0 down ∷ []
+
+abbrev pub harms : {S V : Type 0} → View S V → ExchangeView → ℕ → Bool → View S V
+harms view exchange member down = with_marks (with_exchange view (harmed_exchange exchange member)) (harm_marks exchange member down)
+
+-- of each member the first reply counts
+abbrev pub awaits : ℕ → ProbeOf → Bool
+awaits member probe = (probe.acceptor == member) && is_none probe.told
+
+abbrev pub hears : Reply → List ProbeOf → List ProbeOf
+hears reply told = option_map_or (λ place. slice_set told place (record { acceptor = reply.from; told = Some reply.tell })) (position (awaits reply.from) told) told
+
+pub data TurnsExchange {S V : Type 0} (m : Meaning S V) (old : View S V) (verdict : Verdict) (front : Message) (exchange : ExchangeView) (new : View S V) : Type 0 where
+  -- the frame stays where it is
+  held : fall_of (queue_at old.flow exchange_place).again verdict ≡ Held → new ≡ old → TurnsExchange m old verdict front exchange new
+  -- it is lost or late
+  gone : fall_of (queue_at old.flow exchange_place).again verdict ≡ Gone
+      → new ≡ harms (record old { flow = taken old.flow exchange_place verdict }) exchange (head_of front).1 false → TurnsExchange m old verdict front exchange new
+  -- a member answers
+  answers : (request : Request) (acceptor now : AcceptorView S) (reply : Reply) → fall_of (queue_at old.flow exchange_place).again verdict ≡ Handle → front ≡ message.Request request
+      → IsAt old.acceptors request.to acceptor → AnswersByTable m.shelves acceptor now request reply
+      → new ≡ with_marks (record (with_acceptor old request.to now) { flow = replied_flow old.flow exchange_place verdict reply }) (votes_marked request reply) → TurnsExchange m old verdict front exchange new
+  -- it is down
+  finds_down : (request : Request) (acceptor : AcceptorView S) → fall_of (queue_at old.flow exchange_place).again verdict ≡ Handle → front ≡ message.Request request
+      → IsAt old.acceptors request.to acceptor → acceptor.down ≡ true
+      → new ≡ harms (record old { flow = taken old.flow exchange_place verdict }) exchange request.to true → TurnsExchange m old verdict front exchange new
+  -- it goes down
+  brings_down : (request : Request) (acceptor now : AcceptorView S) → fall_of (queue_at old.flow exchange_place).again verdict ≡ Handle → front ≡ message.Request request
+      → IsAt old.acceptors request.to acceptor → StopsWithin m.shelves acceptor now request
+      → new ≡ harms (record (with_acceptor old request.to now) { flow = taken old.flow exchange_place verdict }) exchange request.to true → TurnsExchange m old verdict front exchange new
+  -- a reply arrives
+  arrives : (reply : Reply) → fall_of (queue_at old.flow exchange_place).again verdict ≡ Handle → front ≡ message.Reply reply
+      → new ≡ with_exchange (record old { flow = taken old.flow exchange_place verdict }) (record exchange { told = hears reply exchange.told }) → TurnsExchange m old verdict front exchange new
+
+-- the exchange that is open
+pub record OpenExchangeAt {S V : Type 0} (view : View S V) : Type 0 where
+  pub exchange : ExchangeView
+  pub is_open : view.council.exchange ≡ Some exchange
+
+pub record StepTurnExchange {S V : Type 0} (m : Meaning S V) (old : View S V) (verdict : Verdict) (new : View S V) : Type 0 where
+  pub at : OpenExchangeAt old
+  pub front : Message
+  pub waits : slice_get (queue_at old.flow exchange_place).messages 0 ≡ Some front
+  pub turn : TurnsExchange m old verdict front at.exchange new
+
+-- no memory: the open call is told
+pub record StepRefuseTurnExchange {S V : Type 0} (m : Meaning S V) (old : View S V) (new : View S V) : Type 0 where
+  pub at : OpenExchangeAt old
+  pub middle : View S V
+  pub refuses : FindsNoRoom m old middle
+  pub view : new ≡ told_view middle (told.Stopped (answer.NoMemory false))
+
+-- ---- what it told
+-- Proposer 0 crashed within it, or each member was asked; or no memory is found for what it told, and it stays.
+pub data Gathers {S V : Type 0} (old : View S V) (exchange : ExchangeView) (new : View S V) : Type 0 where
+  crashed : exchange.crashed ≡ true → new ≡ gathered old (told.Stopped answer.Crashed) → Gathers old exchange new
+  probed : (key : List ℕ) (found : Probes) → exchange.crashed ≡ false → exchange.question ≡ Probe key → found.probes.items ≡ exchange.told → new ≡ gathered old (told.Probed key found) → Gathers old exchange new
+  no_memory : exchange.crashed ≡ false → new ≡ told_view old (told.Stopped (answer.NoMemory false)) → Gathers old exchange new
+
+pub record StepGather {S V : Type 0} (old : View S V) (new : View S V) : Type 0 where
+  pub at : OpenExchangeAt old
+  pub none_waits : (queue_at old.flow exchange_place).messages ≡ []
+  pub gathers : Gathers old at.exchange new
