@@ -67,7 +67,7 @@ module _ {V : Type 0} (tells : Type 0) (may_leave : V → List ℕ → Type 0) (
     never_falls = no_more (faults (disk_of old)) (faults (disk_of new)) (ap faults same_disk);
   }
 
-  goes_on_same : (old : Vault V) → GoesOn (disks tells may_leave faults) old old
+  pub goes_on_same : (old : Vault V) → GoesOn (disks tells may_leave faults) old old
   goes_on_same old = record { still_past = λ t n was. was; era = λ t era other was. was; never_falls = no_more (faults (disk_of old)) (faults (disk_of old)) refl }
 
   -- no memory was found once a ballot was drawn or not, and the round is ended
@@ -285,6 +285,31 @@ module _ {V : Type 0} (tells : Type 0) (may_leave : V → List ℕ → Type 0) (
       goes_on = goes_on tells may_leave faults seen moment left_since counts_now old.vault new.vault still moments (ap (λ (k : Kept). k.era) draws.kept ∙ draw_era (counter_of old.vault) (kept_of old.vault)) never_falls;
     }
 
+    -- a tag is drawn
+    pub drew_tag : (old new : DeskView V) (ballot : Ballot) → old.id ≤ 16 → old.down ≡ false → Draws old.id old.vault new.vault ballot → new ≡ record old { vault = new.vault } → (new.down ≡ false → Stands tells seen may_leave new.vault)
+        → (tells → IsPast may_leave ballot.counter new.vault) → (tells → (n : ℕ) → IsPast may_leave n old.vault → IsPast may_leave n new.vault)
+        → (tells → LeavesOnly moment left_since (disk_of old.vault) (disk_of new.vault) (IsBeforeOrAfter (kept_of old.vault) (kept_to_draw (counter_of old.vault) (kept_of old.vault))))
+        → faults (disk_of old.vault) ≤ faults (disk_of new.vault)
+        → HasDrawn (disks tells may_leave faults) old.id old.vault new.vault ballot
+    drew_tag old new ballot few up draws at stands past still moments never_falls =
+        drew_by old new ballot few draws (stands (ap (λ (d : DeskView V). d.down) at ∙ up))
+        (λ t. subst (λ (n : ℕ). IsPast may_leave n new.vault) (ap (λ (b : Ballot). b.counter) draws.next ∙ sym draws.counter) (past t)) still moments never_falls
+
+    -- the vault failed in a draw beside rounds
+    pub failed_tag : (key : List ℕ) (old new : DeskView V) → old.round ≡ None → GoesDown old new → (tells → (n : ℕ) → IsPast may_leave n old.vault → IsPast may_leave n new.vault)
+        → (tells → LeavesOnly moment left_since (disk_of old.vault) (disk_of new.vault) (IsBeforeOrAfter (kept_of old.vault) (kept_to_draw (counter_of old.vault) (kept_of old.vault))))
+        → faults (disk_of old.vault) ≤ faults (disk_of new.vault) → Rose (faults (disk_of old.vault)) (faults (disk_of new.vault))
+        → FailsToDraw (disks tells may_leave faults) key old new
+    failed_tag key old new none goes still moments never_falls rose =
+        let cache : new.cache ≡ cache_without old.round old.cache = ap (λ (d : DeskView V). d.cache) goes.desk in record {
+          desk = goes.desk ∙ ap (λ (ready : List (List ℕ × Ready)). record old { vault = new.vault; cache = ready; round = None; down = true }) (sym cache);
+          cache = inl (cache ∙ ap (λ (r : Option Round). cache_without r old.cache) none);
+          counter = goes.counter;
+          kept = goes.kept;
+          goes_on = goes_on tells may_leave faults seen moment left_since counts_now old.vault new.vault still moments (ap (λ (k : Kept). k.era) goes.kept) never_falls;
+          faulted = rose;
+        }
+
     -- nothing was drawn
     pub kept_by : (old new : DeskView V) → ShowsTheSame old.vault new.vault → (tells → (n : ℕ) → IsPast may_leave n old.vault → IsPast may_leave n new.vault)
         → (tells → LeavesOnly moment left_since (disk_of old.vault) (disk_of new.vault) (IsBeforeOrAfter (kept_of old.vault) (kept_to_draw (counter_of old.vault) (kept_of old.vault))))
@@ -295,8 +320,9 @@ module _ {V : Type 0} (tells : Type 0) (may_leave : V → List ℕ → Type 0) (
       goes_on = goes_on tells may_leave faults seen moment left_since counts_now old.vault new.vault still moments (ap (λ (k : Kept). k.era) shows.kept) never_falls;
     }
 
-  pub lost_idle : (key : List ℕ) (old new : DeskView V) → old.round ≡ None → HasKept (disks tells may_leave faults) old.vault new.vault → new ≡ record old { vault = new.vault } → LosesMemory (disks tells may_leave faults) key old new None
-  lost_idle key old new none kept at = record {
+  -- no memory was found once a ballot was drawn or not, and no round is open
+  pub lost_drawn : (key : List ℕ) (old new : DeskView V) (ballot : Option Ballot) → old.round ≡ None → MayHaveDrawn (disks tells may_leave faults) old.id old.vault new.vault ballot → new ≡ record old { vault = new.vault } → LosesMemory (disks tells may_leave faults) key old new ballot
+  lost_drawn key old new ballot none kept at = record {
     desk = at ∙ (λ i. record old { vault = new.vault; cache = ap (λ (d : DeskView V). d.cache) (sym at) i; round = none i });
     cache = inl (ap (λ (d : DeskView V). d.cache) at);
     middle = new.vault;
@@ -305,6 +331,9 @@ module _ {V : Type 0} (tells : Type 0) (may_leave : V → List ℕ → Type 0) (
     kept = refl;
     goes_on = goes_on_same tells may_leave faults new.vault;
   }
+
+  pub lost_idle : (key : List ℕ) (old new : DeskView V) → old.round ≡ None → HasKept (disks tells may_leave faults) old.vault new.vault → new ≡ record old { vault = new.vault } → LosesMemory (disks tells may_leave faults) key old new None
+  lost_idle key old new none kept at = lost_drawn key old new None none kept at
 
   pub failed_idle : (key : List ℕ) (old new : DeskView V) → old.round ≡ None → HasKept (disks tells may_leave faults) old.vault new.vault → new ≡ record old { vault = new.vault; down = new.down } → new.down ≡ true → Rose (faults (disk_of old.vault)) (faults (disk_of new.vault)) → FailsToDraw (disks tells may_leave faults) key old new
   failed_idle key old new none kept at down rose = record {

@@ -6,7 +6,6 @@ use Rattle.cas_acceptor.specs.Acceptor.{AcceptorView}
 use Rattle.cas_flow.specs.Flow.{FlowView, abandoned}
 use Rattle.cas_proposer.specs.Desk.{DeskView}
 use Rattle.cas_proposer.specs.declared.round.Round.{Round}
-use Rattle.cas_quorum.specs.declared.era.Era.{Era}
 use Rattle.cas_record.specs.Book.{Book}
 use Rattle.cas_record.specs.declared.answer.Answer.{Answer}
 use Rattle.cas_record.specs.declared.mark.Mark.{Mark}
@@ -18,6 +17,7 @@ use Rattle.cas_cluster.proofs.Places.{at_one, some_is}
 use Rattle.cas_cluster.specs.Safe.{IsSafe}
 use Rattle.cas_cluster.proofs.SafeParts.{reserved_set}
 use Rattle.cas_cluster.proofs.SafeStops.{call_reserves_at}
+use Rattle.cas_world.specs.declared.council.Council.{Council}
 use Rattle.cas_world.specs.declared.call.Caller.{Caller}
 use Rattle.cas_world.specs.declared.call.OpenCall.{OpenCall}
 use Rattle.cas_world.specs.World.{WasTold, view_of, call_view, caller_view}
@@ -35,9 +35,9 @@ seen_told : (caller : Caller) (call : Option OpenCall) (view : CallView) (number
 seen_told caller None view number answer is seen told same = absurd (cc seen)
 seen_told caller (Some call) view number answer is seen told same = record { call = call; is_open = is; told = ap (λ (v : CallView). v.told) (some_is seen) ∙ told; same_number = same }
 
-pub told_in : {S V : Type 0} (greatest : ℕ) (eras : List Era) (acceptors : List (AcceptorView S)) (desks : List (DeskView V)) (callers : List Caller) (flow : FlowView) (book : Book) (id number : ℕ) (answer : Answer) (caller : Caller)
-    → IsAt callers id caller → WasTold (view_of greatest eras acceptors desks callers flow book) id number answer → IsToldIn caller number answer
-told_in greatest eras acceptors desks callers flow book id number answer caller at told =
+pub told_in : {S V : Type 0} (greatest : ℕ) (council : Council) (acceptors : List (AcceptorView S)) (desks : List (DeskView V)) (callers : List Caller) (flow : FlowView) (book : Book) (id number : ℕ) (answer : Answer) (caller : Caller)
+    → IsAt callers id caller → WasTold (view_of greatest council acceptors desks callers flow book) id number answer → IsToldIn caller number answer
+told_in greatest council acceptors desks callers flow book id number answer caller at told =
     let same : caller_view caller ≡ told.caller = at_one (map caller_view callers) id (at_map caller_view callers id caller at) told.at_caller in
     seen_told caller caller.call told.call number answer refl (ap (λ (c : CallerView). c.call) same ∙ told.is_open) told.told (ap (λ (c : CallerView). c.number) same ∙ told.same_number)
 
@@ -51,11 +51,11 @@ pub none_after : {V : Type 0} (m : DiskMeaning V) (desk now : DeskView V) → ((
 none_after {V} m desk now (inl idle) = ap (λ (d : DeskView V). d.round) idle.1 ∙ idle.0
 none_after {V} m desk now (inr ends) = ap (λ (d : DeskView V). d.round) ends.2.desk
 
-pub ends : {S V : Type 0} (m : Meaning S V) (greatest : ℕ) (eras : List Era) (acceptors : List (AcceptorView S)) (desks : List (DeskView V)) (callers : List Caller) (flow : FlowView) (book after : Book) (id number : ℕ) (answer : Answer)
+pub ends : {S V : Type 0} (m : Meaning S V) (greatest : ℕ) (council : Council) (acceptors : List (AcceptorView S)) (desks : List (DeskView V)) (callers : List Caller) (flow : FlowView) (book after : Book) (id number : ℕ) (answer : Answer)
     (desk now : DeskView V) (caller : Caller) (told : IsToldIn caller number answer) → IsAt desks id desk → IsAt callers id caller → ((desk.round ≡ None) × (now ≡ desk)) ⊎ ((r : Round) × (desk.round ≡ Some r) × EndsRound m.disks desk now r None)
     → after.marks ≡ book.marks ++ Ended id number told.call.rounds answer ∷ []
-    → StepEnd m (view_of greatest eras acceptors desks callers flow book) id answer (view_of greatest eras acceptors (slice_set desks id now) (slice_set callers id (record caller { call = None })) (abandoned flow id) after)
-ends {S} {V} m greatest eras acceptors desks callers flow book after id number answer desk now caller told at_desk at_caller closed marks = record {
+    → StepEnd m (view_of greatest council acceptors desks callers flow book) id answer (view_of greatest council acceptors (slice_set desks id now) (slice_set callers id (record caller { call = None })) (abandoned flow id) after)
+ends {S} {V} m greatest council acceptors desks callers flow book after id number answer desk now caller told at_desk at_caller closed marks = record {
   of_call = record { caller = caller_view caller; at_caller = at_map caller_view callers id caller at_caller; call = call_view told.call; is_open = ap (λ (o : Option OpenCall). option_map call_view o) told.is_open };
   ends = record {
     told = told.told;
@@ -63,16 +63,16 @@ ends {S} {V} m greatest eras acceptors desks callers flow book after id number a
     at_desk = at_desk;
     now = now;
     closed = closed;
-    view = ap (λ (l : List CallerView). record (view_of greatest eras acceptors (slice_set desks id now) callers (abandoned flow id) after) { callers = l }) (map_set caller_view callers id (record caller { call = None }))
-        ∙ ap (λ (l : List Mark). record (view_of greatest eras acceptors (slice_set desks id now) callers (abandoned flow id) book) { callers = slice_set (map caller_view callers) id (record (caller_view caller) { call = None }); marks = l })
+    view = ap (λ (l : List CallerView). record (view_of greatest council acceptors (slice_set desks id now) callers (abandoned flow id) after) { callers = l }) (map_set caller_view callers id (record caller { call = None }))
+        ∙ ap (λ (l : List Mark). record (view_of greatest council acceptors (slice_set desks id now) callers (abandoned flow id) book) { callers = slice_set (map caller_view callers) id (record (caller_view caller) { call = None }); marks = l })
         (marks ∙ ap (λ (n : ℕ). book.marks ++ Ended id n told.call.rounds answer ∷ []) (sym told.same_number));
   };
 }
 
 -- what was reserved for the call is not reserved any more, and one mark of it was made
-pub room_ended : (callers : List Caller) (id : ℕ) (caller : Caller) (call : OpenCall) (room left : ℕ) → IsAt callers id caller → caller.call ≡ Some call → 0 < call.reserved → left + 1 ≡ room → reserved_of (map caller_view callers) ≤ room
-    → reserved_of (map caller_view (slice_set callers id (record caller { call = None }))) ≤ left
-room_ended callers id caller call room left at is_open some made low =
+pub room_ended : (beside : ℕ) (callers : List Caller) (id : ℕ) (caller : Caller) (call : OpenCall) (room left : ℕ) → IsAt callers id caller → caller.call ≡ Some call → 0 < call.reserved → left + 1 ≡ room → reserved_of (map caller_view callers) + beside ≤ room
+    → reserved_of (map caller_view (slice_set callers id (record caller { call = None }))) + beside ≤ left
+room_ended beside callers id caller call room left at is_open some made low =
     omega (
       arith,
       some,
@@ -83,8 +83,8 @@ room_ended callers id caller call room left at is_open some made low =
       ap (λ (o : Option OpenCall). reserved_in (option_map call_view o)) is_open,
     )
 
-pub some_room : (callers : List Caller) (id : ℕ) (caller : Caller) (call : OpenCall) (room : ℕ) → IsAt callers id caller → caller.call ≡ Some call → 0 < call.reserved → reserved_of (map caller_view callers) ≤ room → 0 < room
-some_room callers id caller call room at is_open some low =
+pub some_room : (beside : ℕ) (callers : List Caller) (id : ℕ) (caller : Caller) (call : OpenCall) (room : ℕ) → IsAt callers id caller → caller.call ≡ Some call → 0 < call.reserved → reserved_of (map caller_view callers) + beside ≤ room → 0 < room
+some_room beside callers id caller call room at is_open some low =
     omega (arith, some, low, reserved_set (map caller_view callers) id (caller_view caller) (record (caller_view caller) { call = None }) (at_map caller_view callers id caller at), ap (λ (o : Option OpenCall). reserved_in (option_map call_view o)) is_open)
 
 -- a desk and its caller whose open call was told this, and a mark is reserved
@@ -94,19 +94,19 @@ pub record IsEnding {V : Type 0} (desks : List (DeskView V)) (callers : List Cal
   pub told : IsToldIn caller number answer
   pub some : 0 < told.call.reserved
 
-pub ending : {S V : Type 0} (greatest : ℕ) (eras : List Era) (acceptors : List (AcceptorView S)) (desks : List (DeskView V)) (callers : List Caller) (flow : FlowView) (book : Book) (now : View S V) (place id number : ℕ) (answer : Answer) (desk : DeskView V) (caller : Caller)
-    → place ≡ id → view_of greatest eras acceptors desks callers flow book ≡ now → id ≤ now.greatest → IsSafe (view_of greatest eras acceptors desks callers flow book) → desk ≡ slice_index_or desks place desk → caller ≡ slice_index_or callers place caller
+pub ending : {S V : Type 0} (greatest : ℕ) (council : Council) (acceptors : List (AcceptorView S)) (desks : List (DeskView V)) (callers : List Caller) (flow : FlowView) (book : Book) (now : View S V) (place id number : ℕ) (answer : Answer) (desk : DeskView V) (caller : Caller)
+    → place ≡ id → view_of greatest council acceptors desks callers flow book ≡ now → id ≤ now.greatest → IsSafe (view_of greatest council acceptors desks callers flow book) → desk ≡ slice_index_or desks place desk → caller ≡ slice_index_or callers place caller
     → WasTold now id number answer → IsEnding desks callers id number answer desk caller
-ending {S} {V} greatest eras acceptors desks callers flow book now place id number answer desk caller same view low safe desk_is caller_is told =
+ending {S} {V} greatest council acceptors desks callers flow book now place id number answer desk caller same view low safe desk_is caller_is told =
     let known : id ≤ greatest = omega (arith, low, ap (λ (v : View S V). v.greatest) view) in
     let at_desk = at_place desks place id desk same (omega (arith, safe.desks, known)) desk_is in
     let at_caller = at_place callers place id caller same (omega (arith, safe.callers, known, length-map callers caller_view)) caller_is in
-    let is = told_in greatest eras acceptors desks callers flow book id number answer caller at_caller (subst (λ (v : View S V). WasTold v id number answer) (sym view) told) in
+    let is = told_in greatest council acceptors desks callers flow book id number answer caller at_caller (subst (λ (v : View S V). WasTold v id number answer) (sym view) told) in
     record {
       at_desk = at_desk;
       at_caller = at_caller;
       told = is;
-      some = call_reserves_at (view_of greatest eras acceptors desks callers flow book) id (caller_view caller) (call_view is.call) desk safe (at_map caller_view callers id caller at_caller) (ap (λ (o : Option OpenCall). option_map call_view o) is.is_open) at_desk;
+      some = call_reserves_at (view_of greatest council acceptors desks callers flow book) id (caller_view caller) (call_view is.call) desk safe (at_map caller_view callers id caller at_caller) (ap (λ (o : Option OpenCall). option_map call_view o) is.is_open) at_desk;
     }
 
 -- what the end of a call answers

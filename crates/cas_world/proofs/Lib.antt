@@ -1,8 +1,11 @@
+pub mod Asking
 pub mod Beginning
 pub mod Begins
 pub mod Callers
 pub mod Counts
 pub mod Ends
+pub mod Exchanges
+pub mod Gathering
 pub mod Lists
 pub mod Openings
 pub mod Parts

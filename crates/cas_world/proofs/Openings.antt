@@ -8,7 +8,6 @@ use Rattle.cas_acceptor.specs.Acceptor.{AcceptorView}
 use Rattle.cas_flow.specs.Flow.{FlowView, empty_flow}
 use Rattle.cas_proposer.specs.Desk.{DeskView}
 use Rattle.cas_proposer.specs.declared.round.Round.{Round}
-use Rattle.cas_quorum.specs.declared.era.Era.{Era}
 use Rattle.cas_quorum.specs.Era.{majority_era}
 use Rattle.cas_record.specs.Book.{Book}
 use Rattle.cas_vault.specs.declared.kept.Kept.{Kept}
@@ -18,6 +17,9 @@ use Rattle.cas_cluster.specs.SafeLaws.{HasPlaces}
 use Rattle.cas_cluster.specs.Step.{IsFreshAcceptor, IsFreshDesk, IsOpening}
 use Rattle.cas_cluster.specs.View.{Meaning, CallerView, IsAt, new_caller, reserved_of, reserved_in}
 use Rattle.cas_cluster.proofs.SafeOpens.{opens_are_safe}
+use Rattle.cas_cluster.specs.Council.{reserved_by}
+use Rattle.cas_world.specs.Council.{opening_council, council_view}
+use Rattle.cas_world.specs.declared.council.Council.{Council}
 use Rattle.cas_world.specs.declared.call.Caller.{Caller}
 use Rattle.cas_world.specs.Opening.{unbegun, members_to, unstarted, HasStarted, AreStartedBelow, IsDeskOver, AllStart}
 use Rattle.cas_cluster.proofs.Opens.{opening_remembered}
@@ -93,12 +95,13 @@ none_reserved [] fresh = refl
 none_reserved (caller ∷ callers) fresh = omega (arith, ap (λ (c : CallerView). reserved_in c.call) (fresh 0 caller refl), none_reserved callers (λ id c at. fresh (suc id) c at))
 
 -- ---- the whole
-module _ {S V : Type 0} (m : Meaning S V) (shelf_faults : S → ℕ) (disk_faults : V → ℕ) (count greatest : ℕ) (shelves : List S) (disks : List V) (eras : List Era) (acceptors : List (AcceptorView S)) (desks : List (DeskView V)) (callers : List Caller) (flow : FlowView) (book : Book) (left : List V)
+module _ {S V : Type 0} (m : Meaning S V) (shelf_faults : S → ℕ) (disk_faults : V → ℕ) (count greatest : ℕ) (shelves : List S) (disks : List V) (council : Council) (acceptors : List (AcceptorView S)) (desks : List (DeskView V)) (callers : List Caller) (flow : FlowView) (book : Book) (left : List V)
     (some : 0 < count) (few : count ≤ 9) (few_proposers : greatest ≤ 16) (all_shelves : length shelves ≡ 64)
-    (starts : AllStart m shelf_faults disk_faults count greatest (unstarted 0 shelves) disks acceptors desks left) (eras_are : eras ≡ replicate 17 (majority_era 0 (members_to count))) (callers_are : callers ≡ replicate (greatest + 1) unbegun) (flow_is : flow ≡ empty_flow) (marks : book.marks ≡ []) where
-  pub is_opening : IsOpening m (members_to count) (view_of greatest eras acceptors desks callers flow book)
+    (starts : AllStart m shelf_faults disk_faults count greatest (unstarted 0 shelves) disks acceptors desks left) (eras_are : council ≡ opening_council (majority_era 0 (members_to count))) (callers_are : callers ≡ replicate (greatest + 1) unbegun) (flow_is : flow ≡ empty_flow) (marks : book.marks ≡ []) where
+  pub is_opening : IsOpening m (members_to count) (view_of greatest council acceptors desks callers flow book)
   is_opening = record {
-    eras = eras_are;
+    eras = ap (λ (c : Council). c.eras.0) eras_are;
+    council = ap council_view eras_are;
     few = few_proposers;
     member_set = members_set count (omega (arith, few));
     some = omega (arith, some, length-range_with_len 1 count);
@@ -112,18 +115,18 @@ module _ {S V : Type 0} (m : Meaning S V) (shelf_faults : S → ℕ) (disk_fault
     marks = marks;
   }
 
-  pub has_places : HasPlaces (view_of greatest eras acceptors desks callers flow book)
+  pub has_places : HasPlaces (view_of greatest council acceptors desks callers flow book)
   has_places = record {
     acceptors = starts.members.places ∙ (unstarted_places 0 shelves ∙ all_shelves);
     desks = omega (arith, starts.made.places);
     callers = omega (arith, length-map callers caller_view, ap (λ (l : List Caller). length l) callers_are, length-replicate (greatest + 1) unbegun);
   }
 
-  pub is_world : IsWorld m (view_of greatest eras acceptors desks callers flow book) callers book.room
+  pub is_world : IsWorld m (view_of greatest council acceptors desks callers flow book) callers book.room
   is_world = record {
-    safe = opens_are_safe m (members_to count) (view_of greatest eras acceptors desks callers flow book) is_opening has_places;
-    remembered = λ shelves_tell disks_tell. opening_remembered m shelves_tell disks_tell (members_to count) (view_of greatest eras acceptors desks callers flow book) is_opening;
-    room = omega (arith, none_reserved (map caller_view callers) (fresh_callers (greatest + 1) callers callers_are));
+    safe = opens_are_safe m (members_to count) (view_of greatest council acceptors desks callers flow book) is_opening has_places;
+    remembered = λ shelves_tell disks_tell. opening_remembered m shelves_tell disks_tell (members_to count) (view_of greatest council acceptors desks callers flow book) is_opening;
+    room = omega (arith, none_reserved (map caller_view callers) (fresh_callers (greatest + 1) callers callers_are), ap (λ (c : Council). reserved_by (council_view c)) eras_are);
     copies = λ id desk caller at_desk at_caller.
         (let found = starts.made.each id desk at_desk in
         subst (λ (r : Option Round). HasCopies r caller.call) (sym (ap (λ (d : DeskView V). d.round) found.2.is)) tt);

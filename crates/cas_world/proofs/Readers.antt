@@ -4,18 +4,18 @@ use Rattle.std.specs.Prelude.{◌+◌, ◌^◌}
 use Rattle.cas_acceptor.specs.Acceptor.{AcceptorView}
 use Rattle.cas_flow.specs.Flow.{FlowView}
 use Rattle.cas_proposer.specs.Desk.{DeskView}
-use Rattle.cas_quorum.specs.declared.era.Era.{Era}
 use Rattle.cas_record.specs.Book.{Book}
 use Rattle.cas_cluster.specs.Safe.{IsSafe}
 use Rattle.cas_cluster.specs.View.{IsAt}
+use Rattle.cas_world.specs.declared.council.Council.{Council}
 use Rattle.cas_world.specs.declared.call.Caller.{Caller}
 use Rattle.cas_world.specs.World.{view_of, caller_view}
 use Rattle.cas_world.proofs.Callers.{at_map}
 use Rattle.cas_cluster.proofs.SafeParts.{at_low}
 
 -- a caller begins no more calls than there are marks
-pub few_calls : {S V : Type 0} (greatest : ℕ) (eras : List Era) (acceptors : List (AcceptorView S)) (desks : List (DeskView V)) (callers : List Caller) (flow : FlowView) (book : Book) (id : ℕ) (caller : Caller)
-    → IsSafe (view_of greatest eras acceptors desks callers flow book) → id ≤ greatest → IsAt callers id caller → caller.number + 1 < 2 ^ 32
-few_calls greatest eras acceptors desks callers flow book id caller safe low at =
+pub few_calls : {S V : Type 0} (greatest : ℕ) (council : Council) (acceptors : List (AcceptorView S)) (desks : List (DeskView V)) (callers : List Caller) (flow : FlowView) (book : Book) (id : ℕ) (caller : Caller)
+    → IsSafe (view_of greatest council acceptors desks callers flow book) → id ≤ greatest → IsAt callers id caller → caller.number + 1 < 2 ^ 32
+few_calls greatest council acceptors desks callers flow book id caller safe low at =
     let found = at_low desks id (omega (arith, safe.desks, low)) in
     omega (arith, safe.room, (safe.parties id found.0 (caller_view caller) found.1 (at_map caller_view callers id caller at)).number)

@@ -32,6 +32,9 @@ use Rattle.cas_record.proofs.Eras.{le_or_lt}
 use Rattle.cas_cluster.proofs.Caches.{contains_promise}
 use Rattle.cas_cluster.proofs.SafeParts.{low_at, at_low, idle_at}
 use Rattle.cas_cluster.proofs.SafeSteps.{steps_are_safe}
+use Rattle.cas_cluster.specs.Council.{reserved_by}
+use Rattle.cas_world.specs.Council.{council_view}
+use Rattle.cas_world.specs.declared.council.Council.{Council}
 use Rattle.cas_world.specs.Beginning.{opening_of, refused, Prepares, ProposesBy, OpensRound, FailsToOpen, reserved_beside, entered, entry_marks, proposes_now, told_now, settled, settled_marks, HasRound, HasNoCall, MayBegin, is_refusal, BeginsOrNot}
 use Rattle.cas_world.specs.Call.{again, over, with_proposal, reserved_in, reserved_of}
 use Rattle.cas_world.specs.World.{WasTold, IsWorld, HasCopies, view_of, call_view, caller_view}
@@ -74,8 +77,8 @@ pub record IsFound {V : Type 0} (desks : List (DeskView V)) (callers : List Call
   pub same_id : desk.id ≡ id
   pub fits : (ready : Ready) → promise_at key desk.cache ≡ Some ready → FitsBallot ready.ballot
 
-module _ {S V : Type 0} (greatest : ℕ) (eras : List Era) (acceptors : List (AcceptorView S)) (desks : List (DeskView V)) (callers : List Caller) (flow : FlowView) (book : Book) (now : View S V) (place id number : ℕ) (key : List ℕ) (program : List Clause)
-    (same : place ≡ id) (view : view_of greatest eras acceptors desks callers flow book ≡ now) (known : id ≤ now.greatest) (safe : IsSafe (view_of greatest eras acceptors desks callers flow book)) (may : MayBegin now id number key program) where
+module _ {S V : Type 0} (greatest : ℕ) (council : Council) (acceptors : List (AcceptorView S)) (desks : List (DeskView V)) (callers : List Caller) (flow : FlowView) (book : Book) (now : View S V) (place id number : ℕ) (key : List ℕ) (program : List Clause)
+    (same : place ≡ id) (view : view_of greatest council acceptors desks callers flow book ≡ now) (known : id ≤ now.greatest) (safe : IsSafe (view_of greatest council acceptors desks callers flow book)) (may : MayBegin now id number key program) where
   low_id : id ≤ greatest
   low_id = omega (arith, known, ap (λ (v : View S V). v.greatest) view)
 
@@ -83,7 +86,7 @@ module _ {S V : Type 0} (greatest : ℕ) (eras : List Era) (acceptors : List (Ac
   found_by desk caller at_desk at_caller =
       let party = safe.parties id desk (caller_view caller) at_desk (at_map caller_view callers id caller at_caller) in
       let may_here : IsFirst desk caller number ⊎ IsAnother desk caller number key program =
-      may_in greatest eras acceptors desks callers flow book id number key program desk caller safe at_desk at_caller (subst (λ (v : View S V). MayBegin v id number key program) (sym view) may) in
+      may_in greatest council acceptors desks callers flow book id number key program desk caller safe at_desk at_caller (subst (λ (v : View S V). MayBegin v id number key program) (sym view) may) in
       record {
         at_desk = at_desk;
         at_caller = at_caller;
@@ -135,19 +138,19 @@ never_full m key old new (Err (answer.Unsettled _)) result fails err ok full = e
 
 -- ---- what was proposed
 -- an open round is in its accept phase where its call has proposed something
-pub phase_tells : {S V : Type 0} (greatest : ℕ) (eras : List Era) (acceptors : List (AcceptorView S)) (desks : List (DeskView V)) (callers : List Caller) (flow : FlowView) (book : Book) (id : ℕ) (desk : DeskView V) (caller : Caller) (proposed : Bool)
-    → IsSafe (view_of greatest eras acceptors desks callers flow book) → IsAt desks id desk → IsAt callers id caller → IfSome caller.call (λ call. proposed ≡ is_some call.proposed)
+pub phase_tells : {S V : Type 0} (greatest : ℕ) (council : Council) (acceptors : List (AcceptorView S)) (desks : List (DeskView V)) (callers : List Caller) (flow : FlowView) (book : Book) (id : ℕ) (desk : DeskView V) (caller : Caller) (proposed : Bool)
+    → IsSafe (view_of greatest council acceptors desks callers flow book) → IsAt desks id desk → IsAt callers id caller → IfSome caller.call (λ call. proposed ≡ is_some call.proposed)
     → (round : Option Round) → desk.round ≡ round → IfSome round (λ r. is_preparing r.phase ≡ not proposed)
-phase_tells greatest eras acceptors desks callers flow book id desk caller proposed safe at_desk at_caller told None is_round = tt
-phase_tells greatest eras acceptors desks callers flow book id desk caller proposed safe at_desk at_caller told (Some round) is_round =
-    let is : IsOpenSafe (era_in eras id) (caller_view caller) (queue_at flow id) round =
-    subst (IsRoundSafe (era_in eras id) (caller_view caller) (queue_at flow id)) is_round (safe.parties id desk (caller_view caller) at_desk (at_map caller_view callers id caller at_caller)).round in
+phase_tells greatest council acceptors desks callers flow book id desk caller proposed safe at_desk at_caller told None is_round = tt
+phase_tells greatest council acceptors desks callers flow book id desk caller proposed safe at_desk at_caller told (Some round) is_round =
+    let is : IsOpenSafe (era_in council.eras.0 id) (caller_view caller) (queue_at flow id) round =
+    subst (IsRoundSafe (era_in council.eras.0 id) (caller_view caller) (queue_at flow id)) is_round (safe.parties id desk (caller_view caller) at_desk (at_map caller_view callers id caller at_caller)).round in
     let found = seen_open caller.call is.call is.is_open in
     let same : call_view found.0 ≡ is.call = some_is (ap (λ (o : Option OpenCall). option_map call_view o) (sym found.1) ∙ is.is_open) in
     let says : proposed ≡ is_some is.call.proposed = subst (λ (o : Option OpenCall). IfSome o (λ call. proposed ≡ is_some call.proposed)) found.1 told ∙ ap (λ (c : CallView). is_some c.proposed) same in
     by_phase (is_preparing round.phase) refl is says
   where
-    by_phase : (b : Bool) → is_preparing round.phase ≡ b → (is : IsOpenSafe (era_in eras id) (caller_view caller) (queue_at flow id) round) → proposed ≡ is_some is.call.proposed → is_preparing round.phase ≡ not proposed
+    by_phase : (b : Bool) → is_preparing round.phase ≡ b → (is : IsOpenSafe (era_in council.eras.0 id) (caller_view caller) (queue_at flow id) round) → proposed ≡ is_some is.call.proposed → is_preparing round.phase ≡ not proposed
     by_phase true preparing is says = preparing ∙ sym (ap not (says ∙ ap (λ (o : Option _). is_some o) (is.unproposed preparing)))
     by_phase false accepting is says = accepting ∙ sym (ap not (says ∙ is.proposed accepting))
 
@@ -163,9 +166,9 @@ pub record Settles {S V A : Type 0} (m : Meaning S V) (old : View S V) (id numbe
 abbrev pub IsRefusal : Answer → Type 0
 IsRefusal told = (told ≡ answer.RecordFull) ⊎ (told ≡ answer.NoMemory false)
 
-was_told : {S V : Type 0} (greatest : ℕ) (eras : List Era) (acceptors : List (AcceptorView S)) (desks : List (DeskView V)) (callers : List Caller) (flow : FlowView) (book : Book) (id number : ℕ) (caller next : Caller) (call : OpenCall) (told : Answer)
-    → IsAt callers id caller → next.number ≡ number → next.call ≡ Some call → call.told ≡ Some told → WasTold (view_of greatest eras acceptors desks (slice_set callers id next) flow book) id number told
-was_told greatest eras acceptors desks callers flow book id number caller next call told at same is said = record {
+was_told : {S V : Type 0} (greatest : ℕ) (council : Council) (acceptors : List (AcceptorView S)) (desks : List (DeskView V)) (callers : List Caller) (flow : FlowView) (book : Book) (id number : ℕ) (caller next : Caller) (call : OpenCall) (told : Answer)
+    → IsAt callers id caller → next.number ≡ number → next.call ≡ Some call → call.told ≡ Some told → WasTold (view_of greatest council acceptors desks (slice_set callers id next) flow book) id number told
+was_told greatest council acceptors desks callers flow book id number caller next call told at same is said = record {
   caller = caller_view next;
   at_caller = at_map caller_view (slice_set callers id next) id next (at_set callers id caller next at);
   same_number = same;
@@ -174,10 +177,10 @@ was_told greatest eras acceptors desks callers flow book id number caller next c
   told = said;
 }
 
-module _ {S V : Type 0} (A : Type 0) (m : Meaning S V) (greatest : ℕ) (eras : List Era) (acceptors : List (AcceptorView S)) (desks : List (DeskView V)) (callers : List Caller) (flow : FlowView) (book : Book) (id number : ℕ) (key : List ℕ) (program : List Clause)
-    (desk : DeskView V) (caller : Caller) (inv : IsWorld m (view_of greatest eras acceptors desks callers flow book) callers book.room) (at_desk : IsAt desks id desk) (at_caller : IsAt callers id caller) where
+module _ {S V : Type 0} (A : Type 0) (m : Meaning S V) (greatest : ℕ) (council : Council) (acceptors : List (AcceptorView S)) (desks : List (DeskView V)) (callers : List Caller) (flow : FlowView) (book : Book) (id number : ℕ) (key : List ℕ) (program : List Clause)
+    (desk : DeskView V) (caller : Caller) (inv : IsWorld m (view_of greatest council acceptors desks callers flow book) callers book.room) (at_desk : IsAt desks id desk) (at_caller : IsAt callers id caller) where
   abbrev old : View S V
-  old = view_of greatest eras acceptors desks callers flow book
+  old = view_of greatest council acceptors desks callers flow book
 
   low : id < length callers
   low = low_at callers id at_caller
@@ -196,11 +199,11 @@ module _ {S V : Type 0} (A : Type 0) (m : Meaning S V) (greatest : ℕ) (eras : 
   callers_same : (told : Answer) → caller.call ≡ None → slice_set callers id (refused caller told) ≡ callers
   callers_same told none = ap (λ (c : Caller). slice_set callers id c) (same_caller told none) ∙ set_same callers id caller at_caller
 
-  no_call : caller.call ≡ None → HasNoCall (view_of greatest eras acceptors desks callers flow book) id
+  no_call : caller.call ≡ None → HasNoCall (view_of greatest council acceptors desks callers flow book) id
   no_call none = record { caller = caller_view caller; at_caller = at_map caller_view callers id caller at_caller; none_open = ap (λ (o : Option OpenCall). option_map call_view o) none }
 
   -- one that is open is not none
-  is_no_first : IsAnother desk caller number key program → HasNoCall (view_of greatest eras acceptors desks callers flow book) id → ⊥
+  is_no_first : IsAnother desk caller number key program → HasNoCall (view_of greatest council acceptors desks callers flow book) id → ⊥
   is_no_first another none =
       let same : caller_view caller ≡ none.caller = at_one (map caller_view callers) id (at_map caller_view callers id caller at_caller) none.at_caller in
       let open_one : (caller_view caller).call ≡ Some (call_view another.call) = ap (λ (o : Option OpenCall). option_map call_view o) another.is_call in
@@ -208,11 +211,11 @@ module _ {S V : Type 0} (A : Type 0) (m : Meaning S V) (greatest : ℕ) (eras : 
 
   -- the mark of an open call's end is reserved
   some_reserved : (call : OpenCall) → caller.call ≡ Some call → desk.round ≡ None → 0 < call.reserved
-  some_reserved call is idle = (idle_at (era_in eras id) (caller_view caller) (queue_at flow id) desk.round idle (inv.safe.parties id desk (caller_view caller) at_desk (at_map caller_view callers id caller at_caller)).round).reserved (call_view call)
+  some_reserved call is idle = (idle_at (era_in council.eras.0 id) (caller_view caller) (queue_at flow id) desk.round idle (inv.safe.parties id desk (caller_view caller) at_desk (at_map caller_view callers id caller at_caller)).round).reserved (call_view call)
       (ap (λ (o : Option OpenCall). option_map call_view o) is)
 
   -- a refused caller reserves no more than before
-  refused_room : (told : Answer) (left : ℕ) → IsFirst desk caller number ⊎ IsAnother desk caller number key program → book.room ≤ left → seen.reserved_of (map caller_view (slice_set callers id (refused caller told))) ≤ left
+  refused_room : (told : Answer) (left : ℕ) → IsFirst desk caller number ⊎ IsAnother desk caller number key program → book.room ≤ left → seen.reserved_of (map caller_view (slice_set callers id (refused caller told))) + reserved_by (council_view council) ≤ left
   refused_room told left (inl first) grows =
       let same : seen.reserved_of (map caller_view (slice_set callers id (refused caller told))) ≡ seen.reserved_of (map caller_view callers) = ap (λ (l : List Caller). seen.reserved_of (map caller_view l)) (callers_same told first.none_open) in
       omega (arith, same, inv.room, grows)
@@ -222,19 +225,19 @@ module _ {S V : Type 0} (A : Type 0) (m : Meaning S V) (greatest : ℕ) (eras : 
       omega (arith, beside_seen callers id (refused caller told) low, all_reserved, one, had, some_reserved another.call another.is_call another.idle, inv.room, grows)
 
   -- another round of the open call, for which one mark is reserved
-  entered_one : (another : IsAnother desk caller number key program) → IsEntered (view_of greatest eras acceptors desks callers flow book) id number key program (view_of greatest eras acceptors desks (slice_set callers id (entered caller None 1)) flow (opened_book book None)) (entered caller None 1) 1 0
+  entered_one : (another : IsAnother desk caller number key program) → IsEntered (view_of greatest council acceptors desks callers flow book) id number key program (view_of greatest council acceptors desks (slice_set callers id (entered caller None 1)) flow (opened_book book None)) (entered caller None 1) 1 0
   entered_one another =
       let had : reserved_of caller ≡ another.call.reserved = ap (λ (o : Option OpenCall). reserved_in o) another.is_call in
-      opens_again greatest eras acceptors desks callers flow book id number key program 1 desk caller at_caller at_desk low another (omega arith)
+      opens_again greatest council acceptors desks callers flow book id number key program 1 desk caller at_caller at_desk low another (omega arith)
       (omega (arith, all_reserved, had, some_reserved another.call another.is_call another.idle, inv.safe.room))
 
-  told_one : (told : Answer) (another : IsAnother desk caller number key program) (desks_now : List (DeskView V)) (flow_now : FlowView) (after : Book) → WasTold (view_of greatest eras acceptors desks_now (slice_set callers id (refused caller told)) flow_now after) id number told
-  told_one told another desks_now flow_now after = was_told greatest eras acceptors desks_now callers flow_now after id number caller (refused caller told) (over (again another.call 1) told) told at_caller (sym another.same_number)
+  told_one : (told : Answer) (another : IsAnother desk caller number key program) (desks_now : List (DeskView V)) (flow_now : FlowView) (after : Book) → WasTold (view_of greatest council acceptors desks_now (slice_set callers id (refused caller told)) flow_now after) id number told
+  told_one told another desks_now flow_now after = was_told greatest council acceptors desks_now callers flow_now after id number caller (refused caller told) (over (again another.call 1) told) told at_caller (sym another.same_number)
       (ap (λ (o : Option OpenCall). option_map (λ call. over (again call 1) told) o) another.is_call) refl
 
   -- its marks do not fit beside the others
-  entered_full : (another : IsAnother desk caller number key program) → calls.most_marks < length book.marks + reserved_beside callers id + calls.round_marks (era_in eras id)
-      → calls.IsFull (view_of greatest eras acceptors desks (slice_set callers id (entered caller None 1)) flow (opened_book book None)) id × (suc (entered_one another).call.reserved < calls.round_marks (era_in eras id))
+  entered_full : (another : IsAnother desk caller number key program) → calls.most_marks < length book.marks + reserved_beside callers id + reserved_by (council_view council) + calls.round_marks (era_in council.eras.0 id)
+      → calls.IsFull (view_of greatest council acceptors desks (slice_set callers id (entered caller None 1)) flow (opened_book book None)) id × (suc (entered_one another).call.reserved < calls.round_marks (era_in council.eras.0 id))
   entered_full another over_full =
       let entry : Caller = entered caller None 1 in
       let no_caller : seen.reserved_of (slice_set (map caller_view (slice_set callers id entry)) id new_caller) ≡ reserved_beside callers id =
@@ -245,12 +248,12 @@ module _ {S V : Type 0} (A : Type 0) (m : Meaning S V) (greatest : ℕ) (eras : 
 
   -- no room was made
   pub not_made : (told : Answer) (after : Book) → IsFirst desk caller number ⊎ IsAnother desk caller number key program → IsRefusal told
-      → (told ≡ answer.RecordFull → calls.most_marks < length book.marks + reserved_beside callers id + calls.round_marks (era_in eras id)) → after.marks ≡ book.marks → book.room ≤ after.room
-      → Settles {A = A} m (view_of greatest eras acceptors desks callers flow book) id number key program (view_of greatest eras acceptors desks (slice_set callers id (refused caller told)) flow after) (slice_set callers id (refused caller told)) after.room (Err told)
+      → (told ≡ answer.RecordFull → calls.most_marks < length book.marks + reserved_beside callers id + reserved_by (council_view council) + calls.round_marks (era_in council.eras.0 id)) → after.marks ≡ book.marks → book.room ≤ after.room
+      → Settles {A = A} m (view_of greatest council acceptors desks callers flow book) id number key program (view_of greatest council acceptors desks (slice_set callers id (refused caller told)) flow after) (slice_set callers id (refused caller told)) after.room (Err told)
   not_made told after (inl first) why full marks grows =
-      let same : view_of greatest eras acceptors desks (slice_set callers id (refused caller told)) flow after ≡ old =
-      ap (λ (l : List Caller). view_of greatest eras acceptors desks l flow after) (callers_same told first.none_open) ∙ ap (λ (l : List Mark). record old { marks = l }) marks in
-      let by : Step m old (step.RefuseBegin id key) (view_of greatest eras acceptors desks (slice_set callers id (refused caller told)) flow after) = calls.stays same in
+      let same : view_of greatest council acceptors desks (slice_set callers id (refused caller told)) flow after ≡ old =
+      ap (λ (l : List Caller). view_of greatest council acceptors desks l flow after) (callers_same told first.none_open) ∙ ap (λ (l : List Mark). record old { marks = l }) marks in
+      let by : Step m old (step.RefuseBegin id key) (view_of greatest council acceptors desks (slice_set callers id (refused caller told)) flow after) = calls.stays same in
       record {
         event = step.RefuseBegin id key;
         by = by;
@@ -264,12 +267,12 @@ module _ {S V : Type 0} (A : Type 0) (m : Meaning S V) (greatest : ℕ) (eras : 
       }
   not_made told after (inr another) why full marks grows =
       let is = entered_one another in
-      let same : view_of greatest eras acceptors desks (slice_set callers id (refused caller told)) flow after ≡ view_of greatest eras acceptors desks (slice_set callers id (told_now (entered caller None 1) told)) flow (opened_book book None) =
-      ap (λ (c : Caller). view_of greatest eras acceptors desks (slice_set callers id c) flow after) (refused_open told another.call another.is_call)
-      ∙ ap (λ (l : List Mark). record (view_of greatest eras acceptors desks (slice_set callers id (told_now (entered caller None 1) told)) flow after) { marks = l }) (marks ∙ sym (append-nil book.marks)) in
-      let by : Step m old (step.Begin id key program) (view_of greatest eras acceptors desks (slice_set callers id (refused caller told)) flow after) =
+      let same : view_of greatest council acceptors desks (slice_set callers id (refused caller told)) flow after ≡ view_of greatest council acceptors desks (slice_set callers id (told_now (entered caller None 1) told)) flow (opened_book book None) =
+      ap (λ (c : Caller). view_of greatest council acceptors desks (slice_set callers id c) flow after) (refused_open told another.call another.is_call)
+      ∙ ap (λ (l : List Mark). record (view_of greatest council acceptors desks (slice_set callers id (told_now (entered caller None 1) told)) flow after) { marks = l }) (marks ∙ sym (append-nil book.marks)) in
+      let by : Step m old (step.Begin id key program) (view_of greatest council acceptors desks (slice_set callers id (refused caller told)) flow after) =
       subst (λ (v : View S V). Step m old (step.Begin id key program) v) (sym same)
-      (step_stays greatest eras acceptors desks callers flow book id number key program m (entered caller None 1) (opened_book book None) caller at_caller 1 0 is told (elim why [ inl full ↦ subst calls.IsNoBeginning (sym full) tt | inr none ↦ subst calls.IsNoBeginning (sym none) refl ])
+      (step_stays greatest council acceptors desks callers flow book id number key program m (entered caller None 1) (opened_book book None) caller at_caller 1 0 is told (elim why [ inl full ↦ subst calls.IsNoBeginning (sym full) tt | inr none ↦ subst calls.IsNoBeginning (sym none) refl ])
       (λ down. elim why [ inl full ↦ absurd (cc (full, down)) | inr none ↦ absurd (cc (none, down)) ]) (λ is_full. entered_full another (full is_full)) desk at_desk another.idle) in
       record {
         event = step.Begin id key program;
@@ -285,28 +288,28 @@ module _ {S V : Type 0} (A : Type 0) (m : Meaning S V) (greatest : ℕ) (eras : 
       }
 
   -- ---- room was made for its marks
-  module _ (marks : ℕ) (same_marks : marks ≡ round_marks (era_in eras id)) (few : length book.marks + reserved_beside callers id + marks ≤ most_marks) (opening : Option Opening)
+  module _ (marks : ℕ) (same_marks : marks ≡ round_marks (era_in council.eras.0 id)) (few : length book.marks + reserved_beside callers id + reserved_by (council_view council) + marks ≤ most_marks) (opening : Option Opening)
       (first_is : caller.call ≡ None → opening ≡ Some (opening_of (record { caller = id; call = number }) key program)) (again_is : IsSome caller.call → opening ≡ None) where
     pub entering : IsFirst desk caller number ⊎ IsAnother desk caller number key program
-        → IsEntered (view_of greatest eras acceptors desks callers flow book) id number key program (view_of greatest eras acceptors desks (slice_set callers id (entered caller opening marks)) flow (opened_book book opening)) (entered caller opening marks) marks (length (entry_marks opening))
-    entering (inl first) = subst (λ (o : Option Opening). IsEntered (view_of greatest eras acceptors desks callers flow book) id number key program (view_of greatest eras acceptors desks (slice_set callers id (entered caller o marks)) flow (opened_book book o)) (entered caller o marks) marks (length (entry_marks o)))
-        (sym (first_is first.none_open)) (opens_first greatest eras acceptors desks callers flow book id number key program marks desk caller at_caller low first same_marks few)
-    entering (inr another) = subst (λ (o : Option Opening). IsEntered (view_of greatest eras acceptors desks callers flow book) id number key program (view_of greatest eras acceptors desks (slice_set callers id (entered caller o marks)) flow (opened_book book o)) (entered caller o marks) marks (length (entry_marks o)))
-        (sym (again_is (subst (λ (o : Option OpenCall). IsSome o) (sym another.is_call) refl))) (opens_again greatest eras acceptors desks callers flow book id number key program marks desk caller at_caller at_desk low another (omega (arith, same_marks)) few)
+        → IsEntered (view_of greatest council acceptors desks callers flow book) id number key program (view_of greatest council acceptors desks (slice_set callers id (entered caller opening marks)) flow (opened_book book opening)) (entered caller opening marks) marks (length (entry_marks opening))
+    entering (inl first) = subst (λ (o : Option Opening). IsEntered (view_of greatest council acceptors desks callers flow book) id number key program (view_of greatest council acceptors desks (slice_set callers id (entered caller o marks)) flow (opened_book book o)) (entered caller o marks) marks (length (entry_marks o)))
+        (sym (first_is first.none_open)) (opens_first greatest council acceptors desks callers flow book id number key program marks desk caller at_caller low first same_marks few)
+    entering (inr another) = subst (λ (o : Option Opening). IsEntered (view_of greatest council acceptors desks callers flow book) id number key program (view_of greatest council acceptors desks (slice_set callers id (entered caller o marks)) flow (opened_book book o)) (entered caller o marks) marks (length (entry_marks o)))
+        (sym (again_is (subst (λ (o : Option OpenCall). IsSome o) (sym another.is_call) refl))) (opens_again greatest council acceptors desks callers flow book id number key program marks desk caller at_caller at_desk low another (omega (arith, same_marks)) few)
 
-    module _ (may : IsFirst desk caller number ⊎ IsAnother desk caller number key program) (now : DeskView V) (flow_now : FlowView) (after : Book) (left : ℕ) (held : reserved_beside callers id + marks ≤ left) (grows : book.room ≤ left) where
+    module _ (may : IsFirst desk caller number ⊎ IsAnother desk caller number key program) (now : DeskView V) (flow_now : FlowView) (after : Book) (left : ℕ) (held : reserved_beside callers id + reserved_by (council_view council) + marks ≤ left) (grows : book.room ≤ left) where
       idle : desk.round ≡ None
       idle = elim may [ inl first ↦ first.idle | inr another ↦ another.idle ]
 
-      is_entered : IsEntered (view_of greatest eras acceptors desks callers flow book) id number key program (view_of greatest eras acceptors desks (slice_set callers id (entered caller opening marks)) flow (opened_book book opening)) (entered caller opening marks) marks (length (entry_marks opening))
+      is_entered : IsEntered (view_of greatest council acceptors desks callers flow book) id number key program (view_of greatest council acceptors desks (slice_set callers id (entered caller opening marks)) flow (opened_book book opening)) (entered caller opening marks) marks (length (entry_marks opening))
       is_entered = entering may
 
       -- the marks that are reserved have their room
-      next_room : (next : Caller) (spent : ℕ) → reserved_of next + spent ≤ marks → after.room + spent ≡ left → seen.reserved_of (map caller_view (slice_set callers id next)) ≤ after.room
+      next_room : (next : Caller) (spent : ℕ) → reserved_of next + spent ≤ marks → after.room + spent ≡ left → seen.reserved_of (map caller_view (slice_set callers id next)) + reserved_by (council_view council) ≤ after.room
       next_room next spent within made = omega (arith, beside_seen callers id next low, within, made, held)
 
       -- ---- it began
-      has_round : (next : Caller) (call : OpenCall) → next.number ≡ number → next.call ≡ Some call → IsSome now.round → HasRound (view_of greatest eras acceptors (slice_set desks id now) (slice_set callers id next) flow_now after) id number
+      has_round : (next : Caller) (call : OpenCall) → next.number ≡ number → next.call ≡ Some call → IsSome now.round → HasRound (view_of greatest council acceptors (slice_set desks id now) (slice_set callers id next) flow_now after) id number
       has_round next call same is some = record {
         caller = caller_view next;
         at_caller = at_map caller_view (slice_set callers id next) id next (at_set callers id caller next at_caller);
@@ -318,15 +321,15 @@ module _ {S V : Type 0} (A : Type 0) (m : Meaning S V) (greatest : ℕ) (eras : 
         is_open = some;
       }
 
-      pub prepares : Prepares m.disks (era_in eras id) key id desk now flow flow_now → after.marks ≡ book.marks ++ entry_marks opening → after.room + length (entry_marks opening) ≡ left → (done : A)
-          → Settles {A = A} m (view_of greatest eras acceptors desks callers flow book) id number key program (view_of greatest eras acceptors (slice_set desks id now) (slice_set callers id (entered caller opening marks)) flow_now after)
+      pub prepares : Prepares m.disks (era_in council.eras.0 id) key id desk now flow flow_now → after.marks ≡ book.marks ++ entry_marks opening → after.room + length (entry_marks opening) ≡ left → (done : A)
+          → Settles {A = A} m (view_of greatest council acceptors desks callers flow book) id number key program (view_of greatest council acceptors (slice_set desks id now) (slice_set callers id (entered caller opening marks)) flow_now after)
           (slice_set callers id (entered caller opening marks)) after.room (Ok done)
       prepares was made spent done =
           let next : Caller = entered caller opening marks in
           let is_round : now.round ≡ Some was.round = ap (λ (d : DeskView V). d.round) was.begins.desk in
-          let by : Step m old (step.Begin id key program) (view_of greatest eras acceptors (slice_set desks id now) (slice_set callers id next) flow_now after) =
-          subst (λ (l : List Mark). Step m old (step.Begin id key program) (record (view_of greatest eras acceptors (slice_set desks id now) (slice_set callers id next) flow_now after) { marks = l })) (sym made)
-          (step_prepares greatest eras acceptors desks callers flow book id number key program m next (opened_book book opening) caller at_caller marks (length (entry_marks opening)) is_entered same_marks desk now flow_now at_desk was) in
+          let by : Step m old (step.Begin id key program) (view_of greatest council acceptors (slice_set desks id now) (slice_set callers id next) flow_now after) =
+          subst (λ (l : List Mark). Step m old (step.Begin id key program) (record (view_of greatest council acceptors (slice_set desks id now) (slice_set callers id next) flow_now after) { marks = l })) (sym made)
+          (step_prepares greatest council acceptors desks callers flow book id number key program m next (opened_book book opening) caller at_caller marks (length (entry_marks opening)) is_entered same_marks desk now flow_now at_desk was) in
           record {
             event = step.Begin id key program;
             by = by;
@@ -340,9 +343,9 @@ module _ {S V : Type 0} (A : Type 0) (m : Meaning S V) (greatest : ℕ) (eras : 
             answers = (by, has_round next is_entered.call is_entered.same_number is_entered.is_open (subst (λ (r : Option Round). IsSome r) (sym is_round) refl));
           }
 
-      pub proposes : (proposing : Proposing) → ProposesBy m.disks (era_in eras id) key program (record { caller = id; call = number }) desk now flow flow_now proposing → after.marks ≡ book.marks ++ (entry_marks opening ++ proposing.mark ∷ [])
+      pub proposes : (proposing : Proposing) → ProposesBy m.disks (era_in council.eras.0 id) key program (record { caller = id; call = number }) desk now flow flow_now proposing → after.marks ≡ book.marks ++ (entry_marks opening ++ proposing.mark ∷ [])
           → after.room + length (entry_marks opening ++ proposing.mark ∷ []) ≡ left → (done : A)
-          → Settles {A = A} m (view_of greatest eras acceptors desks callers flow book) id number key program (view_of greatest eras acceptors (slice_set desks id now) (slice_set callers id (proposes_now (entered caller opening marks) proposing)) flow_now after)
+          → Settles {A = A} m (view_of greatest council acceptors desks callers flow book) id number key program (view_of greatest council acceptors (slice_set desks id now) (slice_set callers id (proposes_now (entered caller opening marks) proposing)) flow_now after)
           (slice_set callers id (proposes_now (entered caller opening marks) proposing)) after.room (Ok done)
       proposes proposing was made spent done =
           let entry : Caller = entered caller opening marks in
@@ -351,8 +354,8 @@ module _ {S V : Type 0} (A : Type 0) (m : Meaning S V) (greatest : ℕ) (eras : 
           let is_round : now.round ≡ Some riding = ap (λ (d : DeskView V). d.round) was.begins.desk in
           let next_call : next.call ≡ Some (with_proposal is_entered.call proposing) = ap (λ (o : Option OpenCall). option_map (λ call. with_proposal call proposing) o) is_entered.is_open in
           let one_more : length (entry_marks opening ++ proposing.mark ∷ []) ≡ length (entry_marks opening) + 1 = length-append (entry_marks opening) (proposing.mark ∷ []) in
-          let by : Step m old (step.Begin id key program) (view_of greatest eras acceptors (slice_set desks id now) (slice_set callers id next) flow_now after) =
-          step_proposes greatest eras acceptors desks callers flow book id number key program m entry (opened_book book opening) caller at_caller marks (length (entry_marks opening)) is_entered same_marks desk now flow_now after proposing at_desk was
+          let by : Step m old (step.Begin id key program) (view_of greatest council acceptors (slice_set desks id now) (slice_set callers id next) flow_now after) =
+          step_proposes greatest council acceptors desks callers flow book id number key program m entry (opened_book book opening) caller at_caller marks (length (entry_marks opening)) is_entered same_marks desk now flow_now after proposing at_desk was
           (made ∙ sym (append_assoc book.marks (entry_marks opening) (proposing.mark ∷ []))) in
           let held_copies : HasCopies (Some riding) (Some (with_proposal is_entered.call proposing)) =
           λ accepting. (
@@ -392,15 +395,15 @@ module _ {S V : Type 0} (A : Type 0) (m : Meaning S V) (greatest : ℕ) (eras : 
       none_left answer.RecordFull by = elim by [ ]
 
       pub fails : (told : Answer) → is_refusal told ≡ false → FailsToOpen m.disks key desk now told → after.marks ≡ book.marks ++ entry_marks opening → after.room + length (entry_marks opening) ≡ left
-          → Settles {A = A} m (view_of greatest eras acceptors desks callers flow book) id number key program (view_of greatest eras acceptors (slice_set desks id now) (slice_set callers id (told_now (entered caller opening marks) told)) flow after)
+          → Settles {A = A} m (view_of greatest council acceptors desks callers flow book) id number key program (view_of greatest council acceptors (slice_set desks id now) (slice_set callers id (told_now (entered caller opening marks) told)) flow after)
           (slice_set callers id (told_now (entered caller opening marks) told)) after.room (Err told)
       fails told begun was made spent =
           let entry : Caller = entered caller opening marks in
           let next : Caller = told_now entry told in
           let next_call : next.call ≡ Some (over is_entered.call told) = ap (λ (o : Option OpenCall). option_map (λ call. over call told) o) is_entered.is_open in
-          let by : Step m old (step.Begin id key program) (view_of greatest eras acceptors (slice_set desks id now) (slice_set callers id next) flow after) =
-          subst (λ (l : List Mark). Step m old (step.Begin id key program) (record (view_of greatest eras acceptors (slice_set desks id now) (slice_set callers id next) flow after) { marks = l })) (sym made)
-          (step_fails greatest eras acceptors desks callers flow book id number key program m entry (opened_book book opening) caller at_caller marks (length (entry_marks opening)) is_entered desk now told at_desk idle was) in
+          let by : Step m old (step.Begin id key program) (view_of greatest council acceptors (slice_set desks id now) (slice_set callers id next) flow after) =
+          subst (λ (l : List Mark). Step m old (step.Begin id key program) (record (view_of greatest council acceptors (slice_set desks id now) (slice_set callers id next) flow after) { marks = l })) (sym made)
+          (step_fails greatest council acceptors desks callers flow book id number key program m entry (opened_book book opening) caller at_caller marks (length (entry_marks opening)) is_entered desk now told at_desk idle was) in
           record {
             event = step.Begin id key program;
             by = by;
@@ -410,12 +413,12 @@ module _ {S V : Type 0} (A : Type 0) (m : Meaning S V) (greatest : ℕ) (eras : 
               room = next_room next (length (entry_marks opening)) (omega (arith, is_entered.within, is_entered.reserved, same_marks, ap (λ (o : Option OpenCall). reserved_in o) next_call)) spent;
               copies = copies_next desks callers id now next (idle_copies now.round next.call (none_left told was)) inv.copies;
             };
-            answers = inl (by, was_told greatest eras acceptors (slice_set desks id now) callers flow after id number caller next (over is_entered.call told) told at_caller is_entered.same_number next_call refl, λ none. begun);
+            answers = inl (by, was_told greatest council acceptors (slice_set desks id now) callers flow after id number caller next (over is_entered.call told) told at_caller is_entered.same_number next_call refl, λ none. begun);
           }
 
       -- ---- no memory was found
       pub loses : (proposed : Bool) → FailsToOpen m.disks key desk now (answer.NoMemory proposed) → after.marks ≡ book.marks → after.room ≡ left
-          → Settles {A = A} m (view_of greatest eras acceptors desks callers flow book) id number key program (view_of greatest eras acceptors (slice_set desks id now) (slice_set callers id (refused caller (answer.NoMemory proposed))) flow after)
+          → Settles {A = A} m (view_of greatest council acceptors desks callers flow book) id number key program (view_of greatest council acceptors (slice_set desks id now) (slice_set callers id (refused caller (answer.NoMemory proposed))) flow after)
           (slice_set callers id (refused caller (answer.NoMemory proposed))) after.room (Err (answer.NoMemory proposed))
       loses proposed was made spent = loses_in may
         where
@@ -423,12 +426,12 @@ module _ {S V : Type 0} (A : Type 0) (m : Meaning S V) (greatest : ℕ) (eras : 
           told = answer.NoMemory proposed
 
           loses_in : IsFirst desk caller number ⊎ IsAnother desk caller number key program
-              → Settles {A = A} m (view_of greatest eras acceptors desks callers flow book) id number key program (view_of greatest eras acceptors (slice_set desks id now) (slice_set callers id (refused caller (answer.NoMemory proposed))) flow after)
+              → Settles {A = A} m (view_of greatest council acceptors desks callers flow book) id number key program (view_of greatest council acceptors (slice_set desks id now) (slice_set callers id (refused caller (answer.NoMemory proposed))) flow after)
               (slice_set callers id (refused caller (answer.NoMemory proposed))) after.room (Err (answer.NoMemory proposed))
           loses_in (inl first) =
-              let by : Step m old (step.RefuseBegin id key) (view_of greatest eras acceptors (slice_set desks id now) (slice_set callers id (refused caller told)) flow after) =
+              let by : Step m old (step.RefuseBegin id key) (view_of greatest council acceptors (slice_set desks id now) (slice_set callers id (refused caller told)) flow after) =
               calls.loses (caller_view caller) desk now was.2 (at_map caller_view callers id caller at_caller) at_desk first.idle was.1 was.3
-              (ap (λ (l : List Caller). view_of greatest eras acceptors (slice_set desks id now) l flow after) (callers_same told first.none_open) ∙ ap (λ (l : List Mark). record (view_of greatest eras acceptors (slice_set desks id now) callers flow book) { marks = l }) made) in
+              (ap (λ (l : List Caller). view_of greatest council acceptors (slice_set desks id now) l flow after) (callers_same told first.none_open) ∙ ap (λ (l : List Mark). record (view_of greatest council acceptors (slice_set desks id now) callers flow book) { marks = l }) made) in
               record {
                 event = step.RefuseBegin id key;
                 by = by;
@@ -442,10 +445,10 @@ module _ {S V : Type 0} (A : Type 0) (m : Meaning S V) (greatest : ℕ) (eras : 
               }
           loses_in (inr another) =
               let is = entered_one another in
-              let by : Step m old (step.Begin id key program) (view_of greatest eras acceptors (slice_set desks id now) (slice_set callers id (refused caller told)) flow after) =
-              subst (λ (c : Caller). Step m old (step.Begin id key program) (view_of greatest eras acceptors (slice_set desks id now) (slice_set callers id c) flow after)) (sym (refused_open told another.call another.is_call))
-              (subst (λ (l : List Mark). Step m old (step.Begin id key program) (record (view_of greatest eras acceptors (slice_set desks id now) (slice_set callers id (told_now (entered caller None 1) told)) flow after) { marks = l })) (append-nil book.marks ∙ sym made)
-              (step_fails greatest eras acceptors desks callers flow book id number key program m (entered caller None 1) (opened_book book None) caller at_caller 1 0 is desk now told at_desk another.idle was)) in
+              let by : Step m old (step.Begin id key program) (view_of greatest council acceptors (slice_set desks id now) (slice_set callers id (refused caller told)) flow after) =
+              subst (λ (c : Caller). Step m old (step.Begin id key program) (view_of greatest council acceptors (slice_set desks id now) (slice_set callers id c) flow after)) (sym (refused_open told another.call another.is_call))
+              (subst (λ (l : List Mark). Step m old (step.Begin id key program) (record (view_of greatest council acceptors (slice_set desks id now) (slice_set callers id (told_now (entered caller None 1) told)) flow after) { marks = l })) (append-nil book.marks ∙ sym made)
+              (step_fails greatest council acceptors desks callers flow book id number key program m (entered caller None 1) (opened_book book None) caller at_caller 1 0 is desk now told at_desk another.idle was)) in
               record {
                 event = step.Begin id key program;
                 by = by;
@@ -459,23 +462,23 @@ module _ {S V : Type 0} (A : Type 0) (m : Meaning S V) (greatest : ℕ) (eras : 
               }
 
       -- ---- all of it
-      pub settles : (begun : Result (Option Proposing) Answer) → IfOk begun (OpensRound m.disks (era_in eras id) key program (record { caller = id; call = number }) desk now flow flow_now) → IfErr begun (FailsToOpen m.disks key desk now) → OnErr begun (flow_now ≡ flow)
+      pub settles : (begun : Result (Option Proposing) Answer) → IfOk begun (OpensRound m.disks (era_in council.eras.0 id) key program (record { caller = id; call = number }) desk now flow flow_now) → IfErr begun (FailsToOpen m.disks key desk now) → OnErr begun (flow_now ≡ flow)
           → after.marks ≡ book.marks ++ settled_marks opening begun → after.room + length (settled_marks opening begun) ≡ left → (result : Result A Answer) → IfErr begun (λ told. result ≡ Err told) → OnOk begun (IsOk result)
-          → Settles {A = A} m (view_of greatest eras acceptors desks callers flow book) id number key program (view_of greatest eras acceptors (slice_set desks id now) (slice_set callers id (settled caller opening marks begun)) flow_now after)
+          → Settles {A = A} m (view_of greatest council acceptors desks callers flow book) id number key program (view_of greatest council acceptors (slice_set desks id now) (slice_set callers id (settled caller opening marks begun)) flow_now after)
           (slice_set callers id (settled caller opening marks begun)) after.room result
-      settles (Ok None) opens refuses stays made spent result err ok = subst (λ (r : Result A Answer). Settles {A = A} m (view_of greatest eras acceptors desks callers flow book) id number key program
-          (view_of greatest eras acceptors (slice_set desks id now) (slice_set callers id (entered caller opening marks)) flow_now after) (slice_set callers id (entered caller opening marks)) after.room r) (sym (is_ok result ok).1) (prepares opens made spent (is_ok result ok).0)
-      settles (Ok (Some proposing)) opens refuses stays made spent result err ok = subst (λ (r : Result A Answer). Settles {A = A} m (view_of greatest eras acceptors desks callers flow book) id number key program
-          (view_of greatest eras acceptors (slice_set desks id now) (slice_set callers id (proposes_now (entered caller opening marks) proposing)) flow_now after) (slice_set callers id (proposes_now (entered caller opening marks) proposing)) after.room r) (sym (is_ok result ok).1)
+      settles (Ok None) opens refuses stays made spent result err ok = subst (λ (r : Result A Answer). Settles {A = A} m (view_of greatest council acceptors desks callers flow book) id number key program
+          (view_of greatest council acceptors (slice_set desks id now) (slice_set callers id (entered caller opening marks)) flow_now after) (slice_set callers id (entered caller opening marks)) after.room r) (sym (is_ok result ok).1) (prepares opens made spent (is_ok result ok).0)
+      settles (Ok (Some proposing)) opens refuses stays made spent result err ok = subst (λ (r : Result A Answer). Settles {A = A} m (view_of greatest council acceptors desks callers flow book) id number key program
+          (view_of greatest council acceptors (slice_set desks id now) (slice_set callers id (proposes_now (entered caller opening marks) proposing)) flow_now after) (slice_set callers id (proposes_now (entered caller opening marks) proposing)) after.room r) (sym (is_ok result ok).1)
           (proposes proposing opens made spent (is_ok result ok).0)
       settles (Err told) opens refuses stays made spent result err ok =
-          subst (λ (f : FlowView). Settles {A = A} m (view_of greatest eras acceptors desks callers flow book) id number key program (view_of greatest eras acceptors (slice_set desks id now) (slice_set callers id (settled caller opening marks (Err told))) f after)
+          subst (λ (f : FlowView). Settles {A = A} m (view_of greatest council acceptors desks callers flow book) id number key program (view_of greatest council acceptors (slice_set desks id now) (slice_set callers id (settled caller opening marks (Err told))) f after)
           (slice_set callers id (settled caller opening marks (Err told))) after.room result) (sym stays)
-          (subst (λ (r : Result A Answer). Settles {A = A} m (view_of greatest eras acceptors desks callers flow book) id number key program (view_of greatest eras acceptors (slice_set desks id now) (slice_set callers id (settled caller opening marks (Err told))) flow after)
+          (subst (λ (r : Result A Answer). Settles {A = A} m (view_of greatest council acceptors desks callers flow book) id number key program (view_of greatest council acceptors (slice_set desks id now) (slice_set callers id (settled caller opening marks (Err told))) flow after)
           (slice_set callers id (settled caller opening marks (Err told))) after.room r) (sym err) (by_told told refuses made spent))
         where
           by_told : (told : Answer) → FailsToOpen m.disks key desk now told → after.marks ≡ book.marks ++ settled_marks opening (Err told) → after.room + length (settled_marks opening (Err told)) ≡ left
-              → Settles {A = A} m (view_of greatest eras acceptors desks callers flow book) id number key program (view_of greatest eras acceptors (slice_set desks id now) (slice_set callers id (settled caller opening marks (Err told))) flow after)
+              → Settles {A = A} m (view_of greatest council acceptors desks callers flow book) id number key program (view_of greatest council acceptors (slice_set desks id now) (slice_set callers id (settled caller opening marks (Err told))) flow after)
               (slice_set callers id (settled caller opening marks (Err told))) after.room (Err told)
           by_told answer.Down was made spent = fails answer.Down refl was made spent
           by_told answer.Spent was made spent = fails answer.Spent refl was made spent

@@ -8,7 +8,6 @@ use Rattle.cas_slot.specs.Contents.{nothing}
 use Rattle.cas_slot.specs.Shelf.{Left, OnlyLeaves}
 use Rattle.cas_slot.specs.declared.fault.ShelfFault.{ShelfFault}
 use Rattle.cas_flow.specs.Flow.{FlowView, abandoned}
-use Rattle.cas_quorum.specs.declared.era.Era.{Era}
 use Rattle.cas_record.specs.Book.{Book}
 use Rattle.cas_record.specs.declared.answer.Answer.{Answer}
 use Rattle.cas_disk.specs.Disk.{Only}
@@ -20,12 +19,13 @@ use Rattle.cas_vault.specs.declared.vault.Vault.{Vault}
 use Rattle.cas_vault.specs.Vault.{kept_of, disk_of, KeptOn, IsPast, Stands}
 use Rattle.cas_vault.proofs.Keeping.{same_kept}
 use Rattle.cas_cluster.specs.Step as step
-use Rattle.cas_cluster.specs.Step.{StepRestartAcceptor, StepCrashProposer, StepRestartProposer}
+use Rattle.cas_cluster.specs.Step.{StepRestartAcceptor, CrashesDesk, StepRestartProposer}
 use Rattle.cas_cluster.specs.Parties.{IsWithin}
 use Rattle.cas_cluster.specs.StepDesks.{GoesOn, Crashes, Restarts}
 use Rattle.cas_cluster.specs.View.{DiskMeaning, Meaning, ShelfMeaning, View, CallerView, IsAt, reserved_in, reserved_of, with_acceptor, with_desk}
 use Rattle.cas_cluster.proofs.Places.{at_one, at_set, but_set, own_set, other_set}
 use Rattle.cas_cluster.proofs.SafeParts.{reserved_set}
+use Rattle.cas_world.specs.declared.council.Council.{Council}
 use Rattle.cas_world.specs.declared.call.Caller.{Caller}
 use Rattle.cas_world.specs.declared.call.OpenCall.{OpenCall}
 use Rattle.cas_world.specs.Answers.{crash_answer}
@@ -229,17 +229,21 @@ copies_closed {V} desks callers id now none were p d caller at_d at_caller = eli
 abbrev pub crashed_caller : Caller → OpenCall → Caller
 crashed_caller caller call = record caller { call = Some (record (over call (crash_answer (is_some call.proposed))) { is_closed = true }) }
 
-pub crash_closes : {S V : Type 0} (m : Meaning S V) (greatest : ℕ) (eras : List Era) (acceptors : List (AcceptorView S)) (desks : List (DeskView V)) (callers : List Caller) (flow : FlowView) (book : Book) (id : ℕ) (desk now : DeskView V) (round : Round) (caller : Caller) (call : OpenCall)
+pub crash_closes : {S V : Type 0} (m : Meaning S V) (greatest : ℕ) (council : Council) (acceptors : List (AcceptorView S)) (desks : List (DeskView V)) (callers : List Caller) (flow : FlowView) (book : Book) (id : ℕ) (desk now : DeskView V) (round : Round) (caller : Caller) (call : OpenCall)
     → IsAt desks id desk → IsAt callers id caller → caller.call ≡ Some call → desk.round ≡ Some round → Crashes m.disks desk now
-    → StepCrashProposer m (view_of greatest eras acceptors desks callers flow book) id (view_of greatest eras acceptors (slice_set desks id now) (slice_set callers id (crashed_caller caller call)) (abandoned flow id) book)
-crash_closes {S} {V} m greatest eras acceptors desks callers flow book id desk now round caller call at_desk at_caller is_open is_round by =
+    → CrashesDesk m (view_of greatest council acceptors desks callers flow book) id (view_of greatest council acceptors (slice_set desks id now) (slice_set callers id (crashed_caller caller call)) (abandoned flow id) book)
+crash_closes {S} {V} m greatest council acceptors desks callers flow book id desk now round caller call at_desk at_caller is_open is_round by =
     step.closes desk now round (record { caller = caller_view caller; at_caller = at_map caller_view callers id caller at_caller; call = call_view call; is_open = ap (λ (o : Option OpenCall). option_map call_view o) is_open })
     at_desk is_round by
-    (ap (λ (l : List CallerView). record (view_of greatest eras acceptors (slice_set desks id now) callers (abandoned flow id) book) { callers = l }) (map_set caller_view callers id (crashed_caller caller call)))
+    (ap (λ (l : List CallerView). record (view_of greatest council acceptors (slice_set desks id now) callers (abandoned flow id) book) { callers = l }) (map_set caller_view callers id (crashed_caller caller call)))
 
 pub crash_idle : {S V : Type 0} (m : Meaning S V) (old : View S V) (id : ℕ) (desk now : DeskView V) → IsAt old.desks id desk → desk.round ≡ None → Crashes m.disks desk now
-    → StepCrashProposer m old id (record (with_desk old id now) { flow = abandoned old.flow id })
+    → CrashesDesk m old id (record (with_desk old id now) { flow = abandoned old.flow id })
 crash_idle m old id desk now at none by = step.idle desk now at none by refl
+
+-- what is done to a world is done to what it is seen as
+pub crash_seen : {S V : Type 0} {m : Meaning S V} (id : ℕ) {inside now new : View S V} → inside ≡ now → CrashesDesk m inside id new → CrashesDesk m now id new
+crash_seen {S} {V} {m} id {inside} {now} {new} same by = subst (λ (v : View S V). CrashesDesk m v id new) same by
 
 -- the caller whose round was closed, as it was told
 pub closed_is : (caller read new : Caller) (call : OpenCall) (told : Answer) (proposed : Bool) → caller.call ≡ Some call → read ≡ caller → IfSome read.call (λ c. proposed ≡ is_some c.proposed) → told ≡ crash_answer proposed

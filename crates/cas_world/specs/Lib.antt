@@ -1,7 +1,9 @@
 pub mod Answers
 pub mod Beginning
 pub mod Call
+pub mod Council
 pub mod Count
+pub mod Exchange
 pub mod Opening
 pub mod Proposing
 pub mod Readers

@@ -4,16 +4,17 @@ use Rattle.cas_acceptor.specs.Acceptor.{AcceptorView}
 use Rattle.cas_proposer.specs.Desk.{DeskView}
 use Rattle.cas_proposer.specs.Round.{is_preparing}
 use Rattle.cas_proposer.specs.declared.round.Round.{Round}
-use Rattle.cas_quorum.specs.declared.era.Era.{Era}
 use Rattle.cas_flow.specs.Flow.{FlowView, queue_at}
 use Rattle.cas_record.specs.Book.{Book}
 use Rattle.cas_record.specs.declared.answer.Answer.{Answer}
 use Rattle.cas_world.specs.declared.call.Caller.{Caller}
 use Rattle.cas_world.specs.declared.call.OpenCall.{OpenCall}
+use Rattle.cas_world.specs.declared.council.Council.{Council}
+use Rattle.cas_world.specs.Council.{council_view}
 use Rattle.cas_world.specs.declared.proposal.Copies.{Copies}
 use Rattle.cas_cluster.specs.History.{IsRemembered}
 use Rattle.cas_cluster.specs.Safe.{IsSafe}
-use Rattle.cas_cluster.specs.View.{Meaning, View, CallView, CallerView, IsAt, reserved_of}
+use Rattle.cas_cluster.specs.View.{Meaning, View, CallView, CallerView, IsAt, reserved_in_all}
 
 -- ---- what is seen
 abbrev pub call_view : OpenCall → CallView
@@ -31,13 +32,14 @@ call_view call = record {
 abbrev pub caller_view : Caller → CallerView
 caller_view caller = record { number = caller.number; call = option_map call_view caller.call }
 
-abbrev pub view_of : {S V : Type 0} → ℕ → List Era → List (AcceptorView S) → List (DeskView V) → List Caller → FlowView → Book → View S V
-view_of greatest eras acceptors desks callers flow book = record {
+abbrev pub view_of : {S V : Type 0} → ℕ → Council → List (AcceptorView S) → List (DeskView V) → List Caller → FlowView → Book → View S V
+view_of greatest council acceptors desks callers flow book = record {
   greatest = greatest;
-  eras = eras;
+  eras = council.eras.0;
   acceptors = acceptors;
   desks = desks;
   callers = map caller_view callers;
+  council = council_view council;
   flow = flow;
   marks = book.marks;
 }
@@ -52,7 +54,7 @@ HasCopies round call = Unit {0}
 -- the cluster is safe, each mark that is reserved has memory, and so has each accept phase for its end
 pub record IsWorld {S V : Type 0} (m : Meaning S V) (view : View S V) (callers : List Caller) (left : ℕ) : Type 0 where
   pub safe : IsSafe view
-  pub room : reserved_of view.callers ≤ left
+  pub room : reserved_in_all view ≤ left
   pub copies : (id : ℕ) (desk : DeskView V) (caller : Caller) → IsAt view.desks id desk → IsAt callers id caller → HasCopies desk.round caller.call
   -- where shelves and disks tell what they keep, there is a log of all that happened, which agrees with all of it
   pub remembered : m.shelves.tells → m.disks.tells → IsRemembered m view

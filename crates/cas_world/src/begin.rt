@@ -3,9 +3,9 @@
 ghost use Rattle.std.specs.Prelude.{◌≡◌, ◌⊎◌, ◌↔◌, ◌+◌, ◌^◌, ◌<◌, ◌≤◌, ◌++◌, length, sum_by, slice_get, slice_set, false, Some, None, IsSome, IsOk, IsErrOf, IfOk, IfErr, IfSome, OnOk, OnErr};
 ghost use Rattle.cas_ballot.specs.Ballot.{FitsBallot};
 ghost use Rattle.cas_cache.specs.Entries.{promise_at};
-ghost use Rattle.cas_cluster.specs.StepCalls.{Sends, prepares_to, most_marks, round_marks};
+ghost use Rattle.cas_cluster.specs.StepCalls.{Sends, prepares_to, round_marks, IsFull};
 ghost use Rattle.cas_causes.specs.Told.{BeginsBy};
-ghost use Rattle.cas_cluster.specs.View.{era_at, meaning, new_caller, reserved_of as reserved_in_all};
+ghost use Rattle.cas_cluster.specs.View.{meaning};
 ghost use Rattle.cas_world.specs.Answers.{is_done};
 ghost use Rattle.cas_world.specs.Beginning.{opening_of, refused, entered, entry_marks, settled, settled_marks, OpensRound, FailsToOpen, reserved_beside, MayBegin, BeginsOrNot};
 ghost use Rattle.cas_world.specs.Call.{reserved_of};
@@ -53,19 +53,21 @@ impl<S: Shelf, V: Disk> World<S, V> {
         program: &Program,
     ) -> Result<(), Answer>
         requires known { caller ≤ self.old.greatest }
+        requires unasked { caller ≡ 0 → self.old.council.exchange ≡ None }
         requires may { MayBegin self.old caller call key.now program.now }
-        ensures full { IsErrOf result Answer.RecordFull ↔ (most_marks < length self.old.marks + reserved_in_all (slice_set self.old.callers caller new_caller) + round_marks (era_at self.old caller)) }
+        ensures full { IsErrOf result Answer.RecordFull ↔ IsFull self.old caller }
         ensures cause { IfErr result (λ told. BeginsBy (meaning S.contents S.tells S.may_leave S.fault_count V.tells V.may_leave V.fault_count) self.old caller key.now told self.new) }
         ensures step { BeginsOrNot (meaning S.contents S.tells S.may_leave S.fault_count V.tells V.may_leave V.fault_count) self.old caller call key.now program.now result self.new }
     {
         let alloc = *self.acceptors.allocator();
         let place = usize::from(caller);
         let author = Author { caller, call };
-        let era = *self.eras.of(caller);
+        let era = *self.council.eras.of(caller);
         let marks = round_marks(&era);
         let opening = match make_room(
             &mut self.record,
             &self.callers,
+            self.council.reserved(),
             marks,
             author,
             key,
@@ -127,11 +129,12 @@ fn round_marks(era: &Era) -> usize
     4 * era.everyone().count() as usize + 8
 }
 
-/// Makes room for the marks of the round, and for what a new call keeps. `None` comes where the caller has an open call. `RecordFull`
+/// Makes room for the marks of the round beside those that are reserved, and for what a new call keeps. `None` comes where the caller has an open call. `RecordFull`
 /// comes exactly where a record would hold too many marks, and `NoMemory` alone beside it; no mark is made.
 fn make_room(
     record: &mut Record,
     callers: &[Caller],
+    beside: usize,
     marks: usize,
     author: Author,
     key: &Key,
@@ -139,17 +142,17 @@ fn make_room(
 ) -> Result<Option<Opening>, Answer>
     requires place { author.caller < length callers.now }
     requires marks { marks ≤ 1000 }
-    requires few { length «record».old.marks + sum_by reserved_of callers.now ≤ 1000000 }
-    ensures full { IsErrOf result Answer.RecordFull ↔ (1000000 < length «record».old.marks + reserved_beside callers.now author.caller + marks) }
+    requires few { length «record».old.marks + sum_by reserved_of callers.now + beside ≤ 1000000 }
+    ensures full { IsErrOf result Answer.RecordFull ↔ (1000000 < length «record».old.marks + reserved_beside callers.now author.caller + beside + marks) }
     ensures refused { IfErr result (λ refusal. (refusal ≡ Answer.RecordFull) ⊎ (refusal ≡ Answer.NoMemory false)) }
     ensures first { (caller : ACaller) → slice_get callers.now author.caller ≡ Some caller → caller.call ≡ None → IfOk result (λ opening. opening ≡ Some (opening_of author key.now program.now)) }
     ensures again { (caller : ACaller) → slice_get callers.now author.caller ≡ Some caller → IsSome caller.call → IfOk result (λ opening. opening ≡ None) }
-    ensures room { OnOk result (reserved_beside callers.now author.caller + marks ≤ «record».new.room) }
+    ensures room { OnOk result (reserved_beside callers.now author.caller + beside + marks ≤ «record».new.room) }
     ensures made { «record».new.marks ≡ «record».old.marks }
     ensures grows { «record».old.room ≤ «record».new.room }
 {
     let place = usize::from(author.caller);
-    let others = reserved_by(&callers[..place]) + reserved_by(&callers[place + 1..]);
+    let others = reserved_by(&callers[..place]) + reserved_by(&callers[place + 1..]) + beside;
     if record.marks().len() + others + marks > MOST_MARKS {
         return Err(Answer::RecordFull);
     }
@@ -304,5 +307,5 @@ fn ask_to_prepare(
         key: key.copy()?,
         ballot,
     };
-    send_to(alloc, flow, &era.prep, proposer, age, ask)
+    send_to(alloc, flow, proposer, &era.prep, proposer, age, ask)
 }

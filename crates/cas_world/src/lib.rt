@@ -6,8 +6,10 @@
 mod answers;
 mod begin;
 mod call;
+mod council;
 mod end;
 mod eras;
+mod exchange;
 mod fault;
 mod open;
 mod parties;
@@ -19,5 +21,6 @@ mod stray;
 mod turn;
 mod world;
 
+pub use council::{Exchange, Gathered};
 pub use fault::{OpenFault, StrayFault};
 pub use world::{Config, World};

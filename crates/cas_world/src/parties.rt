@@ -2,7 +2,7 @@
 
 ghost use Rattle.std.specs.Prelude.{◌≡◌, ◌≤◌, slice_get};
 ghost use Rattle.cas_world.specs.Readers.{up_in};
-ghost use Rattle.cas_cluster.specs.Step.{Step, CrashAcceptor, RestartAcceptor, CrashProposer, RestartProposer};
+ghost use Rattle.cas_cluster.specs.Step.{Step, CrashesDesk, broken_off_view, CrashAcceptor, RestartAcceptor, CrashProposer, RestartProposer};
 ghost use Rattle.cas_cluster.specs.View.{IsAt, era_at, meaning};
 ghost use Rattle.cas_acceptor.specs.Acceptor.{AcceptorView};
 ghost use Rattle.cas_proposer.specs.Desk.{DeskView};
@@ -11,6 +11,7 @@ ghost use Rattle.cas_world.specs.Restarting.{TellsOfAcceptor, TellsOfDesk};
 ghost use Rattle.cas_world.specs.Serve.{shelves};
 
 use crate::answers::crash_answer;
+use crate::council::EXCHANGE_PLACE;
 use crate::world::World;
 use cas_ballot::AcceptorId;
 use cas_disk::Disk;
@@ -47,10 +48,22 @@ impl<S: Shelf, V: Disk> World<S, V> {
         self.acceptors[usize::from(id.number())].restart()
     }
 
-    /// The proposer crashes: its open round is closed, its caller is told so, and the frames of the round join the late ones.
+    /// The proposer crashes: its open round is closed, its caller is told so, and the frames of the round join the late ones. So do those of
+    /// an exchange of proposer 0, which ends then with what it was told.
     pub fn crash_proposer(&mut self, proposer: u8)
         requires { proposer ≤ self.old.greatest }
         ensures { Step (meaning S.contents S.tells S.may_leave S.fault_count V.tells V.may_leave V.fault_count) self.old (CrashProposer proposer) self.new }
+    {
+        self.crash_desk(proposer);
+        if proposer == 0 {
+            self.break_off();
+        }
+    }
+
+    /// The proposer's desk crashes, within a round or beside one.
+    fn crash_desk(&mut self, proposer: u8)
+        requires { proposer ≤ self.old.greatest }
+        ensures { CrashesDesk (meaning S.contents S.tells S.may_leave S.fault_count V.tells V.may_leave V.fault_count) self.old proposer self.new }
     {
         let place = usize::from(proposer);
         let closes = self.desks[place].round().is_some();
@@ -60,6 +73,14 @@ impl<S: Shelf, V: Disk> World<S, V> {
             let proposed = self.callers[place].has_proposed();
             self.callers[place].close_round(crash_answer(proposed));
         }
+    }
+
+    /// The exchange of proposer 0, if one is open, ends with what it was told, and its frames join the late ones.
+    fn break_off(&mut self)
+        ensures { self.new ≡ broken_off_view self.old }
+    {
+        self.flow.abandon(EXCHANGE_PLACE);
+        self.council.break_off();
     }
 
     /// The proposer is up again, with its counter at the bound of its vault, or stays down by this error. One that is up stays as it

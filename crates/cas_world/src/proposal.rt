@@ -157,7 +157,15 @@ fn proposal(
         ride,
         state: outcome.state.copy()?,
     };
-    send_to(alloc, flow, &era.acc, author.caller, age, ask)?;
+    send_to(
+        alloc,
+        flow,
+        author.caller,
+        &era.acc,
+        author.caller,
+        age,
+        ask,
+    )?;
     Ok(Proposing {
         outcome,
         copies,

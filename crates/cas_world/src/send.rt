@@ -15,25 +15,27 @@ use std::alloc::{AllocError, Global};
 /// How many identities of acceptors there are.
 const IDENTITIES: u8 = 64;
 
-/// Asks each of these members, in rising number: all of them or, after an `Err`, none. There is room then for all replies to
+/// Asks each of these members by frames in that queue, in rising number: all of them or, after an `Err`, none. There is room then for all replies to
 /// them, of which each request may have two.
 pub(crate) fn send_to(
     alloc: Global,
     flow: &mut Flow,
+    queue: u8,
     members: &Members,
     proposer: u8,
     age: u64,
     ask: Ask,
 ) -> Result<(), AllocError>
     requires proposer { proposer ≤ 16 }
-    requires queue { proposer < length flow.old.own }
+    requires place { queue ≤ 17 }
+    requires queue { queue < length flow.old.own }
     requires ballots { AskBallotsFit ask }
-    ensures sent { OnOk result (Sends flow.old proposer (requests_to proposer age ask members.now) flow.new) }
+    ensures sent { OnOk result (Sends flow.old queue (requests_to proposer age ask members.now) flow.new) }
     ensures not_sent { OnErr result (flow.new ≡ flow.old) }
 {
     let frames = frames_to(alloc, members, proposer, age, ask)?;
-    flow.reserve_own(proposer, 2 * frames.len())?;
-    push_all(flow, proposer, frames);
+    flow.reserve_own(queue, 2 * frames.len())?;
+    push_all(flow, queue, frames);
     Ok(())
 }
 
@@ -67,15 +69,15 @@ fn frames_to(
     Ok(frames)
 }
 
-/// Puts the frames, none of which is blank, behind the proposer's others. There is room for twice as many.
-fn push_all(flow: &mut Flow, proposer: u8, frames: Vec<Frame>)
-    requires proposer { proposer ≤ 16 }
-    requires queue { proposer < length flow.old.own }
+/// Puts the frames, none of which is blank, behind the queue's others. There is room for twice as many.
+fn push_all(flow: &mut Flow, queue: u8, frames: Vec<Frame>)
+    requires place { queue ≤ 17 }
+    requires queue { queue < length flow.old.own }
     requires bear { all_bear frames.items ≡ true }
-    requires room { 2 * length frames.items ≤ (queue_at flow.old proposer).room }
-    ensures { Sends flow.old proposer (messages_of frames.items) flow.new }
+    requires room { 2 * length frames.items ≤ (queue_at flow.old queue).room }
+    ensures { Sends flow.old queue (messages_of frames.items) flow.new }
 {
     for frame in frames {
-        flow.push_own(proposer, frame);
+        flow.push_own(queue, frame);
     }
 }

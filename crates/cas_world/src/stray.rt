@@ -7,11 +7,11 @@ ghost use Rattle.cas_proposer.specs.Desk.{met_counter};
 ghost use Rattle.cas_round.specs.Replies.{met_by};
 ghost use Rattle.cas_cluster.specs.Step.{Step, Stray, RefuseStray};
 ghost use Rattle.cas_cluster.specs.StepCalls.{most_marks};
-ghost use Rattle.cas_cluster.specs.View.{meaning, reserved_of};
+ghost use Rattle.cas_cluster.specs.View.{meaning, reserved_in_all as seen_in_all};
 ghost use Rattle.cas_world.specs.Serve.{shelves, KeepsAll, AreNumbered};
 ghost use Rattle.cas_world.specs.Stray.{AsksLate, ArrivesAt, LetsIn};
 
-use crate::call::reserved_by;
+use crate::council::reserved_in_all;
 use crate::fault::StrayFault;
 use crate::serve::{Served, serve};
 use crate::world::World;
@@ -42,12 +42,12 @@ impl<S: Shelf, V: Disk> World<S, V> {
         requires { index < length self.old.flow.late }
         ensures ok { OnOk result (Step (meaning S.contents S.tells S.may_leave S.fault_count V.tells V.may_leave V.fault_count) self.old (Stray index) self.new) }
         ensures peer { IfOk result (λ peer. IfSome (slice_get self.old.flow.late index) (λ late. peer ≡ (head_of late).1)) }
-        ensures full { IsErrOf result StrayFault.RecordFull ↔ (length self.old.marks + reserved_of self.old.callers ≡ most_marks) }
+        ensures full { IsErrOf result StrayFault.RecordFull ↔ (length self.old.marks + seen_in_all self.old ≡ most_marks) }
         ensures unchanged { IsErrOf result StrayFault.RecordFull → self.new ≡ self.old }
         ensures err { OnErr result (Step (meaning S.contents S.tells S.may_leave S.fault_count V.tells V.may_leave V.fault_count) self.old RefuseStray self.new) }
     {
         let alloc = *self.acceptors.allocator();
-        let reserved = reserved_by(&self.callers);
+        let reserved = reserved_in_all(&self.callers, &self.council);
         if self.record.marks().len() + reserved >= MOST_MARKS {
             return Err(StrayFault::RecordFull);
         }

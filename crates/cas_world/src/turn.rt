@@ -7,6 +7,7 @@ ghost use Rattle.cas_flow.specs.declared.message.Message.{Message as AMessage};
 ghost use Rattle.cas_flow.specs.declared.message.Message.TheVariants as message;
 ghost use Rattle.cas_proposer.specs.Desk.{met_counter};
 ghost use Rattle.cas_round.specs.Replies.{met_by};
+ghost use Rattle.cas_world.specs.Exchange.{place_of, turn_of, refusal_of};
 ghost use Rattle.cas_world.specs.Serve.{shelves, KeepsAll, AreNumbered};
 ghost use Rattle.cas_world.specs.Turn.{MayMark, Makes, Harms, Asks, Arrives, Handles};
 ghost use Rattle.cas_cluster.specs.Step.{Step, Turn, RefuseTurn};
@@ -17,6 +18,7 @@ use crate::call::Caller;
 use crate::serve::{Served, serve};
 use crate::world::World;
 use cas_acceptor::Acceptor;
+use cas_ballot::AcceptorId;
 use cas_disk::Disk;
 use cas_fate::Verdict;
 use cas_flow::{Fall, Flow, Message};
@@ -31,7 +33,23 @@ impl<S: Shelf, V: Disk> World<S, V> {
     ///
     /// In each phase of a round the first frame of an acceptor that is harmed is marked, and no other. After an `Err` all is as before
     /// and the frame waits, and the caller is told that no memory was found.
+    ///
+    /// While an exchange is open, its frames are those of proposer 0; the operator's call is then told that no memory was found.
     pub fn turn(&mut self, proposer: u8, verdict: Verdict) -> Result<(), AllocError>
+        requires proposer { proposer ≤ self.old.greatest }
+        requires waits { (queue_at self.old.flow (place_of self.old proposer)).messages ≢ [] }
+        ensures ok { OnOk result (Step (meaning S.contents S.tells S.may_leave S.fault_count V.tells V.may_leave V.fault_count) self.old (turn_of self.old proposer verdict) self.new) }
+        ensures err { OnErr result (Step (meaning S.contents S.tells S.may_leave S.fault_count V.tells V.may_leave V.fault_count) self.old (refusal_of self.old proposer) self.new) }
+    {
+        if self.asks_as(proposer) {
+            self.turn_exchange(verdict)
+        } else {
+            self.turn_round(proposer, verdict)
+        }
+    }
+
+    /// The first frame of the proposer's round has its turn.
+    fn turn_round(&mut self, proposer: u8, verdict: Verdict) -> Result<(), AllocError>
         requires proposer { proposer ≤ self.old.greatest }
         requires waits { (queue_at self.old.flow proposer).messages ≢ [] }
         ensures ok { OnOk result (Step (meaning S.contents S.tells S.may_leave S.fault_count V.tells V.may_leave V.fault_count) self.old (Turn proposer verdict) self.new) }
@@ -89,12 +107,21 @@ fn lose(flow: &mut Flow, caller: &mut Caller, record: &mut Record, proposer: u8,
     ensures flow { flow.new ≡ taken flow.old proposer verdict }
     ensures harms { (front : AMessage) → slice_get (queue_at flow.old proposer).messages 0 ≡ Some front → Harms proposer caller.old caller.new «record».old «record».new (head_of front).1 false }
 {
-    let peer = match flow.front(proposer) {
-        Some((_, peer)) => peer,
-        None => unreachable!(),
-    };
+    let peer = peer_of(flow, proposer);
     flow.take(proposer, verdict);
     caller.harm(record, proposer, peer, false);
+}
+
+/// The acceptor at the other end of the queue's first frame.
+pub(crate) fn peer_of(flow: &Flow, queue: u8) -> AcceptorId
+    requires place { queue ≤ 17 }
+    requires waits { (queue_at flow.now queue).messages ≢ [] }
+    ensures { (front : AMessage) → slice_get (queue_at flow.now queue).messages 0 ≡ Some front → result ≡ (head_of front).1 }
+{
+    match flow.front(queue) {
+        Some((_, peer)) => peer,
+        None => unreachable!(),
+    }
 }
 
 /// What the first frame bears is handled.
@@ -128,15 +155,15 @@ fn handle<S: Shelf, V: Disk>(
     }
 }
 
-/// What the first frame bears.
-fn first(alloc: Global, flow: &Flow, proposer: u8) -> Result<Message, AllocError>
-    requires proposer { proposer ≤ 16 }
-    requires waits { (queue_at flow.now proposer).messages ≢ [] }
-    ensures message { IfOk result (λ message. slice_get (queue_at flow.now proposer).messages 0 ≡ Some message) }
+/// What the first frame of the queue bears.
+pub(crate) fn first(alloc: Global, flow: &Flow, queue: u8) -> Result<Message, AllocError>
+    requires place { queue ≤ 17 }
+    requires waits { (queue_at flow.now queue).messages ≢ [] }
+    ensures message { IfOk result (λ message. slice_get (queue_at flow.now queue).messages 0 ≡ Some message) }
     ensures fits { IfOk result FitsMessage }
     ensures sent { IfOk result CanBeSent }
 {
-    match flow.look(proposer) {
+    match flow.look(queue) {
         Some(frame) => frame.read(alloc),
         None => unreachable!(),
     }

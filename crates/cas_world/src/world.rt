@@ -8,6 +8,7 @@ ghost use Rattle.cas_cluster.specs.View.{CallerView, IsAt, era_at, meaning};
 ghost use Rattle.cas_world.specs.Opening.{members_to, unstarted, shelves_of, disks_of, AreStartedBelow, AreDesksBelow, DoesNotOpen};
 ghost use Rattle.cas_world.specs.Answers.{is_done};
 ghost use Rattle.cas_world.specs.Readers.{next_number, told_if, closed_in, IsVerdictIn};
+ghost use Rattle.cas_world.specs.Exchange.{asks_as, place_of};
 ghost use Rattle.cas_world.specs.Serve.{shelves as shelves_like};
 ghost use Rattle.cas_world.specs.Proposing.{disks as disks_like};
 ghost use Rattle.cas_flow.specs.Flow.{queue_at};
@@ -18,7 +19,7 @@ ghost use Rattle.cas_record.specs.Legal.{IsLegal};
 
 use crate::answers::copy_of;
 use crate::call::{Caller, OpenCall};
-use crate::eras::Eras;
+use crate::council::{Council, EXCHANGE_PLACE};
 use crate::fault::OpenFault;
 use crate::open::{Lists, Setup, first_members, give_disks, give_shelves, start, take_shelves};
 use cas_acceptor::Acceptor;
@@ -50,7 +51,7 @@ pub struct Config {
 pub struct World<S: Shelf, V: Disk> {
     /// How many proposers there are, and the lists in which all is handed back.
     pub(crate) config: Setup<S, V>,
-    pub(crate) eras: Eras,
+    pub(crate) council: Council,
     /// The acceptors, each at the place of its number.
     pub(crate) acceptors: Vec<Acceptor<S>>,
     /// The desks of the proposers, likewise.
@@ -68,9 +69,9 @@ impl<S: Shelf, V: Disk> Model for World<S, V> {
 
     ghost Value = { View S V };
 
-    ghost view = { λ w. view_of w.config.proposers w.eras.0 w.acceptors.items w.desks.items w.callers.items w.flow w.«record» };
+    ghost view = { λ w. view_of w.config.proposers w.council w.acceptors.items w.desks.items w.callers.items w.flow w.«record» };
 
-    ghost invariant = { λ w. IsWorld (meaning S.contents S.tells S.may_leave S.fault_count V.tells V.may_leave V.fault_count) (view_of w.config.proposers w.eras.0 w.acceptors.items w.desks.items w.callers.items w.flow w.«record») w.callers.items w.«record».room };
+    ghost invariant = { λ w. IsWorld (meaning S.contents S.tells S.may_leave S.fault_count V.tells V.may_leave V.fault_count) (view_of w.config.proposers w.council w.acceptors.items w.desks.items w.callers.items w.flow w.«record») w.callers.items w.«record».room };
 }
 
 impl<S: Shelf, V: Disk> World<S, V> {
@@ -115,7 +116,7 @@ impl<S: Shelf, V: Disk> World<S, V> {
                     shelves,
                     disks: vaults,
                 },
-                eras: Eras::all_in(Era::majority(0, first_members(config.acceptors))),
+                council: Council::new(Era::majority(0, first_members(config.acceptors))),
                 acceptors,
                 desks,
                 callers,
@@ -142,7 +143,7 @@ impl<S: Shelf, V: Disk> World<S, V> {
     {
         let World {
             config,
-            eras: _,
+            council: _,
             acceptors,
             desks,
             callers: _,
@@ -173,7 +174,7 @@ impl<S: Shelf, V: Disk> World<S, V> {
     pub fn era(&self) -> &Era
         ensures { result.now ≡ era_at self.now 0 }
     {
-        self.eras.of(0)
+        self.council.eras.of(0)
     }
 
     /// The number of the caller's next call.
@@ -184,12 +185,25 @@ impl<S: Shelf, V: Disk> World<S, V> {
         self.callers[usize::from(caller)].next()
     }
 
-    /// The leg of the proposer's first frame, and the acceptor at its other end. `None` comes exactly where no own frame waits.
+    /// The leg of the proposer's first frame, and the acceptor at its other end. `None` comes exactly where no own frame waits. While an
+    /// exchange is open, its frames are those of proposer 0.
     pub fn front(&self, proposer: u8) -> Option<(Leg, AcceptorId)>
         requires { proposer ≤ self.now.greatest }
-        ensures { result ≡ option_map head_of (slice_get (queue_at self.now.flow proposer).messages 0) }
+        ensures { result ≡ option_map head_of (slice_get (queue_at self.now.flow (place_of self.now proposer)).messages 0) }
     {
-        self.flow.front(proposer)
+        let place = if self.asks_as(proposer) {
+            EXCHANGE_PLACE
+        } else {
+            proposer
+        };
+        self.flow.front(place)
+    }
+
+    /// Whether the proposer's frames are those of an exchange that is open.
+    pub(crate) fn asks_as(&self, proposer: u8) -> bool
+        ensures { result ≡ asks_as self.now.council.exchange proposer }
+    {
+        proposer == 0 && self.council.exchange.is_some()
     }
 
     /// How the caller's open call was closed by another. `None` comes where it was not; `Done` never comes.

@@ -15,6 +15,9 @@ reserved_by-requires-2 c = omega (arith, c.requires.few, others_within c.from-pl
 pub overflow_add-others : goal.overflow_add-others
 overflow_add-others c = omega (arith, c.requires.few, c.reserved_by.ensures, c.reserved_by-2.ensures, others_within c.from-place.result (length c.args.callers.now - (c.from-place.result + 1)) c.args.callers.now)
 
+pub overflow_add-others-2 : goal.overflow_add-others-2
+overflow_add-others-2 c = omega (arith, c.requires.few, c.reserved_by.ensures, c.reserved_by-2.ensures, others_within c.from-place.result (length c.args.callers.now - (c.from-place.result + 1)) c.args.callers.now)
+
 pub overflow_add-marks : goal.overflow_add-marks
 overflow_add-marks c = let made : length c.marks.result.now ≡ length c.args.record.now.marks = ap (λ l. length l) c.marks.ensures in
     omega (arith, made, c.requires.few, c.reserved_by.ensures, c.reserved_by-2.ensures, others_within c.from-place.result (length c.args.callers.now - (c.from-place.result + 1)) c.args.callers.now)

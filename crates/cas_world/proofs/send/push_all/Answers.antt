@@ -11,6 +11,6 @@ pub returns : goal.returns
 returns c =
     let gives : into_iter_items c.into_iter-frame-iterator.result ≡ c.args.frames.items = c.into_iter-frame-iterator.ensures.into_iter_gives.0 in
     let none : into_iter_items c.loop-frame.frame-iterator ≡ [] = nil_from_length (into_iter_items c.loop-frame.frame-iterator) (omega (arith, c.loop-frame.frame-iterator.rest.ok.0, c.in-None.ensures.steps.0)) in
-    all_sent c.args.flow.now c.loop-frame.flow c.args.proposer c.args.frames.items
-    (subst (λ (all : List (Option Message)). IsSending c.args.flow.now c.args.proposer all c.loop-frame.flow []) gives
-    (subst (λ (rest : List (Option Message)). IsSending c.args.flow.now c.args.proposer (into_iter_items c.into_iter-frame-iterator.result) c.loop-frame.flow rest) none c.loop-frame.invariant.2))
+    all_sent c.args.flow.now c.loop-frame.flow c.args.queue c.args.frames.items
+    (subst (λ (all : List (Option Message)). IsSending c.args.flow.now c.args.queue all c.loop-frame.flow []) gives
+    (subst (λ (rest : List (Option Message)). IsSending c.args.flow.now c.args.queue (into_iter_items c.into_iter-frame-iterator.result) c.loop-frame.flow rest) none c.loop-frame.invariant.2))

@@ -16,6 +16,6 @@ pub returns-clause-sent : goal.returns-clause-sent
 returns-clause-sent c =
     let messages : messages_of c.in_ok-frames.frames.items ≡ requests_to c.args.proposer c.args.age c.args.ask c.args.members.now =
     ap messages_of c.in_ok-frames.ensures.each ∙ messages_borne (requests_to c.args.proposer c.args.age c.args.ask c.args.members.now) in
-    sends_after c.args.flow.now c.reserve_own.new.self c.push_all.new.flow c.args.proposer (queue_at c.reserve_own.new.self c.args.proposer).room (requests_to c.args.proposer c.args.age c.args.ask c.args.members.now)
+    sends_after c.args.flow.now c.reserve_own.new.self c.push_all.new.flow c.args.queue (queue_at c.reserve_own.new.self c.args.queue).room (requests_to c.args.proposer c.args.age c.args.ask c.args.members.now)
     c.requires.queue c.in_ok-reserve_own.ensures.same
-    (subst (λ (l : List Message). Sends c.reserve_own.new.self c.args.proposer l c.push_all.new.flow) messages c.push_all.ensures)
+    (subst (λ (l : List Message). Sends c.reserve_own.new.self c.args.queue l c.push_all.new.flow) messages c.push_all.ensures)

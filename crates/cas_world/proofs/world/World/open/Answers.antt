@@ -1,12 +1,12 @@
 use Rattle.std.proofs.Common.{◌≡◌, ◌+◌, List, length, sym, ap, subst, ◌∙◌, arith}
-use Rattle.std.specs.Prelude.{reverse, replicate}
+use Rattle.std.specs.Prelude.{reverse}
 use Rattle.std.proofs.lemmas.List.{length-append, length-drop, length-map, length-reverse, reverse-reverse}
 use Rattle.cas_acceptor.specs.Acceptor.{AcceptorView}
 use Rattle.cas_proposer.specs.Desk.{DeskView}
-use Rattle.cas_quorum.specs.declared.era.Era.{Era}
 use Rattle.cas_quorum.specs.Era.{majority_era}
 use Rattle.cas_cluster.specs.View.{IsAt, meaning}
 use Rattle.cas_vault.specs.Vault.{disk_of}
+use Rattle.cas_world.specs.Council.{opening_council}
 use Rattle.cas_world.specs.Opening as opening
 use Rattle.cas_world.specs.Opening.{unstarted, shelves_of, disks_of, AllStart, SomeDiskFails}
 use Rattle.cas_world.proofs.Lists.{unstarted_at, unstarted_places}
@@ -47,21 +47,21 @@ invariant_of-result g c = record {
 
 pub invariant_of-result-in-Ok-start : goal.invariant_of-result-in-Ok-start
 invariant_of-result-in-Ok-start g c =
-    is_world (meaning g.S.Shelf.contents g.S.Shelf.tells g.S.Shelf.may_leave g.S.Shelf.fault_count g.V.Disk.tells g.V.Disk.may_leave g.V.Disk.fault_count) g.S.Shelf.fault_count g.V.Disk.fault_count c.args.config.acceptors c.args.config.proposers c.args.shelves.items c.args.vaults.items c.all_in.result.0
-    c.start.new.acceptors.items c.start.new.desks.items c.in-Ok.lists.callers.items c.in-Ok.lists.flow c.new-in-Ok-start.result (reverse c.start.new.disks.items) c.requires.some c.requires.few c.requires.proposers (sym c.args.shelves.ok.0 ∙ c.requires.shelves)
-    (starts g (goal.at.invariant_of-result-in-Ok-start g c).In-Ok-start) (c.all_in.ensures ∙ ap (λ (e : Era). replicate 17 e) (c.majority.ensures.value ∙ ap (majority_era 0) c.first_members.ensures)) (c.in-Ok.ensures {u = tt}).callers (c.in-Ok.ensures {u = tt}).flow c.new-in-Ok-start.ensures
+    is_world (meaning g.S.Shelf.contents g.S.Shelf.tells g.S.Shelf.may_leave g.S.Shelf.fault_count g.V.Disk.tells g.V.Disk.may_leave g.V.Disk.fault_count) g.S.Shelf.fault_count g.V.Disk.fault_count c.args.config.acceptors c.args.config.proposers c.args.shelves.items c.args.vaults.items c.new-in-Ok-start.result
+    c.start.new.acceptors.items c.start.new.desks.items c.in-Ok.lists.callers.items c.in-Ok.lists.flow c.new-in-Ok-start-2.result (reverse c.start.new.disks.items) c.requires.some c.requires.few c.requires.proposers (sym c.args.shelves.ok.0 ∙ c.requires.shelves)
+    (starts g (goal.at.invariant_of-result-in-Ok-start g c).In-Ok-start) (c.new-in-Ok-start.ensures ∙ ap opening_council (c.majority.ensures.value ∙ ap (majority_era 0) c.first_members.ensures)) (c.in-Ok.ensures {u = tt}).callers (c.in-Ok.ensures {u = tt}).flow c.new-in-Ok-start-2.ensures
 
 pub returns-in-Ok-start-clause-opening : goal.returns-in-Ok-start-clause-opening
 returns-in-Ok-start-clause-opening g c =
-    is_opening (meaning g.S.Shelf.contents g.S.Shelf.tells g.S.Shelf.may_leave g.S.Shelf.fault_count g.V.Disk.tells g.V.Disk.may_leave g.V.Disk.fault_count) g.S.Shelf.fault_count g.V.Disk.fault_count c.args.config.acceptors c.args.config.proposers c.args.shelves.items c.args.vaults.items c.all_in.result.0
-    c.start.new.acceptors.items c.start.new.desks.items c.in-Ok.lists.callers.items c.in-Ok.lists.flow c.new-in-Ok-start.result (reverse c.start.new.disks.items) c.requires.some c.requires.few c.requires.proposers (sym c.args.shelves.ok.0 ∙ c.requires.shelves)
-    (starts g (goal.at.returns-in-Ok-start-clause-opening g c).In-Ok-start) (c.all_in.ensures ∙ ap (λ (e : Era). replicate 17 e) (c.majority.ensures.value ∙ ap (majority_era 0) c.first_members.ensures)) (c.in-Ok.ensures {u = tt}).callers (c.in-Ok.ensures {u = tt}).flow c.new-in-Ok-start.ensures
+    is_opening (meaning g.S.Shelf.contents g.S.Shelf.tells g.S.Shelf.may_leave g.S.Shelf.fault_count g.V.Disk.tells g.V.Disk.may_leave g.V.Disk.fault_count) g.S.Shelf.fault_count g.V.Disk.fault_count c.args.config.acceptors c.args.config.proposers c.args.shelves.items c.args.vaults.items c.new-in-Ok-start.result
+    c.start.new.acceptors.items c.start.new.desks.items c.in-Ok.lists.callers.items c.in-Ok.lists.flow c.new-in-Ok-start-2.result (reverse c.start.new.disks.items) c.requires.some c.requires.few c.requires.proposers (sym c.args.shelves.ok.0 ∙ c.requires.shelves)
+    (starts g (goal.at.returns-in-Ok-start-clause-opening g c).In-Ok-start) (c.new-in-Ok-start.ensures ∙ ap opening_council (c.majority.ensures.value ∙ ap (majority_era 0) c.first_members.ensures)) (c.in-Ok.ensures {u = tt}).callers (c.in-Ok.ensures {u = tt}).flow c.new-in-Ok-start-2.ensures
 
 pub returns-in-Ok-start-clause-places : goal.returns-in-Ok-start-clause-places
 returns-in-Ok-start-clause-places g c =
-    has_places (meaning g.S.Shelf.contents g.S.Shelf.tells g.S.Shelf.may_leave g.S.Shelf.fault_count g.V.Disk.tells g.V.Disk.may_leave g.V.Disk.fault_count) g.S.Shelf.fault_count g.V.Disk.fault_count c.args.config.acceptors c.args.config.proposers c.args.shelves.items c.args.vaults.items c.all_in.result.0
-    c.start.new.acceptors.items c.start.new.desks.items c.in-Ok.lists.callers.items c.in-Ok.lists.flow c.new-in-Ok-start.result (reverse c.start.new.disks.items) c.requires.some c.requires.few c.requires.proposers (sym c.args.shelves.ok.0 ∙ c.requires.shelves)
-    (starts g (goal.at.returns-in-Ok-start-clause-places g c).In-Ok-start) (c.all_in.ensures ∙ ap (λ (e : Era). replicate 17 e) (c.majority.ensures.value ∙ ap (majority_era 0) c.first_members.ensures)) (c.in-Ok.ensures {u = tt}).callers (c.in-Ok.ensures {u = tt}).flow c.new-in-Ok-start.ensures
+    has_places (meaning g.S.Shelf.contents g.S.Shelf.tells g.S.Shelf.may_leave g.S.Shelf.fault_count g.V.Disk.tells g.V.Disk.may_leave g.V.Disk.fault_count) g.S.Shelf.fault_count g.V.Disk.fault_count c.args.config.acceptors c.args.config.proposers c.args.shelves.items c.args.vaults.items c.new-in-Ok-start.result
+    c.start.new.acceptors.items c.start.new.desks.items c.in-Ok.lists.callers.items c.in-Ok.lists.flow c.new-in-Ok-start-2.result (reverse c.start.new.disks.items) c.requires.some c.requires.few c.requires.proposers (sym c.args.shelves.ok.0 ∙ c.requires.shelves)
+    (starts g (goal.at.returns-in-Ok-start-clause-places g c).In-Ok-start) (c.new-in-Ok-start.ensures ∙ ap opening_council (c.majority.ensures.value ∙ ap (majority_era 0) c.first_members.ensures)) (c.in-Ok.ensures {u = tt}).callers (c.in-Ok.ensures {u = tt}).flow c.new-in-Ok-start-2.ensures
 
 pub returns-in-Ok-start-clause-vaults : goal.returns-in-Ok-start-clause-vaults
 returns-in-Ok-start-clause-vaults g c = (starts g (goal.at.returns-in-Ok-start-clause-vaults g c).In-Ok-start).made

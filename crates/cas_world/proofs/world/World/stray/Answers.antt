@@ -3,8 +3,10 @@ use Rattle.cas_cluster.specs.Step as step
 use Rattle.cas_cluster.specs.Step.{StepStray}
 use Rattle.cas_cluster.specs.StepCalls.{most_marks}
 use Rattle.cas_cluster.specs.StepFrames.{FindsNoRoom}
-use Rattle.cas_cluster.specs.View.{View, meaning, reserved_of}
+use Rattle.cas_cluster.specs.View.{View, meaning, reserved_of, reserved_in_all}
 use Rattle.cas_cluster.proofs.SafeSteps.{steps_are_safe}
+use Rattle.cas_cluster.specs.Council.{reserved_by}
+use Rattle.cas_world.specs.Council.{council_view}
 use Rattle.cas_world.specs.Serve.{shelves, KeepsAll}
 use Rattle.cas_world.specs.Stray.{LetsIn}
 use Rattle.cas_world.specs.World.{view_of, caller_view}
@@ -16,59 +18,59 @@ use Rattle.cas_world.proofs.world.World.stray.Goals.{in-Ok, in-Err}
 
 -- ---- how many marks are made and reserved
 -- src/stray.rt:50:13
-pub reserved_by-reserved-requires : goal.reserved_by-reserved-requires
-reserved_by-reserved-requires g c = reserved_fits c.self.inside.callers.items c.deref.result.now c.deref.ensures.value (omega (arith, c.self.invariant.safe.room))
+pub reserved_in_all-reserved-requires : goal.reserved_in_all-reserved-requires
+reserved_in_all-reserved-requires g c = reserved_fits c.self.inside.callers.items c.deref.result.now c.self.inside.council c.deref.ensures.value (omega (arith, c.self.invariant.safe.room))
 
 -- src/stray.rt:51:12
 pub overflow_add-marks : goal.overflow_add-marks
 overflow_add-marks g c =
-    let reserves = reserved_is c.self.inside.callers.items c.deref.result.now c.reserved_by-reserved.result c.deref.ensures.value c.reserved_by-reserved.ensures in
-    omega (arith, counted c.marks.result.now c.reserved_by-reserved.result c.self.view_is c.marks.ensures reserves, few_counted c.self.view_is c.self.invariant.safe)
+    let reserves = reserved_is c.self.inside.callers.items c.deref.result.now c.self.inside.council c.reserved_in_all-reserved.result c.deref.ensures.value c.reserved_in_all-reserved.ensures in
+    omega (arith, counted c.marks.result.now c.reserved_in_all-reserved.result c.self.view_is c.marks.ensures reserves, few_counted c.self.view_is c.self.invariant.safe)
 
 -- src/stray.rt:52:13
 pub returns-then-marks-reserved-ge-MOST_MARKS-clause-full : goal.returns-then-marks-reserved-ge-MOST_MARKS-clause-full
 returns-then-marks-reserved-ge-MOST_MARKS-clause-full g c =
-    let reserves = reserved_is c.self.inside.callers.items c.deref.result.now c.reserved_by-reserved.result c.deref.ensures.value c.reserved_by-reserved.ensures in
-    (λ is. omega (arith, counted c.marks.result.now c.reserved_by-reserved.result c.self.view_is c.marks.ensures reserves, few_counted c.self.view_is c.self.invariant.safe, c.if-marks-reserved-ge-MOST_MARKS.true), λ full. refl)
+    let reserves = reserved_is c.self.inside.callers.items c.deref.result.now c.self.inside.council c.reserved_in_all-reserved.result c.deref.ensures.value c.reserved_in_all-reserved.ensures in
+    (λ is. omega (arith, counted c.marks.result.now c.reserved_in_all-reserved.result c.self.view_is c.marks.ensures reserves, few_counted c.self.view_is c.self.invariant.safe, c.if-marks-reserved-ge-MOST_MARKS.true), λ full. refl)
 
 -- ---- where there is room for a mark
-reserves : (g : Over) (c : goal.Joined-done g) → c.reserved_by-reserved.result ≡ reserved_of (map caller_view c.self.inside.callers.items)
-reserves g c = reserved_is c.self.inside.callers.items c.deref.result.now c.reserved_by-reserved.result c.deref.ensures.value c.reserved_by-reserved.ensures
+reserves : (g : Over) (c : goal.Joined-done g) → c.reserved_in_all-reserved.result ≡ reserved_of (map caller_view c.self.inside.callers.items) + reserved_by (council_view c.self.inside.council)
+reserves g c = reserved_is c.self.inside.callers.items c.deref.result.now c.self.inside.council c.reserved_in_all-reserved.result c.deref.ensures.value c.reserved_in_all-reserved.ensures
 
-some_room : (g : Over) (c : goal.Joined-done g) → length c.args.self.now.marks + reserved_of c.args.self.now.callers < most_marks
-some_room g c = omega (arith, counted c.marks.result.now c.reserved_by-reserved.result c.self.view_is c.marks.ensures (reserves g c), c.if-marks-reserved-ge-MOST_MARKS.false)
+some_room : (g : Over) (c : goal.Joined-done g) → length c.args.self.now.marks + reserved_in_all c.args.self.now < most_marks
+some_room g c = omega (arith, counted c.marks.result.now c.reserved_in_all-reserved.result c.self.view_is c.marks.ensures (reserves g c), c.if-marks-reserved-ge-MOST_MARKS.false)
 
 strays : (g : Over) (c : goal.Joined-done g) (peer : ℕ)
-    → LetsIn (shelves g.S.Shelf.contents g.S.Shelf.tells g.S.Shelf.may_leave g.S.Shelf.fault_count) c.args.index (c.reserved_by-reserved.result + 1) peer c.self.inside.acceptors.items c.let_in-done.new.acceptors.items
+    → LetsIn (shelves g.S.Shelf.contents g.S.Shelf.tells g.S.Shelf.may_leave g.S.Shelf.fault_count) c.args.index (c.reserved_in_all-reserved.result + 1) peer c.self.inside.acceptors.items c.let_in-done.new.acceptors.items
     c.self.inside.desks.items c.let_in-done.new.desks.items c.self.inside.flow c.let_in-done.new.flow c.self.inside.record c.let_in-done.new.record
     → StepStray (meaning g.S.Shelf.contents g.S.Shelf.tells g.S.Shelf.may_leave g.S.Shelf.fault_count g.V.Disk.tells g.V.Disk.may_leave g.V.Disk.fault_count)
-    (view_of c.self.inside.config.proposers c.self.inside.eras.0 c.self.inside.acceptors.items c.self.inside.desks.items c.self.inside.callers.items c.self.inside.flow c.self.inside.record) c.args.index
-    (view_of c.self.inside.config.proposers c.self.inside.eras.0 c.let_in-done.new.acceptors.items c.let_in-done.new.desks.items c.self.inside.callers.items c.let_in-done.new.flow c.let_in-done.new.record)
+    (view_of c.self.inside.config.proposers c.self.inside.council c.self.inside.acceptors.items c.self.inside.desks.items c.self.inside.callers.items c.self.inside.flow c.self.inside.record) c.args.index
+    (view_of c.self.inside.config.proposers c.self.inside.council c.let_in-done.new.acceptors.items c.let_in-done.new.desks.items c.self.inside.callers.items c.let_in-done.new.flow c.let_in-done.new.record)
 strays g c peer by =
-    stray_step (meaning g.S.Shelf.contents g.S.Shelf.tells g.S.Shelf.may_leave g.S.Shelf.fault_count g.V.Disk.tells g.V.Disk.may_leave g.V.Disk.fault_count) c.self.inside.config.proposers c.self.inside.eras.0 c.self.inside.acceptors.items c.let_in-done.new.acceptors.items
-    c.self.inside.desks.items c.let_in-done.new.desks.items c.self.inside.callers.items c.self.inside.flow c.let_in-done.new.flow c.self.inside.record c.let_in-done.new.record c.args.index (c.reserved_by-reserved.result + 1) peer
-    (subst (λ (v : View g.row.S.Denot g.row.V.Denot). length v.marks + reserved_of v.callers < most_marks) (sym c.self.view_is) (some_room g c)) by
+    stray_step (meaning g.S.Shelf.contents g.S.Shelf.tells g.S.Shelf.may_leave g.S.Shelf.fault_count g.V.Disk.tells g.V.Disk.may_leave g.V.Disk.fault_count) c.self.inside.config.proposers c.self.inside.council c.self.inside.acceptors.items c.let_in-done.new.acceptors.items
+    c.self.inside.desks.items c.let_in-done.new.desks.items c.self.inside.callers.items c.self.inside.flow c.let_in-done.new.flow c.self.inside.record c.let_in-done.new.record c.args.index (c.reserved_in_all-reserved.result + 1) peer
+    (subst (λ (v : View g.row.S.Denot g.row.V.Denot). length v.marks + reserved_in_all v < most_marks) (sym c.self.view_is) (some_room g c)) by
 
 no_memory : (g : Over) (c : goal.Joined-done g) → KeepsAll (shelves g.S.Shelf.contents g.S.Shelf.tells g.S.Shelf.may_leave g.S.Shelf.fault_count) c.self.inside.acceptors.items c.let_in-done.new.acceptors.items
     → c.let_in-done.new.desks.items ≡ c.self.inside.desks.items → c.let_in-done.new.flow ≡ c.self.inside.flow → c.let_in-done.new.record.marks ≡ c.self.inside.record.marks
     → FindsNoRoom (meaning g.S.Shelf.contents g.S.Shelf.tells g.S.Shelf.may_leave g.S.Shelf.fault_count g.V.Disk.tells g.V.Disk.may_leave g.V.Disk.fault_count)
-    (view_of c.self.inside.config.proposers c.self.inside.eras.0 c.self.inside.acceptors.items c.self.inside.desks.items c.self.inside.callers.items c.self.inside.flow c.self.inside.record)
-    (view_of c.self.inside.config.proposers c.self.inside.eras.0 c.let_in-done.new.acceptors.items c.let_in-done.new.desks.items c.self.inside.callers.items c.let_in-done.new.flow c.let_in-done.new.record)
+    (view_of c.self.inside.config.proposers c.self.inside.council c.self.inside.acceptors.items c.self.inside.desks.items c.self.inside.callers.items c.self.inside.flow c.self.inside.record)
+    (view_of c.self.inside.config.proposers c.self.inside.council c.let_in-done.new.acceptors.items c.let_in-done.new.desks.items c.self.inside.callers.items c.let_in-done.new.flow c.let_in-done.new.record)
 no_memory g c =
-    no_room (meaning g.S.Shelf.contents g.S.Shelf.tells g.S.Shelf.may_leave g.S.Shelf.fault_count g.V.Disk.tells g.V.Disk.may_leave g.V.Disk.fault_count) c.self.inside.config.proposers c.self.inside.eras.0 c.self.inside.acceptors.items c.let_in-done.new.acceptors.items
+    no_room (meaning g.S.Shelf.contents g.S.Shelf.tells g.S.Shelf.may_leave g.S.Shelf.fault_count g.V.Disk.tells g.V.Disk.may_leave g.V.Disk.fault_count) c.self.inside.config.proposers c.self.inside.council c.self.inside.acceptors.items c.let_in-done.new.acceptors.items
     c.self.inside.desks.items c.let_in-done.new.desks.items c.self.inside.callers.items c.self.inside.flow c.let_in-done.new.flow c.self.inside.record c.let_in-done.new.record
 
 -- src/stray.rt:41:5
 pub invariant_of-self : goal.invariant_of-self
 invariant_of-self g c = elim c.match-done.branch [
   | in-Ok w ↦
-      strayed_kept (shelves g.S.Shelf.contents g.S.Shelf.tells g.S.Shelf.may_leave g.S.Shelf.fault_count) c.self.inside.config.proposers c.self.inside.eras.0 c.self.inside.acceptors.items c.let_in-done.new.acceptors.items
-      c.self.inside.desks.items c.let_in-done.new.desks.items c.self.inside.callers.items c.self.inside.flow c.let_in-done.new.flow c.self.inside.record c.let_in-done.new.record c.args.index (c.reserved_by-reserved.result + 1) w.in-Ok.peer
+      strayed_kept (shelves g.S.Shelf.contents g.S.Shelf.tells g.S.Shelf.may_leave g.S.Shelf.fault_count) c.self.inside.config.proposers c.self.inside.council c.self.inside.acceptors.items c.let_in-done.new.acceptors.items
+      c.self.inside.desks.items c.let_in-done.new.desks.items c.self.inside.callers.items c.self.inside.flow c.let_in-done.new.flow c.self.inside.record c.let_in-done.new.record c.args.index (c.reserved_in_all-reserved.result + 1) w.in-Ok.peer
       c.self.invariant (ap (λ (n : ℕ). n + 1) (reserves g c)) w.in-Ok.ensures.ok
       (steps_are_safe (meaning g.S.Shelf.contents g.S.Shelf.tells g.S.Shelf.may_leave g.S.Shelf.fault_count g.V.Disk.tells g.V.Disk.may_leave g.V.Disk.fault_count) _ (step.Stray c.args.index) _ c.self.invariant.safe (strays g c w.in-Ok.peer w.in-Ok.ensures.ok))
       (remembered_then (meaning g.S.Shelf.contents g.S.Shelf.tells g.S.Shelf.may_leave g.S.Shelf.fault_count g.V.Disk.tells g.V.Disk.may_leave g.V.Disk.fault_count) (step.Stray c.args.index) (strays g c w.in-Ok.peer w.in-Ok.ensures.ok) c.self.invariant.remembered)
   | in-Err w ↦
-      no_room_kept c.self.inside.config.proposers c.self.inside.eras.0 c.self.inside.acceptors.items c.let_in-done.new.acceptors.items
+      no_room_kept c.self.inside.config.proposers c.self.inside.council c.self.inside.acceptors.items c.let_in-done.new.acceptors.items
       c.self.inside.desks.items c.let_in-done.new.desks.items c.self.inside.callers.items c.self.inside.flow c.let_in-done.new.flow c.self.inside.record c.let_in-done.new.record
       c.self.invariant w.in-Err.ensures.same.0 w.in-Err.ensures.same.3
       (steps_are_safe (meaning g.S.Shelf.contents g.S.Shelf.tells g.S.Shelf.may_leave g.S.Shelf.fault_count g.V.Disk.tells g.V.Disk.may_leave g.V.Disk.fault_count) _ step.RefuseStray _ c.self.invariant.safe

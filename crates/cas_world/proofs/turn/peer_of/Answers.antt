@@ -1,6 +1,6 @@
 use Rattle.std.proofs.Common.{sym, ◌∙◌}
 use Rattle.cas_world.proofs.Turning.{none_waits}
-use Rattle.cas_world.proofs.turn.lose.Goals as goal
+use Rattle.cas_world.proofs.turn.peer_of.Goals as goal
 
 -- src/turn.rt:83:17
 pub unreachable-requires : goal.unreachable-requires

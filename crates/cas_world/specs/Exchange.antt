@@ -1,0 +1,94 @@
+-- The operator's calls, and the exchange in which proposer 0 asks all members.
+use Rattle.std.specs.Prelude.{◌≡◌, ℕ, zero, ◌<◌, ◌^◌, Bool, true, false, if◌then◌else◌, List, [], Option, None, Some, slice_get}
+use Rattle.cas_ballot.specs.declared.ballot.Ballot.{Ballot}
+use Rattle.cas_fate.specs.declared.fate.Verdict.{Verdict}
+use Rattle.cas_flow.specs.Flow.{FlowView, queue_at}
+use Rattle.cas_flow.specs.declared.message.Message.TheVariants as message
+use Rattle.cas_proposer.specs.Desk.{DeskView}
+use Rattle.cas_slot.specs.declared.message.Request.{Request}
+use Rattle.cas_vault.specs.Vault.{counter_of, kept_of}
+use Rattle.cas_record.specs.declared.answer.Answer.{Answer}
+use Rattle.cas_record.specs.declared.answer.Answer.TheVariants as answer
+use Rattle.cas_record.specs.declared.operator.OpAnswer.{OpAnswer}
+use Rattle.cas_record.specs.declared.operator.OpAnswer.TheVariants as op
+use Rattle.cas_record.specs.declared.operator.Probes.{Probes}
+use Rattle.cas_cluster.specs.Council.{Question, Probe, ExchangeView, OrderView, exchange_place}
+use Rattle.cas_cluster.specs.Step.{Event, Turn, RefuseTurn, TurnExchange, RefuseTurnExchange}
+use Rattle.cas_cluster.specs.StepCalls.{Sends, most_marks}
+use Rattle.cas_cluster.specs.StepCouncil.{IsForQuestion, SaysTheSame, questions_to, new_exchange}
+use Rattle.cas_cluster.specs.StepDesks.{HasDrawn, HasKept, FailsToDraw, LosesMemory}
+use Rattle.cas_cluster.specs.View.{DiskMeaning, View}
+use Rattle.cas_world.specs.Beginning.{HasNoCall}
+use Rattle.cas_world.specs.Council.{exchange_view}
+use Rattle.cas_world.specs.declared.council.Gathered.{Gathered}
+use Rattle.cas_world.specs.declared.council.Gathered.TheVariants as gathered
+use Rattle.cas_world.specs.declared.council.OpenExchange.{OpenExchange}
+
+-- ---- which frames have their turn
+-- while an exchange is open, its frames are those of proposer 0
+abbrev pub asks_as : Option ExchangeView → ℕ → Bool
+asks_as (Some exchange) zero = true
+asks_as exchange id = false
+
+abbrev pub place_of : {S V : Type 0} → View S V → ℕ → ℕ
+place_of view id = if asks_as view.council.exchange id then exchange_place else id
+
+abbrev pub turn_of : {S V : Type 0} → View S V → ℕ → Verdict → Event
+turn_of view id verdict = if asks_as view.council.exchange id then TurnExchange verdict else Turn id verdict
+
+abbrev pub refusal_of : {S V : Type 0} → View S V → ℕ → Event
+refusal_of view id = if asks_as view.council.exchange id then RefuseTurnExchange else RefuseTurn id
+
+-- ---- what the calls ask
+-- the operator's open call was told this last
+pub record WasToldOrder {S V : Type 0} (view : View S V) (answer : OpAnswer) : Type 0 where
+  pub order : OrderView
+  pub is_open : view.council.order ≡ Some order
+  pub said : OpAnswer
+  pub was_said : order.told ≡ Some said
+  pub same : SaysTheSame said answer
+
+-- it was opened for just that, no exchange is open, and caller 0 has no open call
+pub record MayAsk {S V : Type 0} (view : View S V) (question : Question) : Type 0 where
+  pub order : OrderView
+  pub is_open : view.council.order ≡ Some order
+  pub is_for : IsForQuestion order.asked question
+  pub none_open : view.council.exchange ≡ None
+  pub idle : HasNoCall view 0
+
+-- it is open, and so is an exchange of which no frame waits
+pub record MayGather {S V : Type 0} (view : View S V) : Type 0 where
+  pub order : OrderView
+  pub is_order : view.council.order ≡ Some order
+  pub exchange : ExchangeView
+  pub is_open : view.council.exchange ≡ Some exchange
+  pub none_waits : (queue_at view.flow exchange_place).messages ≡ []
+
+-- ---- what they answer
+-- the call may tell what was found, with its key
+pub data HasGathered {S V : Type 0} (old : View S V) (result : Gathered) (new : View S V) : Type 0 where
+  probed : (exchange : ExchangeView) (key : List ℕ) (found : Probes) → old.council.exchange ≡ Some exchange → exchange.question ≡ Probe key → result ≡ gathered.Probed found → found.probes.items ≡ exchange.told
+      → WasToldOrder new (op.Probed key found) → HasGathered old result new
+
+-- the request stands in front of the exchange's frames
+abbrev pub IsAsked : {S V : Type 0} → View S V → Request → Type 0
+IsAsked view request = slice_get (queue_at view.flow exchange_place).messages 0 ≡ Some (message.Request request)
+
+-- ---- an exchange that opens
+-- a tag is drawn, and each member is asked
+pub record Opens {V : Type 0} (m : DiskMeaning V) (old new : DeskView V) (before after : FlowView) (question : Question) (members : List ℕ) (exchange : OpenExchange) : Type 0 where
+  pub up : old.down ≡ false
+  pub tag : Ballot
+  pub drawn : HasDrawn m old.id old.vault new.vault tag
+  pub desk : new ≡ record old { vault = new.vault }
+  pub sends : Sends before exchange_place (questions_to (kept_of old.vault).age tag question members) after
+  pub opened : exchange_view exchange ≡ new_exchange question tag members
+
+-- why none opens, and what becomes of the desk
+abbrev pub FailsToAsk : {V : Type 0} → DiskMeaning V → DeskView V → DeskView V → ℕ → Answer → Type 0
+FailsToAsk m old new marks answer.Down = (old.down ≡ true) × (new ≡ old)
+FailsToAsk m old new marks answer.RecordFull = (old.down ≡ false) × (new ≡ old) × (most_marks < marks)
+FailsToAsk m old new marks answer.Spent = (old.down ≡ false) × (counter_of old.vault ≡ 2 ^ 48) × HasKept m old.vault new.vault × (new ≡ record old { vault = new.vault })
+FailsToAsk m old new marks answer.VaultFault = (old.down ≡ false) × FailsToDraw m [] old new
+FailsToAsk m old new marks (answer.NoMemory proposed) = (proposed ≡ false) × (old.down ≡ false) × (ballot : Option Ballot) × LosesMemory m [] old new ballot
+FailsToAsk m old new marks other = ⊥
