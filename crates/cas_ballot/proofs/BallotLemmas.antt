@@ -116,14 +116,6 @@ not_lt Greater a b p q = refl
 pub not_lt_of_at_most : {a b : Ballot} → BallotAtMost b a → is_lt (ballot_cmp a b) ≡ false
 not_lt_of_at_most {a} {b} p = not_lt (ballot_cmp a b) a b (compared a b) p
 
-not_eq : (r : Ordering) (a b : Ballot) → MatchOrdering r (BallotLess a b) (a ≡ b) (BallotLess b a) → BallotLess a b → is_eq r ≡ false
-not_eq Less a b p q = refl
-not_eq Equal a b p q = absurd (less_irreflexive (subst (λ x. BallotLess x b) p q))
-not_eq Greater a b p q = refl
-
-pub not_eq_of_less : {a b : Ballot} → BallotLess a b → is_eq (ballot_cmp a b) ≡ false
-not_eq_of_less {a} {b} p = not_eq (ballot_cmp a b) a b (compared a b) p
-
 same_is : (r : Ordering) (a : Ballot) → MatchOrdering r (BallotLess a a) (a ≡ a) (BallotLess a a) → r ≡ Equal
 same_is Less a p = absurd (less_irreflexive p)
 same_is Equal a p = refl

@@ -19,5 +19,5 @@ pub use reading::{
     next_word, program_in, read_end, read_number, read_program, read_text, read_version,
 };
 pub use refusal::{TextRefusal, Why};
-pub use states::read_state;
+pub use states::{read_state, state_in};
 pub use words::Words;

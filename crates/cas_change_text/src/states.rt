@@ -86,7 +86,7 @@ fn read_held(
 
 /// The state that the next words say.
 #[tactic(auto, unfolding(crate::specs::Reading::state_at))]
-fn state_in(alloc: Global, words: &mut Words<'_>) -> Result<State, TextRefusal>
+pub fn state_in(alloc: Global, words: &mut Words<'_>) -> Result<State, TextRefusal>
     ensures { ReadsInMemory result words.new (state_at words.old) }
 {
     let at = words.taken();

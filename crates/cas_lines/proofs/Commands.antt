@@ -1,11 +1,13 @@
 -- What is read of a line is in the grammar of lines, and what is in the grammar is read.
 use Rattle.std.proofs.Common.{◌≡◌, ℕ, ◌+◌, ◌^◌, true, false, List, [], ◌∷◌, length, Option, Some, None, Result, Ok, Err, refl, sym, ap, subst, ◌∙◌, arith, inl, inr}
-use Rattle.std.specs.Prelude.{◌≢◌, ◌&&◌, codes, nat_le, nat_lt, IfSome}
+use Rattle.std.specs.Prelude.{◌≢◌, ◌&&◌, codes, nat_le, nat_lt, if◌then◌else◌, IfSome}
 use Rattle.std.specs.Char.{is_ascii_digit}
 use Rattle.std.specs.List.{list_all}
 use Rattle.std.specs.Option.{ok_or}
+use Rattle.std.specs.Str.{bytes_eq}
 use Rattle.std.proofs.lemmas.Bool.Decides.{nat_tests}
 use Rattle.std.proofs.lemmas.Bool.{ltb-false, le-ltb, and_parts}
+use Rattle.std.proofs.lemmas.Slice.Eq.{bytes_eq-Decides}
 use Rattle.cas_change_text.specs.declared.refusal.Why.TheVariants as why
 use Rattle.cas_change_text.specs.declared.refusal.TextRefusal.{TextRefusal}
 use Rattle.cas_change_text.specs.Decimal.{u64_of, is_numeral, number_after}
@@ -19,16 +21,17 @@ use Rattle.cas_lines.specs.declared.reading.TheConstants.{LONGEST_LINE}
 use Rattle.cas_lines.specs.declared.reading.LineHead.{LineHead}
 use Rattle.cas_lines.specs.declared.reading.LineHead.TheVariants as heads
 use Rattle.cas_lines.specs.declared.command.Command.{Command}
-use Rattle.cas_lines.specs.declared.command.Command.TheVariants.{Get, Set, Num, Init, Add, Cas, CasNum, Del, DelVersion, Do, Net, CrashAcceptor, RestartAcceptor, CrashProposer, RestartProposer, HaltPrepared, HaltProposed, Stray, Show}
+use Rattle.cas_lines.specs.declared.command.Command.TheVariants.{Get, Set, Num, Init, Add, Cas, CasNum, Del, DelVersion, Do, Probe, Net, CrashAcceptor, RestartAcceptor, CrashProposer, RestartProposer, HaltPrepared, HaltProposed, Stray, Show}
 use Rattle.cas_lines.specs.declared.changes.ChangeName.{ChangeName}
 use Rattle.cas_lines.specs.declared.changes.ChangeName.TheVariants as names
 use Rattle.cas_lines.specs.declared.events.EventName.{EventName}
 use Rattle.cas_lines.specs.declared.events.EventName.TheVariants as events
 use Rattle.cas_lines.specs.declared.events.HaltPoint.TheVariants as points
 use Rattle.cas_lines.specs.Command.{IsCaller, IsForm, IsVerdict, IsCommand, IsKnown, is_remark, IsLine}
-use Rattle.cas_lines.specs.Reading.{begins_with_digit, within, change_name, change_of_name, event_name, crash_of, restart_of, party_at, event_at, head_in, head_at, command_behind, command_at, words_in, line_in}
+use Rattle.cas_lines.specs.Reading.{begins_with_digit, within, change_name, change_of_name, event_name, crash_of, restart_of, party_at, op_at, event_at, head_in, head_at, command_behind, command_at, words_in, line_in}
 use Rattle.cas_lines.proofs.ChangeLines.{change_word, change_found, form_again}
 use Rattle.cas_lines.proofs.EventLines.{one_found, within_some, within_again, event_word, event_named, event_found, net_again, last_acceptor-again, last_proposer-again, halt_again, show_again}
+use Rattle.cas_lines.proofs.OperatorLines.{op_found, probe_again}
 
 -- ---- first words
 
@@ -47,6 +50,7 @@ number_begins (byte ∷ bytes) number e =
 -- the word says this
 abbrev pub IsHead : ℕ → Word → LineHead → Type 0
 IsHead proposers word (heads.Caller caller) = IsCaller proposers caller word
+IsHead proposers word heads.Operator = word ≡ codes "op"
 IsHead proposers word (heads.Event name) = word ≡ event_word name
 
 head_in-found : (proposers at : ℕ) (word : Word) (head : LineHead) → head_in proposers at word ≡ Ok head → IsHead proposers word head
@@ -54,16 +58,21 @@ unfolding head_in
 head_in-found proposers at word head e =
     elim (chosen (begins_with_digit word)
     (ok_or (within 1 proposers (u64_of word)) (record { why = why.BadNumber; word = at }) >>= λ caller. Ok (heads.Caller caller))
-    (ok_or (event_name word) (record { why = why.UnknownWord; word = at }) >>= λ name. Ok (heads.Event name)) (Ok head) e) [
+    (if bytes_eq word (codes "op") then Ok heads.Operator else (ok_or (event_name word) (record { why = why.UnknownWord; word = at }) >>= λ name. Ok (heads.Event name))) (Ok head) e) [
       | inl p ↦
           let c = bind_ok (ok_or (within 1 proposers (u64_of word)) (record { why = why.BadNumber; word = at })) _ head p.1 in
           let w = within_some 1 proposers (u64_of word) c.0 (ok_or_ok (within 1 proposers (u64_of word)) (record { why = why.BadNumber; word = at }) c.0 c.1) in
           let same : heads.Caller c.0 ≡ head = cc (c.2) in
           subst (IsHead proposers word) same w
-      | inr p ↦
-          let n = bind_ok (ok_or (event_name word) (record { why = why.UnknownWord; word = at })) _ head p.1 in
-          let same : heads.Event n.0 ≡ head = cc (n.2) in
-          subst (IsHead proposers word) same (event_named word n.0 (ok_or_ok (event_name word) (record { why = why.UnknownWord; word = at }) n.0 n.1))
+      | inr p ↦ elim (chosen (bytes_eq word (codes "op")) (Ok heads.Operator) (ok_or (event_name word) (record { why = why.UnknownWord; word = at }) >>= λ name. Ok (heads.Event name)) (Ok head) p.1) [
+        | inl q ↦
+            let same : heads.Operator ≡ head = cc (q.1) in
+            subst (IsHead proposers word) same ((bytes_eq-Decides word (codes "op")).0 q.0)
+        | inr q ↦
+            let n = bind_ok (ok_or (event_name word) (record { why = why.UnknownWord; word = at })) _ head q.1 in
+            let same : heads.Event n.0 ≡ head = cc (n.2) in
+            subst (IsHead proposers word) same (event_named word n.0 (ok_or_ok (event_name word) (record { why = why.UnknownWord; word = at }) n.0 n.1))
+      ]
     ]
 
 caller_in-again : (proposers at : ℕ) (word : Word) (caller : ℕ) → IsCaller proposers caller word → head_in proposers at word ≡ Ok (heads.Caller caller)
@@ -88,6 +97,8 @@ line_at-found proposers rest Says found left command e =
 pub behind_found : (proposers : ℕ) (word : Word) (head : LineHead) → IsHead proposers word head → (left : WordsLeft) (command : Command) → command_behind proposers head left ≡ Ok command
     → IsCommand proposers (word ∷ left.words) command
 behind_found proposers word (heads.Caller caller) is left command e = change_found proposers caller word is left command e
+behind_found proposers word heads.Operator is left command e =
+    subst (λ (w : Word). IsCommand proposers (w ∷ left.words) command) (sym is) (op_found proposers left command e)
 behind_found proposers word (heads.Event name) is left command e =
     subst (λ (w : Word). IsCommand proposers (w ∷ left.words) command) (sym is) (event_found proposers name left command e)
 
@@ -102,6 +113,11 @@ unfolding command_at head_at
 change_again proposers caller key name words rest is named =
     ap (λ (ws : List Word). command_at proposers (all_of ws)) is.3
     ∙ rw (caller_in-again proposers 0 is.0 caller is.1) (form_again (0 + 1) caller key name rest is.2 named)
+
+-- an operator's line is read up to its first word
+op_again : (proposers : ℕ) (words rest : List Word) → words ≡ codes "op" ∷ rest → command_at proposers (all_of words) ≡ op_at (from (0 + 1) rest)
+unfolding command_at head_at head_in
+op_again proposers words rest is = ap (λ (ws : List Word). command_at proposers (all_of ws)) is
 
 -- an event is read up to its first word
 event_again : (proposers : ℕ) (words rest : List Word) (name : EventName) → words ≡ event_word name ∷ rest → command_at proposers (all_of words) ≡ event_at name proposers (from (0 + 1) rest)
@@ -138,6 +154,7 @@ command_again proposers words (CasNum caller key version number) is =
     change_again proposers caller key names.CasNum words (is.0 ∷ is.1 ∷ []) is.2 refl ∙ rw (v.1, (number_again is.1 number is.4 v.0 []).1) refl
 command_again proposers words (Do caller key program) is =
     change_again proposers caller key names.Do words is.0 is.1 refl ∙ rw (clauses_again 8 (0 + 1 + 1 + 1) is.0 program is.2.0 is.2.1) refl
+command_again proposers words (Probe key) is = op_again proposers words (codes "probe" ∷ key ∷ []) is.0 ∙ probe_again (0 + 1) key is.1
 command_again proposers words (Net leg who verdict) is =
     event_again proposers words (is.0 ∷ is.1 ∷ is.2 ∷ []) events.Net is.3 ∙ net_again (0 + 1) leg who verdict is.0 is.1 is.2 is.4 is.5 is.6
 command_again proposers words (CrashAcceptor id) is =
@@ -178,6 +195,7 @@ no_remark_of proposers words (DelVersion caller key version) is = no_remark prop
 no_remark_of proposers words (Cas caller key version text) is = no_remark proposers words caller (codes "cas") key (is.0 ∷ is.1 ∷ []) is.2
 no_remark_of proposers words (CasNum caller key version number) is = no_remark proposers words caller (codes "casnum") key (is.0 ∷ is.1 ∷ []) is.2
 no_remark_of proposers words (Do caller key program) is = no_remark proposers words caller (codes "do") key is.0 is.1
+no_remark_of proposers words (Probe key) is = ap is_remark is.0
 no_remark_of proposers words (Net leg who verdict) is = ap is_remark is.3
 no_remark_of proposers words (CrashAcceptor id) is = ap is_remark is.1
 no_remark_of proposers words (RestartAcceptor id) is = ap is_remark is.1
@@ -231,6 +249,7 @@ command_known proposers words (CasNum caller key version number) is = (is.2.1.1,
 command_known proposers words (Del caller key) is = (is.1.1, is.1.2)
 command_known proposers words (DelVersion caller key version) is = (is.1.1.1, is.1.1.2)
 command_known proposers words (Do caller key program) is = (is.1.1.1, is.1.1.2)
+command_known proposers words (Probe key) is = tt
 command_known proposers words (Net leg who verdict) is = no_hold verdict is.2 is.6
 command_known proposers words (CrashAcceptor id) is = tt
 command_known proposers words (RestartAcceptor id) is = tt

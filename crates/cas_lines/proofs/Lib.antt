@@ -6,6 +6,7 @@ pub mod FirstLens
 pub mod FirstLines
 pub mod LineMisfits
 pub mod Newlines
+pub mod OperatorLines
 pub mod Pieces
 pub mod Told
 pub mod WholeRuns

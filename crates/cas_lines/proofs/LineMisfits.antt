@@ -20,7 +20,7 @@ use Rattle.cas_change_text.proofs.Stopping.{IsReader, IsWhole, read_as, after, o
 use Rattle.cas_fate.specs.declared.fate.Verdict.TheVariants as verdicts
 use Rattle.cas_lines.specs.declared.reading.TheConstants.{LONGEST_LINE}
 use Rattle.cas_lines.specs.declared.command.Command.{Command}
-use Rattle.cas_lines.specs.declared.command.Command.TheVariants.{Get, Set, Num, Init, Add, Cas, CasNum, Del, DelVersion, Do, Net, CrashAcceptor, RestartAcceptor, CrashProposer, RestartProposer, HaltPrepared, HaltProposed, Stray, Show}
+use Rattle.cas_lines.specs.declared.command.Command.TheVariants.{Get, Set, Num, Init, Add, Cas, CasNum, Del, DelVersion, Do, Probe, Net, CrashAcceptor, RestartAcceptor, CrashProposer, RestartProposer, HaltPrepared, HaltProposed, Stray, Show}
 use Rattle.cas_lines.specs.declared.changes.ChangeName.{ChangeName}
 use Rattle.cas_lines.specs.declared.changes.ChangeName.TheVariants as names
 use Rattle.cas_lines.specs.declared.events.EventName.{EventName}
@@ -28,10 +28,12 @@ use Rattle.cas_lines.specs.declared.events.EventName.TheVariants as events
 use Rattle.cas_lines.specs.declared.events.Party.{Party}
 use Rattle.cas_lines.specs.declared.events.Party.TheVariants as parties
 use Rattle.cas_lines.specs.declared.events.HaltPoint.TheVariants as points
+use Rattle.cas_lines.specs.declared.operator.OpName.{OpName}
+use Rattle.cas_lines.specs.declared.operator.OpName.TheVariants as ops
 use Rattle.cas_lines.specs.declared.reading.LineHead.{LineHead}
 use Rattle.cas_lines.specs.declared.reading.LineHead.TheVariants as heads
 use Rattle.cas_lines.specs.Command.{IsCaller, IsCommand, IsUnlimited, AreCommand, AreUnlimited, is_remark}
-use Rattle.cas_lines.specs.Reading.{begins_with_digit, within, change_name, name_at, key_in, key_at, change_of_name, change_at, event_name, leg_name, verdict_name, party_name, halt_point_name, acceptor_of, proposer_of, one_or_all, leg_in, leg_at, who_in, who_at, verdict_at, party_at, halt_point_at, acceptor_at, proposer_at, net_at, crash_of, restart_of, halt_of, halt_at, show_at, event_at, head_in, head_at, command_behind, command_at, words_in, line_in}
+use Rattle.cas_lines.specs.Reading.{begins_with_digit, within, change_name, name_at, key_in, key_at, change_of_name, change_at, op_name, op_name_at, op_of_name, op_at, event_name, leg_name, verdict_name, party_name, halt_point_name, acceptor_of, proposer_of, one_or_all, leg_in, leg_at, who_in, who_at, verdict_at, party_at, halt_point_at, acceptor_at, proposer_at, net_at, crash_of, restart_of, halt_of, halt_at, show_at, event_at, head_in, head_at, command_behind, command_at, words_in, line_in}
 use Rattle.cas_lines.proofs.ChangeLines.{change_word, form, front_at, front_found, change_of_name-found}
 use Rattle.cas_lines.proofs.Commands.{IsHead, line_at, line_at-found, behind_found, command_again}
 
@@ -39,7 +41,7 @@ use Rattle.cas_lines.proofs.Commands.{IsHead, line_at, line_at-found, behind_fou
 
 head_in-place : (proposers at : ℕ) (word : Word) (refusal : TextRefusal) → head_in proposers at word ≡ Err refusal → refusal.word ≡ at
 unfolding head_in
-head_in-place proposers at word refusal e = by (begins_with_digit word) e
+head_in-place proposers at word refusal e = by (begins_with_digit word) (bytes_eq word (codes "op")) e
   where
     by_caller : (o : Option ℕ) → (ok_or o (record { why = why.BadNumber; word = at }) >>= λ caller. Ok (heads.Caller caller)) ≡ Err refusal → refusal.word ≡ at
     by_caller None is = let same : record { why = why.BadNumber; word = at } ≡ refusal = cc in ap (λ (r : TextRefusal). r.word) (sym same)
@@ -49,11 +51,12 @@ head_in-place proposers at word refusal e = by (begins_with_digit word) e
     by_event None is = let same : record { why = why.UnknownWord; word = at } ≡ refusal = cc in ap (λ (r : TextRefusal). r.word) (sym same)
     by_event (Some name) is = absurd cc
 
-    by : (b : Bool) → (if b
+    by : (b c : Bool) → (if b
         then (ok_or (within 1 proposers (u64_of word)) (record { why = why.BadNumber; word = at }) >>= λ caller. Ok (heads.Caller caller))
-        else (ok_or (event_name word) (record { why = why.UnknownWord; word = at }) >>= λ name. Ok (heads.Event name))) ≡ Err refusal → refusal.word ≡ at
-    by true is = by_caller (within 1 proposers (u64_of word)) is
-    by false is = by_event (event_name word) is
+        else (if c then Ok heads.Operator else (ok_or (event_name word) (record { why = why.UnknownWord; word = at }) >>= λ name. Ok (heads.Event name)))) ≡ Err refusal → refusal.word ≡ at
+    by true c is = by_caller (within 1 proposers (u64_of word)) is
+    by false true is = absurd cc
+    by false false is = by_event (event_name word) is
 
 head_reader : (proposers : ℕ) → IsReader (head_at proposers)
 unfolding head_at head_in
@@ -108,6 +111,20 @@ change_up_to-whole : (most caller : ℕ) → IsWhole (λ m. change_up_to m calle
 change_up_to-whole most caller =
     whole_after name_at (λ m name. after key_at (λ key. change_within m name caller key)) most name_reader
     (λ name. whole_after key_at (λ m key. change_within m name caller key) most key_reader (λ key. change_whole most caller key name))
+
+-- ---- operator lines
+
+op_name_reader : IsReader op_name_at
+unfolding op_name_at
+op_name_reader = said_reader op_name why.UnknownWord (codes "probe") ops.Probe refl
+
+op_of_name-whole : (most : ℕ) (name : OpName) → IsWhole (λ m. op_of_name name) most
+unfolding op_of_name
+op_of_name-whole most ops.Probe = made_whole (to_end key_at) most (λ key. Probe key) (whole_to_end key_at most key_reader)
+
+op_whole : (most : ℕ) → IsWhole (λ m. op_at) most
+unfolding op_at
+op_whole most = whole_after op_name_at (λ m name. op_of_name name) most op_name_reader (op_of_name-whole most)
 
 -- ---- events
 
@@ -178,10 +195,12 @@ event_whole proposers most events.Show =
 -- what follows a first word, where a program may have this many clauses
 abbrev behind_up_to : ℕ → ℕ → LineHead → WordsLeft → Result Command TextRefusal
 behind_up_to proposers most (heads.Caller caller) left = change_up_to most caller left
+behind_up_to proposers most heads.Operator left = op_at left
 behind_up_to proposers most (heads.Event name) left = event_at name proposers left
 
 behind_up_to-whole : (proposers most : ℕ) (head : LineHead) → IsWhole (λ m. behind_up_to proposers m head) most
 behind_up_to-whole proposers most (heads.Caller caller) = change_up_to-whole most caller
+behind_up_to-whole proposers most heads.Operator = op_whole most
 behind_up_to-whole proposers most (heads.Event name) = event_whole proposers most name
 
 -- a whole command, where a program may have this many clauses
@@ -209,6 +228,7 @@ within_as names.Do caller key left = refl
 behind_as : (proposers : ℕ) (head : LineHead) (left : WordsLeft) → behind_up_to proposers MOST_CLAUSES head left ≡ command_behind proposers head left
 unfolding change_at
 behind_as proposers (heads.Caller caller) left = λ i. name_at left >>= λ name. (key_at name.1 >>= λ key. within_as name.0 caller key.0 key.1 i)
+behind_as proposers heads.Operator left = refl
 behind_as proposers (heads.Event name) left = refl
 
 command_as : (proposers : ℕ) (left : WordsLeft) → command_up_to proposers MOST_CLAUSES left ≡ command_at proposers left
@@ -228,6 +248,7 @@ unlimited_of proposers words (Cas caller key version text) is = is
 unlimited_of proposers words (CasNum caller key version number) is = is
 unlimited_of proposers words (Del caller key) is = is
 unlimited_of proposers words (DelVersion caller key version) is = is
+unlimited_of proposers words (Probe key) is = is
 unlimited_of proposers words (Net leg who verdict) is = is
 unlimited_of proposers words (CrashAcceptor id) is = is
 unlimited_of proposers words (RestartAcceptor id) is = is
@@ -261,6 +282,8 @@ behind_up_to-found : (proposers most : ℕ) (word : Word) (head : LineHead) → 
     → IsUnlimited proposers (word ∷ left.words) command
 behind_up_to-found proposers most word (heads.Caller caller) is left command e =
     front_found caller word (change_within most) (IsUnlimited proposers) (λ key names_key. within_found most proposers caller word key is names_key) left command e
+behind_up_to-found proposers most word heads.Operator is left command e =
+    unlimited_of proposers (word ∷ left.words) command (behind_found proposers word heads.Operator is left command e)
 behind_up_to-found proposers most word (heads.Event name) is left command e =
     unlimited_of proposers (word ∷ left.words) command (behind_found proposers word (heads.Event name) is left command e)
 

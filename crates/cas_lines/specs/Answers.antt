@@ -1,5 +1,6 @@
 -- What is written for each answer.
 use Rattle.std.specs.Prelude.{ℕ, true, false, List, [], ◌∷◌, ◌++◌, codes, decimal, Option, Some, None}
+use Rattle.std.specs.List.{flat_map}
 use Rattle.cas_ballot.specs.Ballot.{ballot_text}
 use Rattle.cas_change.specs.declared.outcome.Took.{Took}
 use Rattle.cas_change.specs.declared.outcome.Took.TheVariants as took
@@ -10,10 +11,16 @@ use Rattle.cas_lines.specs.declared.answer.EventAnswer.{EventAnswer}
 use Rattle.cas_lines.specs.declared.answer.EventAnswer.TheVariants as event
 use Rattle.cas_lines.specs.declared.answer.Shown.{Shown}
 use Rattle.cas_lines.specs.declared.answer.Shown.TheVariants as shown
+use Rattle.cas_quorum.specs.Fault.{plan_fault_text}
 use Rattle.cas_record.specs.declared.answer.Answer.{Answer}
 use Rattle.cas_record.specs.declared.answer.Answer.TheVariants as answer
 use Rattle.cas_record.specs.declared.answer.Cause.{Cause}
 use Rattle.cas_record.specs.declared.answer.Cause.TheVariants as cause
+use Rattle.cas_record.specs.declared.operator.OpAnswer.{OpAnswer}
+use Rattle.cas_record.specs.declared.operator.OpAnswer.TheVariants as op
+use Rattle.cas_record.specs.declared.operator.Probe.{Probe}
+use Rattle.cas_slot.specs.declared.message.Tell.{Tell}
+use Rattle.cas_slot.specs.declared.message.Tell.TheVariants as tell
 use Rattle.cas_slot.specs.declared.slot.Accepted.{Accepted}
 
 -- what is said of a change of which no clause acted
@@ -54,6 +61,41 @@ change_line caller answer = decimal caller ++ codes ": " ++ answer_text answer +
 -- the line that says why the line of that number is bad
 abbrev pub bad_line : ℕ → Why → List ℕ
 bad_line number why = codes "bad " ++ decimal number ++ codes " " ++ reason_text why ++ 10 ∷ []
+
+-- ---- operators
+
+-- at which ballot, and in which era, what a member keeps was accepted
+abbrev pub kept_text : Option Accepted → List ℕ
+kept_text None = codes "none"
+kept_text (Some accepted) = ballot_text accepted.ballot ++ codes "/" ++ decimal accepted.era
+
+-- what a member tells that was probed; another reply tells no more than none
+abbrev pub told_text : Option Tell → List ℕ
+told_text (Some (tell.Probed promise accepted)) = kept_text accepted
+told_text told = codes "?"
+
+abbrev pub probe_text : Probe → List ℕ
+probe_text probe = codes " " ++ decimal probe.acceptor ++ codes "=" ++ told_text probe.told
+
+-- whose plan is finished, in which era, and how many keys were proposed anew for it
+abbrev pub plan_text : ℕ → ℕ → ℕ → List ℕ
+plan_text id era rescanned = decimal id ++ codes " era " ++ decimal era ++ codes " rescanned " ++ decimal rescanned
+
+abbrev pub op_text : OpAnswer → List ℕ
+op_text (op.Joined id era rescanned) = codes "joined " ++ plan_text id era rescanned
+op_text (op.Left id era rescanned) = codes "left " ++ plan_text id era rescanned
+op_text (op.Refused fault) = plan_fault_text fault
+op_text (op.Busy era) = codes "busy " ++ decimal era
+op_text (op.Collected key ballot removed kept) = codes "collected " ++ key ++ codes " at " ++ ballot_text ballot ++ codes " removed " ++ decimal removed ++ codes " kept " ++ decimal kept
+op_text (op.NotEmpty version) = codes "not empty v" ++ decimal version
+op_text (op.Absent acceptor) = codes "absent " ++ decimal acceptor
+op_text (op.ProposerDown proposer) = codes "proposer down " ++ decimal proposer
+op_text (op.Probed key found) = codes "probe " ++ key ++ flat_map probe_text found.probes.items
+op_text (op.Stopped answer) = answer_text answer
+
+-- the line that answers an operator
+abbrev pub op_line : OpAnswer → List ℕ
+op_line answer = codes "op: " ++ op_text answer ++ 10 ∷ []
 
 -- ---- events
 

@@ -1,4 +1,4 @@
--- The lines that ask for a change or are an event, and what they ask for.
+-- The lines that ask for a change, are an operator's or are an event, and what they ask for.
 use Rattle.std.specs.Prelude.{◌≡◌, ◌≢◌, ℕ, ◌≤◌, Bool, true, false, ◌==◌, List, [], ◌∷◌, ◌++◌, length, codes, Option, Some, None, IfSome}
 use Rattle.cas_change.specs.Key.{IsKey}
 use Rattle.cas_change.specs.declared.program.Clause.{Clause}
@@ -15,7 +15,7 @@ use Rattle.cas_fate.specs.declared.fate.Verdict.{Verdict}
 use Rattle.cas_fate.specs.declared.fate.Verdict.TheVariants as verdicts
 use Rattle.cas_lines.specs.declared.reading.TheConstants.{LONGEST_LINE}
 use Rattle.cas_lines.specs.declared.command.Command.{Command}
-use Rattle.cas_lines.specs.declared.command.Command.TheVariants.{Get, Set, Num, Init, Add, Cas, CasNum, Del, DelVersion, Do, Net, CrashAcceptor, RestartAcceptor, CrashProposer, RestartProposer, HaltPrepared, HaltProposed, Stray, Show}
+use Rattle.cas_lines.specs.declared.command.Command.TheVariants.{Get, Set, Num, Init, Add, Cas, CasNum, Del, DelVersion, Do, Probe, Net, CrashAcceptor, RestartAcceptor, CrashProposer, RestartProposer, HaltPrepared, HaltProposed, Stray, Show}
 
 -- ---- the grammar
 
@@ -92,6 +92,7 @@ IsCommand proposers words (CasNum caller key version number) = IsFormAt proposer
 IsCommand proposers words (Del caller key) = IsForm proposers words caller (codes "del") key []
 IsCommand proposers words (DelVersion caller key version) = IsFormWith proposers words caller (codes "delv") key (λ word. u64_of word ≡ Some version)
 IsCommand proposers words (Do caller key program) = (rest : List Word) × IsForm proposers words caller (codes "do") key rest × IsProgram rest program
+IsCommand proposers words (Probe key) = (words ≡ codes "op" ∷ codes "probe" ∷ key ∷ []) × IsKey key
 IsCommand proposers words (Net leg who verdict) =
     (first second third : Word) × (words ≡ codes "net" ∷ first ∷ second ∷ third ∷ []) × IsLeg leg first × IsWho who second × IsVerdict verdict third
 IsCommand proposers words (CrashAcceptor id) = IsEvent words (codes "crash" ∷ codes "acceptor" ∷ []) (IsAcceptor id)
@@ -141,7 +142,7 @@ asks caller key program = Some (record { caller = caller; key = key; program = p
 abbrev pub one : Guard → Act → List Clause
 one guard act = record { guard = guard; act = act } ∷ []
 
--- the change that a command asks for; none where it is an event
+-- the change that a command asks for; none where it is an event or an operator's
 abbrev pub change_of : Command → Option Asked
 change_of (Get caller key) = asks caller key (one Always Keep)
 change_of (Set caller key text) = asks caller key (one Always (PutText text))

@@ -20,7 +20,7 @@ use Rattle.cas_fate.specs.declared.fate.Verdict.TheVariants as verdicts
 use Rattle.cas_lines.specs.Command.{is_remark}
 use Rattle.cas_lines.specs.declared.reading.TheConstants.{LONGEST_LINE}
 use Rattle.cas_lines.specs.declared.command.Command.{Command}
-use Rattle.cas_lines.specs.declared.command.Command.TheVariants.{Get, Set, Num, Init, Add, Cas, CasNum, Del, DelVersion, Do, Net, CrashAcceptor, RestartAcceptor, CrashProposer, RestartProposer, HaltPrepared, HaltProposed, Stray, Show}
+use Rattle.cas_lines.specs.declared.command.Command.TheVariants.{Get, Set, Num, Init, Add, Cas, CasNum, Del, DelVersion, Do, Probe, Net, CrashAcceptor, RestartAcceptor, CrashProposer, RestartProposer, HaltPrepared, HaltProposed, Stray, Show}
 use Rattle.cas_lines.specs.declared.changes.ChangeName.{ChangeName}
 use Rattle.cas_lines.specs.declared.changes.ChangeName.TheVariants as names
 use Rattle.cas_lines.specs.declared.events.EventName.{EventName}
@@ -29,6 +29,8 @@ use Rattle.cas_lines.specs.declared.events.Party.{Party}
 use Rattle.cas_lines.specs.declared.events.Party.TheVariants as parties
 use Rattle.cas_lines.specs.declared.events.HaltPoint.{HaltPoint}
 use Rattle.cas_lines.specs.declared.events.HaltPoint.TheVariants as points
+use Rattle.cas_lines.specs.declared.operator.OpName.{OpName}
+use Rattle.cas_lines.specs.declared.operator.OpName.TheVariants as ops
 use Rattle.cas_lines.specs.declared.reading.LineHead.{LineHead}
 use Rattle.cas_lines.specs.declared.reading.LineHead.TheVariants as heads
 
@@ -107,6 +109,26 @@ change_at caller left = do
   name ← name_at left
   key ← key_at name.1
   change_of_name name.0 caller key.0 key.1
+
+-- ---- operator lines
+
+-- what an operator's line asks for, as a word names it
+abbrev pub op_name : Word → Option OpName
+op_name word = if bytes_eq word (codes "probe") then Some ops.Probe else None
+
+unfoldable pub op_name_at : WordsLeft → Read OpName
+op_name_at left = do
+  word ← word_at left
+  name ← ok_or (op_name word.0) (refusal_at why.UnknownWord left)
+  Ok (name, word.1)
+
+-- the operator's line of this name, by what follows it
+unfoldable pub op_of_name : OpName → WordsLeft → Result Command TextRefusal
+op_of_name ops.Probe left = ended (key_at left) >>= λ key. Ok (Probe key)
+
+-- a name, and what follows it
+unfoldable pub op_at : WordsLeft → Result Command TextRefusal
+op_at left = op_name_at left >>= λ name. op_of_name name.0 name.1
 
 -- ---- events
 
@@ -242,11 +264,13 @@ event_at events.Show proposers left = show_at left
 
 -- ---- lines
 
--- what a first word says, which stands at this place: a number is a caller, and a name is that of an event
+-- what a first word says, which stands at this place: a number is a caller, `op` is an operator's line, and another name
+-- is that of an event
 unfoldable pub head_in : ℕ → ℕ → Word → Result LineHead TextRefusal
 head_in proposers at word = if begins_with_digit word
     then (ok_or (within 1 proposers (u64_of word)) (record { why = why.BadNumber; word = at }) >>= λ caller. Ok (heads.Caller caller))
-    else (ok_or (event_name word) (record { why = why.UnknownWord; word = at }) >>= λ name. Ok (heads.Event name))
+    else (if bytes_eq word (codes "op") then Ok heads.Operator
+    else (ok_or (event_name word) (record { why = why.UnknownWord; word = at }) >>= λ name. Ok (heads.Event name)))
 
 unfoldable pub head_at : ℕ → WordsLeft → Read LineHead
 head_at proposers left = do
@@ -257,6 +281,7 @@ head_at proposers left = do
 -- what follows the first word
 abbrev pub command_behind : ℕ → LineHead → WordsLeft → Result Command TextRefusal
 command_behind proposers (heads.Caller caller) left = change_at caller left
+command_behind proposers heads.Operator left = op_at left
 command_behind proposers (heads.Event name) left = event_at name proposers left
 
 unfoldable pub command_at : ℕ → WordsLeft → Result Command TextRefusal

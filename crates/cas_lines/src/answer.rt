@@ -1,10 +1,12 @@
-//! The texts of answers: of changes, of bad lines, of events, and of what an acceptor shows.
+//! The texts of answers: of changes, of operators, of bad lines, of events, and of what an acceptor shows.
 //!
-//! Each is a whole line with its newline, and only memory can fail.
+//! Each `print_` gives a whole line with its newline, and each `push_` writes a text behind a line. Only memory can
+//! fail, and a `push_` may then have written a part of its text.
 
 ghost use Rattle.std.specs.Prelude.{◌≡◌, ◌++◌, string_bytes, OnOk, IfOk};
 ghost use Rattle.cas_lines.specs.Answers.{took_text, cause_text, answer_text, change_line, bad_line, event_text, event_line, accepted_text, shown_text, shown_line};
 
+pub use crate::op_answer::{print_op, push_key, push_op};
 use cas_ballot::AcceptorId;
 use cas_change::{Key, Took};
 use cas_change_text::{Why, push_state};
@@ -92,8 +94,8 @@ pub fn print_shown(
     Ok(line)
 }
 
-/// What a call that asks for a change is answered.
-fn push_answer(line: &mut String, answer: &Answer) -> Result<(), AllocError>
+/// Writes behind `line` what a call that asks for a change is answered.
+pub fn push_answer(line: &mut String, answer: &Answer) -> Result<(), AllocError>
     ensures { OnOk result (string_bytes line.new ≡ string_bytes line.old ++ answer_text answer.now) }
 {
     match answer {
@@ -129,8 +131,8 @@ fn push_answer(line: &mut String, answer: &Answer) -> Result<(), AllocError>
     }
 }
 
-/// Why a proposed change is not known to stand.
-fn push_cause(line: &mut String, why: &Cause) -> Result<(), AllocError>
+/// Writes behind `line` why a proposed change is not known to stand.
+pub fn push_cause(line: &mut String, why: &Cause) -> Result<(), AllocError>
     ensures { OnOk result (string_bytes line.new ≡ string_bytes line.old ++ cause_text why.now) }
 {
     match why {
@@ -146,8 +148,8 @@ fn push_cause(line: &mut String, why: &Cause) -> Result<(), AllocError>
     }
 }
 
-/// What is said of a change of which no clause acted.
-fn took_note(took: Took) -> &'static str
+/// What is said behind the ballot of a change that was done: nothing where a clause acted.
+pub fn took_note(took: Took) -> &'static str
     ensures { result.now ≡ took_text took }
 {
     match took {

@@ -1,4 +1,4 @@
-//! The commands that lines ask for: changes of registers, and events of a script.
+//! The commands that lines ask for: changes of registers, what an operator asks for, and events of a script.
 //!
 //! What a change does is said by its program. How lines are read as commands stands in [`crate::reading`].
 
@@ -14,7 +14,7 @@ use std::alloc::{AllocError, Global};
 #[cfg(test)]
 mod tests;
 
-/// What a line asks for: a change of the key's register for this caller, or an event.
+/// What a line asks for: a change of the key's register for this caller, what an operator asks for, or an event.
 ///
 /// Callers are numbered from 1. Proposers are numbered from 0, which is the operator's own.
 #[derive(Debug, Drop)]
@@ -79,6 +79,10 @@ pub enum Command {
         key: Key,
         program: Program,
     },
+    /// `op probe`: tells what each member keeps for a key.
+    Probe {
+        key: Key,
+    },
     /// `net`: from now on this becomes of the frames of a leg at whose other end an acceptor is. `None` stands for all
     /// legs, and for all acceptors. The verdict is never [`Verdict::Hold`].
     Net {
@@ -133,7 +137,7 @@ pub struct Change<'a> {
 }
 
 impl Command {
-    /// The change that the line asks for. `None` exactly where it is an event. Only memory can fail.
+    /// The change that the line asks for. `None` exactly where it is an event or an operator's. Only memory can fail.
     pub fn change(&self, alloc: Global) -> Result<Option<Change<'_>>, AllocError>
         ensures asked { IfOk result (λ change. IfSome change (λ change.
             change_of self.now ≡ Some (record { caller = change.caller; key = change.key.now; program = change.program }))) }
@@ -150,7 +154,7 @@ impl Command {
         }))
     }
 
-    /// Who asks for a change, and of which register. `None` exactly where the line is an event.
+    /// Who asks for a change, and of which register. `None` exactly where the line is an event or an operator's.
     fn asker(&self) -> Option<(u8, &Key)>
         ensures asked { IfSome result (λ asker. IfSome (change_of self.now) (λ asked. (asked.caller ≡ asker.0) × (asked.key ≡ asker.1.now))) }
         ensures change { IsSome result ↔ IsSome (change_of self.now) }

@@ -229,7 +229,7 @@ fn read_halt_point(words: &mut Words<'_>) -> Result<HaltPoint, TextRefusal>
 
 /// The acceptor whose number the next word says.
 #[tactic(auto, unfolding(crate::specs::Reading::acceptor_at))]
-fn read_acceptor(words: &mut Words<'_>) -> Result<AcceptorId, TextRefusal>
+pub fn read_acceptor(words: &mut Words<'_>) -> Result<AcceptorId, TextRefusal>
     ensures { Reads result words.new (acceptor_at words.old) }
 {
     let at = words.taken();

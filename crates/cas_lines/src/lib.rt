@@ -9,7 +9,12 @@ mod changes;
 pub mod command;
 mod events;
 pub mod lines;
+mod op_answer;
+mod operator;
 mod parts;
 mod reading;
 pub mod sink;
 pub mod source;
+
+pub use events::read_acceptor;
+pub use parts::{read_key, within};

@@ -1,7 +1,7 @@
 //! Reading lines as commands.
 //!
 //! A line is read word by word, and refused at the first word that does not fit. Its first word decides of which kind it
-//! is: a number is the caller of a change, and a name is that of an event.
+//! is: a number is the caller of a change, `op` is an operator's, and another name is that of an event.
 
 ghost use Rattle.std.specs.Prelude.{◌≡◌, ◌≢◌, ◌≤◌, length, Option, Some, None, Ok, Err, IfOk, IfErr, IfSome, MatchResult};
 ghost use Rattle.cas_change_text.specs.Misfit.{IsFirstMisfit};
@@ -14,9 +14,10 @@ ghost use Rattle.cas_lines.specs.declared.command.Command.{Command};
 use crate::changes::change_in;
 use crate::command::Command;
 use crate::events::{EventName, event_in, event_name};
+use crate::operator::op_in;
 use crate::parts::within;
 use cas_change_text::decimal::read_u64;
-use cas_change_text::{TextRefusal, Why, Words, next_word};
+use cas_change_text::{TextRefusal, Why, Words, next_word, says};
 use std::alloc::Global;
 
 /// How many bytes a line may have that is read as a command.
@@ -27,6 +28,8 @@ pub const LONGEST_LINE: usize = 4_096;
 pub enum LineHead {
     /// The line is a change of this caller.
     Caller(u8),
+    /// The line is an operator's.
+    Operator,
     /// The line is an event.
     Event(EventName),
 }
@@ -54,6 +57,9 @@ fn head_in(proposers: u8, at: usize, word: &[u8]) -> Result<LineHead, TextRefusa
                 word: at,
             }),
         };
+    }
+    if says(word, "op") {
+        return Ok(LineHead::Operator);
     }
     match event_name(word) {
         Some(name) => Ok(LineHead::Event(name)),
@@ -85,6 +91,7 @@ fn command_behind(
 {
     match head {
         LineHead::Caller(caller) => change_in(alloc, caller, words),
+        LineHead::Operator => op_in(alloc, words),
         LineHead::Event(name) => event_in(alloc, name, proposers, words),
     }
 }

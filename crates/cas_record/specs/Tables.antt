@@ -25,6 +25,11 @@ same_spot a b = (a.0 == b.0) && ((a.1.counter == b.1.counter) && (a.1.proposer =
 abbrev pub same_call : (ℕ × ℕ) → (ℕ × ℕ) → Bool
 same_call a b = (a.0 == b.0) && (a.1 == b.1)
 
+-- the place that was found, or where it would be
+abbrev pub place_in : Result ℕ ℕ → ℕ
+place_in (Ok at) = at
+place_in (Err at) = at
+
 -- the row is the key's, or none where no mark names the key
 abbrev pub IsRowFor : List ℕ → List Mark → Option Row → Type 0
 IsRowFor key marks None = home_of key (reverse marks) ≡ None

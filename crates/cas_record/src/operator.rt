@@ -1,12 +1,13 @@
 //! What an operator asks for, and what is answered.
 
-ghost use Rattle.std.specs.Prelude.{◌≡◌};
+ghost use Rattle.std.specs.Prelude.{◌≡◌, IfOk};
 
 use crate::answer::Answer;
 use cas_ballot::{AcceptorId, Ballot};
 use cas_change::Key;
 use cas_quorum::PlanFault;
 use cas_slot::Tell;
+use std::alloc::AllocError;
 
 /// What an operator asks for.
 #[derive(Debug, PartialEq, Eq, Drop)]
@@ -19,6 +20,20 @@ pub enum Asked {
     Collect(Key),
     /// What each acceptor keeps for the key.
     Probe(Key),
+}
+
+impl Asked {
+    /// The same, in memory of its own.
+    pub fn copy(&self) -> Result<Asked, AllocError>
+        ensures { IfOk result (λ copy. copy ≡ self.now) }
+    {
+        match self {
+            Asked::Join(id) => Ok(Asked::Join(*id)),
+            Asked::Leave(id) => Ok(Asked::Leave(*id)),
+            Asked::Collect(key) => Ok(Asked::Collect(key.copy()?)),
+            Asked::Probe(key) => Ok(Asked::Probe(key.copy()?)),
+        }
+    }
 }
 
 /// What an operator is answered.
@@ -78,6 +93,22 @@ pub struct Probe {
     pub told: Option<Tell>,
 }
 
+impl Probe {
+    /// The same, in memory of its own.
+    pub fn copy(&self) -> Result<Probe, AllocError>
+        ensures { IfOk result (λ copy. copy ≡ self.now) }
+    {
+        let told = match &self.told {
+            Some(told) => Some(told.copy()?),
+            None => None,
+        };
+        Ok(Probe {
+            acceptor: self.acceptor,
+            told,
+        })
+    }
+}
+
 /// What the members told, one probe each, in a list of its own.
 #[derive(Debug, PartialEq, Eq, Drop)]
 pub struct Probes {
@@ -97,12 +128,5 @@ impl Probes {
         ensures { result.now ≡ self.now.probes.items }
     {
         &self.probes
-    }
-
-    /// The list of the probes, in the memory that they were given in.
-    pub fn into_probes(self) -> Vec<Probe>
-        ensures { result.items ≡ self.probes.items }
-    {
-        self.probes
     }
 }

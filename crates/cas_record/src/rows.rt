@@ -1,10 +1,10 @@
 //! The rows of a record, in the order of their keys.
 
-ghost use Rattle.std.specs.Prelude.{◌≡◌, ◌+◌, ◌<◌, ◌≤◌, ℕ, List, [], ◌∷◌, ◌++◌, length, reverse, vec_len, vec_capacity, Some, None, option_copied};
+ghost use Rattle.std.specs.Prelude.{◌≡◌, ◌⊎◌, ◌+◌, ◌<◌, ◌≤◌, ℕ, List, [], ◌∷◌, ◌++◌, length, reverse, vec_len, vec_capacity, Some, None, option_copied, slice_set, Contains};
 ghost use Rattle.cas_record.specs.declared.mark.Mark.{Mark};
 ghost use Rattle.cas_record.specs.Chain.{has_calls};
 ghost use Rattle.cas_record.specs.Index.{named_by, home_of, IsRowOf};
-ghost use Rattle.cas_record.specs.Tables.{row_cmp, IsRowFor, HasRows, IsFirstAfter, IsSearched};
+ghost use Rattle.cas_record.specs.Tables.{row_cmp, place_in, IsRowFor, HasRows, IsFirstAfter, IsSearched};
 
 use crate::mark::Mark;
 use crate::row::{Row, empty_row, key_at, row_after};
@@ -27,23 +27,33 @@ fn slot_of(key: &Key, slots: usize) -> usize {
     if slots == 0 { 0 } else { spread % slots }
 }
 
-/// Where the key's row was when it was noted last, or any place where that is not known.
-pub fn hint_of(hints: &[usize], key: &Key) -> usize {
+/// Where the key's row was when it was noted last, or that of another key, or 0.
+pub fn hint_of(hints: &[usize], key: &Key) -> usize
+    ensures { result ≡ 0 ⊎ Contains hints.now result }
+{
     match hints.get(slot_of(key, hints.len())) {
         Some(hint) => *hint,
         None => 0,
     }
 }
 
-/// Keeps where the key's row is.
-pub fn keep_hint(hints: &mut Vec<usize>, key: &Key, found: Result<usize, usize>) {
+/// Keeps where the key's row is, in place of one hint, where there is any.
+pub fn keep_hint(hints: &mut Vec<usize>, key: &Key, found: Result<usize, usize>)
+    ensures { (slot : ℕ) × (hints.new.items ≡ slice_set hints.old.items slot (place_in found)) }
+{
     let slot = slot_of(key, hints.len());
-    let place = match found {
+    if slot < hints.len() {
+        hints[slot] = place_in(found);
+    }
+}
+
+/// The place that was found, or where it would be.
+fn place_in(found: Result<usize, usize>) -> usize
+    ensures { result ≡ place_in found }
+{
+    match found {
         Ok(at) => at,
         Err(at) => at,
-    };
-    if slot < hints.len() {
-        hints[slot] = place;
     }
 }
 

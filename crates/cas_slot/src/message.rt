@@ -1,13 +1,14 @@
 //! The messages between a proposer and an acceptor, as values.
 
-ghost use Rattle.std.specs.Prelude.{◌≡◌};
+ghost use Rattle.std.specs.Prelude.{◌≡◌, IfOk};
 ghost use Rattle.cas_slot.specs.Message.{phase_of, tag_of};
 
 use crate::ages::Ages;
 use crate::page::Page;
-use crate::slot::Accepted;
+use crate::slot::{Accepted, copy_accepted};
 use cas_ballot::{AcceptorId, Ballot};
 use cas_change::{Key, State};
+use std::alloc::AllocError;
 
 /// What a proposer asks of one acceptor.
 #[derive(Debug, PartialEq, Eq, Drop)]
@@ -143,4 +144,43 @@ pub enum Tell {
         promise: Ballot,
         accepted: Option<Accepted>,
     },
+}
+
+impl Tell {
+    /// An equal one, in memory of its own.
+    pub fn copy(&self) -> Result<Tell, AllocError>
+        ensures { IfOk result (λ copy. copy ≡ self.now) }
+    {
+        match self {
+            Tell::Promised { accepted } => Ok(Tell::Promised {
+                accepted: copy_accepted(accepted)?,
+            }),
+            Tell::Accepted => Ok(Tell::Accepted),
+            Tell::Met(ballot) => Ok(Tell::Met(*ballot)),
+            Tell::Aged(least) => Ok(Tell::Aged(*least)),
+            Tell::Full => Ok(Tell::Full),
+            Tell::AgesSet => Ok(Tell::AgesSet),
+            Tell::Removed => Ok(Tell::Removed),
+            Tell::Kept => Ok(Tell::Kept),
+            Tell::Listed { after, keys, more } => Ok(Tell::Listed {
+                after: copy_key(after)?,
+                keys: keys.copy()?,
+                more: *more,
+            }),
+            Tell::Probed { promise, accepted } => Ok(Tell::Probed {
+                promise: *promise,
+                accepted: copy_accepted(accepted)?,
+            }),
+        }
+    }
+}
+
+/// An equal key, if there is any, in memory of its own.
+fn copy_key(key: &Option<Key>) -> Result<Option<Key>, AllocError>
+    ensures { IfOk result (λ copy. copy ≡ key.now) }
+{
+    match key {
+        Some(key) => Ok(Some(key.copy()?)),
+        None => Ok(None),
+    }
 }

@@ -1,10 +1,11 @@
 //! One page of a listing of keys.
 
-ghost use Rattle.std.specs.Prelude.{◌≡◌, ◌≤◌, length, vec_len, nat_eq};
+ghost use Rattle.std.specs.Prelude.{◌≡◌, ◌≤◌, length, vec_len, nat_eq, IfOk};
 ghost use Rattle.std.specs.Cmp.{partial_equiv_from_equiv};
 ghost use Rattle.std.specs.Cmp.Lexicographic.{nat_list_eq_equiv, lists_equiv, pointwise};
 
 use cas_change::Key;
+use std::alloc::{AllocError, Global};
 use std::marker::Model;
 
 /// How many keys a page has at most.
@@ -43,12 +44,31 @@ impl Page {
         &self.keys
     }
 
+    /// An equal page, in memory of its own.
+    pub fn copy(&self) -> Result<Page, AllocError>
+        ensures { IfOk result (λ copy. copy ≡ self.now) }
+    {
+        Ok(Page {
+            keys: copy_keys(*self.keys.allocator(), &self.keys)?,
+        })
+    }
+
     /// The list of the keys, in the memory that they were given in.
     pub fn into_keys(self) -> Vec<Key>
         ensures { result.items ≡ self }
     {
         self.keys
     }
+}
+
+fn copy_keys(alloc: Global, keys: &[Key]) -> Result<Vec<Key>, AllocError>
+    ensures { IfOk result (λ copies. copies.items ≡ keys.now) }
+{
+    let mut copies = Vec::new(alloc);
+    for key in keys {
+        copies.push(key.copy()?)?;
+    }
+    Ok(copies)
 }
 
 impl PartialEq for Page {

@@ -28,6 +28,16 @@ impl Accepted {
     }
 }
 
+/// An equal one, if there is any, whose state is in memory of its own.
+pub(crate) fn copy_accepted(accepted: &Option<Accepted>) -> Result<Option<Accepted>, AllocError>
+    ensures { IfOk result (λ copy. copy ≡ accepted.now) }
+{
+    match accepted {
+        Some(accepted) => Ok(Some(accepted.copy()?)),
+        None => Ok(None),
+    }
+}
+
 /// The promise of one acceptor for a key, and what it accepted there.
 #[derive(Debug, PartialEq, Eq, Drop)]
 pub struct Slot {
@@ -42,13 +52,9 @@ impl Slot {
     pub fn copy(&self) -> Result<Slot, AllocError>
         ensures { IfOk result (λ copy. copy ≡ self.now) }
     {
-        let accepted = match &self.accepted {
-            Some(accepted) => Some(accepted.copy()?),
-            None => None,
-        };
         Ok(Slot {
             promise: self.promise,
-            accepted,
+            accepted: copy_accepted(&self.accepted)?,
         })
     }
 

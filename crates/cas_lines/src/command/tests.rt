@@ -16,7 +16,6 @@ fn refuses_at_the_first_word(rt: HostRuntime) {
         (b"2 do a empty num 10 ; below 12 add 1", None),
         (b"get a", Some((Why::UnknownWord, 0))),
         (b"-1 get a", Some((Why::UnknownWord, 0))),
-        (b"op join 4", Some((Why::UnknownWord, 0))),
         (b"0 get a", Some((Why::BadNumber, 0))),
         (b"3 get a", Some((Why::BadNumber, 0))),
         (b"1x get a", Some((Why::BadNumber, 0))),
@@ -159,6 +158,35 @@ fn reads_events(rt: HostRuntime) -> Result<(), Fail> {
     Ok(())
 }
 
+#[test]
+fn reads_operator_lines(rt: HostRuntime) -> Result<(), Fail> {
+    for (line, want) in [
+        (
+            b"op probe a".as_slice(),
+            "Probe { key: Key { bytes: [97] } }",
+        ),
+        (
+            b" op\tprobe  op ",
+            "Probe { key: Key { bytes: [111, 112] } }",
+        ),
+        (b"op", "NoWord 1"),
+        (b"op xyz", "UnknownWord 1"),
+        (b"op join 4", "UnknownWord 1"),
+        (b"op leave 4", "UnknownWord 1"),
+        (b"op collect a", "UnknownWord 1"),
+        (b"op Probe a", "UnknownWord 1"),
+        (b"op probe", "NoWord 2"),
+        (b"op probe caf\xC3\xA9", "UnknownWord 2"),
+        (b"op probe a b", "UnknownWord 3"),
+        (b"probe a", "UnknownWord 0"),
+        (b"1 op probe a", "UnknownWord 1"),
+    ] {
+        let said = told(rt.alloc(), line)?;
+        assert_eq!(rt; said.as_str(), want, "at {line:?}");
+    }
+    Ok(())
+}
+
 /// A line with one word or blank many times.
 fn line_of(
     alloc: Global,
@@ -181,6 +209,8 @@ fn keeps_to_the_limits(rt: HostRuntime) -> Result<(), Fail> {
         (b"1 get ".as_slice(), b'k', 64, b"".as_slice(), None),
         (b"1 get ", b'k', 65, b"", Some((Why::TooLong, 2))),
         (b"1 get ", 0xE2, 65, b"", Some((Why::TooLong, 2))),
+        (b"op probe ", b'k', 64, b"", None),
+        (b"op probe ", b'k', 65, b"", Some((Why::TooLong, 2))),
         (b"1 set a ", b't', 200, b"", None),
         (b"1 set a ", b't', 201, b"", Some((Why::TooLong, 3))),
         (b"1 get a", b' ', 4_089, b"", None),

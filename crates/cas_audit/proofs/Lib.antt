@@ -1,0 +1,8 @@
+mod Auditing
+pub mod MarksBack
+mod MemberWords
+mod Numbers
+mod Parts
+mod PartsBack
+mod Rising
+mod TextWords

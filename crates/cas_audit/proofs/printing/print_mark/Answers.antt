@@ -1,0 +1,5 @@
+use Rattle.cas_audit.proofs.MarksBack.{line_again}
+use Rattle.cas_audit.proofs.printing.print_mark.Goals as goal
+
+pub returns-clause-again : goal.returns-clause-again
+returns-clause-again c = line_again (λ line. line.items) c.mark_line.result c.args.mark.now c.requires c.mark_line.ensures.text c.mark_line.ensures.fits

@@ -1,0 +1,5 @@
+pub mod Auditing
+pub mod Printing
+pub mod Ranges
+pub mod Reading
+pub mod Rules

@@ -1,0 +1,6 @@
+-- the keys so far are copied
+use Rattle.std.proofs.Common.{◌≡◌, take}
+use Rattle.cas_slot.proofs.page.copy_keys.Given as goal
+
+abbrev pub invariant-loop-key : goal.invariant-loop-key
+invariant-loop-key l = l.copies.items ≡ take l.key-index l.keys
