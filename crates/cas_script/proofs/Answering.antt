@@ -5,8 +5,11 @@ use Rattle.cas_lines.specs.Command.{IsLine, Asked, change_of}
 use Rattle.cas_lines.specs.declared.answer.EventAnswer.{EventAnswer}
 use Rattle.cas_lines.specs.declared.answer.Shown.{Shown}
 use Rattle.cas_lines.specs.declared.command.Command.{Command}
-use Rattle.cas_lines.specs.declared.command.Command.TheVariants.{Show}
+use Rattle.cas_lines.specs.declared.command.Command.TheVariants.{Probe, Show}
 use Rattle.cas_record.specs.declared.answer.Answer.{Answer}
+use Rattle.cas_record.specs.declared.operator.OpAnswer.{OpAnswer}
+use Rattle.cas_script.specs.Probes.{IsProbe}
+use Rattle.cas_cluster.specs.Council.{Council}
 use Rattle.cas_cluster.specs.View.{Meaning, View}
 use Rattle.cas_change.specs.declared.program.Clause.{Clause}
 use Rattle.cas_world.specs.Beginning.{HasNoCall}
@@ -14,7 +17,7 @@ use Rattle.cas_script.specs.Changes.{IsChange}
 use Rattle.cas_script.specs.Conditions.{Rule}
 use Rattle.cas_script.specs.Events.{IsShown}
 use Rattle.cas_script.specs.Network.{IsNetwork}
-use Rattle.cas_script.specs.Script.{State, LineAnswer, Changed, Happened, Shows, RunsChange, RunsEvent, IsAnswered, changes, happens, shows, text_of, IsIn, AnswersLine, RanOrNot, ran, Runs, nowhere}
+use Rattle.cas_script.specs.Script.{State, LineAnswer, Changed, Happened, Shows, Operated, RunsProbe, probes, RunsChange, RunsEvent, IsAnswered, changes, happens, shows, text_of, IsIn, AnswersLine, RanOrNot, ran, Runs, nowhere}
 use Rattle.cas_script.specs.Stage.{Stage, IsStage}
 use Rattle.cas_script.specs.declared.halt.Halt.{Halt}
 use Rattle.cas_script.specs.declared.network.Network.{Network}
@@ -50,6 +53,23 @@ pub shows_run : {S V : Type 0} (m : Meaning S V) (tries : ℕ) (stage : Stage S 
 shows_run {S} {V} m tries stage state line command id key shown world at is says same has =
     shows id key (subst (λ (c : Command). IsLine state.world.greatest line (Some c)) says (line_of stage state line (Some command) at is)) (subst (λ (w : View S V). IsShown m w id key shown) same has)
 
+pub probes_run : {S V : Type 0} (m : Meaning S V) (tries : ℕ) (old stage : Stage S V) (state : State S V) (line : List ℕ) (command : Command) (key : List ℕ) (answer : OpAnswer) → IsIn old state → IsLine old.world.greatest line (Some command) → command ≡ Probe key
+    → (runs : Runs (RunsProbe m state key answer) stage) → IsAnswered m tries state line (Operated answer) runs.new
+probes_run m tries old stage state line command key answer at is says runs = probes key (subst (λ (c : Command). IsLine state.world.greatest line (Some c)) says (line_of old state line (Some command) at is)) runs.has
+
+-- ---- a probe
+pub probe_runs : {S V : Type 0} (m : Meaning S V) (world now : View S V) (network next : Network) (halts : List Halt) (tries : ℕ) (seen : Stage S V) (state : State S V) (key : List ℕ) (answer : OpAnswer) → stage_of world network halts tries ≡ seen → IsIn seen state
+    → (IsNetwork network state.rules → IsNetwork next state.rules) → (IsNetwork network state.rules → IsProbe m state.rules key world answer now) → Runs (RunsProbe m state key answer) (stage_of now next halts tries)
+probe_runs {S} {V} m world now network next halts tries seen state key answer is at still runs = record {
+  new = record state { world = now };
+  is_in = record { world = refl; network = still (network_is world network halts tries seen state is at); halts = halts_are world network halts tries seen state is at };
+  has = record {
+    probe = subst (λ (w : View S V). IsProbe m state.rules key w answer now) (world_is world network halts tries seen state is at) (runs (network_is world network halts tries seen state is at));
+    rules = refl;
+    halts = refl;
+  };
+}
+
 -- ---- a change
 pub change_runs : {S V : Type 0} (m : Meaning S V) (world now : View S V) (network next : Network) (halts : List Halt) (tries : ℕ) (seen : Stage S V) (state : State S V) (index : ℕ) (asked : Asked) (after : Halt) (answer : Answer)
     → stage_of world network halts tries ≡ seen → IsIn seen state → index ≡ asked.caller → asked.caller < length halts
@@ -80,5 +100,6 @@ change_stage m world now network next halts afters tries proposers id key progra
   few = is.few;
   some = is.some;
   idle = idle_then world now id (change_keeps m tries is.ruled.0 id key program halt after world now answer (runs is.ruled.0 is.ruled.1)) is.idle idle;
+  quiet = (change_keeps m tries is.ruled.0 id key program halt after world now answer (runs is.ruled.0 is.ruled.1)).council (ap (λ (c : Council). c.exchange) is.quiet) ∙ is.quiet;
   ruled = (is.ruled.0, still is.ruled.0 is.ruled.1);
 }

@@ -1,5 +1,5 @@
 -- What a call of one caller leaves to the others.
-use Rattle.std.proofs.Common.{◌≡◌, ◌≢◌, ◌≤◌, ℕ, zero, suc, nat_eq, List, [], ◌∷◌, slice_get, slice_set, inl, inr, refl, sym, ap, subst, ◌∙◌, eqb-true}
+use Rattle.std.proofs.Common.{◌≡◌, ◌≢◌, ◌≤◌, ℕ, zero, suc, nat_eq, List, [], ◌∷◌, None, slice_get, slice_set, inl, inr, refl, sym, ap, subst, ◌∙◌, eqb-true}
 use Rattle.std.proofs.lemmas.Bool.{eqb-false}
 use Rattle.cas_base.proofs.Bools.{true_or_false}
 use Rattle.cas_change.specs.declared.program.Clause.{Clause}
@@ -10,7 +10,9 @@ use Rattle.cas_proposer.specs.Desk.{DeskView}
 use Rattle.cas_proposer.specs.declared.round.Round.{Round}
 use Rattle.cas_record.specs.declared.answer.Answer.{Answer}
 use Rattle.cas_cluster.specs.Step as step
-use Rattle.cas_cluster.specs.Step.{StepBegin, StepTurn, StepRefuseTurn, StepPropose, StepCount, StepEnd, StepStray, StepCrashAcceptor, StepRestartAcceptor, StepCrashProposer, StepRestartProposer, OpenCallAt}
+use Rattle.std.specs.Prelude.{option_map}
+use Rattle.cas_cluster.specs.Council.{Council, broken_off, crashed_in}
+use Rattle.cas_cluster.specs.Step.{CrashesDesk, broken_off_view, StepBegin, StepTurn, StepRefuseTurn, StepPropose, StepCount, StepEnd, StepStray, StepCrashAcceptor, StepRestartAcceptor, StepCrashProposer, StepRestartProposer, OpenCallAt}
 use Rattle.cas_cluster.specs.StepCalls as calls
 use Rattle.cas_cluster.specs.StepFrames as frames
 use Rattle.cas_cluster.specs.View.{Meaning, View, CallerView}
@@ -28,6 +30,8 @@ use Rattle.cas_script.specs.declared.halt.Halt.{Halt}
 pub record KeepsOthers {S V : Type 0} (old new : View S V) (id : ℕ) : Type 0 where
   pub greatest : new.greatest ≡ old.greatest
   pub others : (p : ℕ) → p ≢ id → slice_get new.callers p ≡ slice_get old.callers p
+  -- and where no exchange is open, what the operator has under way
+  pub council : old.council.exchange ≡ None → new.council ≡ old.council
 
 get_other : {A : Type 0} (all : List A) (place : ℕ) (x : A) (p : ℕ) → p ≢ place → slice_get (slice_set all place x) p ≡ slice_get all p
 get_other [] place x p other = refl
@@ -37,79 +41,102 @@ get_other (one ∷ rest) (suc place) x zero other = refl
 get_other (one ∷ rest) (suc place) x (suc p) other = get_other rest place x p (λ is. other (ap suc is))
 
 -- one caller changes
-sets : {S V : Type 0} (old new : View S V) (id : ℕ) (next : CallerView) → new.greatest ≡ old.greatest → new.callers ≡ slice_set old.callers id next → KeepsOthers old new id
-sets old new id next greatest callers = record { greatest = greatest; others = λ p other. ap (λ (l : List CallerView). slice_get l p) callers ∙ get_other old.callers id next p other }
+sets : {S V : Type 0} (old new : View S V) (id : ℕ) (next : CallerView) → new.greatest ≡ old.greatest → new.callers ≡ slice_set old.callers id next → new.council ≡ old.council → KeepsOthers old new id
+sets old new id next greatest callers council = record { greatest = greatest; council = λ quiet. council; others = λ p other. ap (λ (l : List CallerView). slice_get l p) callers ∙ get_other old.callers id next p other }
 
 -- none does
-stays : {S V : Type 0} (old new : View S V) (id : ℕ) → new.greatest ≡ old.greatest → new.callers ≡ old.callers → KeepsOthers old new id
-stays old new id greatest callers = record { greatest = greatest; others = λ p other. ap (λ (l : List CallerView). slice_get l p) callers }
+stays : {S V : Type 0} (old new : View S V) (id : ℕ) → new.greatest ≡ old.greatest → new.callers ≡ old.callers → new.council ≡ old.council → KeepsOthers old new id
+stays old new id greatest callers council = record { greatest = greatest; council = λ quiet. council; others = λ p other. ap (λ (l : List CallerView). slice_get l p) callers }
 
 both : {S V : Type 0} (old mid new : View S V) (id : ℕ) → KeepsOthers old mid id → KeepsOthers mid new id → KeepsOthers old new id
-both old mid new id before after = record { greatest = after.greatest ∙ before.greatest; others = λ p other. after.others p other ∙ before.others p other }
+both {S} {V} old mid new id before after = record {
+  greatest = after.greatest ∙ before.greatest;
+  others = λ p other. after.others p other ∙ before.others p other;
+  council = λ quiet. after.council (ap (λ (c : Council). c.exchange) (before.council quiet) ∙ quiet) ∙ before.council quiet;
+}
 
 same : {S V : Type 0} (old : View S V) (id : ℕ) → KeepsOthers old old id
-same old id = record { greatest = refl; others = λ p other. refl }
+same old id = record { greatest = refl; others = λ p other. refl; council = λ quiet. refl }
+
+-- so none is open then
+pub quiet_then : {S V : Type 0} (old new : View S V) (id : ℕ) → KeepsOthers old new id → old.council.exchange ≡ None → new.council.exchange ≡ None
+quiet_then old new id keeps quiet = ap (λ (c : Council). c.exchange) (keeps.council quiet) ∙ quiet
 
 -- ---- the calls of a caller
-begin_keeps : {S V : Type 0} (m : Meaning S V) (old new : View S V) (id : ℕ) (key : List ℕ) (program : List Clause) → StepBegin m old id key program new → KeepsOthers old new id
+pub begin_keeps : {S V : Type 0} (m : Meaning S V) (old new : View S V) (id : ℕ) (key : List ℕ) (program : List Clause) → StepBegin m old id key program new → KeepsOthers old new id
 begin_keeps {S} {V} m old new id key program by = both old by.middle new id (opens by.opens) (in_round by.begins)
   where
     opens : calls.Opens old id key program by.middle → KeepsOthers old by.middle id
-    opens (calls.first was at none room is) = sets old by.middle id _ (ap (λ (w : View S V). w.greatest) is) (ap (λ (w : View S V). w.callers) is)
-    opens (calls.again was open_call reserved at open_is key_is program_is none met no_round room some is) = sets old by.middle id _ (ap (λ (w : View S V). w.greatest) is) (ap (λ (w : View S V). w.callers) is)
+    opens (calls.first was at none room is) = sets old by.middle id _ (ap (λ (w : View S V). w.greatest) is) (ap (λ (w : View S V). w.callers) is) (ap (λ (w : View S V). w.council) is)
+    opens (calls.again was open_call reserved at open_is key_is program_is none met no_round room some is) = sets old by.middle id _ (ap (λ (w : View S V). w.greatest) is) (ap (λ (w : View S V). w.callers) is) (ap (λ (w : View S V). w.council) is)
 
     in_round : calls.BeginsRound m by.middle id by.caller by.call new → KeepsOthers by.middle new id
-    in_round (calls.prepares desk now ballot round flow at up few begins sends is) = stays by.middle new id (ap (λ (w : View S V). w.greatest) is) (ap (λ (w : View S V). w.callers) is)
-    in_round (calls.proposes desk now ready ride round outcome flow at up few begins made sends is) = sets by.middle new id _ (ap (λ (w : View S V). w.greatest) is) (ap (λ (w : View S V). w.callers) is)
-    in_round (calls.stays told no_beginning no_round full is) = sets by.middle new id _ (ap (λ (w : View S V). w.greatest) is) (ap (λ (w : View S V). w.callers) is)
-    in_round (calls.spent desk now at none up no_promise spent kept now_is is) = sets by.middle new id _ (ap (λ (w : View S V). w.greatest) is) (ap (λ (w : View S V). w.callers) is)
-    in_round (calls.fails desk now at none up fails is) = sets by.middle new id _ (ap (λ (w : View S V). w.greatest) is) (ap (λ (w : View S V). w.callers) is)
-    in_round (calls.loses desk now ballot at none up loses is) = sets by.middle new id _ (ap (λ (w : View S V). w.greatest) is) (ap (λ (w : View S V). w.callers) is)
+    in_round (calls.prepares desk now ballot round flow at up few begins sends is) = stays by.middle new id (ap (λ (w : View S V). w.greatest) is) (ap (λ (w : View S V). w.callers) is) (ap (λ (w : View S V). w.council) is)
+    in_round (calls.proposes desk now ready ride round outcome flow at up few begins made sends is) = sets by.middle new id _ (ap (λ (w : View S V). w.greatest) is) (ap (λ (w : View S V). w.callers) is) (ap (λ (w : View S V). w.council) is)
+    in_round (calls.stays told no_beginning no_round full is) = sets by.middle new id _ (ap (λ (w : View S V). w.greatest) is) (ap (λ (w : View S V). w.callers) is) (ap (λ (w : View S V). w.council) is)
+    in_round (calls.spent desk now at none up no_promise spent kept now_is is) = sets by.middle new id _ (ap (λ (w : View S V). w.greatest) is) (ap (λ (w : View S V). w.callers) is) (ap (λ (w : View S V). w.council) is)
+    in_round (calls.fails desk now at none up fails is) = sets by.middle new id _ (ap (λ (w : View S V). w.greatest) is) (ap (λ (w : View S V). w.callers) is) (ap (λ (w : View S V). w.council) is)
+    in_round (calls.loses desk now ballot at none up loses is) = sets by.middle new id _ (ap (λ (w : View S V). w.greatest) is) (ap (λ (w : View S V). w.callers) is) (ap (λ (w : View S V). w.council) is)
 
 no_begin_keeps : {S V : Type 0} (m : Meaning S V) (old new : View S V) (id : ℕ) (key : List ℕ) → calls.RefusesCall m old id key new → KeepsOthers old new id
-no_begin_keeps {S} {V} m old new id key (calls.stays is) = stays old new id (ap (λ (w : View S V). w.greatest) is) (ap (λ (w : View S V). w.callers) is)
-no_begin_keeps {S} {V} m old new id key (calls.loses caller desk now ballot at_caller at_desk none up loses is) = stays old new id (ap (λ (w : View S V). w.greatest) is) (ap (λ (w : View S V). w.callers) is)
+no_begin_keeps {S} {V} m old new id key (calls.stays is) = stays old new id (ap (λ (w : View S V). w.greatest) is) (ap (λ (w : View S V). w.callers) is) (ap (λ (w : View S V). w.council) is)
+no_begin_keeps {S} {V} m old new id key (calls.loses caller desk now ballot at_caller at_desk none up loses is) = stays old new id (ap (λ (w : View S V). w.greatest) is) (ap (λ (w : View S V). w.callers) is) (ap (λ (w : View S V). w.council) is)
 
-turn_keeps : {S V : Type 0} (m : Meaning S V) (old new : View S V) (id : ℕ) (v : Verdict) → StepTurn m old id v new → KeepsOthers old new id
+pub turn_keeps : {S V : Type 0} (m : Meaning S V) (old new : View S V) (id : ℕ) (v : Verdict) → StepTurn m old id v new → KeepsOthers old new id
 turn_keeps {S} {V} m old new id v by = in_turn by.of_call by.front by.turn
   where
     in_turn : (of_call : OpenCallAt old id) (front : Message) → frames.TakesTurn m old id v front of_call.caller of_call.call new → KeepsOthers old new id
-    in_turn at front (frames.held fall is) = stays old new id (ap (λ (w : View S V). w.greatest) is) (ap (λ (w : View S V). w.callers) is)
-    in_turn at front (frames.gone fall is) = sets old new id _ (ap (λ (w : View S V). w.greatest) is) (ap (λ (w : View S V). w.callers) is)
-    in_turn at front (frames.answers request acceptor now reply fall front_is there table is) = sets old new id _ (ap (λ (w : View S V). w.greatest) is) (ap (λ (w : View S V). w.callers) is)
-    in_turn at front (frames.finds_down request acceptor fall front_is there down is) = sets old new id _ (ap (λ (w : View S V). w.greatest) is) (ap (λ (w : View S V). w.callers) is)
-    in_turn at front (frames.brings_down request acceptor now fall front_is there stops is) = sets old new id _ (ap (λ (w : View S V). w.greatest) is) (ap (λ (w : View S V). w.callers) is)
-    in_turn at front (frames.arrives reply desk now round heard fall front_is there is_round hears is) = sets old new id _ (ap (λ (w : View S V). w.greatest) is) (ap (λ (w : View S V). w.callers) is)
+    in_turn at front (frames.held fall is) = stays old new id (ap (λ (w : View S V). w.greatest) is) (ap (λ (w : View S V). w.callers) is) (ap (λ (w : View S V). w.council) is)
+    in_turn at front (frames.gone fall is) = sets old new id _ (ap (λ (w : View S V). w.greatest) is) (ap (λ (w : View S V). w.callers) is) (ap (λ (w : View S V). w.council) is)
+    in_turn at front (frames.answers request acceptor now reply fall front_is there table is) = sets old new id _ (ap (λ (w : View S V). w.greatest) is) (ap (λ (w : View S V). w.callers) is) (ap (λ (w : View S V). w.council) is)
+    in_turn at front (frames.finds_down request acceptor fall front_is there down is) = sets old new id _ (ap (λ (w : View S V). w.greatest) is) (ap (λ (w : View S V). w.callers) is) (ap (λ (w : View S V). w.council) is)
+    in_turn at front (frames.brings_down request acceptor now fall front_is there stops is) = sets old new id _ (ap (λ (w : View S V). w.greatest) is) (ap (λ (w : View S V). w.callers) is) (ap (λ (w : View S V). w.council) is)
+    in_turn at front (frames.arrives reply desk now round heard fall front_is there is_round hears is) = sets old new id _ (ap (λ (w : View S V). w.greatest) is) (ap (λ (w : View S V). w.callers) is) (ap (λ (w : View S V). w.council) is)
 
 no_room_keeps : {S V : Type 0} (m : Meaning S V) (old new : View S V) (id : ℕ) → frames.FindsNoRoom m old new → KeepsOthers old new id
-no_room_keeps {S} {V} m old new id (frames.stays is) = stays old new id (ap (λ (w : View S V). w.greatest) is) (ap (λ (w : View S V). w.callers) is)
-no_room_keeps {S} {V} m old new id (frames.kept at acceptor now there finds is) = stays old new id (ap (λ (w : View S V). w.greatest) is) (ap (λ (w : View S V). w.callers) is)
+no_room_keeps {S} {V} m old new id (frames.stays is) = stays old new id (ap (λ (w : View S V). w.greatest) is) (ap (λ (w : View S V). w.callers) is) (ap (λ (w : View S V). w.council) is)
+no_room_keeps {S} {V} m old new id (frames.kept at acceptor now there finds is) = stays old new id (ap (λ (w : View S V). w.greatest) is) (ap (λ (w : View S V). w.callers) is) (ap (λ (w : View S V). w.council) is)
 
-refuse_keeps : {S V : Type 0} (m : Meaning S V) (old new : View S V) (id : ℕ) → StepRefuseTurn m old id new → KeepsOthers old new id
-refuse_keeps {S} {V} m old new id by = both old by.middle new id (no_room_keeps m old by.middle id by.refuses) (sets by.middle new id _ (ap (λ (w : View S V). w.greatest) by.view) (ap (λ (w : View S V). w.callers) by.view))
+pub refuse_keeps : {S V : Type 0} (m : Meaning S V) (old new : View S V) (id : ℕ) → StepRefuseTurn m old id new → KeepsOthers old new id
+refuse_keeps {S} {V} m old new id by = both old by.middle new id (no_room_keeps m old by.middle id by.refuses) (sets by.middle new id _ (ap (λ (w : View S V). w.greatest) by.view) (ap (λ (w : View S V). w.callers) by.view) (ap (λ (w : View S V). w.council) by.view))
 
-propose_keeps : {S V : Type 0} (m : Meaning S V) (old new : View S V) (id : ℕ) → StepPropose m old id new → KeepsOthers old new id
+pub propose_keeps : {S V : Type 0} (m : Meaning S V) (old new : View S V) (id : ℕ) → StepPropose m old id new → KeepsOthers old new id
 propose_keeps {S} {V} m old new id by = in_phase by.at_round.of_call by.at_round.desk by.at_round.round by.proposes
   where
     in_phase : (of_call : OpenCallAt old id) (desk : DeskView V) (round : Round) → calls.ProposesOrEnds m old id desk round of_call.caller of_call.call new → KeepsOthers old new id
-    in_phase at desk round (calls.proposes now turned read by ride outcome flow quorum confirmers reads turns made sends is) = sets old new id _ (ap (λ (w : View S V). w.greatest) is) (ap (λ (w : View S V). w.callers) is)
-    in_phase at desk round (calls.ends now verdict told verdict_is refuses ends is) = sets old new id _ (ap (λ (w : View S V). w.greatest) is) (ap (λ (w : View S V). w.callers) is)
-    in_phase at desk round (calls.fails now fails is) = sets old new id _ (ap (λ (w : View S V). w.greatest) is) (ap (λ (w : View S V). w.callers) is)
-    in_phase at desk round (calls.loses now ballot loses is) = sets old new id _ (ap (λ (w : View S V). w.greatest) is) (ap (λ (w : View S V). w.callers) is)
+    in_phase at desk round (calls.proposes now turned read by ride outcome flow quorum confirmers reads turns made sends is) = sets old new id _ (ap (λ (w : View S V). w.greatest) is) (ap (λ (w : View S V). w.callers) is) (ap (λ (w : View S V). w.council) is)
+    in_phase at desk round (calls.ends now verdict told verdict_is refuses ends is) = sets old new id _ (ap (λ (w : View S V). w.greatest) is) (ap (λ (w : View S V). w.callers) is) (ap (λ (w : View S V). w.council) is)
+    in_phase at desk round (calls.fails now fails is) = sets old new id _ (ap (λ (w : View S V). w.greatest) is) (ap (λ (w : View S V). w.callers) is) (ap (λ (w : View S V). w.council) is)
+    in_phase at desk round (calls.loses now ballot loses is) = sets old new id _ (ap (λ (w : View S V). w.greatest) is) (ap (λ (w : View S V). w.callers) is) (ap (λ (w : View S V). w.council) is)
 
-count_keeps : {S V : Type 0} (m : Meaning S V) (old new : View S V) (id : ℕ) → StepCount m old id new → KeepsOthers old new id
+pub count_keeps : {S V : Type 0} (m : Meaning S V) (old new : View S V) (id : ℕ) → StepCount m old id new → KeepsOthers old new id
 count_keeps {S} {V} m old new id by = in_phase by.at_round.of_call by.at_round.desk by.at_round.round by.counts
   where
     in_phase : (of_call : OpenCallAt old id) (desk : DeskView V) (round : Round) → calls.CountsOrEnds m old id desk round of_call.caller of_call.call new → KeepsOthers old new id
-    in_phase at desk round (calls.counts now by outcome quorum confirmers proposed ends is) = sets old new id _ (ap (λ (w : View S V). w.greatest) is) (ap (λ (w : View S V). w.callers) is)
-    in_phase at desk round (calls.ends now verdict why verdict_is cause ends is) = sets old new id _ (ap (λ (w : View S V). w.greatest) is) (ap (λ (w : View S V). w.callers) is)
+    in_phase at desk round (calls.counts now by outcome quorum confirmers proposed ends is) = sets old new id _ (ap (λ (w : View S V). w.greatest) is) (ap (λ (w : View S V). w.callers) is) (ap (λ (w : View S V). w.council) is)
+    in_phase at desk round (calls.ends now verdict why verdict_is cause ends is) = sets old new id _ (ap (λ (w : View S V). w.greatest) is) (ap (λ (w : View S V). w.callers) is) (ap (λ (w : View S V). w.council) is)
 
-end_keeps : {S V : Type 0} (m : Meaning S V) (old new : View S V) (id : ℕ) (told : Answer) → StepEnd m old id told new → KeepsOthers old new id
-end_keeps {S} {V} m old new id told by = sets old new id _ (ap (λ (w : View S V). w.greatest) by.ends.view) (ap (λ (w : View S V). w.callers) by.ends.view)
+pub end_keeps : {S V : Type 0} (m : Meaning S V) (old new : View S V) (id : ℕ) (told : Answer) → StepEnd m old id told new → KeepsOthers old new id
+end_keeps {S} {V} m old new id told by = sets old new id _ (ap (λ (w : View S V). w.greatest) by.ends.view) (ap (λ (w : View S V). w.callers) by.ends.view) (ap (λ (w : View S V). w.council) by.ends.view)
 
-crash_keeps : {S V : Type 0} (m : Meaning S V) (old new : View S V) (id : ℕ) → StepCrashProposer m old id new → KeepsOthers old new id
-crash_keeps {S} {V} m old new id (step.idle desk now at none crashes is) = stays old new id (ap (λ (w : View S V). w.greatest) is) (ap (λ (w : View S V). w.callers) is)
-crash_keeps {S} {V} m old new id (step.closes desk now round at there is_round crashes is) = sets old new id _ (ap (λ (w : View S V). w.greatest) is) (ap (λ (w : View S V). w.callers) is)
+desk_crash_keeps : {S V : Type 0} (m : Meaning S V) (old new : View S V) (id : ℕ) → CrashesDesk m old id new → KeepsOthers old new id
+desk_crash_keeps {S} {V} m old new id (step.idle desk now at none crashes is) = stays old new id (ap (λ (w : View S V). w.greatest) is) (ap (λ (w : View S V). w.callers) is) (ap (λ (w : View S V). w.council) is)
+desk_crash_keeps {S} {V} m old new id (step.closes desk now round at there is_round crashes is) = sets old new id _ (ap (λ (w : View S V). w.greatest) is) (ap (λ (w : View S V). w.callers) is) (ap (λ (w : View S V). w.council) is)
+
+-- no exchange is broken off where none is open
+none_broken : (council : Council) → council.exchange ≡ None → crashed_in council ≡ council
+none_broken council quiet = λ i. record council { exchange = (ap (option_map broken_off) quiet ∙ sym quiet) i }
+
+breaks_off : {S V : Type 0} (old new : View S V) (id : ℕ) → new ≡ broken_off_view old → KeepsOthers old new id
+breaks_off {S} {V} old new id is = record {
+  greatest = ap (λ (w : View S V). w.greatest) is;
+  others = λ p other. ap (λ (w : View S V). slice_get w.callers p) is;
+  council = λ quiet. ap (λ (w : View S V). w.council) is ∙ none_broken old.council quiet;
+}
+
+pub crash_keeps : {S V : Type 0} (m : Meaning S V) (old new : View S V) (id : ℕ) → StepCrashProposer m old id new → KeepsOthers old new id
+crash_keeps m old new id (step.of_client client crashes) = desk_crash_keeps m old new id crashes
+crash_keeps m old new id (step.of_operator middle operator crashes is) = both old middle new id (desk_crash_keeps m old middle id crashes) (breaks_off middle new id is)
 
 -- ---- a change
 turned_keeps : {S V : Type 0} (m : Meaning S V) (rules : List Rule) (id : ℕ) (old new : View S V) → Turned m rules id old new → KeepsOthers old new id
@@ -157,51 +184,67 @@ idle_then old new id keeps idle own p low = elim (true_or_false (nat_eq p id)) [
 pub record KeepsCallers {S V : Type 0} (old new : View S V) : Type 0 where
   pub greatest : new.greatest ≡ old.greatest
   pub callers : new.callers ≡ old.callers
+  pub council : old.council.exchange ≡ None → new.council ≡ old.council
 
-pub still_idle : {S V : Type 0} (old new : View S V) → KeepsCallers old new → AllIdle old → AllIdle new
-still_idle old new keeps idle p low =
-    let was = idle p (subst (λ (g : ℕ). p ≤ g) keeps.greatest low) in
-    record { caller = was.caller; at_caller = ap (λ (l : List CallerView). slice_get l p) keeps.callers ∙ was.at_caller; none_open = was.none_open }
+pub still_idle : {S V : Type 0} (old new : View S V) → new.greatest ≡ old.greatest → new.callers ≡ old.callers → AllIdle old → AllIdle new
+still_idle old new greatest callers idle p low =
+    let was = idle p (subst (λ (g : ℕ). p ≤ g) greatest low) in
+    record { caller = was.caller; at_caller = ap (λ (l : List CallerView). slice_get l p) callers ∙ was.at_caller; none_open = was.none_open }
 
-by_view : {S V : Type 0} (old changed new : View S V) → new ≡ changed → changed.greatest ≡ old.greatest → changed.callers ≡ old.callers → KeepsCallers old new
-by_view {S} {V} old changed new is greatest callers = record { greatest = ap (λ (w : View S V). w.greatest) is ∙ greatest; callers = ap (λ (w : View S V). w.callers) is ∙ callers }
+by_view : {S V : Type 0} (old changed new : View S V) → new ≡ changed → changed.greatest ≡ old.greatest → changed.callers ≡ old.callers → changed.council ≡ old.council → KeepsCallers old new
+by_view {S} {V} old changed new is greatest callers council = record {
+  greatest = ap (λ (w : View S V). w.greatest) is ∙ greatest;
+  callers = ap (λ (w : View S V). w.callers) is ∙ callers;
+  council = λ quiet. ap (λ (w : View S V). w.council) is ∙ council;
+}
 
 pub crashes_keep : {S V : Type 0} (m : Meaning S V) (old new : View S V) (id : ℕ) (answer : EventAnswer) → CrashesAcceptor m old id answer new → KeepsCallers old new
-crashes_keep m old new id answer (events.absent none) = by_view old old old refl refl refl
-crashes_keep m old new id answer (events.crashes there (step.crashes acceptor now at crashes is)) = by_view old _ new is refl refl
+crashes_keep m old new id answer (events.absent none) = by_view old old old refl refl refl refl
+crashes_keep m old new id answer (events.crashes there (step.crashes acceptor now at crashes is)) = by_view old _ new is refl refl refl
 
 restarts_step : {S V : Type 0} (m : Meaning S V) (old new : View S V) (id : ℕ) → StepRestartAcceptor m old id new → KeepsCallers old new
-restarts_step m old new id (step.was_up acceptor at up is) = by_view old old new is refl refl
-restarts_step m old new id (step.starts acceptor now at starts is) = by_view old _ new is refl refl
-restarts_step m old new id (step.fails acceptor now at fails is) = by_view old _ new is refl refl
+restarts_step m old new id (step.was_up acceptor at up is) = by_view old old new is refl refl refl
+restarts_step m old new id (step.starts acceptor now at starts is) = by_view old _ new is refl refl refl
+restarts_step m old new id (step.fails acceptor now at fails is) = by_view old _ new is refl refl refl
 
 pub restarts_keep : {S V : Type 0} (m : Meaning S V) (old new : View S V) (id : ℕ) (answer : EventAnswer) → RestartsAcceptor m old id answer new → KeepsCallers old new
-restarts_keep m old new id answer (events.absent none) = by_view old old old refl refl refl
+restarts_keep m old new id answer (events.absent none) = by_view old old old refl refl refl refl
 restarts_keep m old new id answer (events.restarts result there by tells) = restarts_step m old new id by
 
 desk_step : {S V : Type 0} (m : Meaning S V) (old new : View S V) (id : ℕ) → StepRestartProposer m old id new → KeepsCallers old new
-desk_step m old new id (step.was_up_already desk at up is) = by_view old old new is refl refl
-desk_step m old new id (step.restarts desk now at down restarts is) = by_view old _ new is refl refl
+desk_step m old new id (step.was_up_already desk at up is) = by_view old old new is refl refl refl
+desk_step m old new id (step.restarts desk now at down restarts is) = by_view old _ new is refl refl refl
 
 pub proposer_keeps : {S V : Type 0} (m : Meaning S V) (old new : View S V) (id : ℕ) (answer : EventAnswer) → RestartsProposer m old id answer new → KeepsCallers old new
 proposer_keeps m old new id answer (events.restarts result by tells) = desk_step m old new id by
 
 -- a proposer that crashes between two calls
-pub crash_between : {S V : Type 0} (m : Meaning S V) (old new : View S V) (id : ℕ) → id ≤ old.greatest → AllIdle old → StepCrashProposer m old id new → KeepsCallers old new
-crash_between m old new id low idle (step.idle desk now at none crashes is) = by_view old _ new is refl refl
-crash_between m old new id low idle (step.closes desk now round at there is_round crashes is) =
+desk_between : {S V : Type 0} (m : Meaning S V) (old new : View S V) (id : ℕ) → id ≤ old.greatest → AllIdle old → CrashesDesk m old id new → KeepsCallers old new
+desk_between m old new id low idle (step.idle desk now at none crashes is) = by_view old _ new is refl refl refl
+desk_between m old new id low idle (step.closes desk now round at there is_round crashes is) =
     let was = idle id low in
     absurd (cc (sym was.none_open ∙ ap (λ (c : CallerView). c.call) (at_one old.callers id was.at_caller at.at_caller) ∙ at.is_open))
 
+pub crash_between : {S V : Type 0} (m : Meaning S V) (old new : View S V) (id : ℕ) → id ≤ old.greatest → AllIdle old → StepCrashProposer m old id new → KeepsCallers old new
+crash_between m old new id low idle (step.of_client client crashes) = desk_between m old new id low idle crashes
+crash_between {S} {V} m old new id low idle (step.of_operator middle operator crashes is) =
+    let before = desk_between m old middle id low idle crashes in
+    let after = breaks_off middle new id is in
+    record {
+      greatest = after.greatest ∙ before.greatest;
+      callers = ap (λ (w : View S V). w.callers) is ∙ before.callers;
+      council = λ quiet. after.council (ap (λ (c : Council). c.exchange) (before.council quiet) ∙ quiet) ∙ before.council quiet;
+    }
+
 stray_step : {S V : Type 0} (m : Meaning S V) (old new : View S V) (index : ℕ) (late : Message) → frames.Strays m old index late new → KeepsCallers old new
-stray_step m old new index late (frames.answers request acceptor now reply late_is at table is) = by_view old _ new is refl refl
-stray_step m old new index late (frames.brings_down request acceptor now late_is at stops is) = by_view old _ new is refl refl
-stray_step m old new index late (frames.arrives reply desk now round heard late_is at is_round hears is) = by_view old _ new is refl refl
-stray_step m old new index late (frames.drops ignored is) = by_view old _ new is refl refl
+stray_step m old new index late (frames.answers request acceptor now reply late_is at table is) = by_view old _ new is refl refl refl
+stray_step m old new index late (frames.brings_down request acceptor now late_is at stops is) = by_view old _ new is refl refl refl
+stray_step m old new index late (frames.arrives reply desk now round heard late_is at is_round hears is) = by_view old _ new is refl refl refl
+stray_step m old new index late (frames.drops ignored is) = by_view old _ new is refl refl refl
 
 pub strays_keep : {S V : Type 0} (m : Meaning S V) (old new : View S V) (index : ℕ) (answer : EventAnswer) → StraysIn m old index answer new → KeepsCallers old new
-strays_keep m old new index answer (events.absent none) = by_view old old old refl refl refl
+strays_keep m old new index answer (events.absent none) = by_view old old old refl refl refl refl
 strays_keep m old new index answer (events.strays by) = stray_step m old new index by.late by.strays
-strays_keep m old new index answer (events.full low is) = by_view old old old refl refl refl
-strays_keep m old new index answer (events.no_memory low (frames.stays is)) = by_view old old new is refl refl
-strays_keep m old new index answer (events.no_memory low (frames.kept id acceptor now there finds is)) = by_view old _ new is refl refl
+strays_keep m old new index answer (events.full low is) = by_view old old old refl refl refl refl
+strays_keep m old new index answer (events.no_memory low (frames.stays is)) = by_view old old new is refl refl refl
+strays_keep m old new index answer (events.no_memory low (frames.kept id acceptor now there finds is)) = by_view old _ new is refl refl refl

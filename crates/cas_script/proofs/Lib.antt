@@ -4,6 +4,7 @@ pub mod Keeping
 pub mod Opened
 pub mod Outcomes
 pub mod Playing
+pub mod Probing
 pub mod Rules
 pub mod Stages
 pub mod Turns

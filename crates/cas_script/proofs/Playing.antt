@@ -1,5 +1,5 @@
 -- What each call of a round does to how far it has come.
-use Rattle.std.proofs.Common.{◌≡◌, ◌<◌, ◌+◌, ◌-◌, ℕ, suc, Bool, true, false, not, List, [], length, Option, None, Some, slice_get, slice_set, inl, inr, refl, sym, ap, subst, ◌∙◌}
+use Rattle.std.proofs.Common.{◌≡◌, ◌+◌, ◌-◌, ℕ, suc, Bool, true, false, not, List, [], Option, None, Some, slice_get, slice_set, inl, inr, refl, sym, ap, subst, ◌∙◌}
 use Rattle.std.specs.Prelude.{is_some, IsSome, IfSome, option_map, ◌⊎◌, ◌↔◌, Err, IsErrOf, if◌then◌else◌}
 use Rattle.cas_ballot.specs.declared.ballot.Ballot.{Ballot}
 use Rattle.cas_change.specs.declared.program.Clause.{Clause}
@@ -16,17 +16,18 @@ use Rattle.cas_record.specs.declared.answer.Cause.TheVariants as cause
 use Rattle.cas_record.proofs.Eras.{le_or_lt}
 use Rattle.cas_round.specs.declared.verdict.RoundVerdict.{RoundVerdict}
 use Rattle.cas_round.specs.declared.verdict.RoundVerdict.TheVariants as verdict
-use Rattle.cas_cluster.specs.Step.{StepBegin, StepTurn, StepRefuseTurn, StepPropose, StepCount, StepEnd, StepCrashProposer, idle, closes, closed_by_crash, OpenCallAt}
+use Rattle.cas_cluster.specs.Step.{StepBegin, StepTurn, StepRefuseTurn, StepPropose, StepCount, StepEnd, CrashesDesk, StepCrashProposer, of_client, of_operator, idle, closes, closed_by_crash, OpenCallAt}
 use Rattle.cas_cluster.specs.StepCalls as calls
-use Rattle.cas_cluster.specs.StepCalls.{most_marks, round_marks, WasMet}
+use Rattle.cas_cluster.specs.StepCalls.{most_marks, round_marks, marks_beside, IsFull, WasMet}
 use Rattle.cas_cluster.specs.StepFrames as frames
-use Rattle.cas_cluster.specs.View.{Meaning, View, CallView, CallerView, IsAt, new_call, new_caller, reserved_of, era_at}
+use Rattle.cas_cluster.specs.View.{Meaning, View, CallView, CallerView, IsAt, new_call, era_at}
 use Rattle.cas_cluster.proofs.Places.{at_one, at_set, some_is}
 use Rattle.cas_world.specs.Beginning.{HasNoCall, HasRound, MayBegin, first, another, is_refusal, BeginsOrNot}
 use Rattle.cas_world.specs.Readers.{next_number, closed_in, told_if, IsVerdictIn}
 use Rattle.cas_world.specs.Reading.{HasProposed}
 use Rattle.cas_world.specs.World.{IsInPhase, WasTold}
 use Rattle.cas_script.specs.Changes.{IsRefused, full, no_memory, IsAccepting, HasQuorum, IsMet}
+use Rattle.cas_script.proofs.Keeping.{quiet_then, begin_keeps, refuse_keeps, propose_keeps, count_keeps, crash_keeps}
 use Rattle.cas_script.specs.Playing.{Asked, IsFor, HasBegun, IsPlaying, IsOver, is_conflict}
 
 -- ---- who plays on
@@ -56,8 +57,8 @@ told_on new id asked next told is tells = record { caller = is.caller; at_caller
 -- a call that keeps what was proposed, and a desk that keeps its round's phase
 plays_on : {S V : Type 0} (old new : View S V) (id : ℕ) (asked : Asked) (proposed : Bool) (was : IsPlaying old id asked proposed) (caller : CallerView) (call next : CallView) → IsAt old.callers id caller → caller.call ≡ Some call
     → new.callers ≡ slice_set old.callers id (record caller { call = Some next }) → next.key ≡ call.key → next.program ≡ call.program → next.proposed ≡ call.proposed
-    → (desk : DeskView V) → IsAt new.desks id desk → (round : Round) → desk.round ≡ Some round → is_preparing round.phase ≡ is_preparing was.round.phase → IsPlaying new id asked proposed
-plays_on old new id asked proposed was caller call next at is_open callers key program same desk at_desk round is_round phase =
+    → (desk : DeskView V) → IsAt new.desks id desk → (round : Round) → desk.round ≡ Some round → is_preparing round.phase ≡ is_preparing was.round.phase → new.council.exchange ≡ None → IsPlaying new id asked proposed
+plays_on old new id asked proposed was caller call next at is_open callers key program same desk at_desk round is_round phase quiet =
     let one : caller ≡ was.is_for.caller = at_one old.callers id at was.is_for.at_caller in
     let same_call : call ≡ was.call = some_is (sym is_open ∙ ap (λ (c : CallerView). c.call) one ∙ was.is_for.is_call) in
     record {
@@ -69,13 +70,14 @@ plays_on old new id asked proposed was caller call next at is_open callers key p
       round = round;
       is_round = is_round;
       phase = phase ∙ was.phase;
+      quiet = quiet;
     }
 
 -- the desk stays
 stays_on : {S V : Type 0} (old new : View S V) (id : ℕ) (asked : Asked) (proposed : Bool) → IsPlaying old id asked proposed → (caller : CallerView) (call next : CallView) → IsAt old.callers id caller → caller.call ≡ Some call
-    → new.callers ≡ slice_set old.callers id (record caller { call = Some next }) → next.key ≡ call.key → next.program ≡ call.program → next.proposed ≡ call.proposed → new.desks ≡ old.desks → IsPlaying new id asked proposed
-stays_on old new id asked proposed was caller call next at is_open callers key program same desks =
-    plays_on old new id asked proposed was caller call next at is_open callers key program same was.desk (subst (λ (l : List (DeskView _)). IsAt l id was.desk) (sym desks) was.at_desk) was.round was.is_round refl
+    → new.callers ≡ slice_set old.callers id (record caller { call = Some next }) → next.key ≡ call.key → next.program ≡ call.program → next.proposed ≡ call.proposed → new.desks ≡ old.desks → new.council.exchange ≡ None → IsPlaying new id asked proposed
+stays_on old new id asked proposed was caller call next at is_open callers key program same desks quiet =
+    plays_on old new id asked proposed was caller call next at is_open callers key program same was.desk (subst (λ (l : List (DeskView _)). IsAt l id was.desk) (sym desks) was.at_desk) was.round was.is_round refl quiet
 
 -- ---- a turn
 pub turn_plays : {S V : Type 0} (m : Meaning S V) (old new : View S V) (id : ℕ) (v : Verdict) (asked : Asked) (proposed : Bool) → IsPlaying old id asked proposed → StepTurn m old id v new → IsPlaying new id asked proposed
@@ -84,19 +86,19 @@ turn_plays {S} {V} m old new id v asked proposed was by = in_turn by.of_call by.
     in_turn : (of_call : OpenCallAt old id) (front : Message) → frames.TakesTurn m old id v front of_call.caller of_call.call new → IsPlaying new id asked proposed
     in_turn at front (frames.held fall same) = subst (λ (w : View S V). IsPlaying w id asked proposed) (sym same) was
     in_turn at front (frames.gone fall same) = subst (λ (w : View S V). IsPlaying w id asked proposed) (sym same)
-        (stays_on old _ id asked proposed was at.caller at.call _ at.at_caller at.is_open refl refl refl refl refl)
+        (stays_on old _ id asked proposed was at.caller at.call _ at.at_caller at.is_open refl refl refl refl refl was.quiet)
     in_turn at front (frames.answers request acceptor now reply fall is there table same) = subst (λ (w : View S V). IsPlaying w id asked proposed) (sym same)
-        (stays_on old _ id asked proposed was at.caller at.call _ at.at_caller at.is_open refl refl refl refl refl)
+        (stays_on old _ id asked proposed was at.caller at.call _ at.at_caller at.is_open refl refl refl refl refl was.quiet)
     in_turn at front (frames.finds_down request acceptor fall is there down same) = subst (λ (w : View S V). IsPlaying w id asked proposed) (sym same)
-        (stays_on old _ id asked proposed was at.caller at.call _ at.at_caller at.is_open refl refl refl refl refl)
+        (stays_on old _ id asked proposed was at.caller at.call _ at.at_caller at.is_open refl refl refl refl refl was.quiet)
     in_turn at front (frames.brings_down request acceptor now fall is there stops same) = subst (λ (w : View S V). IsPlaying w id asked proposed) (sym same)
-        (stays_on old _ id asked proposed was at.caller at.call _ at.at_caller at.is_open refl refl refl refl refl)
+        (stays_on old _ id asked proposed was at.caller at.call _ at.at_caller at.is_open refl refl refl refl refl was.quiet)
     in_turn at front (frames.arrives reply desk now round heard fall is there is_round hears same) =
         let one : desk ≡ was.desk = at_one old.desks id there was.at_desk in
         let same_round : round ≡ was.round = some_is (sym is_round ∙ ap (λ (d : DeskView V). d.round) one ∙ was.is_round) in
         subst (λ (w : View S V). IsPlaying w id asked proposed) (sym same)
         (plays_on old _ id asked proposed was at.caller at.call _ at.at_caller at.is_open refl refl refl refl now (at_set old.desks id desk now there) heard (ap (λ (d : DeskView V). d.round) hears.desk)
-        (hears.hears.same_phase ∙ ap (λ (r : Round). is_preparing r.phase) same_round))
+        (hears.hears.same_phase ∙ ap (λ (r : Round). is_preparing r.phase) same_round) was.quiet)
 
 -- ---- no memory for a turn
 pub turn_fails : {S V : Type 0} (m : Meaning S V) (old new : View S V) (id : ℕ) (asked : Asked) (proposed : Bool) → IsPlaying old id asked proposed → StepRefuseTurn m old id new → IsOver new id asked (answer.NoMemory proposed)
@@ -106,7 +108,11 @@ turn_fails {S} {V} m old new id asked proposed was by =
     let next : CallView = calls.telling at.call (answer.NoMemory (is_some at.call.proposed)) in
     let is : IsFor new id asked next = for_on old new id asked was.call was.is_for at.caller at.call next at.at_caller at.is_open
     (ap (λ (w : View S V). w.callers) by.view ∙ ap (λ (l : List CallerView). slice_set l id (record at.caller { call = Some next })) (callers_stay by.refuses)) refl refl in
-    record { was_told = told_on new id asked next (answer.NoMemory proposed) is (ap (λ (b : Bool). Some (answer.NoMemory b)) has); again = λ met told. absurd (cc told) }
+    record {
+      was_told = told_on new id asked next (answer.NoMemory proposed) is (ap (λ (b : Bool). Some (answer.NoMemory b)) has);
+      quiet = quiet_then old new id (refuse_keeps m old new id by) was.quiet;
+      again = λ met told. absurd (cc told);
+    }
   where
     callers_stay : {middle : View S V} → frames.FindsNoRoom m old middle → middle.callers ≡ old.callers
     callers_stay (frames.stays same) = ap (λ (w : View S V). w.callers) same
@@ -128,6 +134,7 @@ round_plays {S} {V} view id asked proposed was says phase = by_round was.desk.ro
       round = round;
       is_round = is;
       phase = subst (λ (o : Option Round). IfSome o (λ r. is_preparing r.phase ≡ not proposed)) is (phase was.desk was.at_desk);
+      quiet = was.quiet;
     }
 
 -- a phase none of whose frames waits
@@ -141,6 +148,9 @@ is_accepting view id asked was = record { desk = was.desk; at_desk = was.at_desk
 pub propose_plays : {S V : Type 0} (m : Meaning S V) (old new : View S V) (id : ℕ) (asked : Asked) (proposed : Bool) → IsPlaying old id asked proposed → HasProposed new id → StepPropose m old id new → IsPlaying new id asked true
 propose_plays {S} {V} m old new id asked proposed was has by = in_phase by.at_round.of_call by.at_round.desk by.at_round.round by.proposes
   where
+    quiet : new.council.exchange ≡ None
+    quiet = quiet_then old new id (propose_keeps m old new id by) was.quiet
+
     ended : (now : DeskView V) → new.desks ≡ slice_set old.desks id now → now.round ≡ None → IsPlaying new id asked true
     ended now desks none =
         let there : IsAt new.desks id now = subst (λ (l : List (DeskView V)). IsAt l id now) (sym desks) (at_set old.desks id was.desk now was.at_desk) in
@@ -157,6 +167,7 @@ propose_plays {S} {V} m old new id asked proposed was has by = in_phase by.at_ro
       round = has.round;
       is_round = has.is_round;
       phase = has.accepting;
+      quiet = quiet;
     }
     in_phase at desk round (calls.ends now verdict told is refuses ends same) = ended now (ap (λ (w : View S V). w.desks) same) (ap (λ (d : DeskView V). d.round) ends.desk)
     in_phase at desk round (calls.fails now fails same) = ended now (ap (λ (w : View S V). w.desks) same) (ap (λ (d : DeskView V). d.round) fails.desk)
@@ -171,6 +182,7 @@ none_of (Some x) is = absurd (cc is)
 pub propose_over : {S V : Type 0} (m : Meaning S V) (old new : View S V) (id : ℕ) (asked : Asked) (told : Answer) → IsPlaying old id asked false → StepPropose m old id new → ((caller : CallerView) → slice_get old.callers id ≡ Some caller → WasTold new id caller.number told) → IsOver new id asked told
 propose_over {S} {V} m old new id asked told was by tells = record {
   was_told = subst (λ (n : ℕ). WasTold new id n told) was.is_for.number (tells was.is_for.caller was.is_for.at_caller);
+  quiet = quiet_then old new id (propose_keeps m old new id by) was.quiet;
   again = in_phase by.at_round.of_call by.at_round.desk by.at_round.round by.proposes;
 }
   where
@@ -306,6 +318,7 @@ may_again view id asked told over is = let met = conflict_met told is in over.ag
 pub count_over : {S V : Type 0} (m : Meaning S V) (old new : View S V) (id : ℕ) (asked : Asked) (told : Answer) → IsPlaying old id asked true → StepCount m old id new → ((caller : CallerView) → slice_get old.callers id ≡ Some caller → WasTold new id caller.number told) → IsOver new id asked told
 count_over {S} {V} m old new id asked told was by tells = record {
   was_told = subst (λ (n : ℕ). WasTold new id n told) was.is_for.number (tells was.is_for.caller was.is_for.at_caller);
+  quiet = quiet_then old new id (count_keeps m old new id by) was.quiet;
   again = in_phase by.at_round.of_call by.at_round.desk by.at_round.round by.counts;
 }
   where
@@ -333,22 +346,28 @@ pub record IsCrashed {S V : Type 0} (view : View S V) (id : ℕ) (asked : Asked)
   pub is : closed ≡ Some told
   pub over : IsOver view id asked told
 
-pub crash_over : {S V : Type 0} (m : Meaning S V) (old new : View S V) (id : ℕ) (asked : Asked) (proposed : Bool) (closed : Option Answer) → IsPlaying old id asked proposed → StepCrashProposer m old id new → ((caller : CallerView) → IsAt new.callers id caller → closed ≡ closed_in caller.call)
-    → IsCrashed new id asked closed
-crash_over {S} {V} m old new id asked proposed closed was (idle desk now at none crashes same) says =
+crash_of : {S V : Type 0} (m : Meaning S V) (old middle new : View S V) (id : ℕ) (asked : Asked) (proposed : Bool) (closed : Option Answer) → IsPlaying old id asked proposed → CrashesDesk m old id middle → new.callers ≡ middle.callers → new.council.exchange ≡ None
+    → ((caller : CallerView) → IsAt new.callers id caller → closed ≡ closed_in caller.call) → IsCrashed new id asked closed
+crash_of {S} {V} m old middle new id asked proposed closed was (idle desk now at none crashes same) callers quiet says =
     absurd (cc (sym none ∙ ap (λ (d : DeskView V). d.round) (at_one old.desks id at was.at_desk) ∙ was.is_round))
-crash_over {S} {V} m old new id asked proposed closed was (closes desk now round at there is_round crashes same) says =
+crash_of {S} {V} m old middle new id asked proposed closed was (closes desk now round at there is_round crashes same) callers quiet says =
     let told : Answer = if is_some at.call.proposed then answer.Unsettled cause.Crashed else answer.Crashed in
-    let is = for_on old new id asked was.call was.is_for at.caller at.call (closed_by_crash at.call) at.at_caller at.is_open (ap (λ (w : View S V). w.callers) same) refl refl in
+    let is = for_on old new id asked was.call was.is_for at.caller at.call (closed_by_crash at.call) at.at_caller at.is_open (callers ∙ ap (λ (w : View S V). w.callers) same) refl refl in
     record {
       told = told;
       is = says is.caller is.at_caller ∙ ap closed_in is.is_call ∙ closed_told (is_some at.call.proposed);
-      over = record { was_told = told_on new id asked (closed_by_crash at.call) told is refl; again = λ met conflict. absurd (crashed_not_met (is_some at.call.proposed) met conflict) };
+      over = record { was_told = told_on new id asked (closed_by_crash at.call) told is refl; quiet = quiet; again = λ met conflict. absurd (crashed_not_met (is_some at.call.proposed) met conflict) };
     }
 
+pub crash_over : {S V : Type 0} (m : Meaning S V) (old new : View S V) (id : ℕ) (asked : Asked) (proposed : Bool) (closed : Option Answer) → IsPlaying old id asked proposed → StepCrashProposer m old id new → ((caller : CallerView) → IsAt new.callers id caller → closed ≡ closed_in caller.call)
+    → IsCrashed new id asked closed
+crash_over m old new id asked proposed closed was (of_client client crashes) says =
+    crash_of m old new new id asked proposed closed was crashes refl (quiet_then old new id (crash_keeps m old new id (of_client client crashes)) was.quiet) says
+crash_over {S} {V} m old new id asked proposed closed was (of_operator middle operator crashes same) says =
+    crash_of m old middle new id asked proposed closed was crashes (ap (λ (w : View S V). w.callers) same) (quiet_then old new id (crash_keeps m old new id (of_operator middle operator crashes same)) was.quiet) says
+
 pub crash_greatest : {S V : Type 0} (m : Meaning S V) (old new : View S V) (id : ℕ) → StepCrashProposer m old id new → new.greatest ≡ old.greatest
-crash_greatest {S} {V} m old new id (idle desk now at none crashes same) = ap (λ (w : View S V). w.greatest) same
-crash_greatest {S} {V} m old new id (closes desk now round at there is_round crashes same) = ap (λ (w : View S V). w.greatest) same
+crash_greatest m old new id by = (crash_keeps m old new id by).greatest
 
 -- ---- a quorum
 verdict_shown : (r : Option RoundVerdict) (round : Round) → IsVerdictIn (Some round) r → (r ≡ Some verdict.Quorum) ↔ (has_quorum round.phase ≡ true)
@@ -434,8 +453,8 @@ begins_for {S} {V} m old new id key program by = in_round by.begins
     in_round (calls.fails desk now at none up fails same) = with_next (calls.over by.call answer.VaultFault) (ap (λ (w : View S V). w.callers) same) refl refl (λ met. met)
     in_round (calls.loses desk now ballot at none up loses same) = with_next (calls.over by.call (answer.NoMemory false)) (ap (λ (w : View S V). w.callers) same) refl refl (λ met. met)
 
-pub has_begun : {S V : Type 0} (m : Meaning S V) (old new : View S V) (id number : ℕ) (key : List ℕ) (program : List Clause) → StepBegin m old id key program new → HasRound new id number → HasBegun new id (record { number = number; key = key; program = program })
-has_begun m old new id number key program by has =
+pub has_begun : {S V : Type 0} (m : Meaning S V) (old new : View S V) (id number : ℕ) (key : List ℕ) (program : List Clause) → old.council.exchange ≡ None → StepBegin m old id key program new → HasRound new id number → HasBegun new id (record { number = number; key = key; program = program })
+has_begun m old new id number key program quiet by has =
     let b = begins_for m old new id key program by in
     record {
       call = b.call;
@@ -450,6 +469,7 @@ has_begun m old new id number key program by has =
       desk = has.desk;
       at_desk = has.at_desk;
       is_open = has.is_open;
+      quiet = quiet_then old new id (begin_keeps m old new id key program by) quiet;
     }
 
 -- a call that is told as it begins why it has no round is not told of a conflict
@@ -460,10 +480,10 @@ begun_not_met m old new id key program P by met =
     absurd (b.no_conflict (subst (λ (c : CallView). WasMet c.told) (some_is (sym met.of_call.is_open ∙ ap (λ (c : CallerView). c.call) one ∙ b.is_call)) met.met))
 
 -- a call that is refused as it would begin
-refused_by : {S V : Type 0} {A : Type 0} (world : View S V) (id : ℕ) (told : Answer) → (IsErrOf {T = A} (Err told) answer.RecordFull ↔ (most_marks < length world.marks + reserved_of (slice_set world.callers id new_caller) + round_marks (era_at world id)))
+refused_by : {S V : Type 0} {A : Type 0} (world : View S V) (id : ℕ) (told : Answer) → (IsErrOf {T = A} (Err told) answer.RecordFull ↔ IsFull world id)
     → (told ≡ answer.RecordFull) ⊎ (told ≡ answer.NoMemory false) → IsRefused world id told
 refused_by world id told cause (inl is) = subst (IsRefused world id) (sym is) (full (cause.0 (ap (λ (a : Answer). Err a) is)))
-refused_by {S} {V} {A} world id told cause (inr is) = subst (IsRefused world id) (sym is) (no_memory (elim (le_or_lt (length world.marks + reserved_of (slice_set world.callers id new_caller) + round_marks (era_at world id)) most_marks) [
+refused_by {S} {V} {A} world id told cause (inr is) = subst (IsRefused world id) (sym is) (no_memory (elim (le_or_lt (marks_beside world id + round_marks (era_at world id)) most_marks) [
   | inl low ↦ low
   | inr more ↦ absurd (other (cause.1 more))
 ]))
@@ -472,7 +492,7 @@ refused_by {S} {V} {A} world id told cause (inr is) = subst (IsRefused world id)
     other full_is = let same : told ≡ answer.RecordFull = cc full_is in absurd (cc (same, is))
 
 pub refusal_is : {S V : Type 0} {A : Type 0} (m : Meaning S V) (old new : View S V) (id number : ℕ) (key : List ℕ) (program : List Clause) (told : Answer) → HasNoCall old id → is_refusal told ≡ true
-    → (IsErrOf {T = A} (Err told) answer.RecordFull ↔ (most_marks < length old.marks + reserved_of (slice_set old.callers id new_caller) + round_marks (era_at old id)))
+    → (IsErrOf {T = A} (Err told) answer.RecordFull ↔ IsFull old id)
     → BeginsOrNot {A = A} m old id number key program (Err told) new → IsRefused old id told × calls.RefusesCall m old id key new × HasNoCall new id
 refusal_is m old new id number key program told none is cause (inl begun) = absurd (cc (begun.2 none, is))
 refusal_is m old new id number key program told none is cause (inr not_begun) = (refused_by old id told cause not_begun.2, not_begun.0, no_begin_idle m old new id key not_begun.0 none)

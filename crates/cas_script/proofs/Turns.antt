@@ -1,6 +1,6 @@
 -- What a turn leaves of the turns of a proposer.
 use Rattle.std.proofs.Common.{◌≡◌, ◌≢◌, ◌<◌, ◌+◌, ℕ, Bool, true, false, List, [], ◌∷◌, ◌++◌, Some, slice_get, refl, sym, ap, subst, ◌∙◌, arith}
-use Rattle.std.specs.Prelude.{option_map, Option, None}
+use Rattle.std.specs.Prelude.{if◌then◌else◌, option_map, Option, None}
 use Rattle.std.proofs.lemmas.List.{length-set}
 use Rattle.cas_fate.specs.declared.fate.Leg.{Leg}
 use Rattle.cas_fate.specs.declared.fate.Verdict.{Verdict}
@@ -12,7 +12,10 @@ use Rattle.cas_flow.specs.declared.fall.Fall.TheVariants.{Handle, Held}
 use Rattle.cas_flow.specs.declared.message.Message.{Message}
 use Rattle.cas_flow.specs.declared.message.Message.TheVariants as message
 use Rattle.cas_slot.specs.declared.message.Reply.{Reply}
-use Rattle.cas_cluster.specs.Step.{StepTurn, OpenCallAt}
+use Rattle.cas_cluster.specs.Council.{ExchangeView, exchange_place}
+use Rattle.cas_cluster.specs.Step as step
+use Rattle.cas_cluster.specs.Step.{Step, StepTurn, StepRefuseTurn, OpenCallAt}
+use Rattle.cas_world.specs.Exchange.{asks_as, place_of, turn_of, refusal_of}
 use Rattle.cas_cluster.specs.StepFrames as frames
 use Rattle.cas_cluster.specs.View.{Meaning, View}
 use Rattle.cas_cluster.proofs.FrameSteps.{taken_own}
@@ -21,13 +24,25 @@ use Rattle.cas_script.specs.Changes.{Turned, one_more}
 use Rattle.cas_script.specs.Conditions.{Rule, verdict_of}
 use Rattle.cas_script.specs.Playing.{turns_of, turns_in, turns_left_in, turns_left}
 
+-- ---- frames of rounds
+-- where no exchange is open, a proposer's frames are those of its round
+module _ {S V : Type 0} (m : Meaning S V) (old new : View S V) (id : ℕ) where
+  pub as_turn : (verdict : Verdict) → old.council.exchange ≡ None → Step m old (turn_of old id verdict) new → StepTurn m old id verdict new
+  as_turn verdict quiet by = subst (λ (o : Option ExchangeView). Step m old (if asks_as o id then step.TurnExchange verdict else step.Turn id verdict) new) quiet by
+
+  pub as_refusal : old.council.exchange ≡ None → Step m old (refusal_of old id) new → StepRefuseTurn m old id new
+  as_refusal quiet by = subst (λ (o : Option ExchangeView). Step m old (if asks_as o id then step.RefuseTurnExchange else step.RefuseTurn id) new) quiet by
+
+pub in_front : {S V : Type 0} (view : View S V) (id : ℕ) {front : Option (Leg × ℕ)} → view.council.exchange ≡ None → front ≡ option_map head_of (slice_get (queue_at view.flow (place_of view id)).messages 0) → front ≡ option_map head_of (slice_get (queue_at view.flow id).messages 0)
+in_front view id {front} quiet shown = subst (λ (o : Option ExchangeView). front ≡ option_map head_of (slice_get (queue_at view.flow (if asks_as o id then exchange_place else id)).messages 0)) quiet shown
+
 -- ---- one queue
 turns_append : (messages : List Message) (one : Message) → turns_in (messages ++ one ∷ []) ≡ turns_in messages + turns_of one
 turns_append [] one = omega arith
 turns_append (first_ ∷ rest) one = let after : turns_in (rest ++ one ∷ []) ≡ turns_in rest + turns_of one = turns_append rest one in omega (arith, after)
 
 -- no frame that has its turn stays as it is, unless it is held
-not_held : (again : Bool) (verdict : Verdict) → verdict ≢ Hold → fall_of again verdict ≢ Held
+pub not_held : (again : Bool) (verdict : Verdict) → verdict ≢ Hold → fall_of again verdict ≢ Held
 not_held true verdict free is = absurd (cc is)
 not_held false Deliver free is = absurd (cc is)
 not_held false Lose free is = absurd (cc is)
@@ -70,32 +85,38 @@ replied_own flow id verdict reply waits =
     queue_same (taken flow id verdict).own id (pushed (queue_at (taken flow id verdict) id) (message.Reply reply)) (omega (arith, has_queue flow.own id waits, length-set flow.own id (queue_after (queue_at flow id) verdict)))
     ∙ ap (λ (q : QueueView). pushed q (message.Reply reply)) (taken_own flow id verdict waits)
 
+-- a frame that leaves, or has its second turn to come, leaves fewer turns
+pub fewer_taken : (old new : FlowView) (id : ℕ) (verdict : Verdict) (front : Message) → slice_get (queue_at old id).messages 0 ≡ Some front → verdict ≢ Hold → new ≡ taken old id verdict → turns_left_in (queue_at new id) < turns_left_in (queue_at old id)
+fewer_taken old new id verdict front waits free same =
+    subst (λ (q : QueueView). turns_left_in q < turns_left_in (queue_at old id)) (sym (ap (λ (f : FlowView). queue_at f id) same ∙ taken_own old id verdict waits))
+    (fewer_after (queue_at old id).again (queue_at old id).messages (queue_at old id).room verdict front waits free)
+
+pub fewer_answered : (old new : FlowView) (id : ℕ) (verdict : Verdict) (request : _) (reply : Reply) → slice_get (queue_at old id).messages 0 ≡ Some (message.Request request) → fall_of (queue_at old id).again verdict ≡ Handle → new ≡ frames.replied_flow old id verdict reply
+    → turns_left_in (queue_at new id) < turns_left_in (queue_at old id)
+fewer_answered old new id verdict request reply waits fall same =
+    subst (λ (q : QueueView). turns_left_in q < turns_left_in (queue_at old id)) (sym (ap (λ (f : FlowView). queue_at f id) same ∙ replied_own old id verdict reply waits))
+    (fewer_replied (queue_at old id).again (queue_at old id).messages (queue_at old id).room verdict request reply waits fall)
+
 -- a frame that is not held back leaves fewer turns
 pub turn_fewer : {S V : Type 0} (m : Meaning S V) (old new : View S V) (id : ℕ) (verdict : Verdict) → verdict ≢ Hold → StepTurn m old id verdict new → turns_left new id < turns_left old id
 turn_fewer {S} {V} m old new id verdict free by = in_turn by.of_call by.front by.waits by.turn
   where
-    by_taken : (front : Message) → slice_get (queue_at old.flow id).messages 0 ≡ Some front → new.flow ≡ taken old.flow id verdict → turns_left new id < turns_left old id
-    by_taken front waits same = subst (λ (q : QueueView). turns_left_in q < turns_left old id) (sym (ap (λ (f : FlowView). queue_at f id) same ∙ taken_own old.flow id verdict waits))
-        (fewer_after (queue_at old.flow id).again (queue_at old.flow id).messages (queue_at old.flow id).room verdict front waits free)
-
     in_turn : (of_call : OpenCallAt old id) (front : Message) → slice_get (queue_at old.flow id).messages 0 ≡ Some front → frames.TakesTurn m old id verdict front of_call.caller of_call.call new → turns_left new id < turns_left old id
     in_turn at front waits (frames.held fall same) = absurd (not_held (queue_at old.flow id).again verdict free fall)
-    in_turn at front waits (frames.gone fall same) = by_taken front waits (ap (λ (v : View S V). v.flow) same)
-    in_turn at front waits (frames.answers request acceptor now reply fall is there table same) =
-        subst (λ (q : QueueView). turns_left_in q < turns_left old id) (sym (ap (λ (v : View S V). queue_at v.flow id) same ∙ replied_own old.flow id verdict reply waits))
-        (fewer_replied (queue_at old.flow id).again (queue_at old.flow id).messages (queue_at old.flow id).room verdict request reply (waits ∙ ap (λ (x : Message). Some x) is) fall)
-    in_turn at front waits (frames.finds_down request acceptor fall is there down same) = by_taken front waits (ap (λ (v : View S V). v.flow) same)
-    in_turn at front waits (frames.brings_down request acceptor now fall is there stops same) = by_taken front waits (ap (λ (v : View S V). v.flow) same)
-    in_turn at front waits (frames.arrives reply desk now round heard fall is there is_round hears same) = by_taken front waits (ap (λ (v : View S V). v.flow) same)
+    in_turn at front waits (frames.gone fall same) = fewer_taken old.flow new.flow id verdict front waits free (ap (λ (v : View S V). v.flow) same)
+    in_turn at front waits (frames.answers request acceptor now reply fall is there table same) = fewer_answered old.flow new.flow id verdict request reply (waits ∙ ap (λ (x : Message). Some x) is) fall (ap (λ (v : View S V). v.flow) same)
+    in_turn at front waits (frames.finds_down request acceptor fall is there down same) = fewer_taken old.flow new.flow id verdict front waits free (ap (λ (v : View S V). v.flow) same)
+    in_turn at front waits (frames.brings_down request acceptor now fall is there stops same) = fewer_taken old.flow new.flow id verdict front waits free (ap (λ (v : View S V). v.flow) same)
+    in_turn at front waits (frames.arrives reply desk now round heard fall is there is_round hears same) = fewer_taken old.flow new.flow id verdict front waits free (ap (λ (v : View S V). v.flow) same)
 
 -- ---- one turn more
 -- the frame in front, of which the head is at hand
-record IsFront (messages : List Message) (leg : Leg) (peer : ℕ) : Type 0 where
-  frame : Message
-  at : slice_get messages 0 ≡ Some frame
-  head : head_of frame ≡ (leg, peer)
+pub record IsFront (messages : List Message) (leg : Leg) (peer : ℕ) : Type 0 where
+  pub frame : Message
+  pub at : slice_get messages 0 ≡ Some frame
+  pub head : head_of frame ≡ (leg, peer)
 
-front_of : (messages : List Message) (front : Option (Leg × ℕ)) (leg : Leg) (peer : ℕ) → front ≡ option_map head_of (slice_get messages 0) → front ≡ Some (leg, peer) → IsFront messages leg peer
+pub front_of : (messages : List Message) (front : Option (Leg × ℕ)) (leg : Leg) (peer : ℕ) → front ≡ option_map head_of (slice_get messages 0) → front ≡ Some (leg, peer) → IsFront messages leg peer
 front_of [] front leg peer shown is = absurd (cc (shown, is))
 front_of (frame ∷ rest) front leg peer shown is = record { frame = frame; at = refl; head = some_is (sym shown ∙ is) }
 

@@ -1,5 +1,5 @@
 -- What a change does to a world: the calls that it makes, one after another.
-use Rattle.std.specs.Prelude.{◌≡◌, ◌+◌, ◌-◌, ◌<◌, ℕ, true, false, Some, List, [], length, slice_set}
+use Rattle.std.specs.Prelude.{◌≡◌, ◌-◌, ◌<◌, ℕ, true, false, Some, List, []}
 use Rattle.cas_change.specs.declared.program.Clause.{Clause}
 use Rattle.cas_flow.specs.Flow.{queue_at}
 use Rattle.cas_flow.specs.declared.message.Message.{Message}
@@ -9,8 +9,8 @@ use Rattle.cas_proposer.specs.declared.round.Round.{Round}
 use Rattle.cas_record.specs.declared.answer.Answer.{Answer}
 use Rattle.cas_record.specs.declared.answer.Answer.TheVariants.{RecordFull, NoMemory}
 use Rattle.cas_cluster.specs.Step.{Step, Begin, RefuseBegin, Turn, RefuseTurn, Propose, Count, End, CrashProposer, OpenCallAt}
-use Rattle.cas_cluster.specs.StepCalls.{HasRoom, WasMet, most_marks, round_marks}
-use Rattle.cas_cluster.specs.View.{Meaning, View, IsAt, new_caller, reserved_of, era_at}
+use Rattle.cas_cluster.specs.StepCalls.{HasRoom, IsFull, WasMet, round_marks}
+use Rattle.cas_cluster.specs.View.{Meaning, View, IsAt, era_at}
 use Rattle.cas_script.specs.Conditions.{Rule, verdict_on}
 use Rattle.cas_script.specs.declared.halt.Halt.{Halt}
 
@@ -92,7 +92,7 @@ pub data AreRounds {S V : Type 0} (m : Meaning S V) (rules : List Rule) (id : �
 -- the answers of a call that is not begun: the record is full, exactly where the marks of a round do not fit beside those that are made
 -- and those that other calls reserved, or there was no memory
 pub data IsRefused {S V : Type 0} (world : View S V) (id : ℕ) : Answer → Type 0 where
-  full : most_marks < length world.marks + reserved_of (slice_set world.callers id new_caller) + round_marks (era_at world id) → IsRefused world id RecordFull
+  full : IsFull world id → IsRefused world id RecordFull
   no_memory : HasRoom world id (round_marks (era_at world id)) → IsRefused world id (NoMemory false)
 
 -- a change as the caller's next call, with its answer

@@ -14,7 +14,7 @@ use Rattle.cas_vault.specs.declared.error.VaultError.{VaultError}
 use Rattle.cas_vault.specs.declared.error.VaultError.TheVariants as vault_error
 use Rattle.cas_cluster.specs.Step.{Step, Stray, RefuseStray, CrashAcceptor, RestartAcceptor, RestartProposer}
 use Rattle.cas_cluster.specs.StepCalls.{most_marks}
-use Rattle.cas_cluster.specs.View.{Meaning, View, IsAt, reserved_of, era_at}
+use Rattle.cas_cluster.specs.View.{Meaning, View, IsAt, reserved_in_all, era_at}
 use Rattle.cas_world.specs.Readers.{up_in}
 use Rattle.cas_world.specs.Restarting.{TellsOfAcceptor, TellsOfDesk}
 
@@ -58,7 +58,7 @@ pub data RestartsProposer {S V : Type 0} (m : Meaning S V) (old : View S V) (id 
 pub data StraysIn {S V : Type 0} (m : Meaning S V) (old : View S V) (index : ℕ) : EventAnswer → View S V → Type 0 where
   absent : length old.flow.late ≤ index → StraysIn m old index event.Absent old
   strays : {new : View S V} → Step m old (Stray index) new → StraysIn m old index event.Ok new
-  full : index < length old.flow.late → length old.marks + reserved_of old.callers ≡ most_marks → StraysIn m old index event.RecordFull old
+  full : index < length old.flow.late → length old.marks + reserved_in_all old ≡ most_marks → StraysIn m old index event.RecordFull old
   no_memory : {new : View S V} → index < length old.flow.late → Step m old RefuseStray new → StraysIn m old index event.NoMemory new
 
 -- ---- slots

@@ -3,5 +3,6 @@ pub mod Conditions
 pub mod Events
 pub mod Network
 pub mod Playing
+pub mod Probes
 pub mod Script
 pub mod Stage

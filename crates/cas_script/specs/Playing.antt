@@ -1,5 +1,5 @@
 -- How far a caller's call has come in its round.
-use Rattle.std.specs.Prelude.{◌≡◌, ◌+◌, ◌-◌, ℕ, Bool, not, List, [], ◌∷◌, if◌then◌else◌, Some, IsSome, is_some, true, false}
+use Rattle.std.specs.Prelude.{◌≡◌, ◌+◌, ◌-◌, ℕ, Bool, not, List, [], ◌∷◌, if◌then◌else◌, None, Some, IsSome, is_some, true, false}
 use Rattle.cas_change.specs.declared.program.Clause.{Clause}
 use Rattle.cas_flow.specs.Flow.{queue_at}
 use Rattle.cas_flow.specs.Queue.{QueueView}
@@ -30,13 +30,14 @@ pub record IsFor {S V : Type 0} (view : View S V) (id : ℕ) (asked : Asked) (ca
   pub key : call.key ≡ asked.key
   pub program : call.program ≡ asked.program
 
--- it is open, and so is its round
+-- it is open, and so is its round, and no exchange is
 pub record HasBegun {S V : Type 0} (view : View S V) (id : ℕ) (asked : Asked) : Type 0 where
   pub call : CallView
   pub is_for : IsFor view id asked call
   pub desk : DeskView V
   pub at_desk : IsAt view.desks id desk
   pub is_open : IsSome desk.round
+  pub quiet : view.council.exchange ≡ None
 
 -- it is open, and so is its round, which is in its accept phase where the call has proposed something
 pub record IsPlaying {S V : Type 0} (view : View S V) (id : ℕ) (asked : Asked) (proposed : Bool) : Type 0 where
@@ -48,6 +49,7 @@ pub record IsPlaying {S V : Type 0} (view : View S V) (id : ℕ) (asked : Asked)
   pub round : Round
   pub is_round : desk.round ≡ Some round
   pub phase : is_preparing round.phase ≡ not proposed
+  pub quiet : view.council.exchange ≡ None
 
 -- what tells of a conflict
 abbrev pub is_conflict : Answer → Bool
@@ -57,6 +59,7 @@ is_conflict other = false
 -- it was told this, and where that is a conflict it may begin another round
 pub record IsOver {S V : Type 0} (view : View S V) (id : ℕ) (asked : Asked) (told : Answer) : Type 0 where
   pub was_told : WasTold view id asked.number told
+  pub quiet : view.council.exchange ≡ None
   pub again : (met : Ballot) → told ≡ answer.Conflict met → MayBegin view id asked.number asked.key asked.program
 
 -- how many turns are left at most: a frame has two where it is repeated, and so has each of the two replies to a request

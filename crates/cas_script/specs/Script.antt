@@ -1,15 +1,16 @@
 -- A script: its lines run one after another, each has its answer, and the answers are its transcript.
 use Rattle.std.specs.Prelude.{◌≡◌, ℕ, suc, Bool, true, false, List, [], ◌∷◌, ◌++◌, Some, None, Err, replicate, slice_set}
 use Rattle.cas_change_text.specs.declared.refusal.Why.{Why}
-use Rattle.cas_lines.specs.Answers.{change_line, bad_line, event_line, shown_line}
+use Rattle.cas_lines.specs.Answers.{change_line, bad_line, event_line, op_line, shown_line}
 use Rattle.cas_lines.specs.Command.{IsLine, Asked, change_of}
 use Rattle.cas_lines.specs.Reading.{line_in}
 use Rattle.cas_lines.specs.declared.answer.EventAnswer.{EventAnswer}
 use Rattle.cas_lines.specs.declared.answer.EventAnswer.TheVariants as event
 use Rattle.cas_lines.specs.declared.answer.Shown.{Shown}
 use Rattle.cas_lines.specs.declared.command.Command.{Command}
-use Rattle.cas_lines.specs.declared.command.Command.TheVariants.{Net, CrashAcceptor, RestartAcceptor, CrashProposer, RestartProposer, HaltPrepared, HaltProposed, Stray, Show}
+use Rattle.cas_lines.specs.declared.command.Command.TheVariants.{Probe, Net, CrashAcceptor, RestartAcceptor, CrashProposer, RestartProposer, HaltPrepared, HaltProposed, Stray, Show}
 use Rattle.cas_record.specs.declared.answer.Answer.{Answer}
+use Rattle.cas_record.specs.declared.operator.OpAnswer.{OpAnswer}
 use Rattle.cas_cluster.specs.Step as step
 use Rattle.cas_cluster.specs.Step.{Step}
 use Rattle.cas_cluster.specs.View.{Meaning, View, IsAt}
@@ -17,6 +18,7 @@ use Rattle.cas_script.specs.Changes.{IsChange}
 use Rattle.cas_script.specs.Conditions.{Rule}
 use Rattle.cas_script.specs.Events.{CrashesAcceptor, RestartsAcceptor, RestartsProposer, StraysIn, IsShown}
 use Rattle.cas_script.specs.Network.{IsNetwork}
+use Rattle.cas_script.specs.Probes.{IsProbe}
 use Rattle.cas_script.specs.Stage.{Stage}
 use Rattle.cas_script.specs.declared.halt.Halt.{Halt}
 
@@ -36,12 +38,13 @@ abbrev pub opening_state : {S V : Type 0} → View S V → State S V
 opening_state world = record { world = world; rules = []; halts = replicate 17 nowhere }
 
 -- ---- answers
--- what answers a line: what its caller is told of its change, what an event did, what is shown, why the line is bad, or nothing where it
--- is a remark
+-- what answers a line: what its caller is told of its change, what an event did, what is shown, what the operator is told, why the line is
+-- bad, or nothing where it is a remark
 pub data LineAnswer : Type 0 where
   Changed : ℕ → Answer → LineAnswer
   Happened : EventAnswer → LineAnswer
   Shows : ℕ → List ℕ → Shown → LineAnswer
+  Operated : OpAnswer → LineAnswer
   Bad : Why → LineAnswer
   Remark : LineAnswer
 
@@ -65,12 +68,19 @@ pub data RunsEvent {S V : Type 0} (m : Meaning S V) (old : State S V) : Command 
   halt_proposed : {proposer : ℕ} (halt : Halt) {new : State S V} → IsAt old.halts proposer halt → new ≡ record old { halts = slice_set old.halts proposer (record halt { after_propose = true }) } → RunsEvent m old (HaltProposed proposer) event.Ok new
   stray : {index : ℕ} {answer : EventAnswer} {world : View S V} → StraysIn m old.world index answer world → RunsEvent m old (Stray index) answer (record old { world = world })
 
+-- a line that asks for a probe runs it
+pub record RunsProbe {S V : Type 0} (m : Meaning S V) (old : State S V) (key : List ℕ) (answer : OpAnswer) (new : State S V) : Type 0 where
+  pub probe : IsProbe m old.rules key old.world answer new.world
+  pub rules : new.rules ≡ old.rules
+  pub halts : new.halts ≡ old.halts
+
 -- the line is run as its words say, by a script of so many tries
 pub data IsAnswered {S V : Type 0} (m : Meaning S V) (tries : ℕ) (old : State S V) (line : List ℕ) : LineAnswer → State S V → Type 0 where
   changes : {answer : Answer} {new : State S V} (command : Command) (asked : Asked) → IsLine old.world.greatest line (Some command) → change_of command ≡ Some asked → RunsChange m tries old asked answer new
       → IsAnswered m tries old line (Changed asked.caller answer) new
   happens : {answer : EventAnswer} {new : State S V} (command : Command) → IsLine old.world.greatest line (Some command) → RunsEvent m old command answer new → IsAnswered m tries old line (Happened answer) new
   shows : {shown : Shown} (id : ℕ) (key : List ℕ) → IsLine old.world.greatest line (Some (Show id key)) → IsShown m old.world id key shown → IsAnswered m tries old line (Shows id key shown) old
+  probes : {answer : OpAnswer} {new : State S V} (key : List ℕ) → IsLine old.world.greatest line (Some (Probe key)) → RunsProbe m old key answer new → IsAnswered m tries old line (Operated answer) new
   -- a line that is refused changes nothing
   refused : (why : Why) (word : ℕ) → line_in old.world.greatest line ≡ Err (record { why = why; word = word }) → IsAnswered m tries old line (Bad why) old
   remark : IsLine old.world.greatest line None → IsAnswered m tries old line Remark old
@@ -86,6 +96,7 @@ abbrev pub text_of : ℕ → LineAnswer → List ℕ
 text_of number (Changed caller answer) = change_line caller answer
 text_of number (Happened answer) = event_line answer
 text_of number (Shows id key shown) = shown_line id key shown
+text_of number (Operated answer) = op_line answer
 text_of number (Bad why) = bad_line number why
 text_of number Remark = []
 

@@ -1,6 +1,6 @@
 //! One change, from its call to its answer.
 
-ghost use Rattle.std.specs.Prelude.{◌≡◌, ◌≤◌, ◌↔◌, Bool, true, false, Some, List, IsTrue, IfErr, OnOk, OnErr};
+ghost use Rattle.std.specs.Prelude.{◌≡◌, ◌≤◌, ◌↔◌, Bool, true, false, None, Some, List, IsTrue, IfErr, OnOk, OnErr};
 ghost use Rattle.cas_cluster.specs.Step.{Step, CrashProposer};
 ghost use Rattle.cas_cluster.specs.View.{meaning};
 ghost use Rattle.cas_record.specs.declared.answer.Answer.TheVariants as answer;
@@ -33,6 +33,7 @@ pub fn change<S: Shelf, V: Disk>(
     program: &Program,
 ) -> Answer
     requires known { caller ≤ world.old.greatest }
+    requires quiet { world.old.council.exchange ≡ None }
     requires idle { HasNoCall world.old caller }
     requires some { 1 ≤ tries }
     requires network { (rules : List Rule) × IsNetwork network.old rules }
@@ -184,6 +185,7 @@ fn all_turns<S: Shelf, V: Disk>(
     proposer: u8,
 ) -> Result<(), AllocError>
     requires known { proposer ≤ world.old.greatest }
+    requires quiet { world.old.council.exchange ≡ None }
     requires network { (rules : List Rule) × IsNetwork network.old rules }
     ensures through { (rules : List Rule) → IsNetwork network.old rules → OnOk result (AllTurned (meaning S.contents S.tells S.may_leave S.fault_count V.tells V.may_leave V.fault_count) rules proposer world.old world.new) }
     ensures fails { (rules : List Rule) → IsNetwork network.old rules → OnErr result (FailsToTurn (meaning S.contents S.tells S.may_leave S.fault_count V.tells V.may_leave V.fault_count) rules proposer world.old world.new) }

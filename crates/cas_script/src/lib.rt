@@ -8,6 +8,7 @@ mod changes;
 mod events;
 mod halt;
 mod network;
+mod probe;
 mod run;
 mod script;
 #[cfg(test)]

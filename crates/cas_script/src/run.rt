@@ -1,24 +1,27 @@
 //! A script runs, line by line.
 
 ghost use Rattle.std.specs.Prelude.{◌≡◌, ◌≢◌, ◌≤◌, ℕ, List, Some, true, vec_items, IfOk, OnErr};
+ghost use Rattle.cas_cluster.specs.Council.{no_council};
 ghost use Rattle.cas_cluster.specs.View.{meaning};
 ghost use Rattle.cas_lines.specs.Answers.{bad_line};
 ghost use Rattle.cas_lines.specs.Command.{IsLine, IsKnown, Asked, change_of};
 ghost use Rattle.cas_lines.specs.declared.command.Command.{Command as ACommand};
 ghost use Rattle.cas_script.specs.Stage.{AllIdle};
-ghost use Rattle.cas_script.specs.Script.{State, IsIn, AnswersLine, RanOrNot, RunsChange, RunsEvent, Runs, is_event, opening_state};
+ghost use Rattle.cas_script.specs.Script.{State, IsIn, AnswersLine, RanOrNot, RunsChange, RunsEvent, RunsProbe, Runs, is_event, opening_state};
 
 use crate::changes::change;
 use crate::events::{crash_acceptor, restart_acceptor, restart_proposer, show, stray};
 use crate::halt::Halt;
 use crate::network::Network;
+use crate::probe::probe;
 use crate::script::{PROPOSERS, Script};
+use cas_change::Key;
 use cas_change_text::{TextRefusal, Why};
 use cas_disk::Disk;
-use cas_lines::answer::{EventAnswer, print_answer, print_bad, print_event, print_shown};
+use cas_lines::answer::{EventAnswer, print_answer, print_bad, print_event, print_op, print_shown};
 use cas_lines::command::{Change, Command, read_command};
 use cas_lines::lines::Line;
-use cas_record::Answer;
+use cas_record::{Answer, OpAnswer};
 use cas_slot::Shelf;
 use cas_world::World;
 use std::alloc::{AllocError, Global};
@@ -30,6 +33,7 @@ impl<S: Shelf, V: Disk> Script<S, V> {
         requires few { proposers ≤ 16 }
         requires some { 1 ≤ tries }
         requires idle { AllIdle world }
+        requires quiet { world.council ≡ no_council }
         ensures state { IsIn result (opening_state world) }
         ensures tries { result.tries ≡ tries }
     {
@@ -74,6 +78,10 @@ impl<S: Shelf, V: Disk> Script<S, V> {
             let shown = show(&self.world, *id, key)?;
             return print_shown(alloc, *id, key, &shown);
         }
+        if let Command::Probe { key } = command {
+            let answer = self.run_probe(key)?;
+            return print_op(alloc, &answer);
+        }
         match command.change(alloc)? {
             Some(asked) => {
                 let answer = self.run_change(&asked);
@@ -102,6 +110,15 @@ impl<S: Shelf, V: Disk> Script<S, V> {
             asked.key,
             &asked.program,
         )
+    }
+
+    /// Runs a probe, and gives what the operator is told. After an `Err` it was not run.
+    fn run_probe(&mut self, key: &Key) -> Result<OpAnswer, AllocError>
+        ensures runs { (state : State _ _) → IsIn self.old state → IfOk result (λ answer. Runs (λ new. RunsProbe (meaning S.contents S.tells S.may_leave S.fault_count V.tells V.may_leave V.fault_count) state key.now answer new) self.new) }
+        ensures err { OnErr result (self.new ≡ self.old) }
+        ensures tries { self.new.tries ≡ self.old.tries }
+    {
+        probe(&mut self.world, &mut self.network, key)
     }
 
     /// Runs an event line, and gives its answer.

@@ -137,6 +137,34 @@ fn plays_worked_scripts(rt: HostRuntime) -> Result<(), Fail> {
 }
 
 #[test]
+fn probes_what_members_keep(rt: HostRuntime) -> Result<(), Fail> {
+    let alloc = rt.alloc();
+    for (input, output) in [
+        (
+            "1 add a 5\nop probe a\ncrash acceptor 2\nop probe b\n",
+            "1: done v0 num 5 at 1.1\nop: probe a 1=1.1/0 2=1.1/0 3=1.1/0\nok\nop: probe b 1=none 2=? 3=none\n",
+        ),
+        (
+            "net probe 1 lose\nnet reply 2 lose\nop probe a\nop probe\nop\n",
+            "ok\nok\nop: probe a 1=? 2=? 3=none\nbad 4 no word\nbad 5 no word\n",
+        ),
+        (
+            "net all * twice\nop probe a\nnet all * late\nop probe a\nstray 0\nstray 0\nstray 0\nstray 0\n",
+            "ok\nop: probe a 1=none 2=none 3=none\nok\nop: probe a 1=? 2=? 3=?\nok\nok\nok\nok\n",
+        ),
+        (
+            "crash proposer 0\nop probe a\nrestart proposer 0\nop probe a\n1 get a\n",
+            "ok\nop: down\nok\nop: probe a 1=none 2=none 3=none\n1: done empty at 1.1\n",
+        ),
+    ] {
+        let mut script = opened(alloc, ONE_TRY)?;
+        let written = play(alloc, &mut script, input.as_bytes())?;
+        assert_eq!(rt; written.as_slice(), output.as_bytes(), "{input}");
+    }
+    Ok(())
+}
+
+#[test]
 fn shows_what_acceptors_keep(rt: HostRuntime) -> Result<(), Fail> {
     let alloc = rt.alloc();
     let mut script = opened(alloc, ONE_TRY)?;

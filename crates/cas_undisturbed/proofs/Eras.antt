@@ -6,7 +6,10 @@ use Rattle.cas_flow.specs.declared.message.Message.{Message}
 use Rattle.cas_proposer.specs.Desk.{DeskView}
 use Rattle.cas_proposer.specs.declared.round.Round.{Round}
 use Rattle.cas_cluster.specs.Step as step
-use Rattle.cas_cluster.specs.Step.{Event, Step, StepBegin, StepTurn, StepRefuseTurn, StepPropose, StepCount, StepCrashAcceptor, StepRestartAcceptor, StepCrashProposer, StepRestartProposer, OpenCallAt}
+use Rattle.cas_cluster.specs.Council.{Question}
+use Rattle.cas_cluster.specs.StepCouncil as council
+use Rattle.cas_cluster.specs.StepCouncil.{StepAskAll, StepTurnExchange, StepGather}
+use Rattle.cas_cluster.specs.Step.{Event, Step, CrashesDesk, StepBegin, StepTurn, StepRefuseTurn, StepPropose, StepCount, StepCrashAcceptor, StepRestartAcceptor, StepCrashProposer, StepRestartProposer, OpenCallAt}
 use Rattle.cas_cluster.specs.StepCalls as calls
 use Rattle.cas_cluster.specs.StepFrames as frames
 use Rattle.cas_cluster.specs.View.{Meaning, View}
@@ -76,13 +79,48 @@ start_era {S} {V} m old new id (step.was_up acceptor at up is) = ap (λ (w : Vie
 start_era {S} {V} m old new id (step.starts acceptor now at starts is) = ap (λ (w : View S V). w.eras) is
 start_era {S} {V} m old new id (step.fails acceptor now at fails is) = ap (λ (w : View S V). w.eras) is
 
+desk_crash_era : {S V : Type 0} (m : Meaning S V) (old new : View S V) (id : ℕ) → CrashesDesk m old id new → new.eras ≡ old.eras
+desk_crash_era {S} {V} m old new id (step.idle desk now at none crashes is) = ap (λ (w : View S V). w.eras) is
+desk_crash_era {S} {V} m old new id (step.closes desk now round at there is_round crashes is) = ap (λ (w : View S V). w.eras) is
+
 desk_stop_era : {S V : Type 0} (m : Meaning S V) (old new : View S V) (id : ℕ) → StepCrashProposer m old id new → new.eras ≡ old.eras
-desk_stop_era {S} {V} m old new id (step.idle desk now at none crashes is) = ap (λ (w : View S V). w.eras) is
-desk_stop_era {S} {V} m old new id (step.closes desk now round at there is_round crashes is) = ap (λ (w : View S V). w.eras) is
+desk_stop_era m old new id (step.of_client client crashes) = desk_crash_era m old new id crashes
+desk_stop_era {S} {V} m old new id (step.of_operator middle operator crashes is) = ap (λ (w : View S V). w.eras) is ∙ desk_crash_era m old middle id crashes
 
 desk_start_era : {S V : Type 0} (m : Meaning S V) (old new : View S V) (id : ℕ) → StepRestartProposer m old id new → new.eras ≡ old.eras
 desk_start_era {S} {V} m old new id (step.was_up_already desk at up is) = ap (λ (w : View S V). w.eras) is
 desk_start_era {S} {V} m old new id (step.restarts desk now at down restarts is) = ap (λ (w : View S V). w.eras) is
+
+-- ---- the operator's calls
+ask_era : {S V : Type 0} (m : Meaning S V) (old new : View S V) (question : Question) → StepAskAll m old question new → new.eras ≡ old.eras
+ask_era {S} {V} m old new question by = in_case by.asks
+  where
+    in_case : council.AsksAll m old question by.desk new → new.eras ≡ old.eras
+    in_case (council.asks now tag flow up room drawn now_is sends is) = ap (λ (w : View S V). w.eras) is
+    in_case (council.is_down down is) = ap (λ (w : View S V). w.eras) is
+    in_case (council.is_full up full is) = ap (λ (w : View S V). w.eras) is
+    in_case (council.is_spent now up spent kept now_is is) = ap (λ (w : View S V). w.eras) is
+    in_case (council.fails now up fails is) = ap (λ (w : View S V). w.eras) is
+    in_case (council.no_memory now tag up loses is) = ap (λ (w : View S V). w.eras) is
+
+ask_turn_era : {S V : Type 0} (m : Meaning S V) (old new : View S V) (v : Verdict) → StepTurnExchange m old v new → new.eras ≡ old.eras
+ask_turn_era {S} {V} m old new v by = in_turn by.turn
+  where
+    in_turn : council.TurnsExchange m old v by.front by.at.exchange new → new.eras ≡ old.eras
+    in_turn (council.held fall is) = ap (λ (w : View S V). w.eras) is
+    in_turn (council.gone fall is) = ap (λ (w : View S V). w.eras) is
+    in_turn (council.answers request acceptor now reply fall front_is there table is) = ap (λ (w : View S V). w.eras) is
+    in_turn (council.finds_down request acceptor fall front_is there down is) = ap (λ (w : View S V). w.eras) is
+    in_turn (council.brings_down request acceptor now fall front_is there stops is) = ap (λ (w : View S V). w.eras) is
+    in_turn (council.arrives reply fall front_is is) = ap (λ (w : View S V). w.eras) is
+
+gather_era : {S V : Type 0} (old new : View S V) → StepGather old new → new.eras ≡ old.eras
+gather_era {S} {V} old new by = in_case by.gathers
+  where
+    in_case : council.Gathers old by.at.exchange new → new.eras ≡ old.eras
+    in_case (council.crashed down is) = ap (λ (w : View S V). w.eras) is
+    in_case (council.probed key found up question keeps is) = ap (λ (w : View S V). w.eras) is
+    in_case (council.no_memory up is) = ap (λ (w : View S V). w.eras) is
 
 -- ---- all of them
 pub steps_keep_eras : {S V : Type 0} (m : Meaning S V) (old new : View S V) (event : Event) → Step m old event new → new.eras ≡ old.eras
@@ -99,3 +137,10 @@ steps_keep_eras m old new (step.CrashAcceptor id) by = stop_era m old new id by
 steps_keep_eras m old new (step.RestartAcceptor id) by = start_era m old new id by
 steps_keep_eras m old new (step.CrashProposer id) by = desk_stop_era m old new id by
 steps_keep_eras m old new (step.RestartProposer id) by = desk_start_era m old new id by
+steps_keep_eras {S} {V} m old new (step.Order asked) by = ap (λ (w : View S V). w.eras) by.view
+steps_keep_eras {S} {V} m old new step.RefuseOrder by = ap (λ (w : View S V). w.eras) by
+steps_keep_eras {S} {V} m old new (step.Tell told) by = ap (λ (w : View S V). w.eras) by.view
+steps_keep_eras m old new (step.AskAll question) by = ask_era m old new question by
+steps_keep_eras m old new (step.TurnExchange verdict) by = ask_turn_era m old new verdict by
+steps_keep_eras {S} {V} m old new step.RefuseTurnExchange by = ap (λ (w : View S V). w.eras) by.view ∙ no_room_era m old by.middle by.refuses
+steps_keep_eras m old new step.Gather by = gather_era old new by

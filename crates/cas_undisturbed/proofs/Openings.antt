@@ -1,6 +1,6 @@
 -- A script over a cluster that just opened is ready for its first line.
 use Rattle.std.proofs.Common.{◌≡◌, ◌<◌, ◌≤◌, ◌^◌, ◌∙◌, ℕ, zero, suc, true, false, List, [], ◌∷◌, Option, None, refl, sym, ap, subst, inl, inr, arith}
-use Rattle.std.specs.Prelude.{◌+◌, ◌||◌, length, replicate, slice_set, slice_index_or}
+use Rattle.std.specs.Prelude.{◌+◌, ◌||◌, length, replicate, slice_set}
 use Rattle.std.specs.Cmp.Lexicographic.{slice_cmp}
 use Rattle.std.specs.FinMap as map
 use Rattle.std.specs.Ordering.{nat_cmp}
@@ -27,6 +27,7 @@ use Rattle.cas_slot.specs.declared.slot.Slot.{Slot}
 use Rattle.cas_vault.specs.Vault.{counter_of, kept_of}
 use Rattle.cas_cluster.specs.SafeLaws.{HasPlaces}
 use Rattle.cas_cluster.specs.Step.{IsOpening, IsFreshDesk}
+use Rattle.cas_cluster.specs.Council.{reserved_by}
 use Rattle.cas_cluster.specs.View.{Meaning, View, CallerView, IsAt, new_caller, reserved_in, reserved_of, era_at, era_in}
 use Rattle.cas_cluster.proofs.Harms.{member_low}
 use Rattle.cas_cluster.proofs.Places.{at_one, but_set}
@@ -120,6 +121,7 @@ line_ready {S} {V} m members world asked desk opens places at low up = record {
     arith,
     ap (λ (l : List Mark). length l) opens.marks,
     none_reserved (slice_set world.callers asked.caller new_caller) (caller_set world.callers asked.caller opens.callers),
+    ap reserved_by opens.council,
     few_members (λ n. has_member (era_at world asked.caller).prep n || has_member (era_at world asked.caller).acc n),
   );
 }

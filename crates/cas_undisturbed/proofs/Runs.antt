@@ -1,8 +1,7 @@
 -- Along a script each ready change line was answered done.
-use Rattle.std.proofs.Common.{◌≤◌, ℕ, List, [], sym, subst, arith}
-use Rattle.std.specs.Prelude.{slice_index_or}
+use Rattle.std.proofs.Common.{◌≤◌, ℕ, List, sym, subst, arith}
 use Rattle.cas_quorum.specs.declared.era.Era.{Era}
-use Rattle.cas_quorum.specs.Era.{IsSized, majority_era}
+use Rattle.cas_quorum.specs.Era.{IsSized}
 use Rattle.cas_cluster.specs.Safe.{IsSafe}
 use Rattle.cas_cluster.specs.View.{Meaning, era_at, era_in}
 use Rattle.cas_cluster.proofs.SafeParts.{low_at}
@@ -22,6 +21,7 @@ line_done m tries old new line answer safe sized (script.changes {answer = told}
     λ ready up. lines_are_done m tries old new asked told safe (sized asked.caller (omega (arith, low_at old.world.desks asked.caller ready.all_ready.at_desk, safe.desks, safe.few))) ready runs up
 line_done m tries old new line answer safe sized (script.happens command is_line runs) = tt
 line_done m tries old new line answer safe sized (script.shows id key is_line shown) = tt
+line_done m tries old new line answer safe sized (script.probes key is_line runs) = tt
 line_done m tries old new line answer safe sized (script.refused why word is_line) = tt
 line_done m tries old new line answer safe sized (script.remark is_line) = tt
 

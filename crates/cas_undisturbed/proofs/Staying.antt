@@ -14,6 +14,11 @@ use Rattle.cas_script.specs.Changes.{Turned, FailsToTurn, EndsPrepare, IsAccepte
 use Rattle.cas_script.specs.Conditions.{Rule, verdict_on}
 use Rattle.cas_script.specs.Events as events
 use Rattle.cas_script.specs.Events.{CrashesAcceptor, RestartsAcceptor, RestartsProposer, StraysIn}
+use Rattle.cas_record.specs.declared.operator.Asked.TheVariants as asked
+use Rattle.cas_record.specs.declared.operator.OpAnswer.{OpAnswer}
+use Rattle.cas_cluster.specs.Council.{Probe}
+use Rattle.cas_script.specs.Probes as probes
+use Rattle.cas_script.specs.Probes.{AskTurned, AsksMembers, IsProbe}
 use Rattle.cas_script.specs.Script as script
 use Rattle.cas_script.specs.Script.{State, LineAnswer, RunsEvent, IsAnswered}
 use Rattle.cas_script.specs.declared.halt.Halt.{Halt}
@@ -101,12 +106,30 @@ event_stays {S} {V} m old new command answer (script.halt_prepared halt at is) =
 event_stays {S} {V} m old new command answer (script.halt_proposed halt at is) = same_world old new (ap (λ (s : State S V). s.world) is)
 event_stays m old new command answer (script.stray {index = index} {world = world} by) = stray_stays m old.world world index answer by
 
+-- ---- a probe
+ask_turned_stays : {S V : Type 0} (m : Meaning S V) (rules : List Rule) (old new : View S V) → AskTurned m rules old new → Stays old new
+ask_turned_stays m rules old new probes.none = same old
+ask_turned_stays m rules old new (probes.one_more {mid = mid} frame before at by) = both old mid new (ask_turned_stays m rules old mid before) (by_step m mid new (step.TurnExchange (verdict_on rules frame)) by)
+
+asks_stays : {S V : Type 0} (m : Meaning S V) (rules : List Rule) (key : List ℕ) (old new : View S V) → AsksMembers m rules key old new → Stays old new
+asks_stays m rules key old new (probes.not_asked by none) = by_step m old new (step.AskAll (Probe key)) by
+asks_stays m rules key old new (probes.no_memory {asked = asked} by fails) =
+    both old asked new (by_step m old asked (step.AskAll (Probe key)) by) (both asked fails.mid new (ask_turned_stays m rules asked fails.mid fails.turned) (by_step m fails.mid new step.RefuseTurnExchange fails.fails))
+asks_stays m rules key old new (probes.gathered {asked = asked} {turned = turned} by turns gathers) =
+    both old asked new (by_step m old asked (step.AskAll (Probe key)) by) (both asked turned new (ask_turned_stays m rules asked turned turns.turned) (by_step m turned new step.Gather gathers))
+
+probe_stays : {S V : Type 0} (m : Meaning S V) (rules : List Rule) (key : List ℕ) (old new : View S V) (answer : OpAnswer) → IsProbe m rules key old answer new → Stays old new
+probe_stays m rules key old new answer (probes.refused why by) = by_step m old new step.RefuseOrder by
+probe_stays m rules key old new answer (probes.told {ordered = ordered} {asked_all = asked_all} by asks tells) =
+    both old ordered new (by_step m old ordered (step.Order (asked.Probe key)) by) (both ordered asked_all new (asks_stays m rules key ordered asked_all asks) (by_step m asked_all new (step.Tell answer) tells))
+
 -- ---- a line
 pub line_stays : {S V : Type 0} (m : Meaning S V) (tries : ℕ) (old new : State S V) (line : List ℕ) (answer : LineAnswer) → IsAnswered m tries old line answer new → Stays old.world new.world
 line_stays m tries old new line answer (script.changes {answer = told} command asked is_line asks runs) =
     change_stays m tries old.rules asked.caller asked.key asked.program runs.halt runs.after old.world new.world told runs.change
 line_stays m tries old new line answer (script.happens {answer = told} command is_line runs) = event_stays m old new command told runs
 line_stays m tries old new line answer (script.shows id key is_line shown) = same old.world
+line_stays m tries old new line answer (script.probes {answer = told} key is_line runs) = probe_stays m old.rules key old.world new.world told runs.probe
 line_stays m tries old new line answer (script.refused why word is_line) = same old.world
 line_stays m tries old new line answer (script.remark is_line) = same old.world
 

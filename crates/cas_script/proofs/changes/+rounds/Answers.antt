@@ -30,7 +30,7 @@ rounds-requires g n c κs lives = (
       (
         search rules,
         (
-          has_begun _ c.round-told.new.world c.begin.new.self c.args.caller c.args.call c.args.key.now c.args.program.now c.in-Ok.ensures.step.0 c.in-Ok.ensures.step.1,
+          has_begun _ c.round-told.new.world c.begin.new.self c.args.caller c.args.call c.args.key.now c.args.program.now (c.round-told.ensures.over _ c.requires.begun).quiet c.in-Ok.ensures.step.0 c.in-Ok.ensures.step.1,
           (
             omega (arith, c.if-tries-eq1.false, c.requires.some),
             (c.requires.network.0, c.round-told.ensures.network c.requires.network.0 c.requires.network.1),
@@ -56,3 +56,6 @@ returns-clause-rounds g n c rules is =
 pub returns-clause-told : goal.returns-clause-told
 returns-clause-told g n c =
     (again_is ⊤ _ c.round-told.new.world c.begin.new.self c.args.caller c.args.call c.args.call c.args.key.now c.args.program.now c.in-Err.told c.round-told.result (c.round-told.ensures.over _ c.requires.begun).was_told c.in-Err.ensures.step).1
+
+pub begin-requires-clause-unasked : goal.begin-requires-clause-unasked
+begin-requires-clause-unasked g n c = λ is_first. (c.round-told.ensures.over _ c.requires.begun).quiet

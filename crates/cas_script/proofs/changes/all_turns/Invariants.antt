@@ -1,4 +1,4 @@
-use Rattle.std.proofs.Common.{◌≡◌, Bool, List}
+use Rattle.std.proofs.Common.{◌≡◌, Bool, List, None}
 use Rattle.cas_cluster.specs.View.{meaning}
 use Rattle.cas_script.specs.Changes.{Turned}
 use Rattle.cas_script.specs.Conditions.{Rule}
@@ -12,6 +12,7 @@ invariant-loop-front g l = record {
   plays : (asked : Asked) (proposed : Bool) → IsPlaying l.initial.world l.proposer asked proposed → IsPlaying l.world l.proposer asked proposed;
   network : (rules : List Rule) → IsNetwork l.initial.network rules → IsNetwork l.network rules;
   greatest : l.world.greatest ≡ l.initial.world.greatest;
+  quiet : l.world.council.exchange ≡ None;
 }
 
 abbrev pub decreases-loop-front : goal.decreases-loop-front

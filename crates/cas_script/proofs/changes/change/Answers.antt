@@ -10,7 +10,7 @@ pub begin-requires-clause-may : goal.begin-requires-clause-may
 begin-requires-clause-may g c = begun_first c.args.world.now c.args.caller c.next_call-call.result c.args.key.now c.args.program.now c.requires.idle c.next_call-call.ensures
 
 pub rounds-answer-requires-clause-begun : goal.rounds-answer-requires-clause-begun
-rounds-answer-requires-clause-begun g c = has_begun _ c.args.world.now c.begin.new.self c.args.caller c.next_call-call.result c.args.key.now c.args.program.now c.in-Ok.ensures.step.0 c.in-Ok.ensures.step.1
+rounds-answer-requires-clause-begun g c = has_begun _ c.args.world.now c.begin.new.self c.args.caller c.next_call-call.result c.args.key.now c.args.program.now c.requires.quiet c.in-Ok.ensures.step.0 c.in-Ok.ensures.step.1
 
 pub returns-in-Ok-clause-change : goal.returns-in-Ok-clause-change
 returns-in-Ok-clause-change g c rules is =

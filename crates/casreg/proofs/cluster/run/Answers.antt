@@ -20,3 +20,6 @@ returns-in-Ok-clause-wrote g c words are = ran_over c.args.options c.in-Ok.store
 pub returns-in-Err-open-clause-wrote : goal.returns-in-Err-open-clause-wrote
 returns-in-Err-open-clause-wrote g c words are =
     wrote_not_opened (meaning {S = DiskShelf g.row.D.Denot} (λ shelf. contents_of shelf) g.D.Disk.tells (λ shelf left. MayLeave g.D.Disk.may_leave shelf left) (λ shelf. g.D.Disk.fault_count (disk_of shelf)) g.D.Disk.tells g.D.Disk.may_leave g.D.Disk.fault_count) (rack_meaning g.D.Disk.tells g.D.Disk.seen g.D.Disk.may_leave g.D.Disk.fault_count) words _ _ _ c.args.rack c.expect_empty.new.self c.in-Err-open.rack c.args.options c.in-Err-open.fault c.from-in-Err-open.result c.from-in-Err-open.ensures are c.in_default.ensures.ok c.in-Err-open.ensures.fault
+
+pub run_script-requires-clause-quiet : goal.run_script-requires-clause-quiet
+run_script-requires-clause-quiet g c = c.in-Ok.ensures.opening.council

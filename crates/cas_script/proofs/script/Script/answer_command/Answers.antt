@@ -2,9 +2,9 @@ use Rattle.std.proofs.Common.{◌≡◌, Option, Some, ap, subst, ◌∙◌}
 use Rattle.std.specs.Prelude.{IfSome, vec_items}
 use Rattle.cas_cluster.specs.View.{meaning}
 use Rattle.cas_lines.specs.Command.{change_of}
-use Rattle.cas_script.specs.Script.{Changed, Happened, Shows}
+use Rattle.cas_script.specs.Script.{Changed, Happened, Shows, Operated}
 use Rattle.cas_script.specs.Stage.{Stage}
-use Rattle.cas_script.proofs.Answering.{with_text, without_text, changes_run, happens_run, shows_run}
+use Rattle.cas_script.proofs.Answering.{with_text, without_text, changes_run, happens_run, shows_run, probes_run}
 use Rattle.cas_script.proofs.script.Script.answer_command.Given.{Over}
 use Rattle.cas_script.proofs.script.Script.answer_command.Goals as goal
 
@@ -43,4 +43,18 @@ returns-in-None g c = record {
       without_text (meaning {S = g.row.S.Denot} g.S.Shelf.contents g.S.Shelf.tells g.S.Shelf.may_leave g.S.Shelf.fault_count g.V.Disk.tells g.V.Disk.may_leave g.V.Disk.fault_count) c.args.self.now.tries state line c.run_event-answer.new.self c.print_event.result (Happened c.run_event-answer.result) runs.new runs.is_in
       (happens_run (meaning {S = g.row.S.Denot} g.S.Shelf.contents g.S.Shelf.tells g.S.Shelf.may_leave g.S.Shelf.fault_count g.V.Disk.tells g.V.Disk.may_leave g.V.Disk.fault_count) c.args.self.now.tries c.args.self.now c.run_event-answer.new.self state line c.args.command.now c.run_event-answer.result at is runs);
   tries = c.run_event-answer.ensures.tries;
+}
+
+pub returns-in-Probe : goal.returns-in-Probe
+returns-in-Probe g c = record {
+  answers = λ state line number at is.
+      let runs = c.in_ok-answer.ensures.runs state at in
+      with_text (meaning {S = g.row.S.Denot} g.S.Shelf.contents g.S.Shelf.tells g.S.Shelf.may_leave g.S.Shelf.fault_count g.V.Disk.tells g.V.Disk.may_leave g.V.Disk.fault_count) c.args.self.now.tries number state line c.run_probe.new.self vec_items c.print_op.result (Operated c.in_ok-answer.answer) runs.new runs.is_in
+      (probes_run (meaning {S = g.row.S.Denot} g.S.Shelf.contents g.S.Shelf.tells g.S.Shelf.may_leave g.S.Shelf.fault_count g.V.Disk.tells g.V.Disk.may_leave g.V.Disk.fault_count) c.args.self.now.tries c.args.self.now c.run_probe.new.self state line c.args.command.now c.in-Probe.key c.in_ok-answer.answer at is c.in-Probe.is runs)
+      c.print_op.ensures;
+  err = λ state line at is.
+      let runs = c.in_ok-answer.ensures.runs state at in
+      without_text (meaning {S = g.row.S.Denot} g.S.Shelf.contents g.S.Shelf.tells g.S.Shelf.may_leave g.S.Shelf.fault_count g.V.Disk.tells g.V.Disk.may_leave g.V.Disk.fault_count) c.args.self.now.tries state line c.run_probe.new.self c.print_op.result (Operated c.in_ok-answer.answer) runs.new runs.is_in
+      (probes_run (meaning {S = g.row.S.Denot} g.S.Shelf.contents g.S.Shelf.tells g.S.Shelf.may_leave g.S.Shelf.fault_count g.V.Disk.tells g.V.Disk.may_leave g.V.Disk.fault_count) c.args.self.now.tries c.args.self.now c.run_probe.new.self state line c.args.command.now c.in-Probe.key c.in_ok-answer.answer at is c.in-Probe.is runs);
+  tries = c.run_probe.ensures.tries;
 }

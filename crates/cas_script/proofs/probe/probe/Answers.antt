@@ -1,0 +1,30 @@
+use Rattle.std.proofs.Common.{◌≡◌, ℕ, List, false, Err, inl, inr, sym, ap, subst}
+use Rattle.std.specs.Prelude.{◌⊎◌}
+use Rattle.cas_record.specs.declared.answer.Answer.{Answer}
+use Rattle.cas_record.specs.declared.answer.Answer.TheVariants as answer
+use Rattle.cas_record.specs.declared.operator.Asked.TheVariants as asked
+use Rattle.cas_record.specs.declared.operator.OpAnswer.{OpAnswer}
+use Rattle.cas_cluster.specs.Council.{Probe}
+use Rattle.cas_cluster.specs.StepCouncil.{StepOrder}
+use Rattle.cas_cluster.specs.View.{meaning}
+use Rattle.cas_world.specs.Exchange.{MayAsk}
+use Rattle.cas_script.specs.Probes.{IsProbe, IsNotOrdered, AsksMembers, refused, told, full, no_memory}
+use Rattle.cas_script.proofs.Probing.{may_ask}
+use Rattle.cas_script.proofs.probe.probe.Goals as goal
+
+pub ask-answer-requires-clause-may : goal.ask-answer-requires-clause-may
+ask-answer-requires-clause-may g c =
+    subst (λ (k : List ℕ). MayAsk c.order.new.self (Probe k)) (sym c.in_ok-told.ensures)
+    (may_ask c.args.world.now c.order.new.self c.args.key.now c.requires.quiet c.requires.idle (subst (λ (k : List ℕ). StepOrder c.args.world.now (asked.Probe k) c.order.new.self) c.in_ok-copy.ensures c.in-Ok.ensures.ok))
+
+pub returns-in-Ok-clause-probe : goal.returns-in-Ok-clause-probe
+returns-in-Ok-clause-probe g c rules is =
+    subst (λ (a : OpAnswer). IsProbe (meaning {S = g.row.S.Denot} g.S.Shelf.contents g.S.Shelf.tells g.S.Shelf.may_leave g.S.Shelf.fault_count g.V.Disk.tells g.V.Disk.may_leave g.V.Disk.fault_count) rules c.args.key.now c.args.world.now a c.tell.new.self) (sym c.tell.ensures.same)
+    (told (subst (λ (k : List ℕ). StepOrder c.args.world.now (asked.Probe k) c.order.new.self) c.in_ok-copy.ensures c.in-Ok.ensures.ok) (subst (λ (k : List ℕ). AsksMembers (meaning {S = g.row.S.Denot} g.S.Shelf.contents g.S.Shelf.tells g.S.Shelf.may_leave g.S.Shelf.fault_count g.V.Disk.tells g.V.Disk.may_leave g.V.Disk.fault_count) rules k c.order.new.self c.ask-answer.new.world) c.in_ok-told.ensures (c.ask-answer.ensures.asks rules is)) c.tell.ensures.step)
+
+pub returns-clause-probe : goal.returns-clause-probe
+returns-clause-probe g c rules is = refused (why c.in-Err.ensures.cause) c.in-Err.ensures.err
+  where
+    why : (c.in-Err.refusal ≡ answer.RecordFull) ⊎ (c.in-Err.refusal ≡ answer.NoMemory false) → IsNotOrdered c.args.world.now c.in-Err.refusal
+    why (inl is_full) = subst (IsNotOrdered c.args.world.now) (sym is_full) (full (c.in-Err.ensures.full.0 (ap (λ (a : Answer). Err a) is_full)))
+    why (inr none) = subst (IsNotOrdered c.args.world.now) (sym none) (no_memory (λ count. absurd (cc (c.in-Err.ensures.full.1 count, none))))
