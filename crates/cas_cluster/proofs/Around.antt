@@ -1,7 +1,7 @@
 -- What stays as it was while others go on: the desks and callers apart from those who act, the frames under way, and the acceptors. So a
 -- step of one proposer has to tell what becomes of its own desk, caller and frames alone.
-use Rattle.std.proofs.Common.{◌≡◌, ◌≤◌, ℕ, List, ◌∷◌, reverse, refl, sym, subst, ◌∙◌, inl, inr}
-use Rattle.std.specs.Prelude.{⊤, ◌⊎◌, slice_set}
+use Rattle.std.proofs.Common.{◌≡◌, ◌≤◌, ℕ, List, ◌∷◌, reverse, refl, sym, subst, ◌∙◌, inl, inr, arith}
+use Rattle.std.specs.Prelude.{⊤, ◌⊎◌, length, slice_set}
 use Rattle.cas_flow.specs.Flow.{FlowView, queue_at}
 use Rattle.cas_flow.specs.declared.message.Message.{Message}
 use Rattle.cas_acceptor.specs.Acceptor.{AcceptorView}
@@ -14,11 +14,12 @@ use Rattle.cas_record.specs.Lawful.{Cluster, ClusterMeets}
 use Rattle.cas_record.specs.Orderly.{Orderly}
 use Rattle.cas_record.specs.Places.{Stands}
 use Rattle.cas_cluster.specs.Acceptors.{IsElsewhere}
-use Rattle.cas_cluster.specs.History.{AgreesWith, IsRemembered}
+use Rattle.cas_cluster.specs.History.{AgreesWith, IsLogged}
 use Rattle.cas_cluster.specs.Parties.{IsAcceptorTrue, AreMessagesTrue, IsEraOf, IsDeskTrue, IsCouncilTrue, IsCallerTrue}
 use Rattle.cas_cluster.specs.Protocol.{Made, GlobalState, HasHistory}
 use Rattle.cas_cluster.specs.View.{Meaning, View, CallerView, IsAt, era_at, era_in}
 use Rattle.cas_cluster.proofs.Others.{IsOfOthers, council_still, messages_still, desk_still, caller_still, calls_of_others, acceptor_still, desk_more, caller_more}
+use Rattle.cas_cluster.proofs.Courses.{era_set, era_kept}
 use Rattle.cas_cluster.proofs.Places.{same_or_not, other_set}
 
 -- ---- parties
@@ -103,17 +104,16 @@ pub record Whole {S V : Type 0} (m : Meaning S V) (cluster : Cluster) (global : 
   pub acceptors : (a : ℕ) (acceptor : AcceptorView S) → IsAt view.acceptors a acceptor → IsAcceptorTrue m global.log a (global.kept a) acceptor
   pub parties : Parties m cluster global.log global.made view Everyone
 
-pub whole_of : {S V : Type 0} (m : Meaning S V) (view : View S V) (is : IsRemembered m view) → Whole m is.cluster is.global view
-whole_of m view is = record {
+pub whole_of : {S V : Type 0} {cluster : Cluster} (m : Meaning S V) (view : View S V) (is : IsLogged m cluster view) → Whole m cluster is.global view
+whole_of {cluster = cluster} m view is = record {
   meets = is.meets;
   history = is.history;
   acceptors = is.agrees.acceptors;
-  parties = parties_of m is.cluster is.global view Everyone is.agrees;
+  parties = parties_of m cluster is.global view Everyone is.agrees;
 }
 
-pub remembered : {S V : Type 0} (m : Meaning S V) (cluster : Cluster) (global : GlobalState) (view : View S V) → Whole m cluster global view → marks_of global.log ≡ reverse view.marks → IsRemembered m view
-remembered m cluster global view whole marks = record {
-  cluster = cluster;
+pub logged : {S V : Type 0} (m : Meaning S V) (cluster : Cluster) (global : GlobalState) (view : View S V) → Whole m cluster global view → marks_of global.log ≡ reverse view.marks → IsLogged m cluster view
+logged m cluster global view whole marks = record {
   meets = whole.meets;
   global = global;
   history = whole.history;
@@ -182,6 +182,31 @@ around_made m cluster log kept all more view id h of grows was history = record 
   acceptors = λ a acceptor at. acceptor_still m cluster h log a (kept a) history.lawful (of.1 a) (was.acceptors a acceptor at);
   parties = parties_made m cluster (h ∷ log) all more view (λ p. p ≡ id → ⊥) grows (parties_more m cluster log all view (λ p. p ≡ id → ⊥) h history.orderly of.0 was.parties);
 }
+
+-- the proposer works in another era of the cluster
+pub around_era : {S V : Type 0} (m : Meaning S V) (cluster : Cluster) (global : GlobalState) (old : View S V) (id : ℕ) (era : Era) → length old.eras ≡ 17 → IsEraOf cluster era
+    → Around m cluster global old id → Around m cluster global (record old { eras = slice_set old.eras id era }) id
+around_era {S} {V} m cluster global old id era places is was = record {
+  meets = was.meets;
+  history = was.history;
+  acceptors = was.acceptors;
+  parties = record {
+    greatest = was.parties.greatest;
+    few = was.parties.few;
+    eras = λ p low. era_there p low (same_or_not p id);
+    desks = λ p other desk caller at_desk at_caller.
+        subst (λ (e : Era). IsDeskTrue m cluster global.log global.made e.number p caller (queue_at old.flow p).messages desk) (sym (era_kept old.eras id p era other)) (was.parties.desks p other desk caller at_desk at_caller);
+    callers = was.parties.callers;
+    council = was.parties.council;
+    own = was.parties.own;
+    late = was.parties.late;
+  };
+}
+  where
+    era_there : (p : ℕ) → p ≤ old.greatest → (p ≡ id) ⊎ (p ≡ id → ⊥) → IsEraOf cluster (era_in (slice_set old.eras id era) p)
+    era_there p low (inl same) = subst (λ (q : ℕ). IsEraOf cluster (era_in (slice_set old.eras id era) q)) (sym same)
+        (subst (IsEraOf cluster) (sym (era_set old.eras id era (omega (arith, same, low, was.parties.few, places)))) is)
+    era_there p low (inr other) = subst (IsEraOf cluster) (sym (era_kept old.eras id p era other)) (was.parties.eras p low)
 
 -- what a step of the proposer leaves alone
 pub record Leaves {S V : Type 0} (old new : View S V) (id : ℕ) : Type 0 where

@@ -22,12 +22,12 @@ use Rattle.cas_record.proofs.CallLemmas.{begun_low}
 use Rattle.cas_record.proofs.LegalLemmas.{counted, is_numbered}
 use Rattle.cas_record.proofs.PlaceLemmas.{newest_or, stands_deeper}
 use Rattle.cas_record.proofs.Tests.{nat_is}
-use Rattle.cas_cluster.specs.History.{IsRemembered}
+use Rattle.cas_cluster.specs.History.{IsLogged}
 use Rattle.cas_cluster.specs.Parties.{AreReady, IsOpenTrue, IsCallTrue, IsCallerTrue}
 use Rattle.cas_cluster.specs.Protocol.{Made, GlobalState, Begins}
 use Rattle.cas_cluster.specs.StepCalls.{round_marks, Opens, first, again, opened, tried_again, with_call}
 use Rattle.cas_cluster.specs.View.{Meaning, View, CallView, CallerView, IsAt, new_call, era_at}
-use Rattle.cas_cluster.proofs.Around.{Whole, around, around_more, settles, whole_of, remembered, leaves_caller}
+use Rattle.cas_cluster.proofs.Around.{Whole, around, around_more, settles, whole_of, logged, leaves_caller}
 use Rattle.cas_cluster.proofs.Events.{keeps}
 use Rattle.cas_cluster.proofs.Others.{ProposesNot, FloorsNot, AsksToRide, ready_still, vault_still, messages_still}
 use Rattle.cas_cluster.proofs.Places.{own_set, some_is}
@@ -181,12 +181,12 @@ opens_again {S} {V} m cluster global old id caller call reserved at is_open idle
       late = whole.parties.late;
     })
 
-pub opens : {S V : Type 0} (m : Meaning S V) (old : View S V) (id : ℕ) (key : List ℕ) (program : List Clause) (new : View S V) → IsRemembered m old → Opens old id key program new → IsRemembered m new
-opens m old id key program new is (first caller at none room view) =
-    subst (IsRemembered m) (sym view) (remembered m is.cluster (begun_global is.global id (suc caller.number) key program) (opened old id caller key program)
-    (opens_first m is.cluster is.global old id key program caller at none (whole_of m old is)) (marked (marks_of is.global.log) old.marks (Begun id (suc caller.number) key program) is.agrees.marks))
-opens m old id key program new is (again caller call reserved at is_open same_key same_program unproposed met idle room some view) =
-    subst (IsRemembered m) (sym view) (remembered m is.cluster is.global (with_call old id caller (tried_again call reserved)) (opens_again m is.cluster is.global old id caller call reserved at is_open idle (whole_of m old is)) is.agrees.marks)
+pub opens : {S V : Type 0} {cluster : Cluster} (m : Meaning S V) (old : View S V) (id : ℕ) (key : List ℕ) (program : List Clause) (new : View S V) → IsLogged m cluster old → Opens old id key program new → IsLogged m cluster new
+opens {cluster = cluster} m old id key program new is (first caller at none room view) =
+    subst (IsLogged m cluster) (sym view) (logged m cluster (begun_global is.global id (suc caller.number) key program) (opened old id caller key program)
+    (opens_first m cluster is.global old id key program caller at none (whole_of m old is)) (marked (marks_of is.global.log) old.marks (Begun id (suc caller.number) key program) is.agrees.marks))
+opens {cluster = cluster} m old id key program new is (again caller call reserved at is_open same_key same_program unproposed met idle room some view) =
+    subst (IsLogged m cluster) (sym view) (logged m cluster is.global (with_call old id caller (tried_again call reserved)) (opens_again m cluster is.global old id caller call reserved at is_open idle (whole_of m old is)) is.agrees.marks)
 
 -- of a call that opens, or goes on, nothing was proposed and no acceptor harmed in this round, and marks are reserved for it
 pub record BeginsAnew (call : CallView) : Type 0 where

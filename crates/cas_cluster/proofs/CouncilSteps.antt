@@ -1,4 +1,4 @@
--- What the operator's calls do to what is remembered: a call is opened and told, all members are asked, they answer, and what they told
+-- What the operator's calls do to what is logged: a call is opened and told, all members are asked, they answer, and what they told
 -- is gathered.
 use Rattle.std.proofs.Common.{◌≡◌, ◌<◌, ℕ, suc, Bool, true, false, List, [], ◌∷◌, ◌++◌, Option, None, Some, reverse, refl, sym, ap, subst, ◌∙◌, inl, inr, arith}
 use Rattle.std.specs.Prelude.{◌⊎◌, ◌||◌, zero, map, position, option_map, slice_get, slice_set}
@@ -20,7 +20,7 @@ use Rattle.cas_vault.specs.Vault.{counter_of, kept_of}
 use Rattle.cas_slot.specs.declared.message.Reply.{Reply}
 use Rattle.cas_slot.specs.declared.message.Tell.{Tell}
 use Rattle.cas_record.specs.declared.operator.Probe.{Probe as Answered}
-use Rattle.cas_cluster.specs.Step.{broken_off_view}
+use Rattle.cas_cluster.specs.StepStops.{broken_off_view}
 use Rattle.cas_slot.specs.declared.message.Request.{Request}
 use Rattle.cas_record.specs.declared.mark.Mark.{Mark}
 use Rattle.cas_record.specs.declared.mark.Mark.TheVariants.{Told, Harmed}
@@ -36,15 +36,15 @@ use Rattle.cas_cluster.specs.StepFrames.{replied_flow, votes_marked}
 use Rattle.cas_cluster.proofs.AcceptorSteps.{answered_global, answers, reply_made, stops_within}
 use Rattle.cas_cluster.proofs.Harms.{member_low, has_member_of}
 use Rattle.cas_cluster.specs.Acceptors.{IsElsewhere}
-use Rattle.cas_cluster.specs.Council.{Question, Probe, ExchangeView, Council, no_council, exchange_place, telling, broken_off, crashed_in}
-use Rattle.cas_cluster.specs.History.{IsRemembered}
+use Rattle.cas_cluster.specs.Council.{Question, Probe, ExchangeView, Council, at_rest, exchange_place, telling, broken_off, crashed_in}
+use Rattle.cas_cluster.specs.History.{IsLogged}
 use Rattle.cas_cluster.specs.Parties.{AreMessagesTrue, IsEraOf, IsExchangeTrue, IsCouncilTrue, IsInHand, IsOpenTrue, IsDeskTrue, IsMessageTrue, WasMade, WereTold}
 use Rattle.cas_cluster.specs.Protocol.{GlobalState, HasHistory, Harms, TellsOperator, with_mark}
 use Rattle.cas_cluster.specs.StepDesks.{MayHaveDrawn, HasDrawn, LosesMemory, FailsToDraw}
 use Rattle.cas_cluster.specs.StepCouncil as council
-use Rattle.cas_cluster.specs.StepCouncil.{question_to, StepOrder, StepTell, StepGather, Gathers, with_council, with_exchange, told_view, gathered, told_marks, harm_marks, harmed_exchange, questions_to, everyone, new_exchange, awaits, hears, harms, MayAskAll, AsksAll, StepAskAll, TurnsExchange, StepTurnExchange, StepRefuseTurnExchange}
+use Rattle.cas_cluster.specs.StepCouncil.{question_to, StepOrder, told_over, StepGather, Gathers, with_council, with_exchange, told_view, gathered, told_marks, harm_marks, harmed_exchange, questions_to, everyone, new_exchange, awaits, hears, harms, MayAskAll, AsksAll, StepAskAll, TurnsExchange, StepTurnExchange, StepRefuseTurnExchange}
 use Rattle.cas_cluster.specs.View.{DiskMeaning, Meaning, View, CallerView, IsAt, era_at, with_desk, with_acceptor}
-use Rattle.cas_cluster.proofs.Around.{Whole, whole_of, remembered, around, settles, parties_more, Everyone, leaves_desk}
+use Rattle.cas_cluster.proofs.Around.{Whole, whole_of, logged, around, settles, parties_more, Everyone, leaves_desk}
 use Rattle.cas_cluster.proofs.Asks.{asked_log, asked_global, asked_around, asked_vault, asked_caller, asked_still, asked_hand, asked_later, asked_messages, asked_marks, asked_ready, may_probe}
 use Rattle.cas_cluster.proofs.Draws.{drew, drew_in_hand, drew_marks}
 use Rattle.cas_cluster.proofs.EndSteps.{lost, none_left, others_left, all_joined_true, IsQuiet, quiet_true, quiet_fails}
@@ -122,18 +122,18 @@ whole_more m cluster global view h others elsewhere history whole = record {
 }
 
 -- ---- the operator's call
-pub orders : {S V : Type 0} (m : Meaning S V) (old : View S V) (asked : OperatorAsked) (new : View S V) → IsRemembered m old → StepOrder old asked new → IsRemembered m new
-orders m old asked new is by =
-    subst (IsRemembered m) (sym by.view) (remembered m is.cluster is.global _ (counsels m is.cluster is.global old _ is.agrees.council (whole_of m old is)) is.agrees.marks)
+pub orders : {S V : Type 0} {cluster : Cluster} (m : Meaning S V) (old : View S V) (asked : OperatorAsked) (new : View S V) → IsLogged m cluster old → StepOrder old asked new → IsLogged m cluster new
+orders {cluster = cluster} m old asked new is by =
+    subst (IsLogged m cluster) (sym by.view) (logged m cluster is.global _ (counsels m cluster is.global old _ is.agrees.council (whole_of m old is)) is.agrees.marks)
 
 -- it is told something
 pub tells_view : {S V : Type 0} (m : Meaning S V) (cluster : Cluster) (global : GlobalState) (view : View S V) (answer : OpAnswer) → Whole m cluster global view → Whole m cluster global (told_view view answer)
 tells_view m cluster global view answer whole = counsels m cluster global view (telling view.council answer) whole.parties.council whole
 
 -- it is over, and so is an exchange
-closes : {S V : Type 0} (m : Meaning S V) (cluster : Cluster) (global : GlobalState) (old : View S V) → Whole m cluster global old → Whole m cluster global (record (with_council old no_council) { flow = abandoned old.flow exchange_place })
+closes : {S V : Type 0} (m : Meaning S V) (cluster : Cluster) (global : GlobalState) (old : View S V) → Whole m cluster global old → Whole m cluster global (record (with_council old (at_rest old.council)) { flow = abandoned old.flow exchange_place })
 closes m cluster global old whole =
-    counsels m cluster global (record old { flow = abandoned old.flow exchange_place }) no_council (λ exchange open_. absurd (cc open_))
+    counsels m cluster global (record old { flow = abandoned old.flow exchange_place }) (at_rest old.council) (λ exchange open_. absurd (cc open_))
     (reflows m cluster global old (abandoned old.flow exchange_place) (abandoned_flows global.log old.flow (whole.parties.own exchange_place) whole.parties.late) whole)
 
 -- the mark of what it was told, where it leaves one
@@ -164,23 +164,28 @@ told_to {S} {V} m cluster global view asked answer whole = by_case answer
     by_case (told.ProposerDown proposer) = marks (told.ProposerDown proposer)
     by_case (told.Stopped answer) = marks (told.Stopped answer)
 
-pub tells : {S V : Type 0} (m : Meaning S V) (old : View S V) (answer : OpAnswer) (new : View S V) → IsRemembered m old → StepTell old answer new → IsRemembered m new
-tells m old answer new is by =
-    let closed = closes m is.cluster is.global old (whole_of m old is) in
-    let told = told_to m is.cluster is.global _ by.order.asked answer closed in
-    subst (IsRemembered m) (sym by.view) (marked m is.cluster told.after (record (with_council old no_council) { flow = abandoned old.flow exchange_place }) (told_marks by.order.asked answer) (marks_of is.global.log) told.whole is.agrees.marks told.marks_are)
+-- it is over with that
+pub ends_told : {S V : Type 0} {cluster : Cluster} (m : Meaning S V) (old : View S V) (asked : OperatorAsked) (answer : OpAnswer) → IsLogged m cluster old → IsLogged m cluster (told_over old asked answer)
+ends_told {cluster = cluster} m old asked answer is =
+    let told = told_to m cluster is.global _ asked answer (closes m cluster is.global old (whole_of m old is)) in
+    marked m cluster told.after (record (with_council old (at_rest old.council)) { flow = abandoned old.flow exchange_place }) (told_marks asked answer) (marks_of is.global.log) told.whole is.agrees.marks told.marks_are
+
+-- the rest of what is under way may change as it likes
+pub counsels_by : {S V : Type 0} {cluster : Cluster} (m : Meaning S V) (old : View S V) (next : Council) → next.exchange ≡ old.council.exchange → IsLogged m cluster old → IsLogged m cluster (with_council old next)
+counsels_by {cluster = cluster} m old next same is =
+    logged m cluster is.global (with_council old next) (counsels m cluster is.global old next (λ exchange some. is.agrees.council exchange (sym same ∙ some)) (whole_of m old is)) is.agrees.marks
 
 -- ---- what was told is gathered
-pub gathers : {S V : Type 0} (m : Meaning S V) (old : View S V) (new : View S V) → IsRemembered m old → StepGather old new → IsRemembered m new
-gathers {S} {V} m old new is by = by_case by.gathers
+pub gathers : {S V : Type 0} {cluster : Cluster} (m : Meaning S V) (old : View S V) (new : View S V) → IsLogged m cluster old → StepGather old new → IsLogged m cluster new
+gathers {S} {V} {cluster} m old new is by = by_case by.gathers
   where
-    over : (answer : OpAnswer) → IsRemembered m (gathered old answer)
-    over answer = remembered m is.cluster is.global (gathered old answer) (counsels m is.cluster is.global old _ (λ exchange open_. absurd (cc open_)) (whole_of m old is)) is.agrees.marks
+    over : (answer : OpAnswer) → IsLogged m cluster (gathered old answer)
+    over answer = logged m cluster is.global (gathered old answer) (counsels m cluster is.global old _ (λ exchange open_. absurd (cc open_)) (whole_of m old is)) is.agrees.marks
 
-    by_case : Gathers old by.at.exchange new → IsRemembered m new
-    by_case (council.crashed crashed view) = subst (IsRemembered m) (sym view) (over _)
-    by_case (council.probed key found up question found_is view) = subst (IsRemembered m) (sym view) (over _)
-    by_case (council.no_memory up view) = subst (IsRemembered m) (sym view) (remembered m is.cluster is.global _ (tells_view m is.cluster is.global old _ (whole_of m old is)) is.agrees.marks)
+    by_case : Gathers old by.at.exchange new → IsLogged m cluster new
+    by_case (council.crashed crashed view) = subst (IsLogged m cluster) (sym view) (over _)
+    by_case (council.probed key found up question found_is view) = subst (IsLogged m cluster) (sym view) (over _)
+    by_case (council.no_memory up view) = subst (IsLogged m cluster) (sym view) (logged m cluster is.global _ (tells_view m cluster is.global old _ (whole_of m old is)) is.agrees.marks)
 
 -- ---- all members are asked
 -- a desk that drew a ballot for a tag, or none, is as one that lost its memory after a draw
@@ -274,45 +279,45 @@ none_told [] place answer told at is = cc at
 none_told (member ∷ members) zero answer told at is = cc (is, ap (λ (a : Answered). a.told) (some_is at))
 none_told (member ∷ members) (suc place) answer told at is = none_told members place answer told at is
 
-pub asks_all : {S V : Type 0} (m : Meaning S V) (old : View S V) (question : Question) (new : View S V) → m.disks.tells → IsRemembered m old → StepAskAll m old question new → IsRemembered m new
-asks_all {S} {V} m old (Probe key) new tells is by = by_case by.asks
+pub asks_all : {S V : Type 0} {cluster : Cluster} (m : Meaning S V) (old : View S V) (question : Question) (new : View S V) → m.disks.tells → IsLogged m cluster old → StepAskAll m old question new → IsLogged m cluster new
+asks_all {S} {V} {cluster} m old (Probe key) new tells is by = by_case by.asks
   where
     may : MayAskAll old (Probe key) by.desk
     may = by.may
 
-    whole : Whole m is.cluster is.global old
+    whole : Whole m cluster is.global old
     whole = whole_of m old is
 
     era : ℕ
     era = (era_at old 0).number
 
-    of : IsDeskTrue m is.cluster is.global.log is.global.made era 0 may.caller (queue_at old.flow 0).messages by.desk
+    of : IsDeskTrue m cluster is.global.log is.global.made era 0 may.caller (queue_at old.flow 0).messages by.desk
     of = whole.parties.desks 0 tt by.desk may.caller may.at_desk may.at_caller
 
-    era_is : IsEraOf is.cluster (era_at old 0)
+    era_is : IsEraOf cluster (era_at old 0)
     era_is = whole.parties.eras 0 (omega arith)
 
     -- a tag is drawn, or none
-    drawn_whole : (now : DeskView V) (tag : Option Ballot) → MayHaveDrawn m.disks by.desk.id by.desk.vault now.vault tag → now ≡ record by.desk { vault = now.vault } → Whole m is.cluster (drew is.global tag [] era) (with_desk old 0 now)
-    drawn_whole now tag drawn is_now = lost m is.cluster is.global old 0 [] by.desk now tag tells may.at_desk may.idle (drew_only m.disks by.desk now tag may.idle drawn is_now) may.caller may.at_caller whole
+    drawn_whole : (now : DeskView V) (tag : Option Ballot) → MayHaveDrawn m.disks by.desk.id by.desk.vault now.vault tag → now ≡ record by.desk { vault = now.vault } → Whole m cluster (drew is.global tag [] era) (with_desk old 0 now)
+    drawn_whole now tag drawn is_now = lost m cluster is.global old 0 [] by.desk now tag tells may.at_desk may.idle (drew_only m.disks by.desk now tag may.idle drawn is_now) may.caller may.at_caller whole
 
     -- the open call is told something
-    told_one : (view : View S V) (global : GlobalState) (answer : OpAnswer) → Whole m is.cluster global view → marks_of global.log ≡ reverse view.marks → IsRemembered m (told_view view answer)
-    told_one view global answer then_ marks = remembered m is.cluster global (told_view view answer) (tells_view m is.cluster global view answer then_) marks
+    told_one : (view : View S V) (global : GlobalState) (answer : OpAnswer) → Whole m cluster global view → marks_of global.log ≡ reverse view.marks → IsLogged m cluster (told_view view answer)
+    told_one view global answer then_ marks = logged m cluster global (told_view view answer) (tells_view m cluster global view answer then_) marks
 
     asked : (now : DeskView V) (tag : Ballot) (flow : FlowView) → HasDrawn m.disks by.desk.id by.desk.vault now.vault tag → now ≡ record by.desk { vault = now.vault }
         → Sends old.flow exchange_place (questions_to (kept_of by.desk.vault).age tag (Probe key) (everyone old)) flow
-        → IsRemembered m (with_exchange (record (with_desk old 0 now) { flow = flow }) (new_exchange (Probe key) tag (everyone old)))
+        → IsLogged m cluster (with_exchange (record (with_desk old 0 now) { flow = flow }) (new_exchange (Probe key) tag (everyone old)))
     asked now tag flow drawn is_now sends =
         let before : GlobalState = drew is.global (Some tag) [] era in
         let view : View S V = with_desk old 0 now in
         let age : ℕ = (kept_of by.desk.vault).age in
         let f : ℕ → Request = question_to age tag (Probe key) in
         let hand : IsInHand before.log 0 era [] tag =
-        drew_in_hand m is.cluster is.global 0 era [] by.desk.vault now.vault tag of.known (subst (λ (i : ℕ). HasDrawn m.disks i by.desk.vault now.vault tag) of.same_id drawn) of.vault whole.history in
-        let then_ : Whole m is.cluster (asked_global before f (everyone old)) view =
-        asks_whole m is.cluster before view age tag key (everyone old) now may.caller (at_set old.desks 0 by.desk now may.at_desk) may.at_caller (ap (λ (d : DeskView V). d.round) is_now ∙ may.idle) hand
-        (λ to h. let has = has_member_of to (everyone old) h in (member_in is.cluster (era_at old 0) to era_is has, member_low (everyone old) to (IsMemberSet-members_where (λ n. has_member (era_at old 0).prep n || has_member (era_at old 0).acc n)) has))
+        drew_in_hand m cluster is.global 0 era [] by.desk.vault now.vault tag of.known (subst (λ (i : ℕ). HasDrawn m.disks i by.desk.vault now.vault tag) of.same_id drawn) of.vault whole.history in
+        let then_ : Whole m cluster (asked_global before f (everyone old)) view =
+        asks_whole m cluster before view age tag key (everyone old) now may.caller (at_set old.desks 0 by.desk now may.at_desk) may.at_caller (ap (λ (d : DeskView V). d.round) is_now ∙ may.idle) hand
+        (λ to h. let has = has_member_of to (everyone old) h in (member_in cluster (era_at old 0) to era_is has, member_low (everyone old) to (IsMemberSet-members_where (λ n. has_member (era_at old 0).prep n || has_member (era_at old 0).acc n)) has))
         (drawn_whole now (Some tag) drawn is_now) in
         let log : List Happening = asked_log f (everyone old) before.log in
         let flows : ReFlows log old.flow flow = record {
@@ -324,25 +329,25 @@ asks_all {S} {V} m old (Probe key) new tells is by = by_case by.asks
           late = subst (AreMessagesTrue log) (sym sends.late) then_.parties.late;
         } in
         let moved : View S V = record view { flow = flow } in
-        remembered m is.cluster (asked_global before f (everyone old)) (with_exchange moved (new_exchange (Probe key) tag (everyone old)))
-        (counsels m is.cluster (asked_global before f (everyone old)) moved _ (λ exchange open_. subst (IsExchangeTrue log) (some_is open_) (record {
+        logged m cluster (asked_global before f (everyone old)) (with_exchange moved (new_exchange (Probe key) tag (everyone old)))
+        (counsels m cluster (asked_global before f (everyone old)) moved _ (λ exchange open_. subst (IsExchangeTrue log) (some_is open_) (record {
           own = hand.own;
           era = era;
           drawn = asked_later f (everyone old) before.log hand.drawn;
           told = λ place answer told at is_told. absurd (none_told (everyone old) place answer told at is_told);
-        })) (reflows m is.cluster (asked_global before f (everyone old)) view flow flows then_))
+        })) (reflows m cluster (asked_global before f (everyone old)) view flow flows then_))
         (asked_marks f (everyone old) before.log ∙ drew_marks is.global.log [] era (Some tag) ∙ is.agrees.marks)
 
-    by_case : AsksAll m old (Probe key) by.desk new → IsRemembered m new
-    by_case (council.asks now tag flow up room drawn is_now sends view) = subst (IsRemembered m) (sym view) (asked now tag flow drawn is_now sends)
-    by_case (council.is_down down view) = subst (IsRemembered m) (sym view) (told_one old is.global _ whole is.agrees.marks)
-    by_case (council.is_full up full view) = subst (IsRemembered m) (sym view) (told_one old is.global _ whole is.agrees.marks)
-    by_case (council.is_spent now up spent kept is_now view) = subst (IsRemembered m) (sym view) (told_one (with_desk old 0 now) is.global _ (drawn_whole now None kept is_now) is.agrees.marks)
+    by_case : AsksAll m old (Probe key) by.desk new → IsLogged m cluster new
+    by_case (council.asks now tag flow up room drawn is_now sends view) = subst (IsLogged m cluster) (sym view) (asked now tag flow drawn is_now sends)
+    by_case (council.is_down down view) = subst (IsLogged m cluster) (sym view) (told_one old is.global _ whole is.agrees.marks)
+    by_case (council.is_full up full view) = subst (IsLogged m cluster) (sym view) (told_one old is.global _ whole is.agrees.marks)
+    by_case (council.is_spent now up spent kept is_now view) = subst (IsLogged m cluster) (sym view) (told_one (with_desk old 0 now) is.global _ (drawn_whole now None kept is_now) is.agrees.marks)
     by_case (council.fails now up by_fault view) =
-        subst (IsRemembered m) (sym view) (told_one (with_desk old 0 now) is.global _ (fails_whole m is.cluster is.global old 0 [] by.desk now tells may.at_desk may.idle by_fault whole) is.agrees.marks)
+        subst (IsLogged m cluster) (sym view) (told_one (with_desk old 0 now) is.global _ (fails_whole m cluster is.global old 0 [] by.desk now tells may.at_desk may.idle by_fault whole) is.agrees.marks)
     by_case (council.no_memory now tag up by_loss view) =
-        subst (IsRemembered m) (sym view) (told_one (with_desk old 0 now) (drew is.global tag [] era) _
-        (lost m is.cluster is.global old 0 [] by.desk now tag tells may.at_desk may.idle by_loss may.caller may.at_caller whole) (drew_marks is.global.log [] era tag ∙ is.agrees.marks))
+        subst (IsLogged m cluster) (sym view) (told_one (with_desk old 0 now) (drew is.global tag [] era) _
+        (lost m cluster is.global old 0 [] by.desk now tag tells may.at_desk may.idle by_loss may.caller may.at_caller whole) (drew_marks is.global.log [] era tag ∙ is.agrees.marks))
 
 -- ---- a turn of the exchange
 -- a reply that was made tells what its sender told
@@ -378,7 +383,7 @@ taken_reflows log flow verdict e own late = let flows = taken_flows log flow exc
 
 harmed_turn : {S V : Type 0} (m : Meaning S V) (cluster : Cluster) (global : GlobalState) (view : View S V) (verdict : Verdict) (front : Message) (exchange : ExchangeView) (member : ℕ) (down : Bool) → view.council.exchange ≡ Some exchange
     → slice_get (queue_at view.flow exchange_place).messages 0 ≡ Some front → marks_of global.log ≡ reverse view.marks → Whole m cluster global view
-    → IsRemembered m (harms (record view { flow = taken view.flow exchange_place verdict }) exchange member down)
+    → IsLogged m cluster (harms (record view { flow = taken view.flow exchange_place verdict }) exchange member down)
 harmed_turn m cluster global view verdict front exchange member down is_open in_front marks whole =
     let is = harms_by m cluster global view exchange member down whole in
     let was = is.whole.parties.council exchange is_open in
@@ -388,13 +393,13 @@ harmed_turn m cluster global view verdict front exchange member down is_open in_
     (reflows m cluster is.after view (taken view.flow exchange_place verdict) (taken_reflows is.after.log view.flow verdict in_front (is.whole.parties.own exchange_place) is.whole.parties.late) is.whole))
     marks is.marks
 
-pub turns_exchange : {S V : Type 0} (m : Meaning S V) (old : View S V) (verdict : Verdict) (new : View S V) → m.shelves.tells → IsRemembered m old → StepTurnExchange m old verdict new → IsRemembered m new
-turns_exchange {S} {V} m old verdict new tells is step = by_turn step.turn
+pub turns_exchange : {S V : Type 0} {cluster : Cluster} (m : Meaning S V) (old : View S V) (verdict : Verdict) (new : View S V) → m.shelves.tells → IsLogged m cluster old → StepTurnExchange m old verdict new → IsLogged m cluster new
+turns_exchange {S} {V} {cluster} m old verdict new tells is step = by_turn step.turn
   where
     exchange : ExchangeView
     exchange = step.at.exchange
 
-    whole : Whole m is.cluster is.global old
+    whole : Whole m cluster is.global old
     whole = whole_of m old is
 
     in_front : {each : Message} → step.front ≡ each → slice_get (queue_at old.flow exchange_place).messages 0 ≡ Some each
@@ -403,54 +408,54 @@ turns_exchange {S} {V} m old verdict new tells is step = by_turn step.turn
     front_true : {each : Message} → step.front ≡ each → IsMessageTrue is.global.log each
     front_true {each} same = whole.parties.own exchange_place each (contains_at (queue_at old.flow exchange_place).messages 0 each (in_front same))
 
-    by_turn : TurnsExchange m old verdict step.front exchange new → IsRemembered m new
-    by_turn (council.held fall view) = subst (IsRemembered m) (sym view) is
-    by_turn (council.gone fall view) = subst (IsRemembered m) (sym view) (harmed_turn m is.cluster is.global old verdict step.front exchange _ false step.at.is_open step.waits is.agrees.marks whole)
+    by_turn : TurnsExchange m old verdict step.front exchange new → IsLogged m cluster new
+    by_turn (council.held fall view) = subst (IsLogged m cluster) (sym view) is
+    by_turn (council.gone fall view) = subst (IsLogged m cluster) (sym view) (harmed_turn m cluster is.global old verdict step.front exchange _ false step.at.is_open step.waits is.agrees.marks whole)
     by_turn (council.answers request acceptor now reply fall front at by view) =
         let answered = answered_global is.global request reply (m.shelves.contents now.shelf) in
-        let then_ = answers m is.cluster is.global old request reply acceptor now tells at by (front_true front) whole in
+        let then_ = answers m cluster is.global old request reply acceptor now tells at by (front_true front) whole in
         let flows = replied_flows answered.log old.flow exchange_place verdict reply (in_front front) (then_.parties.own exchange_place) then_.parties.late (reply_made m is.global request reply acceptor now by) in
-        subst (IsRemembered m) (sym view)
-        (marked m is.cluster answered (record (with_acceptor old request.to now) { flow = replied_flow old.flow exchange_place verdict reply }) (votes_marked request reply) (marks_of is.global.log)
-        (reflows m is.cluster answered (with_acceptor old request.to now) (replied_flow old.flow exchange_place verdict reply) (record { others = flows.others; own = flows.own; late = flows.late }) then_)
+        subst (IsLogged m cluster) (sym view)
+        (marked m cluster answered (record (with_acceptor old request.to now) { flow = replied_flow old.flow exchange_place verdict reply }) (votes_marked request reply) (marks_of is.global.log)
+        (reflows m cluster answered (with_acceptor old request.to now) (replied_flow old.flow exchange_place verdict reply) (record { others = flows.others; own = flows.own; late = flows.late }) then_)
         is.agrees.marks (answer_marks is.global request reply (m.shelves.contents now.shelf)))
     by_turn (council.finds_down request acceptor fall front at down view) =
-        subst (IsRemembered m) (sym view) (harmed_turn m is.cluster is.global old verdict step.front exchange _ true step.at.is_open step.waits is.agrees.marks whole)
+        subst (IsLogged m cluster) (sym view) (harmed_turn m cluster is.global old verdict step.front exchange _ true step.at.is_open step.waits is.agrees.marks whole)
     by_turn (council.brings_down request acceptor now fall front at by view) =
-        subst (IsRemembered m) (sym view)
-        (harmed_turn m is.cluster is.global (with_acceptor old request.to now) verdict step.front exchange _ true step.at.is_open step.waits is.agrees.marks
-        (stops_within m is.cluster is.global old request acceptor now tells at by (front_true front) whole))
+        subst (IsLogged m cluster) (sym view)
+        (harmed_turn m cluster is.global (with_acceptor old request.to now) verdict step.front exchange _ true step.at.is_open step.waits is.agrees.marks
+        (stops_within m cluster is.global old request acceptor now tells at by (front_true front) whole))
     by_turn (council.arrives reply fall front view) =
         let was = whole.parties.council exchange step.at.is_open in
         let moved = record old { flow = taken old.flow exchange_place verdict } in
-        subst (IsRemembered m) (sym view)
-        (remembered m is.cluster is.global (with_exchange moved (record exchange { told = hears reply exchange.told }))
-        (counsels m is.cluster is.global moved _ (λ other open_. subst (IsExchangeTrue is.global.log) (some_is open_) (record {
+        subst (IsLogged m cluster) (sym view)
+        (logged m cluster is.global (with_exchange moved (record exchange { told = hears reply exchange.told }))
+        (counsels m cluster is.global moved _ (λ other open_. subst (IsExchangeTrue is.global.log) (some_is open_) (record {
           own = was.own;
           era = was.era;
           drawn = was.drawn;
           told = heard_told is.global.log reply exchange.told (position (awaits reply.from) exchange.told) (front_true front) was.told;
-        })) (reflows m is.cluster is.global old (taken old.flow exchange_place verdict) (taken_reflows is.global.log old.flow verdict step.waits (whole.parties.own exchange_place) whole.parties.late) whole))
+        })) (reflows m cluster is.global old (taken old.flow exchange_place verdict) (taken_reflows is.global.log old.flow verdict step.waits (whole.parties.own exchange_place) whole.parties.late) whole))
         is.agrees.marks)
 
 -- the open call is told something
-pub told_remembered : {S V : Type 0} (m : Meaning S V) (view : View S V) (answer : OpAnswer) → IsRemembered m view → IsRemembered m (told_view view answer)
-told_remembered m view answer is = remembered m is.cluster is.global (told_view view answer) (tells_view m is.cluster is.global view answer (whole_of m view is)) is.agrees.marks
+pub told_remembered : {S V : Type 0} {cluster : Cluster} (m : Meaning S V) (view : View S V) (answer : OpAnswer) → IsLogged m cluster view → IsLogged m cluster (told_view view answer)
+told_remembered {cluster = cluster} m view answer is = logged m cluster is.global (told_view view answer) (tells_view m cluster is.global view answer (whole_of m view is)) is.agrees.marks
 
 -- no memory was found for one
-pub refuses_exchange : {S V : Type 0} (m : Meaning S V) (old : View S V) (new : View S V) → m.shelves.tells → IsRemembered m old → StepRefuseTurnExchange m old new → IsRemembered m new
-refuses_exchange m old new tells is step =
-    subst (IsRemembered m) (sym step.view) (told_remembered m step.middle _ (refuses_stray m old step.middle tells is step.refuses))
+pub refuses_exchange : {S V : Type 0} {cluster : Cluster} (m : Meaning S V) (old : View S V) (new : View S V) → m.shelves.tells → IsLogged m cluster old → StepRefuseTurnExchange m old new → IsLogged m cluster new
+refuses_exchange {cluster = cluster} m old new tells is step =
+    subst (IsLogged m cluster) (sym step.view) (told_remembered m step.middle _ (refuses_stray m old step.middle tells is step.refuses))
 
 -- ---- proposer 0 crashes within it
 broken_true : (log : List Happening) (open_ : Option ExchangeView) → ((exchange : ExchangeView) → open_ ≡ Some exchange → IsExchangeTrue log exchange) → (exchange : ExchangeView) → option_map broken_off open_ ≡ Some exchange → IsExchangeTrue log exchange
 broken_true log None were exchange e = absurd (cc e)
 broken_true log (Some was) were exchange e = let is = were was refl in subst (IsExchangeTrue log) (some_is e) (record { own = is.own; era = is.era; drawn = is.drawn; told = is.told })
 
-pub breaks_off : {S V : Type 0} (m : Meaning S V) (old : View S V) → IsRemembered m old → IsRemembered m (broken_off_view old)
-breaks_off m old is =
+pub breaks_off : {S V : Type 0} {cluster : Cluster} (m : Meaning S V) (old : View S V) → IsLogged m cluster old → IsLogged m cluster (broken_off_view old)
+breaks_off {cluster = cluster} m old is =
     let whole = whole_of m old is in
-    remembered m is.cluster is.global (broken_off_view old)
-    (counsels m is.cluster is.global (record old { flow = abandoned old.flow exchange_place }) (crashed_in old.council) (broken_true is.global.log old.council.exchange whole.parties.council)
-    (reflows m is.cluster is.global old (abandoned old.flow exchange_place) (abandoned_flows is.global.log old.flow (whole.parties.own exchange_place) whole.parties.late) whole))
+    logged m cluster is.global (broken_off_view old)
+    (counsels m cluster is.global (record old { flow = abandoned old.flow exchange_place }) (crashed_in old.council) (broken_true is.global.log old.council.exchange whole.parties.council)
+    (reflows m cluster is.global old (abandoned old.flow exchange_place) (abandoned_flows is.global.log old.flow (whole.parties.own exchange_place) whole.parties.late) whole))
     is.agrees.marks

@@ -1,7 +1,7 @@
 -- What was proposed is counted, and a call ends; a desk is up again.
 use Rattle.std.proofs.Common.{◌≡◌, ℕ, true, List, [], Option, None, Some, refl, sym, ap, subst, ◌∙◌, inl, inr}
 use Rattle.std.specs.Prelude.{◌⊎◌, ◌&&◌, not}
-use Rattle.cas_base.proofs.Bools.{true_or_false, and_right}
+use Rattle.cas_base.proofs.Bools.{and_right}
 use Rattle.cas_ballot.specs.declared.ballot.Ballot.{Ballot}
 use Rattle.cas_ballot.proofs.BallotLemmas.{at_most_of_less}
 use Rattle.cas_cache.specs.declared.ready.Ready.{Ready}
@@ -27,12 +27,12 @@ use Rattle.cas_record.specs.Lawful.{Cluster, ClusterMeets}
 use Rattle.cas_record.specs.Legal.{IsBegun, IsEnded, IsAcked}
 use Rattle.cas_record.specs.Places.{here}
 use Rattle.cas_record.proofs.LogLemmas.{mark_at}
-use Rattle.cas_cluster.specs.Parties.{AreMessagesTrue, IsEraOf, AreReady, IsHeldReady, HaveOneEach, IsAcceptTrue, IsDeskTrue, IsDoneTrue, IsToldTrue, IsCallTrue, IsCallerTrue, IsVaultTrue}
+use Rattle.cas_cluster.specs.Parties.{AreMessagesTrue, IsEraOf, AreReady, IsHeldReady, HaveOneEach, IsAcceptTrue, IsDeskTrue, IsDoneTrue, IsToldTrue, IsCallTrue, IsCallerTrue}
 use Rattle.cas_cluster.specs.Protocol.{Made, GlobalState, HasHistory, Counts, EndsDone, EndsElse, with_mark}
 use Rattle.cas_cluster.specs.StepCalls.{offered_by, over, with_call}
-use Rattle.cas_cluster.specs.StepDesks.{EndsRound, Restarts}
+use Rattle.cas_cluster.specs.StepDesks.{EndsRound}
 use Rattle.cas_cluster.specs.View.{Meaning, View, CallView, CallerView, IsAt, with_desk, with_caller, era_at}
-use Rattle.cas_cluster.proofs.Around.{Whole, around, around_more, settles, leaves_both, leaves_desk}
+use Rattle.cas_cluster.proofs.Around.{Whole, around, around_more, settles, leaves_both}
 use Rattle.cas_cluster.proofs.Caches.{IsKeptOr, kept, held, kept_or_held, one_after}
 use Rattle.cas_cluster.proofs.Draws.{vault_goes_on}
 use Rattle.cas_cluster.proofs.EndSteps.{IsQuiet, quiet_true, quiet_ends, quiets, call_told, none_left, others_left, all_joined_true}
@@ -242,42 +242,3 @@ ends_call {S} {V} m cluster global old id caller call told desk now tells at_cal
       one_each = quiet.one_each;
       none_open = quiet.none_open;
     }
-
--- ---- a desk is up again, or stays down
-one_of : {A : Type 0} → A ⊎ A → A
-one_of (inl x) = x
-one_of (inr x) = x
-
-vault_restarts : {V S : Type 0} (m : Meaning S V) (log : List Happening) (id era : ℕ) {desk now : DeskView V} → m.disks.tells → Restarts m.disks desk now → IsVaultTrue m log id era desk.vault → IsVaultTrue m log id era now.vault
-vault_restarts m log id era {desk} {now} tells by was = record {
-  past = λ ballot key e drawn own. by.still_past tells ballot.counter (was.past ballot key e drawn own);
-  past_floors = λ key floor has. by.still_past tells floor.counter (was.past_floors key floor has);
-  in_era = elim (true_or_false now.down) [
-    | inl down ↦ by.stays down tells era era was.in_era
-    | inr up ↦ one_of (by.shows up tells era era was.in_era)
-  ];
-  is_in = was.is_in;
-  not_beyond = was.not_beyond;
-}
-
-pub restarts : {S V : Type 0} (m : Meaning S V) (cluster : Cluster) (global : GlobalState) (old : View S V) (id : ℕ) (desk now : DeskView V) → m.disks.tells → IsAt old.desks id desk → Restarts m.disks desk now
-    → Whole m cluster global old → Whole m cluster global (with_desk old id now)
-restarts {S} {V} m cluster global old id desk now tells at_desk by whole =
-    settles m cluster global old (with_desk old id now) id (around m cluster global old id whole)
-    (leaves_desk old id now _ (λ p other. refl))
-    (record {
-      desk = λ d c at_d at_c.
-          let of = whole.parties.desks id tt desk c at_desk at_c in
-          subst (λ (x : DeskView V). IsDeskTrue m cluster global.log global.made (era_at old id).number id c (queue_at old.flow id).messages x) (sym (own_set old.desks id now d at_d ∙ by.desk)) (record {
-            same_id = of.same_id;
-            known = of.known;
-            vault = vault_restarts m global.log id (era_at old id).number tells by of.vault;
-            cached = of.cached;
-            one_each = of.one_each;
-            none_open = of.none_open;
-            round = of.round;
-          });
-      caller = λ c at_c. whole.parties.callers id tt c at_c;
-      own = whole.parties.own id;
-      late = whole.parties.late;
-    })

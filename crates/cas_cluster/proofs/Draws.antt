@@ -29,7 +29,6 @@ pub vault_goes_on : {S V : Type 0} (m : Meaning S V) (log : List Happening) (id 
 vault_goes_on m log id era tells on was = record {
   past = λ ballot key e stands own. on.still_past tells ballot.counter (was.past ballot key e stands own);
   past_floors = λ key floor has. on.still_past tells floor.counter (was.past_floors key floor has);
-  in_era = on.era tells era era was.in_era;
   is_in = was.is_in;
   not_beyond = was.not_beyond;
 }
@@ -65,7 +64,6 @@ drew_vault m log id era key old new (Some ballot) tells by was =
         | inr before ↦ on.past b k e before own
       ];
       past_floors = on.past_floors;
-      in_era = on.in_era;
       is_in = elim on.is_in [ inl first ↦ inl first | inr entered ↦ inr (later entered) ];
       not_beyond = λ stands. elim (newest_or stands) [
         | inl now ↦ absurd (cc now)

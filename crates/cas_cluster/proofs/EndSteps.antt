@@ -29,7 +29,7 @@ use Rattle.cas_record.specs.Orderly.{Orderly}
 use Rattle.cas_cluster.specs.Parties.{AreMessagesTrue, IsEraOf, IsVaultTrue, AreReady, HaveOneEach, HasNone, IsPrepareTrue, IsAcceptTrue, IsOpenTrue, IsDeskTrue, IsToldTrue, IsCallTrue, IsCallerTrue, asked_in}
 use Rattle.cas_cluster.specs.Protocol.{Made, GlobalState}
 use Rattle.cas_cluster.specs.StepCalls.{IsNoBeginning, over, with_call, refusal_by, cause_by}
-use Rattle.cas_cluster.specs.StepDesks.{GoesOn, MayHaveDrawn, EndsRound, FailsToDraw, LosesMemory, Crashes}
+use Rattle.cas_cluster.specs.StepDesks.{GoesOn, MayHaveDrawn, EndsRound, FailsToDraw, LosesMemory}
 use Rattle.cas_cluster.specs.View.{Meaning, View, CallView, CallerView, IsAt, with_desk, era_at}
 use Rattle.cas_cluster.proofs.Around.{Whole, Around, around, settles, leaves_both, leaves_desk}
 use Rattle.cas_cluster.proofs.Caches.{contains_without, ready_fewer, one_without}
@@ -181,17 +181,6 @@ quiet_ends {S} {V} m cluster log all id era caller waiting desk now round tells 
       none_open = ap (λ (d : DeskView V). d.round) by.desk;
     }
 
-pub quiet_crashes : {S V : Type 0} (m : Meaning S V) (cluster : Cluster) (log : List Happening) (all : List Made) (id era : ℕ) (caller : CallerView) (waiting : List Message) (desk now : DeskView V) → m.disks.tells
-    → IsDeskTrue m cluster log all era id caller waiting desk → Crashes m.disks desk now → IsQuiet m cluster log all id era now
-quiet_crashes {S} {V} m cluster log all id era caller waiting desk now tells of by = record {
-  same_id = ap (λ (d : DeskView V). d.id) by.crashed ∙ of.same_id;
-  known = of.known;
-  vault = vault_goes_on m log id era tells by.goes_on of.vault;
-  cached = subst (AreReady cluster log all id era) (sym (ap (λ (d : DeskView V). d.cache) by.crashed)) (λ key ready h. absurd (contains_none h));
-  one_each = subst HaveOneEach (sym (ap (λ (d : DeskView V). d.cache) by.crashed)) tt;
-  none_open = ap (λ (d : DeskView V). d.round) by.crashed;
-}
-
 -- ---- the view then
 -- the proposer's round is closed, its frames are gone, and its caller is told how
 pub quiets : {S V : Type 0} (m : Meaning S V) (cluster : Cluster) (global : GlobalState) (old : View S V) (id : ℕ) (caller : CallerView) (call : CallView) (now : DeskView V) (flow : FlowView)
@@ -305,12 +294,3 @@ lost {S} {V} m cluster global old id key desk now ballot tells at_desk idle by c
       own = drew_messages global.log (queue_at old.flow id).messages key era ballot (whole.parties.own id);
       late = drew_messages global.log old.flow.late key era ballot whole.parties.late;
     })
-
--- ---- a desk stops
-pub crashes_desk : {S V : Type 0} (m : Meaning S V) (cluster : Cluster) (global : GlobalState) (old : View S V) (id : ℕ) (caller : CallerView) (call new : CallView) (desk now : DeskView V) → m.disks.tells
-    → IsAt old.callers id caller → caller.call ≡ Some call → IsAt old.desks id desk → Crashes m.disks desk now → IsCallTrue global.log global.made id caller.number new
-    → Whole m cluster global old → Whole m cluster global (record (with_call (with_desk old id now) id caller new) { flow = abandoned old.flow id })
-crashes_desk m cluster global old id caller call new desk now tells at_caller is_open at_desk by call_true whole =
-    quiets m cluster global old id caller new now (abandoned old.flow id) (around m cluster global old id whole) (whole.parties.callers id tt caller at_caller) call_true
-    (quiet_crashes m cluster global.log global.made id (era_at old id).number caller (queue_at old.flow id).messages desk now tells (whole.parties.desks id tt desk caller at_desk at_caller) by)
-    (none_left old.flow id) (others_left old.flow id) (all_joined_true global.log (queue_at old.flow id).messages old.flow.late (whole.parties.own id) whole.parties.late)

@@ -44,7 +44,7 @@ use Rattle.cas_record.specs.Lawful.{Cluster}
 use Rattle.cas_record.specs.Legal.{harms_of}
 use Rattle.cas_record.proofs.Tests.{nat_is, ballot_is, call_is}
 use Rattle.cas_cluster.specs.Acceptors.{votes_of}
-use Rattle.cas_cluster.specs.History.{IsRemembered}
+use Rattle.cas_cluster.specs.History.{IsLogged}
 use Rattle.cas_cluster.specs.Parties.{HasNone, WasMade, IsMessageTrue, AreMessagesTrue, WereMade, asked_in, IsOfPhase, IsAccountedFor, heard, waits, was_harmed, IsPhaseHeard, IsRoundTrue, IsOpenTrue, IsDeskTrue, IsToldTrue, IsCallTrue, IsCallerTrue}
 use Rattle.cas_cluster.specs.Protocol.{Made, GlobalState, HasHistory, Harms}
 use Rattle.cas_cluster.specs.Step.{StepTurn, StepRefuseTurn, StepStray}
@@ -55,7 +55,7 @@ use Rattle.cas_cluster.specs.StepFrames as frames
 use Rattle.cas_cluster.specs.StepFrames.{TakesTurn, FindsNoRoom, Strays, silent, marking, votes_marked, harmed_by, harms_marked, harmed_view, replied_flow, without_late, with_late}
 use Rattle.cas_cluster.specs.View.{Meaning, View, CallView, CallerView, IsAt, with_acceptor, with_desk, with_marks, era_at}
 use Rattle.cas_cluster.proofs.AcceptorSteps.{answers, answered_global, answered_marks, reply_made, stops_within, finds_none}
-use Rattle.cas_cluster.proofs.Around.{parties_more, Whole, whole_of, remembered, around, settles, Everyone, leaves_caller, leaves_desk, parties_seen, Everyone}
+use Rattle.cas_cluster.proofs.Around.{parties_more, Whole, whole_of, logged, around, settles, Everyone, leaves_caller, leaves_desk, parties_seen, Everyone}
 use Rattle.cas_cluster.proofs.Events.{keeps}
 use Rattle.cas_cluster.proofs.Others.{calls_of_others, call_still, acceptor_still}
 use Rattle.cas_cluster.proofs.Places.{same_or_not, some_is, own_set, queue_same, queue_other, has_queue, contains_new, contains_older, newest_or_older, contains_none, contains_append, contains_front, contains_back, contains_take, contains_drop, contains_at}
@@ -444,8 +444,8 @@ relates m cluster global old late is whole = record {
 
 -- the record goes on, and the log tells it
 pub marked : {S V : Type 0} (m : Meaning S V) (cluster : Cluster) (global : GlobalState) (view : View S V) (marks before : List Mark) → Whole m cluster global view
-    → before ≡ reverse view.marks → marks_of global.log ≡ reverse marks ++ before → IsRemembered m (with_marks view marks)
-marked m cluster global view marks before whole was goes = remembered m cluster global (with_marks view marks) (record {
+    → before ≡ reverse view.marks → marks_of global.log ≡ reverse marks ++ before → IsLogged m cluster (with_marks view marks)
+marked m cluster global view marks before whole was goes = logged m cluster global (with_marks view marks) (record {
   meets = whole.meets;
   history = whole.history;
   acceptors = whole.acceptors;
@@ -569,7 +569,7 @@ taken_flows log flow id verdict e own late = record {
 -- it is harmed, and its acceptor counts as harmed from then on
 harms_turn : {S V : Type 0} (m : Meaning S V) (cluster : Cluster) (global : GlobalState) (old : View S V) (id : ℕ) (verdict : Verdict) (front : Message) (caller : CallerView) (call : CallView) (down : Bool) → IsAt old.callers id caller → caller.call ≡ Some call
     → slice_get (queue_at old.flow id).messages 0 ≡ Some front → marks_of global.log ≡ reverse old.marks → Whole m cluster global old
-    → IsRemembered m (harmed_view (record old { flow = taken old.flow id verdict }) id caller call (head_of front).1 down)
+    → IsLogged m cluster (harmed_view (record old { flow = taken old.flow id verdict }) id caller call (head_of front).1 down)
 harms_turn m cluster global old id verdict front caller call down at is_open in_front marks whole =
     marked m cluster is.after (record (with_call old id caller (harmed_by call (head_of front).1)) { flow = taken old.flow id verdict }) (harms_marked id caller.number call (head_of front).1 down) (marks_of global.log)
     (moves m cluster is.after old id caller call (harmed_by call (head_of front).1) (taken old.flow id verdict) at is_open refl refl is.is_call
@@ -641,7 +641,7 @@ answer_marks global request reply new = answered_marks global request reply new 
 answers_turn : {S V : Type 0} (m : Meaning S V) (cluster : Cluster) (global : GlobalState) (old : View S V) (id : ℕ) (verdict : Verdict) (request : Request) (caller : CallerView) (call : CallView) (acceptor now : AcceptorView S) (reply : Reply) → m.shelves.tells
     → IsAt old.callers id caller → caller.call ≡ Some call → slice_get (queue_at old.flow id).messages 0 ≡ Some (message.Request request) → IsAt old.acceptors request.to acceptor → AnswersByTable m.shelves acceptor now request reply
     → marks_of global.log ≡ reverse old.marks → Whole m cluster global old
-    → IsRemembered m (with_marks (record (with_call (with_acceptor old request.to now) id caller (marking call (length (votes_marked request reply)))) { flow = replied_flow old.flow id verdict reply }) (votes_marked request reply))
+    → IsLogged m cluster (with_marks (record (with_call (with_acceptor old request.to now) id caller (marking call (length (votes_marked request reply)))) { flow = replied_flow old.flow id verdict reply }) (votes_marked request reply))
 answers_turn {S} {V} m cluster global old id verdict request caller call acceptor now reply tells at is_open in_front at_acceptor by marks whole =
     marked m cluster answered (record (with_call (with_acceptor old request.to now) id caller (marking call (length (votes_marked request reply)))) { flow = replied_flow old.flow id verdict reply }) (votes_marked request reply) (marks_of global.log)
     (moves m cluster answered (with_acceptor old request.to now) id caller call (marking call (length (votes_marked request reply))) (replied_flow old.flow id verdict reply) at is_open refl refl
@@ -698,8 +698,8 @@ arrives_turn {S} {V} m cluster global old id verdict reply caller call desk now 
 
 -- ---- turns
 -- A cluster that has a history has one after the turn of a proposer's first own frame, whatever becomes of it.
-pub turns : {S V : Type 0} (m : Meaning S V) (old : View S V) (id : ℕ) (verdict : Verdict) (new : View S V) → m.shelves.tells → IsRemembered m old → StepTurn m old id verdict new → IsRemembered m new
-turns {S} {V} m old id verdict new tells is step = by_turn step.turn
+pub turns : {S V : Type 0} {cluster : Cluster} (m : Meaning S V) (old : View S V) (id : ℕ) (verdict : Verdict) (new : View S V) → m.shelves.tells → IsLogged m cluster old → StepTurn m old id verdict new → IsLogged m cluster new
+turns {S} {V} {cluster} m old id verdict new tells is step = by_turn step.turn
   where
     caller : CallerView
     caller = step.of_call.caller
@@ -707,49 +707,49 @@ turns {S} {V} m old id verdict new tells is step = by_turn step.turn
     call : CallView
     call = step.of_call.call
 
-    whole : Whole m is.cluster is.global old
+    whole : Whole m cluster is.global old
     whole = whole_of m old is
 
     -- the frame in front, where it is told which one it is
     in_front : {each : Message} → step.front ≡ each → slice_get (queue_at old.flow id).messages 0 ≡ Some each
     in_front same = step.waits ∙ ap (λ (each : Message). Some each) same
 
-    by_turn : TakesTurn m old id verdict step.front step.of_call.caller step.of_call.call new → IsRemembered m new
-    by_turn (frames.held fall e) = subst (IsRemembered m) (sym e) is
+    by_turn : TakesTurn m old id verdict step.front step.of_call.caller step.of_call.call new → IsLogged m cluster new
+    by_turn (frames.held fall e) = subst (IsLogged m cluster) (sym e) is
     by_turn (frames.gone fall e) =
-        subst (IsRemembered m) (sym e) (harms_turn m is.cluster is.global old id verdict step.front caller call false step.of_call.at_caller step.of_call.is_open step.waits is.agrees.marks whole)
+        subst (IsLogged m cluster) (sym e) (harms_turn m cluster is.global old id verdict step.front caller call false step.of_call.at_caller step.of_call.is_open step.waits is.agrees.marks whole)
     by_turn (frames.answers request acceptor now reply fall front at by e) =
-        subst (IsRemembered m) (sym e)
-        (answers_turn m is.cluster is.global old id verdict request caller call acceptor now reply tells step.of_call.at_caller step.of_call.is_open (in_front front) at by is.agrees.marks whole)
+        subst (IsLogged m cluster) (sym e)
+        (answers_turn m cluster is.global old id verdict request caller call acceptor now reply tells step.of_call.at_caller step.of_call.is_open (in_front front) at by is.agrees.marks whole)
     by_turn (frames.finds_down request acceptor fall front at down e) =
-        subst (IsRemembered m) (sym e)
-        (harms_turn m is.cluster is.global old id verdict (message.Request request) caller call true step.of_call.at_caller step.of_call.is_open (in_front front) is.agrees.marks whole)
+        subst (IsLogged m cluster) (sym e)
+        (harms_turn m cluster is.global old id verdict (message.Request request) caller call true step.of_call.at_caller step.of_call.is_open (in_front front) is.agrees.marks whole)
     by_turn (frames.brings_down request acceptor now fall front at by e) =
-        subst (IsRemembered m) (sym e)
-        (harms_turn m is.cluster is.global (with_acceptor old request.to now) id verdict (message.Request request) caller call true step.of_call.at_caller step.of_call.is_open (in_front front) is.agrees.marks
-        (stops_within m is.cluster is.global old request acceptor now tells at by
+        subst (IsLogged m cluster) (sym e)
+        (harms_turn m cluster is.global (with_acceptor old request.to now) id verdict (message.Request request) caller call true step.of_call.at_caller step.of_call.is_open (in_front front) is.agrees.marks
+        (stops_within m cluster is.global old request acceptor now tells at by
         (whole.parties.own id (message.Request request) (contains_at (queue_at old.flow id).messages 0 (message.Request request) (in_front front))) whole))
     by_turn (frames.arrives reply desk now round next fall front at has_round by e) =
-        subst (IsRemembered m) (sym e)
-        (remembered m is.cluster is.global (record (with_call (with_desk old id now) id caller (silent call)) { flow = taken old.flow id verdict })
-        (arrives_turn m is.cluster is.global old id verdict reply caller call desk now round next step.of_call.at_caller step.of_call.is_open (in_front front) at has_round by whole)
+        subst (IsLogged m cluster) (sym e)
+        (logged m cluster is.global (record (with_call (with_desk old id now) id caller (silent call)) { flow = taken old.flow id verdict })
+        (arrives_turn m cluster is.global old id verdict reply caller call desk now round next step.of_call.at_caller step.of_call.is_open (in_front front) at has_round by whole)
         is.agrees.marks)
 
 -- ---- no memory
 -- It has one where no memory was found: nothing changed, or an acceptor keeps what it kept.
-pub refuses_stray : {S V : Type 0} (m : Meaning S V) (old new : View S V) → m.shelves.tells → IsRemembered m old → FindsNoRoom m old new → IsRemembered m new
-refuses_stray m old new tells is (frames.stays e) = subst (IsRemembered m) (sym e) is
-refuses_stray m old new tells is (frames.kept id acceptor now at by e) =
-    subst (IsRemembered m) (sym e)
-    (remembered m is.cluster is.global (with_acceptor old id now) (finds_none m is.cluster is.global old id acceptor now tells at by (whole_of m old is)) is.agrees.marks)
+pub refuses_stray : {S V : Type 0} {cluster : Cluster} (m : Meaning S V) (old new : View S V) → m.shelves.tells → IsLogged m cluster old → FindsNoRoom m old new → IsLogged m cluster new
+refuses_stray {cluster = cluster} m old new tells is (frames.stays e) = subst (IsLogged m cluster) (sym e) is
+refuses_stray {cluster = cluster} m old new tells is (frames.kept id acceptor now at by e) =
+    subst (IsLogged m cluster) (sym e)
+    (logged m cluster is.global (with_acceptor old id now) (finds_none m cluster is.global old id acceptor now tells at by (whole_of m old is)) is.agrees.marks)
 
 same_callers : {S V : Type 0} (m : Meaning S V) (old new : View S V) → FindsNoRoom m old new → new.callers ≡ old.callers
 same_callers {S} {V} m old new (frames.stays e) = ap (λ (v : View S V). v.callers) e
 same_callers {S} {V} m old new (frames.kept id acceptor now at by e) = ap (λ (v : View S V). v.callers) e
 
 -- And it has one where the caller of a frame that was refused is told so.
-pub refuses_turn : {S V : Type 0} (m : Meaning S V) (old : View S V) (id : ℕ) (new : View S V) → m.shelves.tells → IsRemembered m old → StepRefuseTurn m old id new → IsRemembered m new
-refuses_turn {S} {V} m old id new tells is step =
+pub refuses_turn : {S V : Type 0} {cluster : Cluster} (m : Meaning S V) (old : View S V) (id : ℕ) (new : View S V) → m.shelves.tells → IsLogged m cluster old → StepRefuseTurn m old id new → IsLogged m cluster new
+refuses_turn {S} {V} {cluster} m old id new tells is step =
     let caller = step.of_call.caller in
     let call = step.of_call.call in
     let middle = step.middle in
@@ -757,9 +757,9 @@ refuses_turn {S} {V} m old id new tells is step =
     let whole = whole_of m middle was in
     let at : IsAt middle.callers id caller = subst (λ (l : List CallerView). IsAt l id caller) (sym (same_callers m old middle step.refuses)) step.of_call.at_caller in
     let told = telling call (answer.NoMemory (is_some call.proposed)) in
-    subst (IsRemembered m) (sym step.view)
-    (remembered m was.cluster was.global (with_call middle id caller told)
-    (moves m was.cluster was.global middle id caller call told middle.flow at step.of_call.is_open refl refl
+    subst (IsLogged m cluster) (sym step.view)
+    (logged m cluster was.global (with_call middle id caller told)
+    (moves m cluster was.global middle id caller call told middle.flow at step.of_call.is_open refl refl
     (none_told was.global.log was.global.made id caller.number call ((whole.parties.callers id tt caller at).call call step.of_call.is_open))
     (record { others = λ p other. refl; own = whole.parties.own id; late = whole.parties.late; idle = λ none. none })
     (λ round replies has. has) whole)
@@ -767,40 +767,40 @@ refuses_turn {S} {V} m old id new tells is step =
 
 -- ---- strays
 -- It has one after a late frame strayed in.
-pub strays : {S V : Type 0} (m : Meaning S V) (old : View S V) (index : ℕ) (new : View S V) → m.shelves.tells → IsRemembered m old → StepStray m old index new → IsRemembered m new
-strays {S} {V} m old index new tells is step = by_stray step.strays
+pub strays : {S V : Type 0} {cluster : Cluster} (m : Meaning S V) (old : View S V) (index : ℕ) (new : View S V) → m.shelves.tells → IsLogged m cluster old → StepStray m old index new → IsLogged m cluster new
+strays {S} {V} {cluster} m old index new tells is step = by_stray step.strays
   where
-    whole : Whole m is.cluster is.global old
+    whole : Whole m cluster is.global old
     whole = whole_of m old is
 
     -- what bears the late frame is as the log tells
     late_one : {each : Message} → step.late ≡ each → IsMessageTrue is.global.log each
     late_one {each} same = whole.parties.late each (contains_at old.flow.late index each (step.waits ∙ ap (λ (x : Message). Some x) same))
 
-    by_stray : Strays m old index step.late new → IsRemembered m new
+    by_stray : Strays m old index step.late new → IsLogged m cluster new
     by_stray (frames.answers request acceptor now reply late at by e) =
         let answered = answered_global is.global request reply (m.shelves.contents now.shelf) in
-        let whole_then = answers m is.cluster is.global old request reply acceptor now tells at by (late_one late) whole in
-        subst (IsRemembered m) (sym e)
-        (marked m is.cluster answered (record (with_acceptor old request.to now) { flow = with_late (without_late old.flow index) (message.Reply reply) }) (votes_marked request reply) (marks_of is.global.log)
-        (relates m is.cluster answered (with_acceptor old request.to now) (joined (without_late old.flow index).late (message.Reply reply))
+        let whole_then = answers m cluster is.global old request reply acceptor now tells at by (late_one late) whole in
+        subst (IsLogged m cluster) (sym e)
+        (marked m cluster answered (record (with_acceptor old request.to now) { flow = with_late (without_late old.flow index) (message.Reply reply) }) (votes_marked request reply) (marks_of is.global.log)
+        (relates m cluster answered (with_acceptor old request.to now) (joined (without_late old.flow index).late (message.Reply reply))
         (joined_true answered.log (without_late old.flow index).late (message.Reply reply) (without_true answered.log old.flow index whole_then.parties.late) (reply_made m is.global request reply acceptor now by)) whole_then)
         is.agrees.marks (answer_marks is.global request reply (m.shelves.contents now.shelf)))
     by_stray (frames.brings_down request acceptor now late at by e) =
-        subst (IsRemembered m) (sym e)
-        (remembered m is.cluster is.global (record (with_acceptor old request.to now) { flow = without_late old.flow index })
-        (relates m is.cluster is.global (with_acceptor old request.to now) (without_late old.flow index).late (without_true is.global.log old.flow index whole.parties.late)
-        (stops_within m is.cluster is.global old request acceptor now tells at by (late_one late) whole))
+        subst (IsLogged m cluster) (sym e)
+        (logged m cluster is.global (record (with_acceptor old request.to now) { flow = without_late old.flow index })
+        (relates m cluster is.global (with_acceptor old request.to now) (without_late old.flow index).late (without_true is.global.log old.flow index whole.parties.late)
+        (stops_within m cluster is.global old request acceptor now tells at by (late_one late) whole))
         is.agrees.marks)
     by_stray (frames.arrives reply desk now round next late at has_round by e) =
-        subst (IsRemembered m) (sym e)
-        (remembered m is.cluster is.global (record (with_desk old reply.to now) { flow = without_late old.flow index })
-        (hears m is.cluster is.global old reply.to desk now round next reply (without_late old.flow index) at has_round by (late_one late)
+        subst (IsLogged m cluster) (sym e)
+        (logged m cluster is.global (record (with_desk old reply.to now) { flow = without_late old.flow index })
+        (hears m cluster is.global old reply.to desk now round next reply (without_late old.flow index) at has_round by (late_one late)
         (record { others = λ p other. refl; own = whole.parties.own reply.to; late = without_true is.global.log old.flow index whole.parties.late; idle = λ none. none })
         (λ replies harmed was. heard_hears round next reply replies (queue_at old.flow reply.to).messages harmed by.hears was) whole)
         is.agrees.marks)
     by_stray (frames.drops ignored e) =
-        subst (IsRemembered m) (sym e)
-        (remembered m is.cluster is.global (record old { flow = without_late old.flow index })
-        (relates m is.cluster is.global old (without_late old.flow index).late (without_true is.global.log old.flow index whole.parties.late) whole)
+        subst (IsLogged m cluster) (sym e)
+        (logged m cluster is.global (record old { flow = without_late old.flow index })
+        (relates m cluster is.global old (without_late old.flow index).late (without_true is.global.log old.flow index whole.parties.late) whole)
         is.agrees.marks)

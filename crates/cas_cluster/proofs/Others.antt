@@ -235,7 +235,6 @@ vault_still m h log {id} {era} draws enters none was = record {
     | inr before ↦ was.past ballot key e before own
   ];
   past_floors = λ key floor has. was.past_floors key floor (floors_before h log none has);
-  in_era = was.in_era;
   is_in = in_later h log was.is_in;
   not_beyond = λ stands. elim (newest_or stands) [
     | inl now ↦ enters (suc era) now

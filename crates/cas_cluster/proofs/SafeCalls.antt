@@ -27,7 +27,7 @@ use Rattle.cas_vault.specs.Vault.{kept_of}
 use Rattle.cas_record.specs.declared.mark.Mark.TheVariants.{Begun}
 use Rattle.cas_cluster.specs.Parties.{asked_in}
 use Rattle.cas_cluster.specs.Council.{reserved_by}
-use Rattle.cas_cluster.specs.Safe.{requests_in, IsPartySafe, IsRoundSafe, IsOpenSafe, IsSafe}
+use Rattle.cas_cluster.specs.Safe.{requests_in, IsPartySafe, IsRoundSafe, IsOpenSafe, IsSound}
 use Rattle.cas_cluster.specs.StepCalls as calls
 use Rattle.cas_cluster.specs.StepCalls.{most_marks, round_marks, HasRoom, Opens, opened, with_call, tried_again, over, Sends, prepares_to, accepts_to, BeginsRound}
 use Rattle.cas_cluster.specs.StepDesks.{BeginsToPrepare}
@@ -58,10 +58,10 @@ recalled : {V : Type 0} (era : Era) (few marks id : ℕ) (desk : DeskView V) (ca
 recalled era few marks id desk caller new queue none number reserved was =
     party_idle era marks id desk new queue was.same_id none (idle_at era caller queue desk.round none was.round).none_waits number was.cached reserved
 
-pub opens_safe : {S V : Type 0} (old : View S V) (id : ℕ) (key : List ℕ) (program : List Clause) (new : View S V) → IsSafe old → Opens old id key program new → IsSafe new
+pub opens_safe : {S V : Type 0} (old : View S V) (id : ℕ) (key : List ℕ) (program : List Clause) (new : View S V) → IsSound old → Opens old id key program new → IsSound new
 opens_safe {S} {V} old id key program new was (calls.first caller at none room view) =
     let now : CallerView = record { number = suc caller.number; call = Some (new_call key program (round_marks (era_at old id) - 1)) } in
-    subst IsSafe (sym view) (safe_but old (opened old id caller key program) id was (caller_low old id caller was at) (changes_caller old id now old.flow (old.marks ++ Begun id (suc caller.number) key program ∷ []) was refl (λ p other. refl) (more_by old.marks (Begun id (suc caller.number) key program ∷ [])))
+    subst IsSound (sym view) (safe_but old (opened old id caller key program) id was (caller_low old id caller was at) (changes_caller old id now old.flow (old.marks ++ Begun id (suc caller.number) key program ∷ []) was refl (λ p other. refl) (more_by old.marks (Begun id (suc caller.number) key program ∷ [])))
     (λ desk c at_desk at_caller. subst (λ (x : CallerView). IsPartySafe (era_at old id) (length (old.marks ++ Begun id (suc caller.number) key program ∷ [])) id desk x (queue_at old.flow id)) (sym (own_set old.callers id now c at_caller))
     (let party = was.parties id desk caller at_desk at in
     recalled (era_at old id) (length old.marks) (length (old.marks ++ Begun id (suc caller.number) key program ∷ [])) id desk caller now (queue_at old.flow id)
@@ -70,7 +70,7 @@ opens_safe {S} {V} old id key program new was (calls.first caller at none room v
     (room_for old.callers (length (old.marks ++ Begun id (suc caller.number) key program ∷ [])) (reserved_by old.council) id caller now at (omega (arith, room, length-append old.marks (Begun id (suc caller.number) key program ∷ [])))))
 opens_safe {S} {V} old id key program new was (calls.again caller call reserved at is_open same_key same_program unproposed met idle room some view) =
     let now : CallerView = record caller { call = Some (tried_again call reserved) } in
-    subst IsSafe (sym view) (safe_but old (with_call old id caller (tried_again call reserved)) id was (caller_low old id caller was at) (changes_caller old id now old.flow old.marks was refl (λ p other. refl) (omega arith))
+    subst IsSound (sym view) (safe_but old (with_call old id caller (tried_again call reserved)) id was (caller_low old id caller was at) (changes_caller old id now old.flow old.marks was refl (λ p other. refl) (omega arith))
     (λ desk c at_desk at_caller. subst (λ (x : CallerView). IsPartySafe (era_at old id) (length old.marks) id desk x (queue_at old.flow id)) (sym (own_set old.callers id now c at_caller))
     (let party = was.parties id desk caller at_desk at in
     recalled (era_at old id) (length old.marks) (length old.marks) id desk caller now (queue_at old.flow id) (idle desk at_desk) party.number
@@ -107,9 +107,9 @@ ask_prepares f tos messages prepares are request has_it =
 pub enough : (era : Era) → IsMemberSet era.prep → IsMemberSet era.acc → (reserved : ℕ) → round_marks era ≤ suc reserved → 4 + 3 * length era.acc + length era.prep ≤ reserved
 enough era prep acc reserved low = omega (arith, low, left_within era.prep era.acc prep, right_within era.prep era.acc acc)
 
-pub prepares_safe : {S V : Type 0} (m : Meaning S V) (old : View S V) (id : ℕ) (caller : CallerView) (call : CallView) (desk now : DeskView V) (ballot : Ballot) (round : Round) (flow : FlowView) → IsSafe old
+pub prepares_safe : {S V : Type 0} (m : Meaning S V) (old : View S V) (id : ℕ) (caller : CallerView) (call : CallView) (desk now : DeskView V) (ballot : Ballot) (round : Round) (flow : FlowView) → IsSound old
     → IsAt old.callers id caller → caller.call ≡ Some call → call.proposed ≡ None → call.harmed ≡ [] → IsAt old.desks id desk → desk.down ≡ false → round_marks (era_at old id) ≤ suc call.reserved
-    → BeginsToPrepare m.disks (era_at old id) call.key desk now ballot round → Sends old.flow id (prepares_to id (kept_of desk.vault).age call.key ballot (era_at old id).prep) flow → IsSafe (record (with_desk old id now) { flow = flow })
+    → BeginsToPrepare m.disks (era_at old id) call.key desk now ballot round → Sends old.flow id (prepares_to id (kept_of desk.vault).age call.key ballot (era_at old id).prep) flow → IsSound (record (with_desk old id now) { flow = flow })
 prepares_safe {S} {V} m old id caller call desk now ballot round flow was at_caller is_open unproposed unharmed at_desk up room begins sends =
     safe_but old (record (with_desk old id now) { flow = flow }) id was (desk_low old id desk was at_desk) (changes_desk old id now flow was sends.queues sends.others)
     (λ d c at_d at_c. subst (λ (x : DeskView V). IsPartySafe (era_at old id) (length old.marks) id x c (queue_at flow id)) (sym (own_set old.desks id now d at_d))

@@ -32,11 +32,11 @@ use Rattle.cas_cluster.proofs.SafeCalls.{about_members}
 use Rattle.cas_cluster.proofs.SafeOpens.{no_members}
 use Rattle.cas_cluster.proofs.SafeStops.{AreFit, fit_fewer, desk_idles, acceptor_safe, room_not_found_safe}
 use Rattle.cas_cluster.proofs.SafeTurns.{Moves, taken_moves, replied_moves, IsWithin, Spends, spends_harm, taken_others, replied_others}
-use Rattle.cas_cluster.specs.Council.{Question, ExchangeView, OrderView, no_council, ask_of, exchange_place, reserved_for_order, reserved_for_exchange, telling, told_so, Probe}
-use Rattle.cas_cluster.specs.Safe.{IsExchangeSafe, IsAskingSafe, IsSafe, requests_in}
+use Rattle.cas_cluster.specs.Council.{Question, ExchangeView, OrderView, PlanView, at_rest, ask_of, exchange_place, reserved_for_order, reserved_for_exchange, telling, told_so, Probe}
+use Rattle.cas_cluster.specs.Safe.{IsExchangeSafe, IsAskingSafe, IsSound, requests_in}
 use Rattle.cas_cluster.specs.StepCalls.{Sends}
 use Rattle.cas_cluster.specs.StepCouncil as council
-use Rattle.cas_cluster.specs.StepCouncil.{StepOrder, StepTell, StepGather, Gathers, with_council, told_view, gathered, told_marks, with_exchange, everyone, question_to, questions_to, new_exchange, HasRoomToAsk, MayAskAll, AsksAll, StepAskAll, harmed_exchange, hears, harm_marks, harms, TurnsExchange, StepTurnExchange, StepRefuseTurnExchange}
+use Rattle.cas_cluster.specs.StepCouncil.{StepOrder, StepTell, told_over, StepGather, Gathers, with_council, told_view, gathered, told_marks, with_exchange, everyone, question_to, questions_to, new_exchange, HasRoomToAsk, MayAskAll, AsksAll, StepAskAll, harmed_exchange, hears, harm_marks, harms, TurnsExchange, StepTurnExchange, StepRefuseTurnExchange}
 use Rattle.cas_cluster.specs.View.{Meaning, View, IsAt, CallView, era_at, with_acceptor, with_desk}
 use Rattle.cas_cluster.proofs.EndSteps.{none_left}
 use Rattle.cas_cluster.proofs.Places.{queue_other, contains_at}
@@ -44,9 +44,9 @@ use Rattle.cas_cluster.proofs.SafeParts.{council_safe, more_by, idle_at, request
 
 -- ---- the operator's call
 -- only what is reserved for it changes
-pub order_safe : {S V : Type 0} (old : View S V) (asked : Asked) (new : View S V) → IsSafe old → StepOrder old asked new → IsSafe new
+pub order_safe : {S V : Type 0} (old : View S V) (asked : Asked) (new : View S V) → IsSound old → StepOrder old asked new → IsSound new
 order_safe old asked new was by =
-    subst IsSafe (sym by.view) (council_safe old old.flow (record old.council { order = Some (record { asked = asked; told = None }) }) old.marks was refl (λ p other. refl) (omega arith) was.asking
+    subst IsSound (sym by.view) (council_safe old old.flow (record old.council { order = Some (record { asked = asked; told = None }) }) old.marks was refl (λ p other. refl) (omega arith) was.asking
     (omega (arith, by.room, ap reserved_for_order by.none_open)))
 
 -- as much stays reserved for a call that is told something
@@ -54,7 +54,7 @@ pub told_reserves : (order : Option OrderView) (answer : OpAnswer) → reserved_
 told_reserves None answer = refl
 told_reserves (Some order) answer = refl
 
-pub told_view_safe : {S V : Type 0} (old : View S V) (answer : OpAnswer) → IsSafe old → IsSafe (told_view old answer)
+pub told_view_safe : {S V : Type 0} (old : View S V) (answer : OpAnswer) → IsSound old → IsSound (told_view old answer)
 told_view_safe old answer was = council_safe old old.flow (telling old.council answer) old.marks was refl (λ p other. refl) (omega arith) was.asking (omega (arith, was.room, told_reserves old.council.order answer))
 
 -- its mark was reserved
@@ -70,33 +70,42 @@ told_few asked (told.Absent acceptor) = omega arith
 told_few asked (told.ProposerDown proposer) = omega arith
 told_few asked (told.Stopped answer) = omega arith
 
-pub tell_safe : {S V : Type 0} (old : View S V) (answer : OpAnswer) (new : View S V) → IsSafe old → StepTell old answer new → IsSafe new
-tell_safe old answer new was by =
-    let marks = told_marks by.order.asked answer in
-    subst IsSafe (sym by.view) (council_safe old (abandoned old.flow exchange_place) no_council (old.marks ++ marks) was (length-set old.flow.own exchange_place (emptied (queue_at old.flow exchange_place)))
+-- the call is over
+over_safe : {S V : Type 0} (old : View S V) (order : OrderView) (answer : OpAnswer) → old.council.order ≡ Some order → IsSound old → IsSound (told_over old order.asked answer)
+over_safe old order answer is_open was =
+    let marks = told_marks order.asked answer in
+    council_safe old (abandoned old.flow exchange_place) (at_rest old.council) (old.marks ++ marks) was (length-set old.flow.own exchange_place (emptied (queue_at old.flow exchange_place)))
     (λ p other. queue_other old.flow.own exchange_place p (emptied (queue_at old.flow exchange_place)) other) (more_by old.marks marks) (none_left old.flow exchange_place)
-    (omega (arith, was.room, told_few by.order.asked answer, length-append old.marks marks, ap reserved_for_order by.is_open)))
+    (omega (arith, was.room, told_few order.asked answer, length-append old.marks marks, ap reserved_for_order is_open))
+
+-- another change of membership is under way, or none
+pub plan_safe : {S V : Type 0} (old : View S V) (plan : Option PlanView) (used : List ℕ) → IsSound old → IsSound (with_council old (record old.council { plan = plan; used = used }))
+plan_safe old plan used was = council_safe old old.flow (record old.council { plan = plan; used = used }) old.marks was refl (λ p other. refl) (omega arith) was.asking was.room
+
+pub tell_safe : {S V : Type 0} (old : View S V) (answer : OpAnswer) (new : View S V) → IsSound old → StepTell old answer new → IsSound new
+tell_safe old answer new was (council.tells order said is_open told same view) = subst IsSound (sym view) (over_safe old order answer is_open was)
+tell_safe old answer new was (council.finishes order is_open by view) = subst IsSound (sym view) (over_safe _ order answer is_open (plan_safe old None old.council.used was))
 
 -- ---- what was told is gathered
-pub gather_safe : {S V : Type 0} (old : View S V) (new : View S V) → IsSafe old → StepGather old new → IsSafe new
+pub gather_safe : {S V : Type 0} (old : View S V) (new : View S V) → IsSound old → StepGather old new → IsSound new
 gather_safe {S} {V} old new was by = by_case by.gathers
   where
-    over : (answer : OpAnswer) → IsSafe (gathered old answer)
+    over : (answer : OpAnswer) → IsSound (gathered old answer)
     over answer = council_safe old old.flow (record (telling old.council answer) { exchange = None }) old.marks was refl (λ p other. refl) (omega arith) by.none_waits (omega (arith, was.room, told_reserves old.council.order answer))
 
-    by_case : Gathers old by.at.exchange new → IsSafe new
-    by_case (council.crashed crashed view) = subst IsSafe (sym view) (over _)
-    by_case (council.probed key found up question found_is view) = subst IsSafe (sym view) (over _)
-    by_case (council.no_memory up view) = subst IsSafe (sym view) (told_view_safe old _ was)
+    by_case : Gathers old by.at.exchange new → IsSound new
+    by_case (council.crashed crashed view) = subst IsSound (sym view) (over _)
+    by_case (council.probed key found up question found_is view) = subst IsSound (sym view) (over _)
+    by_case (council.no_memory up view) = subst IsSound (sym view) (told_view_safe old _ was)
 
 -- ---- all members are asked
 -- the desk of proposer 0 has another vault, and no round
-desk_changes : {S V : Type 0} (old : View S V) (id : ℕ) (desk now : DeskView V) → IsSafe old → IsAt old.desks id desk → desk.round ≡ None → now.id ≡ desk.id → now.round ≡ None → (AreFit desk.cache → AreFit now.cache) → IsSafe (with_desk old id now)
+desk_changes : {S V : Type 0} (old : View S V) (id : ℕ) (desk now : DeskView V) → IsSound old → IsAt old.desks id desk → desk.round ≡ None → now.id ≡ desk.id → now.round ≡ None → (AreFit desk.cache → AreFit now.cache) → IsSound (with_desk old id now)
 desk_changes old id desk now was at idle same none fit =
     desk_idles old id desk now old.flow was at same none fit (λ caller at_caller. idle_at (era_at old id) caller (queue_at old.flow id) desk.round idle (was.parties id desk caller at at_caller).round) refl (λ p other. refl)
 
 -- the vault alone is another
-vault_changes : {S V : Type 0} (old : View S V) (id : ℕ) (desk now : DeskView V) → IsSafe old → IsAt old.desks id desk → desk.round ≡ None → now ≡ record desk { vault = now.vault } → IsSafe (with_desk old id now)
+vault_changes : {S V : Type 0} (old : View S V) (id : ℕ) (desk now : DeskView V) → IsSound old → IsAt old.desks id desk → desk.round ≡ None → now ≡ record desk { vault = now.vault } → IsSound (with_desk old id now)
 vault_changes {S} {V} old id desk now was at idle is_now =
     desk_changes old id desk now was at idle (ap (λ (d : DeskView V). d.id) is_now) (ap (λ (d : DeskView V). d.round) is_now ∙ idle) (λ were. subst AreFit (sym (ap (λ (d : DeskView V). d.cache) is_now)) were)
 
@@ -110,14 +119,14 @@ asks_question age tag question tos messages are request h =
 none_within : (members : List ℕ) (acceptor : ℕ) → has_member [] acceptor ≡ true → has_member members acceptor ≡ true
 none_within members acceptor e = absurd (cc e)
 
-pub ask_safe : {S V : Type 0} (m : Meaning S V) (old : View S V) (question : Question) (new : View S V) → IsSafe old → StepAskAll m old question new → IsSafe new
+pub ask_safe : {S V : Type 0} (m : Meaning S V) (old : View S V) (question : Question) (new : View S V) → IsSound old → StepAskAll m old question new → IsSound new
 ask_safe {S} {V} m old question new was by = by_case by.asks
   where
     may : MayAskAll old question by.desk
     may = by.may
 
     asked : (now : DeskView V) (tag : Ballot) (flow : FlowView) → HasRoomToAsk old → FitsBallot tag → now ≡ record by.desk { vault = now.vault } → Sends old.flow exchange_place (questions_to (kept_of by.desk.vault).age tag question (everyone old)) flow
-        → IsSafe (with_exchange (record (with_desk old 0 now) { flow = flow }) (new_exchange question tag (everyone old)))
+        → IsSound (with_exchange (record (with_desk old 0 now) { flow = flow }) (new_exchange question tag (everyone old)))
     asked now tag flow room fits is_now sends =
         let age : ℕ = (kept_of by.desk.vault).age in
         let f : ℕ → Request = question_to age tag question in
@@ -136,16 +145,16 @@ ask_safe {S} {V} m old question new was by = by_case by.asks
         })
         (omega (arith, room, ap reserved_for_exchange may.none_open))
 
-    by_case : AsksAll m old question by.desk new → IsSafe new
-    by_case (council.asks now tag flow up room drawn is_now sends view) = subst IsSafe (sym view) (asked now tag flow room drawn.fits is_now sends)
-    by_case (council.is_down down view) = subst IsSafe (sym view) (told_view_safe old _ was)
-    by_case (council.is_full up full view) = subst IsSafe (sym view) (told_view_safe old _ was)
-    by_case (council.is_spent now up spent kept is_now view) = subst IsSafe (sym view) (told_view_safe (with_desk old 0 now) _ (vault_changes old 0 by.desk now was may.at_desk may.idle is_now))
+    by_case : AsksAll m old question by.desk new → IsSound new
+    by_case (council.asks now tag flow up room drawn is_now sends view) = subst IsSound (sym view) (asked now tag flow room drawn.fits is_now sends)
+    by_case (council.is_down down view) = subst IsSound (sym view) (told_view_safe old _ was)
+    by_case (council.is_full up full view) = subst IsSound (sym view) (told_view_safe old _ was)
+    by_case (council.is_spent now up spent kept is_now view) = subst IsSound (sym view) (told_view_safe (with_desk old 0 now) _ (vault_changes old 0 by.desk now was may.at_desk may.idle is_now))
     by_case (council.fails now up fault view) =
-        subst IsSafe (sym view) (told_view_safe (with_desk old 0 now) _ (desk_changes old 0 by.desk now was may.at_desk may.idle
+        subst IsSound (sym view) (told_view_safe (with_desk old 0 now) _ (desk_changes old 0 by.desk now was may.at_desk may.idle
         (ap (λ (d : DeskView V). d.id) fault.desk) (ap (λ (d : DeskView V). d.round) fault.desk) (fit_fewer [] by.desk.cache now.cache fault.cache)))
     by_case (council.no_memory now tag up loss view) =
-        subst IsSafe (sym view) (told_view_safe (with_desk old 0 now) _ (desk_changes old 0 by.desk now was may.at_desk may.idle
+        subst IsSound (sym view) (told_view_safe (with_desk old 0 now) _ (desk_changes old 0 by.desk now was may.at_desk may.idle
         (ap (λ (d : DeskView V). d.id) loss.desk) (ap (λ (d : DeskView V). d.round) loss.desk) (fit_fewer [] by.desk.cache now.cache loss.cache)))
 
 -- ---- a turn of the exchange
@@ -193,8 +202,8 @@ harm_fits exchange queue member down was is_member = by_test (has_member exchang
         )
 
 -- the frame in front was harmed
-harmed_safe : {S V : Type 0} (old : View S V) (verdict : Verdict) (front : Message) (exchange : ExchangeView) (member : ℕ) (down : Bool) → IsSafe old → old.council.exchange ≡ Some exchange → slice_get (queue_at old.flow exchange_place).messages 0 ≡ Some front
-    → member ≡ (head_of front).1 → IsSafe (harms (record old { flow = taken old.flow exchange_place verdict }) exchange member down)
+harmed_safe : {S V : Type 0} (old : View S V) (verdict : Verdict) (front : Message) (exchange : ExchangeView) (member : ℕ) (down : Bool) → IsSound old → old.council.exchange ≡ Some exchange → slice_get (queue_at old.flow exchange_place).messages 0 ≡ Some front
+    → member ≡ (head_of front).1 → IsSound (harms (record old { flow = taken old.flow exchange_place verdict }) exchange member down)
 harmed_safe {S} {V} old verdict front exchange member down was is_open waits to =
     let asking : IsExchangeSafe exchange (queue_at old.flow exchange_place) = subst (λ (e : Option ExchangeView). IsAskingSafe e (queue_at old.flow exchange_place)) is_open was.asking in
     let is_member : has_member exchange.members member ≡ true = subst (λ (a : ℕ). has_member exchange.members a ≡ true) (sym to) (asking.about front (contains_at (queue_at old.flow exchange_place).messages 0 front waits)) in
@@ -209,7 +218,7 @@ harmed_safe {S} {V} old verdict front exchange member down was is_open waits to 
 pub no_vote : (tag : Ballot) (question : Question) (request : Request) (reply : Reply) → request.ask ≡ ask_of tag question → length (votes_marked request reply) ≡ 0
 no_vote tag (Probe key) request reply is = ap (λ (a : Ask). length (marks_of (votes_of request.to a reply.tell))) is
 
-pub turn_exchange_safe : {S V : Type 0} (m : Meaning S V) (old : View S V) (verdict : Verdict) (new : View S V) → IsSafe old → StepTurnExchange m old verdict new → IsSafe new
+pub turn_exchange_safe : {S V : Type 0} (m : Meaning S V) (old : View S V) (verdict : Verdict) (new : View S V) → IsSound old → StepTurnExchange m old verdict new → IsSound new
 turn_exchange_safe {S} {V} m old verdict new was step = by_turn step.turn
   where
     exchange : ExchangeView
@@ -221,9 +230,9 @@ turn_exchange_safe {S} {V} m old verdict new was step = by_turn step.turn
     in_front : {each : Message} → step.front ≡ each → slice_get (queue_at old.flow exchange_place).messages 0 ≡ Some each
     in_front same = step.waits ∙ ap (λ (each : Message). Some each) same
 
-    by_turn : TurnsExchange m old verdict step.front exchange new → IsSafe new
-    by_turn (council.held fall view) = subst IsSafe (sym view) was
-    by_turn (council.gone fall view) = subst IsSafe (sym view) (harmed_safe old verdict step.front exchange _ false was step.at.is_open step.waits refl)
+    by_turn : TurnsExchange m old verdict step.front exchange new → IsSound new
+    by_turn (council.held fall view) = subst IsSound (sym view) was
+    by_turn (council.gone fall view) = subst IsSound (sym view) (harmed_safe old verdict step.front exchange _ false was step.at.is_open step.waits refl)
     by_turn (council.answers request acceptor now reply fall front at by view) =
         let waits : slice_get (queue_at old.flow exchange_place).messages 0 ≡ Some (message.Request request) = in_front front in
         let has_it = contains_at (queue_at old.flow exchange_place).messages 0 (message.Request request) waits in
@@ -232,22 +241,22 @@ turn_exchange_safe {S} {V} m old verdict new was step = by_turn step.turn
         let is_member : has_member exchange.members reply.from ≡ true =
         subst (λ (a : ℕ). has_member exchange.members a ≡ true) (sym (by.table.from ∙ was.acceptor_ids request.to acceptor at)) (asking.about (message.Request request) has_it) in
         let others = replied_others old.flow exchange_place verdict reply in
-        subst IsSafe (sym view) (council_safe (with_acceptor old request.to now) (replied_flow old.flow exchange_place verdict reply) old.council (old.marks ++ votes_marked request reply) safe others.own others.others (more_by old.marks (votes_marked request reply))
+        subst IsSound (sym view) (council_safe (with_acceptor old request.to now) (replied_flow old.flow exchange_place verdict reply) old.council (old.marks ++ votes_marked request reply) safe others.own others.others (more_by old.marks (votes_marked request reply))
         (subst (λ (e : Option ExchangeView). IsAskingSafe e (queue_at (replied_flow old.flow exchange_place verdict reply) exchange_place)) (sym step.at.is_open)
         (goes_on exchange exchange (queue_at old.flow exchange_place) (queue_at (replied_flow old.flow exchange_place verdict reply) exchange_place) 0 asking refl refl refl asking.harmed_set asking.harmed_within (omega arith)
         (replied_moves old.flow exchange_place verdict request reply exchange.members 0 waits fall is_member (omega arith))))
         (omega (arith, was.room, none, length-append old.marks (votes_marked request reply))))
     by_turn (council.finds_down request acceptor fall front at down view) =
-        subst IsSafe (sym view) (harmed_safe old verdict step.front exchange _ true was step.at.is_open step.waits (sym (ap (λ (each : Message). (head_of each).1) front)))
+        subst IsSound (sym view) (harmed_safe old verdict step.front exchange _ true was step.at.is_open step.waits (sym (ap (λ (each : Message). (head_of each).1) front)))
     by_turn (council.brings_down request acceptor now fall front at by view) =
-        subst IsSafe (sym view) (harmed_safe (with_acceptor old request.to now) verdict step.front exchange _ true (acceptor_safe old request.to acceptor now was at (ap (λ (a : AcceptorView S). a.id) by.acceptor)) step.at.is_open step.waits
+        subst IsSound (sym view) (harmed_safe (with_acceptor old request.to now) verdict step.front exchange _ true (acceptor_safe old request.to acceptor now was at (ap (λ (a : AcceptorView S). a.id) by.acceptor)) step.at.is_open step.waits
         (sym (ap (λ (each : Message). (head_of each).1) front)))
     by_turn (council.arrives reply fall front view) =
         let others = taken_others old.flow exchange_place verdict in
-        subst IsSafe (sym view) (council_safe old (taken old.flow exchange_place verdict) (record old.council { exchange = Some (record exchange { told = hears reply exchange.told }) }) old.marks was others.own others.others (omega arith)
+        subst IsSound (sym view) (council_safe old (taken old.flow exchange_place verdict) (record old.council { exchange = Some (record exchange { told = hears reply exchange.told }) }) old.marks was others.own others.others (omega arith)
         (goes_on exchange (record exchange { told = hears reply exchange.told }) (queue_at old.flow exchange_place) (queue_at (taken old.flow exchange_place verdict) exchange_place) 0 asking refl refl refl asking.harmed_set asking.harmed_within (omega arith)
         (taken_moves old.flow exchange_place verdict exchange.members step.waits))
         (omega (arith, was.room, ap reserved_for_exchange step.at.is_open)))
 
-pub refuse_exchange_safe : {S V : Type 0} (m : Meaning S V) (old : View S V) (new : View S V) → IsSafe old → StepRefuseTurnExchange m old new → IsSafe new
-refuse_exchange_safe m old new was step = subst IsSafe (sym step.view) (told_view_safe step.middle _ (room_not_found_safe m old step.middle was step.refuses))
+pub refuse_exchange_safe : {S V : Type 0} (m : Meaning S V) (old : View S V) (new : View S V) → IsSound old → StepRefuseTurnExchange m old new → IsSound new
+refuse_exchange_safe m old new was step = subst IsSound (sym step.view) (told_view_safe step.middle _ (room_not_found_safe m old step.middle was step.refuses))

@@ -8,10 +8,10 @@ use Rattle.cas_quorum.specs.declared.era.Era.{Era}
 use Rattle.cas_quorum.specs.Era.{majority_era}
 use Rattle.cas_record.specs.declared.mark.Mark.{Mark}
 use Rattle.cas_cluster.specs.Council.{Council, exchange_place, reserved_by}
-use Rattle.cas_cluster.specs.Safe.{IsAskingSafe}
+use Rattle.cas_cluster.specs.Safe.{IsAskingSafe, IsSound}
 use Rattle.cas_cluster.specs.SafeLaws.{OpeningsAreSafe}
 use Rattle.cas_cluster.specs.View.{Meaning, CallerView, IsAt, new_caller, reserved_in, reserved_of, era_at, era_in}
-use Rattle.cas_cluster.proofs.Opens.{none_under_way}
+use Rattle.cas_cluster.proofs.Opens.{none_under_way, opening_on_course}
 use Rattle.cas_cluster.proofs.Places.{contains_none}
 use Rattle.cas_cluster.proofs.SafeParts.{party_idle}
 
@@ -32,22 +32,25 @@ sets (suc n) zero set = (set, set)
 sets (suc n) (suc id) set = sets n id set
 
 pub opens_are_safe : {S V : Type 0} (m : Meaning S V) → OpeningsAreSafe m
-opens_are_safe {S} {V} m members view is places = record {
-  few = is.few;
-  prep_sets = λ id. subst (λ (l : List Era). IsMemberSet (era_in l id).prep) (sym is.eras) (sets 17 id is.member_set).0;
-  acc_sets = λ id. subst (λ (l : List Era). IsMemberSet (era_in l id).acc) (sym is.eras) (sets 17 id is.member_set).1;
-  eras = ap (λ (l : List Era). length l) is.eras;
-  acceptors = places.acceptors;
-  acceptor_ids = λ id acceptor at. (is.acceptors id acceptor at).same_id;
-  desks = places.desks;
-  callers = places.callers;
-  own = ap (λ (f : FlowView). length f.own) is.flow;
-  parties = λ id desk caller at_desk at_caller.
-      let fresh = (is.desks id desk at_desk).1 in
-      let new = is.callers id caller at_caller in
-      party_idle (era_at view id) (length view.marks) id desk caller (queue_at view.flow id) fresh.same_id fresh.none_open (none_under_way view.flow id is.flow) (omega (arith, ap (λ (c : CallerView). c.number) new))
-      (λ key ready h. absurd (contains_none (subst (λ (l : List (List ℕ × Ready)). Contains l (key, ready)) fresh.no_promise h)))
-      (λ call some. absurd (cc (some, ap (λ (c : CallerView). c.call) new)));
-  asking = subst (λ (c : Council). IsAskingSafe c.exchange (queue_at view.flow exchange_place)) (sym is.council) (none_under_way view.flow exchange_place is.flow);
-  room = omega (arith, none_reserved view.callers is.callers, ap (λ (l : List Mark). length l) is.marks, ap (λ (c : Council). reserved_by c) is.council);
-}
+opens_are_safe {S} {V} m members view is places = record { sound = sound; course = opening_on_course m members view is }
+  where
+    sound : IsSound view
+    sound = record {
+      few = is.few;
+      prep_sets = λ id. subst (λ (l : List Era). IsMemberSet (era_in l id).prep) (sym is.eras) (sets 17 id is.member_set).0;
+      acc_sets = λ id. subst (λ (l : List Era). IsMemberSet (era_in l id).acc) (sym is.eras) (sets 17 id is.member_set).1;
+      eras = ap (λ (l : List Era). length l) is.eras;
+      acceptors = places.acceptors;
+      acceptor_ids = λ id acceptor at. (is.acceptors id acceptor at).same_id;
+      desks = places.desks;
+      callers = places.callers;
+      own = ap (λ (f : FlowView). length f.own) is.flow;
+      parties = λ id desk caller at_desk at_caller.
+          let fresh = (is.desks id desk at_desk).1 in
+          let new = is.callers id caller at_caller in
+          party_idle (era_at view id) (length view.marks) id desk caller (queue_at view.flow id) fresh.same_id fresh.none_open (none_under_way view.flow id is.flow) (omega (arith, ap (λ (c : CallerView). c.number) new))
+          (λ key ready h. absurd (contains_none (subst (λ (l : List (List ℕ × Ready)). Contains l (key, ready)) fresh.no_promise h)))
+          (λ call some. absurd (cc (some, ap (λ (c : CallerView). c.call) new)));
+      asking = subst (λ (c : Council). IsAskingSafe c.exchange (queue_at view.flow exchange_place)) (sym is.council) (none_under_way view.flow exchange_place is.flow);
+      room = omega (arith, none_reserved view.callers is.callers, ap (λ (l : List Mark). length l) is.marks, ap (λ (c : Council). reserved_by c) is.council);
+    }

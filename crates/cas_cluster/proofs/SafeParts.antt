@@ -19,7 +19,7 @@ use Rattle.cas_slot.specs.declared.message.Request.{Request}
 use Rattle.cas_record.specs.declared.mark.Mark.{Mark}
 use Rattle.cas_record.proofs.Tests.{nat_same, nat_is}
 use Rattle.cas_cluster.specs.Council.{Council, exchange_place, reserved_by}
-use Rattle.cas_cluster.specs.Safe.{requests_in, IsPartySafe, IsRoundSafe, IsIdleSafe, IsSafe, IsAskingSafe}
+use Rattle.cas_cluster.specs.Safe.{requests_in, IsPartySafe, IsRoundSafe, IsIdleSafe, IsSound, IsAskingSafe}
 use Rattle.cas_cluster.specs.StepCalls.{most_marks}
 use Rattle.cas_cluster.proofs.Places.{some_is, same_or_not, own_set, other_set}
 use Rattle.cas_cluster.specs.View.{View, CallView, CallerView, IsAt, reserved_in, reserved_of, reserved_in_all, era_at, era_in}
@@ -113,15 +113,15 @@ more_marks era few more id desk caller queue low was = record {
 }
 
 -- the number of a proposer that has a desk, or a caller
-pub desk_low : {S V : Type 0} (view : View S V) (id : ℕ) (desk : DeskView V) → IsSafe view → IsAt view.desks id desk → id ≤ 16
+pub desk_low : {S V : Type 0} (view : View S V) (id : ℕ) (desk : DeskView V) → IsSound view → IsAt view.desks id desk → id ≤ 16
 desk_low view id desk was at = omega (arith, low_at view.desks id at, was.desks, was.few)
 
-pub caller_low : {S V : Type 0} (view : View S V) (id : ℕ) (caller : CallerView) → IsSafe view → IsAt view.callers id caller → id ≤ 16
+pub caller_low : {S V : Type 0} (view : View S V) (id : ℕ) (caller : CallerView) → IsSound view → IsAt view.callers id caller → id ≤ 16
 caller_low view id caller was at = omega (arith, low_at view.callers id at, was.callers, was.few)
 
-pub safe_but : {S V : Type 0} (old new : View S V) (id : ℕ) → IsSafe old → id ≤ 16 → Changes old new id
+pub safe_but : {S V : Type 0} (old new : View S V) (id : ℕ) → IsSound old → id ≤ 16 → Changes old new id
     → ((desk : DeskView V) (caller : CallerView) → IsAt new.desks id desk → IsAt new.callers id caller → IsPartySafe (era_at old id) (length new.marks) id desk caller (queue_at new.flow id))
-    → length new.marks + reserved_in_all new ≤ most_marks → IsSafe new
+    → length new.marks + reserved_in_all new ≤ most_marks → IsSound new
 safe_but {S} {V} old new id was low changes party room = record {
   few = subst (λ (n : ℕ). n ≤ 16) (sym changes.greatest) was.few;
   prep_sets = λ p. subst (λ (l : List Era). IsMemberSet (era_in l p).prep) (sym changes.eras) (was.prep_sets p);
@@ -148,9 +148,9 @@ safe_but {S} {V} old new id was low changes party room = record {
         (was.parties p desk caller (changes.desks p desk other at_desk) (changes.callers p caller other at_caller)))
 
 -- what changes of the exchange and its frames, and of the marks
-pub council_safe : {S V : Type 0} (old : View S V) (flow : FlowView) (next : Council) (marks : List Mark) → IsSafe old → length flow.own ≡ length old.flow.own
+pub council_safe : {S V : Type 0} (old : View S V) (flow : FlowView) (next : Council) (marks : List Mark) → IsSound old → length flow.own ≡ length old.flow.own
     → ((p : ℕ) → (p ≡ exchange_place → ⊥) → queue_at flow p ≡ queue_at old.flow p) → length old.marks ≤ length marks → IsAskingSafe next.exchange (queue_at flow exchange_place)
-    → length marks + (reserved_of old.callers + reserved_by next) ≤ most_marks → IsSafe (record old { flow = flow; council = next; marks = marks })
+    → length marks + (reserved_of old.callers + reserved_by next) ≤ most_marks → IsSound (record old { flow = flow; council = next; marks = marks })
 council_safe {S} {V} old flow next marks was own others more asking room = record {
   few = was.few;
   prep_sets = was.prep_sets;
@@ -172,7 +172,7 @@ pub more_by : (marks more : List Mark) → length marks ≤ length (marks ++ mor
 more_by marks more = omega (arith, length-append marks more)
 
 -- what changes where the proposer's desk, its caller and its frames do, and marks are made
-pub changes_both : {S V : Type 0} (old : View S V) (id : ℕ) (desk : DeskView V) (caller : CallerView) (flow : FlowView) (marks : List Mark) → IsSafe old → length flow.own ≡ length old.flow.own
+pub changes_both : {S V : Type 0} (old : View S V) (id : ℕ) (desk : DeskView V) (caller : CallerView) (flow : FlowView) (marks : List Mark) → IsSound old → length flow.own ≡ length old.flow.own
     → ((p : ℕ) → (p ≡ id → ⊥) → queue_at flow p ≡ queue_at old.flow p) → length old.marks ≤ length marks
     → Changes old (record old { desks = slice_set old.desks id desk; callers = slice_set old.callers id caller; flow = flow; marks = marks }) id
 changes_both old id desk caller flow marks was own others more = record {
@@ -190,7 +190,7 @@ changes_both old id desk caller flow marks was own others more = record {
   marks = more;
 }
 
-pub changes_caller : {S V : Type 0} (old : View S V) (id : ℕ) (caller : CallerView) (flow : FlowView) (marks : List Mark) → IsSafe old → length flow.own ≡ length old.flow.own
+pub changes_caller : {S V : Type 0} (old : View S V) (id : ℕ) (caller : CallerView) (flow : FlowView) (marks : List Mark) → IsSound old → length flow.own ≡ length old.flow.own
     → ((p : ℕ) → (p ≡ id → ⊥) → queue_at flow p ≡ queue_at old.flow p) → length old.marks ≤ length marks
     → Changes old (record old { callers = slice_set old.callers id caller; flow = flow; marks = marks }) id
 changes_caller old id caller flow marks was own others more = record {
@@ -208,7 +208,7 @@ changes_caller old id caller flow marks was own others more = record {
   marks = more;
 }
 
-pub changes_desk : {S V : Type 0} (old : View S V) (id : ℕ) (desk : DeskView V) (flow : FlowView) → IsSafe old → length flow.own ≡ length old.flow.own
+pub changes_desk : {S V : Type 0} (old : View S V) (id : ℕ) (desk : DeskView V) (flow : FlowView) → IsSound old → length flow.own ≡ length old.flow.own
     → ((p : ℕ) → (p ≡ id → ⊥) → queue_at flow p ≡ queue_at old.flow p) → Changes old (record old { desks = slice_set old.desks id desk; flow = flow }) id
 changes_desk old id desk flow was own others = record {
   greatest = refl;

@@ -25,7 +25,7 @@ use Rattle.cas_record.specs.declared.mark.Mark.{Mark}
 use Rattle.cas_record.specs.declared.mark.Mark.TheVariants.{Proposed, Acked}
 use Rattle.cas_record.specs.declared.mark.Proposal.{Proposal}
 use Rattle.cas_cluster.specs.Parties.{asked_in}
-use Rattle.cas_cluster.specs.Safe.{requests_in, IsPartySafe, IsRoundSafe, IsOpenSafe, IsSafe}
+use Rattle.cas_cluster.specs.Safe.{requests_in, IsPartySafe, IsRoundSafe, IsOpenSafe, IsSound}
 use Rattle.cas_cluster.specs.Step.{OpenRoundAt, StepPropose, StepCount}
 use Rattle.cas_cluster.specs.StepCalls as calls
 use Rattle.cas_cluster.specs.StepCalls.{most_marks, round_marks, with_call, over, proposing, proposed_view, proposal_of, Sends, accepts_to, offered_by, BeginsRound, ProposesOrEnds, CountsOrEnds}
@@ -63,10 +63,10 @@ prepare_reserves era caller queue round call prep is_open preparing is =
 
 -- ---- a change is proposed
 pub proposed_safe : {S V : Type 0} (old : View S V) (id : ℕ) (caller : CallerView) (call : CallView) (desk now : DeskView V) (round : Round) (flow : FlowView) (p : Proposal) (age : ℕ) (key : List ℕ) (ballot : Ballot) (ride : Option Ballot) (outcome : Outcome)
-    → IsSafe old → IsAt old.callers id caller → caller.call ≡ Some call → IsAt old.desks id desk → now.id ≡ desk.id → now.down ≡ false → now.round ≡ Some round
+    → IsSound old → IsAt old.callers id caller → caller.call ≡ Some call → IsAt old.desks id desk → now.id ≡ desk.id → now.down ≡ false → now.round ≡ Some round
     → round.key ≡ call.key → round.era ≡ (era_at old id) → FitsBallot round.ballot → ((b : Ballot) → round.ride ≡ Some b → FitsBallot b) → is_preparing round.phase ≡ false
     → ((key : List ℕ) (ready : Ready) → Contains now.cache (key, ready) → Contains desk.cache (key, ready)) → (queue_at old.flow id).messages ≡ []
-    → Sends old.flow id (accepts_to id age key ballot (era_at old id).number ride outcome.state (era_at old id).acc) flow → 3 + 3 * length (era_at old id).acc ≤ call.reserved → IsSafe (proposed_view old id caller call now flow p outcome)
+    → Sends old.flow id (accepts_to id age key ballot (era_at old id).number ride outcome.state (era_at old id).acc) flow → 3 + 3 * length (era_at old id).acc ≤ call.reserved → IsSound (proposed_view old id caller call now flow p outcome)
 proposed_safe {S} {V} old id caller call desk now round flow p age key ballot ride outcome was at_caller is_open at_desk same up is_round same_key same_era fits rides accepting fewer none sends reserved =
     safe_but old (proposed_view old id caller call now flow p outcome) id was (desk_low old id desk was at_desk) (changes_both old id now after flow marks was sends.queues sends.others (more_by old.marks (Proposed p ∷ [])))
     (λ d c at_d at_c. subst (λ (x : DeskView V). IsPartySafe (era_at old id) (length marks) id x c (queue_at flow id)) (sym (own_set old.desks id now d at_d))
@@ -125,16 +125,16 @@ drawn_fits m id old new None drawn ballot is = absurd (cc is)
 drawn_fits m id old new (Some x) drawn ballot is = subst FitsBallot (some_is is) drawn.fits
 
 -- ---- a round begins
-pub begins_safe : {S V : Type 0} (m : Meaning S V) (old : View S V) (id : ℕ) (caller : CallerView) (call : CallView) (new : View S V) → IsSafe old → IsAt old.callers id caller → caller.call ≡ Some call
-    → call.proposed ≡ None → call.harmed ≡ [] → BeginsRound m old id caller call new → IsSafe new
+pub begins_safe : {S V : Type 0} (m : Meaning S V) (old : View S V) (id : ℕ) (caller : CallerView) (call : CallView) (new : View S V) → IsSound old → IsAt old.callers id caller → caller.call ≡ Some call
+    → call.proposed ≡ None → call.harmed ≡ [] → BeginsRound m old id caller call new → IsSound new
 begins_safe m old id caller call new was at_caller is_open unproposed unharmed (calls.prepares desk now ballot round flow at_desk up room begins sends view) =
-    subst IsSafe (sym view) (prepares_safe m old id caller call desk now ballot round flow was at_caller is_open unproposed unharmed at_desk up room begins sends)
+    subst IsSound (sym view) (prepares_safe m old id caller call desk now ballot round flow was at_caller is_open unproposed unharmed at_desk up room begins sends)
 begins_safe {S} {V} m old id caller call new was at_caller is_open unproposed unharmed (calls.proposes desk now ready ride round outcome flow at_desk up room begins is_outcome sends view) =
     let party = was.parties id desk caller at_desk at_caller in
     let about = begins.opened.0 in
     let sent : Sends old.flow id (accepts_to id (kept_of desk.vault).age round.key round.ballot (era_at old id).number ride outcome.state (era_at old id).acc) flow =
     subst (λ (e : Era). Sends old.flow id (accepts_to id (kept_of desk.vault).age round.key round.ballot e.number ride outcome.state e.acc) flow) about.in_era sends in
-    subst IsSafe (sym view) (proposed_safe old id caller call desk now (record round { ride = ride }) flow (proposal_of id caller.number round ready.read ready.by) (kept_of desk.vault).age round.key round.ballot ride outcome
+    subst IsSound (sym view) (proposed_safe old id caller call desk now (record round { ride = ride }) flow (proposal_of id caller.number round ready.read ready.by) (kept_of desk.vault).age round.key round.ballot ride outcome
     was at_caller is_open at_desk (ap (λ (d : DeskView V). d.id) begins.desk) (ap (λ (d : DeskView V). d.down) begins.desk ∙ up) (ap (λ (d : DeskView V). d.round) begins.desk)
     about.of_key about.in_era (subst FitsBallot (sym about.at) (party.cached call.key ready (contains_promise call.key ready desk.cache begins.promise)))
     (drawn_fits m.disks desk.id desk.vault now.vault ride begins.drawn) (accepts_is round.era round.ballot [] round.phase begins.opened.1.phase).0
@@ -151,10 +151,10 @@ begins_safe {S} {V} m old id caller call new was at_caller is_open unproposed un
     loses_safe m old id caller call call.key desk now ballot (answer.NoMemory false) new was at_caller is_open at_desk (none_waits_at old id caller desk was at_caller at_desk idle) by view
 
 -- ---- the prepare phase ends
-open_at : {S V : Type 0} (old : View S V) (id : ℕ) → IsSafe old → (at : OpenRoundAt old id) → IsOpenSafe (era_at old id) at.of_call.caller (queue_at old.flow id) at.round
+open_at : {S V : Type 0} (old : View S V) (id : ℕ) → IsSound old → (at : OpenRoundAt old id) → IsOpenSafe (era_at old id) at.of_call.caller (queue_at old.flow id) at.round
 open_at old id was at = subst (IsRoundSafe (era_at old id) at.of_call.caller (queue_at old.flow id)) at.is_open (was.parties id at.desk at.of_call.caller at.at_desk at.of_call.at_caller).round
 
-pub proposes_safe : {S V : Type 0} (m : Meaning S V) (old : View S V) (id : ℕ) (new : View S V) → IsSafe old → StepPropose m old id new → IsSafe new
+pub proposes_safe : {S V : Type 0} (m : Meaning S V) (old : View S V) (id : ℕ) (new : View S V) → IsSound old → StepPropose m old id new → IsSound new
 proposes_safe {S} {V} m old id new was step = by_case step.proposes
   where
     at : OpenRoundAt old id
@@ -175,12 +175,12 @@ proposes_safe {S} {V} m old id new was step = by_case step.proposes
     reserved : 3 + 3 * length (era_at old id).acc ≤ call.reserved
     reserved = prepare_reserves (era_at old id) caller (queue_at old.flow id) at.round call (was.prep_sets id) at.of_call.is_open step.preparing is
 
-    by_case : ProposesOrEnds m old id at.desk at.round caller call new → IsSafe new
+    by_case : ProposesOrEnds m old id at.desk at.round caller call new → IsSound new
     by_case (calls.proposes now turned read by ride outcome flow quorum confirmers is_read turns is_outcome sends view) =
         let same_round = turns.turns.same in
         let sent : Sends old.flow id (accepts_to id (kept_of at.desk.vault).age at.round.key at.round.ballot (era_at old id).number ride outcome.state (era_at old id).acc) flow =
         subst (λ (e : Era). Sends old.flow id (accepts_to id (kept_of at.desk.vault).age at.round.key at.round.ballot e.number ride outcome.state e.acc) flow) is.same_era sends in
-        subst IsSafe (sym view) (proposed_safe old id caller call at.desk now (record turned { ride = ride }) flow _ (kept_of at.desk.vault).age at.round.key at.round.ballot ride outcome
+        subst IsSound (sym view) (proposed_safe old id caller call at.desk now (record turned { ride = ride }) flow _ (kept_of at.desk.vault).age at.round.key at.round.ballot ride outcome
         was at.of_call.at_caller at.of_call.is_open at.at_desk (ap (λ (d : DeskView V). d.id) turns.desk) (ap (λ (d : DeskView V). d.down) turns.desk ∙ at.up) (ap (λ (d : DeskView V). d.round) turns.desk)
         (ap (λ (r : Round). r.key) same_round ∙ is.same_key ∙ ap (λ (c : CallView). c.key) same) (ap (λ (r : Round). r.era) same_round ∙ is.same_era)
         (subst FitsBallot (sym (ap (λ (r : Round). r.ballot) same_round)) is.ballot) (drawn_fits m.disks at.desk.id at.desk.vault now.vault ride turns.drawn) turns.turns.accepting
@@ -193,7 +193,7 @@ proposes_safe {S} {V} m old id new was step = by_case step.proposes
         loses_safe m old id caller call at.round.key at.desk now ballot (answer.NoMemory false) new was at.of_call.at_caller at.of_call.is_open at.at_desk at.none_waits by view
 
 -- ---- a round is counted
-pub counts_safe : {S V : Type 0} (m : Meaning S V) (old : View S V) (id : ℕ) (new : View S V) → IsSafe old → StepCount m old id new → IsSafe new
+pub counts_safe : {S V : Type 0} (m : Meaning S V) (old : View S V) (id : ℕ) (new : View S V) → IsSound old → StepCount m old id new → IsSound new
 counts_safe {S} {V} m old id new was step = by_case step.counts
   where
     at : OpenRoundAt old id
@@ -205,7 +205,7 @@ counts_safe {S} {V} m old id new was step = by_case step.counts
     call : CallView
     call = at.of_call.call
 
-    by_case : CountsOrEnds m old id at.desk at.round caller call new → IsSafe new
+    by_case : CountsOrEnds m old id at.desk at.round caller call new → IsSound new
     by_case (calls.counts now by outcome quorum confirmers proposed ends view) =
         counted_safe m old id caller call at.desk now at.round outcome.state by (answer.Done outcome.state outcome.took at.round.ballot)
         (Acked (record { key = at.round.key; ballot = at.round.ballot; era = at.round.era.number; by = by })) new was at.of_call.at_caller at.of_call.is_open at.at_desk at.is_open at.none_waits ends view

@@ -1,42 +1,99 @@
 -- Whatever is called on a cluster that is safe, it is safe then.
-use Rattle.std.proofs.Common.{sym, subst}
-use Rattle.std.specs.Prelude.{ℕ, List}
+use Rattle.std.proofs.Common.{◌≡◌, ℕ, List, Option, None, Some, refl, sym, ap, subst}
+use Rattle.std.specs.Prelude.{◌==◌, Bool, true, false, if◌then◌else◌}
+use Rattle.cas_ballot.specs.Members.{IsMemberSet}
 use Rattle.cas_change.specs.declared.program.Clause.{Clause}
-use Rattle.cas_cluster.specs.Safe.{IsSafe}
+use Rattle.cas_proposer.specs.Desk.{DeskView}
+use Rattle.cas_quorum.specs.declared.era.Era.{Era}
+use Rattle.cas_record.specs.declared.answer.Answer.TheVariants as answer
+use Rattle.cas_record.specs.declared.answer.Cause.TheVariants as cause
+use Rattle.cas_record.specs.declared.operator.OpAnswer.{OpAnswer}
+use Rattle.cas_cluster.specs.Council.{PlanView}
+use Rattle.cas_cluster.specs.Course.{course_of, next_era, shown_era, era_shown, IsUnderWay, IsCourse}
+use Rattle.cas_cluster.specs.StepCouncil.{told_view}
+use Rattle.cas_cluster.specs.StepDesks.{Crashes}
+use Rattle.cas_cluster.specs.StepStops.{CrashesDesk, broken_off_view, closed_by_crash}
+use Rattle.cas_cluster.specs.Safe.{IsSound, IsSafe}
 use Rattle.cas_cluster.specs.SafeLaws.{StepsAreSafe}
 use Rattle.cas_cluster.specs.Step as step
-use Rattle.cas_cluster.specs.Step.{StepBegin}
-use Rattle.cas_cluster.specs.View.{Meaning, View}
+use Rattle.cas_cluster.specs.Step.{Step, StepBegin}
+use Rattle.cas_cluster.specs.View.{Meaning, View, era_at}
 use Rattle.cas_cluster.proofs.CallSteps.{anew}
 use Rattle.cas_cluster.proofs.SafeCalls.{opens_safe}
 use Rattle.cas_cluster.proofs.SafeRounds.{begins_safe, proposes_safe, counts_safe}
-use Rattle.cas_cluster.proofs.SafeStops.{refuses_call_safe, refuses_turn_safe, ends_call_safe, strays_safe, room_not_found_safe, crashes_acceptor_safe, restarts_acceptor_safe, crashes_proposer_safe, restarts_proposer_safe}
+use Rattle.cas_cluster.proofs.SafeStops.{refuses_call_safe, refuses_turn_safe, ends_call_safe, strays_safe, room_not_found_safe, crashes_acceptor_safe, restarts_acceptor_safe, restarts_proposer_safe, down_safe, left_safe, broken_off_safe}
 use Rattle.cas_cluster.proofs.SafeCouncil as council
+use Rattle.cas_cluster.proofs.SafePlans.{open_safe, enter_safe}
 use Rattle.cas_cluster.proofs.SafeTurns.{turns_safe}
+use Rattle.cas_cluster.proofs.CourseSteps.{stays_on_course}
+use Rattle.cas_cluster.proofs.Courses.{leads}
+use Rattle.cas_cluster.proofs.OnCourse.{left_course}
 
-begin_safe : {S V : Type 0} (m : Meaning S V) (old : View S V) (id : ℕ) (key : List ℕ) (program : List Clause) (new : View S V) → IsSafe old → StepBegin m old id key program new → IsSafe new
-begin_safe m old id key program new was by =
+begin_sound : {S V : Type 0} (m : Meaning S V) (old : View S V) (id : ℕ) (key : List ℕ) (program : List Clause) (new : View S V) → IsSound old → StepBegin m old id key program new → IsSound new
+begin_sound m old id key program new was by =
     let of = anew old id key program by.middle by.caller by.call by.opens by.at_caller by.is_open in
     begins_safe m by.middle id by.caller by.call new (opens_safe old id key program by.middle was by.opens) by.at_caller by.is_open of.unproposed of.unharmed by.begins
 
+-- the members of the next era are sets
+next_sets : {S V : Type 0} (old : View S V) (next : Era) → IsCourse (course_of old) → next_era old.council.plan ≡ Some next → IsMemberSet next.prep × IsMemberSet next.acc
+next_sets old next is is_next = by_plan old.council.plan is.under_way is_next
+  where
+    by_plan : (plan : Option PlanView) → IsUnderWay (course_of old) plan → next_era plan ≡ Some next → IsMemberSet next.prep × IsMemberSet next.acc
+    by_plan None under_way none = absurd (cc none)
+    by_plan (Some plan) under_way enters = let follows = (leads plan.progress.era next plan.progress.left enters under_way.start).follows in (follows.prep_set, follows.acc_set)
+
+-- and so are those of the era that a vault shows
+shown_sets : {S V : Type 0} (old : View S V) (id : ℕ) → IsSafe old → (number : ℕ) → IsMemberSet (era_shown old.council.plan (era_at old id) number).prep × IsMemberSet (era_shown old.council.plan (era_at old id) number).acc
+shown_sets old id is number = by_next (next_era old.council.plan) (λ next is_next. next_sets old next is.course is_next)
+  where
+    by_next : (next : Option Era) → ((era : Era) → next ≡ Some era → IsMemberSet era.prep × IsMemberSet era.acc) → IsMemberSet (shown_era next (era_at old id) number).prep × IsMemberSet (shown_era next (era_at old id) number).acc
+    by_next None sets = (is.sound.prep_sets id, is.sound.acc_sets id)
+    by_next (Some next) sets = by_number (next.number == number)
+      where
+        by_number : (b : Bool) → IsMemberSet (if b then next else era_at old id).prep × IsMemberSet (if b then next else era_at old id).acc
+        by_number true = sets next refl
+        by_number false = (is.sound.prep_sets id, is.sound.acc_sets id)
+
+sound : {S V : Type 0} (m : Meaning S V) (old : View S V) (event : step.Event) (new : View S V) → IsSafe old → Step m old event new → IsSound new
+sound m old (step.Begin id key program) new is by = begin_sound m old id key program new is.sound by
+sound m old (step.RefuseBegin id key) new is by = refuses_call_safe m old id key new is.sound by
+sound m old (step.Turn id verdict) new is by = turns_safe m old id verdict by.front by.of_call.caller by.of_call.call new is.sound by.of_call.at_caller by.of_call.is_open by.waits by.turn
+sound m old (step.RefuseTurn id) new is by = refuses_turn_safe m old id new is.sound by
+sound m old (step.Propose id) new is by = proposes_safe m old id new is.sound by
+sound m old (step.Count id) new is by = counts_safe m old id new is.sound by
+sound m old (step.End id told) new is by = ends_call_safe m old id by.of_call.caller by.of_call.call told new is.sound by.of_call.at_caller by.of_call.is_open by.ends
+sound m old (step.Stray index) new is by = strays_safe m old index new is.sound by
+sound m old step.RefuseStray new is by = room_not_found_safe m old new is.sound by
+sound m old (step.CrashAcceptor id) new is by = crashes_acceptor_safe m old id new is.sound by
+sound m old (step.RestartAcceptor id) new is by = restarts_acceptor_safe m old id new is.sound by
+sound m old (step.CrashProposer id) new is by = down_safe old id (Crashes m.disks) new (λ desk now crash. crash.crashed) is.sound by
+sound m old (step.RestartProposer id) new is by = restarts_proposer_safe m old id new is.sound (shown_sets old id is) by
+sound m old (step.Order asked) new is by = council.order_safe old asked new is.sound by
+sound m old step.RefuseOrder new is by = subst IsSound (sym by) is.sound
+sound m old (step.Tell answer) new is by = council.tell_safe old answer new is.sound by
+sound m old (step.AskAll question) new is by = council.ask_safe m old question new is.sound by
+sound m old (step.TurnExchange verdict) new is by = council.turn_exchange_safe m old verdict new is.sound by
+sound m old step.RefuseTurnExchange new is by = council.refuse_exchange_safe m old new is.sound by
+sound m old step.Gather new is by = council.gather_safe old new is.sound by
+sound m old step.OpenPlan new is by = open_safe m old new is.sound by
+sound m old (step.EnterEra id) new is by = let sets = next_sets old by.next is.course by.may.is_next in enter_safe m old new id is.sound by sets.0 sets.1
+
 pub steps_are_safe : {S V : Type 0} (m : Meaning S V) → StepsAreSafe m
-steps_are_safe m old (step.Begin id key program) new was by = begin_safe m old id key program new was by
-steps_are_safe m old (step.RefuseBegin id key) new was by = refuses_call_safe m old id key new was by
-steps_are_safe m old (step.Turn id verdict) new was by = turns_safe m old id verdict by.front by.of_call.caller by.of_call.call new was by.of_call.at_caller by.of_call.is_open by.waits by.turn
-steps_are_safe m old (step.RefuseTurn id) new was by = refuses_turn_safe m old id new was by
-steps_are_safe m old (step.Propose id) new was by = proposes_safe m old id new was by
-steps_are_safe m old (step.Count id) new was by = counts_safe m old id new was by
-steps_are_safe m old (step.End id told) new was by = ends_call_safe m old id by.of_call.caller by.of_call.call told new was by.of_call.at_caller by.of_call.is_open by.ends
-steps_are_safe m old (step.Stray index) new was by = strays_safe m old index new was by
-steps_are_safe m old step.RefuseStray new was by = room_not_found_safe m old new was by
-steps_are_safe m old (step.CrashAcceptor id) new was by = crashes_acceptor_safe m old id new was by
-steps_are_safe m old (step.RestartAcceptor id) new was by = restarts_acceptor_safe m old id new was by
-steps_are_safe m old (step.CrashProposer id) new was by = crashes_proposer_safe m old id new was by
-steps_are_safe m old (step.RestartProposer id) new was by = restarts_proposer_safe m old id new was by
-steps_are_safe m old (step.Order asked) new was by = council.order_safe old asked new was by
-steps_are_safe m old step.RefuseOrder new was by = subst IsSafe (sym by) was
-steps_are_safe m old (step.Tell answer) new was by = council.tell_safe old answer new was by
-steps_are_safe m old (step.AskAll question) new was by = council.ask_safe m old question new was by
-steps_are_safe m old (step.TurnExchange verdict) new was by = council.turn_exchange_safe m old verdict new was by
-steps_are_safe m old step.RefuseTurnExchange new was by = council.refuse_exchange_safe m old new was by
-steps_are_safe m old step.Gather new was by = council.gather_safe old new was by
+steps_are_safe m old event new was by = record { sound = sound m old event new was by; course = stays_on_course m old new event by was.course }
+
+-- ---- parts of calls
+-- a desk crashes
+pub crashed_desk_safe : {S V : Type 0} (m : Meaning S V) (old : View S V) (id : ℕ) (new : View S V) → IsSafe old → CrashesDesk m old id new → IsSafe new
+crashed_desk_safe {S} {V} m old id new was by = record {
+  sound = left_safe old id (Crashes m.disks) answer.Crashed cause.Crashed new
+      (λ desk now crash. (ap (λ (d : DeskView V). d.id) crash.crashed, ap (λ (d : DeskView V). d.round) crash.crashed, ap (λ (d : DeskView V). d.cache) crash.crashed)) was.sound by;
+  course = subst IsCourse (sym (left_course (Crashes m.disks) closed_by_crash old new id by)) was.course;
+}
+
+-- an exchange, if one is open, is broken off
+pub broken_safe : {S V : Type 0} (old : View S V) → IsSafe old → IsSafe (broken_off_view old)
+broken_safe old was = record { sound = broken_off_safe old was.sound; course = was.course }
+
+-- the open call is told something
+pub told_safe : {S V : Type 0} (old : View S V) (answer : OpAnswer) → IsSafe old → IsSafe (told_view old answer)
+told_safe old answer was = record { sound = council.told_view_safe old answer was.sound; course = was.course }

@@ -32,7 +32,7 @@ use Rattle.cas_record.specs.Happening.{marks_of}
 use Rattle.cas_record.proofs.Tests.{nat_same}
 use Rattle.cas_cluster.specs.Acceptors.{votes_of}
 use Rattle.cas_cluster.specs.Parties.{asked_in}
-use Rattle.cas_cluster.specs.Safe.{requests_in, handled_in, handled_once, IsPartySafe, IsRoundSafe, IsOpenSafe, IsSafe}
+use Rattle.cas_cluster.specs.Safe.{requests_in, handled_in, handled_once, IsPartySafe, IsRoundSafe, IsOpenSafe, IsSound}
 use Rattle.cas_cluster.specs.StepAcceptors.{AnswersByTable}
 use Rattle.cas_cluster.specs.StepCalls.{with_call}
 use Rattle.cas_cluster.specs.StepDesks.{HearsReply}
@@ -275,7 +275,7 @@ record IsOpenAt {S V : Type 0} (old : View S V) (id : ℕ) (caller : CallerView)
   pub safe : IsOpenSafe (era_at old id) caller (queue_at old.flow id) round
   pub same : safe.call ≡ call
 
-open_at : {S V : Type 0} (old : View S V) (id : ℕ) (caller : CallerView) (call : CallView) (front : Message) → IsSafe old → IsAt old.callers id caller → caller.call ≡ Some call
+open_at : {S V : Type 0} (old : View S V) (id : ℕ) (caller : CallerView) (call : CallView) (front : Message) → IsSound old → IsAt old.callers id caller → caller.call ≡ Some call
     → slice_get (queue_at old.flow id).messages 0 ≡ Some front → IsOpenAt old id caller call
 open_at {S} {V} old id caller call front was at is_open waits =
     let desk = at_low old.desks id (omega (arith, low_at old.callers id at, was.desks, was.callers)) in
@@ -315,11 +315,11 @@ record KeepsDesks {V : Type 0} (old new : List (DeskView V)) (id : ℕ) (next : 
 
 -- the proposer's open round goes on, and marks are made
 turned : {S V : Type 0} (old : View S V) (id : ℕ) (caller : CallerView) (call new : CallView) (acceptors : List (AcceptorView S)) (desks : List (DeskView V)) (flow : FlowView) (more : List Mark) (desk next : DeskView V) (round now : Round) (votes : ℕ)
-    → IsSafe old → IsAt old.callers id caller → caller.call ≡ Some call → IsAt old.desks id desk → desk.round ≡ Some round → next ≡ record desk { round = Some now }
+    → IsSound old → IsAt old.callers id caller → caller.call ≡ Some call → IsAt old.desks id desk → desk.round ≡ Some round → next ≡ record desk { round = Some now }
     → (safe : IsOpenSafe (era_at old id) caller (queue_at old.flow id) round) → safe.call ≡ call → Stays round now
     → KeepsIds old.acceptors acceptors → KeepsDesks old.desks desks id next → KeepsOthers old.flow flow id → length more + new.reserved ≤ call.reserved
     → Spends (asked_in (era_at old id) round.phase) call new votes → Moves (asked_in (era_at old id) round.phase) (queue_at old.flow id) (queue_at flow id) votes → (is_preparing round.phase ≡ true → votes ≡ 0)
-    → IsSafe (record old { acceptors = acceptors; desks = desks; callers = slice_set old.callers id (recalled caller new); flow = flow; marks = old.marks ++ more })
+    → IsSound (record old { acceptors = acceptors; desks = desks; callers = slice_set old.callers id (recalled caller new); flow = flow; marks = old.marks ++ more })
 turned {S} {V} old id caller call new acceptors desks flow more desk next round now votes was at_caller is_open at_desk is_round next_is safe same stays ids keeps others fits spends moves unvoted =
     safe_but old (record old { acceptors = acceptors; desks = desks; callers = slice_set old.callers id (recalled caller new); flow = flow; marks = old.marks ++ more }) id was (caller_low old id caller was at_caller)
     (changes_all old id acceptors desks (recalled caller new) flow (old.marks ++ more) ids.length (ids.ids was.acceptor_ids) keeps.length keeps.others others.own others.others (more_by old.marks more))
@@ -330,18 +330,18 @@ turned {S} {V} old id caller call new acceptors desks flow more desk next round 
 
 -- the round is as it was
 turned_here : {S V : Type 0} (old : View S V) (id : ℕ) (caller : CallerView) (call new : CallView) (acceptors : List (AcceptorView S)) (flow : FlowView) (more : List Mark) (votes : ℕ) (is_at : IsOpenAt old id caller call)
-    → IsSafe old → IsAt old.callers id caller → caller.call ≡ Some call → KeepsIds old.acceptors acceptors → KeepsOthers old.flow flow id → length more + new.reserved ≤ call.reserved
+    → IsSound old → IsAt old.callers id caller → caller.call ≡ Some call → KeepsIds old.acceptors acceptors → KeepsOthers old.flow flow id → length more + new.reserved ≤ call.reserved
     → Spends (asked_in (era_at old id) is_at.round.phase) call new votes → Moves (asked_in (era_at old id) is_at.round.phase) (queue_at old.flow id) (queue_at flow id) votes → (is_preparing is_at.round.phase ≡ true → votes ≡ 0)
-    → IsSafe (record old { acceptors = acceptors; callers = slice_set old.callers id (recalled caller new); flow = flow; marks = old.marks ++ more })
+    → IsSound (record old { acceptors = acceptors; callers = slice_set old.callers id (recalled caller new); flow = flow; marks = old.marks ++ more })
 turned_here {S} {V} old id caller call new acceptors flow more votes is_at was at_caller is_open ids others fits spends moves unvoted =
     turned old id caller call new acceptors old.desks flow more is_at.desk is_at.desk is_at.round is_at.round votes was at_caller is_open is_at.at_desk is_at.is_round
     (ap (λ (r : Option Round). record is_at.desk { round = r }) is_at.is_round) is_at.safe is_at.same (stays_same is_at.round) ids
     (record { length = refl; others = λ p d other at. at; own = λ d at. at_one old.desks id at is_at.at_desk }) others fits spends moves unvoted
 
 -- a frame to or from an acceptor is harmed, and the acceptor may go down
-harmed_safe : {S V : Type 0} (old : View S V) (id : ℕ) (v : Verdict) (front : Message) (caller : CallerView) (call : CallView) (acceptors : List (AcceptorView S)) (acceptor : ℕ) (down : Bool) → IsSafe old → IsAt old.callers id caller → caller.call ≡ Some call
+harmed_safe : {S V : Type 0} (old : View S V) (id : ℕ) (v : Verdict) (front : Message) (caller : CallerView) (call : CallView) (acceptors : List (AcceptorView S)) (acceptor : ℕ) (down : Bool) → IsSound old → IsAt old.callers id caller → caller.call ≡ Some call
     → slice_get (queue_at old.flow id).messages 0 ≡ Some front → acceptor ≡ (head_of front).1 → KeepsIds old.acceptors acceptors
-    → IsSafe (harmed_view (record old { acceptors = acceptors; flow = taken old.flow id v }) id caller call acceptor down)
+    → IsSound (harmed_view (record old { acceptors = acceptors; flow = taken old.flow id v }) id caller call acceptor down)
 harmed_safe {S} {V} old id v front caller call acceptors acceptor down was at is_open waits to ids =
     turned_here old id caller call (harmed_by call acceptor) acceptors (taken old.flow id v) (harms_marked id caller.number call acceptor down) 0 is_at was at is_open ids (taken_others old.flow id v)
     (harm_fits id caller.number call acceptor down (subst (λ (c : CallView). 0 < c.reserved) is_at.same (some_reserved (era_at old id) caller (queue_at old.flow id) is_at.round (was.prep_sets id) (was.acc_sets id) is_at.safe)))
@@ -356,9 +356,9 @@ harmed_safe {S} {V} old id v front caller call acceptors acceptor down was at is
     member = subst (λ (a : ℕ). has_member (asked_in (era_at old id) is_at.round.phase) a ≡ true) (sym to) (is_at.safe.about front (contains_at (queue_at old.flow id).messages 0 front waits))
 
 -- an acceptor answers
-answers_safe : {S V : Type 0} (m : Meaning S V) (old : View S V) (id : ℕ) (v : Verdict) (caller : CallerView) (call : CallView) (request : Request) (acceptor now : AcceptorView S) (reply : Reply) → IsSafe old → IsAt old.callers id caller → caller.call ≡ Some call
+answers_safe : {S V : Type 0} (m : Meaning S V) (old : View S V) (id : ℕ) (v : Verdict) (caller : CallerView) (call : CallView) (request : Request) (acceptor now : AcceptorView S) (reply : Reply) → IsSound old → IsAt old.callers id caller → caller.call ≡ Some call
     → slice_get (queue_at old.flow id).messages 0 ≡ Some (message.Request request) → fall_of (queue_at old.flow id).again v ≡ Handle → IsAt old.acceptors request.to acceptor → AnswersByTable m.shelves acceptor now request reply
-    → IsSafe (with_marks (record (with_call (with_acceptor old request.to now) id caller (marking call (length (votes_marked request reply)))) { flow = replied_flow old.flow id v reply }) (votes_marked request reply))
+    → IsSound (with_marks (record (with_call (with_acceptor old request.to now) id caller (marking call (length (votes_marked request reply)))) { flow = replied_flow old.flow id v reply }) (votes_marked request reply))
 answers_safe {S} {V} m old id v caller call request acceptor now reply was at is_open waits handle at_acceptor by =
     turned_here old id caller call (marking call (length (votes_marked request reply))) (slice_set old.acceptors request.to now) (replied_flow old.flow id v reply) (votes_marked request reply) (length (votes_marked request reply)) is_at was at is_open
     (keeps_set old.acceptors request.to acceptor now at_acceptor (ap (λ (a : AcceptorView S). a.id) by.acceptor)) (replied_others old.flow id v reply)
@@ -380,11 +380,11 @@ answers_safe {S} {V} m old id v caller call request acceptor now reply was at is
         (is_at.safe.about (message.Request request) (contains_at (queue_at old.flow id).messages 0 (message.Request request) waits))
 
 -- a reply arrives at the open round
-arrives_safe : {S V : Type 0} (old : View S V) (id : ℕ) (v : Verdict) (front : Message) (caller : CallerView) (call : CallView) (reply : Reply) (desk now : DeskView V) (round next : Round) → IsSafe old → IsAt old.callers id caller → caller.call ≡ Some call
+arrives_safe : {S V : Type 0} (old : View S V) (id : ℕ) (v : Verdict) (front : Message) (caller : CallerView) (call : CallView) (reply : Reply) (desk now : DeskView V) (round next : Round) → IsSound old → IsAt old.callers id caller → caller.call ≡ Some call
     → slice_get (queue_at old.flow id).messages 0 ≡ Some front → IsAt old.desks id desk → desk.round ≡ Some round → HearsReply desk now round next reply
-    → IsSafe (record (with_call (with_desk old id now) id caller (silent call)) { flow = taken old.flow id v })
+    → IsSound (record (with_call (with_desk old id now) id caller (silent call)) { flow = taken old.flow id v })
 arrives_safe {S} {V} old id v front caller call reply desk now round next was at is_open waits at_desk is_round hears =
-    subst (λ (l : List Mark). IsSafe (record old { desks = slice_set old.desks id now; callers = slice_set old.callers id (recalled caller (silent call)); flow = taken old.flow id v; marks = l })) (append-nil old.marks)
+    subst (λ (l : List Mark). IsSound (record old { desks = slice_set old.desks id now; callers = slice_set old.callers id (recalled caller (silent call)); flow = taken old.flow id v; marks = l })) (append-nil old.marks)
     (turned old id caller call (silent call) old.acceptors (slice_set old.desks id now) (taken old.flow id v) [] desk now round next 0 was at is_open at_desk is_round hears.desk safe same (stays_heard round next reply hears.hears)
     (keeps_same old.acceptors) (record { length = length-set old.desks id now; others = λ p d other at_d. other_set old.desks id now p d other at_d; own = λ d at_d. own_set old.desks id now d at_d }) (taken_others old.flow id v) (omega arith)
     (spends_none (asked_in (era_at old id) round.phase) call (subst (λ (c : CallView). IsMemberSet c.harmed) same safe.harmed_set) (subst (λ (c : CallView). IsWithin (asked_in (era_at old id) round.phase) c.harmed) same safe.harmed_within))
@@ -396,16 +396,16 @@ arrives_safe {S} {V} old id v front caller call reply desk now round next was at
     same : safe.call ≡ call
     same = some_is (sym safe.is_open ∙ is_open)
 
-pub turns_safe : {S V : Type 0} (m : Meaning S V) (old : View S V) (id : ℕ) (verdict : Verdict) (front : Message) (caller : CallerView) (call : CallView) (new : View S V) → IsSafe old → IsAt old.callers id caller → caller.call ≡ Some call
-    → slice_get (queue_at old.flow id).messages 0 ≡ Some front → TakesTurn m old id verdict front caller call new → IsSafe new
-turns_safe m old id v front caller call new was at is_open waits (frames.held fall view) = subst IsSafe (sym view) was
-turns_safe m old id v front caller call new was at is_open waits (frames.gone fall view) = subst IsSafe (sym view) (harmed_safe old id v front caller call old.acceptors (head_of front).1 false was at is_open waits refl (keeps_same old.acceptors))
+pub turns_safe : {S V : Type 0} (m : Meaning S V) (old : View S V) (id : ℕ) (verdict : Verdict) (front : Message) (caller : CallerView) (call : CallView) (new : View S V) → IsSound old → IsAt old.callers id caller → caller.call ≡ Some call
+    → slice_get (queue_at old.flow id).messages 0 ≡ Some front → TakesTurn m old id verdict front caller call new → IsSound new
+turns_safe m old id v front caller call new was at is_open waits (frames.held fall view) = subst IsSound (sym view) was
+turns_safe m old id v front caller call new was at is_open waits (frames.gone fall view) = subst IsSound (sym view) (harmed_safe old id v front caller call old.acceptors (head_of front).1 false was at is_open waits refl (keeps_same old.acceptors))
 turns_safe m old id v front caller call new was at is_open waits (frames.answers request acceptor now reply fall is_request at_acceptor by view) =
-    subst IsSafe (sym view) (answers_safe m old id v caller call request acceptor now reply was at is_open (waits ∙ ap (λ (x : Message). Some x) is_request) fall at_acceptor by)
+    subst IsSound (sym view) (answers_safe m old id v caller call request acceptor now reply was at is_open (waits ∙ ap (λ (x : Message). Some x) is_request) fall at_acceptor by)
 turns_safe m old id v front caller call new was at is_open waits (frames.finds_down request acceptor fall is_request at_acceptor is_down view) =
-    subst IsSafe (sym view) (harmed_safe old id v front caller call old.acceptors request.to true was at is_open waits (ap (λ (x : Message). (head_of x).1) (sym is_request)) (keeps_same old.acceptors))
+    subst IsSound (sym view) (harmed_safe old id v front caller call old.acceptors request.to true was at is_open waits (ap (λ (x : Message). (head_of x).1) (sym is_request)) (keeps_same old.acceptors))
 turns_safe {S} {V} m old id v front caller call new was at is_open waits (frames.brings_down request acceptor now fall is_request at_acceptor by view) =
-    subst IsSafe (sym view) (harmed_safe old id v front caller call (slice_set old.acceptors request.to now) request.to true was at is_open waits (ap (λ (x : Message). (head_of x).1) (sym is_request))
+    subst IsSound (sym view) (harmed_safe old id v front caller call (slice_set old.acceptors request.to now) request.to true was at is_open waits (ap (λ (x : Message). (head_of x).1) (sym is_request))
     (keeps_set old.acceptors request.to acceptor now at_acceptor (ap (λ (a : AcceptorView S). a.id) by.acceptor)))
 turns_safe m old id v front caller call new was at is_open waits (frames.arrives reply desk now round next fall is_reply at_desk is_round hears view) =
-    subst IsSafe (sym view) (arrives_safe old id v front caller call reply desk now round next was at is_open waits at_desk is_round hears)
+    subst IsSound (sym view) (arrives_safe old id v front caller call reply desk now round next was at is_open waits at_desk is_round hears)

@@ -1,11 +1,10 @@
--- Whatever is called on a cluster, one that is remembered is remembered after it.
+-- Whatever is called on a cluster, one that is logged is logged after it.
 use Rattle.std.proofs.Common.{◌≡◌, ℕ, true, false, List, [], ◌∷◌, Option, None, Some, refl, sym, ap, subst, ◌∙◌, inl, inr, arith}
-use Rattle.std.specs.Prelude.{◌⊎◌, is_some, if◌then◌else◌}
+use Rattle.std.specs.Prelude.{◌⊎◌, is_some}
 use Rattle.cas_ballot.specs.declared.ballot.Ballot.{Ballot}
 use Rattle.cas_change.specs.declared.outcome.Outcome.{Outcome}
 use Rattle.cas_flow.specs.Flow.{queue_at, abandoned}
 use Rattle.cas_flow.specs.declared.message.Message.{Message}
-use Rattle.cas_proposer.specs.Desk.{DeskView}
 use Rattle.cas_proposer.specs.Round.{is_preparing, IsPrepare, IsAccept, IsAccepting}
 use Rattle.cas_proposer.specs.declared.round.OpenPhase.{OpenPhase}
 use Rattle.cas_proposer.specs.declared.round.OpenPhase.TheVariants.{Prepare, Accept}
@@ -16,78 +15,78 @@ use Rattle.cas_slot.specs.Slot.{accepted_ballot}
 use Rattle.cas_vault.specs.Vault.{kept_of}
 use Rattle.cas_record.specs.declared.answer.Answer.{Answer}
 use Rattle.cas_record.specs.declared.answer.Answer.TheVariants as answer
-use Rattle.cas_record.specs.declared.answer.Cause.TheVariants as cause
 use Rattle.cas_record.specs.declared.mark.Mark.TheVariants.{Proposed, Acked, Ended}
 use Rattle.cas_record.specs.Happening.{Happening, marks_of}
 use Rattle.cas_record.specs.Lawful.{Cluster}
-use Rattle.cas_record.specs.Legal.{IsProposed}
-use Rattle.cas_cluster.specs.History.{IsRemembered}
-use Rattle.cas_cluster.specs.Parties.{AreMessagesTrue, IsPrepareTrue, IsAcceptTrue, IsRoundTrue, IsOpenTrue, IsDeskTrue, IsToldTrue, IsCallTrue}
-use Rattle.cas_cluster.specs.Protocol.{Made, GlobalState}
+use Rattle.cas_cluster.specs.History.{IsLogged}
+use Rattle.cas_cluster.specs.Parties.{IsPrepareTrue, IsAcceptTrue, IsRoundTrue, IsOpenTrue, IsCallTrue}
+use Rattle.cas_cluster.specs.Protocol.{Made}
 use Rattle.cas_cluster.specs.Step as step
-use Rattle.cas_cluster.specs.Step.{Step, StepBegin, StepPropose, StepCount, StepEnd, StepCrashAcceptor, StepRestartAcceptor, CrashesDesk, StepCrashProposer, StepRestartProposer, OpenCallAt, OpenRoundAt, closed_by_crash}
+use Rattle.cas_cluster.specs.Step.{Step, StepBegin, StepPropose, StepCount, StepEnd, StepCrashAcceptor, StepRestartAcceptor, OpenRoundAt}
 use Rattle.cas_cluster.specs.StepCalls as calls
 use Rattle.cas_cluster.specs.StepCalls.{round_marks, Opens, BeginsRound, RefusesCall, ProposesOrEnds, CountsOrEnds, EndsCall, over, with_call, tried_again}
 use Rattle.cas_cluster.specs.View.{Meaning, View, CallView, CallerView, IsAt, with_acceptor, with_desk, with_caller, era_at}
 use Rattle.cas_cluster.proofs.AcceptorSteps as acceptor
 use Rattle.cas_cluster.specs.StepDesks.{Crashes}
-use Rattle.cas_cluster.proofs.Around.{Whole, whole_of, remembered, around, settles, leaves_desk}
+use Rattle.cas_cluster.proofs.Around.{whole_of, logged}
 use Rattle.cas_cluster.proofs.Asks.{asked_marks}
 use Rattle.cas_cluster.proofs.Beginnings.{begins_to_prepare, prepare_request}
 use Rattle.cas_cluster.proofs.CouncilSteps as council
 use Rattle.cas_cluster.proofs.CallSteps.{anew, opens, marked}
-use Rattle.cas_cluster.proofs.CountSteps.{counts, ends_call, restarts}
+use Rattle.cas_cluster.proofs.CountSteps.{counts, ends_call}
 use Rattle.cas_cluster.proofs.Draws.{drew, drew_log, drew_marks}
-use Rattle.cas_cluster.proofs.EndSteps.{told_fault, told_spent, told_kept, told_nothing, refusal_told, unsettled_told, call_told, short_prepare, short_accept, told_fails, told_ends, told_loses, lost, crashes_desk, quiet_true, quiet_crashes, none_left, others_left, all_joined_true}
+use Rattle.cas_cluster.proofs.EndSteps.{told_fault, told_spent, told_kept, told_nothing, refusal_told, unsettled_told, call_told, short_prepare, short_accept, told_fails, told_ends, told_loses, lost}
 use Rattle.cas_cluster.proofs.FrameSteps as frames
 use Rattle.cas_cluster.proofs.FrameSteps.{moves, turns, refuses_turn, strays, refuses_stray}
-use Rattle.cas_cluster.proofs.Places.{own_set, some_is, contains_none}
+use Rattle.cas_cluster.proofs.Leaving.{down_logged}
+use Rattle.cas_cluster.proofs.OnCourse.{Leads}
+use Rattle.cas_cluster.proofs.Places.{some_is}
 use Rattle.cas_cluster.proofs.Proposals.{accept_requests}
 use Rattle.cas_cluster.proofs.RoundSteps.{none_waits, begins_by_promise, proposes_round}
 
 -- ---- a round begins
-begins : {S V : Type 0} (m : Meaning S V) (old : View S V) (id : ℕ) (caller : CallerView) (call : CallView) (new : View S V) → m.disks.tells → IsAt old.callers id caller → caller.call ≡ Some call → call.proposed ≡ None
-    → IsRemembered m old → BeginsRound m old id caller call new → IsRemembered m new
-begins m old id caller call new tells at_caller is_open unproposed is (calls.prepares desk now ballot round flow at_desk up room by sends view) =
-    subst (IsRemembered m) (sym view) (remembered m is.cluster _ (record (with_desk old id now) { flow = flow })
-    (begins_to_prepare m is.cluster is.global old id caller call desk now ballot round flow tells at_caller is_open unproposed at_desk by sends (whole_of m old is))
+begins : {S V : Type 0} {cluster : Cluster} (m : Meaning S V) (old : View S V) (id : ℕ) (caller : CallerView) (call : CallView) (new : View S V) → m.disks.tells → IsAt old.callers id caller → caller.call ≡ Some call → call.proposed ≡ None
+    → IsLogged m cluster old → BeginsRound m old id caller call new → IsLogged m cluster new
+begins {cluster = cluster} m old id caller call new tells at_caller is_open unproposed is (calls.prepares desk now ballot round flow at_desk up room by sends view) =
+    subst (IsLogged m cluster) (sym view) (logged m cluster _ (record (with_desk old id now) { flow = flow })
+    (begins_to_prepare m cluster is.global old id caller call desk now ballot round flow tells at_caller is_open unproposed at_desk by sends (whole_of m old is))
     (asked_marks (prepare_request id (kept_of desk.vault).age call.key ballot) (era_at old id).prep (drew is.global (Some ballot) call.key (era_at old id).number).log ∙ is.agrees.marks))
-begins m old id caller call new tells at_caller is_open unproposed is (calls.proposes desk now ready ride round outcome flow at_desk up room by is_outcome sends view) =
-    subst (IsRemembered m) (sym view) (remembered m is.cluster _ _
-    (begins_by_promise m is.cluster is.global old id caller call desk now ready ride round outcome flow tells at_caller is_open unproposed at_desk by is_outcome sends (whole_of m old is))
+begins {cluster = cluster} m old id caller call new tells at_caller is_open unproposed is (calls.proposes desk now ready ride round outcome flow at_desk up room by is_outcome sends view) =
+    subst (IsLogged m cluster) (sym view) (logged m cluster _ _
+    (begins_by_promise m cluster is.global old id caller call desk now ready ride round outcome flow tells at_caller is_open unproposed at_desk by is_outcome sends (whole_of m old is))
     (asked_marks (accept_requests id (kept_of desk.vault).age (record round { ride = ride }) outcome) round.era.acc _
     ∙ marked (marks_of (drew_log ride call.key (era_at old id).number is.global.log)) old.marks (Proposed (calls.proposal_of id caller.number round ready.read ready.by)) (drew_marks is.global.log call.key (era_at old id).number ride ∙ is.agrees.marks)))
-begins m old id caller call new tells at_caller is_open unproposed is (calls.stays told nothing idle full view) =
+begins {cluster = cluster} m old id caller call new tells at_caller is_open unproposed is (calls.stays told nothing idle full view) =
     let was = is.agrees.callers id caller at_caller in
     let call_true = was.call call is_open in
-    subst (IsRemembered m) (sym view) (remembered m is.cluster is.global (with_call old id caller (over call told))
-    (moves m is.cluster is.global old id caller call (over call told) old.flow at_caller is_open refl refl
+    subst (IsLogged m cluster) (sym view) (logged m cluster is.global (with_call old id caller (over call told))
+    (moves m cluster is.global old id caller call (over call told) old.flow at_caller is_open refl refl
     (call_told is.global.log is.global.made id caller.number call told call.is_closed 1 call_true (told_nothing is.global.log is.global.made id caller.number told nothing (call_true.unproposed unproposed)))
     (record { others = λ p other. refl; own = is.agrees.own id; late = is.agrees.late; idle = λ none. none }) (λ round replies heard. heard) (whole_of m old is)) is.agrees.marks)
-begins m old id caller call new tells at_caller is_open unproposed is (calls.spent desk now at_desk idle up no_promise spent kept is_now view) =
+begins {cluster = cluster} m old id caller call new tells at_caller is_open unproposed is (calls.spent desk now at_desk idle up no_promise spent kept is_now view) =
     let call_true = (is.agrees.callers id caller at_caller).call call is_open in
-    subst (IsRemembered m) (sym view) (remembered m is.cluster is.global (with_call (with_desk old id now) id caller (over call answer.Spent))
-    (told_kept m is.cluster is.global old id caller call desk now answer.Spent tells at_caller is_open at_desk idle kept.goes_on is_now
+    subst (IsLogged m cluster) (sym view) (logged m cluster is.global (with_call (with_desk old id now) id caller (over call answer.Spent))
+    (told_kept m cluster is.global old id caller call desk now answer.Spent tells at_caller is_open at_desk idle kept.goes_on is_now
     (told_spent is.global.log is.global.made id caller.number (call_true.unproposed unproposed)) (whole_of m old is)) is.agrees.marks)
-begins m old id caller call new tells at_caller is_open unproposed is (calls.fails desk now at_desk idle up by view) =
+begins {cluster = cluster} m old id caller call new tells at_caller is_open unproposed is (calls.fails desk now at_desk idle up by view) =
     let call_true = (is.agrees.callers id caller at_caller).call call is_open in
     let of = is.agrees.desks id desk caller at_desk at_caller in
-    subst (IsRemembered m) (sym view) (remembered m is.cluster is.global (with_call (with_desk old id now) id caller (over call answer.VaultFault))
-    (told_fails m is.cluster is.global old id caller call call.key desk now answer.VaultFault tells at_caller is_open at_desk
-    (none_waits is.cluster is.global.log is.global.made id (era_at old id).number caller (queue_at old.flow id).messages desk.round idle of.round) by
+    subst (IsLogged m cluster) (sym view) (logged m cluster is.global (with_call (with_desk old id now) id caller (over call answer.VaultFault))
+    (told_fails m cluster is.global old id caller call call.key desk now answer.VaultFault tells at_caller is_open at_desk
+    (none_waits cluster is.global.log is.global.made id (era_at old id).number caller (queue_at old.flow id).messages desk.round idle of.round) by
     (told_fault is.global.log is.global.made id caller.number (call_true.unproposed unproposed)) (whole_of m old is)) is.agrees.marks)
-begins m old id caller call new tells at_caller is_open unproposed is (calls.loses desk now ballot at_desk idle up by view) =
+begins {cluster = cluster} m old id caller call new tells at_caller is_open unproposed is (calls.loses desk now ballot at_desk idle up by view) =
     let of = is.agrees.desks id desk caller at_desk at_caller in
-    subst (IsRemembered m) (sym view) (remembered m is.cluster (drew is.global ballot call.key (era_at old id).number) (with_call (with_desk old id now) id caller (over call (answer.NoMemory false)))
-    (told_loses m is.cluster is.global old id caller call call.key desk now ballot tells at_caller is_open unproposed at_desk
-    (none_waits is.cluster is.global.log is.global.made id (era_at old id).number caller (queue_at old.flow id).messages desk.round idle of.round) by (whole_of m old is))
+    subst (IsLogged m cluster) (sym view) (logged m cluster (drew is.global ballot call.key (era_at old id).number) (with_call (with_desk old id now) id caller (over call (answer.NoMemory false)))
+    (told_loses m cluster is.global old id caller call call.key desk now ballot tells at_caller is_open unproposed at_desk
+    (none_waits cluster is.global.log is.global.made id (era_at old id).number caller (queue_at old.flow id).messages desk.round idle of.round) by (whole_of m old is))
     (drew_marks is.global.log call.key (era_at old id).number ballot ∙ is.agrees.marks))
 
-refuses : {S V : Type 0} (m : Meaning S V) (old : View S V) (id : ℕ) (key : List ℕ) (new : View S V) → m.disks.tells → IsRemembered m old → RefusesCall m old id key new → IsRemembered m new
-refuses m old id key new tells is (calls.stays view) = subst (IsRemembered m) (sym view) is
-refuses m old id key new tells is (calls.loses caller desk now ballot at_caller at_desk idle up by view) =
-    subst (IsRemembered m) (sym view) (remembered m is.cluster (drew is.global ballot key (era_at old id).number) (with_desk old id now)
-    (lost m is.cluster is.global old id key desk now ballot tells at_desk idle by caller at_caller (whole_of m old is)) (drew_marks is.global.log key (era_at old id).number ballot ∙ is.agrees.marks))
+refuses : {S V : Type 0} {cluster : Cluster} (m : Meaning S V) (old : View S V) (id : ℕ) (key : List ℕ) (new : View S V) → m.disks.tells → IsLogged m cluster old → RefusesCall m old id key new → IsLogged m cluster new
+refuses {cluster = cluster} m old id key new tells is (calls.stays view) = subst (IsLogged m cluster) (sym view) is
+refuses {cluster = cluster} m old id key new tells is (calls.loses caller desk now ballot at_caller at_desk idle up by view) =
+    subst (IsLogged m cluster) (sym view) (logged m cluster (drew is.global ballot key (era_at old id).number) (with_desk old id now)
+    (lost m cluster is.global old id key desk now ballot tells at_desk idle by caller at_caller (whole_of m old is)) (drew_marks is.global.log key (era_at old id).number ballot ∙ is.agrees.marks))
 
 -- ---- a round goes on
 not_accept : (era : Era) (ballot : Ballot) (replies : List Reply) (phase_is : OpenPhase) → IsAccept era ballot replies phase_is → is_preparing phase_is ≡ false
@@ -109,18 +108,18 @@ accept_at : (log : List Happening) (all : List Made) (id number : ℕ) (call : C
 accept_at log all id number call waiting round accepting (inl of) = absurd (cc (accepting, not_prepare round.era round.ballot of.replies round.phase of.preparing.phase))
 accept_at log all id number call waiting round accepting (inr of) = of
 
-round_at : {S V : Type 0} (m : Meaning S V) (old : View S V) (id : ℕ) (is : IsRemembered m old) (at : OpenRoundAt old id)
-    → IsRoundTrue is.cluster is.global.log is.global.made id (era_at old id).number at.of_call.caller (queue_at old.flow id).messages at.round
-round_at m old id is at =
-    subst (IsOpenTrue is.cluster is.global.log is.global.made id (era_at old id).number at.of_call.caller (queue_at old.flow id).messages) at.is_open (is.agrees.desks id at.desk at.of_call.caller at.at_desk at.of_call.at_caller).round
+round_at : {S V : Type 0} {cluster : Cluster} (m : Meaning S V) (old : View S V) (id : ℕ) (is : IsLogged m cluster old) (at : OpenRoundAt old id)
+    → IsRoundTrue cluster is.global.log is.global.made id (era_at old id).number at.of_call.caller (queue_at old.flow id).messages at.round
+round_at {cluster = cluster} m old id is at =
+    subst (IsOpenTrue cluster is.global.log is.global.made id (era_at old id).number at.of_call.caller (queue_at old.flow id).messages) at.is_open (is.agrees.desks id at.desk at.of_call.caller at.at_desk at.of_call.at_caller).round
 
 -- the call of the round is the caller's
-call_at : {S V : Type 0} (m : Meaning S V) (old : View S V) (id : ℕ) (is : IsRemembered m old) (at : OpenRoundAt old id) → (round_at m old id is at).call ≡ at.of_call.call
-call_at m old id is at = some_is (sym (round_at m old id is at).is_open ∙ at.of_call.is_open)
+call_at : {S V : Type 0} {cluster : Cluster} (m : Meaning S V) (old : View S V) (id : ℕ) (is : IsLogged m cluster old) (at : OpenRoundAt old id) → (round_at m old id is at).call ≡ at.of_call.call
+call_at {cluster = cluster} m old id is at = some_is (sym (round_at m old id is at).is_open ∙ at.of_call.is_open)
 
-proposes_or_ends : {S V : Type 0} (m : Meaning S V) (old : View S V) (id : ℕ) (new : View S V) → m.disks.tells → IsRemembered m old → (at : OpenRoundAt old id) → is_preparing at.round.phase ≡ true
-    → ProposesOrEnds m old id at.desk at.round at.of_call.caller at.of_call.call new → IsRemembered m new
-proposes_or_ends {S} {V} m old id new tells is at preparing by = by_case by
+proposes_or_ends : {S V : Type 0} {cluster : Cluster} (m : Meaning S V) (old : View S V) (id : ℕ) (new : View S V) → m.disks.tells → IsLogged m cluster old → (at : OpenRoundAt old id) → is_preparing at.round.phase ≡ true
+    → ProposesOrEnds m old id at.desk at.round at.of_call.caller at.of_call.call new → IsLogged m cluster new
+proposes_or_ends {S} {V} {cluster} m old id new tells is at preparing by = by_case by
   where
     caller : CallerView
     caller = at.of_call.caller
@@ -128,7 +127,7 @@ proposes_or_ends {S} {V} m old id new tells is at preparing by = by_case by
     call : CallView
     call = at.of_call.call
 
-    of : IsRoundTrue is.cluster is.global.log is.global.made id (era_at old id).number caller (queue_at old.flow id).messages at.round
+    of : IsRoundTrue cluster is.global.log is.global.made id (era_at old id).number caller (queue_at old.flow id).messages at.round
     of = round_at m old id is at
 
     prepare : IsPrepareTrue is.global.log id call (queue_at old.flow id).messages at.round
@@ -138,36 +137,36 @@ proposes_or_ends {S} {V} m old id new tells is at preparing by = by_case by
     call_true : IsCallTrue is.global.log is.global.made id caller.number call
     call_true = (is.agrees.callers id caller at.of_call.at_caller).call call at.of_call.is_open
 
-    by_case : ProposesOrEnds m old id at.desk at.round caller call new → IsRemembered m new
+    by_case : ProposesOrEnds m old id at.desk at.round caller call new → IsLogged m cluster new
     by_case (calls.proposes now turned read by ride outcome flow quorum confirmers is_read turns is_outcome sends view) =
-        subst (IsRemembered m) (sym view) (remembered m is.cluster _ _
-        (proposes_round m is.cluster is.global old id caller call at.desk now at.round turned.phase read by ride outcome flow tells at.of_call.at_caller at.of_call.is_open at.at_desk at.is_open at.none_waits prepare
+        subst (IsLogged m cluster) (sym view) (logged m cluster _ _
+        (proposes_round m cluster is.global old id caller call at.desk now at.round turned.phase read by ride outcome flow tells at.of_call.at_caller at.of_call.is_open at.at_desk at.is_open at.none_waits prepare
         (of.same_key ∙ ap (λ (c : CallView). c.key) (call_at m old id is at)) of.same_era of.is_era quorum confirmers is_read
         (λ replies preparing_is. subst (IsAccepting replies []) turns.turns.same (turns.turns.accepts replies preparing_is)) turns.drawn
         (turns.desk ∙ ap (λ (r : Round). record at.desk { vault = now.vault; round = Some (record r { ride = ride }) }) turns.turns.same) is_outcome sends (whole_of m old is))
         (asked_marks (accept_requests id (kept_of at.desk.vault).age (record at.round { ride = ride; phase = turned.phase }) outcome) at.round.era.acc _
         ∙ marked (marks_of (drew_log ride at.round.key (era_at old id).number is.global.log)) old.marks (Proposed (calls.proposal_of id caller.number at.round (accepted_ballot read) by)) (drew_marks is.global.log at.round.key (era_at old id).number ride ∙ is.agrees.marks)))
     by_case (calls.ends now how told is_verdict tells_why ends view) =
-        subst (IsRemembered m) (sym view) (remembered m is.cluster is.global (with_call (with_desk old id now) id caller (over call told))
-        (told_ends m is.cluster is.global old id caller call at.desk now at.round told tells at.of_call.at_caller at.of_call.is_open at.at_desk at.none_waits ends
+        subst (IsLogged m cluster) (sym view) (logged m cluster is.global (with_call (with_desk old id now) id caller (over call told))
+        (told_ends m cluster is.global old id caller call at.desk now at.round told tells at.of_call.at_caller at.of_call.is_open at.at_desk at.none_waits ends
         (refusal_told is.global.log is.global.made id caller.number how told tells_why (call_true.unproposed prepare.unproposed) (λ got need short. omega (
           arith,
           call_true.harmed,
-          short_prepare is.cluster is.global.log id call at.round how got need is.history.orderly preparing of.is_era
+          short_prepare cluster is.global.log id call at.round how got need is.history.orderly preparing of.is_era
               (subst (λ (l : List Message). IsPrepareTrue is.global.log id call l at.round) at.none_waits prepare) call_true.harmed_set is_verdict short,
         ))) (whole_of m old is)) is.agrees.marks)
     by_case (calls.fails now by view) =
-        subst (IsRemembered m) (sym view) (remembered m is.cluster is.global (with_call (with_desk old id now) id caller (over call answer.VaultFault))
-        (told_fails m is.cluster is.global old id caller call at.round.key at.desk now answer.VaultFault tells at.of_call.at_caller at.of_call.is_open at.at_desk at.none_waits by
+        subst (IsLogged m cluster) (sym view) (logged m cluster is.global (with_call (with_desk old id now) id caller (over call answer.VaultFault))
+        (told_fails m cluster is.global old id caller call at.round.key at.desk now answer.VaultFault tells at.of_call.at_caller at.of_call.is_open at.at_desk at.none_waits by
         (told_fault is.global.log is.global.made id caller.number (call_true.unproposed prepare.unproposed)) (whole_of m old is)) is.agrees.marks)
     by_case (calls.loses now ballot by view) =
-        subst (IsRemembered m) (sym view) (remembered m is.cluster (drew is.global ballot at.round.key (era_at old id).number) (with_call (with_desk old id now) id caller (over call (answer.NoMemory false)))
-        (told_loses m is.cluster is.global old id caller call at.round.key at.desk now ballot tells at.of_call.at_caller at.of_call.is_open prepare.unproposed at.at_desk at.none_waits by (whole_of m old is))
+        subst (IsLogged m cluster) (sym view) (logged m cluster (drew is.global ballot at.round.key (era_at old id).number) (with_call (with_desk old id now) id caller (over call (answer.NoMemory false)))
+        (told_loses m cluster is.global old id caller call at.round.key at.desk now ballot tells at.of_call.at_caller at.of_call.is_open prepare.unproposed at.at_desk at.none_waits by (whole_of m old is))
         (drew_marks is.global.log at.round.key (era_at old id).number ballot ∙ is.agrees.marks))
 
-counts_or_ends : {S V : Type 0} (m : Meaning S V) (old : View S V) (id : ℕ) (new : View S V) → m.disks.tells → IsRemembered m old → (at : OpenRoundAt old id) → is_preparing at.round.phase ≡ false
-    → CountsOrEnds m old id at.desk at.round at.of_call.caller at.of_call.call new → IsRemembered m new
-counts_or_ends {S} {V} m old id new tells is at accepting by = by_case by
+counts_or_ends : {S V : Type 0} {cluster : Cluster} (m : Meaning S V) (old : View S V) (id : ℕ) (new : View S V) → m.disks.tells → IsLogged m cluster old → (at : OpenRoundAt old id) → is_preparing at.round.phase ≡ false
+    → CountsOrEnds m old id at.desk at.round at.of_call.caller at.of_call.call new → IsLogged m cluster new
+counts_or_ends {S} {V} {cluster} m old id new tells is at accepting by = by_case by
   where
     caller : CallerView
     caller = at.of_call.caller
@@ -175,7 +174,7 @@ counts_or_ends {S} {V} m old id new tells is at accepting by = by_case by
     call : CallView
     call = at.of_call.call
 
-    of : IsRoundTrue is.cluster is.global.log is.global.made id (era_at old id).number caller (queue_at old.flow id).messages at.round
+    of : IsRoundTrue cluster is.global.log is.global.made id (era_at old id).number caller (queue_at old.flow id).messages at.round
     of = round_at m old id is at
 
     accept : IsAcceptTrue is.global.log is.global.made id caller.number call (queue_at old.flow id).messages at.round
@@ -185,105 +184,66 @@ counts_or_ends {S} {V} m old id new tells is at accepting by = by_case by
     call_true : IsCallTrue is.global.log is.global.made id caller.number call
     call_true = (is.agrees.callers id caller at.of_call.at_caller).call call at.of_call.is_open
 
-    by_case : CountsOrEnds m old id at.desk at.round caller call new → IsRemembered m new
+    by_case : CountsOrEnds m old id at.desk at.round caller call new → IsLogged m cluster new
     by_case (calls.counts now by outcome quorum confirmers proposed ends view) =
-        subst (IsRemembered m) (sym view) (frames.marked m is.cluster _ (with_call (with_desk old id now) id caller (over call (answer.Done outcome.state outcome.took at.round.ballot)))
+        subst (IsLogged m cluster) (sym view) (frames.marked m cluster _ (with_call (with_desk old id now) id caller (over call (answer.Done outcome.state outcome.took at.round.ballot)))
         (Acked (record { key = at.round.key; ballot = at.round.ballot; era = at.round.era.number; by = by }) ∷ []) (marks_of is.global.log)
-        (counts m is.cluster is.global old id caller call at.desk now at.round outcome by tells at.of_call.at_caller at.of_call.is_open at.at_desk at.none_waits of.own of.same_era of.is_era accept quorum confirmers proposed ends (whole_of m old is))
+        (counts m cluster is.global old id caller call at.desk now at.round outcome by tells at.of_call.at_caller at.of_call.is_open at.at_desk at.none_waits of.own of.same_era of.is_era accept quorum confirmers proposed ends (whole_of m old is))
         is.agrees.marks refl)
     by_case (calls.ends now how why is_verdict tells_why ends view) =
-        subst (IsRemembered m) (sym view) (remembered m is.cluster is.global (with_call (with_desk old id now) id caller (over call (answer.Unsettled why)))
-        (told_ends m is.cluster is.global old id caller call at.desk now at.round (answer.Unsettled why) tells at.of_call.at_caller at.of_call.is_open at.at_desk at.none_waits ends
+        subst (IsLogged m cluster) (sym view) (logged m cluster is.global (with_call (with_desk old id now) id caller (over call (answer.Unsettled why)))
+        (told_ends m cluster is.global old id caller call at.desk now at.round (answer.Unsettled why) tells at.of_call.at_caller at.of_call.is_open at.at_desk at.none_waits ends
         (unsettled_told is.global.log is.global.made id caller.number how why tells_why (call_true.proposed (ap (λ (o : Option Outcome). is_some o) accept.proposed)) (λ got need short. omega (
           arith,
           call_true.harmed,
-          short_accept is.cluster is.global.log is.global.made id caller.number call at.round how got need is.history.orderly accepting of.is_era
+          short_accept cluster is.global.log is.global.made id caller.number call at.round how got need is.history.orderly accepting of.is_era
               (subst (λ (l : List Message). IsAcceptTrue is.global.log is.global.made id caller.number call l at.round) at.none_waits accept) call_true.harmed_set is_verdict short,
         ))) (whole_of m old is)) is.agrees.marks)
 
-ends : {S V : Type 0} (m : Meaning S V) (old : View S V) (id : ℕ) (told : Answer) (new : View S V) → m.disks.tells → IsRemembered m old → StepEnd m old id told new → IsRemembered m new
-ends m old id told new tells is by =
+ends : {S V : Type 0} {cluster : Cluster} (m : Meaning S V) (old : View S V) (id : ℕ) (told : Answer) (new : View S V) → m.disks.tells → IsLogged m cluster old → StepEnd m old id told new → IsLogged m cluster new
+ends {cluster = cluster} m old id told new tells is by =
     let at = by.of_call in
-    subst (IsRemembered m) (sym by.ends.view) (frames.marked m is.cluster _ (record (with_caller (with_desk old id by.ends.now) id (record at.caller { call = None })) { flow = abandoned old.flow id })
+    subst (IsLogged m cluster) (sym by.ends.view) (frames.marked m cluster _ (record (with_caller (with_desk old id by.ends.now) id (record at.caller { call = None })) { flow = abandoned old.flow id })
     (Ended id at.caller.number at.call.rounds told ∷ []) (marks_of is.global.log)
-    (ends_call m is.cluster is.global old id at.caller at.call told by.ends.desk by.ends.now tells at.at_caller at.is_open by.ends.told by.ends.at_desk by.ends.closed (whole_of m old is))
+    (ends_call m cluster is.global old id at.caller at.call told by.ends.desk by.ends.now tells at.at_caller at.is_open by.ends.told by.ends.at_desk by.ends.closed (whole_of m old is))
     is.agrees.marks refl)
 
 -- ---- stops
-crashes_acceptor : {S V : Type 0} (m : Meaning S V) (old : View S V) (id : ℕ) (new : View S V) → m.shelves.tells → IsRemembered m old → StepCrashAcceptor m old id new → IsRemembered m new
-crashes_acceptor m old id new tells is (step.crashes one now at by view) =
-    subst (IsRemembered m) (sym view) (remembered m is.cluster is.global (with_acceptor old id now) (acceptor.crashes m is.cluster is.global old id one now tells at by (whole_of m old is)) is.agrees.marks)
+crashes_acceptor : {S V : Type 0} {cluster : Cluster} (m : Meaning S V) (old : View S V) (id : ℕ) (new : View S V) → m.shelves.tells → IsLogged m cluster old → StepCrashAcceptor m old id new → IsLogged m cluster new
+crashes_acceptor {cluster = cluster} m old id new tells is (step.crashes one now at by view) =
+    subst (IsLogged m cluster) (sym view) (logged m cluster is.global (with_acceptor old id now) (acceptor.crashes m cluster is.global old id one now tells at by (whole_of m old is)) is.agrees.marks)
 
-restarts_acceptor : {S V : Type 0} (m : Meaning S V) (old : View S V) (id : ℕ) (new : View S V) → m.shelves.tells → IsRemembered m old → StepRestartAcceptor m old id new → IsRemembered m new
-restarts_acceptor m old id new tells is (step.was_up one at up view) = subst (IsRemembered m) (sym view) is
-restarts_acceptor m old id new tells is (step.starts one now at by view) =
-    let again = acceptor.starts m is.cluster is.global old id one now tells at by (whole_of m old is) in
-    subst (IsRemembered m) (sym view) (remembered m is.cluster again.after (with_acceptor old id now) again.whole (again.marks ∙ is.agrees.marks))
-restarts_acceptor m old id new tells is (step.fails one now at by view) =
-    subst (IsRemembered m) (sym view) (remembered m is.cluster is.global (with_acceptor old id now) (acceptor.fails_to_start m is.cluster is.global old id one now tells at by (whole_of m old is)) is.agrees.marks)
+restarts_acceptor : {S V : Type 0} {cluster : Cluster} (m : Meaning S V) (old : View S V) (id : ℕ) (new : View S V) → m.shelves.tells → IsLogged m cluster old → StepRestartAcceptor m old id new → IsLogged m cluster new
+restarts_acceptor {cluster = cluster} m old id new tells is (step.was_up one at up view) = subst (IsLogged m cluster) (sym view) is
+restarts_acceptor {cluster = cluster} m old id new tells is (step.starts one now at by view) =
+    let again = acceptor.starts m cluster is.global old id one now tells at by (whole_of m old is) in
+    subst (IsLogged m cluster) (sym view) (logged m cluster again.after (with_acceptor old id now) again.whole (again.marks ∙ is.agrees.marks))
+restarts_acceptor {cluster = cluster} m old id new tells is (step.fails one now at by view) =
+    subst (IsLogged m cluster) (sym view) (logged m cluster is.global (with_acceptor old id now) (acceptor.fails_to_start m cluster is.global old id one now tells at by (whole_of m old is)) is.agrees.marks)
 
--- a crash of a desk that has no open round
-idle_crash : {S V : Type 0} (m : Meaning S V) (cluster : Cluster) (global : GlobalState) (old : View S V) (id : ℕ) (desk now : DeskView V) → m.disks.tells → IsAt old.desks id desk → desk.round ≡ None → Crashes m.disks desk now
-    → Whole m cluster global old → Whole m cluster global (record (with_desk old id now) { flow = abandoned old.flow id })
-idle_crash {S} {V} m cluster global old id desk now tells at_desk idle by whole =
-    settles m cluster global old (record (with_desk old id now) { flow = abandoned old.flow id }) id (around m cluster global old id whole)
-    (leaves_desk old id now _ (others_left old.flow id))
-    (record {
-      desk = λ d c at_d at_c.
-          subst (λ (x : DeskView V). IsDeskTrue m cluster global.log global.made (era_at old id).number id c (queue_at (abandoned old.flow id) id).messages x) (sym (own_set old.desks id now d at_d))
-          (quiet_true m cluster global.log global.made id (era_at old id).number c (queue_at (abandoned old.flow id) id).messages now (none_left old.flow id)
-          (quiet_crashes m cluster global.log global.made id (era_at old id).number c (queue_at old.flow id).messages desk now tells (whole.parties.desks id tt desk c at_desk at_c) by));
-      caller = λ c at_c. whole.parties.callers id tt c at_c;
-      own = subst (AreMessagesTrue global.log) (sym (none_left old.flow id)) (λ each has_it. absurd (contains_none has_it));
-      late = all_joined_true global.log (queue_at old.flow id).messages old.flow.late (whole.parties.own id) whole.parties.late;
-    })
-
--- what the caller is told whose round is closed by a crash
-crash_told : (log : List Happening) (all : List Made) (id number : ℕ) (call : CallView) → IsCallTrue log all id number call → IsCallTrue log all id number (closed_by_crash call)
-crash_told log all id number call was = call_told log all id number call (if is_some call.proposed then answer.Unsettled cause.Crashed else answer.Crashed) true 1 was (by_proposed call.proposed was.unproposed was.proposed)
-  where
-    by_proposed : (proposed : Option Outcome) → (proposed ≡ None → IsProposed id number (marks_of log) → ⊥) → (is_some proposed ≡ true → IsProposed id number (marks_of log))
-        → IsToldTrue log all id number (if is_some proposed then answer.Unsettled cause.Crashed else answer.Crashed)
-    by_proposed None none some = record { refused = λ e. none refl; unsettled = λ e. absurd (cc e); harmed = omega arith }
-    by_proposed (Some outcome) none some = record { refused = λ e. absurd (cc e); unsettled = λ e. some refl; harmed = omega arith }
-
-pub crashed_desk : {S V : Type 0} (m : Meaning S V) (old : View S V) (id : ℕ) (new : View S V) → m.disks.tells → IsRemembered m old → CrashesDesk m old id new → IsRemembered m new
-crashed_desk m old id new tells is (step.idle desk now at none by view) =
-    subst (IsRemembered m) (sym view) (remembered m is.cluster is.global (record (with_desk old id now) { flow = abandoned old.flow id }) (idle_crash m is.cluster is.global old id desk now tells at none by (whole_of m old is)) is.agrees.marks)
-crashed_desk m old id new tells is (step.closes desk now round of_call at some by view) =
-    subst (IsRemembered m) (sym view) (remembered m is.cluster is.global (record (with_call (with_desk old id now) id of_call.caller (closed_by_crash of_call.call)) { flow = abandoned old.flow id })
-    (crashes_desk m is.cluster is.global old id of_call.caller of_call.call (closed_by_crash of_call.call) desk now tells of_call.at_caller of_call.is_open at by
-    (crash_told is.global.log is.global.made id of_call.caller.number of_call.call ((is.agrees.callers id of_call.caller of_call.at_caller).call of_call.call of_call.is_open)) (whole_of m old is)) is.agrees.marks)
-
-crashes_proposer : {S V : Type 0} (m : Meaning S V) (old : View S V) (id : ℕ) (new : View S V) → m.disks.tells → IsRemembered m old → StepCrashProposer m old id new → IsRemembered m new
-crashes_proposer m old id new tells is (step.of_client apart by) = crashed_desk m old id new tells is by
-crashes_proposer m old id new tells is (step.of_operator middle is_first by view) = subst (IsRemembered m) (sym view) (council.breaks_off m middle (crashed_desk m old id middle tells is by))
-
-restarts_proposer : {S V : Type 0} (m : Meaning S V) (old : View S V) (id : ℕ) (new : View S V) → m.disks.tells → IsRemembered m old → StepRestartProposer m old id new → IsRemembered m new
-restarts_proposer m old id new tells is (step.was_up_already desk at up view) = subst (IsRemembered m) (sym view) is
-restarts_proposer m old id new tells is (step.restarts desk now at down by view) =
-    subst (IsRemembered m) (sym view) (remembered m is.cluster is.global (with_desk old id now) (restarts m is.cluster is.global old id desk now tells at by (whole_of m old is)) is.agrees.marks)
-
--- ---- all of them
-pub keeps : {S V : Type 0} (m : Meaning S V) (old : View S V) (event : step.Event) (new : View S V) → m.shelves.tells → m.disks.tells → IsRemembered m old → Step m old event new → IsRemembered m new
-keeps m old (step.Begin id key program) new shelves disks is by =
-    begins m by.middle id by.caller by.call new disks by.at_caller by.is_open (anew old id key program by.middle by.caller by.call by.opens by.at_caller by.is_open).unproposed (opens m old id key program by.middle is by.opens) by.begins
-keeps m old (step.RefuseBegin id key) new shelves disks is by = refuses m old id key new disks is by
-keeps m old (step.Turn id verdict) new shelves disks is by = turns m old id verdict new shelves is by
-keeps m old (step.RefuseTurn id) new shelves disks is by = refuses_turn m old id new shelves is by
-keeps m old (step.Propose id) new shelves disks is by = proposes_or_ends m old id new disks is by.at_round by.preparing by.proposes
-keeps m old (step.Count id) new shelves disks is by = counts_or_ends m old id new disks is by.at_round by.accepting by.counts
-keeps m old (step.End id told) new shelves disks is by = ends m old id told new disks is by
-keeps m old (step.Stray index) new shelves disks is by = strays m old index new shelves is by
-keeps m old step.RefuseStray new shelves disks is by = refuses_stray m old new shelves is by
-keeps m old (step.CrashAcceptor id) new shelves disks is by = crashes_acceptor m old id new shelves is by
-keeps m old (step.RestartAcceptor id) new shelves disks is by = restarts_acceptor m old id new shelves is by
-keeps m old (step.CrashProposer id) new shelves disks is by = crashes_proposer m old id new disks is by
-keeps m old (step.RestartProposer id) new shelves disks is by = restarts_proposer m old id new disks is by
-keeps m old (step.Order asked) new shelves disks is by = council.orders m old asked new is by
-keeps m old step.RefuseOrder new shelves disks is by = subst (IsRemembered m) (sym by) is
-keeps m old (step.Tell answer) new shelves disks is by = council.tells m old answer new is by
-keeps m old (step.AskAll question) new shelves disks is by = council.asks_all m old question new disks is by
-keeps m old (step.TurnExchange verdict) new shelves disks is by = council.turns_exchange m old verdict new shelves is by
-keeps m old step.RefuseTurnExchange new shelves disks is by = council.refuses_exchange m old new shelves is by
-keeps m old step.Gather new shelves disks is by = council.gathers m old new is by
+-- ---- all of them but those that lead on
+-- the log goes on with a call, or the call may lead to another era
+pub keeps_log : {S V : Type 0} {cluster : Cluster} (m : Meaning S V) (old : View S V) (event : step.Event) (new : View S V) → m.shelves.tells → m.disks.tells → IsLogged m cluster old → Step m old event new → Leads event ⊎ IsLogged m cluster new
+keeps_log m old (step.Begin id key program) new shelves disks is by =
+    inr (begins m by.middle id by.caller by.call new disks by.at_caller by.is_open (anew old id key program by.middle by.caller by.call by.opens by.at_caller by.is_open).unproposed (opens m old id key program by.middle is by.opens) by.begins)
+keeps_log m old (step.RefuseBegin id key) new shelves disks is by = inr (refuses m old id key new disks is by)
+keeps_log m old (step.Turn id verdict) new shelves disks is by = inr (turns m old id verdict new shelves is by)
+keeps_log m old (step.RefuseTurn id) new shelves disks is by = inr (refuses_turn m old id new shelves is by)
+keeps_log m old (step.Propose id) new shelves disks is by = inr (proposes_or_ends m old id new disks is by.at_round by.preparing by.proposes)
+keeps_log m old (step.Count id) new shelves disks is by = inr (counts_or_ends m old id new disks is by.at_round by.accepting by.counts)
+keeps_log m old (step.End id told) new shelves disks is by = inr (ends m old id told new disks is by)
+keeps_log m old (step.Stray index) new shelves disks is by = inr (strays m old index new shelves is by)
+keeps_log m old step.RefuseStray new shelves disks is by = inr (refuses_stray m old new shelves is by)
+keeps_log m old (step.CrashAcceptor id) new shelves disks is by = inr (crashes_acceptor m old id new shelves is by)
+keeps_log m old (step.RestartAcceptor id) new shelves disks is by = inr (restarts_acceptor m old id new shelves is by)
+keeps_log m old (step.CrashProposer id) new shelves disks is by = inr (down_logged m old id (Crashes m.disks) new (λ desk now crash. (crash.crashed, crash.goes_on.still_past disks)) is by)
+keeps_log m old (step.RestartProposer id) new shelves disks is by = inl tt
+keeps_log m old (step.Order asked) new shelves disks is by = inr (council.orders m old asked new is by)
+keeps_log {cluster = cluster} m old step.RefuseOrder new shelves disks is by = inr (subst (IsLogged m cluster) (sym by) is)
+keeps_log m old (step.Tell answer) new shelves disks is by = inl tt
+keeps_log m old (step.AskAll question) new shelves disks is by = inr (council.asks_all m old question new disks is by)
+keeps_log m old (step.TurnExchange verdict) new shelves disks is by = inr (council.turns_exchange m old verdict new shelves is by)
+keeps_log m old step.RefuseTurnExchange new shelves disks is by = inr (council.refuses_exchange m old new shelves is by)
+keeps_log m old step.Gather new shelves disks is by = inr (council.gathers m old new is by)
+keeps_log m old step.OpenPlan new shelves disks is by = inl tt
+keeps_log m old (step.EnterEra id) new shelves disks is by = inl tt

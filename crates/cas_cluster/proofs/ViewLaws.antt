@@ -31,7 +31,7 @@ use Rattle.cas_cluster.specs.View.{Meaning, View}
 use Rattle.cas_cluster.specs.ViewLaws.{OpeningsAreRemembered, StepsAreRemembered, HistoriesAreLegal, IsKeptBy, WhatIsDoneIsKept}
 use Rattle.cas_cluster.proofs.Held.{held_by}
 use Rattle.cas_cluster.proofs.Opens.{opening_remembered, remembered_legal}
-use Rattle.cas_cluster.proofs.Steps.{keeps}
+use Rattle.cas_cluster.proofs.Remembering.{keeps}
 
 pub openings : {S V : Type 0} (m : Meaning S V) → OpeningsAreRemembered m
 openings m shelves disks members view is = opening_remembered m shelves disks members view is
@@ -62,38 +62,38 @@ nothing_holds key ballot low =
 
 pub done_kept : {S V : Type 0} (m : Meaning S V) → WhatIsDoneIsKept m
 done_kept {S} {V} m tells view a is stands above = record {
-  quorum = λ id low same. sym ((is.agrees.eras id low).accepts a.by) ∙ sym (ap (λ (e : ℕ). is.cluster.accepts e a.by) same) ∙ held.0;
-  kept = λ id acceptor member at. kept_by id acceptor member (is.agrees.acceptors id acceptor at);
+  quorum = λ id low same. sym ((is.logged.agrees.eras id low).accepts a.by) ∙ sym (ap (λ (e : ℕ). is.cluster.accepts e a.by) same) ∙ held.0;
+  kept = λ id acceptor member at. kept_by id acceptor member (is.logged.agrees.acceptors id acceptor at);
 }
   where
     log : List Happening
-    log = is.global.log
+    log = is.logged.global.log
 
     stood : Stands (Acked a) (marks_of log)
-    stood = subst (Stands (Acked a)) (sym is.agrees.marks) stands
+    stood = subst (Stands (Acked a)) (sym is.logged.agrees.marks) stands
 
     held : (is.cluster.accepts a.era a.by ≡ true)
         × ((acceptor : ℕ) (kept new : Contents) → has_member a.by acceptor ≡ true → Tells log acceptor kept → IsLeft log acceptor kept (Ok new) → Holds log a.key a.ballot new)
-    held = held_by is.cluster is.meets log a is.history.lawful is.history.orderly stood (subst (λ (l : List Mark). IsAboveFloors l a.key a.ballot) (sym is.agrees.marks) above)
+    held = held_by is.cluster is.logged.meets log a is.logged.history.lawful is.logged.history.orderly stood (subst (λ (l : List Mark). IsAboveFloors l a.key a.ballot) (sym is.logged.agrees.marks) above)
 
     some : a.ballot ≡ zero_ballot → ⊥
-    some zero = let proposed = acked_proposed is.cluster is.history.lawful (acked_at log (record { acknowledgment = a; stands = stood; same_key = refl; same_ballot = refl })) in not_zero is.cluster is.history.lawful proposed.at (proposed.same_ballot ∙ zero)
+    some zero = let proposed = acked_proposed is.cluster is.logged.history.lawful (acked_at log (record { acknowledgment = a; stands = stood; same_key = refl; same_ballot = refl })) in not_zero is.cluster is.logged.history.lawful proposed.at (proposed.same_ballot ∙ zero)
 
-    holds : (id : ℕ) → has_member a.by id ≡ true → (left : Contents) → IsLeft log id (is.global.kept id) (Ok left) → Holds log a.key a.ballot left
-    holds id member left may = held.1 id (is.global.kept id) left member (is.history.tells id) may
+    holds : (id : ℕ) → has_member a.by id ≡ true → (left : Contents) → IsLeft log id (is.logged.global.kept id) (Ok left) → Holds log a.key a.ballot left
+    holds id member left may = held.1 id (is.logged.global.kept id) left member (is.logged.history.tells id) may
 
-    started : (id : ℕ) (acceptor : AcceptorView S) → has_member a.by id ≡ true → IsAcceptorTrue m log id (is.global.kept id) acceptor → acceptor.started ≡ true
+    started : (id : ℕ) (acceptor : AcceptorView S) → has_member a.by id ≡ true → IsAcceptorTrue m log id (is.logged.global.kept id) acceptor → acceptor.started ≡ true
     started id acceptor member of = elim (true_or_false acceptor.started) [
       | inl has_started ↦ has_started
-      | inr none ↦ absurd (some (nothing_holds a.key a.ballot (subst (λ (c : Contents). BallotAtMost a.ballot (accepted_ballot (accepted_at c a.key))) (of.not_started none) (holds id member (is.global.kept id) (inl refl)).at_least)))
+      | inr none ↦ absurd (some (nothing_holds a.key a.ballot (subst (λ (c : Contents). BallotAtMost a.ballot (accepted_ballot (accepted_at c a.key))) (of.not_started none) (holds id member (is.logged.global.kept id) (inl refl)).at_least)))
     ]
 
-    kept_by : (id : ℕ) (acceptor : AcceptorView S) → has_member a.by id ≡ true → IsAcceptorTrue m log id (is.global.kept id) acceptor → IsKeptBy m (reverse view.marks) a.key a.ballot acceptor
+    kept_by : (id : ℕ) (acceptor : AcceptorView S) → has_member a.by id ≡ true → IsAcceptorTrue m log id (is.logged.global.kept id) acceptor → IsKeptBy m (reverse view.marks) a.key a.ballot acceptor
     kept_by id acceptor member of =
         let has_started = started id acceptor member of in
         record {
           started = has_started;
-          at_least = λ left may. (holds id member left (left_of m log id (is.global.kept id) acceptor tells of has_started (Ok left) may)).at_least;
-          begins = λ left may. subst (λ (l : List Mark). IsPrefix (chain_of a.key a.ballot l) (chain_of a.key (accepted_ballot (accepted_at left a.key)) l)) is.agrees.marks
-              (holds id member left (left_of m log id (is.global.kept id) acceptor tells of has_started (Ok left) may)).begins;
+          at_least = λ left may. (holds id member left (left_of m log id (is.logged.global.kept id) acceptor tells of has_started (Ok left) may)).at_least;
+          begins = λ left may. subst (λ (l : List Mark). IsPrefix (chain_of a.key a.ballot l) (chain_of a.key (accepted_ballot (accepted_at left a.key)) l)) is.logged.agrees.marks
+              (holds id member left (left_of m log id (is.logged.global.kept id) acceptor tells of has_started (Ok left) may)).begins;
         }

@@ -48,9 +48,10 @@ use Rattle.cas_cache.specs.declared.ready.Ready.{Ready}
 use Rattle.cas_change.specs.declared.outcome.Took.TheVariants.{Clause as ByClause}
 use Rattle.cas_record.specs.Places.{here, past}
 use Rattle.cas_record.specs.Witness.{three, key_a, at}
-use Rattle.cas_cluster.specs.Council.{no_council}
+use Rattle.cas_cluster.specs.Council.{opening_council}
 use Rattle.cas_cluster.specs.Parties.{IsWithin}
-use Rattle.cas_cluster.specs.Step.{Begin, Turn, Propose, Count, End, Stray, CrashAcceptor, RestartAcceptor, CrashProposer, RestartProposer, Step, IsOpening, IsFreshAcceptor, IsFreshDesk, History, opens, steps, crashes, starts, of_client, closes, restarts}
+use Rattle.cas_cluster.specs.Step.{Begin, Turn, Propose, Count, End, Stray, CrashAcceptor, RestartAcceptor, CrashProposer, RestartProposer, Step, IsOpening, IsFreshAcceptor, IsFreshDesk, History, opens, steps, crashes, starts, restarts}
+use Rattle.cas_cluster.specs.StepStops.{of_client, closes}
 use Rattle.cas_cluster.specs.StepAcceptors.{AnswersByTable, StopsWithin}
 use Rattle.cas_cluster.specs.StepCalls as calls
 use Rattle.cas_cluster.specs.StepCalls.{Sends, prepares_to, accepts_to}
@@ -141,7 +142,7 @@ module _ {D : Type 0} (begun : Vault D) where
     desks = idle_desk 0 ∷ desk ∷ idle_desk 2 ∷ [];
     callers = new_caller ∷ caller ∷ new_caller ∷ [];
     flow = flow;
-    council = no_council;
+    council = opening_council three;
     marks = marks;
   }
 
@@ -789,7 +790,7 @@ module _ {D : Type 0} (begun : Vault D) where
   }
 
   step_last : Step toys view_over (RestartProposer 2) view_last
-  step_last = restarts down_other (record (idle_desk 2) { vault = vault_at 1 }) refl refl restarted refl
+  step_last = restarts down_other (record (idle_desk 2) { vault = vault_at 1 }) (record { number = 1; call = None }) refl refl refl restarted refl
 
   history_last : History toys three view_last
   history_last = steps view_over (RestartProposer 2) view_last (steps view_crashed (End 2 answer.Crashed) view_over (steps view_met (CrashProposer 2) view_crashed

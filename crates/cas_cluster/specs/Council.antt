@@ -1,12 +1,13 @@
--- What the operator has under way: its call that is open, and the exchange in which proposer 0 asks all members. The frames of an exchange
--- have a queue of their own.
-use Rattle.std.specs.Prelude.{◌+◌, ℕ, Bool, true, List, Option, None, Some, option_map}
+-- What the operator has under way: its call that is open, the exchange in which proposer 0 asks all members, and the change of membership.
+-- The frames of an exchange have a queue of their own.
+use Rattle.std.specs.Prelude.{◌≡◌, ◌+◌, ℕ, Bool, true, List, Option, None, Some, option_map}
 use Rattle.cas_ballot.specs.declared.ballot.Ballot.{Ballot}
 use Rattle.cas_slot.specs.declared.message.Ask.{Ask}
 use Rattle.cas_slot.specs.declared.message.Ask.TheVariants as ask
 use Rattle.cas_record.specs.declared.operator.Asked.{Asked}
 use Rattle.cas_record.specs.declared.operator.OpAnswer.{OpAnswer}
 use Rattle.cas_record.specs.declared.operator.Probe.{Probe as Answered}
+use Rattle.cas_members.specs.Steps.{Progress}
 
 -- what proposer 0 asks all members
 pub data Question : Type 0 where
@@ -37,12 +38,35 @@ pub record OrderView : Type 0 where
   -- what its last step told
   pub told : Option OpAnswer
 
+-- a change of membership that is under way
+pub record PlanView : Type 0 where
+  -- what it was opened for
+  pub asked : Asked
+  -- the era that all entered last, and the steps that are left
+  pub progress : Progress
+  -- the proposers below this number are marked as in the era that is to be entered
+  pub entered : ℕ
+  -- how many keys it has proposed anew
+  pub rescanned : ℕ
+
 pub record Council : Type 0 where
   pub order : Option OrderView
   pub exchange : Option ExchangeView
+  pub plan : Option PlanView
+  -- who was a member since the opening
+  pub used : List ℕ
 
-abbrev pub no_council : Council
-no_council = record { order = None; exchange = None }
+abbrev pub opening_council : List ℕ → Council
+opening_council members = record { order = None; exchange = None; plan = None; used = members }
+
+-- no call is open, and no exchange
+pub record IsAtRest (council : Council) : Type 0 where
+  pub order : council.order ≡ None
+  pub exchange : council.exchange ≡ None
+
+-- all else is as it was
+abbrev pub at_rest : Council → Council
+at_rest council = record council { order = None; exchange = None }
 
 -- the queue of the exchange stands behind those of the proposers
 abbrev pub exchange_place : ℕ
@@ -67,6 +91,13 @@ told_so answer order = record order { told = Some answer }
 
 abbrev pub telling : Council → OpAnswer → Council
 telling council answer = record council { order = option_map (told_so answer) council.order }
+
+-- its last step told nothing
+abbrev pub silent_order : OrderView → OrderView
+silent_order order = record order { told = None }
+
+abbrev pub hushed : Council → Council
+hushed council = record council { order = option_map silent_order council.order }
 
 -- proposer 0 crashed
 abbrev pub broken_off : ExchangeView → ExchangeView

@@ -1,5 +1,6 @@
 pub mod Acceptors
 pub mod Council
+pub mod Course
 pub mod Desks
 pub mod Held
 pub mod History
@@ -15,6 +16,8 @@ pub mod StepCalls
 pub mod StepCouncil
 pub mod StepDesks
 pub mod StepFrames
+pub mod StepPlans
+pub mod StepStops
 pub mod View
 pub mod ViewLaws
 pub mod ViewWitness

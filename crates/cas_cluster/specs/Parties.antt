@@ -196,11 +196,10 @@ IsOpenTrue cluster log all id era caller waiting None = waiting ≡ []
 IsOpenTrue cluster log all id era caller waiting (Some round) = IsRoundTrue cluster log all id era caller waiting round
 
 -- ---- desks
--- It draws no ballot twice and none below a floor, wherever it stops; and it is in this era and in no later one.
+-- It draws no ballot twice and none below a floor, wherever it stops; and its proposer is in this era and in no later one.
 pub record IsVaultTrue {S V : Type 0} (m : Meaning S V) (log : List Happening) (id era : ℕ) (vault : Vault V) : Type 0 where
   pub past : (ballot : Ballot) (key : List ℕ) (e : ℕ) → Stands (Drew ballot key e) log → ballot.proposer ≡ id → IsPast m.disks.may_leave ballot.counter vault
   pub past_floors : (key : List ℕ) (floor : Ballot) → HasFloor key floor (marks_of log) → IsPast m.disks.may_leave floor.counter vault
-  pub in_era : IsWithin m.disks era era vault
   pub is_in : IsIn log id era
   pub not_beyond : Stands (Entered id (suc era)) log → ⊥
 

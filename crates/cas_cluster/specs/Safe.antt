@@ -19,6 +19,7 @@ use Rattle.cas_round.specs.Replies.{is_prepare}
 use Rattle.cas_slot.specs.Message.{phase_of}
 use Rattle.cas_slot.specs.declared.message.Request.{Request}
 use Rattle.cas_cluster.specs.Council.{ExchangeView, ask_of, exchange_place}
+use Rattle.cas_cluster.specs.Course.{IsCourse, course_of}
 use Rattle.cas_cluster.specs.Parties.{asked_in}
 use Rattle.cas_cluster.specs.StepCalls.{most_marks}
 use Rattle.cas_cluster.specs.View.{View, CallView, CallerView, IsAt, era_at, reserved_in_all}
@@ -99,7 +100,8 @@ IsAskingSafe None queue = queue.messages ≡ []
 IsAskingSafe (Some exchange) queue = IsExchangeSafe exchange queue
 
 -- ---- the whole
-pub record IsSafe {S V : Type 0} (view : View S V) : Type 0 where
+-- each party, each exchange and the marks are so
+pub record IsSound {S V : Type 0} (view : View S V) : Type 0 where
   pub few : view.greatest ≤ 16
   pub prep_sets : (id : ℕ) → IsMemberSet (era_at view id).prep
   pub acc_sets : (id : ℕ) → IsMemberSet (era_at view id).acc
@@ -112,3 +114,8 @@ pub record IsSafe {S V : Type 0} (view : View S V) : Type 0 where
   pub parties : (id : ℕ) (desk : DeskView V) (caller : CallerView) → IsAt view.desks id desk → IsAt view.callers id caller → IsPartySafe (era_at view id) (length view.marks) id desk caller (queue_at view.flow id)
   pub asking : IsAskingSafe view.council.exchange (queue_at view.flow exchange_place)
   pub room : length view.marks + reserved_in_all view ≤ most_marks
+
+-- and the cluster is on its course through the eras
+pub record IsSafe {S V : Type 0} (view : View S V) : Type 0 where
+  pub sound : IsSound view
+  pub course : IsCourse (course_of view)

@@ -1,9 +1,9 @@
 -- What each call on a cluster does to it.
-use Rattle.std.specs.Prelude.{◌+◌, ◌≡◌, ℕ, ◌<◌, ◌≤◌, true, false, List, [], None, Some, is_some, length, replicate, if◌then◌else◌, slice_get}
+use Rattle.std.specs.Prelude.{◌+◌, ◌≡◌, ℕ, ◌<◌, ◌≤◌, true, false, List, [], None, Some, is_some, length, replicate, if◌then◌else◌, slice_get, slice_set}
 use Rattle.cas_ballot.specs.Members.{IsMemberSet}
 use Rattle.cas_change.specs.declared.program.Clause.{Clause}
 use Rattle.cas_fate.specs.declared.fate.Verdict.{Verdict}
-use Rattle.cas_flow.specs.Flow.{empty_flow, queue_at, abandoned}
+use Rattle.cas_flow.specs.Flow.{empty_flow, queue_at}
 use Rattle.cas_flow.specs.declared.message.Message.{Message}
 use Rattle.cas_quorum.specs.Era.{majority_era}
 use Rattle.cas_slot.specs.Contents.{nothing}
@@ -12,19 +12,22 @@ use Rattle.cas_acceptor.specs.Acceptor.{AcceptorView}
 use Rattle.cas_proposer.specs.Desk.{DeskView}
 use Rattle.cas_proposer.specs.Round.{is_preparing}
 use Rattle.cas_proposer.specs.declared.round.Round.{Round}
+use Rattle.cas_vault.specs.Vault.{kept_of}
 use Rattle.cas_record.specs.declared.answer.Answer.{Answer}
 use Rattle.cas_record.specs.declared.answer.Answer.TheVariants as answer
-use Rattle.cas_record.specs.declared.answer.Cause.TheVariants as cause
 use Rattle.cas_record.specs.declared.operator.Asked.{Asked}
 use Rattle.cas_record.specs.declared.operator.OpAnswer.{OpAnswer}
-use Rattle.cas_cluster.specs.Council.{Question, no_council, exchange_place, crashed_in}
+use Rattle.cas_cluster.specs.Council.{Question, opening_council}
+use Rattle.cas_cluster.specs.Course.{era_shown}
 use Rattle.cas_cluster.specs.Parties.{IsWithin}
 use Rattle.cas_cluster.specs.StepAcceptors.{CrashesShelf, StartsShelf, FailsToStart}
 use Rattle.cas_cluster.specs.StepCalls.{most_marks, Opens, BeginsRound, RefusesCall, ProposesOrEnds, CountsOrEnds, EndsCall, telling, with_call}
-use Rattle.cas_cluster.specs.StepCouncil.{with_council, StepOrder, StepTell, StepAskAll, StepTurnExchange, StepRefuseTurnExchange, StepGather}
-use Rattle.cas_cluster.specs.StepDesks.{Crashes, Restarts}
+use Rattle.cas_cluster.specs.StepCouncil.{StepOrder, StepTell, StepAskAll, StepTurnExchange, StepRefuseTurnExchange, StepGather}
+use Rattle.cas_cluster.specs.StepDesks.{Restarts}
+use Rattle.cas_cluster.specs.StepPlans.{StepOpenPlan, StepEnterEra}
+use Rattle.cas_cluster.specs.StepStops.{OpenCallAt, StepCrashProposer}
 use Rattle.cas_cluster.specs.StepFrames.{TakesTurn, FindsNoRoom, Strays}
-use Rattle.cas_cluster.specs.View.{Meaning, CallView, CallerView, View, IsAt, new_caller, reserved_in_all, with_acceptor, with_desk}
+use Rattle.cas_cluster.specs.View.{Meaning, CallView, CallerView, View, IsAt, new_caller, era_at, reserved_in_all, with_acceptor, with_desk}
 
 -- ---- the calls
 pub data Event : Type 0 where
@@ -56,6 +59,9 @@ pub data Event : Type 0 where
   TurnExchange : (verdict : Verdict) → Event
   RefuseTurnExchange : Event
   Gather : Event
+  -- a change of membership begins, and the next proposer enters the era that it leads to; or the operator is told why not
+  OpenPlan : Event
+  EnterEra : (proposer : ℕ) → Event
 
 -- ---- what they do
 -- a call is begun or goes on, and its round begins, or its caller is told why not
@@ -67,13 +73,6 @@ pub record StepBegin {S V : Type 0} (m : Meaning S V) (old : View S V) (id : ℕ
   pub call : CallView
   pub is_open : caller.call ≡ Some call
   pub begins : BeginsRound m middle id caller call new
-
--- a caller's open call and its desk
-pub record OpenCallAt {S V : Type 0} (view : View S V) (id : ℕ) : Type 0 where
-  pub caller : CallerView
-  pub at_caller : IsAt view.callers id caller
-  pub call : CallView
-  pub is_open : caller.call ≡ Some call
 
 -- its open round
 pub record OpenRoundAt {S V : Type 0} (view : View S V) (id : ℕ) : Type 0 where
@@ -128,28 +127,13 @@ pub data StepRestartAcceptor {S V : Type 0} (m : Meaning S V) (old : View S V) (
   starts : (acceptor now : AcceptorView S) → IsAt old.acceptors id acceptor → StartsShelf m.shelves acceptor now → new ≡ with_acceptor old id now → StepRestartAcceptor m old id new
   fails : (acceptor now : AcceptorView S) → IsAt old.acceptors id acceptor → FailsToStart m.shelves acceptor now → new ≡ with_acceptor old id now → StepRestartAcceptor m old id new
 
--- its caller is told that its round was closed, where one was open
-abbrev pub closed_by_crash : CallView → CallView
-closed_by_crash call = record call { reserved = 1; told = Some (if is_some call.proposed then answer.Unsettled cause.Crashed else answer.Crashed); is_closed = true }
-
--- a desk crashes: the frames of its round join the late ones
-pub data CrashesDesk {S V : Type 0} (m : Meaning S V) (old : View S V) (id : ℕ) (new : View S V) : Type 0 where
-  idle : (desk now : DeskView V) → IsAt old.desks id desk → desk.round ≡ None → Crashes m.disks desk now → new ≡ record (with_desk old id now) { flow = abandoned old.flow id } → CrashesDesk m old id new
-  closes : (desk now : DeskView V) (round : Round) (of_call : OpenCallAt old id) → IsAt old.desks id desk → desk.round ≡ Some round → Crashes m.disks desk now
-      → new ≡ record (with_call (with_desk old id now) id of_call.caller (closed_by_crash of_call.call)) { flow = abandoned old.flow id } → CrashesDesk m old id new
-
--- an exchange, if one is open, is broken off, and its frames join the late ones
-abbrev pub broken_off_view : {S V : Type 0} → View S V → View S V
-broken_off_view view = with_council (record view { flow = abandoned view.flow exchange_place }) (crashed_in view.council)
-
--- only the operator has exchanges
-pub data StepCrashProposer {S V : Type 0} (m : Meaning S V) (old : View S V) (id : ℕ) (new : View S V) : Type 0 where
-  of_client : (id ≡ 0 → ⊥) → CrashesDesk m old id new → StepCrashProposer m old id new
-  of_operator : (middle : View S V) → id ≡ 0 → CrashesDesk m old id middle → new ≡ broken_off_view middle → StepCrashProposer m old id new
+-- a proposer that is up again works in the era that its vault shows
+abbrev pub restarted : {S V : Type 0} → View S V → ℕ → DeskView V → View S V
+restarted view id desk = record (with_desk view id desk) { eras = if desk.down then view.eras else slice_set view.eras id (era_shown view.council.plan (era_at view id) (kept_of desk.vault).era) }
 
 pub data StepRestartProposer {S V : Type 0} (m : Meaning S V) (old : View S V) (id : ℕ) (new : View S V) : Type 0 where
   was_up_already : (desk : DeskView V) → IsAt old.desks id desk → desk.down ≡ false → new ≡ old → StepRestartProposer m old id new
-  restarts : (desk now : DeskView V) → IsAt old.desks id desk → desk.down ≡ true → Restarts m.disks desk now → new ≡ with_desk old id now → StepRestartProposer m old id new
+  restarts : (desk now : DeskView V) (caller : CallerView) → IsAt old.desks id desk → IsAt old.callers id caller → desk.down ≡ true → Restarts m.disks desk now → new ≡ restarted old id now → StepRestartProposer m old id new
 
 -- ---- all of them
 abbrev pub Step : {S V : Type 0} → Meaning S V → View S V → Event → View S V → Type 0
@@ -173,6 +157,8 @@ Step m old (AskAll question) new = StepAskAll m old question new
 Step m old (TurnExchange verdict) new = StepTurnExchange m old verdict new
 Step m old RefuseTurnExchange new = StepRefuseTurnExchange m old new
 Step m old Gather new = StepGather old new
+Step m old OpenPlan new = StepOpenPlan m old new
+Step m old (EnterEra proposer) new = StepEnterEra m old proposer new
 
 -- ---- the beginning
 -- it is up and keeps nothing, or never started
@@ -199,7 +185,7 @@ pub record IsOpening {S V : Type 0} (m : Meaning S V) (members : List ℕ) (view
   pub acceptors : (id : ℕ) (acceptor : AcceptorView S) → IsAt view.acceptors id acceptor → IsFreshAcceptor m id acceptor
   pub desks : (id : ℕ) (desk : DeskView V) → IsAt view.desks id desk → (id ≤ view.greatest) × IsFreshDesk m id desk
   pub callers : (id : ℕ) (caller : CallerView) → IsAt view.callers id caller → caller ≡ new_caller
-  pub council : view.council ≡ no_council
+  pub council : view.council ≡ opening_council members
   pub flow : view.flow ≡ empty_flow
   pub marks : view.marks ≡ []
 

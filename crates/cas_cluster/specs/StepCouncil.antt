@@ -24,7 +24,7 @@ use Rattle.cas_record.specs.declared.operator.OpAnswer.{OpAnswer}
 use Rattle.cas_record.specs.declared.operator.OpAnswer.TheVariants as told
 use Rattle.cas_record.specs.declared.operator.Probe.{Probe as ProbeOf}
 use Rattle.cas_record.specs.declared.operator.Probes.{Probes}
-use Rattle.cas_cluster.specs.Council.{Question, Probe, ask_of, ExchangeView, OrderView, Council, no_council, exchange_place, telling}
+use Rattle.cas_cluster.specs.Council.{Question, Probe, ask_of, ExchangeView, OrderView, PlanView, Council, at_rest, exchange_place, telling}
 use Rattle.cas_cluster.specs.StepAcceptors.{AnswersByTable, StopsWithin}
 use Rattle.cas_cluster.specs.StepCalls.{Sends, most_marks}
 use Rattle.cas_cluster.specs.StepDesks.{HasDrawn, HasKept, FailsToDraw, LosesMemory}
@@ -63,14 +63,28 @@ abbrev pub SaysTheSame : OpAnswer → OpAnswer → Type 0
 SaysTheSame (told.Probed key found) (told.Probed other seen) = (key ≡ other) × (found.probes.items ≡ seen.probes.items)
 SaysTheSame said answer = said ≡ answer
 
--- it is told what its last step told, and an exchange that is open is over: its frames join the late ones
-pub record StepTell {S V : Type 0} (old : View S V) (answer : OpAnswer) (new : View S V) : Type 0 where
-  pub order : OrderView
-  pub is_open : old.council.order ≡ Some order
-  pub said : OpAnswer
-  pub was_said : order.told ≡ Some said
-  pub same : SaysTheSame said answer
-  pub view : new ≡ with_marks (record (with_council old no_council) { flow = abandoned old.flow exchange_place }) (told_marks order.asked answer)
+-- a change of membership that was asked for is at its end, and this tells so
+abbrev pub finished : Asked → ℕ → ℕ → OpAnswer → Type 0
+finished (asked.Join id) era rescanned answer = answer ≡ told.Joined id era rescanned
+finished (asked.Leave id) era rescanned answer = answer ≡ told.Left id era rescanned
+finished other era rescanned answer = ⊥
+
+pub record IsFinishedBy (council : Council) (order : OrderView) (answer : OpAnswer) : Type 0 where
+  pub plan : PlanView
+  pub is_plan : council.plan ≡ Some plan
+  pub is_for : plan.asked ≡ order.asked
+  pub none_left : plan.progress.left ≡ []
+  pub tells : finished order.asked plan.progress.era.number plan.rescanned answer
+
+-- the open call is over, and so is an exchange that is open: its frames join the late ones
+abbrev pub told_over : {S V : Type 0} → View S V → Asked → OpAnswer → View S V
+told_over view asked answer = with_marks (record (with_council view (at_rest view.council)) { flow = abandoned view.flow exchange_place }) (told_marks asked answer)
+
+-- it is told what its last step told; or that the change of membership is at its end, which is no longer under way then
+pub data StepTell {S V : Type 0} (old : View S V) (answer : OpAnswer) (new : View S V) : Type 0 where
+  tells : (order : OrderView) (said : OpAnswer) → old.council.order ≡ Some order → order.told ≡ Some said → SaysTheSame said answer → new ≡ told_over old order.asked answer → StepTell old answer new
+  finishes : (order : OrderView) → old.council.order ≡ Some order → IsFinishedBy old.council order answer
+      → new ≡ told_over (with_council old (record old.council { plan = None })) order.asked answer → StepTell old answer new
 
 -- ---- proposer 0 asks all members
 -- who they are

@@ -1,5 +1,5 @@
 -- What a step does to a desk and its vault.
-use Rattle.std.specs.Prelude.{◌≡◌, ◌⊎◌, ℕ, ◌≤◌, true, false, List, Option, None, Some}
+use Rattle.std.specs.Prelude.{◌≡◌, ◌⊎◌, ℕ, ◌≤◌, true, false, List, [], Option, None, Some}
 use Rattle.cas_base.specs.Faults.{Rose}
 use Rattle.cas_ballot.specs.declared.ballot.Ballot.{Ballot}
 use Rattle.cas_ballot.specs.Ballot.{FitsBallot}
@@ -97,6 +97,23 @@ pub record LosesMemory {V : Type 0} (m : DiskMeaning V) (key : List ℕ) (old ne
 pub record Crashes {V : Type 0} (m : DiskMeaning V) (old new : DeskView V) : Type 0 where
   pub crashed : IsCrashed old new
   pub goes_on : GoesOn m old.vault new.vault
+
+-- ---- eras
+-- it works in this era from now on: no promise stays, and a round that was open ends
+pub record EntersEra {V : Type 0} (m : DiskMeaning V) (era : Era) (old new : DeskView V) : Type 0 where
+  pub up : old.down ≡ false
+  pub desk : new ≡ record old { vault = new.vault; cache = []; round = None }
+  pub still_past : m.tells → (n : ℕ) → IsPast m.may_leave n old.vault → IsPast m.may_leave n new.vault
+  pub in_era : m.tells → IsWithin m era.number era.number new.vault
+  pub never_falls : m.faults (disk_of old.vault) ≤ m.faults (disk_of new.vault)
+
+-- its vault failed within that, and the count of its disk's faults rose: it is down, and a crash leaves the vault in the era or as it was
+pub record FailsToEnter {V : Type 0} (m : DiskMeaning V) (era : Era) (old new : DeskView V) : Type 0 where
+  pub up : old.down ≡ false
+  pub crashed : IsCrashed old new
+  pub still_past : m.tells → (n : ℕ) → IsPast m.may_leave n old.vault → IsPast m.may_leave n new.vault
+  pub torn : m.tells → (number : ℕ) → IsWithin m number number old.vault → IsWithin m number era.number new.vault
+  pub faulted : Rose (m.faults (disk_of old.vault)) (m.faults (disk_of new.vault))
 
 -- A desk is up again, in the era that its vault showed, or stays down.
 pub record Restarts {V : Type 0} (m : DiskMeaning V) (old new : DeskView V) : Type 0 where

@@ -1,0 +1,209 @@
+-- What calls leave the course of a cluster as it was: all but the restart of a proposer, and those by which the operator changes its
+-- members.
+use Rattle.std.proofs.Common.{◌≡◌, ℕ, List, [], ◌∷◌, ◌++◌, refl, ap, ◌∙◌, inl, inr}
+use Rattle.std.specs.Prelude.{⊤, ◌⊎◌, suc, Bool, true, false, if◌then◌else◌}
+use Rattle.cas_ballot.specs.Members.{has_member}
+use Rattle.cas_change.specs.declared.program.Clause.{Clause}
+use Rattle.cas_fate.specs.declared.fate.Verdict.{Verdict}
+use Rattle.cas_flow.specs.Message.{head_of}
+use Rattle.cas_flow.specs.declared.message.Message.{Message}
+use Rattle.cas_proposer.specs.Desk.{DeskView}
+use Rattle.cas_proposer.specs.declared.round.Round.{Round}
+use Rattle.cas_slot.specs.Slot.{accepted_ballot}
+use Rattle.cas_slot.specs.declared.message.Ask.{Ask}
+use Rattle.cas_slot.specs.declared.message.Ask.TheVariants as ask
+use Rattle.cas_slot.specs.declared.message.Tell.{Tell}
+use Rattle.cas_slot.specs.declared.message.Tell.TheVariants as tell
+use Rattle.cas_record.specs.Happening.{marks_of}
+use Rattle.cas_record.specs.declared.mark.Mark.{Mark}
+use Rattle.cas_record.specs.declared.mark.Mark.TheVariants.{Begun, Proposed, Voted, Acked, Floor, EraEntered, Ended, Harmed, Told}
+use Rattle.cas_record.specs.declared.operator.Asked.{Asked}
+use Rattle.cas_record.specs.declared.operator.OpAnswer.{OpAnswer}
+use Rattle.cas_record.specs.declared.operator.OpAnswer.TheVariants as answer
+use Rattle.cas_cluster.specs.Acceptors.{votes_of}
+use Rattle.cas_cluster.specs.Council.{Question}
+use Rattle.cas_cluster.specs.Course.{Entry, entries_in, course_of}
+use Rattle.cas_cluster.specs.Step as step
+use Rattle.cas_cluster.specs.Step.{Event, Step, StepBegin, StepTurn, StepRefuseTurn, StepPropose, StepCount, StepCrashAcceptor, StepRestartAcceptor}
+use Rattle.cas_cluster.specs.StepCalls as calls
+use Rattle.cas_cluster.specs.StepCouncil as council
+use Rattle.cas_cluster.specs.StepCouncil.{StepAskAll, StepTurnExchange, StepGather}
+use Rattle.cas_cluster.specs.StepDesks.{Crashes}
+use Rattle.cas_cluster.specs.StepFrames as frames
+use Rattle.cas_cluster.specs.StepStops as stops
+use Rattle.cas_cluster.specs.StepStops.{OpenCallAt, LeavesRound, GoesDown, closed_by_crash}
+use Rattle.cas_cluster.specs.View.{Meaning, View, CallView, with_marks}
+
+-- ---- marks that tell of no era
+pub entries_joined : (marks more : List Mark) → entries_in (marks ++ more) ≡ entries_in marks ++ entries_in more
+entries_joined [] more = refl
+entries_joined (EraEntered proposer era ∷ marks) more = ap (λ (l : List Entry). record { proposer = proposer; era = era } ∷ l) (entries_joined marks more)
+entries_joined (Begun caller call key program ∷ marks) more = entries_joined marks more
+entries_joined (Proposed p ∷ marks) more = entries_joined marks more
+entries_joined (Voted acceptor key ballot ∷ marks) more = entries_joined marks more
+entries_joined (Acked a ∷ marks) more = entries_joined marks more
+entries_joined (Floor key ballot state ∷ marks) more = entries_joined marks more
+entries_joined (Ended caller call rounds answer ∷ marks) more = entries_joined marks more
+entries_joined (Harmed caller call down ∷ marks) more = entries_joined marks more
+entries_joined (Told asked answer ∷ marks) more = entries_joined marks more
+
+no_more : (entries : List Entry) → entries ++ [] ≡ entries
+no_more [] = refl
+no_more (entry ∷ entries) = ap (λ (l : List Entry). entry ∷ l) (no_more entries)
+
+pub quiet : {S V : Type 0} (old : View S V) (more : List Mark) → entries_in more ≡ [] → course_of (with_marks old more) ≡ course_of old
+quiet old more none = ap (λ (l : List Entry). record { greatest = old.greatest; eras = old.eras; plan = old.council.plan; entries = l })
+    (entries_joined old.marks more ∙ ap (λ (l : List Entry). entries_in old.marks ++ l) none ∙ no_more (entries_in old.marks))
+
+no_harms : (harmed : Bool) (caller call : ℕ) (down : Bool) → entries_in (if harmed then [] else Harmed caller call down ∷ []) ≡ []
+no_harms true caller call down = refl
+no_harms false caller call down = refl
+
+no_votes : (acceptor : ℕ) (question : Ask) (answer : Tell) → entries_in (marks_of (votes_of acceptor question answer)) ≡ []
+no_votes acceptor (ask.Accept key ballot era ride state) tell.Accepted = refl
+no_votes acceptor question answer = refl
+
+-- ---- calls
+begin_course : {S V : Type 0} (m : Meaning S V) (old new : View S V) (id : ℕ) (key : List ℕ) (program : List Clause) → StepBegin m old id key program new → course_of new ≡ course_of old
+begin_course {S} {V} m old new id key program by = in_round by.begins ∙ opens by.opens
+  where
+    opens : calls.Opens old id key program by.middle → course_of by.middle ≡ course_of old
+    opens (calls.first was at none room is) = ap course_of is ∙ quiet old (Begun id (suc was.number) key program ∷ []) refl
+    opens (calls.again was open_call reserved at open_is key_is program_is none met no_round room some is) = ap course_of is
+
+    in_round : calls.BeginsRound m by.middle id by.caller by.call new → course_of new ≡ course_of by.middle
+    in_round (calls.prepares desk now ballot round flow at up few begins sends is) = ap course_of is
+    in_round (calls.proposes desk now ready ride round outcome flow at up few begins made sends is) = ap course_of is ∙ quiet by.middle (Proposed (calls.proposal_of id by.caller.number round ready.read ready.by) ∷ []) refl
+    in_round (calls.stays told no_beginning no_round full is) = ap course_of is
+    in_round (calls.spent desk now at none up no_promise spent kept now_is is) = ap course_of is
+    in_round (calls.fails desk now at none up fails is) = ap course_of is
+    in_round (calls.loses desk now ballot at none up loses is) = ap course_of is
+
+no_begin_course : {S V : Type 0} (m : Meaning S V) (old new : View S V) (id : ℕ) (key : List ℕ) → calls.RefusesCall m old id key new → course_of new ≡ course_of old
+no_begin_course {S} {V} m old new id key (calls.stays is) = ap course_of is
+no_begin_course {S} {V} m old new id key (calls.loses caller desk now ballot at_caller at_desk none up loses is) = ap course_of is
+
+turn_course : {S V : Type 0} (m : Meaning S V) (old new : View S V) (id : ℕ) (v : Verdict) → StepTurn m old id v new → course_of new ≡ course_of old
+turn_course {S} {V} m old new id v by = in_turn by.of_call by.front by.turn
+  where
+    in_turn : (of_call : OpenCallAt old id) (front : Message) → frames.TakesTurn m old id v front of_call.caller of_call.call new → course_of new ≡ course_of old
+    in_turn at front (frames.held fall is) = ap course_of is
+    in_turn at front (frames.gone fall is) = ap course_of is ∙ quiet old (frames.harms_marked id at.caller.number at.call (head_of front).1 false) (no_harms (has_member at.call.harmed (head_of front).1) _ _ _)
+    in_turn at front (frames.answers request acceptor now reply fall front_is there table is) = ap course_of is ∙ quiet old (frames.votes_marked request reply) (no_votes request.to request.ask reply.tell)
+    in_turn at front (frames.finds_down request acceptor fall front_is there down is) = ap course_of is ∙ quiet old (frames.harms_marked id at.caller.number at.call request.to true) (no_harms (has_member at.call.harmed request.to) _ _ _)
+    in_turn at front (frames.brings_down request acceptor now fall front_is there stops is) = ap course_of is ∙ quiet old (frames.harms_marked id at.caller.number at.call request.to true) (no_harms (has_member at.call.harmed request.to) _ _ _)
+    in_turn at front (frames.arrives reply desk now round heard fall front_is there is_round hears is) = ap course_of is
+
+no_room_course : {S V : Type 0} (m : Meaning S V) (old new : View S V) → frames.FindsNoRoom m old new → course_of new ≡ course_of old
+no_room_course {S} {V} m old new (frames.stays is) = ap course_of is
+no_room_course {S} {V} m old new (frames.kept at acceptor now there finds is) = ap course_of is
+
+propose_course : {S V : Type 0} (m : Meaning S V) (old new : View S V) (id : ℕ) → StepPropose m old id new → course_of new ≡ course_of old
+propose_course {S} {V} m old new id by = in_phase by.at_round.of_call by.at_round.desk by.at_round.round by.proposes
+  where
+    in_phase : (of_call : OpenCallAt old id) (desk : DeskView V) (round : Round) → calls.ProposesOrEnds m old id desk round of_call.caller of_call.call new → course_of new ≡ course_of old
+    in_phase at desk round (calls.proposes now turned read by ride outcome flow quorum confirmers reads turns made sends is) =
+        ap course_of is ∙ quiet old (Proposed (calls.proposal_of id at.caller.number round (accepted_ballot read) by) ∷ []) refl
+    in_phase at desk round (calls.ends now verdict told verdict_is refuses ends is) = ap course_of is
+    in_phase at desk round (calls.fails now fails is) = ap course_of is
+    in_phase at desk round (calls.loses now ballot loses is) = ap course_of is
+
+count_course : {S V : Type 0} (m : Meaning S V) (old new : View S V) (id : ℕ) → StepCount m old id new → course_of new ≡ course_of old
+count_course {S} {V} m old new id by = in_phase by.at_round.of_call by.at_round.desk by.at_round.round by.counts
+  where
+    in_phase : (of_call : OpenCallAt old id) (desk : DeskView V) (round : Round) → calls.CountsOrEnds m old id desk round of_call.caller of_call.call new → course_of new ≡ course_of old
+    in_phase at desk round (calls.counts now by outcome quorum confirmers proposed ends is) =
+        ap course_of is ∙ quiet old (Acked (record { key = round.key; ballot = round.ballot; era = round.era.number; by = by }) ∷ []) refl
+    in_phase at desk round (calls.ends now verdict why verdict_is cause ends is) = ap course_of is
+
+stray_course : {S V : Type 0} (m : Meaning S V) (old new : View S V) (index : ℕ) (late : Message) → frames.Strays m old index late new → course_of new ≡ course_of old
+stray_course {S} {V} m old new index late (frames.answers request acceptor now reply late_is at table is) = ap course_of is ∙ quiet old (frames.votes_marked request reply) (no_votes request.to request.ask reply.tell)
+stray_course {S} {V} m old new index late (frames.brings_down request acceptor now late_is at stops is) = ap course_of is
+stray_course {S} {V} m old new index late (frames.arrives reply desk now round heard late_is at is_round hears is) = ap course_of is
+stray_course {S} {V} m old new index late (frames.drops ignored is) = ap course_of is
+
+-- ---- stops
+stop_course : {S V : Type 0} (m : Meaning S V) (old new : View S V) (id : ℕ) → StepCrashAcceptor m old id new → course_of new ≡ course_of old
+stop_course {S} {V} m old new id (step.crashes acceptor now at crashes is) = ap course_of is
+
+start_course : {S V : Type 0} (m : Meaning S V) (old new : View S V) (id : ℕ) → StepRestartAcceptor m old id new → course_of new ≡ course_of old
+start_course {S} {V} m old new id (step.was_up acceptor at up is) = ap course_of is
+start_course {S} {V} m old new id (step.starts acceptor now at starts is) = ap course_of is
+start_course {S} {V} m old new id (step.fails acceptor now at fails is) = ap course_of is
+
+pub left_course : {S V : Type 0} (DeskTurns : DeskView V → DeskView V → Type 0) (closed : CallView → CallView) (old new : View S V) (id : ℕ) → LeavesRound DeskTurns closed old id new → course_of new ≡ course_of old
+left_course {S} {V} DeskTurns closed old new id (stops.idle desk now at none turns is) = ap course_of is
+left_course {S} {V} DeskTurns closed old new id (stops.closes desk now round at there is_round turns is) = ap course_of is
+
+pub down_course : {S V : Type 0} (DeskTurns : DeskView V → DeskView V → Type 0) (old new : View S V) (id : ℕ) → GoesDown DeskTurns old id new → course_of new ≡ course_of old
+down_course DeskTurns old new id (stops.of_client client leaves) = left_course DeskTurns closed_by_crash old new id leaves
+down_course {S} {V} DeskTurns old new id (stops.of_operator middle operator leaves is) = ap course_of is ∙ left_course DeskTurns closed_by_crash old middle id leaves
+
+-- ---- the operator's calls
+ask_course : {S V : Type 0} (m : Meaning S V) (old new : View S V) (question : Question) → StepAskAll m old question new → course_of new ≡ course_of old
+ask_course {S} {V} m old new question by = in_case by.asks
+  where
+    in_case : council.AsksAll m old question by.desk new → course_of new ≡ course_of old
+    in_case (council.asks now tag flow up room drawn now_is sends is) = ap course_of is
+    in_case (council.is_down down is) = ap course_of is
+    in_case (council.is_full up full is) = ap course_of is
+    in_case (council.is_spent now up spent kept now_is is) = ap course_of is
+    in_case (council.fails now up fails is) = ap course_of is
+    in_case (council.no_memory now tag up loses is) = ap course_of is
+
+ask_turn_course : {S V : Type 0} (m : Meaning S V) (old new : View S V) (v : Verdict) → StepTurnExchange m old v new → course_of new ≡ course_of old
+ask_turn_course {S} {V} m old new v by = in_turn by.turn
+  where
+    in_turn : council.TurnsExchange m old v by.front by.at.exchange new → course_of new ≡ course_of old
+    in_turn (council.held fall is) = ap course_of is
+    in_turn (council.gone fall is) = ap course_of is ∙ quiet old (council.harm_marks by.at.exchange (head_of by.front).1 false) (no_harms (has_member by.at.exchange.harmed (head_of by.front).1) _ _ _)
+    in_turn (council.answers request acceptor now reply fall front_is there table is) = ap course_of is ∙ quiet old (frames.votes_marked request reply) (no_votes request.to request.ask reply.tell)
+    in_turn (council.finds_down request acceptor fall front_is there down is) = ap course_of is ∙ quiet old (council.harm_marks by.at.exchange request.to true) (no_harms (has_member by.at.exchange.harmed request.to) _ _ _)
+    in_turn (council.brings_down request acceptor now fall front_is there stops is) = ap course_of is ∙ quiet old (council.harm_marks by.at.exchange request.to true) (no_harms (has_member by.at.exchange.harmed request.to) _ _ _)
+    in_turn (council.arrives reply fall front_is is) = ap course_of is
+
+gather_course : {S V : Type 0} (old new : View S V) → StepGather old new → course_of new ≡ course_of old
+gather_course {S} {V} old new by = in_case by.gathers
+  where
+    in_case : council.Gathers old by.at.exchange new → course_of new ≡ course_of old
+    in_case (council.crashed down is) = ap course_of is
+    in_case (council.probed key found up question keeps is) = ap course_of is
+    in_case (council.no_memory up is) = ap course_of is
+
+pub told_course : {S V : Type 0} (old : View S V) (asked : Asked) (answer : OpAnswer) → course_of (council.told_over old asked answer) ≡ course_of old
+told_course old asked (answer.Probed key found) = quiet old [] refl
+told_course old asked said = quiet old (Told asked said ∷ []) refl
+
+-- ---- all of them
+-- the calls that may lead on
+abbrev pub Leads : Event → Type 0
+Leads (step.RestartProposer proposer) = ⊤
+Leads (step.Tell answer) = ⊤
+Leads step.OpenPlan = ⊤
+Leads (step.EnterEra proposer) = ⊤
+Leads other = ⊥
+
+-- a call leaves the course as it was, or it is one of them
+pub on_course : {S V : Type 0} (m : Meaning S V) (old new : View S V) (event : Event) → Step m old event new → Leads event ⊎ (course_of new ≡ course_of old)
+on_course m old new (step.Begin id key program) by = inr (begin_course m old new id key program by)
+on_course m old new (step.RefuseBegin id key) by = inr (no_begin_course m old new id key by)
+on_course m old new (step.Turn id verdict) by = inr (turn_course m old new id verdict by)
+on_course {S} {V} m old new (step.RefuseTurn id) by = inr (ap course_of by.view ∙ no_room_course m old by.middle by.refuses)
+on_course m old new (step.Propose id) by = inr (propose_course m old new id by)
+on_course m old new (step.Count id) by = inr (count_course m old new id by)
+on_course {S} {V} m old new (step.End id told) by = inr (ap course_of by.ends.view ∙ quiet old (Ended id by.of_call.caller.number by.of_call.call.rounds told ∷ []) refl)
+on_course m old new (step.Stray index) by = inr (stray_course m old new index by.late by.strays)
+on_course m old new step.RefuseStray by = inr (no_room_course m old new by)
+on_course m old new (step.CrashAcceptor id) by = inr (stop_course m old new id by)
+on_course m old new (step.RestartAcceptor id) by = inr (start_course m old new id by)
+on_course m old new (step.CrashProposer id) by = inr (down_course (Crashes m.disks) old new id by)
+on_course m old new (step.RestartProposer id) by = inl tt
+on_course {S} {V} m old new (step.Order asked) by = inr (ap course_of by.view)
+on_course {S} {V} m old new step.RefuseOrder by = inr (ap course_of by)
+on_course m old new (step.Tell told) by = inl tt
+on_course m old new (step.AskAll question) by = inr (ask_course m old new question by)
+on_course m old new (step.TurnExchange verdict) by = inr (ask_turn_course m old new verdict by)
+on_course {S} {V} m old new step.RefuseTurnExchange by = inr (ap course_of by.view ∙ no_room_course m old by.middle by.refuses)
+on_course m old new step.Gather by = inr (gather_course old new by)
+on_course m old new step.OpenPlan by = inl tt
+on_course m old new (step.EnterEra id) by = inl tt

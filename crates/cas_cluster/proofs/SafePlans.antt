@@ -1,0 +1,97 @@
+-- A cluster stays safe as a change of membership begins, and as proposers enter the eras that it leads to.
+use Rattle.std.proofs.Common.{◌≡◌, ℕ, List, [], ◌∷◌, ◌++◌, length, Option, None, Some, refl, sym, ap, subst, ◌∙◌, arith, length-append}
+use Rattle.std.specs.Prelude.{◌+◌, ◌<◌, option_map, slice_set}
+use Rattle.cas_ballot.specs.Members.{IsMemberSet}
+use Rattle.cas_flow.specs.Flow.{queue_at}
+use Rattle.cas_proposer.specs.Desk.{DeskView}
+use Rattle.cas_quorum.specs.declared.era.Era.{Era}
+use Rattle.cas_record.specs.declared.answer.Answer.TheVariants as answer
+use Rattle.cas_record.specs.declared.answer.Cause.TheVariants as cause
+use Rattle.cas_record.specs.declared.mark.Mark.TheVariants.{EraEntered}
+use Rattle.cas_record.specs.declared.operator.Asked.{Asked}
+use Rattle.cas_cluster.specs.Council.{OrderView, PlanView, silent_order, hushed, reserved_for_order}
+use Rattle.cas_cluster.specs.Safe.{IsPartySafe, IsSound}
+use Rattle.cas_cluster.specs.Step as step
+use Rattle.cas_cluster.specs.StepCouncil.{with_council}
+use Rattle.cas_cluster.specs.StepCalls.{most_marks}
+use Rattle.cas_cluster.specs.StepDesks.{EntersEra, FailsToEnter}
+use Rattle.cas_cluster.specs.StepPlans as plans
+use Rattle.cas_cluster.specs.StepPlans.{StepOpenPlan, OpensPlan, Welcomes, opened_plan, StepEnterEra, EntersNext, plan_after, entered_view}
+use Rattle.cas_cluster.specs.StepStops as stops
+use Rattle.cas_cluster.specs.StepStops.{closed_by, LeavesRound}
+use Rattle.cas_cluster.specs.View.{Meaning, View, IsAt, era_at, reserved_in_all, with_desk}
+use Rattle.cas_cluster.proofs.Leaving.{left_marks}
+use Rattle.cas_cluster.proofs.Places.{own_set}
+use Rattle.cas_cluster.proofs.SafeCouncil.{told_view_safe}
+use Rattle.cas_cluster.proofs.SafeParts.{council_safe, more_by, safe_but, desk_low, changes_desk}
+use Rattle.cas_cluster.proofs.SafeStops.{restarts_acceptor_safe, left_safe, left_reserves, down_safe, era_safe}
+
+-- as much stays reserved for a call whose last step told nothing
+hushed_reserves : (order : Option OrderView) → reserved_for_order (option_map silent_order order) ≡ reserved_for_order order
+hushed_reserves None = refl
+hushed_reserves (Some order) = refl
+
+-- another change of membership is under way, and the open call is told nothing
+planned_safe : {S V : Type 0} (old : View S V) (plan : Option PlanView) (used : List ℕ) → IsSound old → IsSound (with_council old (record (hushed old.council) { plan = plan; used = used }))
+planned_safe old plan used was =
+    council_safe old old.flow (record (hushed old.council) { plan = plan; used = used }) old.marks was refl (λ p other. refl) (omega arith) was.asking (omega (arith, was.room, hushed_reserves old.council.order))
+
+-- ---- a change of membership begins
+welcome_safe : {S V : Type 0} (m : Meaning S V) (old middle : View S V) (asked : Asked) → IsSound old → Welcomes m old asked middle → IsSound middle
+welcome_safe m old middle asked was (plans.starts id acceptor now joins at starts view) = restarts_acceptor_safe m old id middle was (step.starts acceptor now at starts view)
+welcome_safe m old middle asked was (plans.fails id acceptor now joins at fails view) = restarts_acceptor_safe m old id middle was (step.fails acceptor now at fails view)
+welcome_safe m old middle asked was (plans.is_up id acceptor joins at up view) = subst IsSound (sym view) was
+welcome_safe m old middle asked was (plans.stays id leaves view) = subst IsSound (sym view) was
+
+pub open_safe : {S V : Type 0} (m : Meaning S V) (old new : View S V) → IsSound old → StepOpenPlan m old new → IsSound new
+open_safe {S} {V} m old new was by = by_case by.opens
+  where
+    by_case : OpensPlan m old by.order.asked by.desk new → IsSound new
+    by_case (plans.is_down down view) = subst IsSound (sym view) (told_view_safe old _ was)
+    by_case (plans.is_busy plan up busy view) = subst IsSound (sym view) (told_view_safe old _ was)
+    by_case (plans.refuses fault up none planned view) = subst IsSound (sym view) (told_view_safe old _ was)
+    by_case (plans.opens progress middle up none planned welcomes view) = subst IsSound (sym view) (planned_safe middle _ _ (welcome_safe m old middle by.order.asked was welcomes))
+    by_case (plans.no_memory middle up none welcomes view) = subst IsSound (sym view) (told_view_safe middle _ (welcome_safe m old middle by.order.asked was welcomes))
+
+-- ---- a proposer enters the next era
+-- its desk has no open round then
+entered_idle : {S V : Type 0} (m : Meaning S V) (next : Era) (closed : _) (old middle : View S V) (id : ℕ) → LeavesRound (EntersEra m.disks next) closed old id middle → (desk : DeskView V) → IsAt middle.desks id desk → desk.round ≡ None
+entered_idle {S} {V} m next closed old middle id (stops.idle desk now at none by view) d at_d = ap (λ (x : DeskView V). x.round) (own_set old.desks id now d (subst (λ (w : View S V). IsAt w.desks id d) view at_d) ∙ by.desk)
+entered_idle {S} {V} m next closed old middle id (stops.closes desk now round of at some by view) d at_d = ap (λ (x : DeskView V). x.round) (own_set old.desks id now d (subst (λ (w : View S V). IsAt w.desks id d) view at_d) ∙ by.desk)
+
+enters_safe : {S V : Type 0} (m : Meaning S V) (old middle : View S V) (plan : PlanView) (next : Era) → IsSound old → IsMemberSet next.prep → IsMemberSet next.acc → length old.marks + reserved_in_all old < most_marks
+    → LeavesRound (EntersEra m.disks next) (closed_by (answer.Moved next.number) (cause.Moved next.number)) old plan.entered middle → IsSound (entered_view middle plan next)
+enters_safe {S} {V} m old middle plan next was prep acc room leaves =
+    council_safe (record middle { eras = slice_set middle.eras plan.entered next }) middle.flow (record (hushed middle.council) { plan = Some (plan_after middle.greatest plan next) }) (middle.marks ++ EraEntered plan.entered next.number ∷ [])
+    (era_safe middle plan.entered next left prep acc (entered_idle m next (closed_by (answer.Moved next.number) (cause.Moved next.number)) old middle plan.entered leaves)) refl (λ p other. refl) (more_by middle.marks _) left.asking
+    (omega (
+      arith,
+      room,
+      length-append middle.marks (EraEntered plan.entered next.number ∷ []),
+      hushed_reserves middle.council.order,
+      ap length (left_marks (EntersEra m.disks next) (closed_by (answer.Moved next.number) (cause.Moved next.number)) old middle plan.entered leaves),
+      left_reserves old plan.entered (EntersEra m.disks next) (answer.Moved next.number) (cause.Moved next.number) middle was leaves,
+    ))
+  where
+    left : IsSound middle
+    left = left_safe old plan.entered (EntersEra m.disks next) (answer.Moved next.number) (cause.Moved next.number) middle
+        (λ desk now enters. (ap (λ (d : DeskView V). d.id) enters.desk, ap (λ (d : DeskView V). d.round) enters.desk, ap (λ (d : DeskView V). d.cache) enters.desk)) was leaves
+
+-- a desk whose vault shows something else goes on with its round
+revault_safe : {S V : Type 0} (old : View S V) (id : ℕ) (desk now : DeskView V) → IsSound old → IsAt old.desks id desk → now ≡ record desk { vault = now.vault } → IsSound (with_desk old id now)
+revault_safe {S} {V} old id desk now was at is_now =
+    safe_but old (with_desk old id now) id was (desk_low old id desk was at) (changes_desk old id now old.flow was refl (λ p other. refl))
+    (λ d caller at_d at_caller. subst (λ (x : DeskView V). IsPartySafe (era_at old id) (length old.marks) id x caller (queue_at old.flow id)) (sym (own_set old.desks id now d at_d ∙ is_now))
+    (let party = was.parties id desk caller at at_caller in
+    record { same_id = party.same_id; idle = party.idle; number = party.number; cached = party.cached; round = party.round; room = party.room }))
+    was.room
+
+pub enter_safe : {S V : Type 0} (m : Meaning S V) (old new : View S V) (id : ℕ) → IsSound old → (by : StepEnterEra m old id new) → IsMemberSet by.next.prep → IsMemberSet by.next.acc → IsSound new
+enter_safe {S} {V} m old new id was by prep acc = by_case by.enters
+  where
+    by_case : EntersNext m old by.plan by.next by.desk new → IsSound new
+    by_case (plans.enters middle room leaves view) = subst IsSound (sym view) (enters_safe m old middle by.plan by.next was prep acc room leaves)
+    by_case (plans.is_full full view) = subst IsSound (sym view) (told_view_safe old _ was)
+    by_case (plans.is_down room down view) = subst IsSound (sym view) (told_view_safe old _ was)
+    by_case (plans.fails middle room down view) = subst IsSound (sym view) (told_view_safe middle _ (down_safe old by.plan.entered (FailsToEnter m.disks by.next) middle (λ desk now fails. fails.crashed) was down))
+    by_case (plans.no_memory now room up kept now_is view) = subst IsSound (sym view) (told_view_safe (with_desk old by.plan.entered now) _ (revault_safe old by.plan.entered by.desk now was by.may.at_desk now_is))
