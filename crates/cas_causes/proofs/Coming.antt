@@ -44,7 +44,8 @@ use Rattle.cas_slot.specs.declared.slot.Slot.{Slot}
 use Rattle.cas_record.proofs.Tests.{nat_is}
 use Rattle.cas_cluster.specs.Safe.{IsSafe}
 use Rattle.cas_cluster.specs.Step as step
-use Rattle.cas_cluster.specs.Step.{StepTurn, OpenCallAt}
+use Rattle.cas_cluster.specs.Step.{StepTurn}
+use Rattle.cas_cluster.specs.StepStops.{OpenCallAt}
 use Rattle.cas_cluster.specs.StepAcceptors.{AnswersByTable, StopsWithin}
 use Rattle.cas_cluster.specs.StepFrames as frames
 use Rattle.cas_cluster.specs.StepFrames.{replied_flow}
@@ -314,7 +315,7 @@ turn_comes {S} {V} m {is_phase} {confirms} {IsIn} kind old new id set asked begu
       | inl here ↦ inl (record {
         each = message.Reply reply;
         waits = subst (λ (l : List Message). Contains l (message.Reply reply)) (sym queue) (contains_back (queue_at (taken old.flow id v) id).messages (message.Reply reply ∷ []) (contains_new (message.Reply reply) []));
-        about = table.table.from ∙ safe.acceptor_ids request.to acceptor there ∙ ap (λ (x : Message). (head_of x).1) (sym (here ∙ front_is)) ∙ about;
+        about = table.table.from ∙ safe.sound.acceptor_ids request.to acceptor there ∙ ap (λ (x : Message). (head_of x).1) (sym (here ∙ front_is)) ∙ about;
         is = reply_confirms m kind old new begun.ballot request acceptor now reply (well front request waits fall front_is (member_front front each n here about member)) there table
             (subst (Confirms is_phase confirms begun.ballot) (here ∙ front_is) is);
       })

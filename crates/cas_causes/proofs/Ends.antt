@@ -13,7 +13,7 @@ use Rattle.cas_record.specs.declared.answer.Answer.TheVariants as answer
 use Rattle.cas_round.specs.Round.{IsPrepareVerdict, IsAcceptVerdict}
 use Rattle.cas_round.specs.declared.verdict.RoundVerdict.TheVariants.{Quorum}
 use Rattle.cas_slot.specs.declared.message.Reply.{Reply}
-use Rattle.cas_cluster.specs.Step.{OpenCallAt}
+use Rattle.cas_cluster.specs.StepStops.{OpenCallAt}
 use Rattle.cas_cluster.specs.StepCalls as calls
 use Rattle.cas_cluster.specs.View.{Meaning, View, CallView, CallerView, IsAt, new_call, era_at}
 use Rattle.cas_cluster.proofs.Places.{at_one, at_set, some_is}

@@ -10,15 +10,23 @@ use Rattle.cas_flow.specs.declared.message.Message.TheVariants as message
 use Rattle.cas_proposer.specs.Desk.{DeskView}
 use Rattle.cas_proposer.specs.declared.round.Round.{Round}
 use Rattle.cas_slot.specs.declared.message.Reply.{Reply}
+use Rattle.cas_record.specs.declared.answer.Answer.TheVariants as answer
+use Rattle.cas_record.specs.declared.answer.Cause.TheVariants as cause
+use Rattle.cas_record.specs.declared.operator.Asked.{Asked}
+use Rattle.cas_record.specs.declared.operator.OpAnswer.{OpAnswer}
 use Rattle.cas_cluster.specs.Council.{Question}
 use Rattle.cas_cluster.specs.Step as step
-use Rattle.cas_cluster.specs.Step.{Event, Step, StepBegin, StepTurn, StepRefuseTurn, StepPropose, StepCount, StepEnd, StepStray, StepCrashAcceptor, StepRestartAcceptor, CrashesDesk, StepCrashProposer, StepRestartProposer, OpenCallAt}
+use Rattle.cas_cluster.specs.Step.{Event, Step, StepBegin, StepTurn, StepRefuseTurn, StepPropose, StepCount, StepEnd, StepStray, StepCrashAcceptor, StepRestartAcceptor, StepRestartProposer}
+use Rattle.cas_cluster.specs.StepStops as stops
+use Rattle.cas_cluster.specs.StepStops.{OpenCallAt, closed_by, closed_by_crash, LeavesRound, GoesDown}
+use Rattle.cas_cluster.specs.StepPlans as plans
+use Rattle.cas_cluster.specs.StepPlans.{Welcomes, StepOpenPlan, OpensPlan, StepEnterEra, EntersNext}
 use Rattle.cas_cluster.specs.StepCalls as calls
 use Rattle.cas_cluster.specs.StepCouncil as council
-use Rattle.cas_cluster.specs.StepCouncil.{StepAskAll, StepTurnExchange, StepGather}
-use Rattle.cas_cluster.specs.StepDesks.{HearsReply}
+use Rattle.cas_cluster.specs.StepCouncil.{StepTell, StepAskAll, StepTurnExchange, StepGather}
+use Rattle.cas_cluster.specs.StepDesks.{HearsReply, Crashes, EntersEra, FailsToEnter}
 use Rattle.cas_cluster.specs.StepFrames as frames
-use Rattle.cas_cluster.specs.View.{Meaning, View, IsAt}
+use Rattle.cas_cluster.specs.View.{Meaning, View, CallView, IsAt}
 use Rattle.cas_cluster.proofs.Places.{at_one, at_set}
 use Rattle.cas_causes.specs.Causes.{StepsPassOrBring}
 use Rattle.cas_causes.specs.Rounds.{IsUnderWay, Brings, nothing, one}
@@ -57,6 +65,9 @@ passes_same {S} {V} old new id same desk at = (desk, subst (λ (l : List (DeskVi
 passes_other : {S V : Type 0} (old new : View S V) (id place : ℕ) (now : DeskView V) → id ≢ place → new.desks ≡ slice_set old.desks place now → Passes old new id
 passes_other {S} {V} old new id place now other same desk at = (desk, subst (λ (l : List (DeskView V)). IsAt l id desk) (sym same) (at_other old.desks place now id desk other at), refl)
 
+passes_both : {S V : Type 0} (old mid new : View S V) (id : ℕ) → Passes old mid id → Passes mid new id → Passes old new id
+passes_both old mid new id before after desk at = let first = before desk at in let now = after first.0 first.1 in (now.0, now.1, now.2 ∙ first.2)
+
 -- ---- calls of others
 begin_passes : {S V : Type 0} (m : Meaning S V) (old new : View S V) (id caller : ℕ) (key : List ℕ) (program : List Clause) → id ≢ caller → StepBegin m old caller key program new → Something old new id
 begin_passes {S} {V} m old new id caller key program other by = both_nothing old by.middle new id (opens by.opens) (in_round by.begins)
@@ -93,14 +104,14 @@ count_passes {S} {V} m old new id proposer other by = in_phase by.at_round.of_ca
     in_phase at desk round (calls.counts now by outcome quorum confirmers proposed ends is) = other_desk old new id proposer now other (ap (λ (w : View S V). w.desks) is)
     in_phase at desk round (calls.ends now verdict why verdict_is cause ends is) = other_desk old new id proposer now other (ap (λ (w : View S V). w.desks) is)
 
-desk_crash_passes : {S V : Type 0} (m : Meaning S V) (old new : View S V) (id proposer : ℕ) → id ≢ proposer → CrashesDesk m old proposer new → Passes old new id
-desk_crash_passes {S} {V} m old new id proposer other (step.idle desk now at none crashes is) = passes_other old new id proposer now other (ap (λ (w : View S V). w.desks) is)
-desk_crash_passes {S} {V} m old new id proposer other (step.closes desk now round at there is_round crashes is) = passes_other old new id proposer now other (ap (λ (w : View S V). w.desks) is)
+left_passes : {S V : Type 0} (DeskTurns : DeskView V → DeskView V → Type 0) (closed : CallView → CallView) (old new : View S V) (id proposer : ℕ) → id ≢ proposer → LeavesRound DeskTurns closed old proposer new → Passes old new id
+left_passes {S} {V} DeskTurns closed old new id proposer other (stops.idle desk now at none turns is) = passes_other old new id proposer now other (ap (λ (w : View S V). w.desks) is)
+left_passes {S} {V} DeskTurns closed old new id proposer other (stops.closes desk now round at there is_round turns is) = passes_other old new id proposer now other (ap (λ (w : View S V). w.desks) is)
 
-crash_passes : {S V : Type 0} (m : Meaning S V) (old new : View S V) (id proposer : ℕ) → id ≢ proposer → StepCrashProposer m old proposer new → Something old new id
-crash_passes m old new id proposer other (step.of_client client crashes) = ([], nothing (desk_crash_passes m old new id proposer other crashes))
-crash_passes {S} {V} m old new id proposer other (step.of_operator middle operator crashes is) =
-    both_nothing old middle new id (desk_crash_passes m old middle id proposer other crashes) (passes_same middle new id (ap (λ (w : View S V). w.desks) is))
+down_passes : {S V : Type 0} (DeskTurns : DeskView V → DeskView V → Type 0) (old new : View S V) (id proposer : ℕ) → id ≢ proposer → GoesDown DeskTurns old proposer new → Passes old new id
+down_passes DeskTurns old new id proposer other (stops.of_client client leaves) = left_passes DeskTurns closed_by_crash old new id proposer other leaves
+down_passes {S} {V} DeskTurns old new id proposer other (stops.of_operator middle operator leaves is) =
+    passes_both old middle new id (left_passes DeskTurns closed_by_crash old middle id proposer other leaves) (passes_same middle new id (ap (λ (w : View S V). w.desks) is))
 
 -- ---- frames
 -- a reply arrives at a desk
@@ -150,7 +161,7 @@ restart_passes {S} {V} m old new id acceptor (step.fails it now at fails is) = s
 
 desk_passes : {S V : Type 0} (m : Meaning S V) (old new : View S V) (id proposer : ℕ) → StepRestartProposer m old proposer new → Something old new id
 desk_passes {S} {V} m old new id proposer (step.was_up_already desk at up is) = same_desks old new id (ap (λ (w : View S V). w.desks) is)
-desk_passes {S} {V} m old new id proposer (step.restarts desk now at down restarts is) = elim (true_or_false (nat_eq id proposer)) [
+desk_passes {S} {V} m old new id proposer (step.restarts desk now caller at at_caller down restarts is) = elim (true_or_false (nat_eq id proposer)) [
   | inl here ↦ (
     [],
     nothing (λ seen at_seen.
@@ -195,6 +206,47 @@ gather_passes {S} {V} old new id by = in_gather by.gathers
     in_gather (council.probed key found up question found_is is) = same_desks old new id (ap (λ (w : View S V). w.desks) is)
     in_gather (council.no_memory up is) = same_desks old new id (ap (λ (w : View S V). w.desks) is)
 
+tell_passes : {S V : Type 0} (old new : View S V) (id : ℕ) (answer : OpAnswer) → StepTell old answer new → Something old new id
+tell_passes {S} {V} old new id answer (council.tells order said is_open told same is) = same_desks old new id (ap (λ (w : View S V). w.desks) is)
+tell_passes {S} {V} old new id answer (council.finishes order is_open by is) = same_desks old new id (ap (λ (w : View S V). w.desks) is)
+
+-- ---- changes of membership
+welcome_passes : {S V : Type 0} (m : Meaning S V) (old new : View S V) (id : ℕ) (asked : Asked) → Welcomes m old asked new → Passes old new id
+welcome_passes {S} {V} m old new id asked (plans.starts acceptor was now joins at starts is) = passes_same old new id (ap (λ (w : View S V). w.desks) is)
+welcome_passes {S} {V} m old new id asked (plans.fails acceptor was now joins at fails is) = passes_same old new id (ap (λ (w : View S V). w.desks) is)
+welcome_passes {S} {V} m old new id asked (plans.is_up acceptor was joins at up is) = passes_same old new id (ap (λ (w : View S V). w.desks) is)
+welcome_passes {S} {V} m old new id asked (plans.stays acceptor leaves is) = passes_same old new id (ap (λ (w : View S V). w.desks) is)
+
+plan_passes : {S V : Type 0} (m : Meaning S V) (old new : View S V) (id : ℕ) → StepOpenPlan m old new → Something old new id
+plan_passes {S} {V} m old new id by = in_case by.opens
+  where
+    in_case : OpensPlan m old by.order.asked by.desk new → Something old new id
+    in_case (plans.is_down down is) = same_desks old new id (ap (λ (w : View S V). w.desks) is)
+    in_case (plans.is_busy plan up busy is) = same_desks old new id (ap (λ (w : View S V). w.desks) is)
+    in_case (plans.refuses fault up none planned is) = same_desks old new id (ap (λ (w : View S V). w.desks) is)
+    in_case (plans.opens progress middle up none planned welcomes is) =
+        ([], nothing (passes_both old middle new id (welcome_passes m old middle id by.order.asked welcomes) (passes_same middle new id (ap (λ (w : View S V). w.desks) is))))
+    in_case (plans.no_memory middle up none welcomes is) =
+        ([], nothing (passes_both old middle new id (welcome_passes m old middle id by.order.asked welcomes) (passes_same middle new id (ap (λ (w : View S V). w.desks) is))))
+
+enter_passes : {S V : Type 0} (m : Meaning S V) (old new : View S V) (id proposer : ℕ) → id ≢ proposer → StepEnterEra m old proposer new → Something old new id
+enter_passes {S} {V} m old new id proposer apart by = in_case by.enters
+  where
+    other : id ≢ by.plan.entered
+    other = λ is. apart (is ∙ by.may.is_due)
+
+    in_case : EntersNext m old by.plan by.next by.desk new → Something old new id
+    in_case (plans.enters middle room leaves is) = (
+      [],
+      nothing (passes_both old middle new id (left_passes (EntersEra m.disks by.next) (closed_by (answer.Moved by.next.number) (cause.Moved by.next.number)) old middle id by.plan.entered other leaves)
+          (passes_same middle new id (ap (λ (w : View S V). w.desks) is))),
+    )
+    in_case (plans.is_full full is) = same_desks old new id (ap (λ (w : View S V). w.desks) is)
+    in_case (plans.is_down room down is) = same_desks old new id (ap (λ (w : View S V). w.desks) is)
+    in_case (plans.fails middle room down is) =
+        ([], nothing (passes_both old middle new id (down_passes (FailsToEnter m.disks by.next) old middle id by.plan.entered other down) (passes_same middle new id (ap (λ (w : View S V). w.desks) is))))
+    in_case (plans.no_memory now room up kept now_is is) = other_desk old new id by.plan.entered now other (ap (λ (w : View S V). w.desks) is)
+
 -- ---- all of them
 pub steps : {S V : Type 0} (m : Meaning S V) → StepsPassOrBring m
 steps m old new id (step.Begin caller key program) not_own by = begin_passes m old new id caller key program (λ is. not_own (sym is)) by
@@ -208,12 +260,14 @@ steps m old new id (step.Stray index) not_own by = stray_brings m old new id ind
 steps m old new id step.RefuseStray not_own by = ([], nothing (no_room_passes m old new id by))
 steps {S} {V} m old new id (step.CrashAcceptor acceptor) not_own (step.crashes it now at crashes is) = same_desks old new id (ap (λ (w : View S V). w.desks) is)
 steps m old new id (step.RestartAcceptor acceptor) not_own by = restart_passes m old new id acceptor by
-steps m old new id (step.CrashProposer proposer) not_own by = crash_passes m old new id proposer (λ is. not_own (sym is)) by
+steps m old new id (step.CrashProposer proposer) not_own by = ([], nothing (down_passes (Crashes m.disks) old new id proposer (λ is. not_own (sym is)) by))
 steps m old new id (step.RestartProposer proposer) not_own by = desk_passes m old new id proposer by
 steps {S} {V} m old new id (step.Order asked) not_own by = same_desks old new id (ap (λ (w : View S V). w.desks) by.view)
 steps {S} {V} m old new id step.RefuseOrder not_own by = same_desks old new id (ap (λ (w : View S V). w.desks) by)
-steps {S} {V} m old new id (step.Tell answer) not_own by = same_desks old new id (ap (λ (w : View S V). w.desks) by.view)
+steps m old new id (step.Tell answer) not_own by = tell_passes old new id answer by
 steps m old new id (step.AskAll question) not_own by = ask_passes m old new id question (λ is. not_own (sym is)) by
 steps m old new id (step.TurnExchange v) not_own by = exchange_passes m old new id v by
 steps {S} {V} m old new id step.RefuseTurnExchange not_own by = both_nothing old by.middle new id (no_room_passes m old by.middle id by.refuses) (passes_same by.middle new id (ap (λ (w : View S V). w.desks) by.view))
 steps m old new id step.Gather not_own by = gather_passes old new id by
+steps m old new id step.OpenPlan not_own by = plan_passes m old new id by
+steps m old new id (step.EnterEra proposer) not_own by = enter_passes m old new id proposer (λ is. not_own (sym is)) by

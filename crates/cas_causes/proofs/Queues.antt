@@ -15,11 +15,19 @@ use Rattle.cas_record.specs.declared.answer.Answer.{Answer}
 use Rattle.cas_record.specs.declared.answer.Answer.TheVariants as answer
 use Rattle.cas_slot.specs.declared.message.Reply.{Reply}
 use Rattle.cas_cluster.specs.Step as step
-use Rattle.cas_cluster.specs.Step.{StepBegin, StepTurn, StepRefuseTurn, StepPropose, StepCount, StepEnd, StepStray, StepCrashAcceptor, StepRestartAcceptor, CrashesDesk, StepCrashProposer, StepRestartProposer, OpenCallAt}
+use Rattle.cas_cluster.specs.Step.{StepBegin, StepTurn, StepRefuseTurn, StepPropose, StepCount, StepEnd, StepStray, StepCrashAcceptor, StepRestartAcceptor, StepRestartProposer}
+use Rattle.cas_cluster.specs.StepDesks.{Crashes, EntersEra, FailsToEnter}
+use Rattle.cas_cluster.specs.StepStops as stops
+use Rattle.cas_cluster.specs.StepStops.{OpenCallAt, closed_by, closed_by_crash, LeavesRound, GoesDown}
+use Rattle.cas_cluster.specs.StepPlans as plans
+use Rattle.cas_cluster.specs.StepPlans.{Welcomes, StepOpenPlan, OpensPlan, StepEnterEra, EntersNext}
+use Rattle.cas_record.specs.declared.answer.Cause.TheVariants as cause
+use Rattle.cas_record.specs.declared.operator.Asked.{Asked}
+use Rattle.cas_record.specs.declared.operator.OpAnswer.{OpAnswer}
 use Rattle.cas_cluster.specs.StepCalls as calls
 use Rattle.cas_cluster.specs.Council.{Question, exchange_place}
 use Rattle.cas_cluster.specs.StepCouncil as council
-use Rattle.cas_cluster.specs.StepCouncil.{StepAskAll, StepTurnExchange, StepGather}
+use Rattle.cas_cluster.specs.StepCouncil.{StepTell, StepAskAll, StepTurnExchange, StepGather}
 use Rattle.cas_cluster.specs.StepFrames as frames
 use Rattle.cas_cluster.specs.StepFrames.{replied_flow}
 use Rattle.cas_cluster.specs.View.{Meaning, View, CallView, CallerView, IsAt}
@@ -139,16 +147,16 @@ end_stays : {S V : Type 0} (m : Meaning S V) (old new : View S V) (id caller : �
 end_stays {S} {V} m old new id caller told other by =
     stays_by old new id (ap (λ (w : View S V). queue_at w.flow id) by.ends.view ∙ abandoned_other old.flow caller id other) (keeps_other old.callers new.callers id caller _ other (ap (λ (w : View S V). w.callers) by.ends.view))
 
-desk_crash_stays : {S V : Type 0} (m : Meaning S V) (old new : View S V) (id proposer : ℕ) → id ≢ proposer → CrashesDesk m old proposer new → Stays old new id
-desk_crash_stays {S} {V} m old new id proposer other (step.idle desk now at none_open crashes is) =
+left_stays : {S V : Type 0} (DeskTurns : DeskView V → DeskView V → Type 0) (closed : CallView → CallView) (old new : View S V) (id proposer : ℕ) → id ≢ proposer → LeavesRound DeskTurns closed old proposer new → Stays old new id
+left_stays {S} {V} DeskTurns closed old new id proposer other (stops.idle desk now at none_open turns is) =
     stays_by old new id (ap (λ (w : View S V). queue_at w.flow id) is ∙ abandoned_other old.flow proposer id other) (keeps_same old.callers new.callers id (ap (λ (w : View S V). w.callers) is))
-desk_crash_stays {S} {V} m old new id proposer other (step.closes desk now round at there is_round crashes is) =
+left_stays {S} {V} DeskTurns closed old new id proposer other (stops.closes desk now round at there is_round turns is) =
     stays_by old new id (ap (λ (w : View S V). queue_at w.flow id) is ∙ abandoned_other old.flow proposer id other) (keeps_other old.callers new.callers id proposer _ other (ap (λ (w : View S V). w.callers) is))
 
-crash_stays : {S V : Type 0} (m : Meaning S V) (old new : View S V) (id proposer : ℕ) → id ≢ exchange_place → id ≢ proposer → StepCrashProposer m old proposer new → Stays old new id
-crash_stays m old new id proposer apart other (step.of_client client crashes) = desk_crash_stays m old new id proposer other crashes
-crash_stays {S} {V} m old new id proposer apart other (step.of_operator middle operator crashes is) =
-    stays_both old middle new id (desk_crash_stays m old middle id proposer other crashes)
+down_stays : {S V : Type 0} (DeskTurns : DeskView V → DeskView V → Type 0) (old new : View S V) (id proposer : ℕ) → id ≢ exchange_place → id ≢ proposer → GoesDown DeskTurns old proposer new → Stays old new id
+down_stays DeskTurns old new id proposer apart other (stops.of_client client leaves) = left_stays DeskTurns closed_by_crash old new id proposer other leaves
+down_stays {S} {V} DeskTurns old new id proposer apart other (stops.of_operator middle operator leaves is) =
+    stays_both old middle new id (left_stays DeskTurns closed_by_crash old middle id proposer other leaves)
     (stays_by middle new id (ap (λ (w : View S V). queue_at w.flow id) is ∙ abandoned_other middle.flow exchange_place id apart) (keeps_same middle.callers new.callers id (ap (λ (w : View S V). w.callers) is)))
 
 -- ---- turns
@@ -232,7 +240,7 @@ restart_stays {S} {V} m old new id acceptor (step.fails it now at fails is) = st
 
 desk_stays : {S V : Type 0} (m : Meaning S V) (old new : View S V) (id proposer : ℕ) → StepRestartProposer m old proposer new → Stays old new id
 desk_stays {S} {V} m old new id proposer (step.was_up_already desk at up is) = stays_same old new id (ap (λ (w : View S V). w.flow) is) (ap (λ (w : View S V). w.callers) is)
-desk_stays {S} {V} m old new id proposer (step.restarts desk now at down restarts is) = stays_same old new id (ap (λ (w : View S V). w.flow) is) (ap (λ (w : View S V). w.callers) is)
+desk_stays {S} {V} m old new id proposer (step.restarts desk now caller at at_caller down restarts is) = stays_same old new id (ap (λ (w : View S V). w.flow) is) (ap (λ (w : View S V). w.callers) is)
 
 -- ---- the operator's calls
 ask_stays : {S V : Type 0} (m : Meaning S V) (old new : View S V) (id : ℕ) (question : Question) → id ≢ exchange_place → StepAskAll m old question new → Stays old new id
@@ -272,6 +280,49 @@ gather_stays {S} {V} old new id by = in_gather by.gathers
     in_gather (council.probed key found up question found_is is) = stays_same old new id (ap (λ (w : View S V). w.flow) is) (ap (λ (w : View S V). w.callers) is)
     in_gather (council.no_memory up is) = stays_same old new id (ap (λ (w : View S V). w.flow) is) (ap (λ (w : View S V). w.callers) is)
 
+tell_stays : {S V : Type 0} (old new : View S V) (id : ℕ) (answer : OpAnswer) → id ≢ exchange_place → StepTell old answer new → Stays old new id
+tell_stays {S} {V} old new id answer apart (council.tells order said is_open told same is) =
+    stays_by old new id (ap (λ (w : View S V). queue_at w.flow id) is ∙ abandoned_other old.flow exchange_place id apart) (keeps_same old.callers new.callers id (ap (λ (w : View S V). w.callers) is))
+tell_stays {S} {V} old new id answer apart (council.finishes order is_open by is) =
+    stays_by old new id (ap (λ (w : View S V). queue_at w.flow id) is ∙ abandoned_other old.flow exchange_place id apart) (keeps_same old.callers new.callers id (ap (λ (w : View S V). w.callers) is))
+
+-- ---- changes of membership
+welcome_stays : {S V : Type 0} (m : Meaning S V) (old new : View S V) (id : ℕ) (asked : Asked) → Welcomes m old asked new → Stays old new id
+welcome_stays {S} {V} m old new id asked (plans.starts acceptor was now joins at starts is) = stays_same old new id (ap (λ (w : View S V). w.flow) is) (ap (λ (w : View S V). w.callers) is)
+welcome_stays {S} {V} m old new id asked (plans.fails acceptor was now joins at fails is) = stays_same old new id (ap (λ (w : View S V). w.flow) is) (ap (λ (w : View S V). w.callers) is)
+welcome_stays {S} {V} m old new id asked (plans.is_up acceptor was joins at up is) = stays_same old new id (ap (λ (w : View S V). w.flow) is) (ap (λ (w : View S V). w.callers) is)
+welcome_stays {S} {V} m old new id asked (plans.stays acceptor leaves is) = stays_same old new id (ap (λ (w : View S V). w.flow) is) (ap (λ (w : View S V). w.callers) is)
+
+plan_stays : {S V : Type 0} (m : Meaning S V) (old new : View S V) (id : ℕ) → StepOpenPlan m old new → Stays old new id
+plan_stays {S} {V} m old new id by = in_case by.opens
+  where
+    told : (mid : View S V) → Stays old mid id → new.flow ≡ mid.flow → new.callers ≡ mid.callers → Stays old new id
+    told mid before flow callers = stays_both old mid new id before (stays_same mid new id flow callers)
+
+    in_case : OpensPlan m old by.order.asked by.desk new → Stays old new id
+    in_case (plans.is_down down is) = stays_same old new id (ap (λ (w : View S V). w.flow) is) (ap (λ (w : View S V). w.callers) is)
+    in_case (plans.is_busy plan up busy is) = stays_same old new id (ap (λ (w : View S V). w.flow) is) (ap (λ (w : View S V). w.callers) is)
+    in_case (plans.refuses fault up none planned is) = stays_same old new id (ap (λ (w : View S V). w.flow) is) (ap (λ (w : View S V). w.callers) is)
+    in_case (plans.opens progress middle up none planned welcomes is) = told middle (welcome_stays m old middle id by.order.asked welcomes) (ap (λ (w : View S V). w.flow) is) (ap (λ (w : View S V). w.callers) is)
+    in_case (plans.no_memory middle up none welcomes is) = told middle (welcome_stays m old middle id by.order.asked welcomes) (ap (λ (w : View S V). w.flow) is) (ap (λ (w : View S V). w.callers) is)
+
+enter_stays : {S V : Type 0} (m : Meaning S V) (old new : View S V) (id proposer : ℕ) → id ≢ exchange_place → id ≢ proposer → StepEnterEra m old proposer new → Stays old new id
+enter_stays {S} {V} m old new id proposer apart other_one by = in_case by.enters
+  where
+    other : id ≢ by.plan.entered
+    other = λ is. other_one (is ∙ by.may.is_due)
+
+    then_told : (mid : View S V) → Stays old mid id → new.flow ≡ mid.flow → new.callers ≡ mid.callers → Stays old new id
+    then_told mid before flow callers = stays_both old mid new id before (stays_same mid new id flow callers)
+
+    in_case : EntersNext m old by.plan by.next by.desk new → Stays old new id
+    in_case (plans.enters middle room leaves is) =
+        then_told middle (left_stays (EntersEra m.disks by.next) (closed_by (answer.Moved by.next.number) (cause.Moved by.next.number)) old middle id by.plan.entered other leaves) (ap (λ (w : View S V). w.flow) is) (ap (λ (w : View S V). w.callers) is)
+    in_case (plans.is_full full is) = stays_same old new id (ap (λ (w : View S V). w.flow) is) (ap (λ (w : View S V). w.callers) is)
+    in_case (plans.is_down room down is) = stays_same old new id (ap (λ (w : View S V). w.flow) is) (ap (λ (w : View S V). w.callers) is)
+    in_case (plans.fails middle room down is) = then_told middle (down_stays (FailsToEnter m.disks by.next) old middle id by.plan.entered apart other down) (ap (λ (w : View S V). w.flow) is) (ap (λ (w : View S V). w.callers) is)
+    in_case (plans.no_memory now room up kept_it now_is is) = stays_same old new id (ap (λ (w : View S V). w.flow) is) (ap (λ (w : View S V). w.callers) is)
+
 -- ---- all of them
 -- the proposer's own frame has its turn
 abbrev pub OwnTurn : {S V : Type 0} → Meaning S V → View S V → View S V → ℕ → step.Event → Type 0
@@ -294,14 +345,15 @@ stays_or_turn m old new id (step.Stray index) apart not_own by = inl (stray_stay
 stays_or_turn m old new id step.RefuseStray apart not_own by = inl (no_room_stays m old new id by)
 stays_or_turn {S} {V} m old new id (step.CrashAcceptor acceptor) apart not_own (step.crashes it now at crashes is) = inl (stays_same old new id (ap (λ (w : View S V). w.flow) is) (ap (λ (w : View S V). w.callers) is))
 stays_or_turn m old new id (step.RestartAcceptor acceptor) apart not_own by = inl (restart_stays m old new id acceptor by)
-stays_or_turn m old new id (step.CrashProposer proposer) apart not_own by = inl (crash_stays m old new id proposer apart (λ is. not_own (sym is)) by)
+stays_or_turn m old new id (step.CrashProposer proposer) apart not_own by = inl (down_stays (Crashes m.disks) old new id proposer apart (λ is. not_own (sym is)) by)
 stays_or_turn m old new id (step.RestartProposer proposer) apart not_own by = inl (desk_stays m old new id proposer by)
 stays_or_turn {S} {V} m old new id (step.Order asked) apart not_own by = inl (stays_same old new id (ap (λ (w : View S V). w.flow) by.view) (ap (λ (w : View S V). w.callers) by.view))
 stays_or_turn {S} {V} m old new id step.RefuseOrder apart not_own by = inl (stays_same old new id (ap (λ (w : View S V). w.flow) by) (ap (λ (w : View S V). w.callers) by))
-stays_or_turn {S} {V} m old new id (step.Tell answer) apart not_own by =
-    inl (stays_by old new id (ap (λ (w : View S V). queue_at w.flow id) by.view ∙ abandoned_other old.flow exchange_place id apart) (keeps_same old.callers new.callers id (ap (λ (w : View S V). w.callers) by.view)))
+stays_or_turn m old new id (step.Tell answer) apart not_own by = inl (tell_stays old new id answer apart by)
 stays_or_turn m old new id (step.AskAll question) apart not_own by = inl (ask_stays m old new id question apart by)
 stays_or_turn m old new id (step.TurnExchange v) apart not_own by = inl (exchange_stays m old new id v apart by)
 stays_or_turn {S} {V} m old new id step.RefuseTurnExchange apart not_own by =
     inl (stays_both old by.middle new id (no_room_stays m old by.middle id by.refuses) (stays_same by.middle new id (ap (λ (w : View S V). w.flow) by.view) (ap (λ (w : View S V). w.callers) by.view)))
 stays_or_turn m old new id step.Gather apart not_own by = inl (gather_stays old new id by)
+stays_or_turn m old new id step.OpenPlan apart not_own by = inl (plan_stays m old new id by)
+stays_or_turn m old new id (step.EnterEra proposer) apart not_own by = inl (enter_stays m old new id proposer apart (λ is. not_own (sym is)) by)

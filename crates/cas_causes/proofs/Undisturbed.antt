@@ -30,9 +30,10 @@ use Rattle.cas_slot.specs.declared.message.Reply.{Reply}
 use Rattle.cas_slot.specs.declared.message.Request.{Request}
 use Rattle.cas_slot.specs.declared.message.Tell.{Tell}
 use Rattle.cas_vault.specs.Vault.{kept_of}
-use Rattle.cas_cluster.specs.Safe.{IsSafe}
+use Rattle.cas_cluster.specs.Safe.{IsSafe, IsSound}
 use Rattle.cas_cluster.specs.Step as step
-use Rattle.cas_cluster.specs.Step.{OpenCallAt, OpenRoundAt}
+use Rattle.cas_cluster.specs.Step.{OpenRoundAt}
+use Rattle.cas_cluster.specs.StepStops.{OpenCallAt}
 use Rattle.cas_cluster.specs.StepCalls as calls
 use Rattle.cas_cluster.specs.StepCalls.{refusal_by, cause_by, prepares_to, accepts_to}
 use Rattle.cas_cluster.specs.StepDesks.{TurnsWith}
@@ -66,7 +67,7 @@ along : {S V : Type 0} (m : Meaning S V) {is_phase : Phase → Bool} {confirms :
 along m kind id set asked begun first_ mid replies none safe undisturbed was = record { coming = was; safe = safe; proposed = λ outcome has. has }
 along m kind id set asked begun first_ mid replies (one_more {before = before} {brought = brought} {mid = middle} event steps not_own by brings) safe undisturbed was =
     let until_now = along m kind id set asked begun first_ middle before steps safe undisturbed.0 was in
-    let low = desk_low middle id until_now.coming.is_open.desk until_now.safe until_now.coming.is_open.at_desk in
+    let low = desk_low middle id until_now.coming.is_open.desk until_now.safe.sound until_now.coming.is_open.at_desk in
     let stays = stays_or_turn m middle mid id event (λ same. omega (arith, same, low)) not_own by in
     record {
       coming = step_comes m kind middle mid id set asked begun event until_now.safe stays undisturbed.1 brought brings until_now.coming;
@@ -278,8 +279,8 @@ begins_to_accept new id age desk round outcome at is_open accepting proposed wai
 pub begin_to_ask : {S V : Type 0} (m : Meaning S V) → RoundsBeginToAsk m
 begin_to_ask {S} {V} m old new id key program safe by = in_round by.begins
   where
-    middle_safe : IsSafe by.middle
-    middle_safe = opens_safe old id key program by.middle safe by.opens
+    middle_safe : IsSound by.middle
+    middle_safe = opens_safe old id key program by.middle safe.sound by.opens
 
     -- nothing waits at a desk that has no open round
     empty : (desk : DeskView V) → IsAt by.middle.desks id desk → desk.round ≡ None → (queue_at by.middle.flow id).messages ≡ []

@@ -6,7 +6,7 @@ use Rattle.cas_proposer.specs.Desk.{DeskView}
 use Rattle.cas_proposer.specs.Round.{IsPreparing, IsAccepting}
 use Rattle.cas_proposer.specs.declared.round.Round.{Round}
 use Rattle.cas_slot.specs.declared.message.Reply.{Reply}
-use Rattle.cas_cluster.specs.Step.{Event, Begin, RefuseBegin, Propose, Count, End, CrashProposer, Step, AskAll}
+use Rattle.cas_cluster.specs.Step.{Event, Begin, RefuseBegin, Propose, Count, End, CrashProposer, Step, AskAll, EnterEra}
 use Rattle.cas_cluster.specs.StepDesks.{HearsReply}
 use Rattle.cas_cluster.specs.View.{Meaning, View, IsAt}
 
@@ -19,6 +19,7 @@ IsOwnCall id (Count proposer) = proposer ≡ id
 IsOwnCall id (End caller answer) = caller ≡ id
 IsOwnCall id (CrashProposer proposer) = proposer ≡ id
 IsOwnCall id (AskAll question) = 0 ≡ id
+IsOwnCall id (EnterEra proposer) = proposer ≡ id
 IsOwnCall id other = ⊥
 
 -- a reply waited in front of the proposer's own frames, or among the late ones

@@ -9,7 +9,6 @@ use Rattle.cas_lines.specs.declared.command.Command.TheVariants.{Probe, Show}
 use Rattle.cas_record.specs.declared.answer.Answer.{Answer}
 use Rattle.cas_record.specs.declared.operator.OpAnswer.{OpAnswer}
 use Rattle.cas_script.specs.Probes.{IsProbe}
-use Rattle.cas_cluster.specs.Council.{Council}
 use Rattle.cas_cluster.specs.View.{Meaning, View}
 use Rattle.cas_change.specs.declared.program.Clause.{Clause}
 use Rattle.cas_world.specs.Beginning.{HasNoCall}
@@ -21,7 +20,7 @@ use Rattle.cas_script.specs.Script.{State, LineAnswer, Changed, Happened, Shows,
 use Rattle.cas_script.specs.Stage.{Stage, IsStage}
 use Rattle.cas_script.specs.declared.halt.Halt.{Halt}
 use Rattle.cas_script.specs.declared.network.Network.{Network}
-use Rattle.cas_script.proofs.Keeping.{change_keeps, idle_then}
+use Rattle.cas_script.proofs.Keeping.{change_keeps, stays_quiet, idle_then}
 use Rattle.cas_script.proofs.Stages.{stage_of, halt_at, world_is, halts_are, network_is}
 
 -- ---- results
@@ -100,6 +99,6 @@ change_stage m world now network next halts afters tries proposers id key progra
   few = is.few;
   some = is.some;
   idle = idle_then world now id (change_keeps m tries is.ruled.0 id key program halt after world now answer (runs is.ruled.0 is.ruled.1)) is.idle idle;
-  quiet = (change_keeps m tries is.ruled.0 id key program halt after world now answer (runs is.ruled.0 is.ruled.1)).council (ap (λ (c : Council). c.exchange) is.quiet) ∙ is.quiet;
+  quiet = stays_quiet ((change_keeps m tries is.ruled.0 id key program halt after world now answer (runs is.ruled.0 is.ruled.1)).council is.quiet.exchange) is.quiet;
   ruled = (is.ruled.0, still is.ruled.0 is.ruled.1);
 }

@@ -11,8 +11,10 @@ use Rattle.cas_proposer.specs.declared.round.Round.{Round}
 use Rattle.cas_record.specs.declared.answer.Answer.{Answer}
 use Rattle.cas_cluster.specs.Step as step
 use Rattle.std.specs.Prelude.{option_map}
-use Rattle.cas_cluster.specs.Council.{Council, broken_off, crashed_in}
-use Rattle.cas_cluster.specs.Step.{CrashesDesk, broken_off_view, StepBegin, StepTurn, StepRefuseTurn, StepPropose, StepCount, StepEnd, StepStray, StepCrashAcceptor, StepRestartAcceptor, StepCrashProposer, StepRestartProposer, OpenCallAt}
+use Rattle.cas_cluster.specs.Council.{Council, IsAtRest, broken_off, crashed_in}
+use Rattle.cas_cluster.specs.Step.{StepBegin, StepTurn, StepRefuseTurn, StepPropose, StepCount, StepEnd, StepStray, StepCrashAcceptor, StepRestartAcceptor, StepRestartProposer}
+use Rattle.cas_cluster.specs.StepStops as stops
+use Rattle.cas_cluster.specs.StepStops.{CrashesDesk, broken_off_view, StepCrashProposer, OpenCallAt}
 use Rattle.cas_cluster.specs.StepCalls as calls
 use Rattle.cas_cluster.specs.StepFrames as frames
 use Rattle.cas_cluster.specs.View.{Meaning, View, CallerView}
@@ -120,8 +122,8 @@ pub end_keeps : {S V : Type 0} (m : Meaning S V) (old new : View S V) (id : ℕ)
 end_keeps {S} {V} m old new id told by = sets old new id _ (ap (λ (w : View S V). w.greatest) by.ends.view) (ap (λ (w : View S V). w.callers) by.ends.view) (ap (λ (w : View S V). w.council) by.ends.view)
 
 desk_crash_keeps : {S V : Type 0} (m : Meaning S V) (old new : View S V) (id : ℕ) → CrashesDesk m old id new → KeepsOthers old new id
-desk_crash_keeps {S} {V} m old new id (step.idle desk now at none crashes is) = stays old new id (ap (λ (w : View S V). w.greatest) is) (ap (λ (w : View S V). w.callers) is) (ap (λ (w : View S V). w.council) is)
-desk_crash_keeps {S} {V} m old new id (step.closes desk now round at there is_round crashes is) = sets old new id _ (ap (λ (w : View S V). w.greatest) is) (ap (λ (w : View S V). w.callers) is) (ap (λ (w : View S V). w.council) is)
+desk_crash_keeps {S} {V} m old new id (stops.idle desk now at none crashes is) = stays old new id (ap (λ (w : View S V). w.greatest) is) (ap (λ (w : View S V). w.callers) is) (ap (λ (w : View S V). w.council) is)
+desk_crash_keeps {S} {V} m old new id (stops.closes desk now round at there is_round crashes is) = sets old new id _ (ap (λ (w : View S V). w.greatest) is) (ap (λ (w : View S V). w.callers) is) (ap (λ (w : View S V). w.council) is)
 
 -- no exchange is broken off where none is open
 none_broken : (council : Council) → council.exchange ≡ None → crashed_in council ≡ council
@@ -135,8 +137,8 @@ breaks_off {S} {V} old new id is = record {
 }
 
 pub crash_keeps : {S V : Type 0} (m : Meaning S V) (old new : View S V) (id : ℕ) → StepCrashProposer m old id new → KeepsOthers old new id
-crash_keeps m old new id (step.of_client client crashes) = desk_crash_keeps m old new id crashes
-crash_keeps m old new id (step.of_operator middle operator crashes is) = both old middle new id (desk_crash_keeps m old middle id crashes) (breaks_off middle new id is)
+crash_keeps m old new id (stops.of_client client crashes) = desk_crash_keeps m old new id crashes
+crash_keeps m old new id (stops.of_operator middle operator crashes is) = both old middle new id (desk_crash_keeps m old middle id crashes) (breaks_off middle new id is)
 
 -- ---- a change
 turned_keeps : {S V : Type 0} (m : Meaning S V) (rules : List Rule) (id : ℕ) (old new : View S V) → Turned m rules id old new → KeepsOthers old new id
@@ -186,6 +188,10 @@ pub record KeepsCallers {S V : Type 0} (old new : View S V) : Type 0 where
   pub callers : new.callers ≡ old.callers
   pub council : old.council.exchange ≡ None → new.council ≡ old.council
 
+-- no operator's call is open still
+pub stays_quiet : {old new : Council} → new ≡ old → IsAtRest old → IsAtRest new
+stays_quiet same was = subst IsAtRest (sym same) was
+
 pub still_idle : {S V : Type 0} (old new : View S V) → new.greatest ≡ old.greatest → new.callers ≡ old.callers → AllIdle old → AllIdle new
 still_idle old new greatest callers idle p low =
     let was = idle p (subst (λ (g : ℕ). p ≤ g) greatest low) in
@@ -213,21 +219,21 @@ restarts_keep m old new id answer (events.restarts result there by tells) = rest
 
 desk_step : {S V : Type 0} (m : Meaning S V) (old new : View S V) (id : ℕ) → StepRestartProposer m old id new → KeepsCallers old new
 desk_step m old new id (step.was_up_already desk at up is) = by_view old old new is refl refl refl
-desk_step m old new id (step.restarts desk now at down restarts is) = by_view old _ new is refl refl refl
+desk_step m old new id (step.restarts desk now caller at at_caller down restarts is) = by_view old _ new is refl refl refl
 
 pub proposer_keeps : {S V : Type 0} (m : Meaning S V) (old new : View S V) (id : ℕ) (answer : EventAnswer) → RestartsProposer m old id answer new → KeepsCallers old new
 proposer_keeps m old new id answer (events.restarts result by tells) = desk_step m old new id by
 
 -- a proposer that crashes between two calls
 desk_between : {S V : Type 0} (m : Meaning S V) (old new : View S V) (id : ℕ) → id ≤ old.greatest → AllIdle old → CrashesDesk m old id new → KeepsCallers old new
-desk_between m old new id low idle (step.idle desk now at none crashes is) = by_view old _ new is refl refl refl
-desk_between m old new id low idle (step.closes desk now round at there is_round crashes is) =
+desk_between m old new id low idle (stops.idle desk now at none crashes is) = by_view old _ new is refl refl refl
+desk_between m old new id low idle (stops.closes desk now round at there is_round crashes is) =
     let was = idle id low in
     absurd (cc (sym was.none_open ∙ ap (λ (c : CallerView). c.call) (at_one old.callers id was.at_caller at.at_caller) ∙ at.is_open))
 
 pub crash_between : {S V : Type 0} (m : Meaning S V) (old new : View S V) (id : ℕ) → id ≤ old.greatest → AllIdle old → StepCrashProposer m old id new → KeepsCallers old new
-crash_between m old new id low idle (step.of_client client crashes) = desk_between m old new id low idle crashes
-crash_between {S} {V} m old new id low idle (step.of_operator middle operator crashes is) =
+crash_between m old new id low idle (stops.of_client client crashes) = desk_between m old new id low idle crashes
+crash_between {S} {V} m old new id low idle (stops.of_operator middle operator crashes is) =
     let before = desk_between m old middle id low idle crashes in
     let after = breaks_off middle new id is in
     record {

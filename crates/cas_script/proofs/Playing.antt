@@ -16,7 +16,8 @@ use Rattle.cas_record.specs.declared.answer.Cause.TheVariants as cause
 use Rattle.cas_record.proofs.Eras.{le_or_lt}
 use Rattle.cas_round.specs.declared.verdict.RoundVerdict.{RoundVerdict}
 use Rattle.cas_round.specs.declared.verdict.RoundVerdict.TheVariants as verdict
-use Rattle.cas_cluster.specs.Step.{StepBegin, StepTurn, StepRefuseTurn, StepPropose, StepCount, StepEnd, CrashesDesk, StepCrashProposer, of_client, of_operator, idle, closes, closed_by_crash, OpenCallAt}
+use Rattle.cas_cluster.specs.Step.{StepBegin, StepTurn, StepRefuseTurn, StepPropose, StepCount, StepEnd}
+use Rattle.cas_cluster.specs.StepStops.{CrashesDesk, StepCrashProposer, of_client, of_operator, idle, closes, closed_by_crash, OpenCallAt}
 use Rattle.cas_cluster.specs.StepCalls as calls
 use Rattle.cas_cluster.specs.StepCalls.{most_marks, round_marks, marks_beside, IsFull, WasMet}
 use Rattle.cas_cluster.specs.StepFrames as frames

@@ -12,7 +12,7 @@ use Rattle.cas_record.specs.declared.operator.Asked.{Asked}
 use Rattle.cas_record.specs.declared.operator.Asked.TheVariants as asked
 use Rattle.cas_record.specs.declared.operator.OpAnswer.{OpAnswer}
 use Rattle.cas_record.specs.declared.operator.OpAnswer.TheVariants as op
-use Rattle.cas_cluster.specs.Council.{Council, Question, Probe, ExchangeView, no_council, exchange_place, told_so}
+use Rattle.cas_cluster.specs.Council.{Council, Question, Probe, ExchangeView, IsAtRest, exchange_place, told_so}
 use Rattle.cas_cluster.specs.Step as step
 use Rattle.cas_cluster.specs.Step.{Step}
 use Rattle.cas_cluster.specs.StepCouncil as council
@@ -43,7 +43,8 @@ pub order_keeps : {S V : Type 0} (old new : View S V) (what : Asked) → StepOrd
 order_keeps old new what by = by_view old _ new by.view refl refl
 
 pub tell_keeps : {S V : Type 0} (old new : View S V) (told : OpAnswer) → StepTell old told new → KeepsCalls old new
-tell_keeps old new told by = by_view old _ new by.view refl refl
+tell_keeps old new told (council.tells order said is_open was_told same is) = by_view old _ new is refl refl
+tell_keeps old new told (council.finishes order is_open by is) = by_view old _ new is refl refl
 
 pub ask_keeps : {S V : Type 0} (m : Meaning S V) (old new : View S V) (question : Question) → StepAskAll m old question new → KeepsCalls old new
 ask_keeps {S} {V} m old new question by = by_case by.asks
@@ -85,14 +86,14 @@ gather_keeps {S} {V} old new by = by_case by.gathers
 
 -- ---- the exchange
 -- the operator's call is open, and no exchange yet
-pub may_ask : {S V : Type 0} (old new : View S V) (key : List ℕ) → old.council ≡ no_council → HasNoCall old 0 → StepOrder old (asked.Probe key) new → MayAsk new (Probe key)
+pub may_ask : {S V : Type 0} (old new : View S V) (key : List ℕ) → IsAtRest old.council → HasNoCall old 0 → StepOrder old (asked.Probe key) new → MayAsk new (Probe key)
 may_ask {S} {V} old new key quiet idle by =
     let keeps = order_keeps old new (asked.Probe key) by in
     record {
       order = record { asked = asked.Probe key; told = None };
       is_open = ap (λ (w : View S V). w.council.order) by.view;
       is_for = refl;
-      none_open = ap (λ (w : View S V). w.council.exchange) by.view ∙ ap (λ (c : Council). c.exchange) quiet;
+      none_open = ap (λ (w : View S V). w.council.exchange) by.view ∙ quiet.exchange;
       idle = record { caller = idle.caller; at_caller = ap (λ (l : List CallerView). slice_get l 0) keeps.callers ∙ idle.at_caller; none_open = idle.none_open };
     }
 
@@ -167,8 +168,9 @@ told_found {S} {V} old new key result found was (probed exchange other kept is_o
     probes_of is = cc is
 
 -- the call is over
-pub quiet_after : {S V : Type 0} (old new : View S V) (told : OpAnswer) → StepTell old told new → new.council ≡ no_council
-quiet_after {S} {V} old new told by = ap (λ (w : View S V). w.council) by.view
+pub quiet_after : {S V : Type 0} (old new : View S V) (told : OpAnswer) → StepTell old told new → IsAtRest new.council
+quiet_after {S} {V} old new told (council.tells order said is_open was_told same is) = record { order = ap (λ (w : View S V). w.council.order) is; exchange = ap (λ (w : View S V). w.council.exchange) is }
+quiet_after {S} {V} old new told (council.finishes order is_open by is) = record { order = ap (λ (w : View S V). w.council.order) is; exchange = ap (λ (w : View S V). w.council.exchange) is }
 
 -- ---- its frames are those of proposer 0
 module _ {S V : Type 0} (m : Meaning S V) (old new : View S V) (key : List ℕ) (is : AsksFor old key) where

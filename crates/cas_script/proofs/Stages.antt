@@ -3,7 +3,6 @@ use Rattle.std.proofs.Common.{◌≡◌, ◌<◌, ℕ, zero, suc, true, List, []
 use Rattle.cas_lines.specs.Command.{change_of}
 use Rattle.cas_lines.specs.declared.command.Command.{Command}
 use Rattle.cas_lines.specs.declared.command.Command.TheVariants.{Probe, Get, Set, Num, Init, Add, Cas, CasNum, Del, DelVersion, Do, Net, CrashAcceptor, RestartAcceptor, CrashProposer, RestartProposer, HaltPrepared, HaltProposed, Stray, Show}
-use Rattle.cas_cluster.specs.Council.{Council}
 use Rattle.cas_cluster.specs.View.{View, IsAt}
 use Rattle.cas_script.specs.Conditions.{Rule}
 use Rattle.cas_script.specs.Network.{IsNetwork}
@@ -11,7 +10,7 @@ use Rattle.cas_script.specs.Script.{State, IsIn, Runs, is_event, nowhere}
 use Rattle.cas_script.specs.Stage.{Stage, IsStage}
 use Rattle.cas_script.specs.declared.halt.Halt.{Halt}
 use Rattle.cas_script.specs.declared.network.Network.{Network}
-use Rattle.cas_script.proofs.Keeping.{KeepsCallers, still_idle}
+use Rattle.cas_script.proofs.Keeping.{KeepsCallers, stays_quiet, still_idle}
 
 -- ---- parts
 abbrev pub stage_of : {S V : Type 0} → View S V → Network → List Halt → ℕ → Stage S V
@@ -29,7 +28,7 @@ halt_at halts now index place same low is =
 
 -- what is left between two lines
 pub goes_idle : {S V : Type 0} (world now : View S V) (network : Network) (halts : List Halt) (tries proposers : ℕ) → IsStage (stage_of world network halts tries) proposers → KeepsCallers world now → IsStage (stage_of now network halts tries) proposers
-goes_idle world now network halts tries proposers is keeps = record { known = keeps.greatest ∙ is.known; few = is.few; some = is.some; idle = still_idle world now keeps.greatest keeps.callers is.idle; quiet = keeps.council (ap (λ (c : Council). c.exchange) is.quiet) ∙ is.quiet; ruled = is.ruled }
+goes_idle world now network halts tries proposers is keeps = record { known = keeps.greatest ∙ is.known; few = is.few; some = is.some; idle = still_idle world now keeps.greatest keeps.callers is.idle; quiet = stays_quiet (keeps.council is.quiet.exchange) is.quiet; ruled = is.ruled }
 
 -- ---- states
 -- what the world of the state is

@@ -14,7 +14,8 @@ use Rattle.cas_flow.specs.declared.message.Message.TheVariants as message
 use Rattle.cas_slot.specs.declared.message.Reply.{Reply}
 use Rattle.cas_cluster.specs.Council.{ExchangeView, exchange_place}
 use Rattle.cas_cluster.specs.Step as step
-use Rattle.cas_cluster.specs.Step.{Step, StepTurn, StepRefuseTurn, OpenCallAt}
+use Rattle.cas_cluster.specs.Step.{Step, StepTurn, StepRefuseTurn}
+use Rattle.cas_cluster.specs.StepStops.{OpenCallAt}
 use Rattle.cas_world.specs.Exchange.{asks_as, place_of, turn_of, refusal_of}
 use Rattle.cas_cluster.specs.StepFrames as frames
 use Rattle.cas_cluster.specs.View.{Meaning, View}

@@ -8,7 +8,8 @@ use Rattle.cas_proposer.specs.Round.{has_quorum, is_preparing}
 use Rattle.cas_proposer.specs.declared.round.Round.{Round}
 use Rattle.cas_record.specs.declared.answer.Answer.{Answer}
 use Rattle.cas_record.specs.declared.answer.Answer.TheVariants.{RecordFull, NoMemory}
-use Rattle.cas_cluster.specs.Step.{Step, Begin, RefuseBegin, Turn, RefuseTurn, Propose, Count, End, CrashProposer, OpenCallAt}
+use Rattle.cas_cluster.specs.Step.{Step, Begin, RefuseBegin, Turn, RefuseTurn, Propose, Count, End, CrashProposer}
+use Rattle.cas_cluster.specs.StepStops.{OpenCallAt}
 use Rattle.cas_cluster.specs.StepCalls.{HasRoom, IsFull, WasMet, round_marks}
 use Rattle.cas_cluster.specs.View.{Meaning, View, IsAt, era_at}
 use Rattle.cas_script.specs.Conditions.{Rule, verdict_on}

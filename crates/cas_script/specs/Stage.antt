@@ -1,6 +1,6 @@
 -- What a script in progress is seen as, and what it keeps true between two lines.
 use Rattle.std.specs.Prelude.{◌≡◌, ◌≤◌, ℕ, List}
-use Rattle.cas_cluster.specs.Council.{no_council}
+use Rattle.cas_cluster.specs.Council.{IsAtRest}
 use Rattle.cas_cluster.specs.View.{View}
 use Rattle.cas_world.specs.Beginning.{HasNoCall}
 use Rattle.cas_script.specs.Conditions.{Rule}
@@ -25,6 +25,6 @@ pub record IsStage {S V : Type 0} (stage : Stage S V) (proposers : ℕ) : Type 0
   pub few : proposers ≤ 16
   pub some : 1 ≤ stage.tries
   pub idle : AllIdle stage.world
-  -- and the operator has nothing under way
-  pub quiet : stage.world.council ≡ no_council
+  -- and neither is one of the operator's, nor an exchange
+  pub quiet : IsAtRest stage.world.council
   pub ruled : (rules : List Rule) × IsNetwork stage.network rules

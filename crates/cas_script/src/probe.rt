@@ -1,7 +1,7 @@
 //! One probe of a key, from the operator's call to its answer.
 
 ghost use Rattle.std.specs.Prelude.{◌≡◌, ℕ, List, IfOk, OnOk, OnErr, false};
-ghost use Rattle.cas_cluster.specs.Council.{Probe, no_council};
+ghost use Rattle.cas_cluster.specs.Council.{Probe, IsAtRest};
 ghost use Rattle.cas_cluster.specs.View.{meaning};
 ghost use Rattle.cas_record.specs.declared.answer.Answer.TheVariants as answer;
 ghost use Rattle.cas_record.specs.declared.operator.OpAnswer.TheVariants as op;
@@ -28,12 +28,12 @@ pub fn probe<S: Shelf, V: Disk>(
     key: &Key,
 ) -> Result<OpAnswer, AllocError>
     requires idle { HasNoCall world.old 0 }
-    requires quiet { world.old.council ≡ no_council }
+    requires quiet { IsAtRest world.old.council }
     requires network { (rules : List Rule) × IsNetwork network.old rules }
     ensures probe { (rules : List Rule) → IsNetwork network.old rules → IfOk result (λ answer. IsProbe (meaning S.contents S.tells S.may_leave S.fault_count V.tells V.may_leave V.fault_count) rules key.now world.old answer world.new) }
     ensures err { OnErr result ((world.new ≡ world.old) × (network.new ≡ network.old)) }
     ensures network { (rules : List Rule) → IsNetwork network.old rules → IsNetwork network.new rules }
-    ensures quiet { world.new.council ≡ no_council }
+    ensures quiet { IsAtRest world.new.council }
     ensures calls { KeepsCalls world.old world.new }
 {
     let asked = Asked::Probe(key.copy()?);

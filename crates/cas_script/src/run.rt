@@ -1,7 +1,7 @@
 //! A script runs, line by line.
 
 ghost use Rattle.std.specs.Prelude.{◌≡◌, ◌≢◌, ◌≤◌, ℕ, List, Some, true, vec_items, IfOk, OnErr};
-ghost use Rattle.cas_cluster.specs.Council.{no_council};
+ghost use Rattle.cas_cluster.specs.Council.{IsAtRest};
 ghost use Rattle.cas_cluster.specs.View.{meaning};
 ghost use Rattle.cas_lines.specs.Answers.{bad_line};
 ghost use Rattle.cas_lines.specs.Command.{IsLine, IsKnown, Asked, change_of};
@@ -33,7 +33,7 @@ impl<S: Shelf, V: Disk> Script<S, V> {
         requires few { proposers ≤ 16 }
         requires some { 1 ≤ tries }
         requires idle { AllIdle world }
-        requires quiet { world.council ≡ no_council }
+        requires quiet { IsAtRest world.council }
         ensures state { IsIn result (opening_state world) }
         ensures tries { result.tries ≡ tries }
     {

@@ -31,7 +31,7 @@ use Rattle.cas_slot.specs.declared.message.Request.{Request}
 use Rattle.cas_vault.specs.declared.kept.Kept.{Kept}
 use Rattle.cas_vault.specs.declared.vault.Vault.{Vault}
 use Rattle.cas_vault.specs.Vault.{counter_of, kept_of}
-use Rattle.cas_cluster.specs.Safe.{IsSafe}
+use Rattle.cas_cluster.specs.Safe.{IsSafe, IsSound}
 use Rattle.cas_cluster.specs.Step as step
 use Rattle.cas_cluster.specs.Step.{StepBegin}
 use Rattle.cas_cluster.specs.StepCalls as calls
@@ -154,8 +154,8 @@ begins {S} {V} m old new id key program safe ready none_open by = subst (λ (e :
     key_is : by.call.key ≡ key
     key_is = ap (λ (c : CallView). c.key) fresh.call_is
 
-    middle_safe : IsSafe by.middle
-    middle_safe = opens_safe old id key program by.middle safe by.opens
+    middle_safe : IsSound by.middle
+    middle_safe = opens_safe old id key program by.middle safe.sound by.opens
 
     new_safe : IsSafe new
     new_safe = steps_are_safe m old (step.Begin id key program) new safe by

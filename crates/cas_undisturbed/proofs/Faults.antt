@@ -13,7 +13,8 @@ use Rattle.cas_proposer.specs.declared.round.Round.{Round}
 use Rattle.cas_record.specs.declared.answer.Answer.{Answer}
 use Rattle.cas_vault.specs.declared.vault.Vault.{Vault}
 use Rattle.cas_vault.specs.Vault.{disk_of}
-use Rattle.cas_cluster.specs.Step.{StepBegin, StepTurn, StepRefuseTurn, StepPropose, StepCount, StepEnd, OpenCallAt}
+use Rattle.cas_cluster.specs.Step.{StepBegin, StepTurn, StepRefuseTurn, StepPropose, StepCount, StepEnd}
+use Rattle.cas_cluster.specs.StepStops.{OpenCallAt}
 use Rattle.cas_cluster.specs.StepCalls as calls
 use Rattle.cas_cluster.specs.StepDesks.{MayHaveDrawn, FailsToDraw, LosesMemory}
 use Rattle.cas_cluster.specs.StepFrames as frames

@@ -31,7 +31,8 @@ use Rattle.cas_slot.specs.declared.slot.Slot.{Slot}
 use Rattle.cas_slot.proofs.SlotsLemmas.{slot_at-with_slot_same}
 use Rattle.cas_vault.specs.Vault.{kept_of}
 use Rattle.cas_cluster.specs.Step as step
-use Rattle.cas_cluster.specs.Step.{StepTurn, StepPropose, StepCount, OpenCallAt}
+use Rattle.cas_cluster.specs.Step.{StepTurn, StepPropose, StepCount}
+use Rattle.cas_cluster.specs.StepStops.{OpenCallAt}
 use Rattle.cas_cluster.specs.StepAcceptors.{AnswersByTable, StopsWithin}
 use Rattle.cas_cluster.specs.StepCalls as calls
 use Rattle.cas_cluster.specs.StepFrames as frames

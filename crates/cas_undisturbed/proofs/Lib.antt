@@ -1,5 +1,4 @@
 pub mod Beginning
-pub mod Eras
 pub mod Faults
 pub mod Fitting
 pub mod Lines

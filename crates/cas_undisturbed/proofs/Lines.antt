@@ -11,6 +11,7 @@ use Rattle.cas_cluster.specs.Step.{StepEnd}
 use Rattle.cas_cluster.specs.StepCalls.{HasRoom, WasMet, round_marks}
 use Rattle.cas_cluster.specs.View.{Meaning, View, IsAt, era_at}
 use Rattle.cas_cluster.proofs.Places.{at_one, some_is}
+use Rattle.cas_cluster.proofs.SafeParts.{low_at}
 use Rattle.cas_causes.specs.Causes.{IsTold}
 use Rattle.cas_causes.proofs.Ends.{desk_by}
 use Rattle.cas_script.specs.Changes as script
@@ -91,14 +92,14 @@ refused_well ballot world id told room (script.full no_room) = absurd (omega (ar
 refused_well ballot world id told room (script.no_memory fits) = tt
 
 pub lines_are_done : {S V : Type 0} (m : Meaning S V) → ReadyLinesAreDone m
-lines_are_done {S} {V} m tries old new asked told safe sized ready runs up =
+lines_are_done {S} {V} m tries old new asked told safe ready runs up =
     in_change (subst (λ (h : Halt). IsChange m tries old.rules asked.caller asked.key asked.program h old.world told runs.after new.world) (at_one old.halts asked.caller runs.at_halt ready.goes_on) runs.change)
   where
     ballot : Ballot
     ballot = next_ballot ready.all_ready.desk asked.key
 
     grounds : Grounds (era_at old.world asked.caller) old.rules
-    grounds = has_grounds (era_at old.world asked.caller) old.rules sized (safe.prep_sets asked.caller) (safe.acc_sets asked.caller) ready.delivers
+    grounds = has_grounds (era_at old.world asked.caller) old.rules (safe.course.sized asked.caller (omega (arith, low_at old.world.desks asked.caller ready.all_ready.at_desk, safe.sound.desks))) (safe.sound.prep_sets asked.caller) (safe.sound.acc_sets asked.caller) ready.delivers
 
     in_change : {answer_is : Answer} {after : Halt} → IsChange m tries old.rules asked.caller asked.key asked.program nowhere old.world answer_is after new.world → IsDoneOrNoMemory ballot answer_is
     in_change (script.refused refused by) = refused_well ballot old.world asked.caller _ ready.room refused

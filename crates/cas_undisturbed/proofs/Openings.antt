@@ -16,7 +16,7 @@ use Rattle.cas_acceptor.specs.Acceptor.{AcceptorView}
 use Rattle.cas_lines.specs.Command.{Asked}
 use Rattle.cas_proposer.specs.Desk.{DeskView}
 use Rattle.cas_quorum.specs.declared.era.Era.{Era}
-use Rattle.cas_quorum.specs.Era.{IsSized, majority_era}
+use Rattle.cas_quorum.specs.Era.{majority_era}
 use Rattle.cas_record.specs.declared.mark.Mark.{Mark}
 use Rattle.cas_slot.specs.Ages.{least_age}
 use Rattle.cas_slot.specs.Contents.{Contents, nothing}
@@ -68,9 +68,6 @@ none_reserved [] fresh = refl
 none_reserved (caller ∷ callers) fresh = omega (arith, ap (λ (c : CallerView). reserved_in c.call) (fresh 0 caller refl), none_reserved callers (λ id c at. fresh (suc id) c at))
 
 -- ---- a cluster that just opened
-pub majority_sized : (members : List ℕ) → 0 < length members → IsSized (majority_era 0 members)
-majority_sized members some = record { some_prep = omega arith; prep = omega (arith, some); some_acc = omega arith; acc = omega (arith, some) }
-
 member_of : (members : List ℕ) (member : ℕ) → IsMemberOf (majority_era 0 members) member → has_member members member ≡ true
 member_of members member (inl is) = is
 member_of members member (inr is) = is
@@ -84,7 +81,7 @@ ready_member m id key desk acceptor few same up keeps = record {
 }
 
 -- each proposer works in the era of the opening
-pub opening_era : {S V : Type 0} (m : Meaning S V) (members : List ℕ) (world : View S V) (id : ℕ) → IsOpening m members world → id ≤ 16 → era_at world id ≡ majority_era 0 members
+opening_era : {S V : Type 0} (m : Meaning S V) (members : List ℕ) (world : View S V) (id : ℕ) → IsOpening m members world → id ≤ 16 → era_at world id ≡ majority_era 0 members
 opening_era m members world id opens low = ap (λ (l : List Era). era_in l id) opens.eras ∙ get_or-replicate 17 id (majority_era 0 members) (majority_era 0 []) (omega (arith, low))
 
 all_ready : {S V : Type 0} (m : Meaning S V) (members : List ℕ) (world : View S V) (id : ℕ) (key : List ℕ) (desk : DeskView V) → IsOpening m members world → HasPlaces world → IsAt world.desks id desk → counter_of desk.vault < 2 ^ 48 → AreUp (era_at world id) world id → AreReady m world id key
@@ -134,7 +131,7 @@ first_ballot desk id key same none =
 pub first_lines_are_done : {S V : Type 0} (m : Meaning S V) → FirstLinesAreDone m
 first_lines_are_done {S} {V} m tries members world new asked told desk opens places at low up runs up_then =
     subst (λ (b : Ballot). IsDoneOrNoMemory b told) (ap (λ (d : DeskView V). next_ballot d asked.key) (at_one world.desks asked.caller ready.all_ready.at_desk at) ∙ first_ballot desk asked.caller asked.key fresh.same_id fresh.no_promise)
-    (lines_are_done m tries (opening_state world) new asked told (opens_are_safe m members world opens places) (subst IsSized (sym (opening_era m members world asked.caller opens (omega (arith, (opens.desks asked.caller desk at).0, opens.few)))) (majority_sized members opens.some)) ready runs up_then)
+    (lines_are_done m tries (opening_state world) new asked told (opens_are_safe m members world opens places) ready runs up_then)
   where
     fresh : IsFreshDesk m asked.caller desk
     fresh = (opens.desks asked.caller desk at).1

@@ -25,7 +25,8 @@ use Rattle.cas_slot.specs.declared.message.Reply.{Reply}
 use Rattle.cas_vault.specs.Vault.{kept_of}
 use Rattle.cas_cluster.specs.Safe.{IsSafe}
 use Rattle.cas_cluster.specs.Step as step
-use Rattle.cas_cluster.specs.Step.{StepPropose, OpenCallAt}
+use Rattle.cas_cluster.specs.Step.{StepPropose}
+use Rattle.cas_cluster.specs.StepStops.{OpenCallAt}
 use Rattle.cas_cluster.specs.StepCalls as calls
 use Rattle.cas_cluster.specs.StepCalls.{refusal_by}
 use Rattle.cas_cluster.specs.StepFrames as frames

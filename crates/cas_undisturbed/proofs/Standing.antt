@@ -12,7 +12,9 @@ use Rattle.cas_quorum.specs.declared.era.Era.{Era}
 use Rattle.cas_record.specs.declared.answer.Answer.{Answer}
 use Rattle.cas_slot.specs.declared.message.Reply.{Reply}
 use Rattle.cas_cluster.specs.Step as step
-use Rattle.cas_cluster.specs.Step.{StepBegin, StepTurn, StepRefuseTurn, StepPropose, StepCount, StepEnd, CrashesDesk, StepCrashProposer, OpenCallAt}
+use Rattle.cas_cluster.specs.Step.{StepBegin, StepTurn, StepRefuseTurn, StepPropose, StepCount, StepEnd}
+use Rattle.cas_cluster.specs.StepStops as stops
+use Rattle.cas_cluster.specs.StepStops.{CrashesDesk, StepCrashProposer, OpenCallAt}
 use Rattle.cas_cluster.specs.StepCalls as calls
 use Rattle.cas_cluster.specs.StepFrames as frames
 use Rattle.cas_cluster.specs.View.{Meaning, View, IsAt}
@@ -110,12 +112,12 @@ count_keeps {S} {V} m old new id by = keeps_same old new (in_phase by.at_round.o
     in_phase at desk round (calls.ends now verdict why verdict_is cause ends is) = ap (λ (w : View S V). w.acceptors) is
 
 desk_crash_keeps : {S V : Type 0} (m : Meaning S V) (old new : View S V) (id : ℕ) → CrashesDesk m old id new → KeepsDown old new
-desk_crash_keeps {S} {V} m old new id (step.idle desk now at none_open crashes is) = keeps_same old new (ap (λ (w : View S V). w.acceptors) is)
-desk_crash_keeps {S} {V} m old new id (step.closes desk now round at there is_round crashes is) = keeps_same old new (ap (λ (w : View S V). w.acceptors) is)
+desk_crash_keeps {S} {V} m old new id (stops.idle desk now at none_open crashes is) = keeps_same old new (ap (λ (w : View S V). w.acceptors) is)
+desk_crash_keeps {S} {V} m old new id (stops.closes desk now round at there is_round crashes is) = keeps_same old new (ap (λ (w : View S V). w.acceptors) is)
 
 crash_keeps : {S V : Type 0} (m : Meaning S V) (old new : View S V) (id : ℕ) → StepCrashProposer m old id new → KeepsDown old new
-crash_keeps m old new id (step.of_client client crashes) = desk_crash_keeps m old new id crashes
-crash_keeps {S} {V} m old new id (step.of_operator middle operator crashes is) = keeps_both old middle new (desk_crash_keeps m old middle id crashes) (keeps_same middle new (ap (λ (w : View S V). w.acceptors) is))
+crash_keeps m old new id (stops.of_client client crashes) = desk_crash_keeps m old new id crashes
+crash_keeps {S} {V} m old new id (stops.of_operator middle operator crashes is) = keeps_both old middle new (desk_crash_keeps m old middle id crashes) (keeps_same middle new (ap (λ (w : View S V). w.acceptors) is))
 
 pub end_keeps : {S V : Type 0} (m : Meaning S V) (old new : View S V) (id : ℕ) (told : Answer) → StepEnd m old id told new → KeepsDown old new
 end_keeps {S} {V} m old new id told by = keeps_same old new (ap (λ (w : View S V). w.acceptors) by.ends.view)

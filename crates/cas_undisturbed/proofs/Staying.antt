@@ -1,5 +1,5 @@
--- Each line of a script leaves a safe cluster safe, in the same era.
-use Rattle.std.proofs.Common.{◌≡◌, ℕ, List, refl, sym, ap, subst, ◌∙◌}
+-- Each line of a script leaves a safe cluster safe.
+use Rattle.std.proofs.Common.{◌≡◌, ℕ, List, sym, ap, subst}
 use Rattle.cas_change.specs.declared.program.Clause.{Clause}
 use Rattle.cas_lines.specs.declared.answer.EventAnswer.{EventAnswer}
 use Rattle.cas_lines.specs.declared.command.Command.{Command}
@@ -23,22 +23,20 @@ use Rattle.cas_script.specs.Script as script
 use Rattle.cas_script.specs.Script.{State, LineAnswer, RunsEvent, IsAnswered}
 use Rattle.cas_script.specs.declared.halt.Halt.{Halt}
 use Rattle.cas_undisturbed.specs.Runs.{LinesKeepSafe}
-use Rattle.cas_undisturbed.proofs.Eras.{steps_keep_eras}
 
 -- ---- what stays
--- a cluster that was safe is safe, and its proposers are in the same eras
-pub record Stays {S V : Type 0} (old new : View S V) : Type 0 where
-  pub safe : IsSafe old → IsSafe new
-  pub eras : new.eras ≡ old.eras
+-- a cluster that was safe is safe
+abbrev pub Stays : {S V : Type 0} → View S V → View S V → Type 0
+Stays old new = IsSafe old → IsSafe new
 
 pub same : {S V : Type 0} (old : View S V) → Stays old old
-same old = record { safe = λ was. was; eras = refl }
+same old was = was
 
 pub both : {S V : Type 0} (old mid new : View S V) → Stays old mid → Stays mid new → Stays old new
-both old mid new before after = record { safe = λ was. after.safe (before.safe was); eras = after.eras ∙ before.eras }
+both old mid new before after was = after (before was)
 
 by_step : {S V : Type 0} (m : Meaning S V) (old new : View S V) (event : Event) → Step m old event new → Stays old new
-by_step m old new event by = record { safe = λ was. steps_are_safe m old event new was by; eras = steps_keep_eras m old new event by }
+by_step m old new event by was = steps_are_safe m old event new was by
 
 -- ---- a change
 turned_stays : {S V : Type 0} (m : Meaning S V) (rules : List Rule) (id : ℕ) (old new : View S V) → Turned m rules id old new → Stays old new
@@ -134,4 +132,4 @@ line_stays m tries old new line answer (script.refused why word is_line) = same 
 line_stays m tries old new line answer (script.remark is_line) = same old.world
 
 pub lines_keep_safe : {S V : Type 0} (m : Meaning S V) → LinesKeepSafe m
-lines_keep_safe m tries old new line answer was by = let stays = line_stays m tries old new line answer by in (stays.safe was, stays.eras)
+lines_keep_safe m tries old new line answer was by = line_stays m tries old new line answer by was

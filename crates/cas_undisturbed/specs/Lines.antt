@@ -11,7 +11,6 @@ use Rattle.cas_acceptor.specs.Acceptor.{AcceptorView}
 use Rattle.cas_lines.specs.Command.{Asked}
 use Rattle.cas_proposer.specs.Desk.{DeskView}
 use Rattle.cas_quorum.specs.declared.era.Era.{Era}
-use Rattle.cas_quorum.specs.Era.{IsSized}
 use Rattle.cas_record.specs.declared.answer.Answer.{Answer}
 use Rattle.cas_record.specs.declared.answer.Answer.TheVariants.{Done, NoMemory}
 use Rattle.cas_slot.specs.Ages.{least_age}
@@ -84,5 +83,5 @@ IsDoneOrNoMemory ballot other = ⊥
 -- A line whose change nothing stands against is answered done, at the ballot of its proposer's next round, but where no memory is found:
 -- whatever tries it has, if the members of the era and its proposer's desk are up after it.
 abbrev pub ReadyLinesAreDone : {S V : Type 0} → Meaning S V → Type 0
-ReadyLinesAreDone {S} {V} m = (tries : ℕ) (old new : State S V) (asked : Asked) (answer : Answer) → IsSafe old.world → IsSized (era_at old.world asked.caller) → (ready : IsReadyLine m old asked) → RunsChange m tries old asked answer new → AreUp (era_at old.world asked.caller) new.world asked.caller
+ReadyLinesAreDone {S} {V} m = (tries : ℕ) (old new : State S V) (asked : Asked) (answer : Answer) → IsSafe old.world → (ready : IsReadyLine m old asked) → RunsChange m tries old asked answer new → AreUp (era_at old.world asked.caller) new.world asked.caller
     → IsDoneOrNoMemory (next_ballot ready.all_ready.desk asked.key) answer

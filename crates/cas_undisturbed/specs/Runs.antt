@@ -1,15 +1,14 @@
 -- Along a script: each line leaves a safe cluster safe, and each change line that nothing stood against was answered done.
-use Rattle.std.specs.Prelude.{◌≡◌, ◌≤◌, ⊤, ℕ, List}
-use Rattle.cas_quorum.specs.Era.{IsSized}
+use Rattle.std.specs.Prelude.{⊤, ℕ, List}
 use Rattle.cas_cluster.specs.Safe.{IsSafe}
 use Rattle.cas_cluster.specs.View.{Meaning, era_at}
 use Rattle.cas_script.specs.Script as script
 use Rattle.cas_script.specs.Script.{State, LineAnswer, IsAnswered, ScriptRun}
 use Rattle.cas_undisturbed.specs.Lines.{next_ballot, IsReadyLine, AreUp, IsDoneOrNoMemory}
 
--- Each line of a script leaves a safe cluster safe, with its proposers in the same eras: whatever it asks for and is answered.
+-- Each line of a script leaves a safe cluster safe, whatever it asks for and is answered.
 abbrev pub LinesKeepSafe : {S V : Type 0} → Meaning S V → Type 0
-LinesKeepSafe {S} {V} m = (tries : ℕ) (old new : State S V) (line : List ℕ) (answer : LineAnswer) → IsSafe old.world → IsAnswered m tries old line answer new → IsSafe new.world × (new.world.eras ≡ old.world.eras)
+LinesKeepSafe {S} {V} m = (tries : ℕ) (old new : State S V) (line : List ℕ) (answer : LineAnswer) → IsSafe old.world → IsAnswered m tries old line answer new → IsSafe new.world
 
 -- If the line asked for a change, nothing stood against it, and the members of the era and its proposer's desk were up after it, then it
 -- was answered done, at the ballot of its proposer's next round, or that there was no memory.
@@ -23,7 +22,6 @@ abbrev pub AreDoneWhereReady : {S V : Type 0} (m : Meaning S V) {tries : ℕ} {f
 AreDoneWhereReady m script.none = ⊤
 AreDoneWhereReady m (script.one_more line answer before by) = AreDoneWhereReady m before × IsDoneWhereReady m by
 
--- Along a script that begins in a safe cluster whose proposers are in sized eras, each change line that nothing stood against was answered done, where all
--- were up after it.
+-- Along a script that begins in a safe cluster, each change line that nothing stood against was answered done, where all were up after it.
 abbrev pub RunsAreDone : {S V : Type 0} → Meaning S V → Type 0
-RunsAreDone {S} {V} m = (tries : ℕ) (old new : State S V) (lines : List (List ℕ)) (answers : List LineAnswer) → IsSafe old.world → ((id : ℕ) → id ≤ 16 → IsSized (era_at old.world id)) → (run : ScriptRun m tries old lines answers new) → AreDoneWhereReady m run
+RunsAreDone {S} {V} m = (tries : ℕ) (old new : State S V) (lines : List (List ℕ)) (answers : List LineAnswer) → IsSafe old.world → (run : ScriptRun m tries old lines answers new) → AreDoneWhereReady m run

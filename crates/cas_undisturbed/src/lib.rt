@@ -33,12 +33,12 @@ pub fn faultless_lines_stay_up<S: Shelf, V: Disk>()
     ensures { FaultlessLinesStayUp (meaning S.contents S.tells S.may_leave S.fault_count V.tells V.may_leave V.fault_count) }
 {}
 
-/// Each line of a script leaves a safe cluster safe, in the same era: whatever it asks for and is answered.
+/// Each line of a script leaves a safe cluster safe, whatever it asks for and is answered.
 pub fn lines_keep_safe<S: Shelf, V: Disk>()
     ensures { LinesKeepSafe (meaning S.contents S.tells S.may_leave S.fault_count V.tells V.may_leave V.fault_count) }
 {}
 
-/// So along a whole script over a safe cluster whose era is sized, each change line that nothing stood against in the state before it, and
+/// So along a whole script over a safe cluster, each change line that nothing stood against in the state before it, and
 /// after which the members and its proposer are up, was answered done, at the ballot of its proposer's next round, or that there was no
 /// memory: whatever went before it.
 pub fn runs_are_done<S: Shelf, V: Disk>()

@@ -1,6 +1,6 @@
 -- How an exchange opens, or why not.
 use Rattle.std.proofs.Common.{sym, ◌≡◌, ◌≤◌, ℕ, List, None, Some, slice_set, ap, subst, ◌∙◌, arith, length}
-use Rattle.std.specs.Prelude.{◌+◌, option_map}
+use Rattle.std.specs.Prelude.{◌+◌}
 use Rattle.cas_acceptor.specs.Acceptor.{AcceptorView}
 use Rattle.cas_flow.specs.Flow.{FlowView, queue_at}
 use Rattle.cas_vault.specs.Vault.{kept_of}
@@ -19,7 +19,7 @@ use Rattle.cas_cluster.specs.View.{Meaning, DiskMeaning, View, IsAt, era_at, wit
 use Rattle.cas_cluster.proofs.SafeCalls.{none_open}
 use Rattle.cas_cluster.proofs.SafeParts.{at_low}
 use Rattle.cas_world.specs.Beginning.{HasNoCall}
-use Rattle.cas_world.specs.Council.{council_view, order_view}
+use Rattle.cas_world.specs.Council.{council_view}
 use Rattle.cas_world.specs.Exchange.{MayAsk, Opens, FailsToAsk}
 use Rattle.cas_world.specs.World.{view_of, IsWorld}
 use Rattle.cas_world.specs.declared.call.Caller.{Caller}
@@ -32,12 +32,12 @@ use Rattle.cas_world.proofs.Stops.{copies_closed}
 pub idle_first : {S V : Type 0} (old now : View S V) (desk : DeskView V) → IsSafe old → old ≡ now → HasNoCall now 0 → IsAt old.desks 0 desk → desk.round ≡ None
 idle_first {S} {V} old now desk safe same none at =
     let there : IsAt old.callers 0 none.caller = subst (λ (v : View S V). IsAt v.callers 0 none.caller) (sym same) none.at_caller in
-    none_open (era_at old 0) (length old.marks) 0 desk none.caller (queue_at old.flow 0) none.none_open (safe.parties 0 desk none.caller at there)
+    none_open (era_at old 0) (length old.marks) 0 desk none.caller (queue_at old.flow 0) none.none_open (safe.sound.parties 0 desk none.caller at there)
 
 -- what is asked for it
 pub may_ask : {S V : Type 0} (old now : View S V) (question : Question) (desk : DeskView V) → IsSafe old → old ≡ now → MayAsk now question → IsAt old.desks 0 desk → MayAskAll old question desk
 may_ask {S} {V} old now question desk safe same may at =
-    let caller = at_low old.callers 0 (omega (arith, safe.callers)) in
+    let caller = at_low old.callers 0 (omega (arith, safe.sound.callers)) in
     record {
       order = may.order;
       is_open = ap (λ (v : View S V). v.council.order) same ∙ may.is_open;
@@ -56,7 +56,7 @@ pub asks : {S V : Type 0} (m : Meaning S V) (greatest : ℕ) (council : Council)
 asks {S} {V} m greatest council acceptors desks desk now callers flow flow_now before after question members exchange everyone_is opens room marks =
     let old : View S V = view_of greatest council acceptors desks callers flow before in
     steps.asks now opens.tag flow_now opens.up room opens.drawn opens.desk (subst (λ (l : List ℕ). Sends flow exchange_place (questions_to (kept_of desk.vault).age opens.tag question l) flow_now) everyone_is opens.sends)
-    ((λ i. record old { desks = slice_set desks 0 now; flow = flow_now; marks = marks i; council = record { order = option_map order_view council.order; exchange = Some (opens.opened i) } })
+    ((λ i. record old { desks = slice_set desks 0 now; flow = flow_now; marks = marks i; council = record (council_view council) { exchange = Some (opens.opened i) } })
     ∙ ap (λ (l : List ℕ). with_exchange (record (with_desk old 0 now) { flow = flow_now }) (new_exchange question opens.tag l)) everyone_is)
 
 -- the desk has no open round then
@@ -104,7 +104,7 @@ refused_seen greatest council now_council acceptors desks now callers flow flow_
 
 -- the first desk is that of proposer 0
 pub first_id : {S V : Type 0} (old : View S V) (desk : DeskView V) → IsSafe old → IsAt old.desks 0 desk → desk.id ≡ 0
-first_id old desk safe at = let caller = at_low old.callers 0 (omega (arith, safe.callers)) in (safe.parties 0 desk caller.0 at caller.1).same_id
+first_id old desk safe at = let caller = at_low old.callers 0 (omega (arith, safe.sound.callers)) in (safe.sound.parties 0 desk caller.0 at caller.1).same_id
 
 -- what the world keeps true where its desk changes that has no round
 pub asked_world : {S V : Type 0} {m : Meaning S V} (old new : View S V) (now : DeskView V) (callers : List Caller) (left after : ℕ) → IsWorld m old callers left → now.round ≡ None → new.desks ≡ slice_set old.desks 0 now → IsSafe new → Remembers m new → reserved_in_all new ≤ after → IsWorld m new callers after

@@ -101,7 +101,7 @@ may_in {S} {V} greatest council acceptors desks callers flow book id number key 
     inl (record {
       none_open = none_seen caller.call none_here;
       next_number = next ∙ ap (λ (c : CallerView). c.number + 1) (sym same);
-      idle = none_round (era_in council.eras.0 id) (caller_view caller) (queue_at flow id) desk.round none_here (safe.parties id desk (caller_view caller) at_desk (at_map caller_view callers id caller at_caller)).round;
+      idle = none_round (era_in council.eras.0 id) (caller_view caller) (queue_at flow id) desk.round none_here (safe.sound.parties id desk (caller_view caller) at_desk (at_map caller_view callers id caller at_caller)).round;
     })
 may_in {S} {V} greatest council acceptors desks callers flow book id number key program desk caller safe at_desk at_caller (MayBegin.another was call at is same_number same_key same_program unproposed met idle) =
     let same : caller_view caller ≡ was = at_one (map caller_view callers) id (at_map caller_view callers id caller at_caller) at in

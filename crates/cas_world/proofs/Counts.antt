@@ -57,10 +57,10 @@ counting {S} {V} {m} greatest council acceptors desks callers flow book now plac
     let phase = subst (λ (v : View S V). IsInPhase v id false) (sym view) seen in
     let safe = world.safe in
     let known : id ≤ greatest = omega (arith, low, ap (λ (v : View S V). v.greatest) view) in
-    let at_desk = at_place desks place id desk same (omega (arith, safe.desks, known)) desk_is in
-    let at_caller = at_place callers place id caller same (omega (arith, safe.callers, known, length-map callers caller_view)) caller_is in
+    let at_desk = at_place desks place id desk same (omega (arith, safe.sound.desks, known)) desk_is in
+    let at_caller = at_place callers place id caller same (omega (arith, safe.sound.callers, known, length-map callers caller_view)) caller_is in
     let at_seen = at_map caller_view callers id caller at_caller in
-    let party = safe.parties id desk (caller_view caller) at_desk at_seen in
+    let party = safe.sound.parties id desk (caller_view caller) at_desk at_seen in
     let is_round : desk.round ≡ Some phase.round = ap (λ (d : DeskView V). d.round) (at_one desks id at_desk phase.at_desk) ∙ phase.is_round in
     let is : IsOpenSafe (era_in council.eras.0 id) (caller_view caller) (queue_at flow id) phase.round = subst (IsRoundSafe (era_in council.eras.0 id) (caller_view caller) (queue_at flow id)) is_round party.round in
     let found = seen_open caller.call is.call is.is_open in
@@ -70,7 +70,7 @@ counting {S} {V} {m} greatest council acceptors desks callers flow book now plac
     let copies = subst (λ (o : Option Outcome). IfSome o (λ outcome. (copies : Copies) × (found.0.copies ≡ Some copies)
     × (copies.key ≡ phase.round.key) × (copies.told ≡ outcome.state) × (copies.answer ≡ outcome.state) × (copies.kept ≡ outcome.state))) outcome.1
     (subst (λ (o : Option OpenCall). HasCopies (Some phase.round) o) found.1 held phase.phase) in
-    let some : 0 < found.0.reserved = omega (arith, reserves_one (era_in council.eras.0 id) (caller_view caller) (queue_at flow id) phase.round is (safe.prep_sets id) (safe.acc_sets id), ap (λ (c : CallView). c.reserved) same_call) in
+    let some : 0 < found.0.reserved = omega (arith, reserves_one (era_in council.eras.0 id) (caller_view caller) (queue_at flow id) phase.round is (safe.sound.prep_sets id) (safe.sound.acc_sets id), ap (λ (c : CallView). c.reserved) same_call) in
     record {
       at_desk = at_desk;
       at_caller = at_caller;
@@ -91,7 +91,7 @@ counting {S} {V} {m} greatest council acceptors desks callers flow book now plac
         room = some_room (reserved_by (council_view council)) callers id caller found.0 book.room at_caller found.1 some world.room;
       };
       accepting = phase.phase;
-      two = omega (arith, reserves_one (era_in council.eras.0 id) (caller_view caller) (queue_at flow id) phase.round is (safe.prep_sets id) (safe.acc_sets id), ap (λ (c : CallView). c.reserved) same_call);
+      two = omega (arith, reserves_one (era_in council.eras.0 id) (caller_view caller) (queue_at flow id) phase.round is (safe.sound.prep_sets id) (safe.sound.acc_sets id), ap (λ (c : CallView). c.reserved) same_call);
       up = party.idle;
     }
 

@@ -99,14 +99,14 @@ pub ending : {S V : Type 0} (greatest : ℕ) (council : Council) (acceptors : Li
     → WasTold now id number answer → IsEnding desks callers id number answer desk caller
 ending {S} {V} greatest council acceptors desks callers flow book now place id number answer desk caller same view low safe desk_is caller_is told =
     let known : id ≤ greatest = omega (arith, low, ap (λ (v : View S V). v.greatest) view) in
-    let at_desk = at_place desks place id desk same (omega (arith, safe.desks, known)) desk_is in
-    let at_caller = at_place callers place id caller same (omega (arith, safe.callers, known, length-map callers caller_view)) caller_is in
+    let at_desk = at_place desks place id desk same (omega (arith, safe.sound.desks, known)) desk_is in
+    let at_caller = at_place callers place id caller same (omega (arith, safe.sound.callers, known, length-map callers caller_view)) caller_is in
     let is = told_in greatest council acceptors desks callers flow book id number answer caller at_caller (subst (λ (v : View S V). WasTold v id number answer) (sym view) told) in
     record {
       at_desk = at_desk;
       at_caller = at_caller;
       told = is;
-      some = call_reserves_at (view_of greatest council acceptors desks callers flow book) id (caller_view caller) (call_view is.call) desk safe (at_map caller_view callers id caller at_caller) (ap (λ (o : Option OpenCall). option_map call_view o) is.is_open) at_desk;
+      some = call_reserves_at (view_of greatest council acceptors desks callers flow book) id (caller_view caller) (call_view is.call) desk safe.sound (at_map caller_view callers id caller at_caller) (ap (λ (o : Option OpenCall). option_map call_view o) is.is_open) at_desk;
     }
 
 -- what the end of a call answers

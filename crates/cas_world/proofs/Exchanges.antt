@@ -21,21 +21,21 @@ use Rattle.cas_flow.specs.Flow.{FlowView, queue_at, with_queue, taken, abandoned
 use Rattle.cas_proposer.specs.Desk.{DeskView}
 use Rattle.cas_record.specs.Book.{Book}
 use Rattle.cas_cluster.specs.Council as cluster
-use Rattle.cas_cluster.specs.Council.{ExchangeView, OrderView, no_council, exchange_place, reserved_by, reserved_for_order, reserved_for_exchange, broken_off, crashed_in, telling, told_so}
+use Rattle.cas_cluster.specs.Council.{ExchangeView, OrderView, at_rest, exchange_place, reserved_by, reserved_for_order, reserved_for_exchange, broken_off, crashed_in, telling, told_so}
 use Rattle.cas_cluster.specs.History.{IsRemembered}
 use Rattle.cas_cluster.specs.Safe.{IsSafe, IsExchangeSafe, IsAskingSafe}
 use Rattle.cas_cluster.specs.Step as step
-use Rattle.cas_cluster.specs.Step.{Step, broken_off_view}
+use Rattle.cas_cluster.specs.Step.{Step}
+use Rattle.cas_cluster.specs.StepStops.{broken_off_view}
 use Rattle.cas_cluster.specs.StepCouncil as steps
 use Rattle.cas_cluster.specs.StepCouncil.{StepOrder, StepTell, StepGather, StepTurnExchange, Gathers, SaysTheSame, harmed_exchange, harm_marks, harms, hears, with_exchange, told_marks, told_view}
 use Rattle.cas_cluster.specs.StepFrames.{replied_flow, votes_marked}
 use Rattle.cas_cluster.specs.View.{Meaning, View, IsAt, reserved_in_all}
-use Rattle.cas_cluster.proofs.CouncilSteps.{breaks_off, told_remembered}
+use Rattle.cas_cluster.proofs.Remembering.{broken_off as breaks_off, tells_remembered as told_remembered}
 use Rattle.cas_cluster.proofs.FrameSteps.{taken_own}
 use Rattle.cas_cluster.proofs.Places.{some_is, contains_at}
-use Rattle.cas_cluster.proofs.SafeCouncil.{harm_fits, told_reserves, told_view_safe, no_vote}
-use Rattle.cas_cluster.proofs.SafeSteps.{steps_are_safe}
-use Rattle.cas_cluster.proofs.SafeStops.{broken_off_safe}
+use Rattle.cas_cluster.proofs.SafeCouncil.{harm_fits, told_reserves, no_vote}
+use Rattle.cas_cluster.proofs.SafeSteps.{steps_are_safe, broken_safe as broken_off_safe, told_safe as told_view_safe}
 use Rattle.cas_world.specs.Call.{reserved_of}
 use Rattle.cas_world.specs.Council.{council_view, exchange_view, order_view, harmed_in, harms_in, harms_of, heard_by, heard_in, GathersAs, crashed, probed, no_memory}
 use Rattle.cas_world.specs.Exchange.{WasToldOrder, HasGathered, IsAsked}
@@ -101,7 +101,7 @@ broken_world {S} {V} {m} old callers left was =
 -- what is reserved fits
 pub reserved_fits : {S V : Type 0} (greatest : ℕ) (council : Council) (acceptors : List (AcceptorView S)) (desks : List (DeskView V)) (callers : List Caller) (flow : FlowView) (book : Book) → IsSafe (view_of greatest council acceptors desks callers flow book)
     → length book.marks + (sum_by reserved_of callers + reserved_by (council_view council)) ≤ 1000000
-reserved_fits greatest council acceptors desks callers flow book safe = omega (arith, safe.room, sum_seen callers)
+reserved_fits greatest council acceptors desks callers flow book safe = omega (arith, safe.sound.room, sum_seen callers)
 
 -- it opens
 pub ordered : {S V : Type 0} (greatest : ℕ) (council : Council) (acceptors : List (AcceptorView S)) (desks : List (DeskView V)) (callers : List Caller) (flow : FlowView) (before after : Book) (order : Order) (asked : Asked) → option_map order_view council.order ≡ None → order ≡ record { asked = asked; told = None } → after.marks ≡ before.marks → length before.marks + (sum_by reserved_of callers + reserved_by (council_view council)) < 1000000
@@ -110,7 +110,7 @@ ordered greatest council acceptors desks callers flow before after order asked n
   none_open = none;
   room = omega (arith, room, sum_seen callers);
   view = λ i. record (view_of greatest council acceptors desks callers flow before) {
-    council = record { order = Some (order_view (is i)); exchange = option_map exchange_view council.exchange };
+    council = record (council_view council) { order = Some (order_view (is i)) };
     marks = marks i;
   };
 }
@@ -166,22 +166,16 @@ closed_so council answer was taken is =
     (subst (λ (o : Option Order). IfSome o (λ order. IfSome order.told (λ told. taken ≡ (order.asked, told)))) was.is_open is)
 
 pub tells : {S V : Type 0} (greatest : ℕ) (council now : Council) (acceptors : List (AcceptorView S)) (desks : List (DeskView V)) (callers : List Caller) (flow flow_now : FlowView) (before after : Book) (answer : OpAnswer) (was : IsToldIn council answer) (taken : Asked × OpAnswer)
-    → taken ≡ (was.order.asked, was.said) → flow_now ≡ abandoned flow exchange_place → council_view now ≡ no_council → now.eras ≡ council.eras → after.marks ≡ before.marks ++ told_marks taken.0 taken.1
+    → taken ≡ (was.order.asked, was.said) → flow_now ≡ abandoned flow exchange_place → council_view now ≡ at_rest (council_view council) → now.eras ≡ council.eras → after.marks ≡ before.marks ++ told_marks taken.0 taken.1
     → StepTell (view_of greatest council acceptors desks callers flow before) answer (view_of greatest now acceptors desks callers flow_now after)
-tells greatest council now acceptors desks callers flow flow_now before after answer was taken is flows closed eras marks = record {
-  order = order_view was.order;
-  is_open = ap (option_map order_view) was.is_open;
-  said = was.said;
-  was_said = was.was_said;
-  same = was.same;
-  view =
-      (λ i. record (view_of greatest council acceptors desks callers flow before) {
-        eras = (eras i).0;
-        council = closed i;
-        flow = flows i;
-        marks = (marks ∙ ap (λ (t : Asked × OpAnswer). before.marks ++ told_marks t.0 t.1) is ∙ ap (λ (ms : List Mark). before.marks ++ ms) (same_marks was.order.asked was.said answer was.same)) i;
-      });
-}
+tells greatest council now acceptors desks callers flow flow_now before after answer was taken is flows closed eras marks =
+    steps.tells (order_view was.order) was.said (ap (option_map order_view) was.is_open) was.was_said was.same
+    (λ i. record (view_of greatest council acceptors desks callers flow before) {
+      eras = (eras i).0;
+      council = closed i;
+      flow = flows i;
+      marks = (marks ∙ ap (λ (t : Asked × OpAnswer). before.marks ++ told_marks t.0 t.1) is ∙ ap (λ (ms : List Mark). before.marks ++ ms) (same_marks was.order.asked was.said answer was.same)) i;
+    })
 
 -- ---- what came of an exchange
 -- one that is seen is there
@@ -205,7 +199,7 @@ gathered_reserves exchange old new result is_open (probed key found kept up ques
 gathered_reserves exchange old new result is_open (no_memory up told next) = omega (arith, ap reserved_by next, told_reserves old.order (op.Stopped (answer.NoMemory false)))
 
 -- the open call was told it
-was_told : {S V : Type 0} (view : View S V) (order : OrderView) (said answer : OpAnswer) (old : cluster.Council) (rest : Option ExchangeView) → old.order ≡ Some order → view.council ≡ record { order = option_map (told_so said) old.order; exchange = rest } → SaysTheSame said answer → WasToldOrder view answer
+was_told : {S V : Type 0} (view : View S V) (order : OrderView) (said answer : OpAnswer) (old : cluster.Council) (rest : Option ExchangeView) → old.order ≡ Some order → view.council ≡ record old { order = option_map (told_so said) old.order; exchange = rest } → SaysTheSame said answer → WasToldOrder view answer
 was_told view order said answer old rest is_order next same = record {
   order = told_so said order;
   is_open = ap (λ (c : cluster.Council). c.order) next ∙ ap (option_map (told_so said)) is_order;
@@ -247,7 +241,7 @@ asking {S} {V} view now safe same some waits =
     record {
       exchange = open_.0;
       is_open = open_.1;
-      safe = subst (λ (e : Option ExchangeView). IsAskingSafe e (queue_at view.flow exchange_place)) open_.1 safe.asking;
+      safe = subst (λ (e : Option ExchangeView). IsAskingSafe e (queue_at view.flow exchange_place)) open_.1 safe.sound.asking;
       front = front.0;
       waits = front.1;
     }
@@ -286,7 +280,7 @@ pub harmed_seen : {S V : Type 0} (greatest : ℕ) (council now : Council) (accep
 harmed_seen greatest council now acceptors acceptors_now desks callers flow flow_now before after exchange member down is_open eras is marks =
     (λ i. record (view_of greatest council acceptors_now desks callers flow_now before) { eras = (eras i).0; council = is i; marks = marks i })
     ∙ ap (λ (o : Option ExchangeView). record (view_of greatest council acceptors_now desks callers flow_now before) {
-      council = record { order = option_map order_view council.order; exchange = option_map (λ e. harmed_exchange e member) o };
+      council = record (council_view council) { exchange = option_map (λ e. harmed_exchange e member) o };
       marks = before.marks ++ harms_of o member down;
     }) is_open
 
@@ -318,7 +312,7 @@ pub heard_seen : {S V : Type 0} (greatest : ℕ) (council now : Council) (accept
     → view_of greatest now acceptors desks callers flow book ≡ with_exchange (view_of greatest council acceptors desks callers flow book) (record exchange { told = hears reply exchange.told })
 heard_seen greatest council now acceptors desks callers flow book exchange reply is_open eras is =
     council_next greatest council now acceptors desks callers flow book _ eras is
-    ∙ ap (λ (o : Option ExchangeView). record (view_of greatest council acceptors desks callers flow book) { council = record { order = option_map order_view council.order; exchange = option_map (heard_by reply) o } }) is_open
+    ∙ ap (λ (o : Option ExchangeView). record (view_of greatest council acceptors desks callers flow book) { council = record (council_view council) { exchange = option_map (heard_by reply) o } }) is_open
 
 pub heard : {S V : Type 0} (m : Meaning S V) (old new : View S V) (verdict : Verdict) (at : IsAsking old) (reply : Reply) → fall_of (queue_at old.flow exchange_place).again verdict ≡ Handle → at.front ≡ message.Reply reply
     → new ≡ with_exchange (record old { flow = taken old.flow exchange_place verdict }) (record at.exchange { told = hears reply at.exchange.told }) → StepTurnExchange m old verdict new

@@ -97,7 +97,7 @@ none_reserved (caller ∷ callers) fresh = omega (arith, ap (λ (c : CallerView)
 -- ---- the whole
 module _ {S V : Type 0} (m : Meaning S V) (shelf_faults : S → ℕ) (disk_faults : V → ℕ) (count greatest : ℕ) (shelves : List S) (disks : List V) (council : Council) (acceptors : List (AcceptorView S)) (desks : List (DeskView V)) (callers : List Caller) (flow : FlowView) (book : Book) (left : List V)
     (some : 0 < count) (few : count ≤ 9) (few_proposers : greatest ≤ 16) (all_shelves : length shelves ≡ 64)
-    (starts : AllStart m shelf_faults disk_faults count greatest (unstarted 0 shelves) disks acceptors desks left) (eras_are : council ≡ opening_council (majority_era 0 (members_to count))) (callers_are : callers ≡ replicate (greatest + 1) unbegun) (flow_is : flow ≡ empty_flow) (marks : book.marks ≡ []) where
+    (starts : AllStart m shelf_faults disk_faults count greatest (unstarted 0 shelves) disks acceptors desks left) (eras_are : council ≡ opening_council (majority_era 0 (members_to count)) (members_to count)) (callers_are : callers ≡ replicate (greatest + 1) unbegun) (flow_is : flow ≡ empty_flow) (marks : book.marks ≡ []) where
   pub is_opening : IsOpening m (members_to count) (view_of greatest council acceptors desks callers flow book)
   is_opening = record {
     eras = ap (λ (c : Council). c.eras.0) eras_are;

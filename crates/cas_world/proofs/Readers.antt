@@ -17,5 +17,5 @@ use Rattle.cas_cluster.proofs.SafeParts.{at_low}
 pub few_calls : {S V : Type 0} (greatest : ℕ) (council : Council) (acceptors : List (AcceptorView S)) (desks : List (DeskView V)) (callers : List Caller) (flow : FlowView) (book : Book) (id : ℕ) (caller : Caller)
     → IsSafe (view_of greatest council acceptors desks callers flow book) → id ≤ greatest → IsAt callers id caller → caller.number + 1 < 2 ^ 32
 few_calls greatest council acceptors desks callers flow book id caller safe low at =
-    let found = at_low desks id (omega (arith, safe.desks, low)) in
-    omega (arith, safe.room, (safe.parties id found.0 (caller_view caller) found.1 (at_map caller_view callers id caller at)).number)
+    let found = at_low desks id (omega (arith, safe.sound.desks, low)) in
+    omega (arith, safe.sound.room, (safe.sound.parties id found.0 (caller_view caller) found.1 (at_map caller_view callers id caller at)).number)

@@ -84,32 +84,32 @@ module _ {S V : Type 0} (greatest : ℕ) (council : Council) (acceptors : List (
 
   found_by : (desk : DeskView V) (caller : Caller) → IsAt desks id desk → IsAt callers id caller → IsFound desks callers id number key program desk caller
   found_by desk caller at_desk at_caller =
-      let party = safe.parties id desk (caller_view caller) at_desk (at_map caller_view callers id caller at_caller) in
+      let party = safe.sound.parties id desk (caller_view caller) at_desk (at_map caller_view callers id caller at_caller) in
       let may_here : IsFirst desk caller number ⊎ IsAnother desk caller number key program =
       may_in greatest council acceptors desks callers flow book id number key program desk caller safe at_desk at_caller (subst (λ (v : View S V). MayBegin v id number key program) (sym view) may) in
       record {
         at_desk = at_desk;
         at_caller = at_caller;
         may = may_here;
-        low = omega (arith, low_id, safe.few);
+        low = omega (arith, low_id, safe.sound.few);
         place = low_at callers id at_caller;
-        number_low = omega (arith, party.number, safe.room);
+        number_low = omega (arith, party.number, safe.sound.room);
         idle = elim may_here [ inl first ↦ first.idle | inr another ↦ another.idle ];
         same_id = party.same_id;
         fits = λ ready is. party.cached key ready (contains_promise key ready desk.cache is);
       }
 
   pub found : (desk : DeskView V) (caller : Caller) → desk ≡ slice_index_or desks place desk → caller ≡ slice_index_or callers place caller → IsFound desks callers id number key program desk caller
-  found desk caller desk_is caller_is = found_by desk caller (at_place desks place id desk same (omega (arith, safe.desks, low_id)) desk_is)
-      (at_place callers place id caller same (omega (arith, safe.callers, low_id, length-map callers caller_view)) caller_is)
+  found desk caller desk_is caller_is = found_by desk caller (at_place desks place id desk same (omega (arith, safe.sound.desks, low_id)) desk_is)
+      (at_place callers place id caller same (omega (arith, safe.sound.callers, low_id, length-map callers caller_view)) caller_is)
 
   pub found_caller : (caller : Caller) → caller ≡ slice_index_or callers place caller → (desk : DeskView V) × IsFound desks callers id number key program desk caller
-  found_caller caller caller_is = let desk = at_low desks id (omega (arith, safe.desks, low_id)) in
-      (desk.0, found_by desk.0 caller desk.1 (at_place callers place id caller same (omega (arith, safe.callers, low_id, length-map callers caller_view)) caller_is))
+  found_caller caller caller_is = let desk = at_low desks id (omega (arith, safe.sound.desks, low_id)) in
+      (desk.0, found_by desk.0 caller desk.1 (at_place callers place id caller same (omega (arith, safe.sound.callers, low_id, length-map callers caller_view)) caller_is))
 
   pub found_desk : (desk : DeskView V) → desk ≡ slice_index_or desks place desk → (caller : Caller) × IsFound desks callers id number key program desk caller
-  found_desk desk desk_is = let caller = at_low callers id (omega (arith, safe.callers, low_id, length-map callers caller_view)) in
-      (caller.0, found_by desk caller.0 (at_place desks place id desk same (omega (arith, safe.desks, low_id)) desk_is) caller.1)
+  found_desk desk desk_is = let caller = at_low callers id (omega (arith, safe.sound.callers, low_id, length-map callers caller_view)) in
+      (caller.0, found_by desk caller.0 (at_place desks place id desk same (omega (arith, safe.sound.desks, low_id)) desk_is) caller.1)
 
 pub not_more : (n : ℕ) → (1000000 < n → ⊥) → n ≤ 1000000
 not_more n never = elim (le_or_lt n 1000000) [ inl low ↦ low | inr more ↦ absurd (never more) ]
@@ -144,7 +144,7 @@ pub phase_tells : {S V : Type 0} (greatest : ℕ) (council : Council) (acceptors
 phase_tells greatest council acceptors desks callers flow book id desk caller proposed safe at_desk at_caller told None is_round = tt
 phase_tells greatest council acceptors desks callers flow book id desk caller proposed safe at_desk at_caller told (Some round) is_round =
     let is : IsOpenSafe (era_in council.eras.0 id) (caller_view caller) (queue_at flow id) round =
-    subst (IsRoundSafe (era_in council.eras.0 id) (caller_view caller) (queue_at flow id)) is_round (safe.parties id desk (caller_view caller) at_desk (at_map caller_view callers id caller at_caller)).round in
+    subst (IsRoundSafe (era_in council.eras.0 id) (caller_view caller) (queue_at flow id)) is_round (safe.sound.parties id desk (caller_view caller) at_desk (at_map caller_view callers id caller at_caller)).round in
     let found = seen_open caller.call is.call is.is_open in
     let same : call_view found.0 ≡ is.call = some_is (ap (λ (o : Option OpenCall). option_map call_view o) (sym found.1) ∙ is.is_open) in
     let says : proposed ≡ is_some is.call.proposed = subst (λ (o : Option OpenCall). IfSome o (λ call. proposed ≡ is_some call.proposed)) found.1 told ∙ ap (λ (c : CallView). is_some c.proposed) same in
@@ -211,7 +211,7 @@ module _ {S V : Type 0} (A : Type 0) (m : Meaning S V) (greatest : ℕ) (council
 
   -- the mark of an open call's end is reserved
   some_reserved : (call : OpenCall) → caller.call ≡ Some call → desk.round ≡ None → 0 < call.reserved
-  some_reserved call is idle = (idle_at (era_in council.eras.0 id) (caller_view caller) (queue_at flow id) desk.round idle (inv.safe.parties id desk (caller_view caller) at_desk (at_map caller_view callers id caller at_caller)).round).reserved (call_view call)
+  some_reserved call is idle = (idle_at (era_in council.eras.0 id) (caller_view caller) (queue_at flow id) desk.round idle (inv.safe.sound.parties id desk (caller_view caller) at_desk (at_map caller_view callers id caller at_caller)).round).reserved (call_view call)
       (ap (λ (o : Option OpenCall). option_map call_view o) is)
 
   -- a refused caller reserves no more than before
@@ -229,7 +229,7 @@ module _ {S V : Type 0} (A : Type 0) (m : Meaning S V) (greatest : ℕ) (council
   entered_one another =
       let had : reserved_of caller ≡ another.call.reserved = ap (λ (o : Option OpenCall). reserved_in o) another.is_call in
       opens_again greatest council acceptors desks callers flow book id number key program 1 desk caller at_caller at_desk low another (omega arith)
-      (omega (arith, all_reserved, had, some_reserved another.call another.is_call another.idle, inv.safe.room))
+      (omega (arith, all_reserved, had, some_reserved another.call another.is_call another.idle, inv.safe.sound.room))
 
   told_one : (told : Answer) (another : IsAnother desk caller number key program) (desks_now : List (DeskView V)) (flow_now : FlowView) (after : Book) → WasTold (view_of greatest council acceptors desks_now (slice_set callers id (refused caller told)) flow_now after) id number told
   told_one told another desks_now flow_now after = was_told greatest council acceptors desks_now callers flow_now after id number caller (refused caller told) (over (again another.call 1) told) told at_caller (sym another.same_number)

@@ -1,6 +1,7 @@
 -- What stops and restarts of one party do to the whole.
-use Rattle.std.proofs.Common.{◌≡◌, ◌<◌, ◌≤◌, ℕ, Bool, true, false, List, Option, None, Some, Result, Ok, Err, slice_set, refl, sym, ap, subst, ◌∙◌, inl, inr, arith}
-use Rattle.std.specs.Prelude.{⊤, ◌⊎◌, map, option_map, is_some, IfSome, OnOk, OnErr, IsTrue}
+use Rattle.std.proofs.Common.{◌≡◌, ◌<◌, ◌≤◌, ℕ, Bool, true, false, List, [], Option, None, Some, Result, Ok, Err, slice_set, refl, sym, ap, subst, ◌∙◌, inl, inr, arith}
+use Rattle.std.specs.Prelude.{⊤, ◌⊎◌, if◌then◌else◌, map, option_map, is_some, IfSome, OnOk, OnErr, IsTrue}
+use Rattle.std.proofs.lemmas.List.{set-get_or}
 use Rattle.cas_world.proofs.Beginning.{no_more}
 use Rattle.cas_base.proofs.Bools.{true_or_false}
 use Rattle.cas_acceptor.specs.Acceptor.{AcceptorView}
@@ -19,10 +20,16 @@ use Rattle.cas_vault.specs.declared.vault.Vault.{Vault}
 use Rattle.cas_vault.specs.Vault.{kept_of, disk_of, KeptOn, IsPast, Stands}
 use Rattle.cas_vault.proofs.Keeping.{same_kept}
 use Rattle.cas_cluster.specs.Step as step
-use Rattle.cas_cluster.specs.Step.{StepRestartAcceptor, CrashesDesk, StepRestartProposer}
+use Rattle.cas_cluster.specs.Step.{StepRestartAcceptor, StepRestartProposer}
+use Rattle.cas_cluster.specs.StepStops as stops
+use Rattle.cas_cluster.specs.StepStops.{CrashesDesk}
+use Rattle.cas_quorum.specs.declared.era.Era.{Era}
+use Rattle.cas_quorum.specs.Era.{majority_era}
+use Rattle.cas_cluster.specs.Council.{PlanView}
+use Rattle.cas_cluster.specs.Course.{era_shown}
 use Rattle.cas_cluster.specs.Parties.{IsWithin}
 use Rattle.cas_cluster.specs.StepDesks.{GoesOn, Crashes, Restarts}
-use Rattle.cas_cluster.specs.View.{DiskMeaning, Meaning, ShelfMeaning, View, CallerView, IsAt, reserved_in, reserved_of, with_acceptor, with_desk}
+use Rattle.cas_cluster.specs.View.{DiskMeaning, Meaning, ShelfMeaning, View, CallerView, IsAt, reserved_in, reserved_of, era_at, with_acceptor, with_desk}
 use Rattle.cas_cluster.proofs.Places.{at_one, at_set, but_set, own_set, other_set}
 use Rattle.cas_cluster.proofs.SafeParts.{reserved_set}
 use Rattle.cas_world.specs.declared.council.Council.{Council}
@@ -169,10 +176,19 @@ pub same_round : {V : Type 0} (desk now : DeskView V) (r : Result ⊤ VaultError
 same_round {V} desk now (Ok x) ok err = ap (λ (d : DeskView V). d.round) ok
 same_round {V} desk now (Err e) ok err = ap (λ (d : DeskView V). d.round) err
 
-pub desk_restarted : {S V : Type 0} (m : Meaning S V) (old : View S V) (id : ℕ) (desk now : DeskView V) (r : Result ⊤ VaultError) → IsAt old.desks id desk → (desk.down ≡ false → now ≡ desk)
+-- with no change of membership under way it works where it worked
+works_on : {S V : Type 0} (old : View S V) (id : ℕ) (now : DeskView V) → old.council.plan ≡ None → step.restarted old id now ≡ with_desk old id now
+works_on {S} {V} old id now none = by_down now.down
+  where
+    by_down : (b : Bool) → record (with_desk old id now) { eras = if b then old.eras else slice_set old.eras id (era_shown old.council.plan (era_at old id) (kept_of now.vault).era) } ≡ with_desk old id now
+    by_down true = refl
+    by_down false = ap (λ (l : List Era). record (with_desk old id now) { eras = l })
+        (ap (λ (p : Option PlanView). slice_set old.eras id (era_shown p (era_at old id) (kept_of now.vault).era)) none ∙ set-get_or old.eras id (majority_era 0 []))
+
+pub desk_restarted : {S V : Type 0} (m : Meaning S V) (old : View S V) (id : ℕ) (desk now : DeskView V) (caller : CallerView) (r : Result ⊤ VaultError) → old.council.plan ≡ None → IsAt old.desks id desk → IsAt old.callers id caller → (desk.down ≡ false → now ≡ desk)
     → OnOk r (now ≡ record desk { vault = now.vault; down = false }) → OnErr r (now ≡ record desk { vault = now.vault }) → (IsTrue desk.down → RestartsVault m.disks desk.vault now.vault r) → StepRestartProposer m old id (with_desk old id now)
-desk_restarted {S} {V} m old id desk now r at unchanged ok err on = elim (true_or_false desk.down) [
-  | inl down ↦ step.restarts desk now at down (by_result r down ok err (on down)) refl
+desk_restarted {S} {V} m old id desk now caller r none at at_caller unchanged ok err on = elim (true_or_false desk.down) [
+  | inl down ↦ step.restarts desk now caller at at_caller down (by_result r down ok err (on down)) (sym (works_on old id now none))
   | inr up ↦ step.was_up_already desk at up (ap (λ (l : List (DeskView V)). record old { desks = l }) (ap (λ (d : DeskView V). slice_set old.desks id d) (unchanged up) ∙ set_same old.desks id desk at))
 ]
   where
@@ -233,17 +249,17 @@ pub crash_closes : {S V : Type 0} (m : Meaning S V) (greatest : ℕ) (council : 
     → IsAt desks id desk → IsAt callers id caller → caller.call ≡ Some call → desk.round ≡ Some round → Crashes m.disks desk now
     → CrashesDesk m (view_of greatest council acceptors desks callers flow book) id (view_of greatest council acceptors (slice_set desks id now) (slice_set callers id (crashed_caller caller call)) (abandoned flow id) book)
 crash_closes {S} {V} m greatest council acceptors desks callers flow book id desk now round caller call at_desk at_caller is_open is_round by =
-    step.closes desk now round (record { caller = caller_view caller; at_caller = at_map caller_view callers id caller at_caller; call = call_view call; is_open = ap (λ (o : Option OpenCall). option_map call_view o) is_open })
+    stops.closes desk now round (record { caller = caller_view caller; at_caller = at_map caller_view callers id caller at_caller; call = call_view call; is_open = ap (λ (o : Option OpenCall). option_map call_view o) is_open })
     at_desk is_round by
     (ap (λ (l : List CallerView). record (view_of greatest council acceptors (slice_set desks id now) callers (abandoned flow id) book) { callers = l }) (map_set caller_view callers id (crashed_caller caller call)))
 
 pub crash_idle : {S V : Type 0} (m : Meaning S V) (old : View S V) (id : ℕ) (desk now : DeskView V) → IsAt old.desks id desk → desk.round ≡ None → Crashes m.disks desk now
     → CrashesDesk m old id (record (with_desk old id now) { flow = abandoned old.flow id })
-crash_idle m old id desk now at none by = step.idle desk now at none by refl
+crash_idle m old id desk now at none by = stops.idle desk now at none by refl
 
 -- what is done to a world is done to what it is seen as
-pub crash_seen : {S V : Type 0} {m : Meaning S V} (id : ℕ) {inside now new : View S V} → inside ≡ now → CrashesDesk m inside id new → CrashesDesk m now id new
-crash_seen {S} {V} {m} id {inside} {now} {new} same by = subst (λ (v : View S V). CrashesDesk m v id new) same by
+pub crash_seen : {S V : Type 0} (m : Meaning S V) (id : ℕ) {inside now new : View S V} → inside ≡ now → CrashesDesk m inside id new → CrashesDesk m now id new
+crash_seen {S} {V} m id {inside} {now} {new} same by = subst (λ (v : View S V). CrashesDesk m v id new) same by
 
 -- the caller whose round was closed, as it was told
 pub closed_is : (caller read new : Caller) (call : OpenCall) (told : Answer) (proposed : Bool) → caller.call ≡ Some call → read ≡ caller → IfSome read.call (λ c. proposed ≡ is_some c.proposed) → told ≡ crash_answer proposed

@@ -44,7 +44,7 @@ counted {S} {V} {inside} {now} made reserved same is reserves =
     omega (arith, ap (λ (ms : List Mark). length ms) is, reserves, ap (λ (v : View S V). length v.marks + reserved_in_all v) same)
 
 pub few_counted : {S V : Type 0} {inside now : View S V} → inside ≡ now → IsSafe inside → length now.marks + reserved_in_all now ≤ most_marks
-few_counted {S} {V} {inside} {now} same safe = subst (λ (v : View S V). length v.marks + reserved_in_all v ≤ most_marks) same safe.room
+few_counted {S} {V} {inside} {now} same safe = subst (λ (v : View S V). length v.marks + reserved_in_all v ≤ most_marks) same safe.sound.room
 
 -- ---- a reply
 none_of : {A : Type 0} (o : Option A) → is_some o ≡ false → o ≡ None

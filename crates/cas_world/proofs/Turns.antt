@@ -24,7 +24,8 @@ use Rattle.cas_proposer.specs.Round.{is_preparing, Hears}
 use Rattle.cas_record.specs.declared.mark.Mark.TheVariants.{Harmed}
 use Rattle.cas_cluster.specs.Safe.{IsSafe, requests_in, handled_in, handled_once, IsRoundSafe, IsOpenSafe}
 use Rattle.cas_cluster.specs.View.{Meaning, ShelfMeaning, View, CallView, CallerView, IsAt, new_caller, reserved_in, reserved_of, with_marks, era_in}
-use Rattle.cas_cluster.specs.Step.{OpenCallAt, StepTurn, StepRefuseTurn}
+use Rattle.cas_cluster.specs.Step.{StepTurn, StepRefuseTurn}
+use Rattle.cas_cluster.specs.StepStops.{OpenCallAt}
 use Rattle.cas_cluster.specs.StepCalls.{with_call, telling}
 use Rattle.cas_record.specs.declared.answer.Answer.TheVariants as answer
 use Rattle.cas_cluster.specs.StepFrames as frames
@@ -74,11 +75,11 @@ by_round : {S V : Type 0} {m : Meaning S V} (greatest : ℕ) (council : Council)
     → IsWorld m (view_of greatest council acceptors desks callers flow book) callers book.room → (queue_at flow id).messages ≢ [] → IsAt callers id caller
     → (desk : DeskView V) → IsAt desks id desk → (round : Option Round) → desk.round ≡ round → IsOpenAt desks flow id caller book.room
 by_round greatest council acceptors desks callers flow book id caller inv some at desk at_desk None none =
-    let party = inv.safe.parties id desk (caller_view caller) at_desk (seen_at callers id caller at) in
+    let party = inv.safe.sound.parties id desk (caller_view caller) at_desk (seen_at callers id caller at) in
     let idle = subst (λ (r : Option Round). IsRoundSafe (era_in council.eras.0 id) (caller_view caller) (queue_at flow id) r) none party.round in
     absurd (some idle.none_waits)
 by_round greatest council acceptors desks callers flow book id caller inv some at desk at_desk (Some round) is =
-    let party = inv.safe.parties id desk (caller_view caller) at_desk (seen_at callers id caller at) in
+    let party = inv.safe.sound.parties id desk (caller_view caller) at_desk (seen_at callers id caller at) in
     let safe : IsOpenSafe (era_in council.eras.0 id) (caller_view caller) (queue_at flow id) round = subst (λ (r : Option Round). IsRoundSafe (era_in council.eras.0 id) (caller_view caller) (queue_at flow id) r) is party.round in
     let call = call_of caller.call safe.call safe.is_open in
     let front = one_waits (queue_at flow id).messages some in
@@ -91,7 +92,7 @@ by_round greatest council acceptors desks callers flow book id caller inv some a
       is_round = is;
       call = call.0;
       is_call = call.1;
-      reserved = omega (arith, same, reserves_one (era_in council.eras.0 id) (caller_view caller) (queue_at flow id) round safe (inv.safe.prep_sets id) (inv.safe.acc_sets id));
+      reserved = omega (arith, same, reserves_one (era_in council.eras.0 id) (caller_view caller) (queue_at flow id) round safe (inv.safe.sound.prep_sets id) (inv.safe.sound.acc_sets id));
       within = omega (arith, same, seen, inv.room, reserved_within (map caller_view callers) id (caller_view caller) (seen_at callers id caller at));
       front = front.0;
       waits = front.1;
@@ -102,7 +103,7 @@ pub open_at : {S V : Type 0} {m : Meaning S V} (greatest : ℕ) (council : Counc
     → IsWorld m (view_of greatest council acceptors desks callers flow book) callers book.room → id ≤ greatest → (queue_at flow id).messages ≢ [] → IsAt callers id caller
     → IsOpenAt desks flow id caller book.room
 open_at greatest council acceptors desks callers flow book id caller inv low some at =
-    let desk = at_low desks id (omega (arith, low, inv.safe.desks)) in
+    let desk = at_low desks id (omega (arith, low, inv.safe.sound.desks)) in
     by_round greatest council acceptors desks callers flow book id caller inv some at desk.0 desk.1 desk.0.round refl
 
 -- so a mark may be made
@@ -142,7 +143,7 @@ pub turning : {S V : Type 0} {m : Meaning S V} (now : View S V) (greatest : ℕ)
 turning {S} {V} {m} now greatest council acceptors desks callers flow book id same inv low some =
     let within : id ≤ greatest = omega (arith, low, ap (λ (v : View S V). v.greatest) same) in
     let waits : (queue_at flow id).messages ≢ [] = λ none. some (ap (λ (v : View S V). (queue_at v.flow id).messages) (sym same) ∙ none) in
-    let there = at_low callers id (omega (arith, within, inv.safe.callers, length-map callers caller_view)) in
+    let there = at_low callers id (omega (arith, within, inv.safe.sound.callers, length-map callers caller_view)) in
     record {
       caller = there.0;
       at_caller = there.1;

@@ -38,11 +38,11 @@ exchange_view exchange = record {
 }
 
 abbrev pub council_view : Council → cluster.Council
-council_view council = record { order = option_map order_view council.order; exchange = option_map exchange_view council.exchange }
+council_view council = record { order = option_map order_view council.order; exchange = option_map exchange_view council.exchange; plan = None; used = council.used }
 
--- all proposers work in this era, and nothing is under way
-abbrev pub opening_council : Era → Council
-opening_council era = record { eras = record { 0 = replicate 17 era }; order = None; exchange = None }
+-- all proposers work in this era, whose members are these, and nothing is under way
+abbrev pub opening_council : Era → List ℕ → Council
+opening_council era members = record { eras = record { 0 = replicate 17 era }; order = None; exchange = None; used = members }
 
 -- ---- an exchange
 -- a member that told nothing yet

@@ -3,7 +3,7 @@
 
 ghost use Rattle.std.specs.Prelude.{◌≡◌, ◌+◌, ◌<◌, ◌^◌, ◌++◌, None, IsSome, IsSomeAnd, IfSome, IfOk, OnErr, length, map, position, sum_by, false};
 ghost use Rattle.cas_ballot.specs.Members.{has_member};
-ghost use Rattle.cas_cluster.specs.Council.{Probe as Probing, reserved_by, no_council, telling, crashed_in};
+ghost use Rattle.cas_cluster.specs.Council.{Probe as Probing, reserved_by, at_rest, telling, crashed_in};
 ghost use Rattle.cas_cluster.specs.StepCouncil.{awaits, hears, harmed_exchange, harm_marks};
 ghost use Rattle.cas_world.specs.Call.{reserved_of};
 ghost use Rattle.cas_world.specs.Council.{council_view, exchange_view, question_of, opening_council, unanswered, heard_in, harmed_in, harms_in, IsToldOf, GathersAs};
@@ -79,6 +79,8 @@ pub(crate) struct Council {
     pub eras: Eras,
     pub order: Option<Order>,
     pub exchange: Option<OpenExchange>,
+    /// Who was a member since the opening.
+    pub used: Members,
 }
 
 impl Exchange {
@@ -145,14 +147,15 @@ impl OpenExchange {
 }
 
 impl Council {
-    /// All proposers work in this era, and nothing is under way.
-    pub fn new(era: Era) -> Council
-        ensures { result ≡ opening_council era }
+    /// All proposers work in this era, whose members are these, and nothing is under way.
+    pub fn new(era: Era, members: Members) -> Council
+        ensures { result ≡ opening_council era members }
     {
         Council {
             eras: Eras::all_in(era),
             order: None,
             exchange: None,
+            used: members,
         }
     }
 
@@ -185,7 +188,7 @@ impl Council {
     pub fn close(&mut self) -> (Asked, OpAnswer)
         requires { IsSomeAnd self.old.order (λ order. IsSome order.told) }
         ensures told { IfSome self.old.order (λ order. IfSome order.told (λ told. result ≡ (order.asked, told))) }
-        ensures closed { council_view self.new ≡ no_council }
+        ensures closed { council_view self.new ≡ at_rest (council_view self.old) }
         ensures eras { self.new.eras ≡ self.old.eras }
     {
         self.exchange = None;

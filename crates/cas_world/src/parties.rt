@@ -2,7 +2,8 @@
 
 ghost use Rattle.std.specs.Prelude.{◌≡◌, ◌≤◌, slice_get};
 ghost use Rattle.cas_world.specs.Readers.{up_in};
-ghost use Rattle.cas_cluster.specs.Step.{Step, CrashesDesk, broken_off_view, CrashAcceptor, RestartAcceptor, CrashProposer, RestartProposer};
+ghost use Rattle.cas_cluster.specs.StepStops.{CrashesDesk, broken_off_view};
+ghost use Rattle.cas_cluster.specs.Step.{Step, CrashAcceptor, RestartAcceptor, CrashProposer, RestartProposer};
 ghost use Rattle.cas_cluster.specs.View.{IsAt, era_at, meaning};
 ghost use Rattle.cas_acceptor.specs.Acceptor.{AcceptorView};
 ghost use Rattle.cas_proposer.specs.Desk.{DeskView};

@@ -109,6 +109,7 @@ impl<S: Shelf, V: Disk> World<S, V> {
         };
         take_shelves(&mut acceptors, &mut shelves);
         vaults.reverse();
+        let members = first_members(config.acceptors);
         match start(alloc, config, &mut acceptors, &mut desks, &mut vaults) {
             Ok(()) => Ok(World {
                 config: Setup {
@@ -116,7 +117,7 @@ impl<S: Shelf, V: Disk> World<S, V> {
                     shelves,
                     disks: vaults,
                 },
-                council: Council::new(Era::majority(0, first_members(config.acceptors))),
+                council: Council::new(Era::majority(0, members), members),
                 acceptors,
                 desks,
                 callers,

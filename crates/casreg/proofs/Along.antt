@@ -1,14 +1,12 @@
 -- Along a script over a store that just opened was done what nothing stood against.
-use Rattle.std.proofs.Common.{◌≡◌, ◌≤◌, ℕ, List, Option, sym, subst}
+use Rattle.std.proofs.Common.{ℕ, List, Option}
 use Rattle.cas_cluster.proofs.SafeOpens.{opens_are_safe}
 use Rattle.cas_cluster.specs.Safe.{IsSafe}
-use Rattle.cas_cluster.specs.View.{Meaning, View, era_at}
+use Rattle.cas_cluster.specs.View.{Meaning, View}
 use Rattle.cas_disk_shelf.specs.declared.shelf.DiskShelf.{DiskShelf}
-use Rattle.cas_quorum.specs.Era.{IsSized}
 use Rattle.cas_rack.specs.Rack.{RackMeaning, IsAllEmpty}
 use Rattle.cas_rack.specs.declared.rack.Rack.{Rack}
 use Rattle.cas_script.specs.Script.{opening_state}
-use Rattle.cas_undisturbed.proofs.Openings.{majority_sized, opening_era}
 use Rattle.cas_undisturbed.proofs.Runs.{runs_are_done}
 use Rattle.cas_world.specs.Opening.{members_to}
 use Rattle.casreg.specs.Causes.{AreDoneAlong, IsNewOver, Ran, Wrote, ran}
@@ -17,21 +15,20 @@ use Rattle.casreg.specs.declared.status.Status.{Status}
 use Rattle.casreg.specs.declared.status.Status.TheVariants as status
 use Rattle.casreg.specs.declared.words.Options.{Options}
 
-safe_done : {D : Type 0} (meant : Meaning (DiskShelf D) D) (tells : Type 0) (tries : ℕ) (P : List (List ℕ) → Type 0) (input old new : Option (List ℕ)) (world : View (DiskShelf D) D) (back : Rack D) (result : Status) → IsSafe world → ((id : ℕ) → id ≤ 16 → IsSized (era_at world id)) → (by : Ran meant tells tries P input old new world result back)
+safe_done : {D : Type 0} (meant : Meaning (DiskShelf D) D) (tells : Type 0) (tries : ℕ) (P : List (List ℕ) → Type 0) (input old new : Option (List ℕ)) (world : View (DiskShelf D) D) (back : Rack D) (result : Status) → IsSafe world → (by : Ran meant tells tries P input old new world result back)
     → AreDoneAlong result by
-safe_done meant tells tries P input old new world back status.Ok safe sized by = runs_are_done meant tries (opening_state world) by.last by.wrote.lines by.wrote.answers safe sized by.wrote.run
-safe_done meant tells tries P input old new world back status.Usage safe sized by = by.wrote
-safe_done meant tells tries P input old new world back status.ReadFault safe sized by = runs_are_done meant tries (opening_state world) by.last by.wrote.lines by.wrote.answers safe sized by.wrote.run
-safe_done meant tells tries P input old new world back status.WriteFault safe sized by = runs_are_done meant tries (opening_state world) by.last by.wrote.lines by.wrote.answers safe sized by.wrote.run
-safe_done meant tells tries P input old new world back (status.NotEmpty disk) safe sized by = by.wrote
-safe_done meant tells tries P input old new world back (status.DiskFault disk) safe sized by = by.wrote
-safe_done meant tells tries P input old new world back status.TooManyLines safe sized by = runs_are_done meant tries (opening_state world) by.last by.wrote.lines by.wrote.answers safe sized by.wrote.run
-safe_done meant tells tries P input old new world back status.NoMemory safe sized by = runs_are_done meant tries (opening_state world) by.last by.wrote.lines by.wrote.answers safe sized by.wrote.run
-safe_done meant tells tries P input old new world back (status.Endless line) safe sized by = runs_are_done meant tries (opening_state world) by.last by.wrote.lines by.wrote.answers safe sized by.wrote.run
+safe_done meant tells tries P input old new world back status.Ok safe by = runs_are_done meant tries (opening_state world) by.last by.wrote.lines by.wrote.answers safe by.wrote.run
+safe_done meant tells tries P input old new world back status.Usage safe by = by.wrote
+safe_done meant tells tries P input old new world back status.ReadFault safe by = runs_are_done meant tries (opening_state world) by.last by.wrote.lines by.wrote.answers safe by.wrote.run
+safe_done meant tells tries P input old new world back status.WriteFault safe by = runs_are_done meant tries (opening_state world) by.last by.wrote.lines by.wrote.answers safe by.wrote.run
+safe_done meant tells tries P input old new world back (status.NotEmpty disk) safe by = by.wrote
+safe_done meant tells tries P input old new world back (status.DiskFault disk) safe by = by.wrote
+safe_done meant tells tries P input old new world back status.TooManyLines safe by = runs_are_done meant tries (opening_state world) by.last by.wrote.lines by.wrote.answers safe by.wrote.run
+safe_done meant tells tries P input old new world back status.NoMemory safe by = runs_are_done meant tries (opening_state world) by.last by.wrote.lines by.wrote.answers safe by.wrote.run
+safe_done meant tells tries P input old new world back (status.Endless line) safe by = runs_are_done meant tries (opening_state world) by.last by.wrote.lines by.wrote.answers safe by.wrote.run
 
 -- a run over a new world
 pub ran_over : {D : Type 0} {meant : Meaning (DiskShelf D) D} {m : RackMeaning D} {words : List (List ℕ)} {P : List (List ℕ) → Type 0} {input old new : Option (List ℕ)} {rack asked back : Rack D} {result : Status} (options : Options) (world : View (DiskShelf D) D) → AreWords words options → IsAllEmpty m rack asked
     → IsNewOver meant options asked world → Ran meant m.tells options.tries P input old new world result back → Wrote meant m words P input old new rack result back
 ran_over {D} {meant} {m} {words} {P} {input} {old} {new} {rack} {asked} {back} {result} options world are empty over by =
-    ran options world are empty over by (safe_done meant m.tells options.tries P input old new world back result (opens_are_safe meant (members_to options.acceptors) world over.opening over.places)
-    (λ id low. subst IsSized (sym (opening_era meant (members_to options.acceptors) world id over.opening low)) (majority_sized (members_to options.acceptors) over.opening.some)) by)
+    ran options world are empty over by (safe_done meant m.tells options.tries P input old new world back result (opens_are_safe meant (members_to options.acceptors) world over.opening over.places) by)

@@ -4,7 +4,7 @@ ghost use Rattle.std.specs.Prelude.{◌≡◌, ◌≢◌, List, ℕ, map, string
 ghost use Rattle.std.specs.Io.KnownBytes.{IsAtEnd};
 ghost use Rattle.cas_base.specs.Faults.{Rose};
 ghost use Rattle.cas_lines.specs.Lines.{Ending, Whole, ending_of, FailsBehind};
-ghost use Rattle.cas_cluster.specs.Council.{no_council};
+ghost use Rattle.cas_cluster.specs.Council.{IsAtRest};
 ghost use Rattle.cas_cluster.specs.View.{meaning};
 ghost use Rattle.cas_rack.specs.Rack.{rack_meaning};
 ghost use Rattle.cas_script.specs.Script.{State, IsIn};
@@ -109,7 +109,7 @@ fn run_script<S: Source, K: Sink, D: Disk + Drop>(
     requires range { IsInRange options }
     requires known { store.world.greatest ≡ options.proposers }
     requires idle { AllIdle store.world }
-    requires quiet { store.world.council ≡ no_council }
+    requires quiet { IsAtRest store.world.council }
     ensures ran { Ran (meaning ⟦<DiskShelf<D> as Shelf>⟧.contents ⟦<DiskShelf<D> as Shelf>⟧.tells ⟦<DiskShelf<D> as Shelf>⟧.may_leave ⟦<DiskShelf<D> as Shelf>⟧.fault_count D.tells D.may_leave D.fault_count) D.tells options.tries
         (FailsBehind S.take_gives source.old source.new) (S.remaining source.old) (K.contents sink.old) (K.contents sink.new) store.world result.0 result.1 }
     ensures usage { result.0 ≢ Status.Usage }

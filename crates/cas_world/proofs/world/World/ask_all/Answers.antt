@@ -28,10 +28,10 @@ pub reserved_in_all-reserved-requires : goal.reserved_in_all-reserved-requires
 reserved_in_all-reserved-requires g c = omega (arith, reserved_fits c.self.inside.config.proposers c.self.inside.council c.self.inside.acceptors.items c.self.inside.desks.items c.self.inside.callers.items c.self.inside.flow c.self.inside.record c.self.invariant.safe, ap (sum_by reserved_of) c.deref.ensures.value)
 
 pub open_exchange-opened-requires-clause-idle : goal.open_exchange-opened-requires-clause-idle
-open_exchange-opened-requires-clause-idle g c = idle_first (view_of c.self.inside.config.proposers c.self.inside.council c.self.inside.acceptors.items c.self.inside.desks.items c.self.inside.callers.items c.self.inside.flow c.self.inside.record) c.args.self.now c.index_mut.result.now c.self.invariant.safe c.self.view_is c.requires.idle (at_place c.self.inside.desks.items 0 0 c.index_mut.result.now refl (omega (arith, c.self.invariant.safe.desks)) c.index_mut.ensures.value)
+open_exchange-opened-requires-clause-idle g c = idle_first (view_of c.self.inside.config.proposers c.self.inside.council c.self.inside.acceptors.items c.self.inside.desks.items c.self.inside.callers.items c.self.inside.flow c.self.inside.record) c.args.self.now c.index_mut.result.now c.self.invariant.safe c.self.view_is c.requires.idle (at_place c.self.inside.desks.items 0 0 c.index_mut.result.now refl (omega (arith, c.self.invariant.safe.sound.desks)) c.index_mut.ensures.value)
 
 pub open_exchange-opened-requires-clause-proposer : goal.open_exchange-opened-requires-clause-proposer
-open_exchange-opened-requires-clause-proposer g c = omega (arith, first_id (view_of c.self.inside.config.proposers c.self.inside.council c.self.inside.acceptors.items c.self.inside.desks.items c.self.inside.callers.items c.self.inside.flow c.self.inside.record) c.index_mut.result.now c.self.invariant.safe (at_place c.self.inside.desks.items 0 0 c.index_mut.result.now refl (omega (arith, c.self.invariant.safe.desks)) c.index_mut.ensures.value))
+open_exchange-opened-requires-clause-proposer g c = omega (arith, first_id (view_of c.self.inside.config.proposers c.self.inside.council c.self.inside.acceptors.items c.self.inside.desks.items c.self.inside.callers.items c.self.inside.flow c.self.inside.record) c.index_mut.result.now c.self.invariant.safe (at_place c.self.inside.desks.items 0 0 c.index_mut.result.now refl (omega (arith, c.self.invariant.safe.sound.desks)) c.index_mut.ensures.value))
 
 pub open_exchange-opened-requires-clause-few : goal.open_exchange-opened-requires-clause-few
 open_exchange-opened-requires-clause-few g c = omega (arith, reserved_fits c.self.inside.config.proposers c.self.inside.council c.self.inside.acceptors.items c.self.inside.desks.items c.self.inside.callers.items c.self.inside.flow c.self.inside.record c.self.invariant.safe, c.reserved_in_all-reserved.ensures, ap (sum_by reserved_of) c.deref.ensures.value, sum_seen c.self.inside.callers.items)
@@ -41,7 +41,7 @@ step_ok : (g : Over) (c : Joined-self g) → StepAskAll (meaning g.S.Shelf.conte
 step_ok g c =
     subst (λ (q : Question). StepAskAll (meaning g.S.Shelf.contents g.S.Shelf.tells g.S.Shelf.may_leave g.S.Shelf.fault_count g.V.Disk.tells g.V.Disk.may_leave g.V.Disk.fault_count) (view_of c.self.inside.config.proposers c.self.inside.council c.self.inside.acceptors.items c.self.inside.desks.items c.self.inside.callers.items c.self.inside.flow c.self.inside.record) q (view_of c.self.inside.config.proposers (record c.self.inside.council { exchange = Some c.in-Ok.exchange }) c.self.inside.acceptors.items (slice_set c.self.inside.desks.items 0 c.open_exchange-opened.new.desk) c.self.inside.callers.items c.open_exchange-opened.new.flow c.open_exchange-opened.new.record)) (sym c.into_key.ensures) (record {
       desk = c.index_mut.result.now;
-      may = may_ask (view_of c.self.inside.config.proposers c.self.inside.council c.self.inside.acceptors.items c.self.inside.desks.items c.self.inside.callers.items c.self.inside.flow c.self.inside.record) c.args.self.now (Probe c.into_key.result) c.index_mut.result.now c.self.invariant.safe c.self.view_is (subst (MayAsk c.args.self.now) c.into_key.ensures c.requires) (at_place c.self.inside.desks.items 0 0 c.index_mut.result.now refl (omega (arith, c.self.invariant.safe.desks)) c.index_mut.ensures.value);
+      may = may_ask (view_of c.self.inside.config.proposers c.self.inside.council c.self.inside.acceptors.items c.self.inside.desks.items c.self.inside.callers.items c.self.inside.flow c.self.inside.record) c.args.self.now (Probe c.into_key.result) c.index_mut.result.now c.self.invariant.safe c.self.view_is (subst (MayAsk c.args.self.now) c.into_key.ensures c.requires) (at_place c.self.inside.desks.items 0 0 c.index_mut.result.now refl (omega (arith, c.self.invariant.safe.sound.desks)) c.index_mut.ensures.value);
       asks = asks (meaning g.S.Shelf.contents g.S.Shelf.tells g.S.Shelf.may_leave g.S.Shelf.fault_count g.V.Disk.tells g.V.Disk.may_leave g.V.Disk.fault_count) c.self.inside.config.proposers c.self.inside.council c.self.inside.acceptors.items c.self.inside.desks.items c.index_mut.result.now c.open_exchange-opened.new.desk c.self.inside.callers.items c.self.inside.flow c.open_exchange-opened.new.flow c.self.inside.record c.open_exchange-opened.new.record (Probe c.into_key.result) c.everyone-members.result c.in-Ok.exchange (c.everyone-members.ensures ∙ ap (λ (e : Era). union_of e.prep e.acc) (c.era.ensures ∙ ap (λ (v : View g.row.S.Denot g.row.V.Denot). era_at v 0) (sym c.self.view_is)))
           c.in-Ok.ensures.ok (omega (arith, c.in-Ok.ensures.fits, c.reserved_in_all-reserved.ensures, ap (sum_by reserved_of) c.deref.ensures.value, sum_seen c.self.inside.callers.items, ap (λ (l : List ℕ). length l) (c.everyone-members.ensures ∙ ap (λ (e : Era). union_of e.prep e.acc) (c.era.ensures ∙ ap (λ (v : View g.row.S.Denot g.row.V.Denot). era_at v 0) (sym c.self.view_is))))) c.in-Ok.ensures.marks;
     })
@@ -50,7 +50,7 @@ pub invariant_of-self : goal.invariant_of-self
 invariant_of-self g c =
     let none = ap (λ (v : View g.row.S.Denot g.row.V.Denot). reserved_for_exchange v.council.exchange) c.self.view_is ∙ ap reserved_for_exchange c.requires.none_open in
     asked_world (view_of c.self.inside.config.proposers c.self.inside.council c.self.inside.acceptors.items c.self.inside.desks.items c.self.inside.callers.items c.self.inside.flow c.self.inside.record) (view_of c.self.inside.config.proposers (record c.self.inside.council { exchange = Some c.in-Ok.exchange }) c.self.inside.acceptors.items (slice_set c.self.inside.desks.items 0 c.open_exchange-opened.new.desk) c.self.inside.callers.items c.open_exchange-opened.new.flow c.open_exchange-opened.new.record) c.open_exchange-opened.new.desk c.self.inside.callers.items c.self.inside.record.room c.open_exchange-opened.new.record.room c.self.invariant
-    (ap (λ (d : DeskView g.row.V.Denot). d.round) c.in-Ok.ensures.ok.desk ∙ idle_first (view_of c.self.inside.config.proposers c.self.inside.council c.self.inside.acceptors.items c.self.inside.desks.items c.self.inside.callers.items c.self.inside.flow c.self.inside.record) c.args.self.now c.index_mut.result.now c.self.invariant.safe c.self.view_is c.requires.idle (at_place c.self.inside.desks.items 0 0 c.index_mut.result.now refl (omega (arith, c.self.invariant.safe.desks)) c.index_mut.ensures.value)) refl
+    (ap (λ (d : DeskView g.row.V.Denot). d.round) c.in-Ok.ensures.ok.desk ∙ idle_first (view_of c.self.inside.config.proposers c.self.inside.council c.self.inside.acceptors.items c.self.inside.desks.items c.self.inside.callers.items c.self.inside.flow c.self.inside.record) c.args.self.now c.index_mut.result.now c.self.invariant.safe c.self.view_is c.requires.idle (at_place c.self.inside.desks.items 0 0 c.index_mut.result.now refl (omega (arith, c.self.invariant.safe.sound.desks)) c.index_mut.ensures.value)) refl
     (steps_are_safe (meaning g.S.Shelf.contents g.S.Shelf.tells g.S.Shelf.may_leave g.S.Shelf.fault_count g.V.Disk.tells g.V.Disk.may_leave g.V.Disk.fault_count) _ (step.AskAll (question_of c.args.what)) _ c.self.invariant.safe (step_ok g c)) (remembered_then (meaning g.S.Shelf.contents g.S.Shelf.tells g.S.Shelf.may_leave g.S.Shelf.fault_count g.V.Disk.tells g.V.Disk.may_leave g.V.Disk.fault_count) (step.AskAll (question_of c.args.what)) (step_ok g c) c.self.invariant.remembered)
     (omega (arith, c.in-Ok.ensures.room, c.reserved_in_all-reserved.ensures, ap (sum_by reserved_of) c.deref.ensures.value, sum_seen c.self.inside.callers.items, none, ap (λ (e : ExchangeView). e.reserved) c.in-Ok.ensures.ok.opened))
 
@@ -61,8 +61,8 @@ returns-in-Ok-clause-step g c = seen_from (meaning g.S.Shelf.contents g.S.Shelf.
 step_err : (g : Over) (c : After-tell g) → StepAskAll (meaning g.S.Shelf.contents g.S.Shelf.tells g.S.Shelf.may_leave g.S.Shelf.fault_count g.V.Disk.tells g.V.Disk.may_leave g.V.Disk.fault_count) (view_of c.self.inside.config.proposers c.self.inside.council c.self.inside.acceptors.items c.self.inside.desks.items c.self.inside.callers.items c.self.inside.flow c.self.inside.record) (question_of c.args.what) (view_of c.self.inside.config.proposers c.tell.new.self c.self.inside.acceptors.items (slice_set c.self.inside.desks.items 0 c.open_exchange-opened.new.desk) c.self.inside.callers.items c.open_exchange-opened.new.flow c.open_exchange-opened.new.record)
 step_err g c = record {
   desk = c.index_mut.result.now;
-  may = may_ask (view_of c.self.inside.config.proposers c.self.inside.council c.self.inside.acceptors.items c.self.inside.desks.items c.self.inside.callers.items c.self.inside.flow c.self.inside.record) c.args.self.now (question_of c.args.what) c.index_mut.result.now c.self.invariant.safe c.self.view_is c.requires (at_place c.self.inside.desks.items 0 0 c.index_mut.result.now refl (omega (arith, c.self.invariant.safe.desks)) c.index_mut.ensures.value);
-  asks = asks_not (meaning g.S.Shelf.contents g.S.Shelf.tells g.S.Shelf.may_leave g.S.Shelf.fault_count g.V.Disk.tells g.V.Disk.may_leave g.V.Disk.fault_count) (view_of c.self.inside.config.proposers c.self.inside.council c.self.inside.acceptors.items c.self.inside.desks.items c.self.inside.callers.items c.self.inside.flow c.self.inside.record) (view_of c.self.inside.config.proposers c.tell.new.self c.self.inside.acceptors.items (slice_set c.self.inside.desks.items 0 c.open_exchange-opened.new.desk) c.self.inside.callers.items c.open_exchange-opened.new.flow c.open_exchange-opened.new.record) (question_of c.args.what) c.index_mut.result.now c.open_exchange-opened.new.desk (length c.self.inside.record.marks + c.reserved_in_all-reserved.result + length c.everyone-members.result) c.in-Err.refusal (at_place c.self.inside.desks.items 0 0 c.index_mut.result.now refl (omega (arith, c.self.invariant.safe.desks)) c.index_mut.ensures.value)
+  may = may_ask (view_of c.self.inside.config.proposers c.self.inside.council c.self.inside.acceptors.items c.self.inside.desks.items c.self.inside.callers.items c.self.inside.flow c.self.inside.record) c.args.self.now (question_of c.args.what) c.index_mut.result.now c.self.invariant.safe c.self.view_is c.requires (at_place c.self.inside.desks.items 0 0 c.index_mut.result.now refl (omega (arith, c.self.invariant.safe.sound.desks)) c.index_mut.ensures.value);
+  asks = asks_not (meaning g.S.Shelf.contents g.S.Shelf.tells g.S.Shelf.may_leave g.S.Shelf.fault_count g.V.Disk.tells g.V.Disk.may_leave g.V.Disk.fault_count) (view_of c.self.inside.config.proposers c.self.inside.council c.self.inside.acceptors.items c.self.inside.desks.items c.self.inside.callers.items c.self.inside.flow c.self.inside.record) (view_of c.self.inside.config.proposers c.tell.new.self c.self.inside.acceptors.items (slice_set c.self.inside.desks.items 0 c.open_exchange-opened.new.desk) c.self.inside.callers.items c.open_exchange-opened.new.flow c.open_exchange-opened.new.record) (question_of c.args.what) c.index_mut.result.now c.open_exchange-opened.new.desk (length c.self.inside.record.marks + c.reserved_in_all-reserved.result + length c.everyone-members.result) c.in-Err.refusal (at_place c.self.inside.desks.items 0 0 c.index_mut.result.now refl (omega (arith, c.self.invariant.safe.sound.desks)) c.index_mut.ensures.value)
       (omega (arith, c.reserved_in_all-reserved.ensures, ap (sum_by reserved_of) c.deref.ensures.value, sum_seen c.self.inside.callers.items, ap (λ (l : List ℕ). length l) (c.everyone-members.ensures ∙ ap (λ (e : Era). union_of e.prep e.acc) (c.era.ensures ∙ ap (λ (v : View g.row.S.Denot g.row.V.Denot). era_at v 0) (sym c.self.view_is))))) c.in-Err.ensures.refused
       (refused_seen c.self.inside.config.proposers c.self.inside.council c.tell.new.self c.self.inside.acceptors.items c.self.inside.desks.items c.open_exchange-opened.new.desk c.self.inside.callers.items c.self.inside.flow c.open_exchange-opened.new.flow c.self.inside.record c.open_exchange-opened.new.record (op.Stopped c.copy_of.result) c.tell.ensures.eras c.tell.ensures.told c.in-Err.ensures.not_sent c.in-Err.ensures.marks
       ∙ ap (λ (a : Answer). told_view (with_desk (view_of c.self.inside.config.proposers c.self.inside.council c.self.inside.acceptors.items c.self.inside.desks.items c.self.inside.callers.items c.self.inside.flow c.self.inside.record) 0 c.open_exchange-opened.new.desk) (op.Stopped a)) c.copy_of.ensures);
@@ -71,7 +71,7 @@ step_err g c = record {
 pub invariant_of-self-in-Err : goal.invariant_of-self-in-Err
 invariant_of-self-in-Err g c =
     asked_world (view_of c.self.inside.config.proposers c.self.inside.council c.self.inside.acceptors.items c.self.inside.desks.items c.self.inside.callers.items c.self.inside.flow c.self.inside.record) (view_of c.self.inside.config.proposers c.tell.new.self c.self.inside.acceptors.items (slice_set c.self.inside.desks.items 0 c.open_exchange-opened.new.desk) c.self.inside.callers.items c.open_exchange-opened.new.flow c.open_exchange-opened.new.record) c.open_exchange-opened.new.desk c.self.inside.callers.items c.self.inside.record.room c.open_exchange-opened.new.record.room c.self.invariant
-    (idle_then (disks g.V.Disk.tells g.V.Disk.may_leave g.V.Disk.fault_count) c.index_mut.result.now c.open_exchange-opened.new.desk _ c.in-Err.refusal (idle_first (view_of c.self.inside.config.proposers c.self.inside.council c.self.inside.acceptors.items c.self.inside.desks.items c.self.inside.callers.items c.self.inside.flow c.self.inside.record) c.args.self.now c.index_mut.result.now c.self.invariant.safe c.self.view_is c.requires.idle (at_place c.self.inside.desks.items 0 0 c.index_mut.result.now refl (omega (arith, c.self.invariant.safe.desks)) c.index_mut.ensures.value)) c.in-Err.ensures.refused) refl
+    (idle_then (disks g.V.Disk.tells g.V.Disk.may_leave g.V.Disk.fault_count) c.index_mut.result.now c.open_exchange-opened.new.desk _ c.in-Err.refusal (idle_first (view_of c.self.inside.config.proposers c.self.inside.council c.self.inside.acceptors.items c.self.inside.desks.items c.self.inside.callers.items c.self.inside.flow c.self.inside.record) c.args.self.now c.index_mut.result.now c.self.invariant.safe c.self.view_is c.requires.idle (at_place c.self.inside.desks.items 0 0 c.index_mut.result.now refl (omega (arith, c.self.invariant.safe.sound.desks)) c.index_mut.ensures.value)) c.in-Err.ensures.refused) refl
     (steps_are_safe (meaning g.S.Shelf.contents g.S.Shelf.tells g.S.Shelf.may_leave g.S.Shelf.fault_count g.V.Disk.tells g.V.Disk.may_leave g.V.Disk.fault_count) _ (step.AskAll (question_of c.args.what)) _ c.self.invariant.safe (step_err g c)) (remembered_then (meaning g.S.Shelf.contents g.S.Shelf.tells g.S.Shelf.may_leave g.S.Shelf.fault_count g.V.Disk.tells g.V.Disk.may_leave g.V.Disk.fault_count) (step.AskAll (question_of c.args.what)) (step_err g c) c.self.invariant.remembered)
     (omega (arith, c.self.invariant.room, c.in-Err.ensures.grows, ap reserved_by c.tell.ensures.told, told_reserves (council_view c.self.inside.council).order (op.Stopped c.copy_of.result)))
 

@@ -24,7 +24,7 @@ use Rattle.cas_world.proofs.world.World.begin.Goals as goal
 pub make_room-requires-clause-few : goal.make_room-requires-clause-few
 make_room-requires-clause-few g c =
     let all : sum_by reserved_of c.deref.result.now ≡ sum_by reserved_of c.self.inside.callers.items = ap (λ (l : List Caller). sum_by reserved_of l) c.deref.ensures.value in
-    omega (arith, all, sum_seen c.self.inside.callers.items, c.self.invariant.safe.room)
+    omega (arith, all, sum_seen c.self.inside.callers.items, c.self.invariant.safe.sound.room)
 
 -- ---- no room was made
 over_full : (g : Over) (c : goal.After-self-1 g) → c.in-Err.refusal ≡ answer.RecordFull → 1000000 < length c.self.inside.record.marks + reserved_beside c.self.inside.callers.items c.args.caller + reserved_by (council_view c.self.inside.council) + round_marks (era_in c.self.inside.council.eras.0 c.args.caller)

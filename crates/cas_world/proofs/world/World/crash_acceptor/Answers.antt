@@ -14,7 +14,7 @@ crashes : (g : Over) (c : goal.After-self-1 g) → StepCrashAcceptor (meaning g.
 crashes g c =
     let same : c.from.result ≡ c.args.id = c.from.ensures ∙ c.number.ensures.value in
     step.crashes c.index_mut.result.now c.crash.new.self
-    (at_place c.self.inside.acceptors.items c.from.result c.args.id c.index_mut.result.now same (omega (arith, c.self.invariant.safe.acceptors, c.number.ensures.value, c.number.ensures.within)) c.index_mut.ensures.value)
+    (at_place c.self.inside.acceptors.items c.from.result c.args.id c.index_mut.result.now same (omega (arith, c.self.invariant.safe.sound.acceptors, c.number.ensures.value, c.number.ensures.within)) c.index_mut.ensures.value)
     (record { acceptor = same_but c.index_mut.result.now c.crash.new.self true c.crash.ensures.same.0 c.crash.ensures.same.1 c.crash.ensures.down; settled = c.crash.ensures.settled; never_falls = c.crash.ensures.never_falls })
     (ap (λ (i : ℕ). view_of c.self.inside.config.proposers c.self.inside.council (slice_set c.self.inside.acceptors.items i c.crash.new.self) c.self.inside.desks.items c.self.inside.callers.items c.self.inside.flow c.self.inside.record) same)
 

@@ -4,12 +4,13 @@ use Rattle.std.proofs.lemmas.List.{length-map}
 use Rattle.cas_flow.specs.Flow.{FlowView, abandoned}
 use Rattle.cas_proposer.specs.Desk.{DeskView}
 use Rattle.cas_vault.specs.Vault.{disk_of}
-use Rattle.cas_cluster.specs.Step.{CrashesDesk}
+use Rattle.cas_cluster.specs.StepStops.{CrashesDesk}
 use Rattle.cas_cluster.specs.StepDesks.{Crashes}
 use Rattle.cas_cluster.specs.View.{View, IsAt, meaning}
 use Rattle.cas_cluster.proofs.Places.{at_one}
-use Rattle.cas_cluster.proofs.SafeStops.{call_reserves_at, crashed_desk_safe}
-use Rattle.cas_cluster.proofs.Steps.{crashed_desk}
+use Rattle.cas_cluster.proofs.SafeStops.{call_reserves_at}
+use Rattle.cas_cluster.proofs.SafeSteps.{crashed_desk_safe}
+use Rattle.cas_cluster.proofs.Remembering.{crashed_desk}
 use Rattle.cas_world.specs.declared.call.Caller.{Caller}
 use Rattle.cas_world.specs.declared.call.OpenCall.{OpenCall}
 use Rattle.cas_world.specs.World.{view_of, call_view, caller_view}
@@ -22,12 +23,12 @@ use Rattle.cas_world.proofs.world.World.crash_desk.Goals as goal
 -- ---- no round was open
 at_desk : (g : Over) (c : goal.Else-closes g) → IsAt c.self.inside.desks.items c.args.proposer c.index_mut.result.now
 at_desk g c = at_place c.self.inside.desks.items c.from-place.result c.args.proposer c.index_mut.result.now c.from-place.ensures
-    (omega (arith, c.self.invariant.safe.desks, c.requires, ap (λ (v : View _ _). v.greatest) c.self.view_is)) c.index_mut.ensures.value
+    (omega (arith, c.self.invariant.safe.sound.desks, c.requires, ap (λ (v : View _ _). v.greatest) c.self.view_is)) c.index_mut.ensures.value
 
 none_open : (g : Over) (c : goal.Else-closes g) → c.index_mut.result.now.round ≡ None
 none_open g c =
     let at_index : IsAt c.self.inside.desks.items c.args.proposer c.index.result.now = at_place c.self.inside.desks.items c.from-place.result c.args.proposer c.index.result.now c.from-place.ensures
-    (omega (arith, c.self.invariant.safe.desks, c.requires, ap (λ (v : View _ _). v.greatest) c.self.view_is)) c.index.ensures in
+    (omega (arith, c.self.invariant.safe.sound.desks, c.requires, ap (λ (v : View _ _). v.greatest) c.self.view_is)) c.index.ensures in
     ap (λ (d : DeskView _). d.round) (at_one c.self.inside.desks.items c.args.proposer (at_desk g c) at_index) ∙ not_lent (λ one. one.now) c.round.result c.index.result.now.round c.round.ensures (sym c.if-closes.ensures)
 
 crashes : (g : Over) (c : goal.Else-closes g) → Crashes (meaning {S = g.row.S.Denot} g.S.Shelf.contents g.S.Shelf.tells g.S.Shelf.may_leave g.S.Shelf.fault_count g.V.Disk.tells g.V.Disk.may_leave g.V.Disk.fault_count).disks c.index_mut.result.now c.crash.new.self
@@ -64,7 +65,7 @@ found g c = open_in (λ one. one.now) c.self.inside.config.proposers c.self.insi
 new_caller : (g : Over) (c : goal.After-self-then-closes-1 g) → c.close_round.new.self ≡ crashed_caller c.index_mut-then-closes.result.now (found g c).call
 new_caller g c =
     let at_read = at_place c.self.inside.callers.items c.from-place.result c.args.proposer c.index-then-closes.result.now c.from-place.ensures
-    (omega (arith, c.self.invariant.safe.callers, c.requires, ap (λ (v : View _ _). v.greatest) c.self.view_is, length-map c.self.inside.callers.items caller_view)) c.index-then-closes.ensures in
+    (omega (arith, c.self.invariant.safe.sound.callers, c.requires, ap (λ (v : View _ _). v.greatest) c.self.view_is, length-map c.self.inside.callers.items caller_view)) c.index-then-closes.ensures in
     closed_is c.index_mut-then-closes.result.now c.index-then-closes.result.now c.close_round.new.self (found g c).call c.crash_answer.result c.has_proposed-proposed.result (found g c).is_open
     (at_one c.self.inside.callers.items c.args.proposer at_read (found g c).at_caller) c.has_proposed-proposed.ensures c.crash_answer.ensures c.close_round.ensures
 
@@ -89,14 +90,14 @@ closes g c =
 
 pub invariant_of-self : goal.invariant_of-self
 invariant_of-self g c = record {
-  safe = crashed_desk_safe _ _ c.args.proposer _ c.self.invariant.safe (closes g c);
-  remembered = λ shelves disks. crashed_desk _ _ c.args.proposer _ disks (c.self.invariant.remembered shelves disks) (closes g c);
+  safe = crashed_desk_safe (meaning g.S.Shelf.contents g.S.Shelf.tells g.S.Shelf.may_leave g.S.Shelf.fault_count g.V.Disk.tells g.V.Disk.may_leave g.V.Disk.fault_count) _ c.args.proposer _ c.self.invariant.safe (closes g c);
+  remembered = λ shelves disks. crashed_desk (meaning g.S.Shelf.contents g.S.Shelf.tells g.S.Shelf.may_leave g.S.Shelf.fault_count g.V.Disk.tells g.V.Disk.may_leave g.V.Disk.fault_count) _ c.args.proposer _ disks (c.self.invariant.remembered shelves disks) (closes g c);
   room = omega (
     arith,
     c.self.invariant.room,
     room_closed c.self.inside.callers.items c.from-place.result c.index_mut-then-closes.result.now c.close_round.new.self (found g c).call
         (subst (λ (i : ℕ). IsAt c.self.inside.callers.items i c.index_mut-then-closes.result.now) (sym c.from-place.ensures) (found g c).at_caller) (found g c).is_open
-        (call_reserves_at _ c.args.proposer (caller_view c.index_mut-then-closes.result.now) (call_view (found g c).call) c.index_mut.result.now c.self.invariant.safe
+        (call_reserves_at _ c.args.proposer (caller_view c.index_mut-then-closes.result.now) (call_view (found g c).call) c.index_mut.result.now c.self.invariant.safe.sound
         (at_map caller_view c.self.inside.callers.items c.args.proposer c.index_mut-then-closes.result.now (found g c).at_caller) (ap (λ (o : Option OpenCall). option_map call_view o) (found g c).is_open) (found g c).at_desk)
         (new_caller g c),
   );
@@ -105,14 +106,14 @@ invariant_of-self g c = record {
 
 pub invariant_of-self-else-closes : goal.invariant_of-self-else-closes
 invariant_of-self-else-closes g c = record {
-  safe = crashed_desk_safe _ _ c.args.proposer _ c.self.invariant.safe (idles g c);
-  remembered = λ shelves disks. crashed_desk _ _ c.args.proposer _ disks (c.self.invariant.remembered shelves disks) (idles g c);
+  safe = crashed_desk_safe (meaning g.S.Shelf.contents g.S.Shelf.tells g.S.Shelf.may_leave g.S.Shelf.fault_count g.V.Disk.tells g.V.Disk.may_leave g.V.Disk.fault_count) _ c.args.proposer _ c.self.invariant.safe (idles g c);
+  remembered = λ shelves disks. crashed_desk (meaning g.S.Shelf.contents g.S.Shelf.tells g.S.Shelf.may_leave g.S.Shelf.fault_count g.V.Disk.tells g.V.Disk.may_leave g.V.Disk.fault_count) _ c.args.proposer _ disks (c.self.invariant.remembered shelves disks) (idles g c);
   room = c.self.invariant.room;
   copies = copies_closed c.self.inside.desks.items c.self.inside.callers.items c.from-place.result c.crash.new.self (ap (λ (d : DeskView _). d.round) c.crash.ensures.crashed) c.self.invariant.copies;
 }
 
 pub returns-then-closes : goal.returns-then-closes
-returns-then-closes g c = crash_seen c.args.proposer c.self.view_is (closes g c)
+returns-then-closes g c = crash_seen (meaning g.S.Shelf.contents g.S.Shelf.tells g.S.Shelf.may_leave g.S.Shelf.fault_count g.V.Disk.tells g.V.Disk.may_leave g.V.Disk.fault_count) c.args.proposer c.self.view_is (closes g c)
 
 pub returns-else-closes : goal.returns-else-closes
-returns-else-closes g c = crash_seen c.args.proposer c.self.view_is (idles g c)
+returns-else-closes g c = crash_seen (meaning g.S.Shelf.contents g.S.Shelf.tells g.S.Shelf.may_leave g.S.Shelf.fault_count g.V.Disk.tells g.V.Disk.may_leave g.V.Disk.fault_count) c.args.proposer c.self.view_is (idles g c)

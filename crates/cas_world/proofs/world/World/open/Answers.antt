@@ -7,6 +7,7 @@ use Rattle.cas_quorum.specs.Era.{majority_era}
 use Rattle.cas_cluster.specs.View.{IsAt, meaning}
 use Rattle.cas_vault.specs.Vault.{disk_of}
 use Rattle.cas_world.specs.Council.{opening_council}
+use Rattle.cas_world.specs.Opening.{members_to}
 use Rattle.cas_world.specs.Opening as opening
 use Rattle.cas_world.specs.Opening.{unstarted, shelves_of, disks_of, AllStart, SomeDiskFails}
 use Rattle.cas_world.proofs.Lists.{unstarted_at, unstarted_places}
@@ -49,19 +50,19 @@ pub invariant_of-result-in-Ok-start : goal.invariant_of-result-in-Ok-start
 invariant_of-result-in-Ok-start g c =
     is_world (meaning g.S.Shelf.contents g.S.Shelf.tells g.S.Shelf.may_leave g.S.Shelf.fault_count g.V.Disk.tells g.V.Disk.may_leave g.V.Disk.fault_count) g.S.Shelf.fault_count g.V.Disk.fault_count c.args.config.acceptors c.args.config.proposers c.args.shelves.items c.args.vaults.items c.new-in-Ok-start.result
     c.start.new.acceptors.items c.start.new.desks.items c.in-Ok.lists.callers.items c.in-Ok.lists.flow c.new-in-Ok-start-2.result (reverse c.start.new.disks.items) c.requires.some c.requires.few c.requires.proposers (sym c.args.shelves.ok.0 ∙ c.requires.shelves)
-    (starts g (goal.at.invariant_of-result-in-Ok-start g c).In-Ok-start) (c.new-in-Ok-start.ensures ∙ ap opening_council (c.majority.ensures.value ∙ ap (majority_era 0) c.first_members.ensures)) (c.in-Ok.ensures {u = tt}).callers (c.in-Ok.ensures {u = tt}).flow c.new-in-Ok-start-2.ensures
+    (starts g (goal.at.invariant_of-result-in-Ok-start g c).In-Ok-start) (c.new-in-Ok-start.ensures ∙ ap (λ (e : _). opening_council e c.first_members-members.result) (c.majority.ensures.value ∙ ap (majority_era 0) c.first_members-members.ensures) ∙ ap (opening_council (majority_era 0 (members_to c.args.config.acceptors))) c.first_members-members.ensures) (c.in-Ok.ensures {u = tt}).callers (c.in-Ok.ensures {u = tt}).flow c.new-in-Ok-start-2.ensures
 
 pub returns-in-Ok-start-clause-opening : goal.returns-in-Ok-start-clause-opening
 returns-in-Ok-start-clause-opening g c =
     is_opening (meaning g.S.Shelf.contents g.S.Shelf.tells g.S.Shelf.may_leave g.S.Shelf.fault_count g.V.Disk.tells g.V.Disk.may_leave g.V.Disk.fault_count) g.S.Shelf.fault_count g.V.Disk.fault_count c.args.config.acceptors c.args.config.proposers c.args.shelves.items c.args.vaults.items c.new-in-Ok-start.result
     c.start.new.acceptors.items c.start.new.desks.items c.in-Ok.lists.callers.items c.in-Ok.lists.flow c.new-in-Ok-start-2.result (reverse c.start.new.disks.items) c.requires.some c.requires.few c.requires.proposers (sym c.args.shelves.ok.0 ∙ c.requires.shelves)
-    (starts g (goal.at.returns-in-Ok-start-clause-opening g c).In-Ok-start) (c.new-in-Ok-start.ensures ∙ ap opening_council (c.majority.ensures.value ∙ ap (majority_era 0) c.first_members.ensures)) (c.in-Ok.ensures {u = tt}).callers (c.in-Ok.ensures {u = tt}).flow c.new-in-Ok-start-2.ensures
+    (starts g (goal.at.returns-in-Ok-start-clause-opening g c).In-Ok-start) (c.new-in-Ok-start.ensures ∙ ap (λ (e : _). opening_council e c.first_members-members.result) (c.majority.ensures.value ∙ ap (majority_era 0) c.first_members-members.ensures) ∙ ap (opening_council (majority_era 0 (members_to c.args.config.acceptors))) c.first_members-members.ensures) (c.in-Ok.ensures {u = tt}).callers (c.in-Ok.ensures {u = tt}).flow c.new-in-Ok-start-2.ensures
 
 pub returns-in-Ok-start-clause-places : goal.returns-in-Ok-start-clause-places
 returns-in-Ok-start-clause-places g c =
     has_places (meaning g.S.Shelf.contents g.S.Shelf.tells g.S.Shelf.may_leave g.S.Shelf.fault_count g.V.Disk.tells g.V.Disk.may_leave g.V.Disk.fault_count) g.S.Shelf.fault_count g.V.Disk.fault_count c.args.config.acceptors c.args.config.proposers c.args.shelves.items c.args.vaults.items c.new-in-Ok-start.result
     c.start.new.acceptors.items c.start.new.desks.items c.in-Ok.lists.callers.items c.in-Ok.lists.flow c.new-in-Ok-start-2.result (reverse c.start.new.disks.items) c.requires.some c.requires.few c.requires.proposers (sym c.args.shelves.ok.0 ∙ c.requires.shelves)
-    (starts g (goal.at.returns-in-Ok-start-clause-places g c).In-Ok-start) (c.new-in-Ok-start.ensures ∙ ap opening_council (c.majority.ensures.value ∙ ap (majority_era 0) c.first_members.ensures)) (c.in-Ok.ensures {u = tt}).callers (c.in-Ok.ensures {u = tt}).flow c.new-in-Ok-start-2.ensures
+    (starts g (goal.at.returns-in-Ok-start-clause-places g c).In-Ok-start) (c.new-in-Ok-start.ensures ∙ ap (λ (e : _). opening_council e c.first_members-members.result) (c.majority.ensures.value ∙ ap (majority_era 0) c.first_members-members.ensures) ∙ ap (opening_council (majority_era 0 (members_to c.args.config.acceptors))) c.first_members-members.ensures) (c.in-Ok.ensures {u = tt}).callers (c.in-Ok.ensures {u = tt}).flow c.new-in-Ok-start-2.ensures
 
 pub returns-in-Ok-start-clause-vaults : goal.returns-in-Ok-start-clause-vaults
 returns-in-Ok-start-clause-vaults g c = (starts g (goal.at.returns-in-Ok-start-clause-vaults g c).In-Ok-start).made

@@ -8,4 +8,4 @@ returns-clause-legal g c shelves vaults = remembered_legal _ _ (c.self.invariant
 
 pub returns-clause-all_shelves : goal.returns-clause-all_shelves
 returns-clause-all_shelves g c =
-    c.give_shelves.new.shelves.ok.0 ∙ (ap (λ (l : List _). length l) c.give_shelves.ensures ∙ (length-map c.self.inside.acceptors.items (λ a. a.shelf) ∙ c.self.invariant.safe.acceptors))
+    c.give_shelves.new.shelves.ok.0 ∙ (ap (λ (l : List _). length l) c.give_shelves.ensures ∙ (length-map c.self.inside.acceptors.items (λ a. a.shelf) ∙ c.self.invariant.safe.sound.acceptors))

@@ -20,7 +20,7 @@ restarts g c =
     (view_of c.self.inside.config.proposers c.self.inside.council c.self.inside.acceptors.items c.self.inside.desks.items c.self.inside.callers.items c.self.inside.flow c.self.inside.record) c.args.id
     (view_of c.self.inside.config.proposers c.self.inside.council (slice_set c.self.inside.acceptors.items i c.restart.new.self) c.self.inside.desks.items c.self.inside.callers.items c.self.inside.flow c.self.inside.record)) (sym same)
     (restarted _ _ c.args.id c.index_mut.result.now c.restart.new.self c.restart.result
-    (at_place c.self.inside.acceptors.items c.from.result c.args.id c.index_mut.result.now same (omega (arith, c.self.invariant.safe.acceptors, c.number.ensures.value, c.number.ensures.within)) c.index_mut.ensures.value)
+    (at_place c.self.inside.acceptors.items c.from.result c.args.id c.index_mut.result.now same (omega (arith, c.self.invariant.safe.sound.acceptors, c.number.ensures.value, c.number.ensures.within)) c.index_mut.ensures.value)
     by.same by.up by.still_down (λ up. (by.unchanged up).1) by.started by.not_started by.kept by.afresh by.reopened
     (λ tells started. left_now g.S.Shelf.moment g.S.Shelf.left_since g.S.Shelf.may_leave _ _ _ (λ t left later may. g.met.S.Shelf.counts_now _ t left tells later may) (by.any_moment tells started)) by.cause.never_falls)
 
@@ -40,6 +40,6 @@ returns-clause-tells g c was now at_was at_now =
     let same : c.from.result ≡ c.args.id = c.from.ensures ∙ c.number.ensures.value in
     let by = c.restart.ensures in
     acceptor_tells (shelves g.S.Shelf.contents g.S.Shelf.tells g.S.Shelf.may_leave g.S.Shelf.fault_count) c.self.inside.acceptors.items c.from.result c.args.id c.index_mut.result.now c.restart.new.self was now c.restart.result same
-    (at_place c.self.inside.acceptors.items c.from.result c.args.id c.index_mut.result.now same (omega (arith, c.self.invariant.safe.acceptors, c.number.ensures.value, c.number.ensures.within)) c.index_mut.ensures.value)
+    (at_place c.self.inside.acceptors.items c.from.result c.args.id c.index_mut.result.now same (omega (arith, c.self.invariant.safe.sound.acceptors, c.number.ensures.value, c.number.ensures.within)) c.index_mut.ensures.value)
     (subst (λ (v : View _ _). IsAt v.acceptors c.args.id was) (sym c.self.view_is) at_was) at_now
     (record { up = by.up; down = by.still_down; cause = by.cause; foreign = by.foreign; not_full = by.not_full })

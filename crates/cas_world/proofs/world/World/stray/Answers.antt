@@ -19,7 +19,7 @@ use Rattle.cas_world.proofs.world.World.stray.Goals.{in-Ok, in-Err}
 -- ---- how many marks are made and reserved
 -- src/stray.rt:50:13
 pub reserved_in_all-reserved-requires : goal.reserved_in_all-reserved-requires
-reserved_in_all-reserved-requires g c = reserved_fits c.self.inside.callers.items c.deref.result.now c.self.inside.council c.deref.ensures.value (omega (arith, c.self.invariant.safe.room))
+reserved_in_all-reserved-requires g c = reserved_fits c.self.inside.callers.items c.deref.result.now c.self.inside.council c.deref.ensures.value (omega (arith, c.self.invariant.safe.sound.room))
 
 -- src/stray.rt:51:12
 pub overflow_add-marks : goal.overflow_add-marks
