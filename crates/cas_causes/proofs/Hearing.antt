@@ -85,8 +85,8 @@ begin_passes {S} {V} m old new id caller key program other by = both_nothing old
     in_round (calls.loses desk now ballot at none up loses is) = passes_other by.middle new id caller now other (ap (λ (w : View S V). w.desks) is)
 
 no_begin_passes : {S V : Type 0} (m : Meaning S V) (old new : View S V) (id caller : ℕ) (key : List ℕ) → id ≢ caller → calls.RefusesCall m old caller key new → Something old new id
-no_begin_passes {S} {V} m old new id caller key other (calls.stays is) = same_desks old new id (ap (λ (w : View S V). w.desks) is)
-no_begin_passes {S} {V} m old new id caller key other (calls.loses at_caller desk now ballot at_it at_desk none up loses is) = other_desk old new id caller now other (ap (λ (w : View S V). w.desks) is)
+no_begin_passes {S} {V} m old new id caller key other (calls.stays told council why rescan is) = same_desks old new id (ap (λ (w : View S V). w.desks) is)
+no_begin_passes {S} {V} m old new id caller key other (calls.loses at_caller desk now ballot council at_it at_desk none up loses rescan is) = other_desk old new id caller now other (ap (λ (w : View S V). w.desks) is)
 
 propose_passes : {S V : Type 0} (m : Meaning S V) (old new : View S V) (id proposer : ℕ) → id ≢ proposer → StepPropose m old proposer new → Something old new id
 propose_passes {S} {V} m old new id proposer other by = in_phase by.at_round.of_call by.at_round.desk by.at_round.round by.proposes
@@ -196,7 +196,7 @@ exchange_passes {S} {V} m old new id v by = in_turn by.turn
     in_turn (council.answers request acceptor now reply fall front_is there table is) = same_desks old new id (ap (λ (w : View S V). w.desks) is)
     in_turn (council.finds_down request acceptor fall front_is there down is) = same_desks old new id (ap (λ (w : View S V). w.desks) is)
     in_turn (council.brings_down request acceptor now fall front_is there stops is) = same_desks old new id (ap (λ (w : View S V). w.desks) is)
-    in_turn (council.arrives reply fall front_is is) = same_desks old new id (ap (λ (w : View S V). w.desks) is)
+    in_turn (council.arrives reply fall front_is to_it is) = same_desks old new id (ap (λ (w : View S V). w.desks) is)
 
 gather_passes : {S V : Type 0} (old new : View S V) (id : ℕ) → StepGather old new → Something old new id
 gather_passes {S} {V} old new id by = in_gather by.gathers
@@ -204,6 +204,8 @@ gather_passes {S} {V} old new id by = in_gather by.gathers
     in_gather : council.Gathers old by.at.exchange new → Something old new id
     in_gather (council.crashed crashed is) = same_desks old new id (ap (λ (w : View S V). w.desks) is)
     in_gather (council.probed key found up question found_is is) = same_desks old new id (ap (λ (w : View S V). w.desks) is)
+    in_gather (council.lists of listing up enough on is) = same_desks old new id (ap (λ (w : View S V). w.desks) is)
+    in_gather (council.is_short of short up missing is) = same_desks old new id (ap (λ (w : View S V). w.desks) is)
     in_gather (council.no_memory up is) = same_desks old new id (ap (λ (w : View S V). w.desks) is)
 
 tell_passes : {S V : Type 0} (old new : View S V) (id : ℕ) (answer : OpAnswer) → StepTell old answer new → Something old new id
@@ -269,5 +271,6 @@ steps m old new id (step.AskAll question) not_own by = ask_passes m old new id q
 steps m old new id (step.TurnExchange v) not_own by = exchange_passes m old new id v by
 steps {S} {V} m old new id step.RefuseTurnExchange not_own by = both_nothing old by.middle new id (no_room_passes m old by.middle id by.refuses) (passes_same by.middle new id (ap (λ (w : View S V). w.desks) by.view))
 steps m old new id step.Gather not_own by = gather_passes old new id by
+steps {S} {V} m old new id step.RefuseKey not_own by = same_desks old new id (ap (λ (w : View S V). w.desks) by.view)
 steps m old new id step.OpenPlan not_own by = plan_passes m old new id by
 steps m old new id (step.EnterEra proposer) not_own by = enter_passes m old new id proposer (λ is. not_own (sym is)) by

@@ -117,8 +117,8 @@ begin_stays {S} {V} m old new id caller key program other by = stays_both old by
     in_round (calls.loses desk now ballot at none_open up loses is) = told _ (ap (λ (w : View S V). w.flow) is) (ap (λ (w : View S V). w.callers) is)
 
 no_begin_stays : {S V : Type 0} (m : Meaning S V) (old new : View S V) (id caller : ℕ) (key : List ℕ) → calls.RefusesCall m old caller key new → Stays old new id
-no_begin_stays {S} {V} m old new id caller key (calls.stays is) = stays_same old new id (ap (λ (w : View S V). w.flow) is) (ap (λ (w : View S V). w.callers) is)
-no_begin_stays {S} {V} m old new id caller key (calls.loses at_caller desk now ballot at_it at_desk none_open up loses is) = stays_same old new id (ap (λ (w : View S V). w.flow) is) (ap (λ (w : View S V). w.callers) is)
+no_begin_stays {S} {V} m old new id caller key (calls.stays told council why rescan is) = stays_same old new id (ap (λ (w : View S V). w.flow) is) (ap (λ (w : View S V). w.callers) is)
+no_begin_stays {S} {V} m old new id caller key (calls.loses at_caller desk now ballot council at_it at_desk none_open up loses rescan is) = stays_same old new id (ap (λ (w : View S V). w.flow) is) (ap (λ (w : View S V). w.callers) is)
 
 propose_stays : {S V : Type 0} (m : Meaning S V) (old new : View S V) (id proposer : ℕ) → id ≢ proposer → StepPropose m old proposer new → Stays old new id
 propose_stays {S} {V} m old new id proposer other by = in_phase by.at_round.of_call by.at_round.desk by.at_round.round by.proposes
@@ -270,7 +270,7 @@ exchange_stays {S} {V} m old new id v apart by = in_turn by.turn
     in_turn (council.answers request acceptor now reply fall front_is there table is) = moves (ap (λ (w : View S V). queue_at w.flow id) is ∙ replied_other old.flow exchange_place id v reply apart) (ap (λ (w : View S V). w.callers) is)
     in_turn (council.finds_down request acceptor fall front_is there down is) = moves (ap (λ (w : View S V). queue_at w.flow id) is ∙ taken_other old.flow exchange_place id v apart) (ap (λ (w : View S V). w.callers) is)
     in_turn (council.brings_down request acceptor now fall front_is there stops is) = moves (ap (λ (w : View S V). queue_at w.flow id) is ∙ taken_other old.flow exchange_place id v apart) (ap (λ (w : View S V). w.callers) is)
-    in_turn (council.arrives reply fall front_is is) = moves (ap (λ (w : View S V). queue_at w.flow id) is ∙ taken_other old.flow exchange_place id v apart) (ap (λ (w : View S V). w.callers) is)
+    in_turn (council.arrives reply fall front_is to_it is) = moves (ap (λ (w : View S V). queue_at w.flow id) is ∙ taken_other old.flow exchange_place id v apart) (ap (λ (w : View S V). w.callers) is)
 
 gather_stays : {S V : Type 0} (old new : View S V) (id : ℕ) → StepGather old new → Stays old new id
 gather_stays {S} {V} old new id by = in_gather by.gathers
@@ -278,6 +278,8 @@ gather_stays {S} {V} old new id by = in_gather by.gathers
     in_gather : council.Gathers old by.at.exchange new → Stays old new id
     in_gather (council.crashed crashed is) = stays_same old new id (ap (λ (w : View S V). w.flow) is) (ap (λ (w : View S V). w.callers) is)
     in_gather (council.probed key found up question found_is is) = stays_same old new id (ap (λ (w : View S V). w.flow) is) (ap (λ (w : View S V). w.callers) is)
+    in_gather (council.lists of listing up enough on is) = stays_same old new id (ap (λ (w : View S V). w.flow) is) (ap (λ (w : View S V). w.callers) is)
+    in_gather (council.is_short of short up missing is) = stays_same old new id (ap (λ (w : View S V). w.flow) is) (ap (λ (w : View S V). w.callers) is)
     in_gather (council.no_memory up is) = stays_same old new id (ap (λ (w : View S V). w.flow) is) (ap (λ (w : View S V). w.callers) is)
 
 tell_stays : {S V : Type 0} (old new : View S V) (id : ℕ) (answer : OpAnswer) → id ≢ exchange_place → StepTell old answer new → Stays old new id
@@ -355,5 +357,6 @@ stays_or_turn m old new id (step.TurnExchange v) apart not_own by = inl (exchang
 stays_or_turn {S} {V} m old new id step.RefuseTurnExchange apart not_own by =
     inl (stays_both old by.middle new id (no_room_stays m old by.middle id by.refuses) (stays_same by.middle new id (ap (λ (w : View S V). w.flow) by.view) (ap (λ (w : View S V). w.callers) by.view)))
 stays_or_turn m old new id step.Gather apart not_own by = inl (gather_stays old new id by)
+stays_or_turn {S} {V} m old new id step.RefuseKey apart not_own by = inl (stays_same old new id (ap (λ (w : View S V). w.flow) by.view) (ap (λ (w : View S V). w.callers) by.view))
 stays_or_turn m old new id step.OpenPlan apart not_own by = inl (plan_stays m old new id by)
 stays_or_turn m old new id (step.EnterEra proposer) apart not_own by = inl (enter_stays m old new id proposer apart (λ is. not_own (sym is)) by)

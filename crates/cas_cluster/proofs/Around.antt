@@ -1,6 +1,6 @@
 -- What stays as it was while others go on: the desks and callers apart from those who act, the frames under way, and the acceptors. So a
 -- step of one proposer has to tell what becomes of its own desk, caller and frames alone.
-use Rattle.std.proofs.Common.{◌≡◌, ◌≤◌, ℕ, List, ◌∷◌, reverse, refl, sym, subst, ◌∙◌, inl, inr, arith}
+use Rattle.std.proofs.Common.{◌≡◌, ◌≤◌, ℕ, suc, List, ◌∷◌, reverse, refl, sym, subst, ◌∙◌, inl, inr, arith}
 use Rattle.std.specs.Prelude.{⊤, ◌⊎◌, length, slice_set}
 use Rattle.cas_flow.specs.Flow.{FlowView, queue_at}
 use Rattle.cas_flow.specs.declared.message.Message.{Message}
@@ -15,10 +15,11 @@ use Rattle.cas_record.specs.Orderly.{Orderly}
 use Rattle.cas_record.specs.Places.{Stands}
 use Rattle.cas_cluster.specs.Acceptors.{IsElsewhere}
 use Rattle.cas_cluster.specs.History.{AgreesWith, IsLogged}
-use Rattle.cas_cluster.specs.Parties.{IsAcceptorTrue, AreMessagesTrue, IsEraOf, IsDeskTrue, IsCouncilTrue, IsCallerTrue}
+use Rattle.cas_cluster.specs.Listed.{IsCouncilTrue}
+use Rattle.cas_cluster.specs.Parties.{IsAcceptorTrue, AreMessagesTrue, IsEraOf, IsDeskTrue, IsCallerTrue}
 use Rattle.cas_cluster.specs.Protocol.{Made, GlobalState, HasHistory}
 use Rattle.cas_cluster.specs.View.{Meaning, View, CallerView, IsAt, era_at, era_in}
-use Rattle.cas_cluster.proofs.Others.{IsOfOthers, council_still, messages_still, desk_still, caller_still, calls_of_others, acceptor_still, desk_more, caller_more}
+use Rattle.cas_cluster.proofs.Others.{IsOfOthers, FloorsNot, no_floor_of, council_still, messages_still, desk_still, caller_still, calls_of_others, acceptor_still, desk_more, caller_more}
 use Rattle.cas_cluster.proofs.Courses.{era_set, era_kept}
 use Rattle.cas_cluster.proofs.Places.{same_or_not, other_set}
 
@@ -31,7 +32,7 @@ pub record Parties {S V : Type 0} (m : Meaning S V) (cluster : Cluster) (log : L
   pub desks : (p : ℕ) → These p → (desk : DeskView V) (caller : CallerView) → IsAt view.desks p desk → IsAt view.callers p caller
       → IsDeskTrue m cluster log all (era_at view p).number p caller (queue_at view.flow p).messages desk
   pub callers : (p : ℕ) → These p → (caller : CallerView) → IsAt view.callers p caller → IsCallerTrue log all p caller
-  pub council : IsCouncilTrue log view.council
+  pub council : IsCouncilTrue cluster log view.council
   pub own : (p : ℕ) → AreMessagesTrue log (queue_at view.flow p).messages
   pub late : AreMessagesTrue log view.flow.late
 
@@ -48,15 +49,15 @@ parties_of m cluster global view These is = record {
 }
 
 -- they still are once the log goes on with what is of others
-pub parties_more : {S V : Type 0} (m : Meaning S V) (cluster : Cluster) (log : List Happening) (all : List Made) (view : View S V) (These : ℕ → Type 0) (h : Happening) → Orderly cluster (h ∷ log) → ((p : ℕ) → These p → IsOfOthers p h)
+pub parties_more : {S V : Type 0} (m : Meaning S V) (cluster : Cluster) (log : List Happening) (all : List Made) (view : View S V) (These : ℕ → Type 0) (h : Happening) → Orderly cluster (h ∷ log) → FloorsNot h → ((p : ℕ) → These p → IsOfOthers p h)
     → Parties m cluster log all view These → Parties m cluster (h ∷ log) all view These
-parties_more m cluster log all view These h orderly of was = record {
+parties_more m cluster log all view These h orderly none of was = record {
   greatest = was.greatest;
   few = was.few;
   eras = was.eras;
   desks = λ p these desk caller at_desk at_caller. desk_still m cluster h log all (era_at view p).number p caller (queue_at view.flow p).messages desk orderly (of p these) (was.desks p these desk caller at_desk at_caller);
   callers = λ p these caller at. caller_still h log all caller (calls_of_others h p (of p these)) (was.callers p these caller at);
-  council = council_still h log view.council was.council;
+  council = council_still cluster h log view.council none was.council;
   own = λ p. messages_still h log (queue_at view.flow p).messages (was.own p);
   late = messages_still h log view.flow.late was.late;
 }
@@ -88,7 +89,7 @@ parties_seen {S} {V} m cluster log all old new These greatest eras desks callers
       (subst (λ (f : FlowView). IsDeskTrue m cluster log all (era_at old p).number p caller (queue_at f p).messages desk) (sym flow)
       (was.desks p these desk caller (subst (λ (l : List (DeskView V)). IsAt l p desk) desks at_desk) (subst (λ (l : List CallerView). IsAt l p caller) callers at_caller)));
   callers = λ p these caller at. was.callers p these caller (subst (λ (l : List CallerView). IsAt l p caller) callers at);
-  council = subst (IsCouncilTrue log) (sym council) was.council;
+  council = subst (IsCouncilTrue cluster log) (sym council) was.council;
   own = λ p. subst (λ (f : FlowView). AreMessagesTrue log (queue_at f p).messages) (sym flow) (was.own p);
   late = subst (λ (f : FlowView). AreMessagesTrue log f.late) (sym flow) was.late;
 }
@@ -160,6 +161,9 @@ around m cluster global view id whole = record {
 abbrev pub IsOf : ℕ → Happening → Type 0
 IsOf id h = ((p : ℕ) → (p ≡ id → ⊥) → IsOfOthers p h) × ((a : ℕ) → IsElsewhere a h)
 
+floors_not : (id : ℕ) (h : Happening) → IsOf id h → FloorsNot h
+floors_not id h of = no_floor_of (suc id) (of.0 (suc id) (λ same. omega (arith, same)))
+
 -- the log goes on with it
 pub around_more : {S V : Type 0} (m : Meaning S V) (cluster : Cluster) (log : List Happening) (kept : ℕ → Contents) (all : List Made) (view : View S V) (id : ℕ) (h : Happening) → IsOf id h
     → Around m cluster (record { log = log; kept = kept; made = all }) view id → HasHistory cluster (record { log = h ∷ log; kept = kept; made = all })
@@ -168,7 +172,7 @@ around_more m cluster log kept all view id h of was history = record {
   meets = was.meets;
   history = history;
   acceptors = λ a acceptor at. acceptor_still m cluster h log a (kept a) history.lawful (of.1 a) (was.acceptors a acceptor at);
-  parties = parties_more m cluster log all view (λ p. p ≡ id → ⊥) h history.orderly of.0 was.parties;
+  parties = parties_more m cluster log all view (λ p. p ≡ id → ⊥) h history.orderly (floors_not id h of) of.0 was.parties;
 }
 
 -- and something more is made
@@ -180,7 +184,7 @@ around_made m cluster log kept all more view id h of grows was history = record 
   meets = was.meets;
   history = history;
   acceptors = λ a acceptor at. acceptor_still m cluster h log a (kept a) history.lawful (of.1 a) (was.acceptors a acceptor at);
-  parties = parties_made m cluster (h ∷ log) all more view (λ p. p ≡ id → ⊥) grows (parties_more m cluster log all view (λ p. p ≡ id → ⊥) h history.orderly of.0 was.parties);
+  parties = parties_made m cluster (h ∷ log) all more view (λ p. p ≡ id → ⊥) grows (parties_more m cluster log all view (λ p. p ≡ id → ⊥) h history.orderly (floors_not id h of) of.0 was.parties);
 }
 
 -- the proposer works in another era of the cluster
@@ -237,7 +241,7 @@ settles {S} {V} m cluster global old new id rest leaves becomes = record {
     eras = λ p low. subst (λ (l : List Era). IsEraOf cluster (era_in l p)) (sym leaves.eras) (rest.parties.eras p (subst (λ (n : ℕ). p ≤ n) leaves.greatest low));
     desks = λ p these desk caller at_desk at_caller. at_desks p desk caller at_desk at_caller (same_or_not p id);
     callers = λ p these caller at. at_callers p caller at (same_or_not p id);
-    council = subst (IsCouncilTrue global.log) (sym leaves.council) rest.parties.council;
+    council = subst (IsCouncilTrue cluster global.log) (sym leaves.council) rest.parties.council;
     own = λ p. at_own p (same_or_not p id);
     late = becomes.late;
   };

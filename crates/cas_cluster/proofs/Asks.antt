@@ -1,6 +1,6 @@
 -- What requests of a proposer's round do to what is known: each may be made, and nothing else changes.
-use Rattle.std.proofs.Common.{◌≡◌, ◌<◌, ◌≤◌, ℕ, true, List, [], ◌∷◌, refl, sym, subst, ◌∙◌, inl, inr}
-use Rattle.std.specs.Prelude.{map, Contains}
+use Rattle.std.proofs.Common.{◌≡◌, ◌<◌, ◌≤◌, ℕ, arith, true, List, [], ◌∷◌, refl, sym, subst, ◌∙◌, inl, inr}
+use Rattle.std.specs.Prelude.{map, Option, None, Some, Contains}
 use Rattle.cas_ballot.specs.declared.ballot.Ballot.{Ballot}
 use Rattle.cas_ballot.specs.Members.{has_member}
 use Rattle.cas_cache.specs.declared.ready.Ready.{Ready}
@@ -10,17 +10,22 @@ use Rattle.cas_round.proofs.Lists.{Has, has}
 use Rattle.cas_slot.specs.declared.message.Ask.TheVariants as ask
 use Rattle.cas_slot.specs.declared.message.Request.{Request}
 use Rattle.cas_vault.specs.declared.vault.Vault.{Vault}
-use Rattle.cas_record.specs.Happening.{Happening, Asked, marks_of}
+use Rattle.cas_record.specs.Happening.{Happening, Asked, Drew, marks_of}
 use Rattle.cas_record.specs.Lawful.{Cluster}
-use Rattle.cas_record.specs.Orderly.{MayAsk}
+use Rattle.cas_record.specs.Orderly.{MayAsk, IsAboveFloors}
 use Rattle.cas_record.specs.Places.{Stands, here}
+use Rattle.cas_cluster.specs.Council.{ListingView, Question, Probe, NextKeys, PlanView}
+use Rattle.cas_cluster.specs.Listed.{IsPlanTrue}
+use Rattle.cas_cluster.specs.StepCouncil.{question_to, HasTag, WhereDrawn}
+use Rattle.cas_cluster.specs.StepDesks.{GoesOn, HasKept}
+use Rattle.cas_proposer.specs.Desk.{DeskView}
 use Rattle.cas_cluster.specs.Parties.{IsMessageTrue, AreMessagesTrue, IsVaultTrue, AreReady, IsInHand, IsCallerTrue}
 use Rattle.cas_cluster.specs.Protocol.{Made, GlobalState, IsMadeAsk, IsAskable, Asks}
-use Rattle.cas_cluster.specs.View.{Meaning, View, CallerView}
+use Rattle.cas_cluster.specs.View.{DiskMeaning, Meaning, View, CallerView}
 use Rattle.cas_cluster.proofs.Around.{Around, around_more}
 use Rattle.cas_cluster.proofs.Events.{keeps}
 use Rattle.cas_cluster.proofs.Harms.{has_of_map}
-use Rattle.cas_cluster.proofs.Others.{LeavesCalls, ProposesNot, FloorsNot, AsksToRide, later, hand_still, ready_still, vault_still, messages_still, caller_still}
+use Rattle.cas_cluster.proofs.Others.{LeavesCalls, ProposesNot, FloorsNot, AsksToRide, plan_still, above_still, later, hand_still, ready_still, vault_still, messages_still, caller_still}
 
 -- each of these acceptors is asked
 abbrev pub asked_log : (ℕ → Request) → List ℕ → List Happening → List Happening
@@ -93,14 +98,32 @@ asked_around m cluster global view id f (to ∷ tos) own may around =
     around_more m cluster (asked_log f tos global.log) global.kept global.made view id (Asked (f to)) (λ p other same. other (sym same ∙ own to), λ a. tt) before
     (keeps cluster before.meets (asked_global global f tos) before.history (Asks (f to) (may tos to (inl refl))))
 
--- a request of an exchange whose tag is in hand
-pub may_probe : (cluster : Cluster) (global : GlobalState) (request : Request) (id era : ℕ) (key : List ℕ) (tag : Ballot) → request.from ≡ id → request.ask ≡ ask.Probe tag key
-    → has_member (cluster.members era) request.to ≡ true → id ≤ 16 → request.to < 64 → IsInHand global.log id era [] tag → IsAskable cluster global request
-may_probe cluster global request id era key tag from is member low small hand = record {
-  may = subst (MayAsk cluster global.log request) (sym is)
-      (record { era = era; drawn = hand.drawn; own = hand.own ∙ sym from; member = member; above = hand.above_floors });
-  made = subst (IsMadeAsk global.made) (sym is) tt;
-  from = subst (λ (n : ℕ). n ≤ 16) (sym from) low;
+-- the tag of an exchange: proposer 0 drew it in the era, above the floors of no key
+pub record IsTag (log : List Happening) (era : ℕ) (tag : Ballot) : Type 0 where
+  pub own : tag.proposer ≡ 0
+  pub drawn : Stands (Drew tag [] era) log
+  pub above : IsAboveFloors (marks_of log) [] tag
+
+pub asked_tag : (f : ℕ → Request) (tos : List ℕ) (log : List Happening) (era : ℕ) (tag : Ballot) → IsTag log era tag → IsTag (asked_log f tos log) era tag
+asked_tag f tos log era tag = asked_all f (λ l. IsTag l era tag) (λ to l was. record { own = was.own; drawn = later was.drawn; above = above_still (Asked (f to)) l (asked_none (f to)) was.above }) tos log
+
+-- a change of membership is known as before
+pub asked_plan : (cluster : Cluster) (f : ℕ → Request) (tos : List ℕ) (log : List Happening) (plan : Option PlanView) → IsPlanTrue cluster log plan → IsPlanTrue cluster (asked_log f tos log) plan
+asked_plan cluster f tos log plan = asked_all f (λ l. IsPlanTrue cluster l plan) (λ to l was. plan_still cluster (Asked (f to)) l plan (asked_none (f to)) was) tos log
+
+-- a request of an exchange with such a tag
+pub may_question : (cluster : Cluster) (global : GlobalState) (question : Question) (age era : ℕ) (tag : Ballot) (to : ℕ) → has_member (cluster.members era) to ≡ true → to < 64 → IsTag global.log era tag
+    → IsAskable cluster global (question_to age tag question to)
+may_question cluster global (Probe key) age era tag to member small is = record {
+  may = record { era = era; drawn = is.drawn; own = is.own; member = member; above = is.above };
+  made = tt;
+  from = omega arith;
+  to = small;
+}
+may_question cluster global (NextKeys places) age era tag to member small is = record {
+  may = record { era = era; drawn = is.drawn; own = is.own; member = member; above = is.above };
+  made = tt;
+  from = omega arith;
   to = small;
 }
 
@@ -114,3 +137,16 @@ may_prepare cluster global request id era key ballot from is member low small ha
   from = subst (λ (n : ℕ). n ≤ 16) (sym from) low;
   to = small;
 }
+
+-- ---- the vault of an exchange
+-- what failed where a tag was to be drawn failed
+pub where_drawn : {A : Type 0} (listing : Option ListingView) → WhereDrawn listing A → A
+where_drawn None is = is
+where_drawn (Some listing) is = absurd is
+
+pub goes_same : {V : Type 0} (m : DiskMeaning V) (vault : Vault V) → HasKept m vault vault
+goes_same m vault = record { shows = record { counter = refl; kept = refl }; goes_on = record { still_past = λ tells n past. past; era = λ tells era other is. is; never_falls = omega arith } }
+
+pub tag_goes_on : {V : Type 0} (m : DiskMeaning V) (listing : Option ListingView) (desk now : DeskView V) (tag : Ballot) → HasTag m listing desk now tag → GoesOn m desk.vault now.vault
+tag_goes_on m None desk now tag drawn = drawn.goes_on
+tag_goes_on {V} m (Some listing) desk now tag (same_tag, same_vault) = subst (λ (v : Vault V). GoesOn m desk.vault v) (sym same_vault) (goes_same m desk.vault).goes_on

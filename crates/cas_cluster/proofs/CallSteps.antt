@@ -29,7 +29,7 @@ use Rattle.cas_cluster.specs.StepCalls.{round_marks, Opens, first, again, opened
 use Rattle.cas_cluster.specs.View.{Meaning, View, CallView, CallerView, IsAt, new_call, era_at}
 use Rattle.cas_cluster.proofs.Around.{Whole, around, around_more, settles, whole_of, logged, leaves_caller}
 use Rattle.cas_cluster.proofs.Events.{keeps}
-use Rattle.cas_cluster.proofs.Others.{ProposesNot, FloorsNot, AsksToRide, ready_still, vault_still, messages_still}
+use Rattle.cas_cluster.proofs.Others.{ProposesNot, FloorsNot, AsksToRide, ready_still, vault_still, messages_still, ended_later, ended_open}
 use Rattle.cas_cluster.proofs.Places.{own_set, some_is}
 
 -- ---- calls that were not begun
@@ -143,6 +143,13 @@ opens_first {S} {V} m cluster global old id key program caller at none whole =
         harmed = omega arith;
         told = λ told same. absurd (cc same);
       });
+      ended = λ call is. elim (newest_or is.stands) [
+        | inl now ↦ absurd (cc now)
+        | inr before ↦ elim ((whole.parties.callers id tt caller at).ended call (record { proposal = is.proposal; stands = before; same_caller = is.same_caller; same_call = is.same_call })) [
+          | inl open_ ↦ absurd (cc (none, open_.0))
+          | inr ended ↦ inr (ended_later (Marked (Begun id (suc caller.number) key program)) global.log ended)
+        ]
+      ];
     }
 
 -- another round of a call that is open
@@ -176,6 +183,7 @@ opens_again {S} {V} m cluster global old id caller call reserved at is_open idle
           harmed = omega arith;
           told = λ told same. absurd (cc same);
         });
+        ended = ended_open global.log id caller.number caller.call (tried_again call reserved) was.ended;
       });
       own = whole.parties.own id;
       late = whole.parties.late;

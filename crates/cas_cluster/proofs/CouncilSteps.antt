@@ -1,21 +1,24 @@
 -- What the operator's calls do to what is logged: a call is opened and told, all members are asked, they answer, and what they told
 -- is gathered.
 use Rattle.std.proofs.Common.{◌≡◌, ◌<◌, ℕ, suc, Bool, true, false, List, [], ◌∷◌, ◌++◌, Option, None, Some, reverse, refl, sym, ap, subst, ◌∙◌, inl, inr, arith}
-use Rattle.std.specs.Prelude.{◌⊎◌, ◌||◌, zero, map, position, option_map, slice_get, slice_set}
+use Rattle.std.specs.Prelude.{⊤, ◌⊎◌, ◌||◌, ◌&&◌, ◌==◌, not, if◌then◌else◌, zero, map, position, option_map, slice_get, slice_set}
 use Rattle.std.specs.Option.{option_map_or}
-use Rattle.cas_base.proofs.Bools.{or_cases, if_true, if_false}
+use Rattle.cas_base.proofs.Bools.{or_cases, and_left, if_true, if_false}
 use Rattle.cas_ballot.specs.declared.ballot.Ballot.{Ballot}
-use Rattle.cas_ballot.specs.Members.{has_member, union_of}
+use Rattle.cas_ballot.specs.Members.{members_where, has_member, union_of}
 use Rattle.cas_ballot.proofs.MemberLemmas.{members_where_tells, IsMemberSet-members_where}
 use Rattle.cas_flow.specs.Flow.{FlowView, queue_at, taken, abandoned}
 use Rattle.cas_flow.specs.declared.message.Message.{Message}
 use Rattle.cas_cache.specs.declared.ready.Ready.{Ready}
 use Rattle.cas_change.specs.declared.state.State.{State}
 use Rattle.cas_proposer.specs.Desk.{DeskView, counter_without}
+use Rattle.cas_members.specs.declared.plan.PlanStep.TheVariants.{Settle}
+use Rattle.cas_members.specs.Plan.{next_of}
 use Rattle.cas_proposer.specs.declared.round.Round.{Round}
 use Rattle.cas_quorum.specs.declared.era.Era.{Era}
 use Rattle.cas_round.proofs.Lists.{Has}
 use Rattle.cas_slot.specs.declared.message.Ask.TheVariants as ask
+use Rattle.cas_vault.specs.declared.vault.Vault.{Vault}
 use Rattle.cas_vault.specs.Vault.{counter_of, kept_of}
 use Rattle.cas_slot.specs.declared.message.Reply.{Reply}
 use Rattle.cas_slot.specs.declared.message.Tell.{Tell}
@@ -27,8 +30,10 @@ use Rattle.cas_record.specs.declared.mark.Mark.TheVariants.{Told, Harmed}
 use Rattle.cas_record.specs.declared.operator.Asked.{Asked as OperatorAsked}
 use Rattle.cas_record.specs.declared.operator.OpAnswer.{OpAnswer}
 use Rattle.cas_record.specs.declared.operator.OpAnswer.TheVariants as told
-use Rattle.cas_record.specs.Happening.{Happening, Marked, Asked, marks_of}
-use Rattle.cas_record.specs.Lawful.{Cluster}
+use Rattle.cas_record.specs.Happening.{Happening, Marked, Asked, Drew, marks_of}
+use Rattle.cas_record.specs.Lawful.{Cluster, AllEntered}
+use Rattle.cas_record.specs.Legal.{IsProposed, IsEnded}
+use Rattle.cas_record.specs.Places.{here}
 use Rattle.cas_fate.specs.declared.fate.Verdict.{Verdict}
 use Rattle.cas_flow.specs.Queue.{QueueView}
 use Rattle.cas_cluster.specs.StepCalls.{Sends}
@@ -36,27 +41,29 @@ use Rattle.cas_cluster.specs.StepFrames.{replied_flow, votes_marked}
 use Rattle.cas_cluster.proofs.AcceptorSteps.{answered_global, answers, reply_made, stops_within}
 use Rattle.cas_cluster.proofs.Harms.{member_low, has_member_of}
 use Rattle.cas_cluster.specs.Acceptors.{IsElsewhere}
-use Rattle.cas_cluster.specs.Council.{Question, Probe, ExchangeView, Council, at_rest, exchange_place, telling, broken_off, crashed_in}
+use Rattle.cas_cluster.specs.Council.{Place, GoesOn, MemberPlace, ListingView, place_in, has_ended, Question, Probe, NextKeys, ask_of, IsReplyTo, ExchangeView, PlanView, Council, with_listing, complete_only, without_partial, at_rest, exchange_place, telling, broken_off, crashed_in}
+use Rattle.cas_cluster.specs.Listed.{AreShown, IsListingTrue, IsPlanKnown, IsPlanTrue, IsCouncilTrue}
 use Rattle.cas_cluster.specs.History.{IsLogged}
-use Rattle.cas_cluster.specs.Parties.{AreMessagesTrue, IsEraOf, IsExchangeTrue, IsCouncilTrue, IsInHand, IsOpenTrue, IsDeskTrue, IsMessageTrue, WasMade, WereTold}
+use Rattle.cas_cluster.specs.Parties.{AreMessagesTrue, IsEraOf, IsExchangeTrue, IsOpenTrue, IsDeskTrue, IsMessageTrue, WasMade, WereTold}
 use Rattle.cas_cluster.specs.Protocol.{GlobalState, HasHistory, Harms, TellsOperator, with_mark}
-use Rattle.cas_cluster.specs.StepDesks.{MayHaveDrawn, HasDrawn, LosesMemory, FailsToDraw}
+use Rattle.cas_cluster.specs.StepDesks.{MayHaveDrawn, HasDrawn, HasKept, LosesMemory, FailsToDraw}
 use Rattle.cas_cluster.specs.StepCouncil as council
-use Rattle.cas_cluster.specs.StepCouncil.{question_to, StepOrder, told_over, StepGather, Gathers, with_council, with_exchange, told_view, gathered, told_marks, harm_marks, harmed_exchange, questions_to, everyone, new_exchange, awaits, hears, harms, MayAskAll, AsksAll, StepAskAll, TurnsExchange, StepTurnExchange, StepRefuseTurnExchange}
+use Rattle.cas_cluster.specs.Listings.{ListsOn}
+use Rattle.cas_cluster.specs.StepCouncil.{asked_by, places_from, IsForQuestion, listing_in, listing_for, HasTag, WhereDrawn, begun_listing, listing_begun, plan_asked, ListsFor, listed_view, question_to, StepOrder, told_over, StepGather, Gathers, with_council, with_exchange, told_view, gathered, told_marks, harm_marks, harmed_exchange, questions_to, everyone, new_exchange, awaits, hears, harms, MayAskAll, AsksAll, StepAskAll, TurnsExchange, StepTurnExchange, StepRefuseTurnExchange}
 use Rattle.cas_cluster.specs.View.{DiskMeaning, Meaning, View, CallerView, IsAt, era_at, with_desk, with_acceptor}
 use Rattle.cas_cluster.proofs.Around.{Whole, whole_of, logged, around, settles, parties_more, Everyone, leaves_desk}
-use Rattle.cas_cluster.proofs.Asks.{asked_log, asked_global, asked_around, asked_vault, asked_caller, asked_still, asked_hand, asked_later, asked_messages, asked_marks, asked_ready, may_probe}
+use Rattle.cas_cluster.proofs.Asks.{asked_log, asked_global, asked_around, asked_vault, asked_caller, asked_still, asked_later, asked_messages, asked_marks, asked_ready, asked_plan, asked_tag, IsTag, may_question, where_drawn, goes_same}
 use Rattle.cas_cluster.proofs.Draws.{drew, drew_in_hand, drew_marks}
 use Rattle.cas_cluster.proofs.EndSteps.{lost, none_left, others_left, all_joined_true, IsQuiet, quiet_true, quiet_fails}
 use Rattle.cas_cluster.proofs.Events.{keeps}
 use Rattle.cas_cluster.proofs.FrameSteps.{marked, taken_flows, replied_flows, answer_marks, refuses_stray}
 use Rattle.cas_cluster.proofs.RoundSteps.{none_waits}
-use Rattle.cas_cluster.proofs.Others.{IsOfOthers, acceptor_still}
+use Rattle.cas_cluster.proofs.Others.{IsOfOthers, no_floor_of, acceptor_still}
 use Rattle.cas_cluster.proofs.Places.{same_or_not, some_is, at_one, contains_none, at_set, own_set, but_set, contains_append, contains_at}
 
 -- ---- what the operator has under way
 -- something else is under way, and is so
-pub counsels : {S V : Type 0} (m : Meaning S V) (cluster : Cluster) (global : GlobalState) (view : View S V) (next : Council) → IsCouncilTrue global.log next → Whole m cluster global view → Whole m cluster global (with_council view next)
+pub counsels : {S V : Type 0} (m : Meaning S V) (cluster : Cluster) (global : GlobalState) (view : View S V) (next : Council) → IsCouncilTrue cluster global.log next → Whole m cluster global view → Whole m cluster global (with_council view next)
 counsels m cluster global view next is whole = record {
   meets = whole.meets;
   history = whole.history;
@@ -118,7 +125,7 @@ whole_more m cluster global view h others elsewhere history whole = record {
   meets = whole.meets;
   history = history;
   acceptors = λ a acceptor at. acceptor_still m cluster h global.log a (global.kept a) history.lawful (elsewhere a) (whole.acceptors a acceptor at);
-  parties = parties_more m cluster global.log global.made view Everyone h history.orderly (λ p these. others p) whole.parties;
+  parties = parties_more m cluster global.log global.made view Everyone h history.orderly (no_floor_of 0 (others 0)) (λ p these. others p) whole.parties;
 }
 
 -- ---- the operator's call
@@ -130,10 +137,23 @@ orders {cluster = cluster} m old asked new is by =
 pub tells_view : {S V : Type 0} (m : Meaning S V) (cluster : Cluster) (global : GlobalState) (view : View S V) (answer : OpAnswer) → Whole m cluster global view → Whole m cluster global (told_view view answer)
 tells_view m cluster global view answer whole = counsels m cluster global view (telling view.council answer) whole.parties.council whole
 
+-- a listing that is not complete is dropped
+partial_true : (cluster : Cluster) (log : List Happening) (plan : Option PlanView) → IsPlanTrue cluster log plan → IsPlanTrue cluster log (option_map without_partial plan)
+partial_true cluster log None was = tt
+partial_true cluster log (Some plan) was = record { settled = was.settled; listing = λ listing is. by_listing plan.listing was.listing listing is }
+  where
+    by_complete : (b : Bool) (kept listing : ListingView) → (if b then Some kept else None) ≡ Some listing → kept ≡ listing
+    by_complete true kept listing is = some_is is
+    by_complete false kept listing is = absurd (cc is)
+
+    by_listing : (had : Option ListingView) → ((listing : ListingView) → had ≡ Some listing → IsListingTrue cluster log plan.progress.era.number listing) → (listing : ListingView) → complete_only had ≡ Some listing → IsListingTrue cluster log plan.progress.era.number listing
+    by_listing None were listing is = absurd (cc is)
+    by_listing (Some kept) were listing is = were listing (ap (λ (l : ListingView). Some l) (by_complete kept.complete kept listing is))
+
 -- it is over, and so is an exchange
 closes : {S V : Type 0} (m : Meaning S V) (cluster : Cluster) (global : GlobalState) (old : View S V) → Whole m cluster global old → Whole m cluster global (record (with_council old (at_rest old.council)) { flow = abandoned old.flow exchange_place })
 closes m cluster global old whole =
-    counsels m cluster global (record old { flow = abandoned old.flow exchange_place }) (at_rest old.council) (λ exchange open_. absurd (cc open_))
+    counsels m cluster global (record old { flow = abandoned old.flow exchange_place }) (at_rest old.council) (λ exchange open_. absurd (cc open_), partial_true cluster global.log old.council.plan whole.parties.council.1)
     (reflows m cluster global old (abandoned old.flow exchange_place) (abandoned_flows global.log old.flow (whole.parties.own exchange_place) whole.parties.late) whole)
 
 -- the mark of what it was told, where it leaves one
@@ -171,20 +191,27 @@ ends_told {cluster = cluster} m old asked answer is =
     marked m cluster told.after (record (with_council old (at_rest old.council)) { flow = abandoned old.flow exchange_place }) (told_marks asked answer) (marks_of is.global.log) told.whole is.agrees.marks told.marks_are
 
 -- the rest of what is under way may change as it likes
-pub counsels_by : {S V : Type 0} {cluster : Cluster} (m : Meaning S V) (old : View S V) (next : Council) → next.exchange ≡ old.council.exchange → IsLogged m cluster old → IsLogged m cluster (with_council old next)
-counsels_by {cluster = cluster} m old next same is =
-    logged m cluster is.global (with_council old next) (counsels m cluster is.global old next (λ exchange some. is.agrees.council exchange (sym same ∙ some)) (whole_of m old is)) is.agrees.marks
+pub counsels_by : {S V : Type 0} {cluster : Cluster} (m : Meaning S V) (old : View S V) (next : Council) → next.exchange ≡ old.council.exchange → (is : IsLogged m cluster old) → IsPlanTrue cluster is.global.log next.plan → IsLogged m cluster (with_council old next)
+counsels_by {cluster = cluster} m old next same is plan =
+    logged m cluster is.global (with_council old next) (counsels m cluster is.global old next (λ exchange some. is.agrees.council.0 exchange (sym same ∙ some), plan) (whole_of m old is)) is.agrees.marks
 
 -- ---- what was told is gathered
-pub gathers : {S V : Type 0} {cluster : Cluster} (m : Meaning S V) (old : View S V) (new : View S V) → IsLogged m cluster old → StepGather old new → IsLogged m cluster new
-gathers {S} {V} {cluster} m old new is by = by_case by.gathers
+-- what is known of the listing that goes on by what was told
+abbrev pub ListsKnown : {S V : Type 0} (cluster : Cluster) (log : List Happening) (old : View S V) (exchange : ExchangeView) → Type 0
+ListsKnown {S} {V} cluster log old exchange = (of : ListsFor old exchange) (listing : ListingView) → ListsOn (era_at old 0) exchange.told of.listing listing → IsPlanTrue cluster log (Some (with_listing of.plan listing))
+
+pub gathers : {S V : Type 0} {cluster : Cluster} (m : Meaning S V) (old : View S V) (new : View S V) → (is : IsLogged m cluster old) → (by : StepGather old new) → ListsKnown cluster is.global.log old by.at.exchange → IsLogged m cluster new
+gathers {S} {V} {cluster} m old new is by lists = by_case by.gathers
   where
     over : (answer : OpAnswer) → IsLogged m cluster (gathered old answer)
-    over answer = logged m cluster is.global (gathered old answer) (counsels m cluster is.global old _ (λ exchange open_. absurd (cc open_)) (whole_of m old is)) is.agrees.marks
+    over answer = logged m cluster is.global (gathered old answer) (counsels m cluster is.global old _ (λ exchange open_. absurd (cc open_), is.agrees.council.1) (whole_of m old is)) is.agrees.marks
 
     by_case : Gathers old by.at.exchange new → IsLogged m cluster new
     by_case (council.crashed crashed view) = subst (IsLogged m cluster) (sym view) (over _)
     by_case (council.probed key found up question found_is view) = subst (IsLogged m cluster) (sym view) (over _)
+    by_case (council.lists of listing up enough on view) = subst (IsLogged m cluster) (sym view)
+        (logged m cluster is.global (listed_view old of.plan listing) (counsels m cluster is.global old _ (λ exchange open_. absurd (cc open_), lists of listing on) (whole_of m old is)) is.agrees.marks)
+    by_case (council.is_short of short up missing view) = subst (IsLogged m cluster) (sym view) (over _)
     by_case (council.no_memory up view) = subst (IsLogged m cluster) (sym view) (logged m cluster is.global _ (tells_view m cluster is.global old _ (whole_of m old is)) is.agrees.marks)
 
 -- ---- all members are asked
@@ -210,13 +237,18 @@ member_in cluster era to is has = elim (or_cases (has_member era.prep to) (has_m
   | inr accepts ↦ is.acc_members to accepts
 ]
 
+-- no question is to accept
+no_accept : (tag : Ballot) (to : ℕ) {ballot : Ballot} {key : List ℕ} {era : ℕ} {ride : Option Ballot} {state : State} (question : Question) → ask_of tag question to ≡ ask.Accept key ballot era ride state → ⊥
+no_accept tag to (Probe key) is = cc is
+no_accept tag to (NextKeys places) is = cc is
+
 -- each of them is asked
-asks_whole : {S V : Type 0} (m : Meaning S V) (cluster : Cluster) (global : GlobalState) (view : View S V) (age : ℕ) (tag : Ballot) (key : List ℕ) (tos : List ℕ) (desk : DeskView V) (caller : CallerView) → IsAt view.desks 0 desk → IsAt view.callers 0 caller → desk.round ≡ None
-    → IsInHand global.log 0 (era_at view 0).number [] tag → ((to : ℕ) → Has to tos → (has_member (cluster.members (era_at view 0).number) to ≡ true) × (to < 64))
-    → Whole m cluster global view → Whole m cluster (asked_global global (question_to age tag (Probe key)) tos) view
-asks_whole {S} {V} m cluster global view age tag key tos desk caller at_desk at_caller idle hand members whole =
+asks_whole : {S V : Type 0} (m : Meaning S V) (cluster : Cluster) (global : GlobalState) (view : View S V) (age : ℕ) (tag : Ballot) (question : Question) (tos : List ℕ) (desk : DeskView V) (caller : CallerView) → IsAt view.desks 0 desk → IsAt view.callers 0 caller → desk.round ≡ None
+    → IsTag global.log (era_at view 0).number tag → ((to : ℕ) → Has to tos → (has_member (cluster.members (era_at view 0).number) to ≡ true) × (to < 64))
+    → Whole m cluster global view → Whole m cluster (asked_global global (question_to age tag question) tos) view
+asks_whole {S} {V} m cluster global view age tag question tos desk caller at_desk at_caller idle is_tag members whole =
     settles m cluster (asked_global global f tos) view view 0
-    (asked_around m cluster global view 0 f tos (λ to. refl) (λ rest to h. may_probe cluster (asked_global global f rest) (f to) 0 era key tag refl refl (members to h).0 (omega arith) (members to h).1 (asked_hand f rest global.log 0 era [] tag hand)) (around m cluster global view 0 whole))
+    (asked_around m cluster global view 0 f tos (λ to. refl) (λ rest to h. may_question cluster (asked_global global f rest) question age era tag to (members to h).0 (members to h).1 (asked_tag f rest global.log era tag is_tag)) (around m cluster global view 0 whole))
     (record { greatest = refl; eras = refl; acceptors = refl; desks = λ p d other at. at; callers = λ p c other at. at; council = refl; own = λ p other. refl })
     (record {
       desk = λ d c at_d at_c. still d c at_d at_c (whole.parties.desks 0 tt d c at_d at_c) (ap (λ (x : DeskView V). x.round) (at_one view.desks 0 at_d at_desk) ∙ idle);
@@ -229,13 +261,13 @@ asks_whole {S} {V} m cluster global view age tag key tos desk caller at_desk at_
     era = (era_at view 0).number
 
     f : ℕ → Request
-    f = question_to age tag (Probe key)
+    f = question_to age tag question
 
     log : List Happening
     log = asked_log f tos global.log
 
     not_accept : {to : ℕ} {request : Request} {k : List ℕ} {b : Ballot} {e : ℕ} {asked : Option Ballot} {state : State} → Asked request ≡ Asked (f to) → request.ask ≡ ask.Accept k b e asked state → ⊥
-    not_accept {to} {request} {k} {b} {e} {asked} {state} now is = let same : request ≡ f to = cc now in absurd (cc (is, ap (λ (q : Request). q.ask) same))
+    not_accept {to} {request} {k} {b} {e} {asked} {state} now is = let same : request ≡ f to = cc now in no_accept tag to question (sym (ap (λ (q : Request). q.ask) same) ∙ is)
 
     still : (d : DeskView V) (c : CallerView) → IsAt view.desks 0 d → IsAt view.callers 0 c → IsDeskTrue m cluster global.log global.made era 0 c (queue_at view.flow 0).messages d → d.round ≡ None
         → IsDeskTrue m cluster log global.made era 0 c (queue_at view.flow 0).messages d
@@ -279,10 +311,62 @@ none_told [] place answer told at is = cc at
 none_told (member ∷ members) zero answer told at is = cc (is, ap (λ (a : Answered). a.told) (some_is at))
 none_told (member ∷ members) (suc place) answer told at is = none_told members place answer told at is
 
-pub asks_all : {S V : Type 0} {cluster : Cluster} (m : Meaning S V) (old : View S V) (question : Question) (new : View S V) → m.disks.tells → IsLogged m cluster old → StepAskAll m old question new → IsLogged m cluster new
-asks_all {S} {V} {cluster} m old (Probe key) new tells is by = by_case by.asks
+-- who is asked is a member
+asked_within : {S V : Type 0} (cluster : Cluster) (view : View S V) (question : Question) → IsEraOf cluster (era_at view 0) → (to : ℕ) → Has to (asked_by view question) → (has_member (cluster.members (era_at view 0).number) to ≡ true) × (to < 64)
+asked_within cluster view (Probe key) is to h =
+    let has = has_member_of to (everyone view) h in
+    (member_in cluster (era_at view 0) to is has, member_low (everyone view) to (IsMemberSet-members_where (λ n. has_member (era_at view 0).prep n || has_member (era_at view 0).acc n)) has)
+asked_within cluster view (NextKeys places) is to h =
+    let test : ℕ → Bool = λ n. has_member (everyone view) n && not (has_ended (place_in places n)) in
+    let has = has_member_of to (members_where test) h in (
+      member_in cluster (era_at view 0) to is (and_left (has_member (everyone view) to) (not (has_ended (place_in places to))) (members_where_tells test to has)),
+      member_low (members_where test) to (IsMemberSet-members_where test) has,
+    )
+
+-- with a listing proposer 0 works in the era that is to be settled, and all have entered that
+pub record IsReadyToList {S V : Type 0} (cluster : Cluster) (log : List Happening) (view : View S V) (plan : PlanView) : Type 0 where
+  pub in_base : (era_at view 0).number ≡ plan.progress.era.number
+  pub entered : AllEntered cluster plan.progress.era.number (marks_of log)
+
+abbrev pub ReadyToAsk : {S V : Type 0} → Cluster → List Happening → View S V → Question → Type 0
+ReadyToAsk cluster log view (Probe key) = ⊤
+ReadyToAsk cluster log view (NextKeys places) = (plan : PlanView) → view.council.plan ≡ Some plan → next_of plan.progress.left ≡ Settle → IsReadyToList cluster log view plan
+
+-- at first nothing is listed
+fresh_place : (members : List ℕ) (member : ℕ) → place_in (map (λ one. record { member = one; place = GoesOn None }) members) member ≡ GoesOn None
+fresh_place [] member = refl
+fresh_place (one ∷ members) member = by_test (one == member) (place_in (map (λ one. record { member = one; place = GoesOn None }) members) member) (fresh_place members member)
   where
-    may : MayAskAll old (Probe key) by.desk
+    by_test : (b : Bool) (rest : Place) → rest ≡ GoesOn None → (if b then GoesOn None else rest) ≡ GoesOn None
+    by_test true rest is = refl
+    by_test false rest is = is
+
+-- a listing whose tag was drawn
+begun_true : (cluster : Cluster) (log : List Happening) (era : ℕ) (tag : Ballot) (members : List ℕ) → IsTag (Drew tag [] era ∷ log) era tag → AllEntered cluster era (marks_of log)
+    → ((call : ℕ) → IsProposed 0 call (marks_of log) → IsEnded 0 call (marks_of log))
+    → IsListingTrue cluster (Drew tag [] era ∷ log) era (record { tag = tag; places = places_from members None; keys = []; complete = false })
+begun_true cluster log era tag members is entered ended = record {
+  own = is.own;
+  drawn = record { older = log; at = here };
+  above_floors = is.above;
+  entered = entered;
+  all_ended = ended;
+  shown = λ member. subst (AreShown cluster (Drew tag [] era ∷ log) era member []) (sym (fresh_place members member)) (λ key low. absurd (cc low));
+  quorum = λ none. absurd (cc none);
+}
+
+-- the tag that is used again, or was drawn, and the log with it
+record IsTagged {S V : Type 0} (m : Meaning S V) (cluster : Cluster) (global : GlobalState) (view : View S V) (tag : Ballot) (plan : Option PlanView) : Type 0 where
+  after : GlobalState
+  whole : Whole m cluster after view
+  is_tag : IsTag after.log (era_at view 0).number tag
+  plan_true : IsPlanTrue cluster after.log plan
+  marks : marks_of after.log ≡ marks_of global.log
+
+pub asks_all : {S V : Type 0} {cluster : Cluster} (m : Meaning S V) (old : View S V) (question : Question) (new : View S V) → m.disks.tells → (is : IsLogged m cluster old) → ReadyToAsk cluster is.global.log old question → StepAskAll m old question new → IsLogged m cluster new
+asks_all {S} {V} {cluster} m old question new tells is ready by = by_case by.asks
+  where
+    may : MayAskAll old question by.desk
     may = by.may
 
     whole : Whole m cluster is.global old
@@ -294,9 +378,6 @@ asks_all {S} {V} {cluster} m old (Probe key) new tells is by = by_case by.asks
     of : IsDeskTrue m cluster is.global.log is.global.made era 0 may.caller (queue_at old.flow 0).messages by.desk
     of = whole.parties.desks 0 tt by.desk may.caller may.at_desk may.at_caller
 
-    era_is : IsEraOf cluster (era_at old 0)
-    era_is = whole.parties.eras 0 (omega arith)
-
     -- a tag is drawn, or none
     drawn_whole : (now : DeskView V) (tag : Option Ballot) → MayHaveDrawn m.disks by.desk.id by.desk.vault now.vault tag → now ≡ record by.desk { vault = now.vault } → Whole m cluster (drew is.global tag [] era) (with_desk old 0 now)
     drawn_whole now tag drawn is_now = lost m cluster is.global old 0 [] by.desk now tag tells may.at_desk may.idle (drew_only m.disks by.desk now tag may.idle drawn is_now) may.caller may.at_caller whole
@@ -305,57 +386,119 @@ asks_all {S} {V} {cluster} m old (Probe key) new tells is by = by_case by.asks
     told_one : (view : View S V) (global : GlobalState) (answer : OpAnswer) → Whole m cluster global view → marks_of global.log ≡ reverse view.marks → IsLogged m cluster (told_view view answer)
     told_one view global answer then_ marks = logged m cluster global (told_view view answer) (tells_view m cluster global view answer then_) marks
 
-    asked : (now : DeskView V) (tag : Ballot) (flow : FlowView) → HasDrawn m.disks by.desk.id by.desk.vault now.vault tag → now ≡ record by.desk { vault = now.vault }
-        → Sends old.flow exchange_place (questions_to (kept_of by.desk.vault).age tag (Probe key) (everyone old)) flow
-        → IsLogged m cluster (with_exchange (record (with_desk old 0 now) { flow = flow }) (new_exchange (Probe key) tag (everyone old)))
-    asked now tag flow drawn is_now sends =
-        let before : GlobalState = drew is.global (Some tag) [] era in
+    drawn_tag : (now : DeskView V) (tag : Ballot) → HasDrawn m.disks by.desk.id by.desk.vault now.vault tag → IsTag (drew is.global (Some tag) [] era).log era tag
+    drawn_tag now tag drawn =
+        let hand = drew_in_hand m cluster is.global 0 era [] by.desk.vault now.vault tag of.known (subst (λ (i : ℕ). HasDrawn m.disks i by.desk.vault now.vault tag) of.same_id drawn) of.vault whole.history in
+        record { own = hand.own; drawn = hand.drawn; above = hand.above_floors }
+
+    asked : (now : DeskView V) (tag : Ballot) (flow : FlowView) → now ≡ record by.desk { vault = now.vault } → IsTagged m cluster is.global (with_desk old 0 now) tag (plan_asked question tag old.council.plan)
+        → Sends old.flow exchange_place (questions_to (kept_of by.desk.vault).age tag question (asked_by old question)) flow
+        → IsLogged m cluster (with_council (record (with_desk old 0 now) { flow = flow }) (record old.council { exchange = Some (new_exchange question tag (asked_by old question)); plan = plan_asked question tag old.council.plan }))
+    asked now tag flow is_now tagged sends =
         let view : View S V = with_desk old 0 now in
         let age : ℕ = (kept_of by.desk.vault).age in
-        let f : ℕ → Request = question_to age tag (Probe key) in
-        let hand : IsInHand before.log 0 era [] tag =
-        drew_in_hand m cluster is.global 0 era [] by.desk.vault now.vault tag of.known (subst (λ (i : ℕ). HasDrawn m.disks i by.desk.vault now.vault tag) of.same_id drawn) of.vault whole.history in
-        let then_ : Whole m cluster (asked_global before f (everyone old)) view =
-        asks_whole m cluster before view age tag key (everyone old) now may.caller (at_set old.desks 0 by.desk now may.at_desk) may.at_caller (ap (λ (d : DeskView V). d.round) is_now ∙ may.idle) hand
-        (λ to h. let has = has_member_of to (everyone old) h in (member_in cluster (era_at old 0) to era_is has, member_low (everyone old) to (IsMemberSet-members_where (λ n. has_member (era_at old 0).prep n || has_member (era_at old 0).acc n)) has))
-        (drawn_whole now (Some tag) drawn is_now) in
-        let log : List Happening = asked_log f (everyone old) before.log in
+        let tos : List ℕ = asked_by old question in
+        let f : ℕ → Request = question_to age tag question in
+        let then_ : Whole m cluster (asked_global tagged.after f tos) view =
+        asks_whole m cluster tagged.after view age tag question tos now may.caller (at_set old.desks 0 by.desk now may.at_desk) may.at_caller (ap (λ (d : DeskView V). d.round) is_now ∙ may.idle) tagged.is_tag
+        (asked_within cluster old question (whole.parties.eras 0 (omega arith))) tagged.whole in
+        let log : List Happening = asked_log f tos tagged.after.log in
         let flows : ReFlows log old.flow flow = record {
           others = λ p other. ap (λ (q : QueueView). q.messages) (sends.others p other);
-          own = subst (AreMessagesTrue log) (sym sends.own) (λ each h. elim (contains_append (queue_at old.flow exchange_place).messages (questions_to age tag (Probe key) (everyone old)) h) [
+          own = subst (AreMessagesTrue log) (sym sends.own) (λ each h. elim (contains_append (queue_at old.flow exchange_place).messages (questions_to age tag question tos) h) [
             | inl front ↦ then_.parties.own exchange_place each front
-            | inr back ↦ asked_messages f (everyone old) before.log each back
+            | inr back ↦ asked_messages f tos tagged.after.log each back
           ]);
           late = subst (AreMessagesTrue log) (sym sends.late) then_.parties.late;
         } in
         let moved : View S V = record view { flow = flow } in
-        logged m cluster (asked_global before f (everyone old)) (with_exchange moved (new_exchange (Probe key) tag (everyone old)))
-        (counsels m cluster (asked_global before f (everyone old)) moved _ (λ exchange open_. subst (IsExchangeTrue log) (some_is open_) (record {
-          own = hand.own;
-          era = era;
-          drawn = asked_later f (everyone old) before.log hand.drawn;
-          told = λ place answer told at is_told. absurd (none_told (everyone old) place answer told at is_told);
-        })) (reflows m cluster (asked_global before f (everyone old)) view flow flows then_))
-        (asked_marks f (everyone old) before.log ∙ drew_marks is.global.log [] era (Some tag) ∙ is.agrees.marks)
+        logged m cluster (asked_global tagged.after f tos) (with_council moved (record old.council { exchange = Some (new_exchange question tag tos); plan = plan_asked question tag old.council.plan }))
+        (counsels m cluster (asked_global tagged.after f tos) moved _ (
+          λ exchange open_. subst (IsExchangeTrue log) (some_is open_) (record {
+            own = tagged.is_tag.own;
+            era = era;
+            drawn = asked_later f tos tagged.after.log tagged.is_tag.drawn;
+            told = λ place answer told at is_told. absurd (none_told tos place answer told at is_told);
+          }),
+          asked_plan cluster f tos tagged.after.log (plan_asked question tag old.council.plan) tagged.plan_true,
+        ) (reflows m cluster (asked_global tagged.after f tos) view flow flows then_))
+        (asked_marks f tos tagged.after.log ∙ tagged.marks ∙ is.agrees.marks)
 
-    by_case : AsksAll m old (Probe key) by.desk new → IsLogged m cluster new
-    by_case (council.asks now tag flow up room drawn is_now sends view) = subst (IsLogged m cluster) (sym view) (asked now tag flow drawn is_now sends)
+    tagged_by : (q : Question) (now : DeskView V) (tag : Ballot) → ReadyToAsk cluster is.global.log old q → HasTag m.disks (listing_for old.council q) by.desk now tag → now ≡ record by.desk { vault = now.vault }
+        → IsForQuestion (everyone old) old.council may.caller.call may.order.asked q → IsTagged m cluster is.global (with_desk old 0 now) tag (plan_asked q tag old.council.plan)
+    tagged_by (Probe key) now tag ready drawn is_now is_for = record {
+      after = drew is.global (Some tag) [] era;
+      whole = drawn_whole now (Some tag) drawn is_now;
+      is_tag = drawn_tag now tag drawn;
+      plan_true = (drawn_whole now (Some tag) drawn is_now).parties.council.1;
+      marks = drew_marks is.global.log [] era (Some tag);
+    }
+    tagged_by (NextKeys places) now tag ready has_tag is_now (none_open, due) = subst (λ (o : Option PlanView). IsTagged m cluster is.global (with_desk old 0 now) tag (option_map (listing_begun places tag) o)) (sym due.is_plan)
+        (by_listing due.plan.listing refl (subst (λ (o : Option PlanView). HasTag m.disks (listing_in o) by.desk now tag) due.is_plan has_tag))
+      where
+        on : IsReadyToList cluster is.global.log old due.plan
+        on = ready due.plan due.is_plan due.settles
+
+        known : (log : List Happening) → IsPlanTrue cluster log old.council.plan → IsPlanKnown cluster log due.plan
+        known log was = subst (IsPlanTrue cluster log) due.is_plan was
+
+        -- no call of caller 0 that was proposed is open
+        all_ended : (call : ℕ) → IsProposed 0 call (marks_of is.global.log) → IsEnded 0 call (marks_of is.global.log)
+        all_ended call proposed = elim ((whole.parties.callers 0 tt may.caller may.at_caller).ended call proposed) [
+          | inl open_ ↦ absurd (cc (open_.0, none_open))
+          | inr ended ↦ ended
+        ]
+
+        begun : (listing : Option ListingView) → PlanView
+        begun listing = record due.plan { listing = Some (begun_listing places tag listing) }
+
+        by_listing : (listing : Option ListingView) → due.plan.listing ≡ listing → HasTag m.disks listing by.desk now tag
+            → IsTagged m cluster is.global (with_desk old 0 now) tag (Some (record due.plan { listing = Some (begun_listing places tag due.plan.listing) }))
+        by_listing None is_listing drawn = subst (λ (l : Option ListingView). IsTagged m cluster is.global (with_desk old 0 now) tag (Some (record due.plan { listing = Some (begun_listing places tag l) }))) (sym is_listing) (record {
+          after = drew is.global (Some tag) [] era;
+          whole = drawn_whole now (Some tag) drawn is_now;
+          is_tag = drawn_tag now tag drawn;
+          plan_true = record {
+            settled = (known (Drew tag [] era ∷ is.global.log) (drawn_whole now (Some tag) drawn is_now).parties.council.1).settled;
+            listing = λ listing same. subst (IsListingTrue cluster (Drew tag [] era ∷ is.global.log) due.plan.progress.era.number) (some_is same)
+                (subst (λ (l : List MemberPlace). IsListingTrue cluster (Drew tag [] era ∷ is.global.log) due.plan.progress.era.number (record { tag = tag; places = l; keys = []; complete = false }))
+                (sym (due.goes_on ∙ ap (places_from (everyone old)) is_listing))
+                (subst (λ (e : ℕ). IsListingTrue cluster (Drew tag [] e ∷ is.global.log) due.plan.progress.era.number (record { tag = tag; places = places_from (everyone old) None; keys = []; complete = false })) (sym on.in_base)
+                (begun_true cluster is.global.log due.plan.progress.era.number tag (everyone old) (subst (λ (e : ℕ). IsTag (Drew tag [] e ∷ is.global.log) e tag) on.in_base (drawn_tag now tag drawn)) on.entered all_ended)));
+          };
+          marks = drew_marks is.global.log [] era (Some tag);
+        })
+        by_listing (Some listing) is_listing (same_tag, same_vault) =
+            let kept : Whole m cluster is.global (with_desk old 0 now) = drawn_whole now None (subst (λ (v : Vault V). HasKept m.disks by.desk.vault v) (sym same_vault) (goes_same m.disks by.desk.vault)) is_now in
+            let was : IsPlanKnown cluster is.global.log due.plan = known is.global.log whole.parties.council.1 in
+            let listing_true : IsListingTrue cluster is.global.log due.plan.progress.era.number listing = was.listing listing is_listing in
+            subst (λ (l : Option ListingView). IsTagged m cluster is.global (with_desk old 0 now) tag (Some (record due.plan { listing = Some (begun_listing places tag l) }))) (sym is_listing) (record {
+              after = is.global;
+              whole = kept;
+              is_tag = subst (λ (e : ℕ). IsTag is.global.log e tag) (sym on.in_base) (subst (IsTag is.global.log due.plan.progress.era.number) (sym same_tag)
+                  (record { own = listing_true.own; drawn = listing_true.drawn; above = listing_true.above_floors }));
+              plan_true = record { settled = was.settled; listing = λ other same. subst (IsListingTrue cluster is.global.log due.plan.progress.era.number) (some_is same) listing_true };
+              marks = refl;
+            })
+
+    by_case : AsksAll m old question by.desk new → IsLogged m cluster new
+    by_case (council.asks now tag flow up room tagged is_now sends view) = subst (IsLogged m cluster) (sym view) (asked now tag flow is_now (tagged_by question now tag ready tagged is_now may.is_for) sends)
     by_case (council.is_down down view) = subst (IsLogged m cluster) (sym view) (told_one old is.global _ whole is.agrees.marks)
     by_case (council.is_full up full view) = subst (IsLogged m cluster) (sym view) (told_one old is.global _ whole is.agrees.marks)
     by_case (council.is_spent now up spent kept is_now view) = subst (IsLogged m cluster) (sym view) (told_one (with_desk old 0 now) is.global _ (drawn_whole now None kept is_now) is.agrees.marks)
     by_case (council.fails now up by_fault view) =
-        subst (IsLogged m cluster) (sym view) (told_one (with_desk old 0 now) is.global _ (fails_whole m cluster is.global old 0 [] by.desk now tells may.at_desk may.idle by_fault whole) is.agrees.marks)
+        subst (IsLogged m cluster) (sym view) (told_one (with_desk old 0 now) is.global _ (fails_whole m cluster is.global old 0 [] by.desk now tells may.at_desk may.idle (where_drawn (listing_for old.council question) by_fault) whole) is.agrees.marks)
     by_case (council.no_memory now tag up by_loss view) =
         subst (IsLogged m cluster) (sym view) (told_one (with_desk old 0 now) (drew is.global tag [] era) _
         (lost m cluster is.global old 0 [] by.desk now tag tells may.at_desk may.idle by_loss may.caller may.at_caller whole) (drew_marks is.global.log [] era tag ∙ is.agrees.marks))
 
 -- ---- a turn of the exchange
 -- a reply that was made tells what its sender told
-heard_told : (log : List Happening) (reply : Reply) (told : List Answered) (place : Option ℕ) → WasMade log reply → WereTold log told
-    → WereTold log (option_map_or (λ at. slice_set told at (record { acceptor = reply.from; told = Some reply.tell })) place told)
-heard_told log reply told None made were place answer tell at is = were place answer tell at is
-heard_told log reply told (Some here) made were place answer tell at is = elim (but_set told here (record { acceptor = reply.from; told = Some reply.tell }) place answer at) [
-  | inl same ↦ record { reply = reply; made = made; same_from = ap (λ (a : Answered). a.acceptor) (sym same.1); same_tell = some_is (ap (λ (a : Answered). a.told) (sym same.1) ∙ is) }
+heard_told : (log : List Happening) (tag : Ballot) (question : Question) (reply : Reply) (told : List Answered) (place : Option ℕ) → WasMade log reply → IsReplyTo tag question reply → WereTold log tag question told
+    → WereTold log tag question (option_map_or (λ at. slice_set told at (record { acceptor = reply.from; told = Some reply.tell })) place told)
+heard_told log tag question reply told None made to_it were place answer tell at is = were place answer tell at is
+heard_told log tag question reply told (Some spot) made to_it were place answer tell at is = elim (but_set told spot (record { acceptor = reply.from; told = Some reply.tell }) place answer at) [
+  | inl same ↦ record { reply = reply; made = made; same_from = ap (λ (a : Answered). a.acceptor) (sym same.1); same_tell = some_is (ap (λ (a : Answered). a.told) (sym same.1) ∙ is); to_it = to_it }
   | inr other ↦ were place answer tell other.1 is
 ]
 
@@ -386,10 +529,10 @@ harmed_turn : {S V : Type 0} (m : Meaning S V) (cluster : Cluster) (global : Glo
     → IsLogged m cluster (harms (record view { flow = taken view.flow exchange_place verdict }) exchange member down)
 harmed_turn m cluster global view verdict front exchange member down is_open in_front marks whole =
     let is = harms_by m cluster global view exchange member down whole in
-    let was = is.whole.parties.council exchange is_open in
+    let was = is.whole.parties.council.0 exchange is_open in
     let moved = record view { flow = taken view.flow exchange_place verdict } in
     marked m cluster is.after (with_exchange moved (harmed_exchange exchange member)) (harm_marks exchange member down) (marks_of global.log)
-    (counsels m cluster is.after moved _ (λ other open_. subst (IsExchangeTrue is.after.log) (some_is open_) (record { own = was.own; era = was.era; drawn = was.drawn; told = was.told }))
+    (counsels m cluster is.after moved _ (λ other open_. subst (IsExchangeTrue is.after.log) (some_is open_) (record { own = was.own; era = was.era; drawn = was.drawn; told = was.told }), is.whole.parties.council.1)
     (reflows m cluster is.after view (taken view.flow exchange_place verdict) (taken_reflows is.after.log view.flow verdict in_front (is.whole.parties.own exchange_place) is.whole.parties.late) is.whole))
     marks is.marks
 
@@ -425,17 +568,20 @@ turns_exchange {S} {V} {cluster} m old verdict new tells is step = by_turn step.
         subst (IsLogged m cluster) (sym view)
         (harmed_turn m cluster is.global (with_acceptor old request.to now) verdict step.front exchange _ true step.at.is_open step.waits is.agrees.marks
         (stops_within m cluster is.global old request acceptor now tells at by (front_true front) whole))
-    by_turn (council.arrives reply fall front view) =
-        let was = whole.parties.council exchange step.at.is_open in
+    by_turn (council.arrives reply fall front to_it view) =
+        let was = whole.parties.council.0 exchange step.at.is_open in
         let moved = record old { flow = taken old.flow exchange_place verdict } in
         subst (IsLogged m cluster) (sym view)
         (logged m cluster is.global (with_exchange moved (record exchange { told = hears reply exchange.told }))
-        (counsels m cluster is.global moved _ (λ other open_. subst (IsExchangeTrue is.global.log) (some_is open_) (record {
-          own = was.own;
-          era = was.era;
-          drawn = was.drawn;
-          told = heard_told is.global.log reply exchange.told (position (awaits reply.from) exchange.told) (front_true front) was.told;
-        })) (reflows m cluster is.global old (taken old.flow exchange_place verdict) (taken_reflows is.global.log old.flow verdict step.waits (whole.parties.own exchange_place) whole.parties.late) whole))
+        (counsels m cluster is.global moved _ (
+          λ other open_. subst (IsExchangeTrue is.global.log) (some_is open_) (record {
+            own = was.own;
+            era = was.era;
+            drawn = was.drawn;
+            told = heard_told is.global.log exchange.tag exchange.question reply exchange.told (position (awaits reply.from) exchange.told) (front_true front) to_it was.told;
+          }),
+          whole.parties.council.1,
+        ) (reflows m cluster is.global old (taken old.flow exchange_place verdict) (taken_reflows is.global.log old.flow verdict step.waits (whole.parties.own exchange_place) whole.parties.late) whole))
         is.agrees.marks)
 
 -- the open call is told something
@@ -456,6 +602,6 @@ pub breaks_off : {S V : Type 0} {cluster : Cluster} (m : Meaning S V) (old : Vie
 breaks_off {cluster = cluster} m old is =
     let whole = whole_of m old is in
     logged m cluster is.global (broken_off_view old)
-    (counsels m cluster is.global (record old { flow = abandoned old.flow exchange_place }) (crashed_in old.council) (broken_true is.global.log old.council.exchange whole.parties.council)
+    (counsels m cluster is.global (record old { flow = abandoned old.flow exchange_place }) (crashed_in old.council) (broken_true is.global.log old.council.exchange whole.parties.council.0, whole.parties.council.1)
     (reflows m cluster is.global old (abandoned old.flow exchange_place) (abandoned_flows is.global.log old.flow (whole.parties.own exchange_place) whole.parties.late) whole))
     is.agrees.marks

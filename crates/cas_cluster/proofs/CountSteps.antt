@@ -26,8 +26,9 @@ use Rattle.cas_record.specs.Happening.{Happening, Marked, marks_of}
 use Rattle.cas_record.specs.Lawful.{Cluster, ClusterMeets}
 use Rattle.cas_record.specs.Legal.{IsBegun, IsEnded, IsAcked}
 use Rattle.cas_record.specs.Places.{here}
+use Rattle.cas_record.proofs.PlaceLemmas.{newest_or}
 use Rattle.cas_record.proofs.LogLemmas.{mark_at}
-use Rattle.cas_cluster.specs.Parties.{AreMessagesTrue, IsEraOf, AreReady, IsHeldReady, HaveOneEach, IsAcceptTrue, IsDeskTrue, IsDoneTrue, IsToldTrue, IsCallTrue, IsCallerTrue}
+use Rattle.cas_cluster.specs.Parties.{AreMessagesTrue, IsEraOf, AreReady, IsHeldReady, HaveOneEach, IsAcceptTrue, IsDeskTrue, IsDoneTrue, IsToldTrue, IsCallTrue, AreEnded, IsCallerTrue}
 use Rattle.cas_cluster.specs.Protocol.{Made, GlobalState, HasHistory, Counts, EndsDone, EndsElse, with_mark}
 use Rattle.cas_cluster.specs.StepCalls.{offered_by, over, with_call}
 use Rattle.cas_cluster.specs.StepDesks.{EndsRound}
@@ -37,7 +38,7 @@ use Rattle.cas_cluster.proofs.Caches.{IsKeptOr, kept, held, kept_or_held, one_af
 use Rattle.cas_cluster.proofs.Draws.{vault_goes_on}
 use Rattle.cas_cluster.proofs.EndSteps.{IsQuiet, quiet_true, quiet_ends, quiets, call_told, none_left, others_left, all_joined_true}
 use Rattle.cas_cluster.proofs.Events.{keeps}
-use Rattle.cas_cluster.proofs.Others.{LeavesCalls, vault_still, messages_still, caller_still}
+use Rattle.cas_cluster.proofs.Others.{LeavesCalls, vault_still, messages_still, caller_still, ended_later}
 use Rattle.cas_cluster.proofs.Places.{own_set, some_is, contains_none}
 use Rattle.cas_cluster.proofs.RoundSteps.{all_replied}
 use Rattle.cas_cluster.proofs.CallSteps.{IsMild, ready_mild}
@@ -131,6 +132,7 @@ counts {S} {V} m cluster global old id caller call desk now round outcome by tel
       same_caller = accept.same_caller;
       same_call = accept.same_call;
       same_ballot = accept.same_ballot;
+      own = own;
       same_outcome = some_is (sym accept.proposed ∙ proposed);
       acked = record { acknowledgment = a; stands = record { older = marks_of global.log; at = here }; same_key = sym accept.same_key; same_ballot = refl };
     }
@@ -207,7 +209,7 @@ ends_call {S} {V} m cluster global old id caller call told desk now tells at_cal
           subst (λ (x : DeskView V). IsDeskTrue m cluster after.log global.made era id c (queue_at (abandoned old.flow id) id).messages x) (sym (own_set old.desks id now d at_d))
           (quiet_true m cluster after.log global.made id era c (queue_at (abandoned old.flow id) id).messages now (none_left old.flow id) quiet_after);
       caller = λ c at_c. subst (IsCallerTrue after.log global.made id) (sym (own_set old.callers id (record caller { call = None }) c at_c))
-          (record { number = was.number; call = λ x none. absurd (cc none) });
+          (record { number = was.number; call = λ x none. absurd (cc none); ended = ended_now });
       own = subst (AreMessagesTrue after.log) (sym (none_left old.flow id)) (λ each has_it. absurd (contains_none has_it));
       late = messages_still h global.log (all_joined old.flow.late (queue_at old.flow id).messages) (all_joined_true global.log (queue_at old.flow id).messages old.flow.late (whole.parties.own id) whole.parties.late);
     })
@@ -226,6 +228,15 @@ ends_call {S} {V} m cluster global old id caller call told desk now tells at_cal
 
     call_true : IsCallTrue global.log global.made id caller.number call
     call_true = was.call call is_open
+
+    ended_now : AreEnded after.log id caller.number None
+    ended_now number is = elim (newest_or is.stands) [
+      | inl now_is ↦ absurd (cc now_is)
+      | inr before ↦ elim (was.ended number (record { proposal = is.proposal; stands = before; same_caller = is.same_caller; same_call = is.same_call })) [
+        | inl open_ ↦ inr (subst (λ (n : ℕ). IsEnded id n (marks_of after.log)) (sym open_.1) (record { rounds = call.rounds; answer = told; stands = record { older = marks_of global.log; at = here } }))
+        | inr was_ended ↦ inr (ended_later h global.log was_ended)
+      ]
+    ]
 
     history : HasHistory cluster after
     history = ended_history cluster global id caller.number call.rounds call.key told whole.meets whole.history (record { program = call.program; stands = call_true.begun }) call_true.open_yet (call_true.told told is_told)

@@ -1,26 +1,29 @@
 -- A cluster stays on its course, whatever is called on it.
 use Rattle.std.proofs.Common.{◌≡◌, ℕ, List, [], ◌∷◌, ◌++◌, Option, None, Some, sym, ap, subst, ◌∙◌, inl, inr}
-use Rattle.std.specs.Prelude.{Bool, true, false, if◌then◌else◌, slice_set}
+use Rattle.std.specs.Prelude.{drop, option_map, Bool, true, false, if◌then◌else◌, slice_set}
 use Rattle.cas_quorum.specs.declared.era.Era.{Era}
 use Rattle.cas_vault.specs.Vault.{kept_of}
+use Rattle.cas_record.specs.declared.answer.Answer.{Answer}
 use Rattle.cas_record.specs.declared.answer.Answer.TheVariants as answer
 use Rattle.cas_record.specs.declared.answer.Cause.TheVariants as cause
 use Rattle.cas_record.specs.declared.mark.Mark.TheVariants.{EraEntered}
 use Rattle.cas_record.specs.declared.operator.Asked.{Asked}
 use Rattle.cas_record.specs.declared.operator.OpAnswer.{OpAnswer}
-use Rattle.cas_cluster.specs.Council.{PlanView}
+use Rattle.cas_cluster.specs.Council.{MemberPlace, NextKeys, PlanView, Council, complete_only, without_partial}
 use Rattle.cas_cluster.specs.Course.{Entry, Course, course_of, entries_in, next_era, era_shown, IsCourse}
 use Rattle.cas_cluster.specs.Step as step
-use Rattle.cas_cluster.specs.Step.{Event, Step, StepRestartProposer}
+use Rattle.cas_cluster.specs.Step.{Event, Step, StepEnd, StepRestartProposer}
+use Rattle.cas_cluster.specs.StepCalls as calls
+use Rattle.cas_cluster.specs.StepCalls.{one_more}
 use Rattle.cas_cluster.specs.StepCouncil as told_by
-use Rattle.cas_cluster.specs.StepCouncil.{StepTell, told_view, with_council}
+use Rattle.cas_cluster.specs.StepCouncil.{StepTell, StepAskAll, StepGather, told_over, told_view, with_council}
 use Rattle.cas_cluster.specs.StepDesks.{EntersEra, FailsToEnter}
 use Rattle.cas_cluster.specs.StepPlans as plans
 use Rattle.cas_cluster.specs.StepPlans.{StepOpenPlan, OpensPlan, StepEnterEra, EntersNext, Welcomes, IsPlanned, plan_after, entered_view}
 use Rattle.cas_cluster.specs.StepStops.{closed_by, LeavesRound}
 use Rattle.cas_cluster.specs.View.{Meaning, View, era_at, with_desk}
-use Rattle.cas_cluster.proofs.Courses.{course, course_shown, course_opened, course_finished, course_entered}
-use Rattle.cas_cluster.proofs.OnCourse.{Leads, on_course, left_course, down_course, told_course, entries_joined}
+use Rattle.cas_cluster.proofs.Courses.{course, course_shown, course_opened, course_finished, course_entered, course_relisted, course_listed}
+use Rattle.cas_cluster.proofs.OnCourse.{Leads, on_course, left_course, down_course, told_course, end_course, entries_joined}
 use Rattle.cas_cluster.proofs.Plans.{planned_starts}
 
 -- ---- calls that lead on
@@ -35,10 +38,64 @@ restart_on {S} {V} m old new id (step.restarts desk now caller at at_c down by v
 finish_on : {S V : Type 0} (old : View S V) (plan : PlanView) → old.council.plan ≡ Some plan → plan.progress.left ≡ [] → IsCourse (course_of old) → IsCourse (course_of (with_council old (record old.council { plan = None })))
 finish_on old plan is_plan none was = course_finished old.greatest old.eras (entries_in old.marks) plan none (subst (λ (p : Option PlanView). IsCourse (course old.greatest old.eras p (entries_in old.marks))) is_plan was)
 
+-- a listing that is not complete is dropped
+over_on : {S V : Type 0} (old : View S V) (asked : Asked) (answer : OpAnswer) → IsCourse (course_of old) → IsCourse (course_of (told_over old asked answer))
+over_on {S} {V} old asked answer was = subst IsCourse (sym (told_course old asked answer)) (by_plan old.council.plan was)
+  where
+    by_plan : (plan : Option PlanView) → IsCourse (course old.greatest old.eras plan (entries_in old.marks)) → IsCourse (course old.greatest old.eras (option_map without_partial plan) (entries_in old.marks))
+    by_plan None was = was
+    by_plan (Some plan) was = course_relisted old.greatest old.eras plan (entries_in old.marks) plan.rescanned (complete_only plan.listing) was
+
 tell_on : {S V : Type 0} (old new : View S V) (answer : OpAnswer) → StepTell old answer new → IsCourse (course_of old) → IsCourse (course_of new)
-tell_on {S} {V} old new answer (told_by.tells order said is_open told same view) was = subst IsCourse (sym (ap course_of view ∙ told_course old order.asked answer)) was
+tell_on {S} {V} old new answer (told_by.tells order said is_open told same view) was = subst IsCourse (sym (ap course_of view)) (over_on old order.asked answer was)
 tell_on {S} {V} old new answer (told_by.finishes order is_open by view) was =
-    subst IsCourse (sym (ap course_of view ∙ told_course (with_council old (record old.council { plan = None })) order.asked answer)) (finish_on old by.plan by.is_plan by.none_left was)
+    subst IsCourse (sym (ap course_of view)) (over_on (with_council old (record old.council { plan = None })) order.asked answer (finish_on old by.plan by.is_plan by.none_left was))
+
+-- ---- listings
+-- with another plan
+planned_on : {S V : Type 0} (old : View S V) (plan : PlanView) → old.council.plan ≡ Some plan → IsCourse (course_of old) → IsCourse (course old.greatest old.eras (Some plan) (entries_in old.marks))
+planned_on old plan is was = subst (λ (p : Option PlanView). IsCourse (course old.greatest old.eras p (entries_in old.marks))) is was
+
+-- all are asked for their next keys
+ask_on : {S V : Type 0} (m : Meaning S V) (old new : View S V) (places : List MemberPlace) → StepAskAll m old (NextKeys places) new → IsCourse (course_of old) → IsCourse (course_of new)
+ask_on {S} {V} m old new places by was = in_case by.asks
+  where
+    due : told_by.IsDueToList (told_by.everyone old) old.council by.may.order.asked places
+    due = by.may.is_for.1
+
+    in_case : told_by.AsksAll m old (NextKeys places) by.desk new → IsCourse (course_of new)
+    in_case (told_by.asks now tag flow up room tagged now_is sends view) =
+        subst IsCourse (sym (ap course_of view ∙ ap (λ (p : Option PlanView). course old.greatest old.eras (option_map (told_by.listing_begun places tag) p) (entries_in old.marks)) due.is_plan))
+        (course_relisted old.greatest old.eras due.plan (entries_in old.marks) due.plan.rescanned (Some (told_by.begun_listing places tag due.plan.listing)) (planned_on old due.plan due.is_plan was))
+    in_case (told_by.is_down down view) = subst IsCourse (sym (ap course_of view)) was
+    in_case (told_by.is_full up full view) = subst IsCourse (sym (ap course_of view)) was
+    in_case (told_by.is_spent now up spent kept now_is view) = subst IsCourse (sym (ap course_of view)) was
+    in_case (told_by.fails now up fails view) = subst IsCourse (sym (ap course_of view)) was
+    in_case (told_by.no_memory now tag up loses view) = subst IsCourse (sym (ap course_of view)) was
+
+gather_on : {S V : Type 0} (old new : View S V) → StepGather old new → IsCourse (course_of old) → IsCourse (course_of new)
+gather_on {S} {V} old new by was = in_case by.gathers
+  where
+    in_case : told_by.Gathers old by.at.exchange new → IsCourse (course_of new)
+    in_case (told_by.crashed down view) = subst IsCourse (sym (ap course_of view)) was
+    in_case (told_by.probed key found up question keeps view) = subst IsCourse (sym (ap course_of view)) was
+    in_case (told_by.lists of listing up enough on view) =
+        subst IsCourse (sym (ap course_of view)) (course_listed old.greatest old.eras of.plan (entries_in old.marks) listing of.settles (planned_on old of.plan of.is_plan was))
+    in_case (told_by.is_short of short up missing view) = subst IsCourse (sym (ap course_of view)) was
+    in_case (told_by.no_memory up view) = subst IsCourse (sym (ap course_of view)) was
+
+-- a key is proposed anew
+end_on : {S V : Type 0} (m : Meaning S V) (old new : View S V) (id : ℕ) (told : Answer) → StepEnd m old id told new → IsCourse (course_of old) → IsCourse (course_of new)
+end_on {S} {V} m old new id told by was = subst IsCourse (sym (end_course m old new id told by)) (in_case by.ends.rescans)
+  where
+    in_case : calls.Rescans old.council id by.of_call.call.key told by.ends.council → IsCourse (course old.greatest old.eras by.ends.council.plan (entries_in old.marks))
+    in_case (calls.is_none none same) = subst (λ (c : Council). IsCourse (course old.greatest old.eras c.plan (entries_in old.marks))) (sym same) was
+    in_case (calls.stops of undone same) = subst (λ (c : Council). IsCourse (course old.greatest old.eras c.plan (entries_in old.marks))) (sym same) was
+    in_case (calls.rescans of done same) =
+        let counted : PlanView = record of.plan { rescanned = one_more of.plan.rescanned } in
+        subst (λ (c : Council). IsCourse (course old.greatest old.eras c.plan (entries_in old.marks))) (sym same)
+        (course_listed old.greatest old.eras counted (entries_in old.marks) (record of.listing { keys = drop 1 of.listing.keys }) of.settles
+        (course_relisted old.greatest old.eras of.plan (entries_in old.marks) (one_more of.plan.rescanned) of.plan.listing (planned_on old of.plan of.is_plan was)))
 
 -- an acceptor that joins changes no era
 pub welcome_course : {S V : Type 0} (m : Meaning S V) (old middle : View S V) (asked : Asked) → Welcomes m old asked middle → course_of middle ≡ course_of old
@@ -58,7 +115,7 @@ open_on {S} {V} m old new by was = by_case by.opens
         let settled = subst (λ (p : Option PlanView). IsCourse (course old.greatest old.eras p (entries_in old.marks))) none was in
         let begins = planned_starts (era_at old 0) old.council.used by.order.asked progress settled.under_way.whole planned in
         subst IsCourse (sym (ap course_of view ∙ ap (λ (c : Course). course c.greatest c.eras (Some (plans.new_plan by.order.asked progress)) c.entries) (welcome_course m old middle by.order.asked welcomes)))
-        (course_opened old.greatest old.eras (entries_in old.marks) by.order.asked progress begins.era begins.start begins.first settled)
+        (course_opened old.greatest old.eras (entries_in old.marks) by.order.asked progress begins.era begins.start settled)
     by_case (plans.no_memory middle up none welcomes view) = subst IsCourse (sym (ap course_of view ∙ welcome_course m old middle by.order.asked welcomes)) was
 
 -- a proposer enters the next era
@@ -86,6 +143,9 @@ enter_on {S} {V} m old new id by was = by_case by.enters
 -- ---- all of them
 led_on : {S V : Type 0} (m : Meaning S V) (old new : View S V) (event : Event) → Leads event → Step m old event new → IsCourse (course_of old) → IsCourse (course_of new)
 led_on m old new (step.RestartProposer id) leads by was = restart_on m old new id by was
+led_on m old new (step.End id told) leads by was = end_on m old new id told by was
+led_on m old new (step.AskAll (NextKeys places)) leads by was = ask_on m old new places by was
+led_on m old new step.Gather leads by was = gather_on old new by was
 led_on m old new (step.Tell answer) leads by was = tell_on old new answer by was
 led_on m old new step.OpenPlan leads by was = open_on m old new by was
 led_on m old new (step.EnterEra id) leads by was = enter_on m old new id by was

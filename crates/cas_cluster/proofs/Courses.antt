@@ -1,19 +1,19 @@
 -- The course of a cluster stays a course: at its opening, where a proposer is up again, where a change of membership begins and ends, and
 -- where a proposer enters the next era.
 use Rattle.std.proofs.Common.{◌≡◌, ◌≤◌, ◌<◌, ℕ, suc, List, [], ◌∷◌, ◌++◌, length, Option, None, Some, refl, sym, ap, subst, ◌∙◌, inl, inr, arith, get_or-set_same, get_or-set_other}
-use Rattle.std.specs.Prelude.{◌⊎◌, ◌==◌, Bool, true, false, if◌then◌else◌, slice_set, replicate, Contains}
+use Rattle.std.specs.Prelude.{◌⊎◌, ◌==◌, ◌&&◌, drop, Bool, true, false, if◌then◌else◌, slice_set, replicate, Contains}
 use Rattle.std.proofs.lemmas.List.{get_or-replicate, set-get_or, length-set, length_push}
 use Rattle.cas_base.proofs.Bools.{not_both}
 use Rattle.cas_members.specs.declared.plan.PlanStep.{PlanStep}
 use Rattle.cas_members.specs.declared.plan.PlanStep.TheVariants.{Settle, Enter, Finished}
 use Rattle.cas_members.specs.Steps.{Progress}
 use Rattle.cas_quorum.specs.declared.era.Era.{Era}
-use Rattle.cas_members.specs.Plan.{HasMajorities}
+use Rattle.cas_members.specs.Plan.{HasMajorities, next_of}
 use Rattle.cas_quorum.specs.Era.{IsSized, majority_era}
 use Rattle.cas_record.specs.declared.operator.Asked.{Asked}
 use Rattle.cas_round.proofs.Lists.{has, contains}
 use Rattle.cas_record.proofs.Tests.{nat_same, nat_is}
-use Rattle.cas_cluster.specs.Council.{PlanView}
+use Rattle.cas_cluster.specs.Council.{ListingView, PlanView, stepped, with_listing}
 use Rattle.cas_cluster.specs.Course.{Entry, Course, entering, shown_era, era_shown, IsWhole, Follows, IsPath, IsStart, WorksIn, not_yet, entered, IsCourse}
 use Rattle.cas_cluster.specs.StepPlans.{new_plan, rest_of, plan_after}
 use Rattle.cas_cluster.specs.View.{era_in}
@@ -38,7 +38,7 @@ path_starts era (Enter next ∷ left) is = absurd is
 path_starts era (Finished ∷ left) is = is
 
 -- and it enters no era at once
-path_settles : (era : Era) (left : List PlanStep) → IsPath era left → entering left ≡ None
+pub path_settles : (era : Era) (left : List PlanStep) → IsPath era left → entering left ≡ None
 path_settles era [] is = refl
 path_settles era (Settle ∷ left) is = refl
 path_settles era (Enter next ∷ left) is = absurd is
@@ -104,7 +104,6 @@ stays_on greatest eras plan entries id era works sized was = record {
   sized = sized_with greatest eras id era was.places was.few sized was.sized;
   under_way = record {
     start = was.under_way.start;
-    first = was.under_way.first;
     some_left = was.under_way.some_left;
     none_entered = was.under_way.none_entered;
     each = λ p low. by_place p low (same_or_not p id);
@@ -139,15 +138,14 @@ course_shown greatest eras (Some plan) entries id number was = stays_on greatest
         by_number false = was.sized id low
 
 -- ---- a change of membership
-pub course_opened : (greatest : ℕ) (eras : List Era) (entries : List Entry) (asked : Asked) (progress : Progress) → progress.era ≡ era_in eras 0 → IsStart progress.era progress.left → ((next : Era) → entering progress.left ≡ Some next → progress.era.number ≡ 0)
+pub course_opened : (greatest : ℕ) (eras : List Era) (entries : List Entry) (asked : Asked) (progress : Progress) → progress.era ≡ era_in eras 0 → IsStart progress.era progress.left
     → IsCourse (course greatest eras None entries) → IsCourse (course greatest eras (Some (new_plan asked progress)) entries)
-course_opened greatest eras entries asked progress from start first was = record {
+course_opened greatest eras entries asked progress from start was = record {
   few = was.few;
   places = was.places;
   sized = was.sized;
   under_way = record {
     start = start;
-    first = first;
     some_left = omega arith;
     none_entered = λ none. refl;
     each = λ id low. not_yet (omega arith) (was.under_way.same id low ∙ sym from);
@@ -214,7 +212,6 @@ one_entered greatest eras plan entries next is_next more was = record {
   sized = sized_with greatest eras plan.entered next was.places was.few (λ low. follows_sized leading.follows) was.sized;
   under_way = record {
     start = was.under_way.start;
-    first = was.under_way.first;
     some_left = low;
     none_entered = λ none. absurd (cc (none, is_next));
     each = λ p at. by_place p (same_or_not p plan.entered) (λ other. was.under_way.each p at);
@@ -254,14 +251,13 @@ one_entered greatest eras plan entries next is_next more was = record {
 -- where it is the last one, the era is the one that all entered last
 last_entered : (greatest : ℕ) (eras : List Era) (plan : PlanView) (entries : List Entry) (next : Era) → entering plan.progress.left ≡ Some next → plan.entered ≡ greatest
     → IsCourse (course greatest eras (Some plan) entries)
-    → IsCourse (course greatest (slice_set eras plan.entered next) (Some (record plan { progress = record { era = next; left = rest_of plan.progress.left }; entered = 0 })) (entries ++ record { proposer = plan.entered; era = next.number } ∷ []))
+    → IsCourse (course greatest (slice_set eras plan.entered next) (Some (record plan { progress = record { era = next; left = rest_of plan.progress.left }; entered = 0; listing = None })) (entries ++ record { proposer = plan.entered; era = next.number } ∷ []))
 last_entered greatest eras plan entries next is_next last was = record {
   few = was.few;
   places = length-set eras plan.entered next ∙ was.places;
   sized = sized_with greatest eras plan.entered next was.places was.few (λ low. follows_sized leading.follows) was.sized;
   under_way = record {
     start = path_starts next (rest_of plan.progress.left) leading.path;
-    first = λ e enters. absurd (cc (enters, path_settles next (rest_of plan.progress.left) leading.path));
     some_left = omega arith;
     none_entered = λ none. refl;
     each = λ p at. not_yet (omega arith) (by_place p at (same_or_not p plan.entered));
@@ -301,7 +297,96 @@ course_entered greatest eras plan entries next is_next was = by_number (plan.ent
   where
     by_number : (b : Bool) → (plan.entered == greatest) ≡ b
         → IsCourse (course greatest (slice_set eras plan.entered next)
-        (Some (if b then record plan { progress = record { era = next; left = rest_of plan.progress.left }; entered = 0 } else record plan { entered = suc plan.entered }))
+        (Some (if b then record plan { progress = record { era = next; left = rest_of plan.progress.left }; entered = 0; listing = None } else record plan { entered = suc plan.entered }))
         (entries ++ record { proposer = plan.entered; era = next.number } ∷ []))
     by_number true is = last_entered greatest eras plan entries next is_next (nat_same is) was
     by_number false is = one_entered greatest eras plan entries next is_next (λ same. not_both (plan.entered == greatest) (nat_is same) is) was
+
+-- ---- an era is settled
+-- what is so where the first step is to settle the era
+pub record AtSettle (greatest : ℕ) (eras : List Era) (plan : PlanView) (entries : List Entry) : Type 0 where
+  pub positive : 0 < plan.progress.era.number
+  pub none_entered : plan.entered ≡ 0
+  pub in_base : (id : ℕ) → id ≤ greatest → era_in eras id ≡ plan.progress.era
+  pub all : (id : ℕ) → id ≤ greatest → Contains entries (record { proposer = id; era = plan.progress.era.number })
+  pub start : IsStart plan.progress.era (drop 1 plan.progress.left)
+
+-- nothing is entered then
+pub settle_enters : (left : List PlanStep) → next_of left ≡ Settle → entering left ≡ None
+settle_enters [] is = absurd (cc is)
+settle_enters (Settle ∷ left) is = refl
+settle_enters (Enter era ∷ left) is = absurd (cc is)
+settle_enters (Finished ∷ left) is = refl
+
+settled_start : (era : Era) (left : List PlanStep) → next_of left ≡ Settle → IsStart era left → (0 < era.number) × IsStart era (drop 1 left)
+settled_start era [] is start = absurd (cc is)
+settled_start era (Settle ∷ []) is start = absurd start
+settled_start era (Settle ∷ Settle ∷ left) is start = absurd start
+settled_start era (Settle ∷ Finished ∷ left) is start = absurd start
+settled_start era (Settle ∷ Enter next ∷ left) is start = (start.0, (start.1, start.2))
+settled_start era (Enter next ∷ left) is start = absurd (cc is)
+settled_start era (Finished ∷ left) is start = absurd (cc is)
+
+pub at_settle : (greatest : ℕ) (eras : List Era) (plan : PlanView) (entries : List Entry) → next_of plan.progress.left ≡ Settle → IsCourse (course greatest eras (Some plan) entries) → AtSettle greatest eras plan entries
+at_settle greatest eras plan entries is was = record {
+  positive = begins.0;
+  none_entered = was.under_way.none_entered none;
+  in_base = λ id low. elim (was.under_way.each id low) [
+    | not_yet few same ↦ same
+    | entered there ↦ absurd (cc (there, none))
+  ];
+  all = was.entries.all begins.0;
+  start = begins.1;
+}
+  where
+    none : entering plan.progress.left ≡ None
+    none = settle_enters plan.progress.left is
+
+    begins : (0 < plan.progress.era.number) × IsStart plan.progress.era (drop 1 plan.progress.left)
+    begins = settled_start plan.progress.era plan.progress.left is was.under_way.start
+
+-- ---- the plan goes on, and all else stays
+-- other keys are listed or proposed anew
+pub course_relisted : (greatest : ℕ) (eras : List Era) (plan : PlanView) (entries : List Entry) (count : ℕ) (listing : Option ListingView) → IsCourse (course greatest eras (Some plan) entries)
+    → IsCourse (course greatest eras (Some (record plan { rescanned = count; listing = listing })) entries)
+course_relisted greatest eras plan entries count listing was = record {
+  few = was.few;
+  places = was.places;
+  sized = was.sized;
+  under_way = record {
+    start = was.under_way.start;
+    some_left = was.under_way.some_left;
+    none_entered = was.under_way.none_entered;
+    each = λ id low. elim (was.under_way.each id low) [
+      | not_yet few same ↦ not_yet few same
+      | entered there ↦ entered there
+    ];
+  };
+  entries = record { all = was.entries.all; led = was.entries.led; none_beyond = was.entries.none_beyond; counted = was.entries.counted };
+}
+
+-- the era is settled
+pub course_stepped : (greatest : ℕ) (eras : List Era) (plan : PlanView) (entries : List Entry) → next_of plan.progress.left ≡ Settle → IsCourse (course greatest eras (Some plan) entries)
+    → IsCourse (course greatest eras (Some (stepped plan)) entries)
+course_stepped greatest eras plan entries is was =
+    let at = at_settle greatest eras plan entries is was in
+    record {
+      few = was.few;
+      places = was.places;
+      sized = was.sized;
+      under_way = record {
+        start = at.start;
+        some_left = was.under_way.some_left;
+        none_entered = λ none. at.none_entered;
+        each = λ id low. not_yet (omega (arith, at.none_entered)) (at.in_base id low);
+      };
+      entries = record { all = was.entries.all; led = was.entries.led; none_beyond = was.entries.none_beyond; counted = was.entries.counted };
+    }
+
+pub course_listed : (greatest : ℕ) (eras : List Era) (plan : PlanView) (entries : List Entry) (listing : ListingView) → next_of plan.progress.left ≡ Settle → IsCourse (course greatest eras (Some plan) entries)
+    → IsCourse (course greatest eras (Some (with_listing plan listing)) entries)
+course_listed greatest eras plan entries listing is was = by_test (listing.complete && (length listing.keys == 0))
+  where
+    by_test : (b : Bool) → IsCourse (course greatest eras (Some (if b then stepped plan else record plan { listing = Some listing })) entries)
+    by_test true = course_stepped greatest eras plan entries is was
+    by_test false = course_relisted greatest eras plan entries plan.rescanned (Some listing) was

@@ -34,6 +34,7 @@ use Rattle.cas_cluster.specs.View.{Meaning, View, CallView, CallerView, IsAt, wi
 use Rattle.cas_cluster.proofs.Around.{Whole, Around, around, settles, leaves_both, leaves_desk}
 use Rattle.cas_cluster.proofs.Caches.{contains_without, ready_fewer, one_without}
 use Rattle.cas_cluster.proofs.Draws.{drew, drew_log, drew_vault, drew_ready, drew_caller, drew_messages, drew_around, vault_goes_on}
+use Rattle.cas_cluster.proofs.Others.{ended_open}
 use Rattle.cas_cluster.proofs.Places.{own_set, some_is, contains_none, contains_new, contains_older, queue_other}
 use Rattle.cas_cluster.proofs.FrameSteps.{joined_true}
 use Rattle.cas_cluster.proofs.RoundSteps.{none_waits}
@@ -195,7 +196,7 @@ quiets {S} {V} m cluster global old id caller call now flow rest was call_true q
           subst (λ (x : DeskView V). IsDeskTrue m cluster global.log global.made (era_at old id).number id c (queue_at flow id).messages x) (sym (own_set old.desks id now d at_d))
           (quiet_true m cluster global.log global.made id (era_at old id).number c (queue_at flow id).messages now none quiet);
       caller = λ c at_c. subst (IsCallerTrue global.log global.made id) (sym (own_set old.callers id (record caller { call = Some call }) c at_c))
-          (record { number = was.number; call = λ x is. subst (IsCallTrue global.log global.made id caller.number) (some_is is) call_true });
+          (record { number = was.number; call = λ x is. subst (IsCallTrue global.log global.made id caller.number) (some_is is) call_true; ended = ended_open global.log id caller.number caller.call call was.ended });
       own = subst (AreMessagesTrue global.log) (sym none) (λ each h. absurd (contains_none h));
       late = late;
     })

@@ -57,7 +57,7 @@ use Rattle.cas_cluster.specs.View.{Meaning, View, CallView, CallerView, IsAt, wi
 use Rattle.cas_cluster.proofs.AcceptorSteps.{answers, answered_global, answered_marks, reply_made, stops_within, finds_none}
 use Rattle.cas_cluster.proofs.Around.{parties_more, Whole, whole_of, logged, around, settles, Everyone, leaves_caller, leaves_desk, parties_seen, Everyone}
 use Rattle.cas_cluster.proofs.Events.{keeps}
-use Rattle.cas_cluster.proofs.Others.{calls_of_others, call_still, acceptor_still}
+use Rattle.cas_cluster.proofs.Others.{calls_of_others, no_floor_of, ended_open, call_still, acceptor_still}
 use Rattle.cas_cluster.proofs.Places.{same_or_not, some_is, own_set, queue_same, queue_other, has_queue, contains_new, contains_older, newest_or_older, contains_none, contains_append, contains_front, contains_back, contains_take, contains_drop, contains_at}
 
 -- ---- what waits
@@ -390,6 +390,7 @@ moves {S} {V} m cluster global old id caller call new flow at is_open proposed k
           (record {
             number = (whole.parties.callers id tt caller at).number;
             call = λ each is. subst (IsCallTrue global.log global.made id caller.number) (some_is is) is_true;
+            ended = ended_open global.log id caller.number caller.call new (whole.parties.callers id tt caller at).ended;
           });
       own = flows.own;
       late = flows.late;
@@ -537,7 +538,7 @@ harms {S} {V} m cluster global view id caller call acceptor down at is_open low 
             meets = whole.meets;
             history = history;
             acceptors = λ a each at_each. acceptor_still m cluster harm global.log a (global.kept a) history.lawful tt (whole.acceptors a each at_each);
-            parties = parties_more m cluster global.log global.made view Everyone harm history.orderly (λ p these. tt) whole.parties;
+            parties = parties_more m cluster global.log global.made view Everyone harm history.orderly (no_floor_of 0 {h = harm} tt) (λ p these. tt) whole.parties;
           };
           is_call = subst (λ (l : List ℕ). IsCallTrue harmed_log.log global.made id caller.number (record call { told = None; harmed = l; reserved = (harmed_by call acceptor).reserved })) (sym same)
               (call_with harmed_log.log global.made id caller.number call (with_member call.harmed acceptor) (harmed_by call acceptor).reserved (IsMemberSet-members_where (λ k. k == acceptor || has_member call.harmed k))

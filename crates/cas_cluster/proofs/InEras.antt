@@ -7,7 +7,7 @@ use Rattle.cas_flow.specs.declared.message.Message.{Message}
 use Rattle.cas_proposer.specs.Desk.{DeskView}
 use Rattle.cas_proposer.specs.declared.round.Round.{Round}
 use Rattle.cas_record.specs.declared.answer.Answer.{Answer}
-use Rattle.cas_cluster.specs.Council.{Question}
+use Rattle.cas_cluster.specs.Council.{Question, Probe, NextKeys}
 use Rattle.cas_cluster.specs.Course.{Course}
 use Rattle.cas_cluster.specs.History.{IsInEra, inside, torn}
 use Rattle.cas_cluster.specs.Parties.{IsWithin}
@@ -23,6 +23,7 @@ use Rattle.cas_cluster.specs.StepStops.{OpenCallAt, LeavesRound, GoesDown, close
 use Rattle.cas_cluster.specs.View.{Meaning, DiskMeaning, View, CallView, IsAt}
 use Rattle.cas_vault.specs.declared.vault.Vault.{Vault}
 use Rattle.cas_ballot.specs.declared.ballot.Ballot.{Ballot}
+use Rattle.cas_cluster.proofs.Asks.{where_drawn, tag_goes_on}
 use Rattle.cas_cluster.proofs.OnCourse.{Leads}
 use Rattle.cas_cluster.proofs.Places.{same_or_not, own_set, other_set}
 
@@ -109,8 +110,8 @@ begins_in {S} {V} m of old new id key program tells by was = in_round by.begins 
         one_changed m of _ _ id _ _ (ap (λ (w : View S V). w.desks) is) at (up_kept m.disks tells up (then_on (goes_on m.disks desk.id desk.vault loses.middle ballot loses.drawn) loses.goes_on)) mid
 
 no_begin_in : {S V : Type 0} (m : Meaning S V) (of : Course) (old new : View S V) (id : ℕ) (key : List ℕ) → m.disks.tells → calls.RefusesCall m old id key new → AreIn m of old.desks → AreIn m of new.desks
-no_begin_in {S} {V} m of old new id key tells (calls.stays is) was = none_changed m of (ap (λ (w : View S V). w.desks) is) was
-no_begin_in {S} {V} m of old new id key tells (calls.loses caller desk now ballot at_caller at none up loses is) was =
+no_begin_in {S} {V} m of old new id key tells (calls.stays told council why rescan is) was = none_changed m of (ap (λ (w : View S V). w.desks) is) was
+no_begin_in {S} {V} m of old new id key tells (calls.loses caller desk now ballot council at_caller at none up loses rescan is) was =
     one_changed m of _ _ id _ _ (ap (λ (w : View S V). w.desks) is) at (up_kept m.disks tells up (then_on (goes_on m.disks desk.id desk.vault loses.middle ballot loses.drawn) loses.goes_on)) was
 
 turn_in : {S V : Type 0} (m : Meaning S V) (of : Course) (old new : View S V) (id : ℕ) (v : Verdict) → StepTurn m old id v new → AreIn m of old.desks → AreIn m of new.desks
@@ -153,7 +154,7 @@ count_in {S} {V} m of old new id tells by was = in_phase by.counts
     in_phase (calls.counts now by outcome quorum confirmers proposed ends is) = one_changed m of _ _ id _ _ (ap (λ (w : View S V). w.desks) is) at.at_desk (up_kept m.disks tells at.up ends.goes_on) was
     in_phase (calls.ends now verdict why verdict_is cause ends is) = one_changed m of _ _ id _ _ (ap (λ (w : View S V). w.desks) is) at.at_desk (up_kept m.disks tells at.up ends.goes_on) was
 
-end_in : {S V : Type 0} (m : Meaning S V) (of : Course) (old new : View S V) (id : ℕ) (told : Answer) → m.disks.tells → StepEnd m old id told new → AreIn m of old.desks → AreIn m of new.desks
+pub end_in : {S V : Type 0} (m : Meaning S V) (of : Course) (old new : View S V) (id : ℕ) (told : Answer) → m.disks.tells → StepEnd m old id told new → AreIn m of old.desks → AreIn m of new.desks
 end_in {S} {V} m of old new id told tells by was = by_round by.ends.closed
   where
     desks : new.desks ≡ slice_set old.desks id by.ends.now
@@ -198,18 +199,18 @@ down_in {S} {V} m of DeskTurns old new id turns (stops.of_operator middle operat
     none_changed m of (ap (λ (w : View S V). w.desks) is) (left_in m of DeskTurns closed_by_crash old middle id turns leaves was)
 
 -- ---- the operator's calls
-ask_in : {S V : Type 0} (m : Meaning S V) (of : Course) (old new : View S V) (question : Question) → m.disks.tells → StepAskAll m old question new → AreIn m of old.desks → AreIn m of new.desks
+pub ask_in : {S V : Type 0} (m : Meaning S V) (of : Course) (old new : View S V) (question : Question) → m.disks.tells → StepAskAll m old question new → AreIn m of old.desks → AreIn m of new.desks
 ask_in {S} {V} m of old new question tells by was = in_case by.asks
   where
     at : IsAt old.desks 0 by.desk
     at = by.may.at_desk
 
     in_case : council.AsksAll m old question by.desk new → AreIn m of new.desks
-    in_case (council.asks now tag flow up room drawn now_is sends is) = one_changed m of _ _ 0 _ _ (ap (λ (w : View S V). w.desks) is) at (up_kept m.disks tells up drawn.goes_on) was
+    in_case (council.asks now tag flow up room tagged now_is sends is) = one_changed m of _ _ 0 _ _ (ap (λ (w : View S V). w.desks) is) at (up_kept m.disks tells up (tag_goes_on m.disks (council.listing_for old.council question) by.desk now tag tagged)) was
     in_case (council.is_down down is) = none_changed m of (ap (λ (w : View S V). w.desks) is) was
     in_case (council.is_full up full is) = none_changed m of (ap (λ (w : View S V). w.desks) is) was
     in_case (council.is_spent now up spent kept now_is is) = one_changed m of _ _ 0 _ _ (ap (λ (w : View S V). w.desks) is) at (up_kept m.disks tells up kept.goes_on) was
-    in_case (council.fails now up fails is) = one_changed m of _ _ 0 _ _ (ap (λ (w : View S V). w.desks) is) at (up_kept m.disks tells up fails.goes_on) was
+    in_case (council.fails now up fails is) = one_changed m of _ _ 0 _ _ (ap (λ (w : View S V). w.desks) is) at (up_kept m.disks tells up (where_drawn (council.listing_for old.council question) fails).goes_on) was
     in_case (council.no_memory now tag up loses is) =
         one_changed m of _ _ 0 _ _ (ap (λ (w : View S V). w.desks) is) at (up_kept m.disks tells up (then_on (goes_on m.disks by.desk.id by.desk.vault loses.middle tag loses.drawn) loses.goes_on)) was
 
@@ -222,14 +223,16 @@ ask_turn_in {S} {V} m of old new v by was = in_turn by.turn
     in_turn (council.answers request acceptor now reply fall front_is there table is) = none_changed m of (ap (λ (w : View S V). w.desks) is) was
     in_turn (council.finds_down request acceptor fall front_is there down is) = none_changed m of (ap (λ (w : View S V). w.desks) is) was
     in_turn (council.brings_down request acceptor now fall front_is there stops is) = none_changed m of (ap (λ (w : View S V). w.desks) is) was
-    in_turn (council.arrives reply fall front_is is) = none_changed m of (ap (λ (w : View S V). w.desks) is) was
+    in_turn (council.arrives reply fall front_is to_it is) = none_changed m of (ap (λ (w : View S V). w.desks) is) was
 
-gather_in : {S V : Type 0} (m : Meaning S V) (of : Course) (old new : View S V) → StepGather old new → AreIn m of old.desks → AreIn m of new.desks
+pub gather_in : {S V : Type 0} (m : Meaning S V) (of : Course) (old new : View S V) → StepGather old new → AreIn m of old.desks → AreIn m of new.desks
 gather_in {S} {V} m of old new by was = in_case by.gathers
   where
     in_case : council.Gathers old by.at.exchange new → AreIn m of new.desks
     in_case (council.crashed down is) = none_changed m of (ap (λ (w : View S V). w.desks) is) was
     in_case (council.probed key found up question keeps is) = none_changed m of (ap (λ (w : View S V). w.desks) is) was
+    in_case (council.lists lists_for listing up enough on is) = none_changed m of (ap (λ (w : View S V). w.desks) is) was
+    in_case (council.is_short lists_for short up missing is) = none_changed m of (ap (λ (w : View S V). w.desks) is) was
     in_case (council.no_memory up is) = none_changed m of (ap (λ (w : View S V). w.desks) is) was
 
 -- ---- all of them but those that lead on
@@ -240,7 +243,7 @@ desks_in m of old new (step.Turn id verdict) tells by was = inr (turn_in m of ol
 desks_in {S} {V} m of old new (step.RefuseTurn id) tells by was = inr (none_changed m of (ap (λ (w : View S V). w.desks) by.view) (no_room_in m of old by.middle by.refuses was))
 desks_in m of old new (step.Propose id) tells by was = inr (propose_in m of old new id tells by was)
 desks_in m of old new (step.Count id) tells by was = inr (count_in m of old new id tells by was)
-desks_in m of old new (step.End id told) tells by was = inr (end_in m of old new id told tells by was)
+desks_in m of old new (step.End id told) tells by was = inl tt
 desks_in m of old new (step.Stray index) tells by was = inr (stray_in m of old new index by.late by.strays was)
 desks_in m of old new step.RefuseStray tells by was = inr (no_room_in m of old new by was)
 desks_in m of old new (step.CrashAcceptor id) tells by was = inr (stop_in m of old new id by was)
@@ -250,9 +253,11 @@ desks_in m of old new (step.RestartProposer id) tells by was = inl tt
 desks_in {S} {V} m of old new (step.Order asked) tells by was = inr (none_changed m of (ap (λ (w : View S V). w.desks) by.view) was)
 desks_in {S} {V} m of old new step.RefuseOrder tells by was = inr (none_changed m of (ap (λ (w : View S V). w.desks) by) was)
 desks_in m of old new (step.Tell told) tells by was = inl tt
-desks_in m of old new (step.AskAll question) tells by was = inr (ask_in m of old new question tells by was)
+desks_in m of old new (step.AskAll (Probe key)) tells by was = inr (ask_in m of old new (Probe key) tells by was)
+desks_in m of old new (step.AskAll (NextKeys places)) tells by was = inl tt
 desks_in m of old new (step.TurnExchange verdict) tells by was = inr (ask_turn_in m of old new verdict by was)
 desks_in {S} {V} m of old new step.RefuseTurnExchange tells by was = inr (none_changed m of (ap (λ (w : View S V). w.desks) by.view) (no_room_in m of old by.middle by.refuses was))
-desks_in m of old new step.Gather tells by was = inr (gather_in m of old new by was)
+desks_in m of old new step.Gather tells by was = inl tt
+desks_in {S} {V} m of old new step.RefuseKey tells by was = inr (none_changed m of (ap (λ (w : View S V). w.desks) by.view) was)
 desks_in m of old new step.OpenPlan tells by was = inl tt
 desks_in m of old new (step.EnterEra id) tells by was = inl tt

@@ -22,6 +22,8 @@ pub mod Held
 pub mod InEras
 pub mod Known
 pub mod Leaving
+pub mod ListingExamples
+pub mod Listings
 pub mod Needed
 pub mod OnCourse
 pub mod OpeningPlans
@@ -34,11 +36,14 @@ pub mod Plans
 pub mod Proposals
 pub mod Proposes
 pub mod Proposing
+pub mod Remaining
 pub mod Remembering
+pub mod Rescanning
 pub mod Rides
 pub mod RoundSteps
 pub mod SafeCalls
 pub mod SafeCouncil
+pub mod SafeListings
 pub mod SafeOpens
 pub mod SafeParts
 pub mod SafePlans

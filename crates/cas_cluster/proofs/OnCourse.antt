@@ -1,7 +1,7 @@
 -- What calls leave the course of a cluster as it was: all but the restart of a proposer, and those by which the operator changes its
--- members.
-use Rattle.std.proofs.Common.{◌≡◌, ℕ, List, [], ◌∷◌, ◌++◌, refl, ap, ◌∙◌, inl, inr}
-use Rattle.std.specs.Prelude.{⊤, ◌⊎◌, suc, Bool, true, false, if◌then◌else◌}
+-- members and has keys listed and proposed anew.
+use Rattle.std.proofs.Common.{◌≡◌, ℕ, List, [], ◌∷◌, ◌++◌, Option, refl, ap, ◌∙◌, inl, inr}
+use Rattle.std.specs.Prelude.{option_map, ⊤, ◌⊎◌, suc, Bool, true, false, if◌then◌else◌}
 use Rattle.cas_ballot.specs.Members.{has_member}
 use Rattle.cas_change.specs.declared.program.Clause.{Clause}
 use Rattle.cas_fate.specs.declared.fate.Verdict.{Verdict}
@@ -17,22 +17,25 @@ use Rattle.cas_slot.specs.declared.message.Tell.TheVariants as tell
 use Rattle.cas_record.specs.Happening.{marks_of}
 use Rattle.cas_record.specs.declared.mark.Mark.{Mark}
 use Rattle.cas_record.specs.declared.mark.Mark.TheVariants.{Begun, Proposed, Voted, Acked, Floor, EraEntered, Ended, Harmed, Told}
+use Rattle.cas_record.specs.declared.answer.Answer.{Answer}
+use Rattle.cas_record.specs.declared.answer.Answer.TheVariants as answer
 use Rattle.cas_record.specs.declared.operator.Asked.{Asked}
 use Rattle.cas_record.specs.declared.operator.OpAnswer.{OpAnswer}
-use Rattle.cas_record.specs.declared.operator.OpAnswer.TheVariants as answer
+use Rattle.cas_record.specs.declared.operator.OpAnswer.TheVariants as told_it
 use Rattle.cas_cluster.specs.Acceptors.{votes_of}
-use Rattle.cas_cluster.specs.Council.{Question}
-use Rattle.cas_cluster.specs.Course.{Entry, entries_in, course_of}
+use Rattle.cas_cluster.specs.Council.{Probe, NextKeys, PlanView, without_partial}
+use Rattle.cas_cluster.specs.Course.{Entry, Course, entries_in, course_of}
 use Rattle.cas_cluster.specs.Step as step
-use Rattle.cas_cluster.specs.Step.{Event, Step, StepBegin, StepTurn, StepRefuseTurn, StepPropose, StepCount, StepCrashAcceptor, StepRestartAcceptor}
+use Rattle.cas_cluster.specs.Step.{Event, Step, StepBegin, StepTurn, StepRefuseTurn, StepPropose, StepCount, StepEnd, StepCrashAcceptor, StepRestartAcceptor}
 use Rattle.cas_cluster.specs.StepCalls as calls
 use Rattle.cas_cluster.specs.StepCouncil as council
-use Rattle.cas_cluster.specs.StepCouncil.{StepAskAll, StepTurnExchange, StepGather}
+use Rattle.cas_cluster.specs.StepCouncil.{StepAskAll, StepTurnExchange}
 use Rattle.cas_cluster.specs.StepDesks.{Crashes}
 use Rattle.cas_cluster.specs.StepFrames as frames
 use Rattle.cas_cluster.specs.StepStops as stops
 use Rattle.cas_cluster.specs.StepStops.{OpenCallAt, LeavesRound, GoesDown, closed_by_crash}
 use Rattle.cas_cluster.specs.View.{Meaning, View, CallView, with_marks}
+use Rattle.cas_cluster.proofs.Rescanning.{undone_plan, refused_undone}
 
 -- ---- marks that tell of no era
 pub entries_joined : (marks more : List Mark) → entries_in (marks ++ more) ≡ entries_in marks ++ entries_in more
@@ -79,9 +82,12 @@ begin_course {S} {V} m old new id key program by = in_round by.begins ∙ opens 
     in_round (calls.fails desk now at none up fails is) = ap course_of is
     in_round (calls.loses desk now ballot at none up loses is) = ap course_of is
 
+planned : {S V : Type 0} (view : View S V) {plan : Option PlanView} → plan ≡ view.council.plan → record (course_of view) { plan = plan } ≡ course_of view
+planned view same = ap (λ (p : Option PlanView). record (course_of view) { plan = p }) same
+
 no_begin_course : {S V : Type 0} (m : Meaning S V) (old new : View S V) (id : ℕ) (key : List ℕ) → calls.RefusesCall m old id key new → course_of new ≡ course_of old
-no_begin_course {S} {V} m old new id key (calls.stays is) = ap course_of is
-no_begin_course {S} {V} m old new id key (calls.loses caller desk now ballot at_caller at_desk none up loses is) = ap course_of is
+no_begin_course {S} {V} m old new id key (calls.stays told council why rescan is) = ap course_of is ∙ planned old (undone_plan old.council id key told council (refused_undone old id told why) rescan)
+no_begin_course {S} {V} m old new id key (calls.loses caller desk now ballot council at_caller at_desk none up loses rescan is) = ap course_of is ∙ planned old (undone_plan old.council id key (answer.NoMemory false) council refl rescan)
 
 turn_course : {S V : Type 0} (m : Meaning S V) (old new : View S V) (id : ℕ) (v : Verdict) → StepTurn m old id v new → course_of new ≡ course_of old
 turn_course {S} {V} m old new id v by = in_turn by.of_call by.front by.turn
@@ -140,10 +146,10 @@ down_course DeskTurns old new id (stops.of_client client leaves) = left_course D
 down_course {S} {V} DeskTurns old new id (stops.of_operator middle operator leaves is) = ap course_of is ∙ left_course DeskTurns closed_by_crash old middle id leaves
 
 -- ---- the operator's calls
-ask_course : {S V : Type 0} (m : Meaning S V) (old new : View S V) (question : Question) → StepAskAll m old question new → course_of new ≡ course_of old
-ask_course {S} {V} m old new question by = in_case by.asks
+ask_course : {S V : Type 0} (m : Meaning S V) (old new : View S V) (key : List ℕ) → StepAskAll m old (Probe key) new → course_of new ≡ course_of old
+ask_course {S} {V} m old new key by = in_case by.asks
   where
-    in_case : council.AsksAll m old question by.desk new → course_of new ≡ course_of old
+    in_case : council.AsksAll m old (Probe key) by.desk new → course_of new ≡ course_of old
     in_case (council.asks now tag flow up room drawn now_is sends is) = ap course_of is
     in_case (council.is_down down is) = ap course_of is
     in_case (council.is_full up full is) = ap course_of is
@@ -160,25 +166,28 @@ ask_turn_course {S} {V} m old new v by = in_turn by.turn
     in_turn (council.answers request acceptor now reply fall front_is there table is) = ap course_of is ∙ quiet old (frames.votes_marked request reply) (no_votes request.to request.ask reply.tell)
     in_turn (council.finds_down request acceptor fall front_is there down is) = ap course_of is ∙ quiet old (council.harm_marks by.at.exchange request.to true) (no_harms (has_member by.at.exchange.harmed request.to) _ _ _)
     in_turn (council.brings_down request acceptor now fall front_is there stops is) = ap course_of is ∙ quiet old (council.harm_marks by.at.exchange request.to true) (no_harms (has_member by.at.exchange.harmed request.to) _ _ _)
-    in_turn (council.arrives reply fall front_is is) = ap course_of is
+    in_turn (council.arrives reply fall front_is to_it is) = ap course_of is
 
-gather_course : {S V : Type 0} (old new : View S V) → StepGather old new → course_of new ≡ course_of old
-gather_course {S} {V} old new by = in_case by.gathers
+-- it is told something, and a listing that is not complete is dropped
+pub told_course : {S V : Type 0} (old : View S V) (asked : Asked) (answer : OpAnswer) → course_of (council.told_over old asked answer) ≡ record (course_of old) { plan = option_map without_partial old.council.plan }
+told_course old asked said = ap (λ (c : Course). record c { plan = option_map without_partial old.council.plan }) (quiet old (council.told_marks asked said) (no_entries asked said))
   where
-    in_case : council.Gathers old by.at.exchange new → course_of new ≡ course_of old
-    in_case (council.crashed down is) = ap course_of is
-    in_case (council.probed key found up question keeps is) = ap course_of is
-    in_case (council.no_memory up is) = ap course_of is
+    no_entries : (asked : Asked) (said : OpAnswer) → entries_in (council.told_marks asked said) ≡ []
+    no_entries asked (told_it.Probed key found) = refl
+    no_entries asked said = refl
 
-pub told_course : {S V : Type 0} (old : View S V) (asked : Asked) (answer : OpAnswer) → course_of (council.told_over old asked answer) ≡ course_of old
-told_course old asked (answer.Probed key found) = quiet old [] refl
-told_course old asked said = quiet old (Told asked said ∷ []) refl
+-- a call ends, and a key that is proposed anew is no longer listed
+pub end_course : {S V : Type 0} (m : Meaning S V) (old new : View S V) (id : ℕ) (told : Answer) → (by : StepEnd m old id told new) → course_of new ≡ record (course_of old) { plan = by.ends.council.plan }
+end_course {S} {V} m old new id told by = ap course_of by.ends.view ∙ ap (λ (c : Course). record c { plan = by.ends.council.plan }) (quiet old (Ended id by.of_call.caller.number by.of_call.call.rounds told ∷ []) refl)
 
 -- ---- all of them
 -- the calls that may lead on
 abbrev pub Leads : Event → Type 0
 Leads (step.RestartProposer proposer) = ⊤
+Leads (step.End caller answer) = ⊤
 Leads (step.Tell answer) = ⊤
+Leads (step.AskAll (NextKeys places)) = ⊤
+Leads step.Gather = ⊤
 Leads step.OpenPlan = ⊤
 Leads (step.EnterEra proposer) = ⊤
 Leads other = ⊥
@@ -191,7 +200,7 @@ on_course m old new (step.Turn id verdict) by = inr (turn_course m old new id ve
 on_course {S} {V} m old new (step.RefuseTurn id) by = inr (ap course_of by.view ∙ no_room_course m old by.middle by.refuses)
 on_course m old new (step.Propose id) by = inr (propose_course m old new id by)
 on_course m old new (step.Count id) by = inr (count_course m old new id by)
-on_course {S} {V} m old new (step.End id told) by = inr (ap course_of by.ends.view ∙ quiet old (Ended id by.of_call.caller.number by.of_call.call.rounds told ∷ []) refl)
+on_course m old new (step.End id told) by = inl tt
 on_course m old new (step.Stray index) by = inr (stray_course m old new index by.late by.strays)
 on_course m old new step.RefuseStray by = inr (no_room_course m old new by)
 on_course m old new (step.CrashAcceptor id) by = inr (stop_course m old new id by)
@@ -201,9 +210,11 @@ on_course m old new (step.RestartProposer id) by = inl tt
 on_course {S} {V} m old new (step.Order asked) by = inr (ap course_of by.view)
 on_course {S} {V} m old new step.RefuseOrder by = inr (ap course_of by)
 on_course m old new (step.Tell told) by = inl tt
-on_course m old new (step.AskAll question) by = inr (ask_course m old new question by)
+on_course m old new (step.AskAll (Probe key)) by = inr (ask_course m old new key by)
+on_course m old new (step.AskAll (NextKeys places)) by = inl tt
 on_course m old new (step.TurnExchange verdict) by = inr (ask_turn_course m old new verdict by)
 on_course {S} {V} m old new step.RefuseTurnExchange by = inr (ap course_of by.view ∙ no_room_course m old by.middle by.refuses)
-on_course m old new step.Gather by = inr (gather_course old new by)
+on_course m old new step.Gather by = inl tt
+on_course {S} {V} m old new step.RefuseKey by = inr (ap course_of by.view)
 on_course m old new step.OpenPlan by = inl tt
 on_course m old new (step.EnterEra id) by = inl tt

@@ -1,6 +1,6 @@
 -- A cluster that is remembered is remembered once a change of membership is under way: its cluster is widened by the eras that the change
 -- leads to.
-use Rattle.std.proofs.Common.{◌≡◌, ◌≤◌, ◌<◌, ℕ, List, Option, None, Some, sym, ap, subst, arith}
+use Rattle.std.proofs.Common.{◌≡◌, ◌≤◌, ◌<◌, ℕ, List, Option, None, Some, sym, ap, subst, inl, arith}
 use Rattle.std.specs.Prelude.{Ok}
 use Rattle.cas_members.specs.Plan.{eras_in}
 use Rattle.cas_members.specs.Steps.{Progress}
@@ -10,7 +10,8 @@ use Rattle.cas_record.specs.declared.operator.Asked.{Asked}
 use Rattle.cas_record.specs.Lawful.{Cluster}
 use Rattle.cas_cluster.specs.Council.{PlanView, Council}
 use Rattle.cas_cluster.specs.Course.{IsNoEra, course_of, entries_in, IsSettled, IsCourseOf}
-use Rattle.cas_cluster.specs.History.{IsInEra, inside, torn, IsRemembered}
+use Rattle.cas_cluster.specs.Listed.{IsPlanTrue}
+use Rattle.cas_cluster.specs.History.{IsLogged, IsInEra, inside, torn, IsRemembered}
 use Rattle.cas_cluster.specs.Parties.{IsEraOf}
 use Rattle.cas_cluster.specs.StepPlans.{IsPlanned, new_plan}
 use Rattle.cas_cluster.specs.View.{Meaning, View, era_at}
@@ -29,9 +30,9 @@ pub plan_opened : {S V : Type 0} (m : Meaning S V) (old : View S V) (used : List
     → IsRemembered m old → IsRemembered m (record old { council = next })
 plan_opened {S} {V} m old used asked progress next same_exchange is_plan none planned is = record {
   cluster = wider;
-  logged = counsels_by m old next same_exchange (wider_logged m is.cluster wider progress.era later old more low is.logged);
+  logged = counsels_by m old next same_exchange wide (subst (IsPlanTrue wider wide.global.log) (sym is_plan) (record { settled = λ era enters. inl (begins.first era enters); listing = λ listing none. absurd (cc none) }));
   course = subst (λ (plan : Option PlanView). IsCourseOf wider (course old.greatest old.eras plan (entries_in old.marks))) (sym is_plan) (record {
-    is_course = course_opened old.greatest old.eras (entries_in old.marks) asked progress begins.era begins.start begins.first on.is_course;
+    is_course = course_opened old.greatest old.eras (entries_in old.marks) asked progress begins.era begins.start on.is_course;
     later = more.has;
     none_beyond = more.none_beyond;
   });
@@ -67,6 +68,9 @@ plan_opened {S} {V} m old used asked progress next same_exchange is_plan none pl
 
     low : (id : ℕ) → id ≤ old.greatest → (era_at old id).number ≤ progress.era.number
     low id known = omega (arith, ap (λ (e : Era). e.number) (settled.same id known), ap (λ (e : Era). e.number) begins.era)
+
+    wide : IsLogged m wider old
+    wide = wider_logged m is.cluster wider progress.era later old more low none is.logged
 
     in_era : (id : ℕ) (desk : DeskView V) → IsInEra m (course_of old) id desk → IsInEra m (course_of (record old { council = next })) id desk
     in_era id desk (inside within) = inside within

@@ -20,6 +20,7 @@ use Rattle.cas_record.proofs.PlaceLemmas.{none_at_nil}
 use Rattle.cas_record.proofs.Tests.{nat_same}
 use Rattle.cas_cluster.specs.Council.{Council}
 use Rattle.cas_cluster.specs.History.{IsLogged, inside, IsRemembered}
+use Rattle.cas_cluster.specs.Listed.{IsCouncilTrue}
 use Rattle.cas_cluster.specs.Parties.{AreMessagesTrue, IsEraOf, IsWithin, AreReady, HaveOneEach, HasNone, IsOpenTrue, IsCallerTrue}
 use Rattle.cas_cluster.specs.Course.{entries_in, course_of, IsNoEra, IsCourse, IsCourseOf}
 use Rattle.cas_cluster.specs.Protocol.{opening}
@@ -121,8 +122,8 @@ opening_logged {S} {V} m shelves disks members view is = logged m cluster openin
       none_open = subst (λ (r : Option Round). HasNone r desk.cache) (sym fresh.1.none_open) tt;
       round = subst (IsOpenTrue cluster [] [] p (era_at view p).number caller (queue_at view.flow p).messages) (sym fresh.1.none_open) (none_under_way view.flow p is.flow);
     };
-    callers = λ p these caller at. subst (IsCallerTrue [] [] p) (sym (is.callers p caller at)) (record { number = refl; call = λ call none. absurd (cc none) });
-    council = λ exchange is_open. absurd (cc (is_open, ap (λ (c : Council). c.exchange) is.council));
+    callers = λ p these caller at. subst (IsCallerTrue [] [] p) (sym (is.callers p caller at)) (record { number = refl; call = λ call none. absurd (cc none); ended = λ call is_proposed. absurd (none_at_nil is_proposed.stands.at) });
+    council = subst (IsCouncilTrue cluster []) (sym is.council) (λ exchange none. absurd (cc none), tt);
     own = λ p. no_messages (queue_at view.flow p).messages (none_under_way view.flow p is.flow);
     late = no_messages view.flow.late (ap (λ (f : FlowView). f.late) is.flow);
   };

@@ -1,6 +1,6 @@
 -- What others do changes nothing of what a party knows: of a desk, of a caller, and of the frames under way.
 use Rattle.std.proofs.Common.{◌≡◌, ◌≤◌, ℕ, suc, List, ◌∷◌, Option, None, Some, refl, sym, ap, subst, ◌∙◌, inl, inr, arith}
-use Rattle.std.specs.Prelude.{⊤, ◌==◌}
+use Rattle.std.specs.Prelude.{⊤, ◌⊎◌, ◌==◌}
 use Rattle.cas_base.proofs.Bools.{if_false, true_or_false}
 use Rattle.cas_ballot.specs.declared.ballot.Ballot.{Ballot}
 use Rattle.cas_cache.specs.declared.ready.Ready.{Ready}
@@ -22,18 +22,21 @@ use Rattle.cas_record.specs.declared.mark.Mark.{Mark}
 use Rattle.cas_record.specs.declared.mark.Mark.TheVariants.{Begun, Proposed, Floor, Ended, Harmed}
 use Rattle.cas_record.specs.declared.mark.Proposal.{Proposal}
 use Rattle.cas_record.specs.Happening.{Happening, Marked, Asked, Entered, Drew, marks_of}
-use Rattle.cas_record.specs.Lawful.{Cluster, Lawful, IsIn}
-use Rattle.cas_record.specs.Legal.{HasFloor, IsProposed, IsAcked, calls_of, harms_of}
+use Rattle.cas_record.specs.Lawful.{Cluster, Lawful, IsIn, AllEntered, IsRescanned}
+use Rattle.cas_record.specs.Legal.{HasFloor, IsProposed, IsEnded, IsAcked, calls_of, harms_of}
 use Rattle.cas_record.specs.Chain.{is_call}
 use Rattle.cas_record.specs.Orderly.{Orderly, HasReason, MayAsk, IsAboveFloors}
-use Rattle.cas_record.specs.Places.{Stands, past}
-use Rattle.cas_record.proofs.PlaceLemmas.{newest_or}
+use Rattle.cas_record.specs.Listing.{WasAbsent}
+use Rattle.cas_record.specs.Places.{Stands, past, IsOlderPart, whole}
+use Rattle.cas_record.specs.Places.{later as older_by}
+use Rattle.cas_record.proofs.PlaceLemmas.{newest_or, at_part}
 use Rattle.cas_record.proofs.Tests.{nat_same, step_up}
 use Rattle.cas_cluster.specs.Acceptors.{IsElsewhere}
-use Rattle.cas_cluster.specs.Council.{Council}
-use Rattle.cas_cluster.specs.Parties.{IsAcceptorTrue, WasMade, IsMessageTrue, AreMessagesTrue, WereMade, IsInHand, IsHeldReady, IsPrepareTrue, IsRideTrue, IsAcceptTrue, IsRoundTrue, IsOpenTrue, IsVaultTrue, IsDeskTrue, IsRefusalTrue, IsToldTrue, IsCallTrue, IsCallerTrue, IsCouncilTrue}
+use Rattle.cas_cluster.specs.Council.{Place, GoesOn, Ended, place_in, ListingView, ExchangeView, PlanView, Council}
+use Rattle.cas_cluster.specs.Listed.{IsShown, rescanned, listed, absent, AreShown, IsListingTrue, IsPlanTrue, IsAskingTrue, IsCouncilTrue}
+use Rattle.cas_cluster.specs.Parties.{IsAcceptorTrue, WasMade, IsMessageTrue, AreMessagesTrue, WereMade, IsInHand, IsHeldReady, IsPrepareTrue, IsRideTrue, IsAcceptTrue, IsRoundTrue, IsOpenTrue, IsVaultTrue, IsDeskTrue, IsRefusalTrue, IsToldTrue, IsCallTrue, AreEnded, IsCallerTrue}
 use Rattle.cas_cluster.specs.Proposers.{AllRide}
-use Rattle.cas_cluster.specs.Protocol.{Made, HasMade}
+use Rattle.cas_cluster.specs.Protocol.{Made, HasMade, IsListed}
 use Rattle.cas_cluster.specs.View.{Meaning, CallView, CallerView}
 use Rattle.cas_cluster.proofs.Events.{mark_now}
 use Rattle.cas_cluster.proofs.Staying.{left_still}
@@ -69,15 +72,6 @@ replies_still h log replies were reply has = reply_still h log (were reply has)
 pub message_still : (h : Happening) (log : List Happening) (each : Message) → IsMessageTrue log each → IsMessageTrue (h ∷ log) each
 message_still h log (message.Request request) was = later was
 message_still h log (message.Reply reply) was = reply_still h log was
-
--- what is known of an exchange stays
-pub council_still : (h : Happening) (log : List Happening) (council : Council) → IsCouncilTrue log council → IsCouncilTrue (h ∷ log) council
-council_still h log council were exchange is_open = let was = were exchange is_open in record {
-  own = was.own;
-  era = was.era;
-  drawn = later was.drawn;
-  told = λ place answer told at is. let before = was.told place answer told at is in record { reply = before.reply; made = reply_still h log before.made; same_from = before.same_from; same_tell = before.same_tell };
-}
 
 pub messages_still : (h : Happening) (log : List Happening) (messages : List Message) → AreMessagesTrue log messages → AreMessagesTrue (h ∷ log) messages
 messages_still h log messages were each has = message_still h log each (were each has)
@@ -142,7 +136,7 @@ not_of : {id : ℕ} {h : Happening} {key : List ℕ} {ballot : Ballot} → IsOfO
 not_of {id} others own p now same_key same_ballot =
     let of : IsOfOthers id (Marked (Proposed p)) = subst (IsOfOthers id) (sym now) others in of.1 (ap (λ (b : Ballot). b.proposer) same_ballot ∙ own)
 
-no_floor_of : (id : ℕ) {h : Happening} → IsOfOthers id h → FloorsNot h
+pub no_floor_of : (id : ℕ) {h : Happening} → IsOfOthers id h → FloorsNot h
 no_floor_of id others key floor state now = let of : IsOfOthers id (Marked (Floor key floor state)) = subst (IsOfOthers id) (sym now) others in of
 
 -- whoever was asked to accept the proposer's ballot was asked by it
@@ -292,6 +286,84 @@ not_proposed_still h log leaves was is = elim (mark_now h log is.stands) [
 pub acked_later : (h : Happening) (log : List Happening) {key : List ℕ} {ballot : Ballot} → IsAcked key ballot (marks_of log) → IsAcked key ballot (marks_of (h ∷ log))
 acked_later h log was = record { acknowledgment = was.acknowledgment; stands = mark_later h log was.stands; same_key = was.same_key; same_ballot = was.same_ballot }
 
+-- ---- the operator
+exchange_still : (h : Happening) (log : List Happening) (open_ : Option ExchangeView) → IsAskingTrue log open_ → IsAskingTrue (h ∷ log) open_
+exchange_still h log open_ were exchange is_open = let was = were exchange is_open in record {
+  own = was.own;
+  era = was.era;
+  drawn = later was.drawn;
+  told = λ place answer told at is. let before = was.told place answer told at is in
+      record { reply = before.reply; made = reply_still h log before.made; same_from = before.same_from; same_tell = before.same_tell; to_it = before.to_it };
+}
+
+marks_later : (h : Happening) (log : List Happening) → IsOlderPart (marks_of log) (marks_of (h ∷ log))
+marks_later (Marked mark) log = older_by whole
+marks_later h log = whole
+
+entered_later : (cluster : Cluster) (h : Happening) (log : List Happening) {era : ℕ} → AllEntered cluster era (marks_of log) → AllEntered cluster era (marks_of (h ∷ log))
+entered_later cluster h log were proposer known = mark_later h log (were proposer known)
+
+rescan_later : {cluster : Cluster} (h : Happening) (log : List Happening) {era : ℕ} {key : List ℕ} → IsRescanned cluster era key (marks_of log) → IsRescanned cluster era key (marks_of (h ∷ log))
+rescan_later h log was = record {
+  proposal = was.proposal;
+  older = was.older;
+  proposed = at_part was.proposed (marks_later h log);
+  same_key = was.same_key;
+  same_era = was.same_era;
+  entered = was.entered;
+  acked = acked_later h log was.acked;
+}
+
+absent_later : {cluster : Cluster} (h : Happening) (log : List Happening) {era acceptor : ℕ} {key : List ℕ} → WasAbsent cluster era log acceptor key → WasAbsent cluster era (h ∷ log) acceptor key
+absent_later h log was = record { then = was.then; part = older_by was.part; entered = was.entered; none = was.none }
+
+-- what was listed stays so
+shown_later : (cluster : Cluster) (h : Happening) (log : List Happening) {era member : ℕ} {keys : List (List ℕ)} {key : List ℕ} → IsShown cluster log era member keys key → IsShown cluster (h ∷ log) era member keys key
+shown_later cluster h log (rescanned is) = rescanned (rescan_later h log is)
+shown_later cluster h log (listed is) = listed is
+shown_later cluster h log (absent is) = absent (absent_later h log is)
+
+are_shown_later : (cluster : Cluster) (h : Happening) (log : List Happening) (era member : ℕ) (keys : List (List ℕ)) (place : Place) → AreShown cluster log era member keys place → AreShown cluster (h ∷ log) era member keys place
+are_shown_later cluster h log era member keys (GoesOn after) were = λ key low. shown_later cluster h log (were key low)
+are_shown_later cluster h log era member keys Ended were = λ key. shown_later cluster h log (were key)
+
+listing_still : (cluster : Cluster) (h : Happening) (log : List Happening) (era : ℕ) (listing : ListingView) → FloorsNot h → IsListingTrue cluster log era listing → IsListingTrue cluster (h ∷ log) era listing
+listing_still cluster h log era listing none was = record {
+  own = was.own;
+  drawn = record { older = was.drawn.older; at = past was.drawn.at };
+  above_floors = above_still h log none was.above_floors;
+  entered = was.entered;
+  all_ended = was.all_ended;
+  shown = λ member. are_shown_later cluster h log era member listing.keys (place_in listing.places member) (was.shown member);
+  quorum = was.quorum;
+}
+
+listed_still : (cluster : Cluster) (h : Happening) (log : List Happening) (era : ℕ) → IsListed cluster log era → IsListed cluster (h ∷ log) era
+listed_still cluster h log era was = record {
+  all_in = entered_later cluster h log was.all_in;
+  by = was.by;
+  quorum = was.quorum;
+  shown = λ acceptor key member. elim (was.shown acceptor key member) [
+    | inl is ↦ inl (rescan_later h log is)
+    | inr is ↦ inr (absent_later h log is)
+  ];
+}
+
+pub plan_still : (cluster : Cluster) (h : Happening) (log : List Happening) (plan : Option PlanView) → FloorsNot h → IsPlanTrue cluster log plan → IsPlanTrue cluster (h ∷ log) plan
+plan_still cluster h log None none was = tt
+plan_still cluster h log (Some plan) none was = record {
+  settled = λ next is. elim (was.settled next is) [
+    | inl first ↦ inl first
+    | inr is_listed ↦ inr (listed_still cluster h log plan.progress.era.number is_listed)
+  ];
+  listing = λ listing is. listing_still cluster h log plan.progress.era.number listing none (was.listing listing is);
+}
+
+-- what is known of what the operator has under way stays
+pub council_still : (cluster : Cluster) (h : Happening) (log : List Happening) (council : Council) → FloorsNot h → IsCouncilTrue cluster log council → IsCouncilTrue cluster (h ∷ log) council
+council_still cluster h log council none was = (exchange_still h log council.exchange was.0, plan_still cluster h log council.plan none was.1)
+
+-- ---- what callers are told
 refusal_still : (h : Happening) (log : List Happening) {id number : ℕ} {told : Answer} → LeavesCalls h id → IsRefusalTrue log id number told → IsRefusalTrue (h ∷ log) id number told
 refusal_still h log {id} {number} leaves was = record {
   refused = λ e. not_proposed_still h log leaves (was.refused e);
@@ -306,6 +378,7 @@ told_still h log all id number (answer.Done state took ballot) leaves was = reco
   same_caller = was.same_caller;
   same_call = was.same_call;
   same_ballot = was.same_ballot;
+  own = was.own;
   same_outcome = was.same_outcome;
   acked = acked_later h log was.acked;
 }
@@ -325,10 +398,33 @@ call_still h log all {id} {number} leaves was = record {
   told = λ told is. told_still h log all id number told leaves (was.told told is);
 }
 
+-- a call that was ended is
+pub ended_later : (h : Happening) (log : List Happening) {id number : ℕ} → IsEnded id number (marks_of log) → IsEnded id number (marks_of (h ∷ log))
+ended_later h log was = record { rounds = was.rounds; answer = was.answer; stands = mark_later h log was.stands }
+
+-- another one is open
+pub ended_open : (log : List Happening) (id number : ℕ) (open_ : Option CallView) (now : CallView) → AreEnded log id number open_ → AreEnded log id number (Some now)
+ended_open log id number open_ now were call is = elim (were call is) [
+  | inl open_ ↦ inl (refl, open_.1)
+  | inr ended ↦ inr ended
+]
+
+-- no other call is proposed
+ended_still : (h : Happening) (log : List Happening) {id call : ℕ} {Open : Type 0} → LeavesCalls h id → (IsProposed id call (marks_of log) → Open ⊎ IsEnded id call (marks_of log))
+    → IsProposed id call (marks_of (h ∷ log)) → Open ⊎ IsEnded id call (marks_of (h ∷ log))
+ended_still h log leaves was is = elim (mark_now h log is.stands) [
+  | inl now ↦ absurd (leaves.proposes is.proposal now is.same_caller)
+  | inr before ↦ elim (was (record { proposal = is.proposal; stands = before; same_caller = is.same_caller; same_call = is.same_call })) [
+    | inl open_ ↦ inl open_
+    | inr ended ↦ inr (ended_later h log ended)
+  ]
+]
+
 pub caller_still : (h : Happening) (log : List Happening) (all : List Made) {id : ℕ} (caller : CallerView) → LeavesCalls h id → IsCallerTrue log all id caller → IsCallerTrue (h ∷ log) all id caller
 caller_still h log all {id} caller leaves was = record {
   number = was.number ∙ sym (calls_still h log id leaves);
   call = λ call is. call_still h log all leaves (was.call call is);
+  ended = λ call is. ended_still h log leaves (was.ended call) is;
 }
 
 pub calls_of_others : (h : Happening) (id : ℕ) → IsOfOthers id h → LeavesCalls h id
@@ -426,6 +522,7 @@ told_more log id number (answer.Done state took ballot) more was = record {
   same_caller = was.same_caller;
   same_call = was.same_call;
   same_ballot = was.same_ballot;
+  own = was.own;
   same_outcome = was.same_outcome;
   acked = was.acked;
 }
@@ -434,6 +531,7 @@ told_more log id number told more was = was
 pub caller_more : (log : List Happening) {all more : List Made} {id : ℕ} (caller : CallerView) → ((m : Made) → Stands m all → Stands m more) → IsCallerTrue log all id caller → IsCallerTrue log more id caller
 caller_more log {id = id} caller more was = record {
   number = was.number;
+  ended = was.ended;
   call = λ call is. let of = was.call call is in record {
     begun = of.begun;
     open_yet = of.open_yet;

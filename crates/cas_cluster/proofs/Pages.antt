@@ -24,7 +24,8 @@ lt_is Less e = refl
 lt_is Equal e = cc
 lt_is Greater e = cc
 
-below_above : (a b c : List ℕ) → is_above (Some a) b ≡ true → is_above (Some b) c ≡ true → is_above (Some a) c ≡ true
+-- of three keys
+pub below_above : (a b c : List ℕ) → is_above (Some a) b ≡ true → is_above (Some b) c ≡ true → is_above (Some a) c ≡ true
 below_above a b c p q =
     let first : slice_cmp nat_cmp a b ≡ Less = lt_is (slice_cmp nat_cmp a b) p in
     ap is_lt (le_lt_trans nat_list_cmp_total a b c (subst (λ o. IsTrue (is_le o)) (sym first) refl) (lt_is (slice_cmp nat_cmp b c) q))

@@ -1,9 +1,9 @@
 -- What leads a cluster on to another era, in its log: a proposer that is up again in the next one, and one that enters it.
 use Rattle.std.proofs.Common.{◌≡◌, ◌≤◌, ◌<◌, ℕ, suc, List, [], ◌∷◌, None, reverse, refl, sym, ap, subst, ◌∙◌, inl, inr, arith}
 use Rattle.std.specs.Prelude.{Contains}
-use Rattle.std.proofs.lemmas.List.{reverse-append}
+use Rattle.std.proofs.lemmas.List.{reverse-append, reverse-reverse}
 use Rattle.cas_proposer.specs.Desk.{DeskView}
-use Rattle.cas_round.proofs.Lists.{Has, contains}
+use Rattle.cas_round.proofs.Lists.{Has, has, contains}
 use Rattle.cas_vault.specs.declared.vault.Vault.{Vault}
 use Rattle.cas_vault.specs.Vault.{IsPast}
 use Rattle.cas_record.specs.declared.mark.Mark.{Mark}
@@ -66,6 +66,29 @@ has_entry proposer era (Told asked answer ∷ marks) (inr there) = has_entry pro
 -- who is marked so is among the entries
 pub entry_there : (marks : List Mark) (proposer era : ℕ) → Stands (EraEntered proposer era) (reverse marks) → Contains (entries_in marks) (record { proposer = proposer; era = era })
 entry_there marks proposer era stands = contains _ (entries_in marks) (has_entry proposer era marks (has_reverse (EraEntered proposer era) marks (has_it stands.at)))
+
+-- and who is among them is marked so
+marked_entry : (proposer era : ℕ) (marks : List Mark) → Has (record { proposer = proposer; era = era }) (entries_in marks) → Has (EraEntered proposer era) marks
+marked_entry proposer era [] none = absurd none
+marked_entry proposer era (EraEntered p e ∷ marks) (inl same) = inl (ap (λ (entry : Entry). EraEntered entry.proposer entry.era) same)
+marked_entry proposer era (EraEntered p e ∷ marks) (inr there) = inr (marked_entry proposer era marks there)
+marked_entry proposer era (Begun caller call key program ∷ marks) there = inr (marked_entry proposer era marks there)
+marked_entry proposer era (Proposed p ∷ marks) there = inr (marked_entry proposer era marks there)
+marked_entry proposer era (Voted acceptor key ballot ∷ marks) there = inr (marked_entry proposer era marks there)
+marked_entry proposer era (Acked a ∷ marks) there = inr (marked_entry proposer era marks there)
+marked_entry proposer era (Floor key ballot state ∷ marks) there = inr (marked_entry proposer era marks there)
+marked_entry proposer era (Ended caller call rounds answer ∷ marks) there = inr (marked_entry proposer era marks there)
+marked_entry proposer era (Harmed caller call down ∷ marks) there = inr (marked_entry proposer era marks there)
+marked_entry proposer era (Told asked answer ∷ marks) there = inr (marked_entry proposer era marks there)
+
+stands_of : {A : Type 0} {x : A} (xs : List A) → Has x xs → Stands x xs
+stands_of [] none = absurd none
+stands_of {A} {x} (y ∷ xs) (inl same) = record { older = xs; at = subst (λ (z : A). At z xs (y ∷ xs)) same here }
+stands_of (y ∷ xs) (inr there) = let is = stands_of xs there in record { older = is.older; at = past is.at }
+
+pub entry_stands : (marks : List Mark) (proposer era : ℕ) → Contains (entries_in marks) (record { proposer = proposer; era = era }) → Stands (EraEntered proposer era) (reverse marks)
+entry_stands marks proposer era among =
+    stands_of (reverse marks) (has_reverse (EraEntered proposer era) (reverse marks) (subst (Has (EraEntered proposer era)) (sym (reverse-reverse marks)) (marked_entry proposer era marks (has _ (entries_in marks) among))))
 
 -- ---- nobody is beyond
 -- Where a proposer is not marked as in an era, nobody entered the one after it.

@@ -1,5 +1,5 @@
 -- The plans of the table are paths: what they enter follows each other and meets, and the last of it is whole.
-use Rattle.std.proofs.Common.{◌≡◌, ◌<◌, ◌≤◌, ℕ, ◌+◌, suc, List, [], ◌∷◌, ◌++◌, length, Some, refl, sym, ap, subst, arith}
+use Rattle.std.proofs.Common.{◌≡◌, ◌<◌, ◌≤◌, ℕ, ◌+◌, zero, suc, List, [], ◌∷◌, ◌++◌, length, Some, refl, sym, ap, subst, arith}
 use Rattle.std.specs.Prelude.{⊤, ◌==◌, ◌||◌, ◌%◌, nat_le, Bool, true, false, if◌then◌else◌, Ok, Err}
 use Rattle.std.proofs.lemmas.Bool.{leb-false}
 use Rattle.cas_base.proofs.Bools.{or_right}
@@ -42,15 +42,19 @@ record Goes (era : Era) (left : List PlanStep) : Type 0 where
   pub first : (next : Era) → entering left ≡ Some next → era.number ≡ 0
   pub meets : NeighboursMeet (era ∷ eras_in left)
 
+positive : (n : ℕ) → (n == 0) ≡ false → 0 < n
+positive zero is = absurd (cc is)
+positive (suc n) is = omega arith
+
 at_once : (era next : Era) → Follows era next → IsWhole next → NeighboursMeet (era ∷ next ∷ []) → (settled : Bool) → (era.number == 0) ≡ settled
     → Goes era ((if settled then [] else Settle ∷ []) ++ Enter next ∷ [])
 at_once era next follows whole meets true is = record { start = (follows, whole); first = λ e enters. nat_same is; meets = meets }
-at_once era next follows whole meets false is = record { start = (follows, whole); first = λ e enters. absurd (cc enters); meets = meets }
+at_once era next follows whole meets false is = record { start = (positive era.number is, follows, whole); first = λ e enters. absurd (cc enters); meets = meets }
 
 by_half : (era half last : Era) → Follows era half → Follows half last → IsWhole last → NeighboursMeet (era ∷ half ∷ last ∷ []) → (settled : Bool) → (era.number == 0) ≡ settled
     → Goes era ((if settled then [] else Settle ∷ []) ++ Enter half ∷ Settle ∷ Enter last ∷ [])
-by_half era half last first second whole meets true is = record { start = (first, (second, whole)); first = λ e enters. nat_same is; meets = meets }
-by_half era half last first second whole meets false is = record { start = (first, (second, whole)); first = λ e enters. absurd (cc enters); meets = meets }
+by_half era half last first second whole meets true is = record { start = (first, (omega (arith, first.number), second, whole)); first = λ e enters. nat_same is; meets = meets }
+by_half era half last first second whole meets false is = record { start = (positive era.number is, first, (omega (arith, first.number), second, whole)); first = λ e enters. absurd (cc enters); meets = meets }
 
 join_goes : (era : Era) (id : ℕ) → IsWhole era → Goes era (join_steps era id)
 join_goes era id whole = by_parity (length era.prep % 2 == 1)
@@ -158,7 +162,7 @@ AreNext base (next ∷ later) = Follows base next × AreNext next later
 
 path_next : (era : Era) (left : List PlanStep) → IsPath era left → AreNext era (eras_in left)
 path_next era [] is = tt
-path_next era (Settle ∷ Enter next ∷ left) is = (is.0, path_next next left is.1)
+path_next era (Settle ∷ Enter next ∷ left) is = (is.1, path_next next left is.2)
 path_next era (Settle ∷ []) is = absurd is
 path_next era (Settle ∷ Settle ∷ left) is = absurd is
 path_next era (Settle ∷ Finished ∷ left) is = absurd is

@@ -29,6 +29,7 @@ use Rattle.cas_record.specs.Happening.{Happening, Marked, Asked, marks_of}
 use Rattle.cas_record.specs.Lawful.{Cluster}
 use Rattle.cas_record.specs.Legal.{HasProposal}
 use Rattle.cas_record.specs.Orderly.{Orderly, IsAboveFloors, MayAsk, MayRide}
+use Rattle.cas_record.specs.declared.mark.Mark.{Mark}
 use Rattle.cas_record.specs.Places.{here}
 use Rattle.cas_record.proofs.LogLemmas.{part_of}
 use Rattle.cas_record.proofs.Orders.{reason}
@@ -42,7 +43,7 @@ use Rattle.cas_cluster.proofs.Around.{Whole, Around, around_made, IsOf, settles,
 use Rattle.cas_cluster.proofs.Asks.{asked_log, asked_global, asked_all, asked_around, asked_later, asked_messages, asked_vault, asked_caller, asked_still, asked_hand, asked_ready}
 use Rattle.cas_cluster.proofs.CallSteps.{no_harm}
 use Rattle.cas_cluster.proofs.Harms.{member_low, member_has, has_of_map, has_map_of, has_member_of}
-use Rattle.cas_cluster.proofs.Others.{ProposesNot, FloorsNot, AsksToRide, later, hand_still, all_still, ready_still, ready_more, vault_still, messages_still, above_still}
+use Rattle.cas_cluster.proofs.Others.{ProposesNot, FloorsNot, AsksToRide, ended_later, later, hand_still, all_still, ready_still, ready_more, vault_still, messages_still, above_still}
 use Rattle.cas_cluster.proofs.Places.{own_set, some_is, contains_none}
 
 -- ---- phases
@@ -268,6 +269,10 @@ proposes {S} {V} m cluster global old id age caller call now round outcome flow 
       round = subst (IsOpenTrue cluster log made id era (record caller { call = Some (proposing call outcome) }) (queue_at flow id).messages) (sym of.is_round) round_true;
     }
 
+    call_in : Mark → ℕ
+    call_in (Proposed q) = q.call
+    call_in mark = 0
+
     caller_true : IsCallerTrue log made id (record caller { call = Some (proposing call outcome) })
     caller_true = asked_caller f round.era.acc after.log made id (record caller { call = Some (proposing call outcome) }) (record {
       number = of.caller_true.number;
@@ -283,4 +288,11 @@ proposes {S} {V} m cluster global old id age caller call now round outcome flow 
         harmed = omega arith;
         told = λ told same. absurd (cc same);
       });
+      ended = λ number is. elim (newest_or is.stands) [
+        | inl now_is ↦ inl (refl, sym is.same_call ∙ ap (λ (mark : Mark). call_in mark) now_is)
+        | inr before ↦ elim (of.caller_true.ended number (record { proposal = is.proposal; stands = before; same_caller = is.same_caller; same_call = is.same_call })) [
+          | inl open_ ↦ inl (refl, open_.1)
+          | inr was_ended ↦ inr (ended_later h global.log was_ended)
+        ]
+      ];
     })

@@ -1,36 +1,43 @@
 -- Whatever is called on a cluster that is remembered, it is remembered then.
 use Rattle.std.proofs.Common.{◌≡◌, ◌≤◌, ℕ, suc, List, [], ◌∷◌, ◌++◌, length, Option, None, Some, reverse, refl, sym, ap, subst, ◌∙◌, inl, inr, arith}
-use Rattle.std.specs.Prelude.{◌⊎◌, ◌==◌, ◌+◌, ◌<◌, Bool, true, false, if◌then◌else◌, slice_set, Ok, Contains}
+use Rattle.std.specs.Prelude.{option_map, drop, ◌&&◌, ◌⊎◌, ◌==◌, ◌+◌, ◌<◌, Bool, true, false, if◌then◌else◌, slice_set, Ok, Contains}
 use Rattle.std.proofs.lemmas.List.{set-get_or}
 use Rattle.cas_base.proofs.Bools.{if_true}
 use Rattle.cas_flow.specs.Flow.{queue_at}
 use Rattle.cas_proposer.specs.Desk.{DeskView}
 use Rattle.cas_members.specs.declared.plan.PlanStep.{PlanStep}
 use Rattle.cas_members.specs.declared.plan.PlanStep.TheVariants.{Settle, Enter, Finished}
-use Rattle.cas_members.specs.Plan.{eras_in}
+use Rattle.cas_ballot.specs.declared.ballot.Ballot.{Ballot}
+use Rattle.cas_change.specs.declared.outcome.Took.{Took}
+use Rattle.cas_change.specs.declared.state.State.{State}
+use Rattle.cas_members.specs.Plan.{eras_in, next_of}
 use Rattle.cas_quorum.specs.declared.era.Era.{Era}
 use Rattle.cas_quorum.specs.Era.{majority_era}
 use Rattle.cas_vault.specs.Vault.{kept_of, IsPast}
 use Rattle.cas_round.proofs.Lists.{contains}
+use Rattle.cas_record.specs.declared.answer.Answer.{Answer}
 use Rattle.cas_record.specs.declared.answer.Answer.TheVariants as answer
 use Rattle.cas_record.specs.declared.answer.Cause.TheVariants as cause
 use Rattle.cas_record.specs.declared.mark.Mark.{Mark}
-use Rattle.cas_record.specs.declared.mark.Mark.TheVariants.{EraEntered}
+use Rattle.cas_record.specs.declared.mark.Mark.TheVariants.{EraEntered, Ended}
 use Rattle.cas_record.specs.declared.operator.Asked.{Asked}
 use Rattle.cas_record.specs.declared.operator.OpAnswer.{OpAnswer}
-use Rattle.cas_record.specs.Happening.{Marked, Entered, marks_of}
-use Rattle.cas_record.specs.Lawful.{Cluster, MayMarkEra}
+use Rattle.cas_record.specs.Happening.{Happening, Marked, Entered, marks_of}
+use Rattle.cas_record.specs.Lawful.{Cluster, IsRescanned, MayMarkEra}
 use Rattle.cas_record.specs.Places.{here, Stands}
 use Rattle.cas_record.proofs.Tests.{nat_same, nat_is}
-use Rattle.cas_cluster.specs.Council.{PlanView, Council, hushed}
+use Rattle.cas_cluster.specs.Council.{MemberPlace, ListingView, NextKeys, PlanView, Council, stepped, with_listing, complete_only, without_partial, hushed}
+use Rattle.cas_cluster.specs.Listed.{IsPlanKnown, IsPlanTrue}
+use Rattle.cas_cluster.specs.StepCalls as calls
+use Rattle.cas_cluster.specs.StepCalls.{IsRescan, Rescans, rescanned_by, one_more}
 use Rattle.cas_cluster.specs.Course.{Entry, Course, IsNoEra, course_of, entries_in, Follows, entering, next_era, shown_era, era_shown, WorksIn, not_yet, entered, IsUnderWay, IsCourse, IsCourseOf}
 use Rattle.cas_cluster.specs.History.{IsLogged, IsInEra, inside, torn, IsRemembered}
-use Rattle.cas_cluster.specs.Parties.{AreMessagesTrue, IsWithin, IsEraOf, AreReady, HaveOneEach, IsDeskTrue, IsCallerTrue}
-use Rattle.cas_cluster.specs.Protocol.{GlobalState, IsLeaving, MarksEra, with_mark}
+use Rattle.cas_cluster.specs.Parties.{AreMessagesTrue, IsWithin, IsEraOf, AreReady, HaveOneEach, IsDeskTrue, IsDoneTrue, IsToldTrue, IsCallTrue, IsCallerTrue}
+use Rattle.cas_cluster.specs.Protocol.{Made, GlobalState, is_done, IsListed, IsLeaving, MarksEra, with_mark}
 use Rattle.cas_cluster.specs.Step as step
-use Rattle.cas_cluster.specs.Step.{Event, Step, StepRestartProposer, restarted}
+use Rattle.cas_cluster.specs.Step.{Event, Step, StepEnd, StepRestartProposer, restarted}
 use Rattle.cas_cluster.specs.StepCouncil as told_by
-use Rattle.cas_cluster.specs.StepCouncil.{StepTell, with_council, told_view, told_over}
+use Rattle.cas_cluster.specs.StepCouncil.{StepTell, StepAskAll, StepGather, with_council, told_view, told_over}
 use Rattle.cas_cluster.specs.StepDesks.{Restarts, EntersEra, FailsToEnter, Crashes}
 use Rattle.cas_cluster.specs.StepPlans as plans
 use Rattle.cas_cluster.specs.StepPlans.{StepOpenPlan, OpensPlan, Welcomes, IsPlanned, StepEnterEra, EntersNext, rest_of, plan_after, entered_view, with_plan}
@@ -40,19 +47,21 @@ use Rattle.cas_cluster.specs.View.{Meaning, View, CallView, CallerView, IsAt, er
 use Rattle.cas_cluster.proofs.Around.{Whole, whole_of, logged, Around, around, around_era, leaves_desk, settles}
 use Rattle.cas_cluster.proofs.CouncilSteps as council
 use Rattle.cas_cluster.proofs.CourseSteps.{welcome_course, enters_course}
-use Rattle.cas_cluster.proofs.Courses.{course, follows_sized, leads, era_set, era_kept, stays_on, course_finished, course_entered}
+use Rattle.cas_cluster.proofs.Courses.{AtSettle, course, at_settle, settle_enters, path_settles, course_relisted, course_stepped, follows_sized, leads, era_set, era_kept, stays_on, course_finished, course_entered}
 use Rattle.cas_cluster.proofs.EndSteps.{IsQuiet, quiet_true}
 use Rattle.cas_cluster.proofs.Events.{keeps as happens}
 use Rattle.cas_cluster.proofs.FrameSteps.{marked}
-use Rattle.cas_cluster.proofs.InEras.{era_kept as kept_in, crash_kept, left_in, AreIn, desks_in, one_put, one_changed, up_kept, down_in}
+use Rattle.cas_cluster.proofs.InEras.{era_kept as kept_in, crash_kept, left_in, AreIn, end_in, ask_in, gather_in, desks_in, one_put, one_changed, up_kept, down_in}
 use Rattle.cas_cluster.proofs.Leaving.{crashed_logged, vault_past, closing_move, left_whole, left_marks, down_logged}
 use Rattle.cas_cluster.proofs.OpeningPlans.{plan_opened}
-use Rattle.cas_cluster.proofs.OnCourse.{Leads, on_course, left_course, down_course, told_course}
-use Rattle.cas_cluster.proofs.Others.{LeavesCalls, messages_still, caller_still}
+use Rattle.cas_cluster.proofs.OnCourse.{Leads, on_course, left_course, down_course, told_course, end_course}
+use Rattle.cas_cluster.proofs.Others.{LeavesCalls, plan_still, messages_still, caller_still}
+use Rattle.cas_cluster.proofs.Listings.{listing_on, listing_rescanned, rescan_of, known_listed}
 use Rattle.cas_cluster.proofs.Places.{contains_back, same_or_not, own_set, other_set, but_set, at_one, contains_none, some_is}
-use Rattle.cas_cluster.proofs.PlanSteps.{entry_there, none_after, quiet_entered, entered_around}
+use Rattle.cas_cluster.proofs.PlanSteps.{entry_there, entry_stands, none_after, quiet_entered, entered_around}
 use Rattle.cas_cluster.proofs.RoundSteps.{none_waits}
 use Rattle.cas_cluster.proofs.Steps.{keeps_log}
+use Rattle.cas_cluster.proofs.Steps.{ends as ends_logged}
 
 -- ---- a vault that shows something else
 -- the desk is the same but for that
@@ -166,7 +175,8 @@ leaving m old id plan next at in_base =
     record {
       known = of.known;
       once = of.vault.not_beyond;
-      listed = inl (ap (λ (e : Era). e.number) in_base ∙ (planned m old id plan next at).is_course.under_way.first next at.is_next);
+      listed = subst (λ (e : Era). (e.number ≡ 0) ⊎ IsListed at.is.cluster at.is.logged.global.log e.number) (sym in_base)
+          ((subst (IsPlanTrue at.is.cluster at.is.logged.global.log) at.is_plan at.is.logged.agrees.council.1).settled next at.is_next);
     }
 
 none_beyond_next : {S V : Type 0} (m : Meaning S V) (old : View S V) (id : ℕ) (plan : PlanView) (next : Era) → (at : GoesNext m old id plan next) → Stands (Entered id (suc next.number)) at.is.logged.global.log → ⊥
@@ -374,12 +384,22 @@ enters_log {S} {V} m old id plan next at disks (entered there) = record {
     is_set : era_in (slice_set old.eras id next) id ≡ next
     is_set = era_set old.eras id next (omega (arith, known_in m old id plan next at, at.is.course.is_course.few, at.is.course.is_course.places))
 
+-- what is known of the change of membership then
+plan_entered : (cluster : Cluster) (log : List Happening) (plan : PlanView) (next : Era) (b : Bool) → entering (rest_of plan.progress.left) ≡ None → IsPlanKnown cluster log plan
+    → IsPlanKnown cluster log (if b then record plan { progress = record { era = next; left = rest_of plan.progress.left }; entered = 0; listing = None } else record plan { entered = suc plan.entered })
+plan_entered cluster log plan next true settles known = record { settled = λ later enters. absurd (cc (enters, settles)); listing = λ listing none. absurd (cc none) }
+plan_entered cluster log plan next false settles known = record { settled = known.settled; listing = known.listing }
+
 -- it is marked so
 enters_logged : {S V : Type 0} (m : Meaning S V) (old : View S V) (plan : PlanView) (next : Era) (middle : View S V) → (at : GoesNext m old plan.entered plan next) → m.disks.tells
     → LeavesRound (EntersEra m.disks next) (closed_by (answer.Moved next.number) (cause.Moved next.number)) old plan.entered middle → IsLogged m at.is.cluster (entered_view middle plan next)
 enters_logged {S} {V} m old plan next middle at disks leaves =
     marked m at.is.cluster marked_global (record (with_plan middle (Some (plan_after middle.greatest plan next))) { eras = slice_set middle.eras plan.entered next }) (EraEntered plan.entered next.number ∷ []) (marks_of at.is.logged.global.log)
-    (council.counsels m at.is.cluster marked_global (record middle { eras = slice_set middle.eras plan.entered next }) (record (hushed middle.council) { plan = Some (plan_after middle.greatest plan next) }) marked_whole.parties.council marked_whole)
+    (council.counsels m at.is.cluster marked_global (record middle { eras = slice_set middle.eras plan.entered next }) (record (hushed middle.council) { plan = Some (plan_after middle.greatest plan next) }) (
+      marked_whole.parties.council.0,
+      plan_entered at.is.cluster marked_global.log plan next (plan.entered == middle.greatest) (path_settles next (rest_of plan.progress.left) (leads plan.progress.era next plan.progress.left at.is_next (planned m old plan.entered plan next at).is_course.under_way.start).path)
+          (subst (IsPlanTrue at.is.cluster marked_global.log) (ap (λ (c : Course). c.plan) (left_course (EntersEra m.disks next) (closed_by (answer.Moved next.number) (cause.Moved next.number)) old middle plan.entered leaves) ∙ at.is_plan) marked_whole.parties.council.1),
+    ) marked_whole)
     (at.is.logged.agrees.marks ∙ ap (λ (l : List Mark). reverse l) (sym (left_marks (EntersEra m.disks next) (closed_by (answer.Moved next.number) (cause.Moved next.number)) old middle plan.entered leaves)))
     (ap (λ (l : List Mark). EraEntered plan.entered next.number ∷ l) log.same_marks)
   where
@@ -411,8 +431,8 @@ enters_logged {S} {V} m old plan next middle at disks leaves =
 -- what is to come is still to come, or was the next
 later_of_next : (cluster : Cluster) (plan : PlanView) (next : Era) (b : Bool) (greatest : ℕ) (eras : List Era) (entries : List Entry) → entering plan.progress.left ≡ Some next → Follows plan.progress.era next
     → ((era : Era) → Contains (eras_in plan.progress.left) era → IsEraOf cluster era) → ((number : ℕ) → plan.progress.era.number + length (eras_in plan.progress.left) < number → IsNoEra cluster number)
-    → IsCourse (course greatest eras (Some (if b then record plan { progress = record { era = next; left = rest_of plan.progress.left }; entered = 0 } else record plan { entered = suc plan.entered })) entries)
-    → IsCourseOf cluster (course greatest eras (Some (if b then record plan { progress = record { era = next; left = rest_of plan.progress.left }; entered = 0 } else record plan { entered = suc plan.entered })) entries)
+    → IsCourse (course greatest eras (Some (if b then record plan { progress = record { era = next; left = rest_of plan.progress.left }; entered = 0; listing = None } else record plan { entered = suc plan.entered })) entries)
+    → IsCourseOf cluster (course greatest eras (Some (if b then record plan { progress = record { era = next; left = rest_of plan.progress.left }; entered = 0; listing = None } else record plan { entered = suc plan.entered })) entries)
 later_of_next cluster plan next false greatest eras entries is_next follows have beyond on = record { is_course = on; later = have; none_beyond = beyond }
 later_of_next cluster plan next true greatest eras entries is_next follows have beyond on = record {
   is_course = on;
@@ -456,7 +476,7 @@ torn_still {S} {V} m old plan next at p d other at_d = by_era (at.is.in_eras p d
         next_is : entering plan.progress.left ≡ Some next_
         next_is = ap next_era (sym at.is_plan) ∙ is_next_
 
-        by_last : (b : Bool) → (plan.entered == old.greatest) ≡ b → IsInEra m (New (if b then record plan { progress = record { era = next; left = rest_of plan.progress.left }; entered = 0 } else record plan { entered = suc plan.entered })) p d
+        by_last : (b : Bool) → (plan.entered == old.greatest) ≡ b → IsInEra m (New (if b then record plan { progress = record { era = next; left = rest_of plan.progress.left }; entered = 0; listing = None } else record plan { entered = suc plan.entered })) p d
         by_last false is = torn (record plan { entered = suc plan.entered }) next_ refl next_is (same ∙ base) down none idle (subst (λ (e : Era). IsWithin m.disks e.number next_.number d.vault) (sym same) within)
         by_last true is = elim ((planned m old plan.entered plan next at).is_course.under_way.each p (at.is.in_eras p d at_d).0) [
           | not_yet few in_era ↦ absurd (omega (arith, few, other, nat_same is, (at.is.in_eras p d at_d).0))
@@ -506,7 +526,7 @@ enters_remembered {S} {V} m old plan next middle at disks leaves = record {
 
 -- ---- the operator is told something
 pub tells_remembered : {S V : Type 0} (m : Meaning S V) (old : View S V) (answer : OpAnswer) → IsRemembered m old → IsRemembered m (told_view old answer)
-tells_remembered m old answer is = same_course m old (told_view old answer) refl (council.counsels_by m old _ refl is.logged) is.course is.in_eras
+tells_remembered m old answer is = same_course m old (told_view old answer) refl (council.counsels_by m old _ refl is.logged is.logged.agrees.council.1) is.course is.in_eras
 
 -- its vault failed
 fails_remembered : {S V : Type 0} (m : Meaning S V) (old : View S V) (plan : PlanView) (next : Era) (middle : View S V) → (at : GoesNext m old plan.entered plan next) → m.disks.tells → GoesDown (FailsToEnter m.disks next) old plan.entered middle → IsRemembered m middle
@@ -548,7 +568,7 @@ finishes : {S V : Type 0} (m : Meaning S V) (old : View S V) (asked : Asked) (an
     → IsRemembered m (with_council old (record old.council { plan = None }))
 finishes {S} {V} m old asked answer plan is is_plan none = record {
   cluster = is.cluster;
-  logged = council.counsels_by m old _ refl is.logged;
+  logged = council.counsels_by m old _ refl is.logged tt;
   course = record {
     is_course = course_finished old.greatest old.eras (entries_in old.marks) plan none on.is_course;
     later = λ era none_left. absurd (contains_none none_left);
@@ -570,9 +590,196 @@ finishes {S} {V} m old asked answer plan is is_plan none = record {
     by_era p d (inside within) = inside within
     by_era p d (torn plan_ next is_plan_ is_next in_base down no_promise idle within) = absurd (cc (is_next, ap next_era is_plan, ap entering none))
 
+-- ---- the change of membership goes on, and all else stays
+-- with another plan
+record Carries {S V : Type 0} (m : Meaning S V) (cluster : Cluster) (old : View S V) (plan next : PlanView) : Type 0 where
+  on_course : IsCourseOf cluster (course old.greatest old.eras (Some plan) (entries_in old.marks)) → IsCourseOf cluster (course old.greatest old.eras (Some next) (entries_in old.marks))
+  in_era : (id : ℕ) (desk : DeskView V) → IsInEra m (course old.greatest old.eras (Some plan) (entries_in old.marks)) id desk → IsInEra m (course old.greatest old.eras (Some next) (entries_in old.marks)) id desk
+
+carried : {S V : Type 0} (m : Meaning S V) {cluster : Cluster} (old new : View S V) (plan next : PlanView) → old.council.plan ≡ Some plan → course_of new ≡ course old.greatest old.eras (Some next) (entries_in old.marks)
+    → Carries m cluster old plan next → IsLogged m cluster new → IsCourseOf cluster (course_of old) → AreIn m (course_of old) new.desks → IsRemembered m new
+carried {S} {V} m {cluster} old new plan next is_plan same by log on desks = record {
+  cluster = cluster;
+  logged = log;
+  course = subst (IsCourseOf cluster) (sym same) (by.on_course (subst (λ (p : Option PlanView). IsCourseOf cluster (course old.greatest old.eras p (entries_in old.marks))) is_plan on));
+  in_eras = λ id desk at. subst (λ (of : Course). (id ≤ of.greatest) × IsInEra m of id desk) (sym same)
+      ((desks id desk at).0, by.in_era id desk (subst (λ (p : Option PlanView). IsInEra m (course old.greatest old.eras p (entries_in old.marks)) id desk) is_plan (desks id desk at).1));
+}
+
+-- other keys are listed or proposed anew
+relists : {S V : Type 0} (m : Meaning S V) (cluster : Cluster) (old : View S V) (plan : PlanView) (count : ℕ) (listing : Option ListingView) → Carries m cluster old plan (record plan { rescanned = count; listing = listing })
+relists {S} {V} m cluster old plan count listing = record {
+  on_course = λ on. record { is_course = course_relisted old.greatest old.eras plan (entries_in old.marks) count listing on.is_course; later = on.later; none_beyond = on.none_beyond };
+  in_era = in_era;
+}
+  where
+    in_era : (id : ℕ) (desk : DeskView V) → IsInEra m (course old.greatest old.eras (Some plan) (entries_in old.marks)) id desk
+        → IsInEra m (course old.greatest old.eras (Some (record plan { rescanned = count; listing = listing })) (entries_in old.marks)) id desk
+    in_era id desk (inside within) = inside within
+    in_era id desk (torn other next is_plan is_next in_base down none idle within) =
+        torn (record plan { rescanned = count; listing = listing }) next refl is_next (in_base ∙ ap (λ (p : PlanView). p.progress.era) (sym (some_is is_plan))) down none idle within
+
+-- its first step, which is to settle, is done
+steps_on : {S V : Type 0} (m : Meaning S V) (cluster : Cluster) (old : View S V) (plan : PlanView) → next_of plan.progress.left ≡ Settle → Carries m cluster old plan (stepped plan)
+steps_on {S} {V} m cluster old plan settles = record {
+  on_course = λ on. record {
+    is_course = course_stepped old.greatest old.eras plan (entries_in old.marks) settles on.is_course;
+    later = λ era among. on.later era (subst (λ (l : List Era). Contains l era) (same_eras plan.progress.left settles) among);
+    none_beyond = λ number far. on.none_beyond number (subst (λ (l : List Era). plan.progress.era.number + length l < number) (same_eras plan.progress.left settles) far);
+  };
+  in_era = in_era;
+}
+  where
+    same_eras : (left : List PlanStep) → next_of left ≡ Settle → eras_in (drop 1 left) ≡ eras_in left
+    same_eras [] is = absurd (cc is)
+    same_eras (Settle ∷ left) is = refl
+    same_eras (Enter era ∷ left) is = absurd (cc is)
+    same_eras (Finished ∷ left) is = absurd (cc is)
+
+    in_era : (id : ℕ) (desk : DeskView V) → IsInEra m (course old.greatest old.eras (Some plan) (entries_in old.marks)) id desk → IsInEra m (course old.greatest old.eras (Some (stepped plan)) (entries_in old.marks)) id desk
+    in_era id desk (inside within) = inside within
+    in_era id desk (torn other next is_plan is_next in_base down none idle within) = absurd (cc (is_next, settle_enters plan.progress.left settles))
+
+lists_on : {S V : Type 0} (m : Meaning S V) (cluster : Cluster) (old : View S V) (plan : PlanView) (listing : ListingView) → next_of plan.progress.left ≡ Settle → Carries m cluster old plan (with_listing plan listing)
+lists_on {S} {V} m cluster old plan listing settles = by_test (listing.complete && (length listing.keys == 0))
+  where
+    by_test : (b : Bool) → Carries m cluster old plan (if b then stepped plan else record plan { listing = Some listing })
+    by_test true = steps_on m cluster old plan settles
+    by_test false = relists m cluster old plan plan.rescanned (Some listing)
+
 -- the call is over
 over : {S V : Type 0} (m : Meaning S V) (old : View S V) (asked : Asked) (answer : OpAnswer) → IsRemembered m old → IsRemembered m (told_over old asked answer)
-over m old asked answer is = same_course m old (told_over old asked answer) (told_course old asked answer) (council.ends_told m old asked answer is.logged) is.course is.in_eras
+over {S} {V} m old asked answer is = by_plan old.council.plan refl
+  where
+    log : IsLogged m is.cluster (told_over old asked answer)
+    log = council.ends_told m old asked answer is.logged
+
+    by_plan : (plan : Option PlanView) → old.council.plan ≡ plan → IsRemembered m (told_over old asked answer)
+    by_plan None none = same_course m old (told_over old asked answer) (told_course old asked answer ∙ ap (λ (p : Option PlanView). course old.greatest old.eras (option_map without_partial p) (entries_in old.marks)) none
+        ∙ sym (ap (λ (p : Option PlanView). course old.greatest old.eras p (entries_in old.marks)) none)) log is.course is.in_eras
+    by_plan (Some plan) is_plan = carried m old (told_over old asked answer) plan (without_partial plan) is_plan
+        (told_course old asked answer ∙ ap (λ (p : Option PlanView). course old.greatest old.eras (option_map without_partial p) (entries_in old.marks)) is_plan)
+        (relists m is.cluster old plan plan.rescanned (complete_only plan.listing)) log is.course is.in_eras
+
+-- ---- an era is settled
+-- what is so of the cluster then
+settling : {S V : Type 0} (m : Meaning S V) (old : View S V) (plan : PlanView) → IsRemembered m old → old.council.plan ≡ Some plan → next_of plan.progress.left ≡ Settle → AtSettle old.greatest old.eras plan (entries_in old.marks)
+settling m old plan is is_plan settles = at_settle old.greatest old.eras plan (entries_in old.marks) settles (subst (λ (p : Option PlanView). IsCourse (course old.greatest old.eras p (entries_in old.marks))) is_plan is.course.is_course)
+
+-- all are asked for their next keys
+asks_keys : {S V : Type 0} (m : Meaning S V) (old : View S V) (places : List MemberPlace) (new : View S V) → m.disks.tells → IsRemembered m old → StepAskAll m old (NextKeys places) new → IsRemembered m new
+asks_keys {S} {V} m old places new disks is by = by_case by.asks
+  where
+    due : told_by.IsDueToList (told_by.everyone old) old.council by.may.order.asked places
+    due = by.may.is_for.1
+
+    ready : (plan : PlanView) → old.council.plan ≡ Some plan → next_of plan.progress.left ≡ Settle → council.IsReadyToList is.cluster is.logged.global.log old plan
+    ready plan is_plan settles =
+        let at = settling m old plan is is_plan settles in
+        record {
+          in_base = ap (λ (e : Era). e.number) (at.in_base 0 (omega arith));
+          entered = λ proposer known. subst (Stands (EraEntered proposer plan.progress.era.number)) (sym is.logged.agrees.marks)
+              (entry_stands old.marks proposer plan.progress.era.number (at.all proposer (omega (arith, known, is.logged.agrees.greatest))));
+        }
+
+    log : IsLogged m is.cluster new
+    log = council.asks_all m old (NextKeys places) new disks is.logged ready by
+
+    desks : AreIn m (course_of old) new.desks
+    desks = ask_in m (course_of old) old new (NextKeys places) disks by is.in_eras
+
+    by_case : told_by.AsksAll m old (NextKeys places) by.desk new → IsRemembered m new
+    by_case (told_by.asks now tag flow up room tagged now_is sends view) =
+        carried m old new due.plan (told_by.listing_begun places tag due.plan) due.is_plan
+        (ap course_of view ∙ ap (λ (p : Option PlanView). course old.greatest old.eras (option_map (told_by.listing_begun places tag) p) (entries_in old.marks)) due.is_plan)
+        (relists m is.cluster old due.plan due.plan.rescanned (Some (told_by.begun_listing places tag due.plan.listing))) log is.course desks
+    by_case (told_by.is_down down view) = same_course m old new (ap course_of view) log is.course desks
+    by_case (told_by.is_full up full view) = same_course m old new (ap course_of view) log is.course desks
+    by_case (told_by.is_spent now up spent kept now_is view) = same_course m old new (ap course_of view) log is.course desks
+    by_case (told_by.fails now up fails view) = same_course m old new (ap course_of view) log is.course desks
+    by_case (told_by.no_memory now tag up loses view) = same_course m old new (ap course_of view) log is.course desks
+
+-- what they told is gathered
+gathers : {S V : Type 0} (m : Meaning S V) (old : View S V) (new : View S V) → IsRemembered m old → StepGather old new → IsRemembered m new
+gathers {S} {V} m old new is by = by_case by.gathers
+  where
+    known : council.ListsKnown is.cluster is.logged.global.log old by.at.exchange
+    known of listing on =
+        let plan_known = subst (IsPlanTrue is.cluster is.logged.global.log) of.is_plan is.logged.agrees.council.1 in
+        let at = settling m old of.plan is of.is_plan of.settles in
+        let exchange = is.logged.agrees.council.0 by.at.exchange by.at.is_open in
+        known_listed is.cluster is.logged.global.log of.plan listing plan_known
+        (listing_on is.cluster is.logged.global.log of.plan.progress.era.number (era_at old 0) by.at.exchange.told by.at.exchange.tag by.at.exchange.question of.listing listing is.logged.history.orderly
+        (λ members holds. subst (λ (e : Era). is.cluster.accepts e.number members ≡ true) (at.in_base 0 (omega arith)) ((is.logged.agrees.eras 0 (omega arith)).accepts members ∙ holds))
+        exchange.told of.tag of.question on (plan_known.listing of.listing of.is_listing))
+
+    log : IsLogged m is.cluster new
+    log = council.gathers m old new is.logged by known
+
+    desks : AreIn m (course_of old) new.desks
+    desks = gather_in m (course_of old) old new by is.in_eras
+
+    by_case : told_by.Gathers old by.at.exchange new → IsRemembered m new
+    by_case (told_by.crashed down view) = same_course m old new (ap course_of view) log is.course desks
+    by_case (told_by.probed key found up question keeps view) = same_course m old new (ap course_of view) log is.course desks
+    by_case (told_by.lists of listing up enough on view) = carried m old new of.plan (with_listing of.plan listing) of.is_plan (ap course_of view) (lists_on m is.cluster old of.plan listing of.settles) log is.course desks
+    by_case (told_by.is_short of short up missing view) = same_course m old new (ap course_of view) log is.course desks
+    by_case (told_by.no_memory up view) = same_course m old new (ap course_of view) log is.course desks
+
+-- a key is proposed anew
+is_done_true : (log : List Happening) (all : List Made) (id number : ℕ) (told : Answer) → is_done told ≡ true → IsToldTrue log all id number told → (state : State) × (took : Took) × (ballot : Ballot) × IsDoneTrue log all id number state took ballot
+is_done_true log all id number (answer.Done state took ballot) done is = (state, took, ballot, is)
+is_done_true log all id number told done is = absurd (cc done)
+
+ends : {S V : Type 0} (m : Meaning S V) (old : View S V) (id : ℕ) (told : Answer) (new : View S V) → m.disks.tells → IsRemembered m old → StepEnd m old id told new → IsRemembered m new
+ends {S} {V} m old id told new disks is by = by_case by.ends.rescans
+  where
+    at : OpenCallAt old id
+    at = by.of_call
+
+    mark : Happening
+    mark = Marked (Ended id at.caller.number at.call.rounds told)
+
+    desks : AreIn m (course_of old) new.desks
+    desks = end_in m (course_of old) old new id told disks by is.in_eras
+
+    later : (plan : Option PlanView) → IsPlanTrue is.cluster is.logged.global.log plan → IsPlanTrue is.cluster (mark ∷ is.logged.global.log) plan
+    later plan known = plan_still is.cluster mark is.logged.global.log plan (λ key floor state now. absurd (cc now)) known
+
+    logged_with : (plan : Option PlanView) → by.ends.council.plan ≡ plan → by.ends.council.exchange ≡ old.council.exchange → IsPlanTrue is.cluster is.logged.global.log plan → IsLogged m is.cluster new
+    logged_with plan same exchange known = ends_logged m old id told new disks is.logged by (subst (IsPlanTrue is.cluster (mark ∷ is.logged.global.log)) (sym same) (later plan known)) exchange
+
+    anew : (of : IsRescan old.council id at.call.key) → is_done told ≡ true → IsRescanned is.cluster of.plan.progress.era.number at.call.key (marks_of is.logged.global.log)
+    anew of is_done_now =
+        let caller_true = is.logged.agrees.callers id at.caller at.at_caller in
+        let call_true = caller_true.call at.call at.is_open in
+        let done = is_done_true is.logged.global.log is.logged.global.made id at.caller.number told is_done_now (call_true.told told by.ends.told) in
+        let settle = settling m old of.plan is of.is_plan of.settles in
+        let known = subst (IsPlanTrue is.cluster is.logged.global.log) of.is_plan is.logged.agrees.council.1 in
+        let desk = is.logged.agrees.desks id by.ends.desk at.caller by.ends.at_desk at.at_caller in
+        let beyond : Stands (Entered 0 (suc of.plan.progress.era.number)) is.logged.global.log → ⊥ =
+        subst (λ (e : Era). Stands (Entered 0 (suc e.number)) is.logged.global.log → ⊥) (settle.in_base 0 (omega arith)) (subst (λ (n : ℕ). Stands (Entered n (suc (era_at old n).number)) is.logged.global.log → ⊥) of.by_operator desk.vault.not_beyond) in
+        rescan_of is.cluster is.logged.global of.plan.progress.era.number at.caller.number at.call done.0 done.1 done.2 of.listing is.logged.history
+        (subst (λ (n : ℕ). IsCallTrue is.logged.global.log is.logged.global.made n at.caller.number at.call) of.by_operator call_true)
+        (subst (λ (n : ℕ). IsDoneTrue is.logged.global.log is.logged.global.made n at.caller.number done.0 done.1 done.2) of.by_operator done.3)
+        (known.listing of.listing of.is_listing) beyond
+
+    by_case : Rescans old.council id at.call.key told by.ends.council → IsRemembered m new
+    by_case (calls.is_none none same) = same_course m old new (end_course m old new id told by ∙ ap (λ (c : Council). course old.greatest old.eras c.plan (entries_in old.marks)) same)
+        (logged_with old.council.plan (ap (λ (c : Council). c.plan) same) (ap (λ (c : Council). c.exchange) same) is.logged.agrees.council.1) is.course desks
+    by_case (calls.stops of undone same) = same_course m old new (end_course m old new id told by ∙ ap (λ (c : Council). course old.greatest old.eras c.plan (entries_in old.marks)) same)
+        (logged_with old.council.plan (ap (λ (c : Council). c.plan) same) (ap (λ (c : Council). c.exchange) same) is.logged.agrees.council.1) is.course desks
+    by_case (calls.rescans of done same) =
+        let known = subst (IsPlanTrue is.cluster is.logged.global.log) of.is_plan is.logged.agrees.council.1 in
+        let counted : PlanView = record of.plan { rescanned = one_more of.plan.rescanned } in
+        let listing : ListingView = record of.listing { keys = drop 1 of.listing.keys } in
+        let first = relists m is.cluster old of.plan (one_more of.plan.rescanned) of.plan.listing in
+        let then_ = lists_on m is.cluster old counted listing of.settles in
+        carried m old new of.plan (rescanned_by of.plan of.listing) of.is_plan (end_course m old new id told by ∙ ap (λ (c : Council). course old.greatest old.eras c.plan (entries_in old.marks)) same)
+        (record { on_course = λ on. then_.on_course (first.on_course on); in_era = λ p desk in_it. then_.in_era p desk (first.in_era p desk in_it) })
+        (logged_with (Some (rescanned_by of.plan of.listing)) (ap (λ (c : Council). c.plan) same) (ap (λ (c : Council). c.exchange) same)
+        (known_listed is.cluster is.logged.global.log counted listing (record { settled = known.settled; listing = known.listing })
+        (listing_rescanned is.cluster is.logged.global.log of.plan.progress.era.number of.listing at.call.key of.first (anew of done) (known.listing of.listing of.is_listing)))) is.course desks
 
 tells : {S V : Type 0} (m : Meaning S V) (old : View S V) (answer : OpAnswer) (new : View S V) → IsRemembered m old → StepTell old answer new → IsRemembered m new
 tells {S} {V} m old answer new is (told_by.tells order said is_open told same view) = subst (IsRemembered m) (sym view) (over m old order.asked answer is)
@@ -631,6 +838,9 @@ opens {S} {V} m old new shelves disks is by = by_case by.opens
 -- ---- all of them
 led : {S V : Type 0} (m : Meaning S V) (old : View S V) (event : Event) (new : View S V) → m.shelves.tells → m.disks.tells → IsRemembered m old → Leads event → Step m old event new → IsRemembered m new
 led m old (step.RestartProposer id) new shelves disks is leads by = restarts m old id new disks is by
+led m old (step.End id told) new shelves disks is leads by = ends m old id told new disks is by
+led m old (step.AskAll (NextKeys places)) new shelves disks is leads by = asks_keys m old places new disks is by
+led m old step.Gather new shelves disks is leads by = gathers m old new is by
 led m old (step.Tell answer) new shelves disks is leads by = tells m old answer new is by
 led m old step.OpenPlan new shelves disks is leads by = opens m old new shelves disks is by
 led m old (step.EnterEra id) new shelves disks is leads by = enters m old id new disks is by

@@ -1,6 +1,6 @@
 -- A cluster stays safe as the operator's calls come and go, and as all members are asked and answer.
 use Rattle.std.proofs.Common.{◌≡◌, ◌<◌, ◌≤◌, ℕ, Bool, true, false, List, [], ◌∷◌, ◌++◌, Option, None, Some, refl, sym, ap, subst, ◌∙◌, inl, inr, arith, length-set, length-append}
-use Rattle.std.specs.Prelude.{◌+◌, ◌-◌, ◌||◌, if◌then◌else◌, length, option_map, slice_get, Contains}
+use Rattle.std.specs.Prelude.{map, not, ◌&&◌, ◌+◌, ◌-◌, ◌||◌, if◌then◌else◌, length, option_map, slice_get, Contains}
 use Rattle.cas_base.proofs.Bools.{if_false}
 use Rattle.cas_ballot.specs.declared.ballot.Ballot.{Ballot}
 use Rattle.cas_ballot.specs.Ballot.{FitsBallot}
@@ -24,6 +24,7 @@ use Rattle.std.proofs.lemmas.List.{length-map}
 use Rattle.cas_ballot.proofs.MemberLemmas.{IsMemberSet-members_where}
 use Rattle.cas_round.proofs.Lists.{has}
 use Rattle.cas_slot.specs.declared.message.Ask.{Ask}
+use Rattle.cas_slot.specs.Message.{phase_of, tag_of}
 use Rattle.cas_record.specs.Happening.{marks_of}
 use Rattle.cas_cluster.specs.Acceptors.{votes_of}
 use Rattle.cas_cluster.specs.StepFrames.{harmed_by, replied_flow, votes_marked}
@@ -32,30 +33,33 @@ use Rattle.cas_cluster.proofs.SafeCalls.{about_members}
 use Rattle.cas_cluster.proofs.SafeOpens.{no_members}
 use Rattle.cas_cluster.proofs.SafeStops.{AreFit, fit_fewer, desk_idles, acceptor_safe, room_not_found_safe}
 use Rattle.cas_cluster.proofs.SafeTurns.{Moves, taken_moves, replied_moves, IsWithin, Spends, spends_harm, taken_others, replied_others}
-use Rattle.cas_cluster.specs.Council.{Question, ExchangeView, OrderView, PlanView, at_rest, ask_of, exchange_place, reserved_for_order, reserved_for_exchange, telling, told_so, Probe}
-use Rattle.cas_cluster.specs.Safe.{IsExchangeSafe, IsAskingSafe, IsSound, requests_in}
+use Rattle.cas_cluster.specs.Council.{place_in, has_ended, Question, NextKeys, IsReplyTo, phase_for, ExchangeView, OrderView, PlanView, without_partial, with_listing, hushed, silent_order, at_rest, ask_of, exchange_place, reserved_for_order, reserved_for_exchange, telling, Probe}
+use Rattle.cas_cluster.specs.Safe.{IsExchangeSafe, IsAskingSafe, AreListingsSafe, IsAskingOf, IsCouncilSafe, IsSound, requests_in}
 use Rattle.cas_cluster.specs.StepCalls.{Sends}
 use Rattle.cas_cluster.specs.StepCouncil as council
-use Rattle.cas_cluster.specs.StepCouncil.{StepOrder, StepTell, told_over, StepGather, Gathers, with_council, told_view, gathered, told_marks, with_exchange, everyone, question_to, questions_to, new_exchange, HasRoomToAsk, MayAskAll, AsksAll, StepAskAll, harmed_exchange, hears, harm_marks, harms, TurnsExchange, StepTurnExchange, StepRefuseTurnExchange}
+use Rattle.cas_cluster.specs.StepCouncil.{asked_by, listing_for, plan_asked, StepOrder, StepTell, told_over, StepGather, Gathers, with_council, told_view, gathered, told_marks, with_exchange, everyone, question_to, questions_to, new_exchange, HasRoomToAsk, MayAskAll, AsksAll, StepAskAll, harmed_exchange, hears, harm_marks, harms, TurnsExchange, StepTurnExchange, StepRefuseTurnExchange}
 use Rattle.cas_cluster.specs.View.{Meaning, View, IsAt, CallView, era_at, with_acceptor, with_desk}
+use Rattle.cas_cluster.proofs.Asks.{where_drawn}
 use Rattle.cas_cluster.proofs.EndSteps.{none_left}
 use Rattle.cas_cluster.proofs.Places.{queue_other, contains_at}
+use Rattle.cas_cluster.proofs.Rescanning.{told_reserves}
+use Rattle.cas_cluster.proofs.SafeListings.{none_asks, same_asks, rest_safe, listed_safe, ended_safe, asked_safe}
 use Rattle.cas_cluster.proofs.SafeParts.{council_safe, more_by, idle_at, requests_of_map, length_with_member, set_within}
 
 -- ---- the operator's call
 -- only what is reserved for it changes
 pub order_safe : {S V : Type 0} (old : View S V) (asked : Asked) (new : View S V) → IsSound old → StepOrder old asked new → IsSound new
 order_safe old asked new was by =
-    subst IsSound (sym by.view) (council_safe old old.flow (record old.council { order = Some (record { asked = asked; told = None }) }) old.marks was refl (λ p other. refl) (omega arith) was.asking
+    subst IsSound (sym by.view) (council_safe old old.flow (record old.council { order = Some (record { asked = asked; told = None }) }) old.marks was refl (λ p other. refl) (omega arith) was.asking was.council
     (omega (arith, by.room, ap reserved_for_order by.none_open)))
 
--- as much stays reserved for a call that is told something
-pub told_reserves : (order : Option OrderView) (answer : OpAnswer) → reserved_for_order (option_map (told_so answer) order) ≡ reserved_for_order order
-told_reserves None answer = refl
-told_reserves (Some order) answer = refl
+-- as much stays reserved for a call whose last step told nothing
+pub hushed_reserves : (order : Option OrderView) → reserved_for_order (option_map silent_order order) ≡ reserved_for_order order
+hushed_reserves None = refl
+hushed_reserves (Some order) = refl
 
 pub told_view_safe : {S V : Type 0} (old : View S V) (answer : OpAnswer) → IsSound old → IsSound (told_view old answer)
-told_view_safe old answer was = council_safe old old.flow (telling old.council answer) old.marks was refl (λ p other. refl) (omega arith) was.asking (omega (arith, was.room, told_reserves old.council.order answer))
+told_view_safe old answer was = council_safe old old.flow (telling old.council answer) old.marks was refl (λ p other. refl) (omega arith) was.asking was.council (omega (arith, was.room, told_reserves old.council.order answer))
 
 -- its mark was reserved
 told_few : (asked : Asked) (answer : OpAnswer) → length (told_marks asked answer) ≤ 1
@@ -75,27 +79,31 @@ over_safe : {S V : Type 0} (old : View S V) (order : OrderView) (answer : OpAnsw
 over_safe old order answer is_open was =
     let marks = told_marks order.asked answer in
     council_safe old (abandoned old.flow exchange_place) (at_rest old.council) (old.marks ++ marks) was (length-set old.flow.own exchange_place (emptied (queue_at old.flow exchange_place)))
-    (λ p other. queue_other old.flow.own exchange_place p (emptied (queue_at old.flow exchange_place)) other) (more_by old.marks marks) (none_left old.flow exchange_place)
+    (λ p other. queue_other old.flow.own exchange_place p (emptied (queue_at old.flow exchange_place)) other) (more_by old.marks marks) (none_left old.flow exchange_place) (rest_safe old.council.plan was.council.0, none_asks (option_map without_partial old.council.plan))
     (omega (arith, was.room, told_few order.asked answer, length-append old.marks marks, ap reserved_for_order is_open))
 
 -- another change of membership is under way, or none
-pub plan_safe : {S V : Type 0} (old : View S V) (plan : Option PlanView) (used : List ℕ) → IsSound old → IsSound (with_council old (record old.council { plan = plan; used = used }))
-plan_safe old plan used was = council_safe old old.flow (record old.council { plan = plan; used = used }) old.marks was refl (λ p other. refl) (omega arith) was.asking was.room
+pub plan_safe : {S V : Type 0} (old : View S V) (plan : Option PlanView) (used : List ℕ) → IsSound old → AreListingsSafe plan × IsAskingOf plan old.council.exchange → IsSound (with_council old (record old.council { plan = plan; used = used }))
+plan_safe old plan used was listings = council_safe old old.flow (record old.council { plan = plan; used = used }) old.marks was refl (λ p other. refl) (omega arith) was.asking listings was.room
 
 pub tell_safe : {S V : Type 0} (old : View S V) (answer : OpAnswer) (new : View S V) → IsSound old → StepTell old answer new → IsSound new
 tell_safe old answer new was (council.tells order said is_open told same view) = subst IsSound (sym view) (over_safe old order answer is_open was)
-tell_safe old answer new was (council.finishes order is_open by view) = subst IsSound (sym view) (over_safe _ order answer is_open (plan_safe old None old.council.used was))
+tell_safe old answer new was (council.finishes order is_open by view) = subst IsSound (sym view) (over_safe _ order answer is_open (plan_safe old None old.council.used was (ended_safe old.council.plan old.council.exchange by.plan by.is_plan by.none_left was.council.0 was.council.1)))
 
 -- ---- what was told is gathered
 pub gather_safe : {S V : Type 0} (old : View S V) (new : View S V) → IsSound old → StepGather old new → IsSound new
 gather_safe {S} {V} old new was by = by_case by.gathers
   where
     over : (answer : OpAnswer) → IsSound (gathered old answer)
-    over answer = council_safe old old.flow (record (telling old.council answer) { exchange = None }) old.marks was refl (λ p other. refl) (omega arith) by.none_waits (omega (arith, was.room, told_reserves old.council.order answer))
+    over answer = council_safe old old.flow (record (telling old.council answer) { exchange = None }) old.marks was refl (λ p other. refl) (omega arith) by.none_waits (was.council.0, none_asks old.council.plan) (omega (arith, was.room, told_reserves old.council.order answer))
 
     by_case : Gathers old by.at.exchange new → IsSound new
     by_case (council.crashed crashed view) = subst IsSound (sym view) (over _)
     by_case (council.probed key found up question found_is view) = subst IsSound (sym view) (over _)
+    by_case (council.lists of listing up enough on view) = subst IsSound (sym view)
+        (council_safe old old.flow (record (hushed old.council) { exchange = None; plan = Some (with_listing of.plan listing) }) old.marks was refl (λ p other. refl) (omega arith) by.none_waits
+        (listed_safe of.plan listing (subst FitsBallot (sym on.tag) (was.council.0 of.plan of.listing of.is_plan of.is_listing).tag) of.settles on.rises, none_asks (Some (with_listing of.plan listing))) (omega (arith, was.room, hushed_reserves old.council.order)))
+    by_case (council.is_short of short up missing view) = subst IsSound (sym view) (over _)
     by_case (council.no_memory up view) = subst IsSound (sym view) (told_view_safe old _ was)
 
 -- ---- all members are asked
@@ -110,14 +118,25 @@ vault_changes {S} {V} old id desk now was at idle is_now =
     desk_changes old id desk now was at idle (ap (λ (d : DeskView V). d.id) is_now) (ap (λ (d : DeskView V). d.round) is_now ∙ idle) (λ were. subst AreFit (sym (ap (λ (d : DeskView V). d.cache) is_now)) were)
 
 -- each of the requests asks its question
-asks_question : (age : ℕ) (tag : Ballot) (question : Question) (tos : List ℕ) (messages : List Message) → messages ≡ questions_to age tag question tos → (request : Request) → Contains messages (message.Request request) → request.ask ≡ ask_of tag question
+asks_question : (age : ℕ) (tag : Ballot) (question : Question) (tos : List ℕ) (messages : List Message) → messages ≡ questions_to age tag question tos → (request : Request) → Contains messages (message.Request request) → request.ask ≡ ask_of tag question request.to
 asks_question age tag question tos messages are request h =
     let of = has_of_map (λ (to : ℕ). message.Request (question_to age tag question to)) (message.Request request) tos (has (message.Request request) (questions_to age tag question tos) (subst (λ (l : List Message). Contains l (message.Request request)) are h)) in
     let same : question_to age tag question of.0 ≡ request = cc of.1.1 in
-    ap (λ (q : Request). q.ask) (sym same)
+    ap (λ (q : Request). q.ask) (sym same) ∙ ap (λ (q : Request). ask_of tag question q.to) same
 
 none_within : (members : List ℕ) (acceptor : ℕ) → has_member [] acceptor ≡ true → has_member members acceptor ≡ true
 none_within members acceptor e = absurd (cc e)
+
+-- those that are asked are a set
+asked_set : {S V : Type 0} (view : View S V) (question : Question) → IsMemberSet (asked_by view question)
+asked_set view (Probe key) = IsMemberSet-members_where (λ n. has_member (era_at view 0).prep n || has_member (era_at view 0).acc n)
+asked_set view (NextKeys places) = IsMemberSet-members_where (λ n. has_member (everyone view) n && not (has_ended (place_in places n)))
+
+-- at first no reply waits
+asks_no_reply : (f : ℕ → Request) (tos : List ℕ) (messages : List Message) → messages ≡ map (λ to. message.Request (f to)) tos → (reply : Reply) → Contains messages (message.Reply reply) → ⊥
+asks_no_reply f tos messages are reply h =
+    let of = has_of_map (λ (to : ℕ). message.Request (f to)) (message.Reply reply) tos (has (message.Reply reply) (map (λ to. message.Request (f to)) tos) (subst (λ (l : List Message). Contains l (message.Reply reply)) are h)) in
+    cc of.1.1
 
 pub ask_safe : {S V : Type 0} (m : Meaning S V) (old : View S V) (question : Question) (new : View S V) → IsSound old → StepAskAll m old question new → IsSound new
 ask_safe {S} {V} m old question new was by = by_case by.asks
@@ -125,39 +144,53 @@ ask_safe {S} {V} m old question new was by = by_case by.asks
     may : MayAskAll old question by.desk
     may = by.may
 
-    asked : (now : DeskView V) (tag : Ballot) (flow : FlowView) → HasRoomToAsk old → FitsBallot tag → now ≡ record by.desk { vault = now.vault } → Sends old.flow exchange_place (questions_to (kept_of by.desk.vault).age tag question (everyone old)) flow
-        → IsSound (with_exchange (record (with_desk old 0 now) { flow = flow }) (new_exchange question tag (everyone old)))
+    tos : List ℕ
+    tos = asked_by old question
+
+    asked : (now : DeskView V) (tag : Ballot) (flow : FlowView) → HasRoomToAsk old question → FitsBallot tag × IsCouncilSafe (record old.council { exchange = Some (new_exchange question tag tos); plan = plan_asked question tag old.council.plan }) → now ≡ record by.desk { vault = now.vault } → Sends old.flow exchange_place (questions_to (kept_of by.desk.vault).age tag question tos) flow
+        → IsSound (with_council (record (with_desk old 0 now) { flow = flow }) (record old.council { exchange = Some (new_exchange question tag tos); plan = plan_asked question tag old.council.plan }))
     asked now tag flow room fits is_now sends =
         let age : ℕ = (kept_of by.desk.vault).age in
         let f : ℕ → Request = question_to age tag question in
         let none : (queue_at old.flow exchange_place).messages ≡ [] = subst (λ (e : Option ExchangeView). IsAskingSafe e (queue_at old.flow exchange_place)) may.none_open was.asking in
-        let waiting : (queue_at flow exchange_place).messages ≡ questions_to age tag question (everyone old) = sends.own ∙ ap (λ (l : List Message). l ++ questions_to age tag question (everyone old)) none in
-        council_safe (with_desk old 0 now) flow (record old.council { exchange = Some (new_exchange question tag (everyone old)) }) old.marks (vault_changes old 0 by.desk now was may.at_desk may.idle is_now) sends.queues sends.others (omega arith)
+        let waiting : (queue_at flow exchange_place).messages ≡ questions_to age tag question tos = sends.own ∙ ap (λ (l : List Message). l ++ questions_to age tag question tos) none in
+        council_safe (with_desk old 0 now) flow (record old.council { exchange = Some (new_exchange question tag tos); plan = plan_asked question tag old.council.plan }) old.marks (vault_changes old 0 by.desk now was may.at_desk may.idle is_now) sends.queues sends.others (omega arith)
         (record {
-          tag = fits;
-          member_set = IsMemberSet-members_where (λ n. has_member (era_at old 0).prep n || has_member (era_at old 0).acc n);
-          about = about_members f (everyone old) (everyone old) (queue_at flow exchange_place).messages (λ to. refl) waiting refl;
-          asks = asks_question age tag question (everyone old) (queue_at flow exchange_place).messages waiting;
+          tag = fits.0;
+          member_set = asked_set old question;
+          about = about_members f tos tos (queue_at flow exchange_place).messages (λ to. refl) waiting refl;
+          asks = asks_question age tag question tos (queue_at flow exchange_place).messages waiting;
+          replies = λ reply h. absurd (asks_no_reply f tos (queue_at flow exchange_place).messages waiting reply h);
           harmed_set = no_members;
-          harmed_within = none_within (everyone old);
+          harmed_within = none_within tos;
           reserved = omega arith;
-          room = omega (arith, sends.room, ap requests_in waiting, requests_of_map f (everyone old), length-map (everyone old) (λ (to : ℕ). message.Request (f to)));
-        })
+          room = omega (arith, sends.room, ap requests_in waiting, requests_of_map f tos, length-map tos (λ (to : ℕ). message.Request (f to)));
+        }) fits.1
         (omega (arith, room, ap reserved_for_exchange may.none_open))
 
     by_case : AsksAll m old question by.desk new → IsSound new
-    by_case (council.asks now tag flow up room drawn is_now sends view) = subst IsSound (sym view) (asked now tag flow room drawn.fits is_now sends)
+    by_case (council.asks now tag flow up room tagged is_now sends view) = subst IsSound (sym view) (asked now tag flow room (asked_safe m.disks (everyone old) tos old.council may.caller.call may.order.asked question by.desk now tag may.is_for tagged was.council) is_now sends)
     by_case (council.is_down down view) = subst IsSound (sym view) (told_view_safe old _ was)
     by_case (council.is_full up full view) = subst IsSound (sym view) (told_view_safe old _ was)
     by_case (council.is_spent now up spent kept is_now view) = subst IsSound (sym view) (told_view_safe (with_desk old 0 now) _ (vault_changes old 0 by.desk now was may.at_desk may.idle is_now))
     by_case (council.fails now up fault view) =
+        let failed = where_drawn (listing_for old.council question) fault in
         subst IsSound (sym view) (told_view_safe (with_desk old 0 now) _ (desk_changes old 0 by.desk now was may.at_desk may.idle
-        (ap (λ (d : DeskView V). d.id) fault.desk) (ap (λ (d : DeskView V). d.round) fault.desk) (fit_fewer [] by.desk.cache now.cache fault.cache)))
+        (ap (λ (d : DeskView V). d.id) failed.desk) (ap (λ (d : DeskView V). d.round) failed.desk) (fit_fewer [] by.desk.cache now.cache failed.cache)))
     by_case (council.no_memory now tag up loss view) =
         subst IsSound (sym view) (told_view_safe (with_desk old 0 now) _ (desk_changes old 0 by.desk now was may.at_desk may.idle
         (ap (λ (d : DeskView V). d.id) loss.desk) (ap (λ (d : DeskView V). d.round) loss.desk) (fit_fewer [] by.desk.cache now.cache loss.cache)))
 
 -- ---- a turn of the exchange
+-- a request bears its tag, and is of its phase
+ask_tag : (tag : Ballot) (question : Question) (to : ℕ) → tag_of (ask_of tag question to) ≡ tag
+ask_tag tag (Probe key) to = refl
+ask_tag tag (NextKeys places) to = refl
+
+ask_phase : (tag : Ballot) (question : Question) (to : ℕ) → phase_of (ask_of tag question to) ≡ phase_for question
+ask_phase tag (Probe key) to = refl
+ask_phase tag (NextKeys places) to = refl
+
 -- an exchange that goes on, with the frames that wait then
 goes_on : (exchange new : ExchangeView) (queue rest : QueueView) (votes : ℕ) → IsExchangeSafe exchange queue → new.question ≡ exchange.question → new.tag ≡ exchange.tag → new.members ≡ exchange.members
     → IsMemberSet new.harmed → IsWithin exchange.members new.harmed → exchange.reserved + length exchange.harmed ≤ new.reserved + length new.harmed → Moves exchange.members queue rest votes → IsExchangeSafe new rest
@@ -168,7 +201,13 @@ goes_on exchange new queue rest votes was question tag members set within kept m
     | inl before ↦ was.about each before
     | inr one ↦ one
   ]);
-  asks = λ request h. was.asks request (moves.requests request h) ∙ ap (λ (b : Ballot). ask_of b exchange.question) (sym tag) ∙ ap (ask_of new.tag) (sym question);
+  asks = λ request h. was.asks request (moves.requests request h) ∙ ap (λ (b : Ballot). ask_of b exchange.question request.to) (sym tag) ∙ ap (λ (q : Question). ask_of new.tag q request.to) (sym question);
+  replies = λ reply h. subst (λ (b : Ballot). IsReplyTo b new.question reply) (sym tag) (subst (λ (q : Question). IsReplyTo exchange.tag q reply) (sym question) (elim (moves.replies reply h) [
+    | inl before ↦ was.replies reply before
+    | inr answer ↦
+        let asked = was.asks answer.request answer.waits in
+        record { tag = answer.tag ∙ ap tag_of asked ∙ ask_tag exchange.tag exchange.question answer.request.to; phase = answer.phase ∙ ap phase_of asked ∙ ask_phase exchange.tag exchange.question answer.request.to }
+  ]));
   harmed_set = set;
   harmed_within = λ acceptor h. subst (λ (l : List ℕ). has_member l acceptor ≡ true) (sym members) (within acceptor h);
   reserved = omega (arith, was.reserved, kept, ap (λ (l : List ℕ). length l) members);
@@ -212,11 +251,13 @@ harmed_safe {S} {V} old verdict front exchange member down was is_open waits to 
     council_safe old (taken old.flow exchange_place verdict) (record old.council { exchange = Some (harmed_exchange exchange member) }) (old.marks ++ harm_marks exchange member down) was others.own others.others (more_by old.marks (harm_marks exchange member down))
     (goes_on exchange (harmed_exchange exchange member) (queue_at old.flow exchange_place) (queue_at (taken old.flow exchange_place verdict) exchange_place) 0 asking refl refl refl spends.harmed_set spends.harmed_within (omega (arith, spends.kept))
     (taken_moves old.flow exchange_place verdict exchange.members waits))
+    (was.council.0, same_asks old.council.plan exchange (harmed_exchange exchange member) refl refl (subst (IsAskingOf old.council.plan) is_open was.council.1))
     (omega (arith, was.room, harm_fits exchange (queue_at old.flow exchange_place) member down asking is_member, length-append old.marks (harm_marks exchange member down), ap reserved_for_exchange is_open))
 
 -- what a question is answered is no vote
-pub no_vote : (tag : Ballot) (question : Question) (request : Request) (reply : Reply) → request.ask ≡ ask_of tag question → length (votes_marked request reply) ≡ 0
+pub no_vote : (tag : Ballot) (question : Question) (request : Request) (reply : Reply) → request.ask ≡ ask_of tag question request.to → length (votes_marked request reply) ≡ 0
 no_vote tag (Probe key) request reply is = ap (λ (a : Ask). length (marks_of (votes_of request.to a reply.tell))) is
+no_vote tag (NextKeys places) request reply is = ap (λ (a : Ask). length (marks_of (votes_of request.to a reply.tell))) is
 
 pub turn_exchange_safe : {S V : Type 0} (m : Meaning S V) (old : View S V) (verdict : Verdict) (new : View S V) → IsSound old → StepTurnExchange m old verdict new → IsSound new
 turn_exchange_safe {S} {V} m old verdict new was step = by_turn step.turn
@@ -244,18 +285,19 @@ turn_exchange_safe {S} {V} m old verdict new was step = by_turn step.turn
         subst IsSound (sym view) (council_safe (with_acceptor old request.to now) (replied_flow old.flow exchange_place verdict reply) old.council (old.marks ++ votes_marked request reply) safe others.own others.others (more_by old.marks (votes_marked request reply))
         (subst (λ (e : Option ExchangeView). IsAskingSafe e (queue_at (replied_flow old.flow exchange_place verdict reply) exchange_place)) (sym step.at.is_open)
         (goes_on exchange exchange (queue_at old.flow exchange_place) (queue_at (replied_flow old.flow exchange_place verdict reply) exchange_place) 0 asking refl refl refl asking.harmed_set asking.harmed_within (omega arith)
-        (replied_moves old.flow exchange_place verdict request reply exchange.members 0 waits fall is_member (omega arith))))
+        (replied_moves old.flow exchange_place verdict request reply exchange.members 0 waits fall is_member (by.table.tag, by.table.phase) (omega arith)))) was.council
         (omega (arith, was.room, none, length-append old.marks (votes_marked request reply))))
     by_turn (council.finds_down request acceptor fall front at down view) =
         subst IsSound (sym view) (harmed_safe old verdict step.front exchange _ true was step.at.is_open step.waits (sym (ap (λ (each : Message). (head_of each).1) front)))
     by_turn (council.brings_down request acceptor now fall front at by view) =
         subst IsSound (sym view) (harmed_safe (with_acceptor old request.to now) verdict step.front exchange _ true (acceptor_safe old request.to acceptor now was at (ap (λ (a : AcceptorView S). a.id) by.acceptor)) step.at.is_open step.waits
         (sym (ap (λ (each : Message). (head_of each).1) front)))
-    by_turn (council.arrives reply fall front view) =
+    by_turn (council.arrives reply fall front to_it view) =
         let others = taken_others old.flow exchange_place verdict in
         subst IsSound (sym view) (council_safe old (taken old.flow exchange_place verdict) (record old.council { exchange = Some (record exchange { told = hears reply exchange.told }) }) old.marks was others.own others.others (omega arith)
         (goes_on exchange (record exchange { told = hears reply exchange.told }) (queue_at old.flow exchange_place) (queue_at (taken old.flow exchange_place verdict) exchange_place) 0 asking refl refl refl asking.harmed_set asking.harmed_within (omega arith)
         (taken_moves old.flow exchange_place verdict exchange.members step.waits))
+        (was.council.0, same_asks old.council.plan exchange (record exchange { told = hears reply exchange.told }) refl refl (subst (IsAskingOf old.council.plan) step.at.is_open was.council.1))
         (omega (arith, was.room, ap reserved_for_exchange step.at.is_open)))
 
 pub refuse_exchange_safe : {S V : Type 0} (m : Meaning S V) (old : View S V) (new : View S V) → IsSound old → StepRefuseTurnExchange m old new → IsSound new

@@ -1,5 +1,5 @@
 -- A cluster that opens is safe.
-use Rattle.std.proofs.Common.{◌≡◌, ℕ, zero, suc, List, [], ◌∷◌, refl, sym, ap, subst, arith}
+use Rattle.std.proofs.Common.{None, ◌≡◌, ℕ, zero, suc, List, [], ◌∷◌, refl, sym, ap, subst, arith}
 use Rattle.std.specs.Prelude.{length, Contains, replicate, slice_index_or}
 use Rattle.cas_ballot.specs.Members.{IsMemberSet, members_where}
 use Rattle.cas_cache.specs.declared.ready.Ready.{Ready}
@@ -8,7 +8,8 @@ use Rattle.cas_quorum.specs.declared.era.Era.{Era}
 use Rattle.cas_quorum.specs.Era.{majority_era}
 use Rattle.cas_record.specs.declared.mark.Mark.{Mark}
 use Rattle.cas_cluster.specs.Council.{Council, exchange_place, reserved_by}
-use Rattle.cas_cluster.specs.Safe.{IsAskingSafe, IsSound}
+use Rattle.cas_cluster.specs.Safe.{IsAskingSafe, IsCouncilSafe, IsSound}
+use Rattle.cas_cluster.proofs.SafeListings.{no_listings, none_asks}
 use Rattle.cas_cluster.specs.SafeLaws.{OpeningsAreSafe}
 use Rattle.cas_cluster.specs.View.{Meaning, CallerView, IsAt, new_caller, reserved_in, reserved_of, era_at, era_in}
 use Rattle.cas_cluster.proofs.Opens.{none_under_way, opening_on_course}
@@ -52,5 +53,6 @@ opens_are_safe {S} {V} m members view is places = record { sound = sound; course
           (λ key ready h. absurd (contains_none (subst (λ (l : List (List ℕ × Ready)). Contains l (key, ready)) fresh.no_promise h)))
           (λ call some. absurd (cc (some, ap (λ (c : CallerView). c.call) new)));
       asking = subst (λ (c : Council). IsAskingSafe c.exchange (queue_at view.flow exchange_place)) (sym is.council) (none_under_way view.flow exchange_place is.flow);
+      council = subst IsCouncilSafe (sym is.council) (no_listings, none_asks None);
       room = omega (arith, none_reserved view.callers is.callers, ap (λ (l : List Mark). length l) is.marks, ap (λ (c : Council). reserved_by c) is.council);
     }

@@ -19,7 +19,7 @@ use Rattle.cas_slot.specs.declared.message.Request.{Request}
 use Rattle.cas_record.specs.declared.mark.Mark.{Mark}
 use Rattle.cas_record.proofs.Tests.{nat_same, nat_is}
 use Rattle.cas_cluster.specs.Council.{Council, exchange_place, reserved_by}
-use Rattle.cas_cluster.specs.Safe.{requests_in, IsPartySafe, IsRoundSafe, IsIdleSafe, IsSound, IsAskingSafe}
+use Rattle.cas_cluster.specs.Safe.{requests_in, IsPartySafe, IsRoundSafe, IsIdleSafe, IsSound, IsAskingSafe, IsCouncilSafe}
 use Rattle.cas_cluster.specs.StepCalls.{most_marks}
 use Rattle.cas_cluster.proofs.Places.{some_is, same_or_not, own_set, other_set}
 use Rattle.cas_cluster.specs.View.{View, CallView, CallerView, IsAt, reserved_in, reserved_of, reserved_in_all, era_at, era_in}
@@ -135,6 +135,7 @@ safe_but {S} {V} old new id was low changes party room = record {
   parties = λ p desk caller at_desk at_caller. subst (λ (l : List Era). IsPartySafe (era_in l p) (length new.marks) p desk caller (queue_at new.flow p)) (sym changes.eras) (by_place p desk caller at_desk at_caller (same_or_not p id));
   asking = subst (λ (c : Council). IsAskingSafe c.exchange (queue_at new.flow exchange_place)) (sym changes.council)
       (subst (λ (q : QueueView). IsAskingSafe old.council.exchange q) (sym (changes.own exchange_place (λ same. omega (arith, low, same)))) was.asking);
+  council = subst IsCouncilSafe (sym changes.council) was.council;
   room = room;
 }
   where
@@ -150,8 +151,8 @@ safe_but {S} {V} old new id was low changes party room = record {
 -- what changes of the exchange and its frames, and of the marks
 pub council_safe : {S V : Type 0} (old : View S V) (flow : FlowView) (next : Council) (marks : List Mark) → IsSound old → length flow.own ≡ length old.flow.own
     → ((p : ℕ) → (p ≡ exchange_place → ⊥) → queue_at flow p ≡ queue_at old.flow p) → length old.marks ≤ length marks → IsAskingSafe next.exchange (queue_at flow exchange_place)
-    → length marks + (reserved_of old.callers + reserved_by next) ≤ most_marks → IsSound (record old { flow = flow; council = next; marks = marks })
-council_safe {S} {V} old flow next marks was own others more asking room = record {
+    → IsCouncilSafe next → length marks + (reserved_of old.callers + reserved_by next) ≤ most_marks → IsSound (record old { flow = flow; council = next; marks = marks })
+council_safe {S} {V} old flow next marks was own others more asking council room = record {
   few = was.few;
   prep_sets = was.prep_sets;
   acc_sets = was.acc_sets;
@@ -165,6 +166,7 @@ council_safe {S} {V} old flow next marks was own others more asking room = recor
       more_marks (era_at old id) (length old.marks) (length marks) id desk caller (queue_at flow id) more
       (subst (λ (q : QueueView). IsPartySafe (era_at old id) (length old.marks) id desk caller q) (sym (others id (λ same. omega (arith, same, desk_low old id desk was at_desk)))) (was.parties id desk caller at_desk at_caller));
   asking = asking;
+  council = council;
   room = room;
 }
 

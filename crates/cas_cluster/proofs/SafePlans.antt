@@ -1,6 +1,6 @@
 -- A cluster stays safe as a change of membership begins, and as proposers enter the eras that it leads to.
 use Rattle.std.proofs.Common.{◌≡◌, ℕ, List, [], ◌∷◌, ◌++◌, length, Option, None, Some, refl, sym, ap, subst, ◌∙◌, arith, length-append}
-use Rattle.std.specs.Prelude.{◌+◌, ◌<◌, option_map, slice_set}
+use Rattle.std.specs.Prelude.{◌+◌, ◌<◌, slice_set}
 use Rattle.cas_ballot.specs.Members.{IsMemberSet}
 use Rattle.cas_flow.specs.Flow.{queue_at}
 use Rattle.cas_proposer.specs.Desk.{DeskView}
@@ -9,8 +9,8 @@ use Rattle.cas_record.specs.declared.answer.Answer.TheVariants as answer
 use Rattle.cas_record.specs.declared.answer.Cause.TheVariants as cause
 use Rattle.cas_record.specs.declared.mark.Mark.TheVariants.{EraEntered}
 use Rattle.cas_record.specs.declared.operator.Asked.{Asked}
-use Rattle.cas_cluster.specs.Council.{OrderView, PlanView, silent_order, hushed, reserved_for_order}
-use Rattle.cas_cluster.specs.Safe.{IsPartySafe, IsSound}
+use Rattle.cas_cluster.specs.Council.{PlanView, hushed}
+use Rattle.cas_cluster.specs.Safe.{AreListingsSafe, IsAskingOf, IsPartySafe, IsSound}
 use Rattle.cas_cluster.specs.Step as step
 use Rattle.cas_cluster.specs.StepCouncil.{with_council}
 use Rattle.cas_cluster.specs.StepCalls.{most_marks}
@@ -22,19 +22,18 @@ use Rattle.cas_cluster.specs.StepStops.{closed_by, LeavesRound}
 use Rattle.cas_cluster.specs.View.{Meaning, View, IsAt, era_at, reserved_in_all, with_desk}
 use Rattle.cas_cluster.proofs.Leaving.{left_marks}
 use Rattle.cas_cluster.proofs.Places.{own_set}
-use Rattle.cas_cluster.proofs.SafeCouncil.{told_view_safe}
+use Rattle.cas_cluster.proofs.SafeCouncil.{hushed_reserves, told_view_safe}
+use Rattle.cas_cluster.specs.Course.{Course, entering, next_era}
+use Rattle.cas_cluster.proofs.CourseSteps.{welcome_course}
+use Rattle.cas_cluster.proofs.OnCourse.{left_course}
+use Rattle.cas_cluster.proofs.SafeListings.{begun_safe, enters_safe}
 use Rattle.cas_cluster.proofs.SafeParts.{council_safe, more_by, safe_but, desk_low, changes_desk}
 use Rattle.cas_cluster.proofs.SafeStops.{restarts_acceptor_safe, left_safe, left_reserves, down_safe, era_safe}
 
--- as much stays reserved for a call whose last step told nothing
-hushed_reserves : (order : Option OrderView) → reserved_for_order (option_map silent_order order) ≡ reserved_for_order order
-hushed_reserves None = refl
-hushed_reserves (Some order) = refl
-
 -- another change of membership is under way, and the open call is told nothing
-planned_safe : {S V : Type 0} (old : View S V) (plan : Option PlanView) (used : List ℕ) → IsSound old → IsSound (with_council old (record (hushed old.council) { plan = plan; used = used }))
-planned_safe old plan used was =
-    council_safe old old.flow (record (hushed old.council) { plan = plan; used = used }) old.marks was refl (λ p other. refl) (omega arith) was.asking (omega (arith, was.room, hushed_reserves old.council.order))
+planned_safe : {S V : Type 0} (old : View S V) (plan : Option PlanView) (used : List ℕ) → IsSound old → AreListingsSafe plan × IsAskingOf plan old.council.exchange → IsSound (with_council old (record (hushed old.council) { plan = plan; used = used }))
+planned_safe old plan used was listings =
+    council_safe old old.flow (record (hushed old.council) { plan = plan; used = used }) old.marks was refl (λ p other. refl) (omega arith) was.asking listings (omega (arith, was.room, hushed_reserves old.council.order))
 
 -- ---- a change of membership begins
 welcome_safe : {S V : Type 0} (m : Meaning S V) (old middle : View S V) (asked : Asked) → IsSound old → Welcomes m old asked middle → IsSound middle
@@ -50,7 +49,8 @@ open_safe {S} {V} m old new was by = by_case by.opens
     by_case (plans.is_down down view) = subst IsSound (sym view) (told_view_safe old _ was)
     by_case (plans.is_busy plan up busy view) = subst IsSound (sym view) (told_view_safe old _ was)
     by_case (plans.refuses fault up none planned view) = subst IsSound (sym view) (told_view_safe old _ was)
-    by_case (plans.opens progress middle up none planned welcomes view) = subst IsSound (sym view) (planned_safe middle _ _ (welcome_safe m old middle by.order.asked was welcomes))
+    by_case (plans.opens progress middle up none planned welcomes view) = subst IsSound (sym view) (let safe = welcome_safe m old middle by.order.asked was welcomes in
+        planned_safe middle _ _ safe (begun_safe middle.council.plan middle.council.exchange (plans.new_plan by.order.asked progress) (ap (λ (c : Course). c.plan) (welcome_course m old middle by.order.asked welcomes) ∙ none) refl safe.council.1))
     by_case (plans.no_memory middle up none welcomes view) = subst IsSound (sym view) (told_view_safe middle _ (welcome_safe m old middle by.order.asked was welcomes))
 
 -- ---- a proposer enters the next era
@@ -59,11 +59,13 @@ entered_idle : {S V : Type 0} (m : Meaning S V) (next : Era) (closed : _) (old m
 entered_idle {S} {V} m next closed old middle id (stops.idle desk now at none by view) d at_d = ap (λ (x : DeskView V). x.round) (own_set old.desks id now d (subst (λ (w : View S V). IsAt w.desks id d) view at_d) ∙ by.desk)
 entered_idle {S} {V} m next closed old middle id (stops.closes desk now round of at some by view) d at_d = ap (λ (x : DeskView V). x.round) (own_set old.desks id now d (subst (λ (w : View S V). IsAt w.desks id d) view at_d) ∙ by.desk)
 
-enters_safe : {S V : Type 0} (m : Meaning S V) (old middle : View S V) (plan : PlanView) (next : Era) → IsSound old → IsMemberSet next.prep → IsMemberSet next.acc → length old.marks + reserved_in_all old < most_marks
+enters_next : {S V : Type 0} (m : Meaning S V) (old middle : View S V) (plan : PlanView) (next : Era) → IsSound old → IsMemberSet next.prep → IsMemberSet next.acc → length old.marks + reserved_in_all old < most_marks → entering plan.progress.left ≡ Some next → old.council.plan ≡ Some plan
     → LeavesRound (EntersEra m.disks next) (closed_by (answer.Moved next.number) (cause.Moved next.number)) old plan.entered middle → IsSound (entered_view middle plan next)
-enters_safe {S} {V} m old middle plan next was prep acc room leaves =
+enters_next {S} {V} m old middle plan next was prep acc room is_next is_plan leaves =
     council_safe (record middle { eras = slice_set middle.eras plan.entered next }) middle.flow (record (hushed middle.council) { plan = Some (plan_after middle.greatest plan next) }) (middle.marks ++ EraEntered plan.entered next.number ∷ [])
     (era_safe middle plan.entered next left prep acc (entered_idle m next (closed_by (answer.Moved next.number) (cause.Moved next.number)) old middle plan.entered leaves)) refl (λ p other. refl) (more_by middle.marks _) left.asking
+    (enters_safe middle.council.plan middle.council.exchange middle.greatest plan next
+    (ap (λ (c : Course). c.plan) (left_course (EntersEra m.disks next) (closed_by (answer.Moved next.number) (cause.Moved next.number)) old middle plan.entered leaves) ∙ is_plan) is_next left.council.0 left.council.1)
     (omega (
       arith,
       room,
@@ -90,7 +92,7 @@ pub enter_safe : {S V : Type 0} (m : Meaning S V) (old new : View S V) (id : ℕ
 enter_safe {S} {V} m old new id was by prep acc = by_case by.enters
   where
     by_case : EntersNext m old by.plan by.next by.desk new → IsSound new
-    by_case (plans.enters middle room leaves view) = subst IsSound (sym view) (enters_safe m old middle by.plan by.next was prep acc room leaves)
+    by_case (plans.enters middle room leaves view) = subst IsSound (sym view) (enters_next m old middle by.plan by.next was prep acc room (ap next_era (sym by.may.is_plan) ∙ by.may.is_next) by.may.is_plan leaves)
     by_case (plans.is_full full view) = subst IsSound (sym view) (told_view_safe old _ was)
     by_case (plans.is_down room down view) = subst IsSound (sym view) (told_view_safe old _ was)
     by_case (plans.fails middle room down view) = subst IsSound (sym view) (told_view_safe middle _ (down_safe old by.plan.entered (FailsToEnter m.disks by.next) middle (λ desk now fails. fails.crashed) was down))

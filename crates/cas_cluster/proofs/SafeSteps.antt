@@ -75,6 +75,7 @@ sound m old (step.AskAll question) new is by = council.ask_safe m old question n
 sound m old (step.TurnExchange verdict) new is by = council.turn_exchange_safe m old verdict new is.sound by
 sound m old step.RefuseTurnExchange new is by = council.refuse_exchange_safe m old new is.sound by
 sound m old step.Gather new is by = council.gather_safe old new is.sound by
+sound m old step.RefuseKey new is by = subst IsSound (sym by.view) (council.told_view_safe old _ is.sound)
 sound m old step.OpenPlan new is by = open_safe m old new is.sound by
 sound m old (step.EnterEra id) new is by = let sets = next_sets old by.next is.course by.may.is_next in enter_safe m old new id is.sound by sets.0 sets.1
 

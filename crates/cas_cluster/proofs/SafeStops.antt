@@ -36,15 +36,16 @@ use Rattle.cas_record.specs.declared.mark.Mark.TheVariants.{Ended}
 use Rattle.cas_record.specs.Happening.{marks_of}
 use Rattle.cas_cluster.specs.Acceptors.{votes_of}
 use Rattle.cas_cluster.specs.Parties.{asked_in}
-use Rattle.cas_cluster.specs.Council.{ExchangeView, broken_off, crashed_in, exchange_place, reserved_for_exchange}
-use Rattle.cas_cluster.specs.Safe.{requests_in, handled_in, handled_once, IsPartySafe, IsRoundSafe, IsOpenSafe, IsIdleSafe, IsSound, IsAskingSafe}
+use Rattle.cas_cluster.specs.Council.{ExchangeView, Council, broken_off, crashed_in, exchange_place, reserved_for_order, reserved_for_exchange}
+use Rattle.cas_cluster.specs.Safe.{requests_in, handled_in, handled_once, IsPartySafe, IsRoundSafe, IsOpenSafe, IsIdleSafe, IsSound, IsAskingSafe, IsCouncilSafe}
 use Rattle.cas_cluster.specs.Step as step
 use Rattle.cas_cluster.specs.Course.{era_shown}
 use Rattle.cas_cluster.specs.Step.{StepRefuseTurn, StepStray, StepCrashAcceptor, StepRestartAcceptor, StepRestartProposer}
 use Rattle.cas_cluster.specs.StepStops as stops
 use Rattle.cas_cluster.specs.StepStops.{closed_by, LeavesRound, GoesDown, broken_off_view}
 use Rattle.cas_cluster.specs.StepCalls as calls
-use Rattle.cas_cluster.specs.StepCalls.{most_marks, with_call, telling, over, RefusesCall, EndsCall, offered_by}
+use Rattle.cas_cluster.specs.StepCalls.{most_marks, with_call, telling, over, RefusesCall, EndsCall, Rescans, offered_by}
+use Rattle.cas_cluster.specs.StepCouncil.{with_council}
 use Rattle.cas_cluster.specs.StepDesks.{HearsReply, EndsRound, FailsToDraw, LosesMemory}
 use Rattle.cas_cluster.specs.StepFrames as frames
 use Rattle.cas_cluster.specs.StepFrames.{FindsNoRoom, Strays, votes_marked, without_late, with_late}
@@ -53,6 +54,8 @@ use Rattle.cas_cluster.proofs.Caches.{contains_without, IsKeptOr, kept, held, ke
 use Rattle.cas_cluster.proofs.EndSteps.{none_left}
 use Rattle.cas_cluster.proofs.Courses.{era_kept}
 use Rattle.cas_cluster.proofs.Places.{same_or_not, own_set, some_is, queue_same, queue_other, contains_none}
+use Rattle.cas_cluster.proofs.Rescanning.{rescan_asks, rescan_reserves}
+use Rattle.cas_cluster.proofs.SafeListings.{broken_asks, rescan_safe}
 use Rattle.cas_cluster.proofs.SafeParts.{more_marks, more_by, reserved_set, set_within, safe_but, council_safe, caller_low, desk_low, changes_both, changes_caller, changes_desk, party_idle, idle_at, keeps_set}
 use Rattle.cas_cluster.proofs.FrameSteps.{same_asked}
 
@@ -73,6 +76,7 @@ acceptors_safe old acceptors late marks was same ids more room = record {
   own = was.own;
   parties = λ id desk caller at_desk at_caller. more_marks (era_at old id) (length old.marks) (length marks) id desk caller (queue_at old.flow id) more (was.parties id desk caller at_desk at_caller);
   asking = was.asking;
+  council = was.council;
   room = room;
 }
 
@@ -320,6 +324,7 @@ broken_safe (Some exchange) queue was = record {
   member_set = was.member_set;
   about = λ each h. absurd (contains_none h);
   asks = λ request h. absurd (contains_none h);
+  replies = λ reply h. absurd (contains_none h);
   harmed_set = was.harmed_set;
   harmed_within = was.harmed_within;
   reserved = was.reserved;
@@ -362,6 +367,7 @@ pub broken_off_safe : {S V : Type 0} (old : View S V) → IsSound old → IsSoun
 broken_off_safe old was =
     council_safe old (abandoned old.flow exchange_place) (crashed_in old.council) old.marks was (length-set old.flow.own exchange_place (emptied (queue_at old.flow exchange_place))) (left_alone old.flow exchange_place) (omega arith)
     (subst (IsAskingSafe (option_map broken_off old.council.exchange)) (sym (queue_same old.flow.own exchange_place (emptied (queue_at old.flow exchange_place)) (omega (arith, was.own)))) (broken_safe old.council.exchange (queue_at old.flow exchange_place) was.asking))
+    (was.council.0, broken_asks old.council.plan old.council.exchange was.council.1)
     (omega (arith, was.room, broken_reserved old.council.exchange))
 
 pub down_safe : {S V : Type 0} (old : View S V) (id : ℕ) (DeskTurns : DeskView V → DeskView V → Type 0) (new : View S V) → ((desk now : DeskView V) → DeskTurns desk now → IsCrashed desk now) → IsSound old → GoesDown DeskTurns old id new → IsSound new
@@ -397,6 +403,7 @@ era_safe {S} {V} old id era was prep acc idle = record {
   own = was.own;
   parties = λ p desk caller at_desk at_caller. by_place p desk caller at_desk at_caller (same_or_not p id);
   asking = was.asking;
+  council = was.council;
   room = was.room;
 }
   where
@@ -430,6 +437,16 @@ restarts_proposer_safe {S} {V} m old id new was sets (step.restarts desk now its
         (λ d at_d. ap (λ (x : DeskView V). x.round) (own_set old.desks id now d at_d ∙ by.desk) ∙ (was.parties id desk its_caller at at_its).idle down)
 
 -- ---- calls that end, and calls that are refused
+-- the exchange of the operator is as it was, and as much stays reserved for its call
+counsel_safe : {S V : Type 0} (old : View S V) (next : Council) → IsSound old → IsCouncilSafe next → next.exchange ≡ old.council.exchange → reserved_for_order next.order ≡ reserved_for_order old.council.order → IsSound (with_council old next)
+counsel_safe old next was safe exchange reserved =
+    council_safe old old.flow next old.marks was refl (λ p other. refl) (omega arith) (subst (λ (e : Option ExchangeView). IsAskingSafe e (queue_at old.flow exchange_place)) (sym exchange) was.asking) safe
+    (omega (arith, was.room, ap reserved_for_exchange exchange, reserved))
+
+rescans_safe : {S V : Type 0} (old : View S V) (id : ℕ) (key : List ℕ) (told : Answer) (next : Council) → IsSound old → Rescans old.council id key told next → IsSound (with_council old next)
+rescans_safe old id key told next was by =
+    counsel_safe old next was (rescan_safe old.council id key told next by was.council) (rescan_asks old.council id key told next by) (rescan_reserves old.council id key told next by)
+
 pub ends_call_safe : {S V : Type 0} (m : Meaning S V) (old : View S V) (id : ℕ) (caller : CallerView) (call : CallView) (told : Answer) (new : View S V) → IsSound old → IsAt old.callers id caller → caller.call ≡ Some call
     → EndsCall m old id caller call told new → IsSound new
 ends_call_safe {S} {V} m old id caller call told new was at_caller is_open by = by_round by.closed
@@ -439,9 +456,11 @@ ends_call_safe {S} {V} m old id caller call told new was at_caller is_open by = 
 
     ends : by.now.id ≡ by.desk.id → by.now.round ≡ None → (AreFit by.desk.cache → AreFit by.now.cache) → IsSound new
     ends same none fit =
-        subst IsSound (sym by.view) (call_idles old id caller (record caller { call = None }) by.desk by.now (abandoned old.flow id) marks was at_caller by.at_desk same none fit refl
+        subst IsSound (sym by.view) (rescans_safe _ id call.key told by.council
+        (call_idles old id caller (record caller { call = None }) by.desk by.now (abandoned old.flow id) marks was at_caller by.at_desk same none fit refl
         (λ other is. absurd (cc is)) (none_left old.flow id) (length-set old.flow.own id (emptied (queue_at old.flow id))) (left_alone old.flow id) (more_by old.marks (Ended id caller.number call.rounds told ∷ []))
         (omega (arith, ap reserved_in is_open, length-append old.marks (Ended id caller.number call.rounds told ∷ []), call_reserves_at old id caller call by.desk was at_caller is_open by.at_desk)))
+        by.rescans)
 
     by_round : ((by.desk.round ≡ None) × (by.now ≡ by.desk)) ⊎ ((round : Round) × (by.desk.round ≡ Some round) × EndsRound m.disks by.desk by.now round None) → IsSound new
     by_round (inl idle) = ends (ap (λ (d : DeskView V). d.id) idle.1) (ap (λ (d : DeskView V). d.round) idle.1 ∙ idle.0) (subst AreFit (sym (ap (λ (d : DeskView V). d.cache) idle.1)))
@@ -449,10 +468,10 @@ ends_call_safe {S} {V} m old id caller call told new was at_caller is_open by = 
         (fit_fewer was_open.0.key by.desk.cache by.now.cache (inr (ap (λ (d : DeskView V). d.cache) was_open.2.desk)))
 
 pub refuses_call_safe : {S V : Type 0} (m : Meaning S V) (old : View S V) (id : ℕ) (key : List ℕ) (new : View S V) → IsSound old → RefusesCall m old id key new → IsSound new
-refuses_call_safe {S} {V} m old id key new was (calls.stays view) = subst IsSound (sym view) was
-refuses_call_safe {S} {V} m old id key new was (calls.loses caller desk now ballot at_caller at_desk none up by view) =
-    subst IsSound (sym view) (desk_idles old id desk now old.flow was at_desk (ap (λ (d : DeskView V). d.id) by.desk) (ap (λ (d : DeskView V). d.round) by.desk) (fit_fewer key desk.cache now.cache by.cache)
-    (λ c at_c. idle_at (era_at old id) c (queue_at old.flow id) desk.round none (was.parties id desk c at_desk at_c).round) refl (λ p other. refl))
+refuses_call_safe {S} {V} m old id key new was (calls.stays told council why rescan view) = subst IsSound (sym view) (rescans_safe old id key told council was rescan)
+refuses_call_safe {S} {V} m old id key new was (calls.loses caller desk now ballot council at_caller at_desk none up by rescan view) =
+    subst IsSound (sym view) (rescans_safe (with_desk old id now) id key (answer.NoMemory false) council (desk_idles old id desk now old.flow was at_desk (ap (λ (d : DeskView V). d.id) by.desk) (ap (λ (d : DeskView V). d.round) by.desk) (fit_fewer key desk.cache now.cache by.cache)
+    (λ c at_c. idle_at (era_at old id) c (queue_at old.flow id) desk.round none (was.parties id desk c at_desk at_c).round) refl (λ p other. refl)) rescan)
 
 -- ---- rounds that do not begin
 -- two lists as long as each other have the same places

@@ -20,7 +20,7 @@ use Rattle.cas_proposer.specs.Round.{is_preparing, Hears}
 use Rattle.cas_proposer.specs.declared.round.Round.{Round}
 use Rattle.cas_quorum.specs.declared.era.Era.{Era}
 use Rattle.cas_round.specs.Replies.{is_prepare}
-use Rattle.cas_slot.specs.Message.{phase_of}
+use Rattle.cas_slot.specs.Message.{phase_of, tag_of}
 use Rattle.cas_slot.specs.declared.message.Ask.{Ask}
 use Rattle.cas_slot.specs.declared.message.Ask.TheVariants as ask
 use Rattle.cas_slot.specs.declared.message.Reply.{Reply}
@@ -94,9 +94,17 @@ handled_append true (message.Request request ∷ rest) reply = refl
 handled_append true (message.Reply other ∷ rest) reply = refl
 
 -- ---- what becomes of a proposer's frames
+-- a reply to a request that waited
+pub record IsAnswer (queue : QueueView) (reply : Reply) : Type 0 where
+  pub request : Request
+  pub waits : Contains queue.messages (message.Request request)
+  pub tag : reply.tag ≡ tag_of request.ask
+  pub phase : reply.phase ≡ phase_of request.ask
+
 pub record Moves (asked : List ℕ) (queue rest : QueueView) (votes : ℕ) : Type 0 where
   pub about : (each : Message) → Contains rest.messages each → Contains queue.messages each ⊎ (has_member asked (head_of each).1 ≡ true)
   pub requests : (request : Request) → Contains rest.messages (message.Request request) → Contains queue.messages (message.Request request)
+  pub replies : (reply : Reply) → Contains rest.messages (message.Reply reply) → Contains queue.messages (message.Reply reply) ⊎ IsAnswer queue reply
   pub counted : Counts queue rest votes 0
 
 -- the first one is taken
@@ -104,6 +112,7 @@ pub taken_moves : (flow : FlowView) (id : ℕ) (v : Verdict) {front : Message} (
 taken_moves flow id v {front} asked e = record {
   about = λ each h. inl ((taken_thins flow id v e).before each h);
   requests = λ request h. (taken_thins flow id v e).before (message.Request request) h;
+  replies = λ reply h. inl ((taken_thins flow id v e).before (message.Reply reply) h);
   counted = subst (λ (q : QueueView). Counts (queue_at flow id) q 0 0) (sym (taken_own flow id v e)) (counts (queue_at flow id).messages (queue_at flow id).again (queue_at flow id).room v);
 }
 
@@ -115,8 +124,8 @@ replied_own flow id v reply e =
 
 -- and its reply waits behind the others
 pub replied_moves : (flow : FlowView) (id : ℕ) (v : Verdict) (request : Request) (reply : Reply) (asked : List ℕ) (votes : ℕ) → slice_get (queue_at flow id).messages 0 ≡ Some (message.Request request)
-    → fall_of (queue_at flow id).again v ≡ Handle → has_member asked reply.from ≡ true → votes ≤ 1 → Moves asked (queue_at flow id) (queue_at (replied_flow flow id v reply) id) votes
-replied_moves flow id v request reply asked votes e handle member few = subst (λ (q : QueueView). Moves asked (queue_at flow id) q votes) (sym (replied_own flow id v reply e)) (record {
+    → fall_of (queue_at flow id).again v ≡ Handle → has_member asked reply.from ≡ true → (reply.tag ≡ tag_of request.ask) × (reply.phase ≡ phase_of request.ask) → votes ≤ 1 → Moves asked (queue_at flow id) (queue_at (replied_flow flow id v reply) id) votes
+replied_moves flow id v request reply asked votes e handle member answers few = subst (λ (q : QueueView). Moves asked (queue_at flow id) q votes) (sym (replied_own flow id v reply e)) (record {
   about = λ each h. elim (contains_append (queue_at (taken flow id v) id).messages (message.Reply reply ∷ []) h) [
     | inl front ↦ inl (thins.before each front)
     | inr back ↦ elim (newest_or_older [] back) [
@@ -128,6 +137,13 @@ replied_moves flow id v request reply asked votes e handle member few = subst (�
     | inl front ↦ thins.before (message.Request r) front
     | inr back ↦ elim (newest_or_older [] back) [
       | inl now ↦ absurd (cc now)
+      | inr none ↦ absurd (contains_none none)
+    ]
+  ];
+  replies = λ r h. elim (contains_append (queue_at (taken flow id v) id).messages (message.Reply reply ∷ []) h) [
+    | inl front ↦ inl (thins.before (message.Reply r) front)
+    | inr back ↦ elim (newest_or_older [] back) [
+      | inl now ↦ let same : reply ≡ r = cc now in inr (subst (IsAnswer (queue_at flow id)) same (record { request = request; waits = contains_at (queue_at flow id).messages 0 (message.Request request) e; tag = answers.0; phase = answers.1 }))
       | inr none ↦ absurd (contains_none none)
     ]
   ];
@@ -365,7 +381,7 @@ answers_safe {S} {V} m old id v caller call request acceptor now reply was at is
     (omega (arith, few, subst (λ (c : CallView). 0 < c.reserved) is_at.same (some_reserved (era_at old id) caller (queue_at old.flow id) is_at.round (was.prep_sets id) (was.acc_sets id) is_at.safe)))
     (spends_votes (asked_in (era_at old id) is_at.round.phase) call (length (votes_marked request reply)) (subst (λ (c : CallView). IsMemberSet c.harmed) is_at.same is_at.safe.harmed_set)
     (subst (λ (c : CallView). IsWithin (asked_in (era_at old id) is_at.round.phase) c.harmed) is_at.same is_at.safe.harmed_within))
-    (replied_moves old.flow id v request reply (asked_in (era_at old id) is_at.round.phase) (length (votes_marked request reply)) waits handle member few)
+    (replied_moves old.flow id v request reply (asked_in (era_at old id) is_at.round.phase) (length (votes_marked request reply)) waits handle member (by.table.tag, by.table.phase) few)
     (λ e. no_votes request.to request.ask reply.tell (is_at.safe.asks e request (contains_at (queue_at old.flow id).messages 0 (message.Request request) waits)))
   where
     is_at : IsOpenAt old id caller call

@@ -16,21 +16,25 @@ use Rattle.cas_vault.specs.Vault.{kept_of}
 use Rattle.cas_record.specs.declared.answer.Answer.{Answer}
 use Rattle.cas_record.specs.declared.answer.Answer.TheVariants as answer
 use Rattle.cas_record.specs.declared.mark.Mark.TheVariants.{Proposed, Acked, Ended}
-use Rattle.cas_record.specs.Happening.{Happening, marks_of}
+use Rattle.cas_record.specs.Happening.{Marked, Happening, marks_of}
+use Rattle.cas_cluster.specs.Protocol.{with_mark}
 use Rattle.cas_record.specs.Lawful.{Cluster}
 use Rattle.cas_cluster.specs.History.{IsLogged}
 use Rattle.cas_cluster.specs.Parties.{IsPrepareTrue, IsAcceptTrue, IsRoundTrue, IsOpenTrue, IsCallTrue}
-use Rattle.cas_cluster.specs.Protocol.{Made}
+use Rattle.cas_cluster.specs.Protocol.{Made, is_done}
 use Rattle.cas_cluster.specs.Step as step
 use Rattle.cas_cluster.specs.Step.{Step, StepBegin, StepPropose, StepCount, StepEnd, StepCrashAcceptor, StepRestartAcceptor, OpenRoundAt}
 use Rattle.cas_cluster.specs.StepCalls as calls
-use Rattle.cas_cluster.specs.StepCalls.{round_marks, Opens, BeginsRound, RefusesCall, ProposesOrEnds, CountsOrEnds, EndsCall, over, with_call, tried_again}
+use Rattle.cas_cluster.specs.StepCalls.{round_marks, Opens, BeginsRound, RefusesCall, ProposesOrEnds, CountsOrEnds, Rescans, EndsCall, over, with_call, tried_again}
+use Rattle.cas_cluster.specs.StepCouncil.{with_council}
 use Rattle.cas_cluster.specs.View.{Meaning, View, CallView, CallerView, IsAt, with_acceptor, with_desk, with_caller, era_at}
 use Rattle.cas_cluster.proofs.AcceptorSteps as acceptor
 use Rattle.cas_cluster.specs.StepDesks.{Crashes}
 use Rattle.cas_cluster.proofs.Around.{whole_of, logged}
 use Rattle.cas_cluster.proofs.Asks.{asked_marks}
 use Rattle.cas_cluster.proofs.Beginnings.{begins_to_prepare, prepare_request}
+use Rattle.cas_cluster.specs.Council.{Council, Probe, NextKeys}
+use Rattle.cas_cluster.specs.Listed.{IsPlanTrue}
 use Rattle.cas_cluster.proofs.CouncilSteps as council
 use Rattle.cas_cluster.proofs.CallSteps.{anew, opens, marked}
 use Rattle.cas_cluster.proofs.CountSteps.{counts, ends_call}
@@ -42,6 +46,7 @@ use Rattle.cas_cluster.proofs.Leaving.{down_logged}
 use Rattle.cas_cluster.proofs.OnCourse.{Leads}
 use Rattle.cas_cluster.proofs.Places.{some_is}
 use Rattle.cas_cluster.proofs.Proposals.{accept_requests}
+use Rattle.cas_cluster.proofs.Rescanning.{rescan_asks, undone_plan, refused_undone}
 use Rattle.cas_cluster.proofs.RoundSteps.{none_waits, begins_by_promise, proposes_round}
 
 -- ---- a round begins
@@ -82,11 +87,16 @@ begins {cluster = cluster} m old id caller call new tells at_caller is_open unpr
     (none_waits cluster is.global.log is.global.made id (era_at old id).number caller (queue_at old.flow id).messages desk.round idle of.round) by (whole_of m old is))
     (drew_marks is.global.log call.key (era_at old id).number ballot ∙ is.agrees.marks))
 
+-- a rescan that is not done changes nothing that the log tells of
+undone : {S V : Type 0} {cluster : Cluster} (m : Meaning S V) (old : View S V) (id : ℕ) (key : List ℕ) (told : Answer) (next : Council) → is_done told ≡ false → Rescans old.council id key told next → IsLogged m cluster old → IsLogged m cluster (with_council old next)
+undone {cluster = cluster} m old id key told next not_done by is =
+    council.counsels_by m old next (rescan_asks old.council id key told next by) is (subst (IsPlanTrue cluster is.global.log) (sym (undone_plan old.council id key told next not_done by)) is.agrees.council.1)
+
 refuses : {S V : Type 0} {cluster : Cluster} (m : Meaning S V) (old : View S V) (id : ℕ) (key : List ℕ) (new : View S V) → m.disks.tells → IsLogged m cluster old → RefusesCall m old id key new → IsLogged m cluster new
-refuses {cluster = cluster} m old id key new tells is (calls.stays view) = subst (IsLogged m cluster) (sym view) is
-refuses {cluster = cluster} m old id key new tells is (calls.loses caller desk now ballot at_caller at_desk idle up by view) =
-    subst (IsLogged m cluster) (sym view) (logged m cluster (drew is.global ballot key (era_at old id).number) (with_desk old id now)
-    (lost m cluster is.global old id key desk now ballot tells at_desk idle by caller at_caller (whole_of m old is)) (drew_marks is.global.log key (era_at old id).number ballot ∙ is.agrees.marks))
+refuses {cluster = cluster} m old id key new tells is (calls.stays told next why rescan view) = subst (IsLogged m cluster) (sym view) (undone m old id key told next (refused_undone old id told why) rescan is)
+refuses {cluster = cluster} m old id key new tells is (calls.loses caller desk now ballot next at_caller at_desk idle up by rescan view) =
+    subst (IsLogged m cluster) (sym view) (undone m (with_desk old id now) id key (answer.NoMemory false) next refl rescan (logged m cluster (drew is.global ballot key (era_at old id).number) (with_desk old id now)
+    (lost m cluster is.global old id key desk now ballot tells at_desk idle by caller at_caller (whole_of m old is)) (drew_marks is.global.log key (era_at old id).number ballot ∙ is.agrees.marks)))
 
 -- ---- a round goes on
 not_accept : (era : Era) (ballot : Ballot) (replies : List Reply) (phase_is : OpenPhase) → IsAccept era ballot replies phase_is → is_preparing phase_is ≡ false
@@ -200,12 +210,16 @@ counts_or_ends {S} {V} {cluster} m old id new tells is at accepting by = by_case
               (subst (λ (l : List Message). IsAcceptTrue is.global.log is.global.made id caller.number call l at.round) at.none_waits accept) call_true.harmed_set is_verdict short,
         ))) (whole_of m old is)) is.agrees.marks)
 
-ends : {S V : Type 0} {cluster : Cluster} (m : Meaning S V) (old : View S V) (id : ℕ) (told : Answer) (new : View S V) → m.disks.tells → IsLogged m cluster old → StepEnd m old id told new → IsLogged m cluster new
-ends {cluster = cluster} m old id told new tells is by =
+-- what is known of the change of membership once the call has ended
+pub ends : {S V : Type 0} {cluster : Cluster} (m : Meaning S V) (old : View S V) (id : ℕ) (told : Answer) (new : View S V) → m.disks.tells → (is : IsLogged m cluster old) → (by : StepEnd m old id told new)
+    → IsPlanTrue cluster (Marked (Ended id by.of_call.caller.number by.of_call.call.rounds told) ∷ is.global.log) by.ends.council.plan → by.ends.council.exchange ≡ old.council.exchange → IsLogged m cluster new
+ends {S} {V} {cluster} m old id told new tells is by plan same =
     let at = by.of_call in
-    subst (IsLogged m cluster) (sym by.ends.view) (frames.marked m cluster _ (record (with_caller (with_desk old id by.ends.now) id (record at.caller { call = None })) { flow = abandoned old.flow id })
-    (Ended id at.caller.number at.call.rounds told ∷ []) (marks_of is.global.log)
-    (ends_call m cluster is.global old id at.caller at.call told by.ends.desk by.ends.now tells at.at_caller at.is_open by.ends.told by.ends.at_desk by.ends.closed (whole_of m old is))
+    let mark = Ended id at.caller.number at.call.rounds told in
+    let view : View S V = record (with_caller (with_desk old id by.ends.now) id (record at.caller { call = None })) { flow = abandoned old.flow id } in
+    let whole = ends_call m cluster is.global old id at.caller at.call told by.ends.desk by.ends.now tells at.at_caller at.is_open by.ends.told by.ends.at_desk by.ends.closed (whole_of m old is) in
+    subst (IsLogged m cluster) (sym by.ends.view) (frames.marked m cluster (with_mark is.global (Marked mark)) (record view { council = by.ends.council }) (mark ∷ []) (marks_of is.global.log)
+    (council.counsels m cluster (with_mark is.global (Marked mark)) view by.ends.council (λ exchange open_. whole.parties.council.0 exchange (sym same ∙ open_), plan) whole)
     is.agrees.marks refl)
 
 -- ---- stops
@@ -231,7 +245,7 @@ keeps_log m old (step.Turn id verdict) new shelves disks is by = inr (turns m ol
 keeps_log m old (step.RefuseTurn id) new shelves disks is by = inr (refuses_turn m old id new shelves is by)
 keeps_log m old (step.Propose id) new shelves disks is by = inr (proposes_or_ends m old id new disks is by.at_round by.preparing by.proposes)
 keeps_log m old (step.Count id) new shelves disks is by = inr (counts_or_ends m old id new disks is by.at_round by.accepting by.counts)
-keeps_log m old (step.End id told) new shelves disks is by = inr (ends m old id told new disks is by)
+keeps_log m old (step.End id told) new shelves disks is by = inl tt
 keeps_log m old (step.Stray index) new shelves disks is by = inr (strays m old index new shelves is by)
 keeps_log m old step.RefuseStray new shelves disks is by = inr (refuses_stray m old new shelves is by)
 keeps_log m old (step.CrashAcceptor id) new shelves disks is by = inr (crashes_acceptor m old id new shelves is by)
@@ -241,9 +255,11 @@ keeps_log m old (step.RestartProposer id) new shelves disks is by = inl tt
 keeps_log m old (step.Order asked) new shelves disks is by = inr (council.orders m old asked new is by)
 keeps_log {cluster = cluster} m old step.RefuseOrder new shelves disks is by = inr (subst (IsLogged m cluster) (sym by) is)
 keeps_log m old (step.Tell answer) new shelves disks is by = inl tt
-keeps_log m old (step.AskAll question) new shelves disks is by = inr (council.asks_all m old question new disks is by)
+keeps_log m old (step.AskAll (Probe key)) new shelves disks is by = inr (council.asks_all m old (Probe key) new disks is tt by)
+keeps_log m old (step.AskAll (NextKeys places)) new shelves disks is by = inl tt
 keeps_log m old (step.TurnExchange verdict) new shelves disks is by = inr (council.turns_exchange m old verdict new shelves is by)
 keeps_log m old step.RefuseTurnExchange new shelves disks is by = inr (council.refuses_exchange m old new shelves is by)
-keeps_log m old step.Gather new shelves disks is by = inr (council.gathers m old new is by)
+keeps_log m old step.Gather new shelves disks is by = inl tt
+keeps_log {cluster = cluster} m old step.RefuseKey new shelves disks is by = inr (subst (IsLogged m cluster) (sym by.view) (council.told_remembered m old _ is))
 keeps_log m old step.OpenPlan new shelves disks is by = inl tt
 keeps_log m old (step.EnterEra id) new shelves disks is by = inl tt

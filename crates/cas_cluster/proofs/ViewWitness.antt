@@ -146,6 +146,10 @@ module _ {D : Type 0} (begun : Vault D) where
     marks = marks;
   }
 
+  -- no change of membership is under way
+  no_plan : {id : ℕ} {key : List ℕ} → calls.IsRescan (opening_council three) id key → ⊥
+  no_plan of = cc of.is_plan
+
   -- ---- the opening
   abbrev opening : View ToyShelf ToyDisk
   opening = seen (up 1 nothing) (up 2 nothing) (up 3 nothing) (idle_desk 1) new_caller empty_flow []
@@ -584,7 +588,7 @@ module _ {D : Type 0} (begun : Vault D) where
   step_ended : Step toys view_done (End 1 (answer.Done five (ByClause 0) one)) view_ended
   step_ended = record {
     of_call = record { caller = record { number = 1; call = Some call_done }; at_caller = refl; call = call_done; is_open = refl };
-    ends = record { told = refl; desk = desk_ready; at_desk = refl; now = desk_ready; closed = inl (refl, refl); view = refl };
+    ends = record { told = refl; desk = desk_ready; at_desk = refl; now = desk_ready; closed = inl (refl, refl); council = opening_council three; rescans = calls.is_none no_plan refl; view = refl };
   }
 
   history_ended : History toys three view_ended
@@ -774,7 +778,7 @@ module _ {D : Type 0} (begun : Vault D) where
   step_over : Step toys view_crashed (End 2 answer.Crashed) view_over
   step_over = record {
     of_call = record { caller = record { number = 1; call = Some call_crashed }; at_caller = refl; call = call_crashed; is_open = refl };
-    ends = record { told = refl; desk = down_other; at_desk = refl; now = down_other; closed = inl (refl, refl); view = refl };
+    ends = record { told = refl; desk = down_other; at_desk = refl; now = down_other; closed = inl (refl, refl); council = opening_council three; rescans = calls.is_none no_plan refl; view = refl };
   }
 
   abbrev view_last : View ToyShelf ToyDisk

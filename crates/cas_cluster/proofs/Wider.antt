@@ -1,5 +1,5 @@
 -- What is logged of a cluster is logged of a wider one: its new eras are beyond all that happened.
-use Rattle.std.proofs.Common.{◌≤◌, ℕ, List, Option, None, Some, sym, subst, ◌∙◌, arith}
+use Rattle.std.proofs.Common.{◌≡◌, ◌≤◌, ℕ, List, Option, None, Some, sym, subst, ◌∙◌, arith}
 use Rattle.cas_cache.specs.declared.ready.Ready.{Ready}
 use Rattle.cas_flow.specs.Flow.{queue_at}
 use Rattle.cas_flow.specs.declared.message.Message.{Message}
@@ -10,6 +10,7 @@ use Rattle.cas_record.specs.Happening.{Happening}
 use Rattle.cas_record.specs.Lawful.{Cluster}
 use Rattle.cas_record.proofs.Clusters.{lawful_more, orderly_more}
 use Rattle.cas_cluster.specs.History.{AgreesWith, IsLogged}
+use Rattle.cas_cluster.specs.Listed.{IsPlanTrue}
 use Rattle.cas_cluster.specs.Parties.{IsHeldReady, IsOpenTrue, IsDeskTrue}
 use Rattle.cas_cluster.specs.Protocol.{Made, GlobalState, HasHistory}
 use Rattle.cas_cluster.specs.View.{Meaning, View, CallerView, era_at}
@@ -64,8 +65,8 @@ wider_desk m cluster wider base later log all era id caller waiting desk more lo
 
 -- ---- the whole
 wider_agrees : {S V : Type 0} (m : Meaning S V) (cluster wider : Cluster) (base : Era) (later : List Era) (global : GlobalState) (view : View S V) → IsWidening cluster wider base later
-    → ((id : ℕ) → id ≤ view.greatest → (era_at view id).number ≤ base.number) → AgreesWith m cluster global view → AgreesWith m wider global view
-wider_agrees m cluster wider base later global view more low was = record {
+    → ((id : ℕ) → id ≤ view.greatest → (era_at view id).number ≤ base.number) → view.council.plan ≡ None → AgreesWith m cluster global view → AgreesWith m wider global view
+wider_agrees m cluster wider base later global view more low none was = record {
   marks = was.marks;
   greatest = more.widened.greatest ∙ was.greatest;
   few = was.few;
@@ -75,16 +76,16 @@ wider_agrees m cluster wider base later global view more low was = record {
       let of = was.desks id desk caller at_desk at_caller in
       wider_desk m cluster wider base later global.log global.made (era_at view id).number id caller (queue_at view.flow id).messages desk more (low id (omega (arith, of.known, was.greatest))) of;
   callers = was.callers;
-  council = was.council;
+  council = (was.council.0, subst (IsPlanTrue wider global.log) (sym none) tt);
   own = was.own;
   late = was.late;
 }
 
 pub wider_logged : {S V : Type 0} (m : Meaning S V) (cluster wider : Cluster) (base : Era) (later : List Era) (view : View S V) → IsWidening cluster wider base later
-    → ((id : ℕ) → id ≤ view.greatest → (era_at view id).number ≤ base.number) → IsLogged m cluster view → IsLogged m wider view
-wider_logged m cluster wider base later view more low is = record {
+    → ((id : ℕ) → id ≤ view.greatest → (era_at view id).number ≤ base.number) → view.council.plan ≡ None → IsLogged m cluster view → IsLogged m wider view
+wider_logged m cluster wider base later view more low none is = record {
   meets = more.meets;
   global = is.global;
   history = wider_history cluster wider base later is.global more is.history;
-  agrees = wider_agrees m cluster wider base later is.global view more low is.agrees;
+  agrees = wider_agrees m cluster wider base later is.global view more low none is.agrees;
 }

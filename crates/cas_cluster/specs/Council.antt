@@ -1,22 +1,72 @@
 -- What the operator has under way: its call that is open, the exchange in which proposer 0 asks all members, and the change of membership.
 -- The frames of an exchange have a queue of their own.
-use Rattle.std.specs.Prelude.{◌≡◌, ◌+◌, ℕ, Bool, true, List, Option, None, Some, option_map}
+use Rattle.std.specs.Prelude.{◌≡◌, ◌+◌, ◌==◌, ◌&&◌, ℕ, Bool, true, false, if◌then◌else◌, List, [], ◌∷◌, length, drop, Option, None, Some, option_map}
 use Rattle.cas_ballot.specs.declared.ballot.Ballot.{Ballot}
 use Rattle.cas_slot.specs.declared.message.Ask.{Ask}
 use Rattle.cas_slot.specs.declared.message.Ask.TheVariants as ask
+use Rattle.cas_slot.specs.declared.message.Phase.{Phase}
+use Rattle.cas_slot.specs.declared.message.Phase.TheVariants as phase
+use Rattle.cas_slot.specs.declared.message.Reply.{Reply}
 use Rattle.cas_record.specs.declared.operator.Asked.{Asked}
 use Rattle.cas_record.specs.declared.operator.OpAnswer.{OpAnswer}
 use Rattle.cas_record.specs.declared.operator.Probe.{Probe as Answered}
 use Rattle.cas_members.specs.Steps.{Progress}
 
+-- ---- listings
+-- how far the listing of a member has come: behind a key, or nowhere yet; or to its end
+pub data Place : Type 0 where
+  GoesOn : (after : Option (List ℕ)) → Place
+  Ended : Place
+
+pub record MemberPlace : Type 0 where
+  pub member : ℕ
+  pub place : Place
+
+-- a listing of all keys that the members of an era keep a slot of
+pub record ListingView : Type 0 where
+  pub tag : Ballot
+  pub places : List MemberPlace
+  -- the keys that are still to be proposed anew, in the order of their bytes
+  pub keys : List (List ℕ)
+  -- whether so many members have come to their end that nothing is missing
+  pub complete : Bool
+
+-- where one stands that is not there has come nowhere yet
+abbrev pub place_in : List MemberPlace → ℕ → Place
+place_in [] member = GoesOn None
+place_in (one ∷ places) member = if one.member == member then one.place else place_in places member
+
+abbrev pub has_ended : Place → Bool
+has_ended Ended = true
+has_ended (GoesOn after) = false
+
+-- the key behind which it goes on
+abbrev pub after_of : Place → Option (List ℕ)
+after_of (GoesOn after) = after
+after_of Ended = None
+
+-- ---- exchanges
 -- what proposer 0 asks all members
 pub data Question : Type 0 where
   -- what each keeps for the key
   Probe : (key : List ℕ) → Question
+  -- the next keys that each keeps a slot of, behind its place
+  NextKeys : (places : List MemberPlace) → Question
 
 -- the request to one of them
-abbrev pub ask_of : Ballot → Question → Ask
-ask_of tag (Probe key) = ask.Probe tag key
+abbrev pub ask_of : Ballot → Question → ℕ → Ask
+ask_of tag (Probe key) member = ask.Probe tag key
+ask_of tag (NextKeys places) member = ask.List tag (after_of (place_in places member))
+
+-- the phase of it
+abbrev pub phase_for : Question → Phase
+phase_for (Probe key) = phase.Probe
+phase_for (NextKeys places) = phase.List
+
+-- the reply is to a request of this tag and question
+pub record IsReplyTo (of : Ballot) (question : Question) (reply : Reply) : Type 0 where
+  pub tag : reply.tag ≡ of
+  pub phase : reply.phase ≡ phase_for question
 
 -- an exchange with these members that has not been gathered yet
 pub record ExchangeView : Type 0 where
@@ -46,9 +96,29 @@ pub record PlanView : Type 0 where
   pub progress : Progress
   -- the proposers below this number are marked as in the era that is to be entered
   pub entered : ℕ
-  -- how many keys it has proposed anew
+  -- how many keys it has proposed anew; the count stands still at its end
   pub rescanned : ℕ
+  -- what was listed of the era that is to be settled
+  pub listing : Option ListingView
 
+-- ---- the change of membership
+-- its first step is done
+abbrev pub stepped : PlanView → PlanView
+stepped plan = record plan { progress = record { era = plan.progress.era; left = drop 1 plan.progress.left }; listing = None }
+
+-- the era is settled once a complete listing has no key left
+abbrev pub with_listing : PlanView → ListingView → PlanView
+with_listing plan listing = if listing.complete && (length listing.keys == 0) then stepped plan else record plan { listing = Some listing }
+
+-- a listing that is not complete is dropped
+abbrev pub complete_only : Option ListingView → Option ListingView
+complete_only None = None
+complete_only (Some listing) = if listing.complete then Some listing else None
+
+abbrev pub without_partial : PlanView → PlanView
+without_partial plan = record plan { listing = complete_only plan.listing }
+
+-- ---- all of it
 pub record Council : Type 0 where
   pub order : Option OrderView
   pub exchange : Option ExchangeView
@@ -64,10 +134,11 @@ pub record IsAtRest (council : Council) : Type 0 where
   pub order : council.order ≡ None
   pub exchange : council.exchange ≡ None
 
--- all else is as it was
+-- all else is as it was, but for a listing that is not complete
 abbrev pub at_rest : Council → Council
-at_rest council = record council { order = None; exchange = None }
+at_rest council = record council { order = None; exchange = None; plan = option_map without_partial council.plan }
 
+-- ---- the queue and the marks
 -- the queue of the exchange stands behind those of the proposers
 abbrev pub exchange_place : ℕ
 exchange_place = 17

@@ -88,10 +88,10 @@ pub record Follows (era next : Era) : Type 0 where
   pub some_acc : 0 < length next.acc
   pub majorities : HasMajorities next
 
--- the steps settle an era before they enter the one that follows it, and end in one that is whole
+-- the steps settle an era, which is not the first, before they enter the one that follows it, and end in one that is whole
 abbrev pub IsPath : Era → List PlanStep → Type 0
 IsPath era [] = IsWhole era
-IsPath era (Settle ∷ Enter next ∷ later) = Follows era next × IsPath next later
+IsPath era (Settle ∷ Enter next ∷ later) = (0 < era.number) × Follows era next × IsPath next later
 IsPath era other = ⊥
 
 -- the first era may be settled already
@@ -113,8 +113,6 @@ pub data WorksIn (plan : PlanView) (id : ℕ) (era : Era) : Type 0 where
 -- With one, its steps are a path from the era that all entered last. Some proposers may work in the next one, but not all are marked so.
 pub record IsMoving (course : Course) (plan : PlanView) : Type 0 where
   pub start : IsStart plan.progress.era plan.progress.left
-  -- only the first era is left as it is
-  pub first : (next : Era) → entering plan.progress.left ≡ Some next → plan.progress.era.number ≡ 0
   pub some_left : plan.entered ≤ course.greatest
   pub none_entered : entering plan.progress.left ≡ None → plan.entered ≡ 0
   pub each : (id : ℕ) → id ≤ course.greatest → WorksIn plan id (era_in course.eras id)

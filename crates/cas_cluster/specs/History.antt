@@ -9,7 +9,8 @@ use Rattle.cas_record.specs.Happening.{marks_of}
 use Rattle.cas_record.specs.Lawful.{Cluster, ClusterMeets}
 use Rattle.cas_cluster.specs.Council.{PlanView}
 use Rattle.cas_cluster.specs.Course.{Course, course_of, next_era, IsCourseOf}
-use Rattle.cas_cluster.specs.Parties.{IsWithin, IsAcceptorTrue, AreMessagesTrue, IsEraOf, IsDeskTrue, IsCouncilTrue, IsCallerTrue}
+use Rattle.cas_cluster.specs.Parties.{IsWithin, IsAcceptorTrue, AreMessagesTrue, IsEraOf, IsDeskTrue, IsCallerTrue}
+use Rattle.cas_cluster.specs.Listed.{IsCouncilTrue}
 use Rattle.cas_cluster.specs.Protocol.{GlobalState, HasHistory}
 use Rattle.cas_cluster.specs.View.{Meaning, View, CallerView, IsAt, era_at, era_in}
 
@@ -22,7 +23,7 @@ pub record AgreesWith {S V : Type 0} (m : Meaning S V) (cluster : Cluster) (glob
   pub acceptors : (id : ℕ) (acceptor : AcceptorView S) → IsAt view.acceptors id acceptor → IsAcceptorTrue m global.log id (global.kept id) acceptor
   pub desks : (id : ℕ) (desk : DeskView V) (caller : CallerView) → IsAt view.desks id desk → IsAt view.callers id caller → IsDeskTrue m cluster global.log global.made (era_at view id).number id caller (queue_at view.flow id).messages desk
   pub callers : (id : ℕ) (caller : CallerView) → IsAt view.callers id caller → IsCallerTrue global.log global.made id caller
-  pub council : IsCouncilTrue global.log view.council
+  pub council : IsCouncilTrue cluster global.log view.council
   pub own : (id : ℕ) → AreMessagesTrue global.log (queue_at view.flow id).messages
   pub late : AreMessagesTrue global.log view.flow.late
 

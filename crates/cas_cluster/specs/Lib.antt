@@ -5,9 +5,12 @@ pub mod Desks
 pub mod Held
 pub mod History
 pub mod Laws
+pub mod Listed
+pub mod Listings
 pub mod Parties
 pub mod Proposers
 pub mod Protocol
+pub mod Remaining
 pub mod Safe
 pub mod SafeLaws
 pub mod Step

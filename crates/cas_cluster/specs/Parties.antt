@@ -41,7 +41,7 @@ use Rattle.cas_record.specs.Orderly.{IsAboveFloors}
 use Rattle.cas_record.specs.Places.{Stands}
 use Rattle.cas_cluster.specs.Acceptors.{IsLeft}
 use Rattle.cas_record.specs.declared.operator.Probe.{Probe as Answered}
-use Rattle.cas_cluster.specs.Council.{ExchangeView, Council}
+use Rattle.cas_cluster.specs.Council.{Question, ExchangeView, IsReplyTo}
 use Rattle.cas_cluster.specs.Proposers.{AllRide}
 use Rattle.cas_cluster.specs.Protocol.{Made, HasMade}
 use Rattle.cas_cluster.specs.View.{DiskMeaning, Meaning, CallView, CallerView, IsAt}
@@ -227,25 +227,23 @@ pub record IsDeskTrue {S V : Type 0} (m : Meaning S V) (cluster : Cluster) (log 
   pub round : IsOpenTrue cluster log all id era caller waiting desk.round
 
 -- ---- the operator
--- a reply was made in which the acceptor told it
-pub record WasToldBy (log : List Happening) (acceptor : ℕ) (told : Tell) : Type 0 where
+-- a reply to such a request was made in which the acceptor told it
+pub record WasToldBy (log : List Happening) (tag : Ballot) (question : Question) (acceptor : ℕ) (told : Tell) : Type 0 where
   pub reply : Reply
   pub made : WasMade log reply
   pub same_from : reply.from ≡ acceptor
   pub same_tell : reply.tell ≡ told
+  pub to_it : IsReplyTo tag question reply
 
-abbrev pub WereTold : List Happening → List Answered → Type 0
-WereTold log answers = (place : ℕ) (answer : Answered) (told : Tell) → IsAt answers place answer → answer.told ≡ Some told → WasToldBy log answer.acceptor told
+abbrev pub WereTold : List Happening → Ballot → Question → List Answered → Type 0
+WereTold log tag question answers = (place : ℕ) (answer : Answered) (told : Tell) → IsAt answers place answer → answer.told ≡ Some told → WasToldBy log tag question answer.acceptor told
 
 -- the tag of an exchange was drawn, and what its members told was told in replies that were made
 pub record IsExchangeTrue (log : List Happening) (exchange : ExchangeView) : Type 0 where
   pub own : exchange.tag.proposer ≡ 0
   pub era : ℕ
   pub drawn : Stands (Drew exchange.tag [] era) log
-  pub told : WereTold log exchange.told
-
-abbrev pub IsCouncilTrue : List Happening → Council → Type 0
-IsCouncilTrue log council = (exchange : ExchangeView) → council.exchange ≡ Some exchange → IsExchangeTrue log exchange
+  pub told : WereTold log exchange.tag exchange.question exchange.told
 
 -- ---- callers
 -- what the call made is acknowledged
@@ -255,6 +253,7 @@ pub record IsDoneTrue (log : List Happening) (all : List Made) (id number : ℕ)
   pub same_caller : made.proposal.caller ≡ id
   pub same_call : made.proposal.call ≡ number
   pub same_ballot : made.proposal.ballot ≡ ballot
+  pub own : ballot.proposer ≡ id
   pub same_outcome : made.outcome ≡ record { state = state; took = took }
   pub acked : IsAcked made.proposal.key ballot (marks_of log)
 
@@ -278,7 +277,12 @@ pub record IsCallTrue (log : List Happening) (all : List Made) (id number : ℕ)
   pub harmed : length call.harmed ≤ harms_of id number (marks_of log)
   pub told : (told : Answer) → call.told ≡ Some told → IsToldTrue log all id number told
 
--- the caller began so many calls, and the last one may be open
+-- each call that was proposed, but for one that is open, was ended
+abbrev pub AreEnded : List Happening → ℕ → ℕ → Option CallView → Type 0
+AreEnded log id number open_ = (call : ℕ) → IsProposed id call (marks_of log) → ((is_some open_ ≡ true) × (call ≡ number)) ⊎ IsEnded id call (marks_of log)
+
+-- the caller began so many calls, and the last one may be open; any other that was proposed was ended
 pub record IsCallerTrue (log : List Happening) (all : List Made) (id : ℕ) (caller : CallerView) : Type 0 where
   pub number : caller.number ≡ calls_of id (marks_of log)
   pub call : (call : CallView) → caller.call ≡ Some call → IsCallTrue log all id caller.number call
+  pub ended : AreEnded log id caller.number caller.call

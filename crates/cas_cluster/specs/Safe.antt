@@ -11,14 +11,18 @@ use Rattle.cas_flow.specs.Queue.{QueueView}
 use Rattle.cas_flow.specs.declared.message.Message.{Message}
 use Rattle.cas_flow.specs.declared.message.Message.TheVariants as message
 use Rattle.cas_acceptor.specs.Acceptor.{AcceptorView}
+use Rattle.cas_members.specs.declared.plan.PlanStep.TheVariants.{Settle}
+use Rattle.cas_members.specs.Plan.{next_of}
 use Rattle.cas_proposer.specs.Desk.{DeskView}
 use Rattle.cas_proposer.specs.Round.{is_preparing}
 use Rattle.cas_proposer.specs.declared.round.Round.{Round}
 use Rattle.cas_quorum.specs.declared.era.Era.{Era}
 use Rattle.cas_round.specs.Replies.{is_prepare}
 use Rattle.cas_slot.specs.Message.{phase_of}
+use Rattle.cas_slot.specs.Slots.{rises}
+use Rattle.cas_slot.specs.declared.message.Reply.{Reply}
 use Rattle.cas_slot.specs.declared.message.Request.{Request}
-use Rattle.cas_cluster.specs.Council.{ExchangeView, ask_of, exchange_place}
+use Rattle.cas_cluster.specs.Council.{MemberPlace, ListingView, NextKeys, ask_of, IsReplyTo, ExchangeView, PlanView, Council, exchange_place}
 use Rattle.cas_cluster.specs.Course.{IsCourse, course_of}
 use Rattle.cas_cluster.specs.Parties.{asked_in}
 use Rattle.cas_cluster.specs.StepCalls.{most_marks}
@@ -82,13 +86,14 @@ pub record IsPartySafe {V : Type 0} (era : Era) (marks id : ℕ) (desk : DeskVie
   pub room : requests_in queue.messages ≤ queue.room + handled_once queue
 
 -- ---- exchanges
--- Each frame is to or from one of its members, and each request asks its question. The marks of the harms that may still come are
+-- Each frame is to or from one of its members, each request asks its question, and each reply is to one that does. The marks of the harms that may still come are
 -- reserved, and there is room for the reply to each request that was not handled yet.
 pub record IsExchangeSafe (exchange : ExchangeView) (queue : QueueView) : Type 0 where
   pub tag : FitsBallot exchange.tag
   pub member_set : IsMemberSet exchange.members
   pub about : (each : Message) → Contains queue.messages each → has_member exchange.members (head_of each).1 ≡ true
-  pub asks : (request : Request) → Contains queue.messages (message.Request request) → request.ask ≡ ask_of exchange.tag exchange.question
+  pub asks : (request : Request) → Contains queue.messages (message.Request request) → request.ask ≡ ask_of exchange.tag exchange.question request.to
+  pub replies : (reply : Reply) → Contains queue.messages (message.Reply reply) → IsReplyTo exchange.tag exchange.question reply
   pub harmed_set : IsMemberSet exchange.harmed
   pub harmed_within : (acceptor : ℕ) → has_member exchange.harmed acceptor ≡ true → has_member exchange.members acceptor ≡ true
   pub reserved : length exchange.members ≤ exchange.reserved + length exchange.harmed
@@ -99,8 +104,35 @@ abbrev pub IsAskingSafe : Option ExchangeView → QueueView → Type 0
 IsAskingSafe None queue = queue.messages ≡ []
 IsAskingSafe (Some exchange) queue = IsExchangeSafe exchange queue
 
+-- ---- listings
+-- A listing is of the era that is to be settled next. Its keys are in the order of their bytes, and where it is complete one is left.
+pub record IsListingSafe (plan : PlanView) (listing : ListingView) : Type 0 where
+  pub tag : FitsBallot listing.tag
+  pub settles : next_of plan.progress.left ≡ Settle
+  pub rises : rises None listing.keys ≡ true
+  pub some_left : listing.complete ≡ true → 0 < length listing.keys
+
+abbrev pub AreListingsSafe : Option PlanView → Type 0
+AreListingsSafe under_way = (plan : PlanView) (listing : ListingView) → under_way ≡ Some plan → plan.listing ≡ Some listing → IsListingSafe plan listing
+
+-- the next keys are asked for by a listing that is not complete, with its tag and from its places on
+pub record IsOfListing (under_way : Option PlanView) (tag : Ballot) (places : List MemberPlace) : Type 0 where
+  pub plan : PlanView
+  pub is_plan : under_way ≡ Some plan
+  pub listing : ListingView
+  pub is_listing : plan.listing ≡ Some listing
+  pub partial : listing.complete ≡ false
+  pub same_tag : listing.tag ≡ tag
+  pub same_places : listing.places ≡ places
+
+abbrev pub IsAskingOf : Option PlanView → Option ExchangeView → Type 0
+IsAskingOf under_way open_ = (exchange : ExchangeView) (places : List MemberPlace) → open_ ≡ Some exchange → exchange.question ≡ NextKeys places → IsOfListing under_way exchange.tag places
+
+abbrev pub IsCouncilSafe : Council → Type 0
+IsCouncilSafe council = AreListingsSafe council.plan × IsAskingOf council.plan council.exchange
+
 -- ---- the whole
--- each party, each exchange and the marks are so
+-- each party, each exchange, each listing and the marks are so
 pub record IsSound {S V : Type 0} (view : View S V) : Type 0 where
   pub few : view.greatest ≤ 16
   pub prep_sets : (id : ℕ) → IsMemberSet (era_at view id).prep
@@ -113,6 +145,7 @@ pub record IsSound {S V : Type 0} (view : View S V) : Type 0 where
   pub own : length view.flow.own ≡ 18
   pub parties : (id : ℕ) (desk : DeskView V) (caller : CallerView) → IsAt view.desks id desk → IsAt view.callers id caller → IsPartySafe (era_at view id) (length view.marks) id desk caller (queue_at view.flow id)
   pub asking : IsAskingSafe view.council.exchange (queue_at view.flow exchange_place)
+  pub council : IsCouncilSafe view.council
   pub room : length view.marks + reserved_in_all view ≤ most_marks
 
 -- and the cluster is on its course through the eras

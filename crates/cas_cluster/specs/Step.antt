@@ -22,7 +22,7 @@ use Rattle.cas_cluster.specs.Course.{era_shown}
 use Rattle.cas_cluster.specs.Parties.{IsWithin}
 use Rattle.cas_cluster.specs.StepAcceptors.{CrashesShelf, StartsShelf, FailsToStart}
 use Rattle.cas_cluster.specs.StepCalls.{most_marks, Opens, BeginsRound, RefusesCall, ProposesOrEnds, CountsOrEnds, EndsCall, telling, with_call}
-use Rattle.cas_cluster.specs.StepCouncil.{StepOrder, StepTell, StepAskAll, StepTurnExchange, StepRefuseTurnExchange, StepGather}
+use Rattle.cas_cluster.specs.StepCouncil.{StepOrder, StepTell, StepAskAll, StepTurnExchange, StepRefuseTurnExchange, StepGather, StepRefuseKey}
 use Rattle.cas_cluster.specs.StepDesks.{Restarts}
 use Rattle.cas_cluster.specs.StepPlans.{StepOpenPlan, StepEnterEra}
 use Rattle.cas_cluster.specs.StepStops.{OpenCallAt, StepCrashProposer}
@@ -59,6 +59,8 @@ pub data Event : Type 0 where
   TurnExchange : (verdict : Verdict) → Event
   RefuseTurnExchange : Event
   Gather : Event
+  -- no memory is found for the key that is to be proposed anew
+  RefuseKey : Event
   -- a change of membership begins, and the next proposer enters the era that it leads to; or the operator is told why not
   OpenPlan : Event
   EnterEra : (proposer : ℕ) → Event
@@ -157,6 +159,7 @@ Step m old (AskAll question) new = StepAskAll m old question new
 Step m old (TurnExchange verdict) new = StepTurnExchange m old verdict new
 Step m old RefuseTurnExchange new = StepRefuseTurnExchange m old new
 Step m old Gather new = StepGather old new
+Step m old RefuseKey new = StepRefuseKey old new
 Step m old OpenPlan new = StepOpenPlan m old new
 Step m old (EnterEra proposer) new = StepEnterEra m old proposer new
 

@@ -1,5 +1,5 @@
 -- What the calls of a caller do: a call begins or goes on with another round, proposes, is counted and ended.
-use Rattle.std.specs.Prelude.{◌*◌, ◌<◌, ◌≤◌, length, slice_set, ◌≡◌, ◌⊎◌, ⊤, ℕ, suc, ◌+◌, ◌-◌, ◌^◌, min, true, false, List, [], ◌∷◌, ◌++◌, map, Option, None, Some}
+use Rattle.std.specs.Prelude.{◌*◌, ◌<◌, ◌≤◌, length, drop, slice_get, slice_set, ◌≡◌, ◌⊎◌, ⊤, ℕ, suc, ◌+◌, ◌-◌, ◌^◌, min, true, false, List, [], ◌∷◌, ◌++◌, map, Option, None, Some}
 use Rattle.cas_ballot.specs.declared.ballot.Ballot.{Ballot}
 use Rattle.cas_ballot.specs.Members.{union_of}
 use Rattle.cas_cache.specs.declared.ready.Ready.{Ready}
@@ -11,6 +11,8 @@ use Rattle.cas_flow.specs.Flow.{FlowView, queue_at, abandoned}
 use Rattle.cas_flow.specs.declared.message.Message.{Message}
 use Rattle.cas_flow.specs.declared.message.Message.TheVariants as message
 use Rattle.cas_proposer.specs.Desk.{DeskView}
+use Rattle.cas_members.specs.declared.plan.PlanStep.TheVariants.{Settle}
+use Rattle.cas_members.specs.Plan.{next_of}
 use Rattle.cas_proposer.specs.Round.{has_quorum, IsReadOf, IsVerdictOf, IsConfirmersOf}
 use Rattle.cas_proposer.specs.declared.round.Round.{Round}
 use Rattle.cas_quorum.specs.declared.era.Era.{Era}
@@ -27,7 +29,9 @@ use Rattle.cas_record.specs.declared.answer.Cause.{Cause}
 use Rattle.cas_record.specs.declared.answer.Cause.TheVariants as cause
 use Rattle.cas_record.specs.declared.mark.Mark.TheVariants.{Begun, Proposed, Acked, Ended}
 use Rattle.cas_record.specs.declared.mark.Proposal.{Proposal}
-use Rattle.cas_cluster.specs.Council.{reserved_by}
+use Rattle.cas_record.specs.declared.operator.OpAnswer.TheVariants.{Stopped}
+use Rattle.cas_cluster.specs.Council.{ListingView, OrderView, PlanView, Council, with_listing, reserved_by, telling as telling_operator}
+use Rattle.cas_cluster.specs.Protocol.{is_done}
 use Rattle.cas_cluster.specs.Proposers.{state_read}
 use Rattle.cas_cluster.specs.StepDesks.{BeginsToPrepare, BeginsByPromise, TurnsWith, EndsRound, FailsToDraw, LosesMemory, HasKept}
 use Rattle.cas_cluster.specs.View.{Meaning, CallView, CallerView, View, IsAt, era_at, new_call, new_caller, reserved_of, with_desk, with_caller, with_marks}
@@ -80,9 +84,13 @@ opened view id caller key program =
 abbrev pub with_call : {S V : Type 0} → View S V → ℕ → CallerView → CallView → View S V
 with_call view id caller call = with_caller view id (record caller { call = Some call })
 
--- another round of the open one, for which nothing was proposed; the count of rounds stands still at its end
+-- a count goes on by one, and stands still at its end
+abbrev pub one_more : ℕ → ℕ
+one_more count = min (count + 1) (2 ^ 32 - 1)
+
+-- another round of the open one, for which nothing was proposed
 abbrev pub tried_again : CallView → ℕ → CallView
-tried_again call reserved = record call { rounds = min (call.rounds + 1) (2 ^ 32 - 1); reserved = reserved; harmed = []; told = None; is_closed = false }
+tried_again call reserved = record call { rounds = one_more call.rounds; reserved = reserved; harmed = []; told = None; is_closed = false }
 
 -- the last round ended with a conflict
 abbrev pub WasMet : Option Answer → Type 0
@@ -121,6 +129,31 @@ abbrev pub proposed_view : {S V : Type 0} → View S V → ℕ → CallerView �
 proposed_view view id caller call desk flow p outcome =
     with_marks (record (with_call (with_desk view id desk) id caller (proposing call outcome)) { flow = flow }) (Proposed p ∷ [])
 
+-- ---- a key is proposed anew
+-- The key is the first of those that are listed of the era that the operator's call is to settle, and caller 0 proposes it anew.
+pub record IsRescan (council : Council) (id : ℕ) (key : List ℕ) : Type 0 where
+  pub by_operator : id ≡ 0
+  pub order : OrderView
+  pub is_open : council.order ≡ Some order
+  pub plan : PlanView
+  pub is_plan : council.plan ≡ Some plan
+  pub is_for : plan.asked ≡ order.asked
+  pub settles : next_of plan.progress.left ≡ Settle
+  pub listing : ListingView
+  pub is_listing : plan.listing ≡ Some listing
+  pub complete : listing.complete ≡ true
+  pub first : slice_get listing.keys 0 ≡ Some key
+
+-- it is counted and no longer listed
+abbrev pub rescanned_by : PlanView → ListingView → PlanView
+rescanned_by plan listing = with_listing (record plan { rescanned = one_more plan.rescanned }) (record listing { keys = drop 1 listing.keys })
+
+-- By what the caller was told: the key is done, or the operator's call is told that it stopped, and why.
+pub data Rescans (old : Council) (id : ℕ) (key : List ℕ) (answer : Answer) (new : Council) : Type 0 where
+  rescans : (of : IsRescan old id key) → is_done answer ≡ true → new ≡ record old { plan = Some (rescanned_by of.plan of.listing) } → Rescans old id key answer new
+  stops : IsRescan old id key → is_done answer ≡ false → new ≡ telling_operator old (Stopped answer) → Rescans old id key answer new
+  is_none : (IsRescan old id key → ⊥) → new ≡ old → Rescans old id key answer new
+
 -- ---- a round begins
 -- at a ballot that is drawn; by a promise, and then what its program makes of the promised state is proposed at once; or not at all
 pub data BeginsRound {S V : Type 0} (m : Meaning S V) (old : View S V) (id : ℕ) (caller : CallerView) (call : CallView) (new : View S V) : Type 0 where
@@ -141,11 +174,16 @@ pub data BeginsRound {S V : Type 0} (m : Meaning S V) (old : View S V) (id : ℕ
   loses : (desk now : DeskView V) (ballot : Option Ballot) → IsAt old.desks id desk → desk.round ≡ None → desk.down ≡ false
       → LosesMemory m.disks call.key desk now ballot → new ≡ with_call (with_desk old id now) id caller (over call (answer.NoMemory false)) → BeginsRound m old id caller call new
 
--- a new call is refused, and no mark is made: all is as before, but for what was lost with the memory
+-- why a new call is refused: the marks of its round do not fit, or there is no memory
+abbrev pub IsRefusal : {S V : Type 0} → View S V → ℕ → Answer → Type 0
+IsRefusal view id told = ((told ≡ answer.RecordFull) × IsFull view id) ⊎ (told ≡ answer.NoMemory false)
+
+-- A new call is refused, and no mark is made: all is as before, but for what was lost with the memory. Where it would have proposed a key
+-- anew, the operator's call is told so.
 pub data RefusesCall {S V : Type 0} (m : Meaning S V) (old : View S V) (id : ℕ) (key : List ℕ) (new : View S V) : Type 0 where
-  stays : new ≡ old → RefusesCall m old id key new
-  loses : (caller : CallerView) (desk now : DeskView V) (ballot : Option Ballot) → IsAt old.callers id caller → IsAt old.desks id desk → desk.round ≡ None → desk.down ≡ false
-      → LosesMemory m.disks key desk now ballot → new ≡ with_desk old id now → RefusesCall m old id key new
+  stays : (told : Answer) (council : Council) → IsRefusal old id told → Rescans old.council id key told council → new ≡ record old { council = council } → RefusesCall m old id key new
+  loses : (caller : CallerView) (desk now : DeskView V) (ballot : Option Ballot) (council : Council) → IsAt old.callers id caller → IsAt old.desks id desk → desk.round ≡ None → desk.down ≡ false
+      → LosesMemory m.disks key desk now ballot → Rescans old.council id key (answer.NoMemory false) council → new ≡ record (with_desk old id now) { council = council } → RefusesCall m old id key new
 
 -- ---- a round goes on
 -- how a phase without a quorum ends a call that proposed nothing, and one that did
@@ -200,4 +238,6 @@ pub record EndsCall {S V : Type 0} (m : Meaning S V) (old : View S V) (id : ℕ)
   pub at_desk : IsAt old.desks id desk
   pub now : DeskView V
   pub closed : ((desk.round ≡ None) × (now ≡ desk)) ⊎ ((round : Round) × (desk.round ≡ Some round) × EndsRound m.disks desk now round None)
-  pub view : new ≡ with_marks (record (with_caller (with_desk old id now) id (record caller { call = None })) { flow = abandoned old.flow id }) (Ended id caller.number call.rounds answer ∷ [])
+  pub council : Council
+  pub rescans : Rescans old.council id call.key answer council
+  pub view : new ≡ with_marks (record (with_caller (with_desk old id now) id (record caller { call = None })) { flow = abandoned old.flow id; council = council }) (Ended id caller.number call.rounds answer ∷ [])

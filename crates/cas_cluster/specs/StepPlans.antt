@@ -30,7 +30,7 @@ pub data IsPlanned (era : Era) (used : List ℕ) (asked : Asked) (planned : Resu
   leaves : (id : ℕ) → asked ≡ Leave id → planned ≡ leave_of era id → IsPlanned era used asked planned
 
 abbrev pub new_plan : Asked → Progress → PlanView
-new_plan asked progress = record { asked = asked; progress = progress; entered = 0; rescanned = 0 }
+new_plan asked progress = record { asked = asked; progress = progress; entered = 0; rescanned = 0; listing = None }
 
 -- who was a member then
 abbrev pub used_with : Asked → List ℕ → List ℕ
@@ -73,10 +73,10 @@ abbrev pub rest_of : List PlanStep → List PlanStep
 rest_of [] = []
 rest_of (step ∷ later) = later
 
--- with the last proposer the era is the one that all entered last
+-- with the last proposer the era is the one that all entered last, and nothing is listed of it yet
 abbrev pub plan_after : ℕ → PlanView → Era → PlanView
 plan_after greatest plan next =
-    if plan.entered == greatest then record plan { progress = record { era = next; left = rest_of plan.progress.left }; entered = 0 } else record plan { entered = suc plan.entered }
+    if plan.entered == greatest then record plan { progress = record { era = next; left = rest_of plan.progress.left }; entered = 0; listing = None } else record plan { entered = suc plan.entered }
 
 -- it is marked as in the era
 abbrev pub entered_view : {S V : Type 0} → View S V → PlanView → Era → View S V
