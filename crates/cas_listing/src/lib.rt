@@ -1,0 +1,13 @@
+//! Listings: how far the members of an era have told their keys, and which keys are still to be proposed anew.
+//!
+//! What is listed lives here alone. Who asks the members, and who proposes a key anew, lives above.
+#![tactic(auto)]
+
+mod keys;
+mod listing;
+mod page;
+mod place;
+mod places;
+
+pub use listing::Listing;
+pub use places::Places;
