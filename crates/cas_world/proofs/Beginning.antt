@@ -1,6 +1,6 @@
 -- Rounds that begin and propose at a desk, and what is lost with the memory.
 use Rattle.std.proofs.Common.{◌≡◌, ◌⊎◌, ◌+◌, ◌≤◌, ℕ, Bool, true, false, not, if◌then◌else◌, List, refl, sym, ap, subst, ◌∙◌, arith, inl, inr}
-use Rattle.std.specs.Prelude.{Option, Some, None, is_none, nat_lt, IsTrue}
+use Rattle.std.specs.Prelude.{[], Option, Some, None, is_none, nat_lt, IsTrue}
 use Rattle.cas_base.proofs.Bools.{and_right}
 use Rattle.cas_base.specs.Faults.{Rose}
 use Rattle.cas_proposer.proofs.DeskLemmas.{without_absent}
@@ -16,9 +16,11 @@ use Rattle.cas_vault.proofs.Keeping.{same_kept}
 use Rattle.cas_proposer.specs.Desk.{DeskView, Draws, ShowsTheSame, GoesDown, cache_after, cache_without, counter_after, counter_without, may_ride, with_ride}
 use Rattle.cas_proposer.specs.Round.{is_preparing}
 use Rattle.cas_proposer.specs.declared.round.Round.{Round}
+use Rattle.cas_cluster.specs.Council.{ListingView}
+use Rattle.cas_cluster.specs.StepCouncil.{HasTag}
 use Rattle.cas_cluster.specs.StepDesks.{GoesOn, HasDrawn, HasKept, MayHaveDrawn, FailsToDraw, LosesMemory}
 use Rattle.cas_cluster.specs.View.{DiskMeaning}
-use Rattle.cas_world.specs.Proposing.{disks, RidesOn, ProposesOn, FailsToPropose, proposing_of}
+use Rattle.cas_calls.specs.Proposing.{disks, RidesOn, ProposesOn, FailsToPropose, proposing_of}
 use Rattle.cas_cache.specs.Entries.{promise_at}
 use Rattle.cas_proposer.specs.Desk.{IsOpened}
 use Rattle.cas_record.specs.declared.answer.Answer.{Answer}
@@ -28,8 +30,8 @@ use Rattle.cas_change.specs.declared.program.Clause.{Clause}
 use Rattle.cas_flow.specs.Flow.{FlowView}
 use Rattle.cas_quorum.specs.declared.era.Era.{Era}
 use Rattle.cas_proposer.specs.declared.began.Began.TheVariants as began
-use Rattle.cas_world.specs.declared.proposal.Author.{Author}
-use Rattle.cas_world.specs.declared.proposal.Proposing.{Proposing}
+use Rattle.cas_calls.specs.declared.proposal.Author.{Author}
+use Rattle.cas_calls.specs.declared.proposal.Proposing.{Proposing}
 use Rattle.cas_world.specs.Beginning.{FailsToOpen, ProposesBy}
 
 -- ---- what a draw keeps
@@ -334,6 +336,15 @@ module _ {V : Type 0} (tells : Type 0) (may_leave : V → List ℕ → Type 0) (
 
   pub lost_idle : (key : List ℕ) (old new : DeskView V) → old.round ≡ None → HasKept (disks tells may_leave faults) old.vault new.vault → new ≡ record old { vault = new.vault } → LosesMemory (disks tells may_leave faults) key old new None
   lost_idle key old new none kept at = lost_drawn key old new None none kept at
+
+  -- a tag that was drawn, or that of a listing
+  pub lost_tagged : (goes_on : Option ListingView) (old new : DeskView V) (tag : Ballot) → old.round ≡ None → HasTag (disks tells may_leave faults) goes_on old new tag → new ≡ record old { vault = new.vault }
+      → (ballot : Option Ballot) × LosesMemory (disks tells may_leave faults) [] old new ballot
+  lost_tagged None old new tag none has at = (Some tag, lost_drawn [] old new (Some tag) none has at)
+  lost_tagged (Some listing) old new tag none has at = (
+    None,
+    lost_idle [] old new none (subst (λ (v : Vault V). HasKept (disks tells may_leave faults) old.vault v) (sym has.1) (record { shows = record { counter = refl; kept = refl }; goes_on = goes_on_same tells may_leave faults old.vault })) at,
+  )
 
   pub failed_idle : (key : List ℕ) (old new : DeskView V) → old.round ≡ None → HasKept (disks tells may_leave faults) old.vault new.vault → new ≡ record old { vault = new.vault; down = new.down } → new.down ≡ true → Rose (faults (disk_of old.vault)) (faults (disk_of new.vault)) → FailsToDraw (disks tells may_leave faults) key old new
   failed_idle key old new none kept at down rose = record {

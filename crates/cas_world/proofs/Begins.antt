@@ -30,17 +30,17 @@ use Rattle.cas_cluster.specs.View as seen
 use Rattle.cas_cluster.specs.View.{Meaning, DiskMeaning, View, CallView, CallerView, IsAt, new_call, new_caller, era_in}
 use Rattle.cas_cluster.proofs.Places.{at_one, at_set, some_is, set_set}
 use Rattle.cas_cluster.specs.Council.{reserved_by}
-use Rattle.cas_world.specs.Council.{council_view}
-use Rattle.cas_world.specs.declared.council.Council.{Council}
+use Rattle.cas_calls.specs.Council.{council_view}
+use Rattle.cas_calls.specs.declared.council.Council.{Council}
 use Rattle.cas_world.specs.Beginning.{opening_of, call_opened, Prepares, ProposesBy, FailsToOpen, reserved_beside, entered, entry_marks, proposes_now, told_now, MayBegin}
-use Rattle.cas_world.specs.Call.{again, over, with_proposal, reserved_of}
-use Rattle.cas_world.specs.Proposing.{proposing_of}
+use Rattle.cas_calls.specs.Call.{again, over, with_proposal, reserved_of}
+use Rattle.cas_calls.specs.Proposing.{proposing_of}
 use Rattle.cas_world.specs.World.{view_of, call_view, caller_view}
 use Rattle.cas_world.specs.declared.begin.Opening.{Opening}
-use Rattle.cas_world.specs.declared.call.Caller.{Caller}
-use Rattle.cas_world.specs.declared.call.OpenCall.{OpenCall}
-use Rattle.cas_world.specs.declared.proposal.Author.{Author}
-use Rattle.cas_world.specs.declared.proposal.Proposing.{Proposing}
+use Rattle.cas_calls.specs.declared.call.Caller.{Caller}
+use Rattle.cas_calls.specs.declared.call.OpenCall.{OpenCall}
+use Rattle.cas_calls.specs.declared.proposal.Author.{Author}
+use Rattle.cas_calls.specs.declared.proposal.Proposing.{Proposing}
 use Rattle.cas_world.proofs.Callers.{map_set, at_map, seen_open}
 use Rattle.cas_world.proofs.Parts.{set_same}
 use Rattle.cas_world.proofs.Reserving.{reserved_seen, sum_seen}

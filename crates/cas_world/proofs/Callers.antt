@@ -9,9 +9,9 @@ use Rattle.cas_proposer.specs.declared.round.Round.{Round}
 use Rattle.cas_record.specs.Book.{Book}
 use Rattle.cas_cluster.specs.Safe.{IsOpenSafe, IsRoundSafe, IsSafe}
 use Rattle.cas_cluster.specs.View.{CallView, IsAt, era_in}
-use Rattle.cas_world.specs.declared.council.Council.{Council}
-use Rattle.cas_world.specs.declared.call.Caller.{Caller}
-use Rattle.cas_world.specs.declared.call.OpenCall.{OpenCall}
+use Rattle.cas_calls.specs.declared.council.Council.{Council}
+use Rattle.cas_calls.specs.declared.call.Caller.{Caller}
+use Rattle.cas_calls.specs.declared.call.OpenCall.{OpenCall}
 use Rattle.cas_cluster.proofs.Places.{at_one}
 use Rattle.cas_world.specs.World.{view_of, call_view, caller_view}
 use Rattle.cas_world.proofs.Parts.{at_place}

@@ -16,9 +16,9 @@ use Rattle.cas_record.specs.declared.answer.Answer.TheVariants as answer
 use Rattle.cas_record.specs.declared.answer.Cause.{Cause}
 use Rattle.cas_record.specs.declared.mark.Mark.{Mark}
 use Rattle.cas_cluster.specs.Council.{reserved_by}
-use Rattle.cas_world.specs.Council.{council_view}
-use Rattle.cas_world.specs.declared.council.Council.{Council}
-use Rattle.cas_world.specs.Call.{over}
+use Rattle.cas_calls.specs.Council.{council_view}
+use Rattle.cas_calls.specs.declared.council.Council.{Council}
+use Rattle.cas_calls.specs.Call.{over}
 use Rattle.cas_cluster.specs.StepDesks.{EndsRound}
 use Rattle.cas_cluster.proofs.SafeParts.{reserved_set}
 use Rattle.cas_cluster.specs.Step.{OpenRoundAt, StepCount}
@@ -28,9 +28,9 @@ use Rattle.cas_cluster.specs.View.{Meaning, View, CallView, CallerView, IsAt, re
 use Rattle.cas_cluster.proofs.Places.{at_one, some_is}
 use Rattle.cas_cluster.proofs.SafeStops.{reserves_one}
 use Rattle.cas_world.specs.Count.{MayCount, Counts}
-use Rattle.cas_world.specs.declared.call.Caller.{Caller}
-use Rattle.cas_world.specs.declared.call.OpenCall.{OpenCall}
-use Rattle.cas_world.specs.declared.proposal.Copies.{Copies}
+use Rattle.cas_calls.specs.declared.call.Caller.{Caller}
+use Rattle.cas_calls.specs.declared.call.OpenCall.{OpenCall}
+use Rattle.cas_calls.specs.declared.proposal.Copies.{Copies}
 use Rattle.cas_world.specs.World.{HasCopies, IsInPhase, IsWorld, view_of, call_view, caller_view}
 use Rattle.cas_world.proofs.Callers.{map_set, at_map, seen_open}
 use Rattle.cas_world.proofs.Ends.{some_room}

@@ -10,16 +10,23 @@ use Rattle.cas_record.specs.Book.{Book}
 use Rattle.cas_record.specs.declared.answer.Answer.{Answer}
 use Rattle.cas_record.specs.declared.mark.Mark.{Mark}
 use Rattle.cas_record.specs.declared.mark.Mark.TheVariants.{Ended}
+use Rattle.cas_cluster.specs.Council as cluster
+use Rattle.cas_cluster.specs.Council.{reserved_by}
 use Rattle.cas_cluster.specs.Step.{StepEnd}
+use Rattle.cas_cluster.specs.StepCalls.{Rescans, rescans, stops, is_none}
+use Rattle.cas_cluster.proofs.Rescanning.{told_reserves}
+use Rattle.cas_record.specs.declared.operator.OpAnswer.TheVariants.{Stopped}
 use Rattle.cas_cluster.specs.StepDesks.{EndsRound}
 use Rattle.cas_cluster.specs.View.{DiskMeaning, Meaning, View, CallView, CallerView, IsAt, reserved_in, reserved_of}
 use Rattle.cas_cluster.proofs.Places.{at_one, some_is}
 use Rattle.cas_cluster.specs.Safe.{IsSafe}
 use Rattle.cas_cluster.proofs.SafeParts.{reserved_set}
 use Rattle.cas_cluster.proofs.SafeStops.{call_reserves_at}
-use Rattle.cas_world.specs.declared.council.Council.{Council}
-use Rattle.cas_world.specs.declared.call.Caller.{Caller}
-use Rattle.cas_world.specs.declared.call.OpenCall.{OpenCall}
+use Rattle.cas_calls.specs.declared.council.Council.{Council}
+use Rattle.cas_calls.specs.declared.call.Caller.{Caller}
+use Rattle.cas_calls.specs.declared.call.EndedCall.{EndedCall}
+use Rattle.cas_calls.specs.declared.call.OpenCall.{OpenCall}
+use Rattle.cas_calls.specs.Council.{council_view}
 use Rattle.cas_world.specs.World.{WasTold, view_of, call_view, caller_view}
 use Rattle.cas_world.proofs.Callers.{map_set, at_map}
 use Rattle.cas_world.proofs.Parts.{at_place}
@@ -51,11 +58,11 @@ pub none_after : {V : Type 0} (m : DiskMeaning V) (desk now : DeskView V) → ((
 none_after {V} m desk now (inl idle) = ap (λ (d : DeskView V). d.round) idle.1 ∙ idle.0
 none_after {V} m desk now (inr ends) = ap (λ (d : DeskView V). d.round) ends.2.desk
 
-pub ends : {S V : Type 0} (m : Meaning S V) (greatest : ℕ) (council : Council) (acceptors : List (AcceptorView S)) (desks : List (DeskView V)) (callers : List Caller) (flow : FlowView) (book after : Book) (id number : ℕ) (answer : Answer)
+pub ends : {S V : Type 0} (m : Meaning S V) (greatest : ℕ) (council council_now : Council) (acceptors : List (AcceptorView S)) (desks : List (DeskView V)) (callers : List Caller) (flow : FlowView) (book after : Book) (id number : ℕ) (answer : Answer)
     (desk now : DeskView V) (caller : Caller) (told : IsToldIn caller number answer) → IsAt desks id desk → IsAt callers id caller → ((desk.round ≡ None) × (now ≡ desk)) ⊎ ((r : Round) × (desk.round ≡ Some r) × EndsRound m.disks desk now r None)
-    → after.marks ≡ book.marks ++ Ended id number told.call.rounds answer ∷ []
-    → StepEnd m (view_of greatest council acceptors desks callers flow book) id answer (view_of greatest council acceptors (slice_set desks id now) (slice_set callers id (record caller { call = None })) (abandoned flow id) after)
-ends {S} {V} m greatest council acceptors desks callers flow book after id number answer desk now caller told at_desk at_caller closed marks = record {
+    → Rescans (council_view council) id told.call.key answer (council_view council_now) → council_now.eras ≡ council.eras → after.marks ≡ book.marks ++ Ended id number told.call.rounds answer ∷ []
+    → StepEnd m (view_of greatest council acceptors desks callers flow book) id answer (view_of greatest council_now acceptors (slice_set desks id now) (slice_set callers id (record caller { call = None })) (abandoned flow id) after)
+ends {S} {V} m greatest council council_now acceptors desks callers flow book after id number answer desk now caller told at_desk at_caller closed anew eras marks = record {
   of_call = record { caller = caller_view caller; at_caller = at_map caller_view callers id caller at_caller; call = call_view told.call; is_open = ap (λ (o : Option OpenCall). option_map call_view o) told.is_open };
   ends = record {
     told = told.told;
@@ -63,8 +70,11 @@ ends {S} {V} m greatest council acceptors desks callers flow book after id numbe
     at_desk = at_desk;
     now = now;
     closed = closed;
-    view = ap (λ (l : List CallerView). record (view_of greatest council acceptors (slice_set desks id now) callers (abandoned flow id) after) { callers = l }) (map_set caller_view callers id (record caller { call = None }))
-        ∙ ap (λ (l : List Mark). record (view_of greatest council acceptors (slice_set desks id now) callers (abandoned flow id) book) { callers = slice_set (map caller_view callers) id (record (caller_view caller) { call = None }); marks = l })
+    council = council_view council_now;
+    rescans = anew;
+    view = (λ i. record (view_of greatest council_now acceptors (slice_set desks id now) (slice_set callers id (record caller { call = None })) (abandoned flow id) after) { eras = (eras i).0 })
+        ∙ ap (λ (l : List CallerView). record (view_of greatest council acceptors (slice_set desks id now) callers (abandoned flow id) after) { callers = l; council = council_view council_now }) (map_set caller_view callers id (record caller { call = None }))
+        ∙ ap (λ (l : List Mark). record (view_of greatest council acceptors (slice_set desks id now) callers (abandoned flow id) book) { callers = slice_set (map caller_view callers) id (record (caller_view caller) { call = None }); council = council_view council_now; marks = l })
         (marks ∙ ap (λ (n : ℕ). book.marks ++ Ended id n told.call.rounds answer ∷ []) (sym told.same_number));
   };
 }
@@ -109,10 +119,18 @@ ending {S} {V} greatest council acceptors desks callers flow book now place id n
       some = call_reserves_at (view_of greatest council acceptors desks callers flow book) id (caller_view caller) (call_view is.call) desk safe.sound (at_map caller_view callers id caller at_caller) (ap (λ (o : Option OpenCall). option_map call_view o) is.is_open) at_desk;
     }
 
--- what the end of a call answers
-pub ended_as : (caller : Caller) (call : OpenCall) (answer : Answer) (result : ℕ × Answer) → caller.call ≡ Some call → call.told ≡ Some answer → IfSome caller.call (λ c. IfSome c.told (λ told. result ≡ (c.rounds, told))) → result ≡ (call.rounds, answer)
+-- what the end of a call leaves
+pub ended_as : (caller : Caller) (call : OpenCall) (answer : Answer) (result : EndedCall) → caller.call ≡ Some call → call.told ≡ Some answer
+    → IfSome caller.call (λ c. IfSome c.told (λ told. result ≡ record { key = c.key; rounds = c.rounds; told = told })) → result ≡ record { key = call.key; rounds = call.rounds; told = answer }
 ended_as caller call answer result is_open told by =
-    subst (λ (o : Option Answer). IfSome o (λ t. result ≡ (call.rounds, t))) told (subst (λ (o : Option OpenCall). IfSome o (λ c. IfSome c.told (λ t. result ≡ (c.rounds, t)))) is_open by)
+    subst (λ (o : Option Answer). IfSome o (λ t. result ≡ record { key = call.key; rounds = call.rounds; told = t })) told
+    (subst (λ (o : Option OpenCall). IfSome o (λ c. IfSome c.told (λ t. result ≡ record { key = c.key; rounds = c.rounds; told = t }))) is_open by)
+
+-- no more is reserved for the operator then, and no less
+pub rescan_reserves : (old new : cluster.Council) (id : ℕ) (key : List ℕ) (answer : Answer) → Rescans old id key answer new → reserved_by new ≡ reserved_by old
+rescan_reserves old new id key answer (rescans of done same) = ap reserved_by same
+rescan_reserves old new id key answer (stops of undone same) = omega (arith, ap reserved_by same, told_reserves old.order (Stopped answer))
+rescan_reserves old new id key answer (is_none none same) = ap reserved_by same
 
 pub may_end : (caller : Caller) (call : OpenCall) (answer : Answer) → caller.call ≡ Some call → call.told ≡ Some answer → IsSomeAnd caller.call (λ c. IsSome c.told)
 may_end caller call answer is_open told = subst (λ (o : Option OpenCall). IsSomeAnd o (λ c. IsSome c.told)) (sym is_open) (subst (λ (o : Option Answer). IsSome o) (sym told) refl)

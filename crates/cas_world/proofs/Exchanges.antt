@@ -1,6 +1,6 @@
 -- What the operator's calls do to the whole.
-use Rattle.std.proofs.Common.{◌≡◌, ◌≢◌, ◌≤◌, ◌<◌, ℕ, Bool, true, false, List, [], ◌∷◌, ◌++◌, Option, None, Some, Result, refl, sym, ap, subst, ◌∙◌, arith, append-nil}
-use Rattle.std.specs.Prelude.{◌+◌, ◌-◌, if◌then◌else◌, option_map, IfSome, IfOk, IfErr, IsSome, IsSomeAnd, length, slice_get, sum_by}
+use Rattle.std.proofs.Common.{inl, inr, ◌≡◌, ◌≢◌, ◌≤◌, ◌<◌, ℕ, Bool, true, false, List, [], ◌∷◌, ◌++◌, Option, None, Some, Result, Ok, refl, sym, ap, subst, ◌∙◌, arith, append-nil}
+use Rattle.std.specs.Prelude.{◌+◌, ◌-◌, ◌==◌, ◌&&◌, if◌then◌else◌, option_map, unwrap_or, IfSome, IfOk, IfErr, IsSome, length, slice_get, sum_by}
 use Rattle.cas_ballot.specs.Members.{has_member}
 use Rattle.cas_flow.specs.Message.{head_of}
 use Rattle.cas_flow.specs.Queue.{QueueView, fall_of, pushed}
@@ -13,6 +13,7 @@ use Rattle.cas_record.specs.declared.mark.Mark.{Mark}
 use Rattle.cas_record.specs.declared.mark.Mark.TheVariants.{Harmed}
 use Rattle.cas_record.specs.declared.answer.Answer.TheVariants as answer
 use Rattle.cas_record.specs.declared.operator.Asked.{Asked}
+use Rattle.cas_record.specs.declared.operator.Asked.TheVariants as to_do
 use Rattle.cas_record.specs.declared.operator.OpAnswer.{OpAnswer}
 use Rattle.cas_record.specs.declared.operator.OpAnswer.TheVariants as op
 use Rattle.cas_fate.specs.declared.fate.Verdict.{Verdict}
@@ -21,31 +22,38 @@ use Rattle.cas_flow.specs.Flow.{FlowView, queue_at, with_queue, taken, abandoned
 use Rattle.cas_proposer.specs.Desk.{DeskView}
 use Rattle.cas_record.specs.Book.{Book}
 use Rattle.cas_cluster.specs.Council as cluster
-use Rattle.cas_cluster.specs.Council.{ExchangeView, OrderView, at_rest, exchange_place, reserved_by, reserved_for_order, reserved_for_exchange, broken_off, crashed_in, telling, told_so}
+use Rattle.cas_cluster.specs.Council.{ExchangeView, OrderView, PlanView, ListingView, MemberPlace, with_listing, stepped, silent_order, at_rest, exchange_place, reserved_by, reserved_for_order, reserved_for_exchange, broken_off, crashed_in, telling, told_so}
 use Rattle.cas_cluster.specs.History.{IsRemembered}
 use Rattle.cas_cluster.specs.Safe.{IsSafe, IsExchangeSafe, IsAskingSafe}
 use Rattle.cas_cluster.specs.Step as step
 use Rattle.cas_cluster.specs.Step.{Step}
 use Rattle.cas_cluster.specs.StepStops.{broken_off_view}
 use Rattle.cas_cluster.specs.StepCouncil as steps
-use Rattle.cas_cluster.specs.StepCouncil.{StepOrder, StepTell, StepGather, StepTurnExchange, Gathers, SaysTheSame, harmed_exchange, harm_marks, harms, hears, with_exchange, told_marks, told_view}
+use Rattle.cas_cluster.specs.Listings.{why_short}
+use Rattle.cas_cluster.specs.Remaining.{keys_left}
+use Rattle.cas_cluster.specs.StepCouncil.{IsFinishedBy, finished, ListsFor, StepOrder, StepTell, StepGather, StepTurnExchange, Gathers, SaysTheSame, harmed_exchange, harm_marks, harms, hears, with_exchange, told_marks, told_view}
 use Rattle.cas_cluster.specs.StepFrames.{replied_flow, votes_marked}
-use Rattle.cas_cluster.specs.View.{Meaning, View, IsAt, reserved_in_all}
+use Rattle.cas_cluster.specs.View.{Meaning, View, IsAt, era_in, reserved_in_all}
+use Rattle.cas_quorum.specs.declared.era.Era.{Era}
 use Rattle.cas_cluster.proofs.Remembering.{broken_off as breaks_off, tells_remembered as told_remembered}
 use Rattle.cas_cluster.proofs.FrameSteps.{taken_own}
 use Rattle.cas_cluster.proofs.Places.{some_is, contains_at}
-use Rattle.cas_cluster.proofs.SafeCouncil.{harm_fits, told_reserves, no_vote}
+use Rattle.cas_cluster.proofs.Rescanning.{told_reserves}
+use Rattle.cas_cluster.proofs.SafeCouncil.{harm_fits, no_vote}
 use Rattle.cas_cluster.proofs.SafeSteps.{steps_are_safe, broken_safe as broken_off_safe, told_safe as told_view_safe}
-use Rattle.cas_world.specs.Call.{reserved_of}
-use Rattle.cas_world.specs.Council.{council_view, exchange_view, order_view, harmed_in, harms_in, harms_of, heard_by, heard_in, GathersAs, crashed, probed, no_memory}
+use Rattle.cas_calls.specs.Call.{reserved_of}
+use Rattle.cas_calls.specs.Council.{council_view, exchange_view, order_view, harmed_in, harms_in, harms_of, heard_by, heard_in, IsOfKeys, IsListing, MayList, concluded, left_in, left_to_list, listed_if, GathersAs, crashed, probed, lists, is_short, no_memory}
+use Rattle.cas_calls.specs.Answers.{is_plain}
 use Rattle.cas_world.specs.Exchange.{WasToldOrder, HasGathered, IsAsked}
+use Rattle.cas_world.specs.Plans.{HasFinished, MayTell}
 use Rattle.cas_world.specs.Exchange as asked
 use Rattle.cas_world.specs.World.{view_of, IsWorld}
-use Rattle.cas_world.specs.declared.call.Caller.{Caller}
-use Rattle.cas_world.specs.declared.council.Council.{Council}
-use Rattle.cas_world.specs.declared.council.Gathered.{Gathered}
-use Rattle.cas_world.specs.declared.council.OpenExchange.{OpenExchange}
-use Rattle.cas_world.specs.declared.council.Order.{Order}
+use Rattle.cas_calls.specs.declared.call.Caller.{Caller}
+use Rattle.cas_calls.specs.declared.council.Council.{Council}
+use Rattle.cas_calls.specs.declared.council.Gathered.{Gathered}
+use Rattle.cas_calls.specs.declared.council.Gathered.TheVariants as gathered
+use Rattle.cas_calls.specs.declared.council.OpenExchange.{OpenExchange}
+use Rattle.cas_calls.specs.declared.council.Order.{Order}
 use Rattle.cas_world.proofs.Parts.{Remembers, remembered_then}
 use Rattle.cas_world.proofs.Reserving.{sum_seen}
 use Rattle.cas_world.proofs.Turning.{one_waits}
@@ -82,7 +90,7 @@ grown_world {S} {V} {m} greatest council acceptors desks callers flow before aft
     }
 
 -- ---- a crash
-broken_reserved : (exchange : Option ExchangeView) → reserved_for_exchange (option_map broken_off exchange) ≡ reserved_for_exchange exchange
+pub broken_reserved : (exchange : Option ExchangeView) → reserved_for_exchange (option_map broken_off exchange) ≡ reserved_for_exchange exchange
 broken_reserved None = refl
 broken_reserved (Some exchange) = refl
 
@@ -133,9 +141,58 @@ told_in council now answer same was =
     let of = order_in council.order was.order (ap (λ (c : cluster.Council). c.order) same ∙ was.is_open) in
     record { order = of.0; is_open = of.1; said = was.said; was_said = ap (λ (o : OrderView). o.told) of.2 ∙ was.was_said; same = was.same }
 
-pub may_close : (council : Council) (answer : OpAnswer) → IsToldIn council answer → IsSomeAnd council.order (λ order. IsSome order.told)
-may_close council answer was =
-    subst (λ (o : Option Order). IsSomeAnd o (λ order. IsSome order.told)) (sym was.is_open) (subst IsSome (sym was.was_said) refl)
+-- it was told nothing, and its change of membership is at its end
+pub record IsOverIn (council : Council) (answer : OpAnswer) : Type 0 where
+  pub order : Order
+  pub is_open : council.order ≡ Some order
+  pub untold : order.told ≡ None
+  pub finished : IsFinishedBy (council_view council) (order_view order) answer
+
+pub over_in : {S V : Type 0} (council : Council) (now : View S V) (answer : OpAnswer) → council_view council ≡ now.council → HasFinished now answer → IsOverIn council answer
+over_in council now answer same was =
+    let of = order_in council.order was.order (ap (λ (c : cluster.Council). c.order) same ∙ was.is_open) in
+    record {
+      order = of.0;
+      is_open = of.1;
+      untold = ap (λ (o : OrderView). o.told) of.2 ∙ was.untold;
+      finished = subst (λ (c : cluster.Council). IsFinishedBy c (order_view of.0) answer) (sym same) (subst (λ (o : OrderView). IsFinishedBy now.council o answer) (sym of.2) was.finished);
+    }
+
+-- either of both
+pub data MayTellIn (council : Council) (answer : OpAnswer) : Type 0 where
+  told_last : IsToldIn council answer → MayTellIn council answer
+  is_over : IsOverIn council answer → MayTellIn council answer
+
+pub may_tell : {S V : Type 0} (council : Council) (now : View S V) (answer : OpAnswer) → council_view council ≡ now.council → MayTell now answer → MayTellIn council answer
+may_tell council now answer same (inl was) = told_last (told_in council now answer same was)
+may_tell council now answer same (inr was) = is_over (over_in council now answer same was)
+
+pub order_there : (council : Council) (answer : OpAnswer) → MayTellIn council answer → (order : Order) × (council.order ≡ Some order)
+order_there council answer (told_last was) = (was.order, was.is_open)
+order_there council answer (is_over was) = (was.order, was.is_open)
+
+pub may_close : (council : Council) (answer : OpAnswer) → MayTellIn council answer → IsSome council.order
+may_close council answer may = let there = order_there council answer may in subst (λ (o : Option Order). IsSome o) (sym there.1) refl
+
+-- an answer that tells of the end of a change holds no memory
+plain_end : (asked : Asked) (era rescanned : ℕ) (answer : OpAnswer) → finished asked era rescanned answer → is_plain answer ≡ true
+plain_end (to_do.Join id) era rescanned answer is = ap is_plain is
+plain_end (to_do.Leave id) era rescanned answer is = ap is_plain is
+plain_end (to_do.Collect key) era rescanned answer is = absurd is
+plain_end (to_do.Probe key) era rescanned answer is = absurd is
+
+-- where the call was told nothing, its change is at its end
+pub over_there : (council : Council) (answer : OpAnswer) (order : Order) → MayTellIn council answer → council.order ≡ Some order → order.told ≡ None → IsOverIn council answer
+over_there council answer order (told_last was) is none =
+    absurd (cc (ap (λ (o : Order). o.told) (some_is (sym was.is_open ∙ is)), was.was_said, none))
+over_there council answer order (is_over was) is none = was
+
+pub plain_there : (council : Council) (answer : OpAnswer) → IsOverIn council answer → is_plain answer ≡ true
+plain_there council answer was = plain_end was.order.asked was.finished.plan.progress.era.number was.finished.plan.rescanned answer was.finished.tells
+
+pub told_there : (council : Council) (answer : OpAnswer) (order : Order) (said : OpAnswer) → MayTellIn council answer → council.order ≡ Some order → order.told ≡ Some said → IsToldIn council answer
+told_there council answer order said (told_last was) is some = was
+told_there council answer order said (is_over was) is some = absurd (cc (ap (λ (o : Order). o.told) (some_is (sym was.is_open ∙ is)), was.untold, some))
 
 -- the mark that it leaves is the same
 same_marks : (asked : Asked) (said answer : OpAnswer) → SaysTheSame said answer → told_marks asked said ≡ told_marks asked answer
@@ -159,23 +216,49 @@ same_marks asked (op.Absent acceptor) answer same = ap (told_marks asked) same
 same_marks asked (op.ProposerDown proposer) answer same = ap (told_marks asked) same
 same_marks asked (op.Stopped told) answer same = ap (told_marks asked) same
 
--- what its end takes out of the council is what was asked, and what it was told
-pub closed_so : (council : Council) (answer : OpAnswer) (was : IsToldIn council answer) (taken : Asked × OpAnswer) → IfSome council.order (λ order. IfSome order.told (λ told. taken ≡ (order.asked, told))) → taken ≡ (was.order.asked, was.said)
-closed_so council answer was taken is =
-    subst (λ (o : Option OpAnswer). IfSome o (λ told. taken ≡ (was.order.asked, told))) was.was_said
-    (subst (λ (o : Option Order). IfSome o (λ order. IfSome order.told (λ told. taken ≡ (order.asked, told)))) was.is_open is)
-
-pub tells : {S V : Type 0} (greatest : ℕ) (council now : Council) (acceptors : List (AcceptorView S)) (desks : List (DeskView V)) (callers : List Caller) (flow flow_now : FlowView) (before after : Book) (answer : OpAnswer) (was : IsToldIn council answer) (taken : Asked × OpAnswer)
-    → taken ≡ (was.order.asked, was.said) → flow_now ≡ abandoned flow exchange_place → council_view now ≡ at_rest (council_view council) → now.eras ≡ council.eras → after.marks ≡ before.marks ++ told_marks taken.0 taken.1
+pub tells : {S V : Type 0} (greatest : ℕ) (council now : Council) (acceptors : List (AcceptorView S)) (desks : List (DeskView V)) (callers : List Caller) (flow flow_now : FlowView) (before after : Book) (answer : OpAnswer) (was : IsToldIn council answer) (order : Order) (said : OpAnswer)
+    → council.order ≡ Some order → order.told ≡ Some said → flow_now ≡ abandoned flow exchange_place → council_view now ≡ at_rest (council_view council) → now.eras ≡ council.eras → after.marks ≡ before.marks ++ told_marks order.asked said
     → StepTell (view_of greatest council acceptors desks callers flow before) answer (view_of greatest now acceptors desks callers flow_now after)
-tells greatest council now acceptors desks callers flow flow_now before after answer was taken is flows closed eras marks =
-    steps.tells (order_view was.order) was.said (ap (option_map order_view) was.is_open) was.was_said was.same
+tells greatest council now acceptors desks callers flow flow_now before after answer was order said is is_said flows closed eras marks =
+    let one : was.order ≡ order = some_is (sym was.is_open ∙ is) in
+    let same : said ≡ was.said = some_is (sym is_said ∙ sym (ap (λ (o : Order). o.told) one) ∙ was.was_said) in
+    steps.tells (order_view order) was.said (ap (option_map order_view) is) (is_said ∙ ap (λ (a : OpAnswer). Some a) same) was.same
     (λ i. record (view_of greatest council acceptors desks callers flow before) {
       eras = (eras i).0;
       council = closed i;
       flow = flows i;
-      marks = (marks ∙ ap (λ (t : Asked × OpAnswer). before.marks ++ told_marks t.0 t.1) is ∙ ap (λ (ms : List Mark). before.marks ++ ms) (same_marks was.order.asked was.said answer was.same)) i;
+      marks = (marks ∙ ap (λ (ms : List Mark). before.marks ++ ms) (ap (told_marks order.asked) same ∙ same_marks order.asked was.said answer was.same)) i;
     })
+
+-- or its change is no longer under way
+pub finishes : {S V : Type 0} (greatest : ℕ) (council now : Council) (acceptors : List (AcceptorView S)) (desks : List (DeskView V)) (callers : List Caller) (flow flow_now : FlowView) (before after : Book) (answer : OpAnswer) (was : IsOverIn council answer) (order : Order)
+    → council.order ≡ Some order → flow_now ≡ abandoned flow exchange_place → council_view now ≡ record (at_rest (council_view council)) { plan = None } → now.eras ≡ council.eras → after.marks ≡ before.marks ++ told_marks order.asked answer
+    → StepTell (view_of greatest council acceptors desks callers flow before) answer (view_of greatest now acceptors desks callers flow_now after)
+finishes greatest council now acceptors desks callers flow flow_now before after answer was order is flows closed eras marks =
+    let one : order ≡ was.order = some_is (sym is ∙ was.is_open) in
+    steps.finishes (order_view was.order) (ap (option_map order_view) was.is_open) was.finished
+    (λ i. record (view_of greatest council acceptors desks callers flow before) {
+      eras = (eras i).0;
+      council = closed i;
+      flow = flows i;
+      marks = (marks ∙ ap (λ (o : Order). before.marks ++ told_marks o.asked answer) one) i;
+    })
+
+-- it ends, either way
+pub told_step : {S V : Type 0} (greatest : ℕ) (council now : Council) (acceptors : List (AcceptorView S)) (desks : List (DeskView V)) (callers : List Caller) (flow flow_now : FlowView) (before after : Book) (answer : OpAnswer) (may : MayTellIn council answer) (order : Order)
+    → council.order ≡ Some order → flow_now ≡ abandoned flow exchange_place → council_view now ≡ concluded order.told (at_rest (council_view council)) → now.eras ≡ council.eras → after.marks ≡ before.marks ++ told_marks order.asked (unwrap_or order.told answer)
+    → StepTell (view_of greatest council acceptors desks callers flow before) answer (view_of greatest now acceptors desks callers flow_now after)
+told_step {S} {V} greatest council now acceptors desks callers flow flow_now before after answer may order is flows closed eras marks = by_told order.told refl closed marks
+  where
+    by_told : (o : Option OpAnswer) → order.told ≡ o → council_view now ≡ concluded o (at_rest (council_view council)) → after.marks ≡ before.marks ++ told_marks order.asked (unwrap_or o answer)
+        → StepTell (view_of greatest council acceptors desks callers flow before) answer (view_of greatest now acceptors desks callers flow_now after)
+    by_told None none seen made = finishes greatest council now acceptors desks callers flow flow_now before after answer (over_there council answer order may is none) order is flows seen eras made
+    by_told (Some said) some seen made = tells greatest council now acceptors desks callers flow flow_now before after answer (told_there council answer order said may is some) order said is some flows seen eras made
+
+-- nothing is reserved for it any more
+pub concluded_reserves : (told : Option OpAnswer) (council : cluster.Council) → reserved_by (concluded told (at_rest council)) ≡ 0
+concluded_reserves None council = refl
+concluded_reserves (Some said) council = refl
 
 -- ---- what came of an exchange
 -- one that is seen is there
@@ -183,20 +266,63 @@ pub open_code : (o : Option OpenExchange) (exchange : ExchangeView) → option_m
 open_code None exchange is = absurd (cc is)
 open_code (Some x) exchange is = refl
 
+-- the next keys are asked for from some places on
+keys_asked : (question : cluster.Question) → IsOfKeys question → (places : List MemberPlace) × (question ≡ cluster.NextKeys places)
+keys_asked (cluster.Probe key) is = absurd is
+keys_asked (cluster.NextKeys places) is = (places, refl)
+
+-- it is of the listing that is under way
+lists_for : {S V : Type 0} (view : View S V) (exchange : ExchangeView) → IsSafe view → view.council.exchange ≡ Some exchange → IsOfKeys exchange.question → (of : IsListing view.council.plan)
+    → (exchange.question ≡ cluster.NextKeys of.listing.places) × (exchange.tag ≡ of.listing.tag)
+lists_for view exchange safe is_open is_keys of =
+    let asks = keys_asked exchange.question is_keys in
+    let open_ = safe.sound.council.1 exchange asks.0 is_open asks.1 in
+    let plans : open_.plan ≡ of.plan = some_is (sym open_.is_plan ∙ of.is_plan) in
+    let same : open_.listing ≡ of.listing = some_is (sym open_.is_listing ∙ ap (λ (p : PlanView). p.listing) plans ∙ of.is_listing) in (
+      asks.1 ∙ ap (λ (l : List MemberPlace). cluster.NextKeys l) (sym open_.same_places ∙ ap (λ (l : ListingView). l.places) same),
+      sym open_.same_tag ∙ ap (λ (l : ListingView). l.tag) same,
+    )
+
+abbrev lists_at : {S V : Type 0} (view : View S V) (exchange : ExchangeView) (of : IsListing view.council.plan) → (exchange.question ≡ cluster.NextKeys of.listing.places) × (exchange.tag ≡ of.listing.tag) → ListsFor view exchange
+lists_at view exchange of there = record { plan = of.plan; is_plan = of.is_plan; settles = of.settles; listing = of.listing; is_listing = of.is_listing; question = there.0; tag = there.1 }
+
+-- what is asked may be listed
+pub may_list : {S V : Type 0} (view : View S V) (exchange : ExchangeView) (question : cluster.Question) → IsSafe view → view.council.exchange ≡ Some exchange → exchange.question ≡ question → MayList question view.council.plan
+may_list view exchange (cluster.Probe key) safe is_open is = tt
+may_list view exchange (cluster.NextKeys places) safe is_open is =
+    let lists = safe.sound.council.1 exchange places is_open is in
+    record { plan = lists.plan; is_plan = lists.is_plan; settles = (safe.sound.council.0 lists.plan lists.listing lists.is_plan lists.is_listing).settles; listing = lists.listing; is_listing = lists.is_listing }
+
 pub gathers_so : {S V : Type 0} (greatest : ℕ) (council now : Council) (acceptors : List (AcceptorView S)) (desks : List (DeskView V)) (callers : List Caller) (flow : FlowView) (book : Book) (exchange : ExchangeView) (result : Result Gathered OpAnswer)
-    → (council_view council).exchange ≡ Some exchange → GathersAs exchange (council_view council) result (council_view now) → now.eras ≡ council.eras → Gathers (view_of greatest council acceptors desks callers flow book) exchange (view_of greatest now acceptors desks callers flow book)
-gathers_so greatest council now acceptors desks callers flow book exchange result is_open (crashed down told next) eras =
+    → IsSafe (view_of greatest council acceptors desks callers flow book) → (council_view council).exchange ≡ Some exchange → GathersAs (era_in council.eras.0 0) exchange (council_view council) result (council_view now) → now.eras ≡ council.eras
+    → Gathers (view_of greatest council acceptors desks callers flow book) exchange (view_of greatest now acceptors desks callers flow book)
+gathers_so greatest council now acceptors desks callers flow book exchange result safe is_open (crashed down told next) eras =
     steps.crashed down (council_next greatest council now acceptors desks callers flow book _ eras next)
-gathers_so greatest council now acceptors desks callers flow book exchange result is_open (probed key found kept up question has keeps told next) eras =
+gathers_so greatest council now acceptors desks callers flow book exchange result safe is_open (probed key found kept up question has keeps told next) eras =
     steps.probed key kept up question keeps (council_next greatest council now acceptors desks callers flow book _ eras next)
-gathers_so greatest council now acceptors desks callers flow book exchange result is_open (no_memory up told next) eras =
-    steps.no_memory up (council_next greatest council now acceptors desks callers flow book _ eras next)
+gathers_so {S} {V} greatest council now acceptors desks callers flow book exchange result safe is_open (lists of listing up is_keys enough on less told next) eras =
+    let old : View S V = view_of greatest council acceptors desks callers flow book in
+    steps.lists (lists_at old exchange of (lists_for old exchange safe is_open is_keys of)) listing up enough on (council_next greatest council now acceptors desks callers flow book _ eras next)
+gathers_so {S} {V} greatest council now acceptors desks callers flow book exchange result safe is_open (is_short of short up is_keys missing told next) eras =
+    let old : View S V = view_of greatest council acceptors desks callers flow book in
+    steps.is_short (lists_at old exchange of (lists_for old exchange safe is_open is_keys of)) short up missing (council_next greatest council now acceptors desks callers flow book _ eras next)
+gathers_so greatest council now acceptors desks callers flow book exchange result safe is_open (no_memory up told next) eras =
+    steps.no_memory up
+    (council_next greatest council now acceptors desks callers flow book _ eras
+    (next ∙ ap (λ (o : Option ExchangeView). record (telling (council_view council) (op.Stopped (answer.NoMemory false))) { exchange = o }) (sym is_open)))
 
 -- no more is reserved then
-pub gathered_reserves : (exchange : ExchangeView) (old new : cluster.Council) (result : Result Gathered OpAnswer) → old.exchange ≡ Some exchange → GathersAs exchange old result new → reserved_by new ≤ reserved_by old
-gathered_reserves exchange old new result is_open (crashed down told next) = omega (arith, ap reserved_by next, told_reserves old.order (op.Stopped answer.Crashed))
-gathered_reserves exchange old new result is_open (probed key found kept up question has keeps told next) = omega (arith, ap reserved_by next, told_reserves old.order (op.Probed key kept))
-gathered_reserves exchange old new result is_open (no_memory up told next) = omega (arith, ap reserved_by next, told_reserves old.order (op.Stopped (answer.NoMemory false)))
+pub hushed_reserves : (order : Option OrderView) → reserved_for_order (option_map silent_order order) ≡ reserved_for_order order
+hushed_reserves None = refl
+hushed_reserves (Some order) = refl
+
+pub gathered_reserves : (era : Era) (exchange : ExchangeView) (old new : cluster.Council) (result : Result Gathered OpAnswer) → old.exchange ≡ Some exchange → GathersAs era exchange old result new → reserved_by new ≤ reserved_by old
+gathered_reserves era exchange old new result is_open (crashed down told next) = omega (arith, ap reserved_by next, told_reserves old.order (op.Stopped answer.Crashed))
+gathered_reserves era exchange old new result is_open (probed key found kept up question has keeps told next) = omega (arith, ap reserved_by next, told_reserves old.order (op.Probed key kept))
+gathered_reserves era exchange old new result is_open (lists of listing up is_keys enough on less told next) = omega (arith, ap reserved_by next, hushed_reserves old.order)
+gathered_reserves era exchange old new result is_open (is_short of short up is_keys missing told next) = omega (arith, ap reserved_by next, told_reserves old.order (op.Stopped (why_short exchange.told short)))
+gathered_reserves era exchange old new result is_open (no_memory up told next) =
+    omega (arith, ap reserved_by next, told_reserves old.order (op.Stopped (answer.NoMemory false)), ap reserved_for_exchange is_open)
 
 -- the open call was told it
 was_told : {S V : Type 0} (view : View S V) (order : OrderView) (said answer : OpAnswer) (old : cluster.Council) (rest : Option ExchangeView) → old.order ≡ Some order → view.council ≡ record old { order = option_map (told_so said) old.order; exchange = rest } → SaysTheSame said answer → WasToldOrder view answer
@@ -208,19 +334,46 @@ was_told view order said answer old rest is_order next same = record {
   same = same;
 }
 
-pub gathered_ok : {S V : Type 0} (old new : View S V) (order : OrderView) (exchange : ExchangeView) (result : Result Gathered OpAnswer) → old.council.order ≡ Some order → old.council.exchange ≡ Some exchange → GathersAs exchange old.council result new.council → IfOk result (λ found. HasGathered old found new)
-gathered_ok old new order exchange result is_order is_open (crashed down told next) = subst (λ (r : Result Gathered OpAnswer). IfOk r (λ found. HasGathered old found new)) (sym told) tt
-gathered_ok old new order exchange result is_order is_open (probed key found kept up question has keeps told next) =
+pub gathered_ok : {S V : Type 0} (era : Era) (old new : View S V) (order : OrderView) (exchange : ExchangeView) (result : Result Gathered OpAnswer) → old.council.order ≡ Some order → old.council.exchange ≡ Some exchange → GathersAs era exchange old.council result new.council → IfOk result (λ found. HasGathered old found new)
+gathered_ok era old new order exchange result is_order is_open (crashed down told next) = subst (λ (r : Result Gathered OpAnswer). IfOk r (λ found. HasGathered old found new)) (sym told) tt
+gathered_ok era old new order exchange result is_order is_open (probed key found kept up question has keeps told next) =
     subst (λ (r : Result Gathered OpAnswer). IfOk r (λ found. HasGathered old found new)) (sym told)
     (asked.probed exchange key found is_open question refl has (was_told new order (op.Probed key kept) (op.Probed key found) old.council None is_order next (refl, keeps ∙ sym has)))
-gathered_ok old new order exchange result is_order is_open (no_memory up told next) = subst (λ (r : Result Gathered OpAnswer). IfOk r (λ found. HasGathered old found new)) (sym told) tt
+gathered_ok era old new order exchange result is_order is_open (lists of listing up is_keys enough on less told next) =
+    subst (λ (r : Result Gathered OpAnswer). IfOk r (λ found. HasGathered old found new)) (sym told)
+    (let asks = keys_asked exchange.question is_keys in asked.lists exchange asks.0 of.plan listing is_open asks.1 of.is_plan refl next)
+gathered_ok era old new order exchange result is_order is_open (is_short of short up is_keys missing told next) = subst (λ (r : Result Gathered OpAnswer). IfOk r (λ found. HasGathered old found new)) (sym told) tt
+gathered_ok era old new order exchange result is_order is_open (no_memory up told next) = subst (λ (r : Result Gathered OpAnswer). IfOk r (λ found. HasGathered old found new)) (sym told) tt
 
-pub gathered_err : {S V : Type 0} (old new : View S V) (order : OrderView) (exchange : ExchangeView) (result : Result Gathered OpAnswer) → old.council.order ≡ Some order → GathersAs exchange old.council result new.council → IfErr result (WasToldOrder new)
-gathered_err old new order exchange result is_order (crashed down told next) =
+-- where a listing goes on that is not complete, less of it is left
+partial : (complete : Bool) → gathered.More ≡ listed_if complete → complete ≡ false
+partial true is = absurd (cc is)
+partial false is = refl
+
+less_left : (plan : PlanView) (before next : ListingView) → plan.listing ≡ Some before → next.complete ≡ false → keys_left next.places < keys_left before.places → left_to_list (Some (with_listing plan next)) < left_to_list (Some plan)
+less_left plan before next is_listing partial less =
+    let now : left_to_list (Some (with_listing plan next)) ≡ keys_left next.places = ap (λ (b : Bool). left_to_list (Some (if b && (length next.keys == 0) then stepped plan else record plan { listing = Some next }))) partial in
+    let was : left_to_list (Some plan) ≡ keys_left before.places = ap left_in is_listing in omega (arith, now, was, less)
+
+pub gathered_less : (era : Era) (exchange : ExchangeView) (old new : cluster.Council) (result : Result Gathered OpAnswer) → GathersAs era exchange old result new → result ≡ Ok gathered.More → left_to_list new.plan < left_to_list old.plan
+gathered_less era exchange old new result (crashed down told next) more = absurd (cc (told, more))
+gathered_less era exchange old new result (probed key found kept up question has keeps told next) more = absurd (cc (told, more))
+gathered_less era exchange old new result (lists of listing up is_keys enough on less told next) more =
+    let is_partial = partial listing.complete (cc (told, more)) in
+    subst (λ (p : Option PlanView). left_to_list new.plan < left_to_list p) (sym of.is_plan)
+    (subst (λ (c : cluster.Council). left_to_list c.plan < left_to_list (Some of.plan)) (sym next) (less_left of.plan of.listing listing of.is_listing is_partial (less enough is_partial)))
+gathered_less era exchange old new result (is_short of short up is_keys missing told next) more = absurd (cc (told, more))
+gathered_less era exchange old new result (no_memory up told next) more = absurd (cc (told, more))
+
+pub gathered_err : {S V : Type 0} (era : Era) (old new : View S V) (order : OrderView) (exchange : ExchangeView) (result : Result Gathered OpAnswer) → old.council.order ≡ Some order → GathersAs era exchange old.council result new.council → IfErr result (WasToldOrder new)
+gathered_err era old new order exchange result is_order (crashed down told next) =
     subst (λ (r : Result Gathered OpAnswer). IfErr r (WasToldOrder new)) (sym told) (was_told new order _ _ old.council None is_order next refl)
-gathered_err old new order exchange result is_order (probed key found kept up question has keeps told next) = subst (λ (r : Result Gathered OpAnswer). IfErr r (WasToldOrder new)) (sym told) tt
-gathered_err old new order exchange result is_order (no_memory up told next) =
-    subst (λ (r : Result Gathered OpAnswer). IfErr r (WasToldOrder new)) (sym told) (was_told new order _ _ old.council old.council.exchange is_order next refl)
+gathered_err era old new order exchange result is_order (probed key found kept up question has keeps told next) = subst (λ (r : Result Gathered OpAnswer). IfErr r (WasToldOrder new)) (sym told) tt
+gathered_err era old new order exchange result is_order (lists of listing up is_keys enough on less told next) = subst (λ (r : Result Gathered OpAnswer). IfErr r (WasToldOrder new)) (sym told) tt
+gathered_err era old new order exchange result is_order (is_short of short up is_keys missing told next) =
+    subst (λ (r : Result Gathered OpAnswer). IfErr r (WasToldOrder new)) (sym told) (was_told new order _ _ old.council None is_order next refl)
+gathered_err era old new order exchange result is_order (no_memory up told next) =
+    subst (λ (r : Result Gathered OpAnswer). IfErr r (WasToldOrder new)) (sym told) (was_told new order _ _ old.council (Some exchange) is_order next refl)
 
 -- ---- a frame of the exchange that is open
 pub record IsAsking {S V : Type 0} (view : View S V) : Type 0 where
@@ -316,7 +469,12 @@ heard_seen greatest council now acceptors desks callers flow book exchange reply
 
 pub heard : {S V : Type 0} (m : Meaning S V) (old new : View S V) (verdict : Verdict) (at : IsAsking old) (reply : Reply) → fall_of (queue_at old.flow exchange_place).again verdict ≡ Handle → at.front ≡ message.Reply reply
     → new ≡ with_exchange (record old { flow = taken old.flow exchange_place verdict }) (record at.exchange { told = hears reply at.exchange.told }) → StepTurnExchange m old verdict new
-heard m old new verdict at reply fall front is = record { at = record { exchange = at.exchange; is_open = at.is_open }; front = at.front; waits = at.waits; turn = steps.arrives reply fall front is }
+heard m old new verdict at reply fall front is = record {
+  at = record { exchange = at.exchange; is_open = at.is_open };
+  front = at.front;
+  waits = at.waits;
+  turn = steps.arrives reply fall front (at.safe.replies reply (contains_at (queue_at old.flow exchange_place).messages 0 (message.Reply reply) (at.waits ∙ ap (λ (f : Message). Some f) front))) is;
+}
 
 pub heard_world : {S V : Type 0} {m : Meaning S V} (old new : View S V) (flow : FlowView) (exchange : ExchangeView) (reply : Reply) (verdict : Verdict) (callers : List Caller) (left : ℕ) → IsWorld m old callers left → old.council.exchange ≡ Some exchange
     → Step m old (step.TurnExchange verdict) new → new ≡ with_exchange (record old { flow = flow }) (record exchange { told = hears reply exchange.told }) → IsWorld m new callers left

@@ -5,14 +5,14 @@ pub mod Callers
 pub mod Counts
 pub mod Ends
 pub mod Exchanges
-pub mod Gathering
 pub mod Lists
+pub mod Moving
 pub mod Openings
 pub mod Parts
+pub mod Planning
 pub mod Proposes
 pub mod Readers
 pub mod Reserving
-pub mod Sending
 pub mod Serving
 pub mod Settling
 pub mod Starting

@@ -18,9 +18,9 @@ use Rattle.cas_cluster.specs.Step.{IsFreshAcceptor, IsFreshDesk, IsOpening}
 use Rattle.cas_cluster.specs.View.{Meaning, CallerView, IsAt, new_caller, reserved_of, reserved_in}
 use Rattle.cas_cluster.proofs.SafeOpens.{opens_are_safe}
 use Rattle.cas_cluster.specs.Council.{reserved_by}
-use Rattle.cas_world.specs.Council.{opening_council, council_view}
-use Rattle.cas_world.specs.declared.council.Council.{Council}
-use Rattle.cas_world.specs.declared.call.Caller.{Caller}
+use Rattle.cas_calls.specs.Council.{opening_council, council_view}
+use Rattle.cas_calls.specs.declared.council.Council.{Council}
+use Rattle.cas_calls.specs.declared.call.Caller.{Caller}
 use Rattle.cas_world.specs.Opening.{unbegun, members_to, unstarted, HasStarted, AreStartedBelow, IsDeskOver, AllStart}
 use Rattle.cas_cluster.proofs.Opens.{opening_remembered}
 use Rattle.cas_world.specs.World.{HasCopies, IsWorld, view_of, caller_view}

@@ -33,18 +33,18 @@ use Rattle.cas_cluster.proofs.Places.{at_one, at_set, some_is}
 use Rattle.cas_cluster.proofs.SafeParts.{reserved_set}
 use Rattle.cas_cluster.proofs.SafeStops.{reserves_one}
 use Rattle.cas_cluster.specs.Council.{reserved_by}
-use Rattle.cas_world.specs.Council.{council_view}
-use Rattle.cas_world.specs.declared.council.Council.{Council}
-use Rattle.cas_world.specs.Answers.{is_done}
-use Rattle.cas_world.specs.Call.{over, with_proposal}
-use Rattle.cas_world.specs.Proposing.{proposing_of, ProposesOn, FailsToPropose}
+use Rattle.cas_calls.specs.Council.{council_view}
+use Rattle.cas_calls.specs.declared.council.Council.{Council}
+use Rattle.cas_cluster.specs.Protocol.{is_done}
+use Rattle.cas_calls.specs.Call.{over, with_proposal}
+use Rattle.cas_calls.specs.Proposing.{proposing_of, ProposesOn, FailsToPropose}
 use Rattle.cas_world.specs.Reading as reading
 use Rattle.cas_world.specs.Reading.{MayPropose, Reads, Proposes, EndsShort, HasProposed, ready_of}
 use Rattle.cas_world.specs.World.{HasCopies, IsInPhase, IsWorld, WasTold, view_of, call_view, caller_view}
-use Rattle.cas_world.specs.declared.call.Caller.{Caller}
-use Rattle.cas_world.specs.declared.call.OpenCall.{OpenCall}
-use Rattle.cas_world.specs.declared.proposal.Author.{Author}
-use Rattle.cas_world.specs.declared.proposal.Proposing.{Proposing}
+use Rattle.cas_calls.specs.declared.call.Caller.{Caller}
+use Rattle.cas_calls.specs.declared.call.OpenCall.{OpenCall}
+use Rattle.cas_calls.specs.declared.proposal.Author.{Author}
+use Rattle.cas_calls.specs.declared.proposal.Proposing.{Proposing}
 use Rattle.cas_world.proofs.Callers.{map_set, at_map, seen_open}
 use Rattle.cas_world.proofs.Ends.{some_room}
 use Rattle.cas_world.proofs.Parts.{at_place}

@@ -7,8 +7,8 @@ use Rattle.cas_proposer.specs.Desk.{DeskView}
 use Rattle.cas_record.specs.Book.{Book}
 use Rattle.cas_cluster.specs.Safe.{IsSafe}
 use Rattle.cas_cluster.specs.View.{IsAt}
-use Rattle.cas_world.specs.declared.council.Council.{Council}
-use Rattle.cas_world.specs.declared.call.Caller.{Caller}
+use Rattle.cas_calls.specs.declared.council.Council.{Council}
+use Rattle.cas_calls.specs.declared.call.Caller.{Caller}
 use Rattle.cas_world.specs.World.{view_of, caller_view}
 use Rattle.cas_world.proofs.Callers.{at_map}
 use Rattle.cas_cluster.proofs.SafeParts.{at_low}

@@ -3,10 +3,10 @@ use Rattle.std.proofs.Common.{◌≡◌, ◌+◌, ◌≤◌, ℕ, suc, zero, Lis
 use Rattle.std.proofs.lemmas.List.Sums.{sum_by-cons}
 use Rattle.std.specs.Prelude.{Option, Some, None, IsSome, is_some, map, option_map, true, false}
 use Rattle.cas_cluster.specs.View as seen
-use Rattle.cas_world.specs.Call.{reserved_in, reserved_of}
+use Rattle.cas_calls.specs.Call.{reserved_in, reserved_of}
 use Rattle.cas_world.specs.World.{call_view, caller_view}
-use Rattle.cas_world.specs.declared.call.Caller.{Caller}
-use Rattle.cas_world.specs.declared.call.OpenCall.{OpenCall}
+use Rattle.cas_calls.specs.declared.call.Caller.{Caller}
+use Rattle.cas_calls.specs.declared.call.OpenCall.{OpenCall}
 
 -- as much is reserved for callers as for what they are seen as
 pub reserved_seen : (call : Option OpenCall) → seen.reserved_in (option_map call_view call) ≡ reserved_in call

@@ -33,17 +33,19 @@ use Rattle.cas_cluster.proofs.Caches.{contains_promise}
 use Rattle.cas_cluster.proofs.SafeParts.{low_at, at_low, idle_at}
 use Rattle.cas_cluster.proofs.SafeSteps.{steps_are_safe}
 use Rattle.cas_cluster.specs.Council.{reserved_by}
-use Rattle.cas_world.specs.Council.{council_view}
-use Rattle.cas_world.specs.declared.council.Council.{Council}
-use Rattle.cas_world.specs.Beginning.{opening_of, refused, Prepares, ProposesBy, OpensRound, FailsToOpen, reserved_beside, entered, entry_marks, proposes_now, told_now, settled, settled_marks, HasRound, HasNoCall, MayBegin, is_refusal, BeginsOrNot}
-use Rattle.cas_world.specs.Call.{again, over, with_proposal, reserved_in, reserved_of}
+use Rattle.cas_calls.specs.Council.{council_view}
+use Rattle.cas_calls.specs.declared.council.Council.{Council}
+use Rattle.cas_world.specs.Beginning.{opening_of, refused, Prepares, ProposesBy, OpensRound, FailsToOpen, reserved_beside, entered, entry_marks, proposes_now, told_now, settled, settled_marks, Heeds, HeedsLoss, HasRound, HasNoCall, MayBegin, is_refusal, BeginsOrNot}
+use Rattle.cas_calls.specs.Call.{again, over, with_proposal, reserved_in, reserved_of}
 use Rattle.cas_world.specs.World.{WasTold, IsWorld, HasCopies, view_of, call_view, caller_view}
 use Rattle.cas_world.specs.declared.begin.Opening.{Opening}
-use Rattle.cas_world.specs.declared.call.Caller.{Caller}
-use Rattle.cas_world.specs.declared.call.OpenCall.{OpenCall}
-use Rattle.cas_world.specs.declared.proposal.Proposing.{Proposing}
+use Rattle.cas_calls.specs.declared.call.Caller.{Caller}
+use Rattle.cas_calls.specs.declared.call.OpenCall.{OpenCall}
+use Rattle.cas_calls.specs.declared.proposal.Proposing.{Proposing}
 use Rattle.cas_world.proofs.Begins.{beside_seen, beside_none, may_in, opened_book, IsFirst, IsAnother, IsEntered, opens_first, opens_again, step_prepares, step_proposes, step_fails, step_stays}
 use Rattle.cas_world.proofs.Callers.{map_set, at_map, seen_open}
+use Rattle.cas_world.proofs.Ends.{rescan_reserves}
+use Rattle.cas_world.proofs.Exchanges.{council_next}
 use Rattle.cas_world.proofs.Parts.{at_place, set_same, remembered_then}
 use Rattle.cas_world.proofs.Stops.{HaveCopies, copies_next}
 
@@ -246,26 +248,47 @@ module _ {S V : Type 0} (A : Type 0) (m : Meaning S V) (greatest : ℕ) (council
       let made : length (book.marks ++ []) ≡ length book.marks = ap (λ (l : List Mark). length l) (append-nil book.marks) in
       (omega (arith, over_full, no_caller, made), omega (arith, (entered_one another).within))
 
+  -- where what the operator has under way is seen as before
+  seen_as_before : (council_now : Council) → council_now.eras ≡ council.eras → council_view council_now ≡ council_view council → (desks_now : List (DeskView V)) (callers_now : List Caller) (flow_now : FlowView) (after : Book) (result : Result A Answer)
+      → Settles {A = A} m (view_of greatest council acceptors desks callers flow book) id number key program (view_of greatest council acceptors desks_now callers_now flow_now after) callers_now after.room result
+      → Settles {A = A} m (view_of greatest council acceptors desks callers flow book) id number key program (view_of greatest council_now acceptors desks_now callers_now flow_now after) callers_now after.room result
+  seen_as_before council_now eras same desks_now callers_now flow_now after result =
+      subst (λ (v : View S V). Settles {A = A} m (view_of greatest council acceptors desks callers flow book) id number key program v callers_now after.room result)
+      (sym (council_next greatest council council_now acceptors desks_now callers_now flow_now after (council_view council) eras same))
+
+  -- what the operator's call is told of a refusal
+  heeded_first : (council_now : Council) (told : Answer) → caller.call ≡ None → Heeds caller.call (council_view council) id key told (council_view council_now) → calls.Rescans (council_view council) id key told (council_view council_now)
+  heeded_first council_now told none heeds = subst (λ (o : Option OpenCall). Heeds o (council_view council) id key told (council_view council_now)) none heeds
+
+  heeded_again : (council_now : Council) (told : Answer) → IsAnother desk caller number key program → Heeds caller.call (council_view council) id key told (council_view council_now) → council_view council_now ≡ council_view council
+  heeded_again council_now told another heeds = subst (λ (o : Option OpenCall). Heeds o (council_view council) id key told (council_view council_now)) another.is_call heeds
+
+  refused_full : (told : Answer) → IsRefusal told → (told ≡ answer.RecordFull → calls.most_marks < length book.marks + reserved_beside callers id + reserved_by (council_view council) + calls.round_marks (era_in council.eras.0 id)) → calls.IsRefusal old id told
+  refused_full told (inl full) over_full = inl (full, omega (arith, over_full full, beside_none callers id low))
+  refused_full told (inr none) over_full = inr none
+
   -- no room was made
-  pub not_made : (told : Answer) (after : Book) → IsFirst desk caller number ⊎ IsAnother desk caller number key program → IsRefusal told
+  pub not_made : (council_now : Council) → council_now.eras ≡ council.eras → (told : Answer) (after : Book) → IsFirst desk caller number ⊎ IsAnother desk caller number key program → IsRefusal told → Heeds caller.call (council_view council) id key told (council_view council_now)
       → (told ≡ answer.RecordFull → calls.most_marks < length book.marks + reserved_beside callers id + reserved_by (council_view council) + calls.round_marks (era_in council.eras.0 id)) → after.marks ≡ book.marks → book.room ≤ after.room
-      → Settles {A = A} m (view_of greatest council acceptors desks callers flow book) id number key program (view_of greatest council acceptors desks (slice_set callers id (refused caller told)) flow after) (slice_set callers id (refused caller told)) after.room (Err told)
-  not_made told after (inl first) why full marks grows =
-      let same : view_of greatest council acceptors desks (slice_set callers id (refused caller told)) flow after ≡ old =
-      ap (λ (l : List Caller). view_of greatest council acceptors desks l flow after) (callers_same told first.none_open) ∙ ap (λ (l : List Mark). record old { marks = l }) marks in
-      let by : Step m old (step.RefuseBegin id key) (view_of greatest council acceptors desks (slice_set callers id (refused caller told)) flow after) = calls.stays same in
+      → Settles {A = A} m (view_of greatest council acceptors desks callers flow book) id number key program (view_of greatest council_now acceptors desks (slice_set callers id (refused caller told)) flow after) (slice_set callers id (refused caller told)) after.room (Err told)
+  not_made council_now eras told after (inl first) why heeds full marks grows =
+      let same : view_of greatest council_now acceptors desks (slice_set callers id (refused caller told)) flow after ≡ record old { council = council_view council_now } =
+      ap (λ (l : List Caller). view_of greatest council_now acceptors desks l flow after) (callers_same told first.none_open)
+      ∙ council_next greatest council council_now acceptors desks callers flow after (council_view council_now) eras refl ∙ ap (λ (l : List Mark). record old { council = council_view council_now; marks = l }) marks in
+      let anew = heeded_first council_now told first.none_open heeds in
+      let by : Step m old (step.RefuseBegin id key) (view_of greatest council_now acceptors desks (slice_set callers id (refused caller told)) flow after) = calls.stays told (council_view council_now) (refused_full told why full) anew same in
       record {
         event = step.RefuseBegin id key;
         by = by;
         world = record {
           safe = steps_are_safe m _ (step.RefuseBegin id key) _ inv.safe by;
           remembered = remembered_then m (step.RefuseBegin id key) by inv.remembered;
-          room = refused_room told after.room (inl first) grows;
+          room = omega (arith, refused_room told after.room (inl first) grows, rescan_reserves (council_view council) (council_view council_now) id key told anew);
           copies = subst (λ (l : List Caller). HaveCopies desks l) (sym (callers_same told first.none_open)) inv.copies;
         };
-        answers = inr (by, no_call first.none_open, why);
+        answers = inr (by, no_call first.none_open, why, anew);
       }
-  not_made told after (inr another) why full marks grows =
+  not_made council_now eras told after (inr another) why heeds full marks grows =
       let is = entered_one another in
       let same : view_of greatest council acceptors desks (slice_set callers id (refused caller told)) flow after ≡ view_of greatest council acceptors desks (slice_set callers id (told_now (entered caller None 1) told)) flow (opened_book book None) =
       ap (λ (c : Caller). view_of greatest council acceptors desks (slice_set callers id c) flow after) (refused_open told another.call another.is_call)
@@ -274,7 +297,7 @@ module _ {S V : Type 0} (A : Type 0) (m : Meaning S V) (greatest : ℕ) (council
       subst (λ (v : View S V). Step m old (step.Begin id key program) v) (sym same)
       (step_stays greatest council acceptors desks callers flow book id number key program m (entered caller None 1) (opened_book book None) caller at_caller 1 0 is told (elim why [ inl full ↦ subst calls.IsNoBeginning (sym full) tt | inr none ↦ subst calls.IsNoBeginning (sym none) refl ])
       (λ down. elim why [ inl full ↦ absurd (cc (full, down)) | inr none ↦ absurd (cc (none, down)) ]) (λ is_full. entered_full another (full is_full)) desk at_desk another.idle) in
-      record {
+      seen_as_before council_now eras (heeded_again council_now told another heeds) desks (slice_set callers id (refused caller told)) flow after (Err told) (record {
         event = step.Begin id key program;
         by = by;
         world = record {
@@ -285,7 +308,7 @@ module _ {S V : Type 0} (A : Type 0) (m : Meaning S V) (greatest : ℕ) (council
               (copies_next desks callers id desk (refused caller told) (idle_copies desk.round (refused caller told).call another.idle) inv.copies);
         };
         answers = inl (by, told_one told another desks flow after, λ none. absurd (is_no_first another none));
-      }
+      })
 
   -- ---- room was made for its marks
   module _ (marks : ℕ) (same_marks : marks ≡ round_marks (era_in council.eras.0 id)) (few : length book.marks + reserved_beside callers id + reserved_by (council_view council) + marks ≤ most_marks) (opening : Option Opening)
@@ -297,7 +320,8 @@ module _ {S V : Type 0} (A : Type 0) (m : Meaning S V) (greatest : ℕ) (council
     entering (inr another) = subst (λ (o : Option Opening). IsEntered (view_of greatest council acceptors desks callers flow book) id number key program (view_of greatest council acceptors desks (slice_set callers id (entered caller o marks)) flow (opened_book book o)) (entered caller o marks) marks (length (entry_marks o)))
         (sym (again_is (subst (λ (o : Option OpenCall). IsSome o) (sym another.is_call) refl))) (opens_again greatest council acceptors desks callers flow book id number key program marks desk caller at_caller at_desk low another (omega (arith, same_marks)) few)
 
-    module _ (may : IsFirst desk caller number ⊎ IsAnother desk caller number key program) (now : DeskView V) (flow_now : FlowView) (after : Book) (left : ℕ) (held : reserved_beside callers id + reserved_by (council_view council) + marks ≤ left) (grows : book.room ≤ left) where
+    module _ (may : IsFirst desk caller number ⊎ IsAnother desk caller number key program) (now : DeskView V) (flow_now : FlowView) (after : Book) (left : ℕ) (held : reserved_beside callers id + reserved_by (council_view council) + marks ≤ left) (grows : book.room ≤ left)
+        (council_now : Council) (eras : council_now.eras ≡ council.eras) where
       idle : desk.round ≡ None
       idle = elim may [ inl first ↦ first.idle | inr another ↦ another.idle ]
 
@@ -417,31 +441,34 @@ module _ {S V : Type 0} (A : Type 0) (m : Meaning S V) (greatest : ℕ) (council
           }
 
       -- ---- no memory was found
-      pub loses : (proposed : Bool) → FailsToOpen m.disks key desk now (answer.NoMemory proposed) → after.marks ≡ book.marks → after.room ≡ left
-          → Settles {A = A} m (view_of greatest council acceptors desks callers flow book) id number key program (view_of greatest council acceptors (slice_set desks id now) (slice_set callers id (refused caller (answer.NoMemory proposed))) flow after)
+      pub loses : (proposed : Bool) → FailsToOpen m.disks key desk now (answer.NoMemory proposed) → Heeds caller.call (council_view council) id key (answer.NoMemory proposed) (council_view council_now) → after.marks ≡ book.marks → after.room ≡ left
+          → Settles {A = A} m (view_of greatest council acceptors desks callers flow book) id number key program (view_of greatest council_now acceptors (slice_set desks id now) (slice_set callers id (refused caller (answer.NoMemory proposed))) flow after)
           (slice_set callers id (refused caller (answer.NoMemory proposed))) after.room (Err (answer.NoMemory proposed))
-      loses proposed was made spent = loses_in may
+      loses proposed was heeds made spent = loses_in may
         where
           told : Answer
           told = answer.NoMemory proposed
 
           loses_in : IsFirst desk caller number ⊎ IsAnother desk caller number key program
-              → Settles {A = A} m (view_of greatest council acceptors desks callers flow book) id number key program (view_of greatest council acceptors (slice_set desks id now) (slice_set callers id (refused caller (answer.NoMemory proposed))) flow after)
+              → Settles {A = A} m (view_of greatest council acceptors desks callers flow book) id number key program (view_of greatest council_now acceptors (slice_set desks id now) (slice_set callers id (refused caller (answer.NoMemory proposed))) flow after)
               (slice_set callers id (refused caller (answer.NoMemory proposed))) after.room (Err (answer.NoMemory proposed))
           loses_in (inl first) =
-              let by : Step m old (step.RefuseBegin id key) (view_of greatest council acceptors (slice_set desks id now) (slice_set callers id (refused caller told)) flow after) =
-              calls.loses (caller_view caller) desk now was.2 (at_map caller_view callers id caller at_caller) at_desk first.idle was.1 was.3
-              (ap (λ (l : List Caller). view_of greatest council acceptors (slice_set desks id now) l flow after) (callers_same told first.none_open) ∙ ap (λ (l : List Mark). record (view_of greatest council acceptors (slice_set desks id now) callers flow book) { marks = l }) made) in
+              let anew = subst (λ (b : Bool). calls.Rescans (council_view council) id key (answer.NoMemory b) (council_view council_now)) was.0 (heeded_first council_now told first.none_open heeds) in
+              let by : Step m old (step.RefuseBegin id key) (view_of greatest council_now acceptors (slice_set desks id now) (slice_set callers id (refused caller told)) flow after) =
+              calls.loses (caller_view caller) desk now was.2 (council_view council_now) (at_map caller_view callers id caller at_caller) at_desk first.idle was.1 was.3 anew
+              (ap (λ (l : List Caller). view_of greatest council_now acceptors (slice_set desks id now) l flow after) (callers_same told first.none_open)
+              ∙ council_next greatest council council_now acceptors (slice_set desks id now) callers flow after (council_view council_now) eras refl
+              ∙ ap (λ (l : List Mark). record (view_of greatest council acceptors (slice_set desks id now) callers flow book) { council = council_view council_now; marks = l }) made) in
               record {
                 event = step.RefuseBegin id key;
                 by = by;
                 world = record {
                   safe = steps_are_safe m _ (step.RefuseBegin id key) _ inv.safe by;
                   remembered = remembered_then m (step.RefuseBegin id key) by inv.remembered;
-                  room = refused_room told after.room (inl first) (omega (arith, spent, grows));
+                  room = omega (arith, refused_room told after.room (inl first) (omega (arith, spent, grows)), rescan_reserves (council_view council) (council_view council_now) id key (answer.NoMemory false) anew);
                   copies = copies_next desks callers id now (refused caller told) (idle_copies now.round (refused caller told).call (none_left told was)) inv.copies;
                 };
-                answers = inr (by, no_call first.none_open, inr (ap (λ (b : Bool). answer.NoMemory b) was.0));
+                answers = inr (by, no_call first.none_open, inr (ap (λ (b : Bool). answer.NoMemory b) was.0), heeded_first council_now told first.none_open heeds);
               }
           loses_in (inr another) =
               let is = entered_one another in
@@ -449,7 +476,7 @@ module _ {S V : Type 0} (A : Type 0) (m : Meaning S V) (greatest : ℕ) (council
               subst (λ (c : Caller). Step m old (step.Begin id key program) (view_of greatest council acceptors (slice_set desks id now) (slice_set callers id c) flow after)) (sym (refused_open told another.call another.is_call))
               (subst (λ (l : List Mark). Step m old (step.Begin id key program) (record (view_of greatest council acceptors (slice_set desks id now) (slice_set callers id (told_now (entered caller None 1) told)) flow after) { marks = l })) (append-nil book.marks ∙ sym made)
               (step_fails greatest council acceptors desks callers flow book id number key program m (entered caller None 1) (opened_book book None) caller at_caller 1 0 is desk now told at_desk another.idle was)) in
-              record {
+              seen_as_before council_now eras (heeded_again council_now told another heeds) (slice_set desks id now) (slice_set callers id (refused caller told)) flow after (Err told) (record {
                 event = step.Begin id key program;
                 by = by;
                 world = record {
@@ -459,37 +486,44 @@ module _ {S V : Type 0} (A : Type 0) (m : Meaning S V) (greatest : ℕ) (council
                   copies = copies_next desks callers id now (refused caller told) (idle_copies now.round (refused caller told).call (none_left told was)) inv.copies;
                 };
                 answers = inl (by, told_one told another (slice_set desks id now) flow after, λ none. absurd (is_no_first another none));
-              }
+              })
 
       -- ---- all of it
       pub settles : (begun : Result (Option Proposing) Answer) → IfOk begun (OpensRound m.disks (era_in council.eras.0 id) key program (record { caller = id; call = number }) desk now flow flow_now) → IfErr begun (FailsToOpen m.disks key desk now) → OnErr begun (flow_now ≡ flow)
-          → after.marks ≡ book.marks ++ settled_marks opening begun → after.room + length (settled_marks opening begun) ≡ left → (result : Result A Answer) → IfErr begun (λ told. result ≡ Err told) → OnOk begun (IsOk result)
-          → Settles {A = A} m (view_of greatest council acceptors desks callers flow book) id number key program (view_of greatest council acceptors (slice_set desks id now) (slice_set callers id (settled caller opening marks begun)) flow_now after)
+          → HeedsLoss caller.call (council_view council) id key begun (council_view council_now) → after.marks ≡ book.marks ++ settled_marks opening begun → after.room + length (settled_marks opening begun) ≡ left → (result : Result A Answer) → IfErr begun (λ told. result ≡ Err told) → OnOk begun (IsOk result)
+          → Settles {A = A} m (view_of greatest council acceptors desks callers flow book) id number key program (view_of greatest council_now acceptors (slice_set desks id now) (slice_set callers id (settled caller opening marks begun)) flow_now after)
           (slice_set callers id (settled caller opening marks begun)) after.room result
-      settles (Ok None) opens refuses stays made spent result err ok = subst (λ (r : Result A Answer). Settles {A = A} m (view_of greatest council acceptors desks callers flow book) id number key program
-          (view_of greatest council acceptors (slice_set desks id now) (slice_set callers id (entered caller opening marks)) flow_now after) (slice_set callers id (entered caller opening marks)) after.room r) (sym (is_ok result ok).1) (prepares opens made spent (is_ok result ok).0)
-      settles (Ok (Some proposing)) opens refuses stays made spent result err ok = subst (λ (r : Result A Answer). Settles {A = A} m (view_of greatest council acceptors desks callers flow book) id number key program
+      settles (Ok None) opens refuses stays heeds made spent result err ok = seen_as_before council_now eras heeds (slice_set desks id now) (slice_set callers id (entered caller opening marks)) flow_now after result
+          (subst (λ (r : Result A Answer). Settles {A = A} m (view_of greatest council acceptors desks callers flow book) id number key program
+          (view_of greatest council acceptors (slice_set desks id now) (slice_set callers id (entered caller opening marks)) flow_now after) (slice_set callers id (entered caller opening marks)) after.room r) (sym (is_ok result ok).1) (prepares opens made spent (is_ok result ok).0))
+      settles (Ok (Some proposing)) opens refuses stays heeds made spent result err ok = seen_as_before council_now eras heeds (slice_set desks id now) (slice_set callers id (proposes_now (entered caller opening marks) proposing)) flow_now after result
+          (subst (λ (r : Result A Answer). Settles {A = A} m (view_of greatest council acceptors desks callers flow book) id number key program
           (view_of greatest council acceptors (slice_set desks id now) (slice_set callers id (proposes_now (entered caller opening marks) proposing)) flow_now after) (slice_set callers id (proposes_now (entered caller opening marks) proposing)) after.room r) (sym (is_ok result ok).1)
-          (proposes proposing opens made spent (is_ok result ok).0)
-      settles (Err told) opens refuses stays made spent result err ok =
-          subst (λ (f : FlowView). Settles {A = A} m (view_of greatest council acceptors desks callers flow book) id number key program (view_of greatest council acceptors (slice_set desks id now) (slice_set callers id (settled caller opening marks (Err told))) f after)
+          (proposes proposing opens made spent (is_ok result ok).0))
+      settles (Err told) opens refuses stays heeds made spent result err ok =
+          subst (λ (f : FlowView). Settles {A = A} m (view_of greatest council acceptors desks callers flow book) id number key program (view_of greatest council_now acceptors (slice_set desks id now) (slice_set callers id (settled caller opening marks (Err told))) f after)
           (slice_set callers id (settled caller opening marks (Err told))) after.room result) (sym stays)
-          (subst (λ (r : Result A Answer). Settles {A = A} m (view_of greatest council acceptors desks callers flow book) id number key program (view_of greatest council acceptors (slice_set desks id now) (slice_set callers id (settled caller opening marks (Err told))) flow after)
-          (slice_set callers id (settled caller opening marks (Err told))) after.room r) (sym err) (by_told told refuses made spent))
+          (subst (λ (r : Result A Answer). Settles {A = A} m (view_of greatest council acceptors desks callers flow book) id number key program (view_of greatest council_now acceptors (slice_set desks id now) (slice_set callers id (settled caller opening marks (Err told))) flow after)
+          (slice_set callers id (settled caller opening marks (Err told))) after.room r) (sym err) (by_told told refuses heeds made spent))
         where
-          by_told : (told : Answer) → FailsToOpen m.disks key desk now told → after.marks ≡ book.marks ++ settled_marks opening (Err told) → after.room + length (settled_marks opening (Err told)) ≡ left
-              → Settles {A = A} m (view_of greatest council acceptors desks callers flow book) id number key program (view_of greatest council acceptors (slice_set desks id now) (slice_set callers id (settled caller opening marks (Err told))) flow after)
+          fails_so : (told : Answer) → is_refusal told ≡ false → FailsToOpen m.disks key desk now told → council_view council_now ≡ council_view council → after.marks ≡ book.marks ++ entry_marks opening → after.room + length (entry_marks opening) ≡ left
+              → Settles {A = A} m (view_of greatest council acceptors desks callers flow book) id number key program (view_of greatest council_now acceptors (slice_set desks id now) (slice_set callers id (told_now (entered caller opening marks) told)) flow after)
+              (slice_set callers id (told_now (entered caller opening marks) told)) after.room (Err told)
+          fails_so told begun was same made spent = seen_as_before council_now eras same (slice_set desks id now) (slice_set callers id (told_now (entered caller opening marks) told)) flow after (Err told) (fails told begun was made spent)
+
+          by_told : (told : Answer) → FailsToOpen m.disks key desk now told → HeedsLoss caller.call (council_view council) id key (Err told) (council_view council_now) → after.marks ≡ book.marks ++ settled_marks opening (Err told) → after.room + length (settled_marks opening (Err told)) ≡ left
+              → Settles {A = A} m (view_of greatest council acceptors desks callers flow book) id number key program (view_of greatest council_now acceptors (slice_set desks id now) (slice_set callers id (settled caller opening marks (Err told))) flow after)
               (slice_set callers id (settled caller opening marks (Err told))) after.room (Err told)
-          by_told answer.Down was made spent = fails answer.Down refl was made spent
-          by_told answer.Spent was made spent = fails answer.Spent refl was made spent
-          by_told answer.VaultFault was made spent = fails answer.VaultFault refl was made spent
-          by_told (answer.NoMemory proposed) was made spent = loses proposed was (made ∙ append-nil book.marks) (omega (arith, spent))
-          by_told (answer.Done _ _ _) was made spent = elim was [ ]
-          by_told (answer.Conflict _) was made spent = elim was [ ]
-          by_told (answer.Aged _) was made spent = elim was [ ]
-          by_told (answer.Full _) was made spent = elim was [ ]
-          by_told (answer.Short _ _) was made spent = elim was [ ]
-          by_told (answer.Moved _) was made spent = elim was [ ]
-          by_told answer.Crashed was made spent = elim was [ ]
-          by_told (answer.Unsettled _) was made spent = elim was [ ]
-          by_told answer.RecordFull was made spent = elim was [ ]
+          by_told answer.Down was heeds made spent = fails_so answer.Down refl was heeds made spent
+          by_told answer.Spent was heeds made spent = fails_so answer.Spent refl was heeds made spent
+          by_told answer.VaultFault was heeds made spent = fails_so answer.VaultFault refl was heeds made spent
+          by_told (answer.NoMemory proposed) was heeds made spent = loses proposed was heeds (made ∙ append-nil book.marks) (omega (arith, spent))
+          by_told (answer.Done _ _ _) was heeds made spent = elim was [ ]
+          by_told (answer.Conflict _) was heeds made spent = elim was [ ]
+          by_told (answer.Aged _) was heeds made spent = elim was [ ]
+          by_told (answer.Full _) was heeds made spent = elim was [ ]
+          by_told (answer.Short _ _) was heeds made spent = elim was [ ]
+          by_told (answer.Moved _) was heeds made spent = elim was [ ]
+          by_told answer.Crashed was heeds made spent = elim was [ ]
+          by_told (answer.Unsettled _) was heeds made spent = elim was [ ]
+          by_told answer.RecordFull was heeds made spent = elim was [ ]

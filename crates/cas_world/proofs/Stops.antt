@@ -1,7 +1,6 @@
 -- What stops and restarts of one party do to the whole.
-use Rattle.std.proofs.Common.{◌≡◌, ◌<◌, ◌≤◌, ℕ, Bool, true, false, List, [], Option, None, Some, Result, Ok, Err, slice_set, refl, sym, ap, subst, ◌∙◌, inl, inr, arith}
-use Rattle.std.specs.Prelude.{⊤, ◌⊎◌, if◌then◌else◌, map, option_map, is_some, IfSome, OnOk, OnErr, IsTrue}
-use Rattle.std.proofs.lemmas.List.{set-get_or}
+use Rattle.std.proofs.Common.{◌≡◌, ◌<◌, ◌≤◌, ℕ, Bool, true, false, List, Option, None, Some, Result, Ok, Err, slice_set, refl, sym, ap, subst, ◌∙◌, inl, inr, arith}
+use Rattle.std.specs.Prelude.{⊤, ◌⊎◌, if◌then◌else◌, map, option_map, is_some, IfSome, OnOk, OnErr, is_err, IsTrue}
 use Rattle.cas_world.proofs.Beginning.{no_more}
 use Rattle.cas_base.proofs.Bools.{true_or_false}
 use Rattle.cas_acceptor.specs.Acceptor.{AcceptorView}
@@ -24,19 +23,17 @@ use Rattle.cas_cluster.specs.Step.{StepRestartAcceptor, StepRestartProposer}
 use Rattle.cas_cluster.specs.StepStops as stops
 use Rattle.cas_cluster.specs.StepStops.{CrashesDesk}
 use Rattle.cas_quorum.specs.declared.era.Era.{Era}
-use Rattle.cas_quorum.specs.Era.{majority_era}
-use Rattle.cas_cluster.specs.Council.{PlanView}
 use Rattle.cas_cluster.specs.Course.{era_shown}
 use Rattle.cas_cluster.specs.Parties.{IsWithin}
 use Rattle.cas_cluster.specs.StepDesks.{GoesOn, Crashes, Restarts}
 use Rattle.cas_cluster.specs.View.{DiskMeaning, Meaning, ShelfMeaning, View, CallerView, IsAt, reserved_in, reserved_of, era_at, with_acceptor, with_desk}
 use Rattle.cas_cluster.proofs.Places.{at_one, at_set, but_set, own_set, other_set}
 use Rattle.cas_cluster.proofs.SafeParts.{reserved_set}
-use Rattle.cas_world.specs.declared.council.Council.{Council}
-use Rattle.cas_world.specs.declared.call.Caller.{Caller}
-use Rattle.cas_world.specs.declared.call.OpenCall.{OpenCall}
-use Rattle.cas_world.specs.Answers.{crash_answer}
-use Rattle.cas_world.specs.Call.{over}
+use Rattle.cas_calls.specs.declared.council.Council.{Council}
+use Rattle.cas_calls.specs.declared.call.Caller.{Caller}
+use Rattle.cas_calls.specs.declared.call.OpenCall.{OpenCall}
+use Rattle.cas_calls.specs.Answers.{crash_answer}
+use Rattle.cas_calls.specs.Call.{over}
 use Rattle.cas_world.specs.Restarting.{TellsOfAcceptor, TellsOfDesk}
 use Rattle.cas_world.specs.World.{HasCopies, view_of, call_view, caller_view}
 use Rattle.cas_world.proofs.Callers.{map_set, at_map}
@@ -165,6 +162,23 @@ restarts_vault m old new (Err e) seen image reopened lasts same leaves past neve
   never_falls = never_falls;
 }
 
+-- what is so of either end
+pub on_ok_of : {A B : Type 0} (result : Result A B) (P : Type 0) → is_err result ≡ true → OnOk result P
+on_ok_of (Ok x) P is = absurd (cc is)
+on_ok_of (Err e) P is = tt
+
+pub on_ok_so : {A B : Type 0} (result : Result A B) (P : Type 0) → P → OnOk result P
+on_ok_so (Ok x) P has = has
+on_ok_so (Err e) P has = tt
+
+pub on_err_of : {A B : Type 0} (result : Result A B) (P : Type 0) → P → OnErr result P
+on_err_of (Ok x) P has = tt
+on_err_of (Err e) P has = has
+
+pub on_err_not : {A B : Type 0} (result : Result A B) (P : Type 0) → is_err result ≡ false → OnErr result P
+on_err_not (Ok x) P is = tt
+on_err_not (Err e) P is = absurd (cc is)
+
 -- a vault that stands leaves what it keeps, where its desk is up
 pub lasts_then : {V : Type 0} (m : DiskMeaning V) (seen : V → List ℕ) (desk now : DeskView V) (r : Result ⊤ VaultError) → OnOk r (now ≡ record desk { vault = now.vault; down = false }) → (now.down ≡ false → Stands m.tells seen m.may_leave now.vault)
     → OnOk r (m.tells → (c : List ℕ) → m.may_leave (disk_of now.vault) c → KeptOn (kept_of now.vault) c)
@@ -176,21 +190,10 @@ pub same_round : {V : Type 0} (desk now : DeskView V) (r : Result ⊤ VaultError
 same_round {V} desk now (Ok x) ok err = ap (λ (d : DeskView V). d.round) ok
 same_round {V} desk now (Err e) ok err = ap (λ (d : DeskView V). d.round) err
 
--- with no change of membership under way it works where it worked
-works_on : {S V : Type 0} (old : View S V) (id : ℕ) (now : DeskView V) → old.council.plan ≡ None → step.restarted old id now ≡ with_desk old id now
-works_on {S} {V} old id now none = by_down now.down
-  where
-    by_down : (b : Bool) → record (with_desk old id now) { eras = if b then old.eras else slice_set old.eras id (era_shown old.council.plan (era_at old id) (kept_of now.vault).era) } ≡ with_desk old id now
-    by_down true = refl
-    by_down false = ap (λ (l : List Era). record (with_desk old id now) { eras = l })
-        (ap (λ (p : Option PlanView). slice_set old.eras id (era_shown p (era_at old id) (kept_of now.vault).era)) none ∙ set-get_or old.eras id (majority_era 0 []))
-
-pub desk_restarted : {S V : Type 0} (m : Meaning S V) (old : View S V) (id : ℕ) (desk now : DeskView V) (caller : CallerView) (r : Result ⊤ VaultError) → old.council.plan ≡ None → IsAt old.desks id desk → IsAt old.callers id caller → (desk.down ≡ false → now ≡ desk)
-    → OnOk r (now ≡ record desk { vault = now.vault; down = false }) → OnErr r (now ≡ record desk { vault = now.vault }) → (IsTrue desk.down → RestartsVault m.disks desk.vault now.vault r) → StepRestartProposer m old id (with_desk old id now)
-desk_restarted {S} {V} m old id desk now caller r none at at_caller unchanged ok err on = elim (true_or_false desk.down) [
-  | inl down ↦ step.restarts desk now caller at at_caller down (by_result r down ok err (on down)) (sym (works_on old id now none))
-  | inr up ↦ step.was_up_already desk at up (ap (λ (l : List (DeskView V)). record old { desks = l }) (ap (λ (d : DeskView V). slice_set old.desks id d) (unchanged up) ∙ set_same old.desks id desk at))
-]
+pub desk_restarted : {S V : Type 0} (m : Meaning S V) (old : View S V) (id : ℕ) (desk now : DeskView V) (caller : CallerView) (eras : List Era) (r : Result ⊤ VaultError) → IsAt old.desks id desk → IsAt old.callers id caller → desk.down ≡ true
+    → OnOk r (now ≡ record desk { vault = now.vault; down = false }) → OnErr r (now ≡ record desk { vault = now.vault }) → RestartsVault m.disks desk.vault now.vault r
+    → OnOk r (eras ≡ slice_set old.eras id (era_shown old.council.plan (era_at old id) (kept_of now.vault).era)) → OnErr r (eras ≡ old.eras) → StepRestartProposer m old id (record (with_desk old id now) { eras = eras })
+desk_restarted {S} {V} m old id desk now caller eras r at at_caller down ok err on shown same = step.restarts desk now caller at at_caller down (by_result r down ok err on) (by_eras r ok err shown same)
   where
     by_result : (r : Result ⊤ VaultError) → IsTrue desk.down → OnOk r (now ≡ record desk { vault = now.vault; down = false }) → OnErr r (now ≡ record desk { vault = now.vault }) → RestartsVault m.disks desk.vault now.vault r → Restarts m.disks desk now
     by_result (Ok x) down ok err of = let up : now.down ≡ false = ap (λ (d : DeskView V). d.down) ok in record {
@@ -207,6 +210,15 @@ desk_restarted {S} {V} m old id desk now caller r none at at_caller unchanged ok
       stays = λ is_down. of.stays;
       never_falls = of.never_falls;
     }
+
+    by_eras : (r : Result ⊤ VaultError) → OnOk r (now ≡ record desk { vault = now.vault; down = false }) → OnErr r (now ≡ record desk { vault = now.vault })
+        → OnOk r (eras ≡ slice_set old.eras id (era_shown old.council.plan (era_at old id) (kept_of now.vault).era)) → OnErr r (eras ≡ old.eras) → record (with_desk old id now) { eras = eras } ≡ step.restarted old id now
+    by_eras (Ok x) ok err shown same =
+        ap (λ (l : List Era). record (with_desk old id now) { eras = l }) shown
+        ∙ ap (λ (d : Bool). record (with_desk old id now) { eras = if d then old.eras else slice_set old.eras id (era_shown old.council.plan (era_at old id) (kept_of now.vault).era) }) (sym (ap (λ (d : DeskView V). d.down) ok))
+    by_eras (Err e) ok err shown same =
+        ap (λ (l : List Era). record (with_desk old id now) { eras = l }) same
+        ∙ ap (λ (d : Bool). record (with_desk old id now) { eras = if d then old.eras else slice_set old.eras id (era_shown old.council.plan (era_at old id) (kept_of now.vault).era) }) (sym (ap (λ (d : DeskView V). d.down) err ∙ down))
 
 -- ---- copies
 abbrev pub HaveCopies : {V : Type 0} → List (DeskView V) → List Caller → Type 0

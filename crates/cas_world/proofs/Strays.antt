@@ -18,14 +18,14 @@ use Rattle.cas_cluster.proofs.Places.{at_one}
 use Rattle.cas_cluster.proofs.SafeParts.{low_at}
 use Rattle.cas_cluster.proofs.SafeStops.{votes_few}
 use Rattle.cas_cluster.specs.Council.{reserved_by}
-use Rattle.cas_world.specs.Council.{council_view}
-use Rattle.cas_world.specs.declared.council.Council.{Council}
-use Rattle.cas_world.specs.Call as calls
+use Rattle.cas_calls.specs.Council.{council_view}
+use Rattle.cas_calls.specs.declared.council.Council.{Council}
+use Rattle.cas_calls.specs.Call as calls
 use Rattle.cas_world.specs.Serve.{KeepsAll, was_down, goes_down}
 use Rattle.cas_world.specs.Stray.{is_answered, is_down, at_desk, nowhere, LetsIn, asks, arrives}
 use Rattle.cas_world.specs.Turn.{Arrives}
 use Rattle.cas_world.specs.World.{caller_view, view_of, IsWorld}
-use Rattle.cas_world.specs.declared.call.Caller.{Caller}
+use Rattle.cas_calls.specs.declared.call.Caller.{Caller}
 use Rattle.cas_world.proofs.Parts.{set_same, some_and, Remembers}
 use Rattle.cas_world.proofs.Reserving.{sum_seen}
 use Rattle.cas_world.proofs.Turns.{parts_same, KeepsCopies, KeepsDesks, desks_stay, desks_set, hears_keep, keeps_any, find_no_room}

@@ -12,12 +12,12 @@ use Rattle.cas_flow.specs.Flow.{FlowView, queue_at, with_queue, taken}
 use Rattle.cas_flow.specs.Queue.{pushed}
 use Rattle.cas_slot.specs.declared.message.Request.{Request}
 use Rattle.cas_cluster.specs.View.{ShelfMeaning}
-use Rattle.cas_world.specs.Call.{harmed_by, harms_marked}
+use Rattle.cas_calls.specs.Call.{harmed_by, harms_marked}
 use Rattle.cas_world.specs.Serve.{mark_in, Serves}
 use Rattle.cas_world.specs.Turn.{Makes, Harms, Asks, is_answered, silent, marking}
 use Rattle.cas_world.specs.declared.serve.Served.TheVariants as served
-use Rattle.cas_world.specs.declared.call.Caller.{Caller}
-use Rattle.cas_world.specs.declared.call.OpenCall.{OpenCall}
+use Rattle.cas_calls.specs.declared.call.Caller.{Caller}
+use Rattle.cas_calls.specs.declared.call.OpenCall.{OpenCall}
 
 -- ---- the first of those that wait
 pub none_waits : (messages : List Message) → None ≡ option_map head_of (slice_get messages 0) → messages ≡ []

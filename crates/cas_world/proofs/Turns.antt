@@ -33,14 +33,14 @@ use Rattle.cas_cluster.proofs.FrameSteps.{taken_own}
 use Rattle.cas_cluster.proofs.Places.{some_is, at_one, at_set, but_set}
 use Rattle.cas_cluster.proofs.SafeParts.{reserved_set, at_low, low_at}
 use Rattle.cas_cluster.proofs.SafeStops.{reserves_one, votes_few}
-use Rattle.cas_world.specs.declared.council.Council.{Council}
-use Rattle.cas_world.specs.Call.{harmed_by, harms_marked}
+use Rattle.cas_calls.specs.declared.council.Council.{Council}
+use Rattle.cas_calls.specs.Call.{harmed_by, harms_marked}
 use Rattle.cas_world.specs.Serve.{was_down, goes_down, KeepsAll, nothing_asked, was_kept}
 use Rattle.cas_world.specs.Turn.{MayMark, Makes, Harms, Handles, asks, arrives, is_answered, is_down, marking, silent}
 use Rattle.cas_world.specs.World.{call_view, caller_view, view_of, HasCopies, IsWorld}
-use Rattle.cas_world.specs.declared.proposal.Copies.{Copies}
-use Rattle.cas_world.specs.declared.call.Caller.{Caller}
-use Rattle.cas_world.specs.declared.call.OpenCall.{OpenCall}
+use Rattle.cas_calls.specs.declared.proposal.Copies.{Copies}
+use Rattle.cas_calls.specs.declared.call.Caller.{Caller}
+use Rattle.cas_calls.specs.declared.call.OpenCall.{OpenCall}
 use Rattle.cas_world.proofs.Parts.{at_place, set_same, some_and, Remembers}
 use Rattle.cas_world.proofs.Turning.{one_waits}
 

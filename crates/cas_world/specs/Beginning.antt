@@ -12,19 +12,20 @@ use Rattle.cas_cache.specs.Entries.{promise_at}
 use Rattle.cas_vault.specs.Vault.{counter_of, kept_of}
 use Rattle.cas_record.specs.declared.answer.Answer.{Answer}
 use Rattle.cas_record.specs.declared.answer.Answer.TheVariants as answer
-use Rattle.cas_cluster.specs.StepCalls.{Sends, prepares_to, accepts_to, WasMet}
+use Rattle.cas_cluster.specs.Council.{Council}
+use Rattle.cas_cluster.specs.StepCalls.{Sends, prepares_to, accepts_to, WasMet, Rescans}
 use Rattle.cas_cluster.specs.StepDesks.{BeginsToPrepare, BeginsByPromise, HasKept, FailsToDraw, LosesMemory}
 use Rattle.cas_cluster.specs.Step.{Step, Begin, RefuseBegin}
 use Rattle.cas_cluster.specs.View.{Meaning, DiskMeaning, View, CallView, CallerView, IsAt}
 use Rattle.cas_record.specs.declared.mark.Mark.{Mark}
 use Rattle.cas_record.specs.declared.mark.Mark.TheVariants.{Begun}
-use Rattle.cas_world.specs.Call.{again, over, with_proposal, reserved_of}
+use Rattle.cas_calls.specs.Call.{again, over, with_proposal, reserved_of}
 use Rattle.cas_world.specs.declared.begin.Opening.{Opening}
-use Rattle.cas_world.specs.declared.call.Caller.{Caller}
-use Rattle.cas_world.specs.declared.call.OpenCall.{OpenCall}
-use Rattle.cas_world.specs.declared.proposal.Author.{Author}
-use Rattle.cas_world.specs.declared.proposal.Proposing.{Proposing}
-use Rattle.cas_world.specs.Proposing.{proposing_of}
+use Rattle.cas_calls.specs.declared.call.Caller.{Caller}
+use Rattle.cas_calls.specs.declared.call.OpenCall.{OpenCall}
+use Rattle.cas_calls.specs.declared.proposal.Author.{Author}
+use Rattle.cas_calls.specs.declared.proposal.Proposing.{Proposing}
+use Rattle.cas_calls.specs.Proposing.{proposing_of}
 use Rattle.cas_world.specs.World.{WasTold}
 
 -- what a new call keeps, and the mark of its beginning
@@ -104,6 +105,17 @@ settled_marks opening (Ok (Some proposing)) = entry_marks opening ++ proposing.m
 settled_marks opening (Err (answer.NoMemory proposed)) = []
 settled_marks opening (Err told) = entry_marks opening
 
+-- ---- what the operator's call is told of it
+-- A new call is refused: where it would have proposed anew the key that is due, the operator's call is told so.
+abbrev pub Heeds : Option OpenCall → Council → ℕ → List ℕ → Answer → Council → Type 0
+Heeds None old id key told new = Rescans old id key told new
+Heeds (Some call) old id key told new = new ≡ old
+
+-- so it is where no memory is found for its round
+abbrev pub HeedsLoss : Option OpenCall → Council → ℕ → List ℕ → Result (Option Proposing) Answer → Council → Type 0
+HeedsLoss call old id key (Err (answer.NoMemory proposed)) new = Heeds call old id key (answer.NoMemory proposed) new
+HeedsLoss call old id key other new = new ≡ old
+
 -- ---- the whole
 -- a new call may begin with the next number, and another round of the open one where the last one ended with a conflict
 pub data MayBegin {S V : Type 0} (view : View S V) (id number : ℕ) (key : List ℕ) (program : List Clause) : Type 0 where
@@ -134,8 +146,9 @@ is_refusal answer.RecordFull = true
 is_refusal (answer.NoMemory proposed) = true
 is_refusal other = false
 
--- the call begins or goes on, and its round is open or its caller is told why not; or a new call is not begun
+-- the call begins or goes on, and its round is open or its caller is told why not; or a new call is not begun, and where it would have
+-- proposed anew the key that is due the operator's call is told the same
 abbrev pub BeginsOrNot : {S V A : Type 0} → Meaning S V → View S V → ℕ → ℕ → List ℕ → List Clause → Result A Answer → View S V → Type 0
 BeginsOrNot m old id number key program (Ok done) new = Step m old (Begin id key program) new × HasRound new id number
 BeginsOrNot m old id number key program (Err told) new = (Step m old (Begin id key program) new × WasTold new id number told × (HasNoCall old id → is_refusal told ≡ false))
-    ⊎ (Step m old (RefuseBegin id key) new × HasNoCall old id × ((told ≡ answer.RecordFull) ⊎ (told ≡ answer.NoMemory false)))
+    ⊎ (Step m old (RefuseBegin id key) new × HasNoCall old id × ((told ≡ answer.RecordFull) ⊎ (told ≡ answer.NoMemory false)) × Rescans old.council id key told new.council)

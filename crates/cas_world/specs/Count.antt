@@ -11,10 +11,10 @@ use Rattle.cas_record.specs.declared.mark.Mark.TheVariants.{Acked}
 use Rattle.cas_cluster.specs.StepCalls.{offered_by}
 use Rattle.cas_cluster.specs.StepDesks.{EndsRound}
 use Rattle.cas_cluster.specs.View.{DiskMeaning}
-use Rattle.cas_world.specs.Call.{over}
-use Rattle.cas_world.specs.declared.call.Caller.{Caller}
-use Rattle.cas_world.specs.declared.call.OpenCall.{OpenCall}
-use Rattle.cas_world.specs.declared.proposal.Copies.{Copies}
+use Rattle.cas_calls.specs.Call.{over}
+use Rattle.cas_calls.specs.declared.call.Caller.{Caller}
+use Rattle.cas_calls.specs.declared.call.OpenCall.{OpenCall}
+use Rattle.cas_calls.specs.declared.proposal.Copies.{Copies}
 
 -- an accept phase whose end has all that it needs: the copies of what was proposed, and a mark with its room
 pub record MayCount {V : Type 0} (desk : DeskView V) (caller : Caller) (left : ℕ) : Type 0 where

@@ -1,28 +1,33 @@
 -- The operator's calls, and the exchange in which proposer 0 asks all members.
-use Rattle.std.specs.Prelude.{◌≡◌, ℕ, zero, ◌<◌, ◌^◌, Bool, true, false, if◌then◌else◌, List, [], Option, None, Some, slice_get}
+use Rattle.std.specs.Prelude.{◌≡◌, ℕ, zero, ◌<◌, ◌^◌, ◌&&◌, not, Bool, true, false, if◌then◌else◌, List, [], Option, None, Some, slice_get}
 use Rattle.cas_ballot.specs.declared.ballot.Ballot.{Ballot}
+use Rattle.cas_ballot.specs.Members.{has_member, members_where}
 use Rattle.cas_fate.specs.declared.fate.Verdict.{Verdict}
 use Rattle.cas_flow.specs.Flow.{FlowView, queue_at}
 use Rattle.cas_flow.specs.declared.message.Message.TheVariants as message
 use Rattle.cas_proposer.specs.Desk.{DeskView}
 use Rattle.cas_slot.specs.declared.message.Request.{Request}
 use Rattle.cas_vault.specs.Vault.{counter_of, kept_of}
+use Rattle.cas_vault.specs.declared.error.VaultError.{VaultError}
+use Rattle.cas_vault.specs.declared.error.VaultError.TheVariants as error
 use Rattle.cas_record.specs.declared.answer.Answer.{Answer}
 use Rattle.cas_record.specs.declared.answer.Answer.TheVariants as answer
 use Rattle.cas_record.specs.declared.operator.OpAnswer.{OpAnswer}
 use Rattle.cas_record.specs.declared.operator.OpAnswer.TheVariants as op
 use Rattle.cas_record.specs.declared.operator.Probes.{Probes}
-use Rattle.cas_cluster.specs.Council.{Question, Probe, ExchangeView, OrderView, exchange_place}
+use Rattle.cas_cluster.specs.Council.{MemberPlace, ListingView, PlanView, place_in, has_ended, with_listing, Question, Probe, NextKeys, ExchangeView, OrderView, exchange_place}
 use Rattle.cas_cluster.specs.Step.{Event, Turn, RefuseTurn, TurnExchange, RefuseTurnExchange}
 use Rattle.cas_cluster.specs.StepCalls.{Sends, most_marks}
-use Rattle.cas_cluster.specs.StepCouncil.{IsForQuestion, SaysTheSame, questions_to, new_exchange}
-use Rattle.cas_cluster.specs.StepDesks.{HasDrawn, HasKept, FailsToDraw, LosesMemory}
+use Rattle.cas_cluster.specs.StepCouncil.{everyone, places_from, begun_listing, IsForQuestion, SaysTheSame, HasTag, WhereDrawn, questions_to, new_exchange}
+use Rattle.cas_cluster.specs.StepDesks.{HasKept, FailsToDraw, LosesMemory}
 use Rattle.cas_cluster.specs.View.{DiskMeaning, View}
 use Rattle.cas_world.specs.Beginning.{HasNoCall}
-use Rattle.cas_world.specs.Council.{exchange_view}
-use Rattle.cas_world.specs.declared.council.Gathered.{Gathered}
-use Rattle.cas_world.specs.declared.council.Gathered.TheVariants as gathered
-use Rattle.cas_world.specs.declared.council.OpenExchange.{OpenExchange}
+use Rattle.cas_calls.specs.Council.{exchange_view, goes_on_in, listed_if, listed_with}
+use Rattle.cas_calls.specs.declared.council.Exchange.{Exchange}
+use Rattle.cas_calls.specs.declared.council.Exchange.TheVariants as what
+use Rattle.cas_calls.specs.declared.council.Gathered.{Gathered}
+use Rattle.cas_calls.specs.declared.council.Gathered.TheVariants as gathered
+use Rattle.cas_calls.specs.declared.council.Opened.{Opened}
 
 -- ---- which frames have their turn
 -- while an exchange is open, its frames are those of proposer 0
@@ -48,11 +53,29 @@ pub record WasToldOrder {S V : Type 0} (view : View S V) (answer : OpAnswer) : T
   pub was_said : order.told ≡ Some said
   pub same : SaysTheSame said answer
 
+-- what is asked of these members: a listing goes on from its places, and begins where each of them has come nowhere yet
+abbrev pub question_from : List ℕ → Option ListingView → Exchange → Question
+question_from members goes_on (what.Probe key) = Probe key
+question_from members goes_on what.List = NextKeys (places_from members goes_on)
+
+abbrev pub question_in : {S V : Type 0} → View S V → Exchange → Question
+question_in view what = question_from (everyone view) (goes_on_in view.council what) what
+
+-- those that are asked: in a listing that goes on, those whose listing has not ended
+abbrev pub asked_from : List ℕ → Option ListingView → List ℕ
+asked_from members None = members
+asked_from members (Some listing) = members_where (λ member. has_member members member && not (has_ended (place_in listing.places member)))
+
+-- the listing that begins
+abbrev pub begins_with : List ℕ → Option ListingView → Exchange → Ballot → Option ListingView
+begins_with members None what.List tag = Some (begun_listing (places_from members None) tag None)
+begins_with members goes_on other tag = None
+
 -- it was opened for just that, no exchange is open, and caller 0 has no open call
 pub record MayAsk {S V : Type 0} (view : View S V) (question : Question) : Type 0 where
   pub order : OrderView
   pub is_open : view.council.order ≡ Some order
-  pub is_for : IsForQuestion order.asked question
+  pub is_for : IsForQuestion (everyone view) view.council None order.asked question
   pub none_open : view.council.exchange ≡ None
   pub idle : HasNoCall view 0
 
@@ -65,30 +88,40 @@ pub record MayGather {S V : Type 0} (view : View S V) : Type 0 where
   pub none_waits : (queue_at view.flow exchange_place).messages ≡ []
 
 -- ---- what they answer
--- the call may tell what was found, with its key
+-- the call may tell what was found, with its key; or a listing went on, and is complete or not
 pub data HasGathered {S V : Type 0} (old : View S V) (result : Gathered) (new : View S V) : Type 0 where
   probed : (exchange : ExchangeView) (key : List ℕ) (found : Probes) → old.council.exchange ≡ Some exchange → exchange.question ≡ Probe key → result ≡ gathered.Probed found → found.probes.items ≡ exchange.told
       → WasToldOrder new (op.Probed key found) → HasGathered old result new
+  lists : (exchange : ExchangeView) (places : List MemberPlace) (plan : PlanView) (listing : ListingView) → old.council.exchange ≡ Some exchange → exchange.question ≡ NextKeys places
+      → old.council.plan ≡ Some plan → result ≡ listed_if listing.complete → new.council ≡ listed_with old.council (with_listing plan listing) → HasGathered old result new
 
 -- the request stands in front of the exchange's frames
 abbrev pub IsAsked : {S V : Type 0} → View S V → Request → Type 0
 IsAsked view request = slice_get (queue_at view.flow exchange_place).messages 0 ≡ Some (message.Request request)
 
 -- ---- an exchange that opens
--- a tag is drawn, and each member is asked
-pub record Opens {V : Type 0} (m : DiskMeaning V) (old new : DeskView V) (before after : FlowView) (question : Question) (members : List ℕ) (exchange : OpenExchange) : Type 0 where
+-- it has a tag, and each of those that are to be asked is
+pub record Opens {V : Type 0} (m : DiskMeaning V) (old new : DeskView V) (before after : FlowView) (members : List ℕ) (goes_on : Option ListingView) (what : Exchange) (opened : Opened) : Type 0 where
   pub up : old.down ≡ false
   pub tag : Ballot
-  pub drawn : HasDrawn m old.id old.vault new.vault tag
+  pub tagged : HasTag m goes_on old new tag
   pub desk : new ≡ record old { vault = new.vault }
-  pub sends : Sends before exchange_place (questions_to (kept_of old.vault).age tag question members) after
-  pub opened : exchange_view exchange ≡ new_exchange question tag members
+  pub sends : Sends before exchange_place (questions_to (kept_of old.vault).age tag (question_from members goes_on what) (asked_from members goes_on)) after
+  pub exchange : exchange_view opened.exchange ≡ new_exchange (question_from members goes_on what) tag (asked_from members goes_on)
+  pub begun : opened.begun ≡ begins_with members goes_on what tag
 
 -- why none opens, and what becomes of the desk
-abbrev pub FailsToAsk : {V : Type 0} → DiskMeaning V → DeskView V → DeskView V → ℕ → Answer → Type 0
-FailsToAsk m old new marks answer.Down = (old.down ≡ true) × (new ≡ old)
-FailsToAsk m old new marks answer.RecordFull = (old.down ≡ false) × (new ≡ old) × (most_marks < marks)
-FailsToAsk m old new marks answer.Spent = (old.down ≡ false) × (counter_of old.vault ≡ 2 ^ 48) × HasKept m old.vault new.vault × (new ≡ record old { vault = new.vault })
-FailsToAsk m old new marks answer.VaultFault = (old.down ≡ false) × FailsToDraw m [] old new
-FailsToAsk m old new marks (answer.NoMemory proposed) = (proposed ≡ false) × (old.down ≡ false) × (ballot : Option Ballot) × LosesMemory m [] old new ballot
-FailsToAsk m old new marks other = ⊥
+abbrev pub FailsToAsk : {V : Type 0} → DiskMeaning V → DeskView V → DeskView V → Option ListingView → ℕ → Answer → Type 0
+FailsToAsk m old new goes_on marks answer.Down = (old.down ≡ true) × (new ≡ old)
+FailsToAsk m old new goes_on marks answer.RecordFull = (old.down ≡ false) × (new ≡ old) × (most_marks < marks)
+FailsToAsk m old new goes_on marks answer.Spent = (old.down ≡ false) × WhereDrawn goes_on (counter_of old.vault ≡ 2 ^ 48) × HasKept m old.vault new.vault × (new ≡ record old { vault = new.vault })
+FailsToAsk m old new goes_on marks answer.VaultFault = (old.down ≡ false) × WhereDrawn goes_on (FailsToDraw m [] old new)
+FailsToAsk m old new goes_on marks (answer.NoMemory proposed) = (proposed ≡ false) × (old.down ≡ false) × (ballot : Option Ballot) × LosesMemory m [] old new ballot
+FailsToAsk m old new goes_on marks other = ⊥
+
+-- why there is no tag
+abbrev pub FailsToTag : {V : Type 0} → DiskMeaning V → Option ListingView → DeskView V → DeskView V → VaultError → Type 0
+FailsToTag m goes_on old new error.Spent = WhereDrawn goes_on (counter_of old.vault ≡ 2 ^ 48) × HasKept m old.vault new.vault × (new ≡ record old { vault = new.vault })
+FailsToTag m goes_on old new error.VaultFault = WhereDrawn goes_on (FailsToDraw m [] old new)
+FailsToTag m goes_on old new error.NoMemory = LosesMemory m [] old new None
+FailsToTag m goes_on old new (error.Foreign at) = ⊥

@@ -1,15 +1,12 @@
-pub mod Answers
 pub mod Beginning
-pub mod Call
-pub mod Council
 pub mod Count
 pub mod Exchange
+pub mod Moving
 pub mod Opening
-pub mod Proposing
+pub mod Plans
 pub mod Readers
 pub mod Reading
 pub mod Restarting
-pub mod Sending
 pub mod Serve
 pub mod Stray
 pub mod Turn

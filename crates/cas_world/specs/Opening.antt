@@ -10,7 +10,7 @@ use Rattle.cas_slot.specs.declared.fault.ShelfFault.{ShelfFault}
 use Rattle.cas_slot.specs.declared.fault.ShelfFault.TheVariants as shelf_fault
 use Rattle.cas_vault.specs.Vault.{disk_of, counter_of, kept_of, fresh, KeptOn}
 use Rattle.cas_cluster.specs.View.{Meaning, ShelfMeaning, DiskMeaning, IsAt}
-use Rattle.cas_world.specs.declared.call.Caller.{Caller}
+use Rattle.cas_calls.specs.declared.call.Caller.{Caller}
 use Rattle.cas_world.specs.declared.fault.OpenFault.{OpenFault}
 use Rattle.cas_world.specs.declared.fault.OpenFault.TheVariants.{DiskFault, NoMemory}
 

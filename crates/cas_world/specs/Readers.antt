@@ -1,15 +1,14 @@
 -- What is read of a world without changing it.
-use Rattle.std.specs.Prelude.{◌≡◌, ◌↔◌, ℕ, ◌+◌, Bool, true, not, ◌&&◌, Option, None, Some, option_map, if◌then◌else◌, IsSomeAnd}
+use Rattle.std.specs.Prelude.{◌≡◌, ◌↔◌, ℕ, ◌+◌, Bool, true, not, ◌&&◌, List, Option, None, Some, option_map, if◌then◌else◌, IsSomeAnd}
 use Rattle.cas_acceptor.specs.Acceptor.{AcceptorView}
-use Rattle.cas_ballot.specs.Members.{has_member, union_of}
-use Rattle.cas_quorum.specs.declared.era.Era.{Era}
+use Rattle.cas_ballot.specs.Members.{has_member}
 use Rattle.cas_proposer.specs.Round.{IsVerdictOf, has_quorum}
 use Rattle.cas_proposer.specs.declared.round.Round.{Round}
 use Rattle.cas_record.specs.declared.answer.Answer.{Answer}
 use Rattle.cas_round.specs.declared.verdict.RoundVerdict.{RoundVerdict}
 use Rattle.cas_round.specs.declared.verdict.RoundVerdict.TheVariants.{Quorum}
 use Rattle.cas_cluster.specs.View.{CallView, CallerView}
-use Rattle.cas_world.specs.Answers.{is_done}
+use Rattle.cas_cluster.specs.Protocol.{is_done}
 
 -- the number of the caller's next call
 abbrev pub next_number : CallerView → ℕ
@@ -30,6 +29,6 @@ abbrev pub IsVerdictIn : Option Round → Option RoundVerdict → Type 0
 IsVerdictIn None verdict = verdict ≡ None
 IsVerdictIn (Some round) verdict = IsSomeAnd verdict (λ v. IsVerdictOf round v × ((v ≡ Quorum) ↔ (has_quorum round.phase ≡ true)))
 
--- whether an acceptor is up, where it is a member of the era
-abbrev pub up_in : {S : Type 0} → Era → ℕ → Option (AcceptorView S) → Option Bool
-up_in era id acceptor = if has_member (union_of era.prep era.acc) id then option_map (λ a. not a.down) acceptor else None
+-- whether an acceptor is up, where it is one of these
+abbrev pub up_in : {S : Type 0} → List ℕ → ℕ → Option (AcceptorView S) → Option Bool
+up_in used id acceptor = if has_member used id then option_map (λ a. not a.down) acceptor else None

@@ -18,10 +18,10 @@ use Rattle.cas_cluster.specs.Proposers.{state_read}
 use Rattle.cas_cluster.specs.StepCalls.{Sends, accepts_to, refusal_by}
 use Rattle.cas_cluster.specs.StepDesks.{TurnsWith, EndsRound}
 use Rattle.cas_cluster.specs.View.{DiskMeaning, View, CallView, CallerView, IsAt}
-use Rattle.cas_world.specs.Proposing.{proposing_of, FailsToPropose}
-use Rattle.cas_world.specs.declared.call.Caller.{Caller}
-use Rattle.cas_world.specs.declared.call.OpenCall.{OpenCall}
-use Rattle.cas_world.specs.declared.proposal.Proposing.{Proposing}
+use Rattle.cas_calls.specs.Proposing.{proposing_of, FailsToPropose}
+use Rattle.cas_calls.specs.declared.call.Caller.{Caller}
+use Rattle.cas_calls.specs.declared.call.OpenCall.{OpenCall}
+use Rattle.cas_calls.specs.declared.proposal.Proposing.{Proposing}
 
 -- a prepare phase that may end, of an open call for the same key
 pub record MayPropose {V : Type 0} (desk : DeskView V) (caller : Caller) (flow : FlowView) (proposer : ℕ) : Type 0 where

@@ -14,10 +14,10 @@ use Rattle.cas_slot.specs.declared.message.Request.{Request}
 use Rattle.cas_cluster.specs.StepAcceptors.{AnswersByTable}
 use Rattle.cas_cluster.specs.StepFrames.{replied_flow, votes_marked}
 use Rattle.cas_cluster.specs.View.{ShelfMeaning, IsAt}
-use Rattle.cas_world.specs.Call.{harmed_by, harms_marked}
+use Rattle.cas_calls.specs.Call.{harmed_by, harms_marked}
 use Rattle.cas_world.specs.Serve.{FindsDown}
-use Rattle.cas_world.specs.declared.call.Caller.{Caller}
-use Rattle.cas_world.specs.declared.call.OpenCall.{OpenCall}
+use Rattle.cas_calls.specs.declared.call.Caller.{Caller}
+use Rattle.cas_calls.specs.declared.call.OpenCall.{OpenCall}
 
 -- ---- a caller and the record
 -- its call is open, and a mark is reserved for it

@@ -6,17 +6,20 @@ ghost use Rattle.cas_cache.specs.Entries.{promise_at};
 ghost use Rattle.cas_cluster.specs.StepCalls.{Sends, prepares_to, round_marks, IsFull};
 ghost use Rattle.cas_causes.specs.Told.{BeginsBy};
 ghost use Rattle.cas_cluster.specs.View.{meaning};
-ghost use Rattle.cas_world.specs.Answers.{is_done};
-ghost use Rattle.cas_world.specs.Beginning.{opening_of, refused, entered, entry_marks, settled, settled_marks, OpensRound, FailsToOpen, reserved_beside, MayBegin, BeginsOrNot};
-ghost use Rattle.cas_world.specs.Call.{reserved_of};
-ghost use Rattle.cas_world.specs.declared.call.Caller.{Caller as ACaller};
-ghost use Rattle.cas_world.specs.Proposing.{disks};
+ghost use Rattle.cas_cluster.specs.Protocol.{is_done};
+ghost use Rattle.cas_world.specs.Beginning.{opening_of, refused, entered, entry_marks, settled, settled_marks, OpensRound, FailsToOpen, reserved_beside, MayBegin, BeginsOrNot, Heeds, HeedsLoss};
+ghost use Rattle.cas_calls.specs.Council.{council_view};
+ghost use Rattle.cas_calls.specs.Call.{reserved_of};
+ghost use Rattle.cas_calls.specs.declared.call.Caller.{Caller as ACaller};
+ghost use Rattle.cas_calls.specs.Proposing.{disks};
 
-use crate::call::{Caller, OpenCall, reserved_by};
-use crate::proposal::{Author, Proposing, propose_on};
-use crate::send::send_to;
+use crate::proposing::propose_on;
 use crate::world::World;
 use cas_ballot::Ballot;
+use cas_calls::call::{Caller, OpenCall, reserved_by};
+use cas_calls::council::Council;
+use cas_calls::proposal::{Author, Proposing};
+use cas_calls::send::send_to;
 use cas_change::{Key, Program};
 use cas_disk::Disk;
 use cas_flow::Flow;
@@ -44,7 +47,7 @@ impl<S: Shelf, V: Disk> World<S, V> {
     /// members; [`Answer::NoMemory`], which may come at any place; [`Answer::Down`]; [`Answer::Spent`]; [`Answer::VaultFault`]. A call
     /// that is refused by one of the first two at its first round is not begun, and all is as before, but that after
     /// [`Answer::NoMemory`] a ballot may be drawn and the promise of the key may be gone. One that is refused otherwise is begun, and
-    /// to be ended.
+    /// to be ended. Where a call of caller 0 is not begun for the key that [`World::settle_key`] names, the operator's call is told so.
     pub fn begin(
         &mut self,
         caller: u8,
@@ -74,12 +77,51 @@ impl<S: Shelf, V: Disk> World<S, V> {
             program,
         ) {
             Ok(opening) => opening,
-            Err(refusal) => return Err(refuse(&mut self.callers[place], refusal)),
+            Err(refusal) => {
+                let asking = &self.callers[place];
+                heed(asking, &mut self.council, caller, key, &refusal);
+                return Err(refuse(&mut self.callers[place], refusal));
+            }
         };
         let desk = &mut self.desks[place];
         let begun = open_round(alloc, desk, &mut self.flow, &era, author, key, program);
+        let asking = &self.callers[place];
+        heed_loss(asking, &mut self.council, caller, key, &begun);
         let caller = &mut self.callers[place];
         settle(caller, &mut self.record, opening, marks, begun)
+    }
+}
+
+/// A round was refused before it began. Where that was to be a new call which proposes anew the key that is due, the operator's call is
+/// told so.
+fn heed(asking: &Caller, council: &mut Council, caller: u8, key: &Key, refusal: &Answer)
+    ensures heeds { Heeds asking.now.call (council_view council.old) caller key.now refusal.now (council_view council.new) }
+    ensures eras { council.new.eras ≡ council.old.eras }
+{
+    if asking.call.is_none() {
+        council.end(caller, key, refusal);
+    }
+}
+
+/// The same, where it was refused for want of memory as it was opened.
+fn heed_loss(
+    asking: &Caller,
+    council: &mut Council,
+    caller: u8,
+    key: &Key,
+    begun: &Result<Option<Proposing>, Answer>,
+)
+    ensures heeds { HeedsLoss asking.now.call (council_view council.old) caller key.now begun.now (council_view council.new) }
+    ensures eras { council.new.eras ≡ council.old.eras }
+{
+    match begun {
+        Err(Answer::NoMemory { proposed }) => {
+            let refusal = Answer::NoMemory {
+                proposed: *proposed,
+            };
+            heed(asking, council, caller, key, &refusal);
+        }
+        _ => (),
     }
 }
 

@@ -16,6 +16,10 @@ use cas_slot::Shelf;
 impl<S: Shelf, V: Disk> World<S, V> {
     /// Ends the caller's open call with the answer that it was told last: marks it, and hands it back. A round that is open is closed,
     /// and its frames join the late ones. It takes no memory.
+    ///
+    /// Where caller 0 is told that the key is done which [`World::settle_key`] names, and the operator's call asks for the change of
+    /// membership that is under way, the key is counted, and with the last one the era is settled. Where caller 0 is told otherwise of that
+    /// key, the operator's call is told that it stopped, and why.
     pub fn end(&mut self, caller: u8, call: u32, answer: Answer) -> Answer
         requires known { caller ≤ self.old.greatest }
         requires told { WasTold self.old caller call answer }
@@ -25,12 +29,13 @@ impl<S: Shelf, V: Disk> World<S, V> {
         let place = usize::from(caller);
         close(&mut self.desks[place]);
         self.flow.abandon(caller);
-        let (rounds, told) = self.callers[place].end_call();
+        let ended = self.callers[place].end_call();
+        self.council.end(caller, &ended.key, &ended.told);
         self.record.push(Mark::Ended {
             caller,
             call,
-            rounds,
-            answer: told,
+            rounds: ended.rounds,
+            answer: ended.told,
         });
         answer
     }

@@ -1,37 +1,39 @@
 //! The operator's calls, and the exchange in which proposer 0 asks all members.
 
-ghost use Rattle.std.specs.Prelude.{◌≡◌, ◌≢◌, ◌⊎◌, ◌↔◌, ◌+◌, ◌<◌, ◌≤◌, ◌++◌, [], None, Some, false, length, IsSome, IsErrOf, IfOk, IfErr, OnOk, OnErr};
+ghost use Rattle.std.specs.Prelude.{◌≡◌, ◌≢◌, ◌⊎◌, ◌↔◌, ◌+◌, ◌<◌, ◌≤◌, ◌++◌, [], None, Some, Ok, false, length, IsSome, IsErrOf, IfOk, IfErr, IfSome, OnOk, OnErr, option_copied};
 ghost use Rattle.cas_flow.specs.Flow.{queue_at};
 ghost use Rattle.cas_flow.specs.Message.{CanBeSent};
 ghost use Rattle.cas_flow.specs.Queue.{fall_of};
 ghost use Rattle.cas_flow.specs.declared.message.Message.TheVariants as message;
-ghost use Rattle.cas_cluster.specs.Council.{Probe, exchange_place};
+ghost use Rattle.cas_cluster.specs.Council.{exchange_place};
 ghost use Rattle.cas_cluster.specs.Step.{Step, Order as Orders, RefuseOrder, Tell, AskAll, TurnExchange, RefuseTurnExchange, Gather};
 ghost use Rattle.cas_cluster.specs.StepFrames.{FindsNoRoom};
 ghost use Rattle.cas_cluster.specs.View.{meaning, reserved_in_all};
 ghost use Rattle.cas_ballot.specs.Ballot.{FitsBallot};
 ghost use Rattle.cas_cluster.specs.StepCalls.{Sends};
-ghost use Rattle.cas_cluster.specs.StepCouncil.{new_exchange, questions_to, told_marks};
-ghost use Rattle.cas_world.specs.Council.{question_of, exchange_view};
-ghost use Rattle.cas_world.specs.Exchange.{MayAsk, MayGather, HasGathered, WasToldOrder, IsAsked, Opens, FailsToAsk};
-ghost use Rattle.cas_world.specs.Proposing.{disks};
+ghost use Rattle.cas_cluster.specs.StepCouncil.{new_exchange, questions_to, told_marks, HasTag};
+ghost use Rattle.cas_calls.specs.Council.{exchange_view, question_view, left_to_list};
+ghost use Rattle.cas_world.specs.Exchange.{MayAsk, MayGather, HasGathered, WasToldOrder, IsAsked, Opens, FailsToAsk, FailsToTag, question_in, question_from, asked_from, begins_with};
+ghost use Rattle.cas_world.specs.Plans.{MayTell};
+ghost use Rattle.cas_calls.specs.Proposing.{disks};
 
-use crate::answers::copy_of;
-use crate::council::{
-    EXCHANGE_PLACE, Exchange, Gathered, OpenExchange, Order, no_memory, reserved_in_all, unanswered,
-};
-use crate::send::send_to;
 use crate::serve::{Served, serve};
 use crate::turn::{first, peer_of};
 use crate::world::World;
 use cas_ballot::{Ballot, Members};
-use cas_change::Key;
+use cas_calls::answers::copy_of;
+use cas_calls::council::{
+    EXCHANGE_PLACE, Exchange, Gathered, OpenExchange, Opened, Order, Question, no_memory,
+    reserved_in_all, unanswered,
+};
+use cas_calls::send::send_questions;
 use cas_disk::Disk;
 use cas_fate::Verdict;
 use cas_flow::{Fall, Flow, Message};
+use cas_listing::{Listing, Places};
 use cas_proposer::Desk;
 use cas_record::{Answer, Asked, MOST_MARKS, Mark, OpAnswer, Record};
-use cas_slot::{Ask, Request, Shelf};
+use cas_slot::{Request, Shelf};
 use cas_vault::VaultError;
 use std::alloc::{AllocError, Global};
 
@@ -60,48 +62,54 @@ impl<S: Shelf, V: Disk> World<S, V> {
         }
     }
 
-    /// Ends the operator's call with the answer that it was told last: marks it, but for what a probe found, and hands it back. An
-    /// exchange that is open is over, and its frames join the late ones. It takes no memory.
+    /// Ends the operator's call: with the answer that its last step told; or, where that told nothing and the change of membership that
+    /// was asked for is at its end, with [`OpAnswer::Joined`] or [`OpAnswer::Left`], and the change is no longer under way then. It is
+    /// marked, but for what a probe found, and handed back. An exchange that is open is over, and its frames join the late ones; a
+    /// listing that is not complete is dropped. It takes no memory.
     pub fn tell(&mut self, answer: OpAnswer) -> OpAnswer
-        requires { WasToldOrder self.old answer }
+        requires { MayTell self.old answer }
         ensures same { result ≡ answer }
         ensures step { Step (meaning S.contents S.tells S.may_leave S.fault_count V.tells V.may_leave V.fault_count) self.old (Tell answer) self.new }
     {
         self.flow.abandon(EXCHANGE_PLACE);
-        let (asked, told) = self.council.close();
+        let Order { asked, told } = self.council.close();
+        let told = self.council.conclude(told, &answer);
         mark_told(&mut self.record, asked, told);
         answer
     }
 
-    /// Proposer 0, whose caller has no open call, draws a tag, and asks all members this, for which the operator's call was opened. The
-    /// marks of the harms are reserved.
+    /// Proposer 0, whose caller has no open call, asks this, for which the operator's call was opened: of all members what they keep for
+    /// a key, or of those whose listing has not ended their next keys. A tag is drawn, but that a listing goes on with the one that it
+    /// began with. The marks of the harms are reserved.
     ///
     /// The refusals, each of which the call is told, come in this order: [`Answer::Down`] exactly where proposer 0 is down;
-    /// [`Answer::RecordFull`] exactly where the marks that are made, all that are reserved and one for each member would be more than a
-    /// record holds; [`Answer::NoMemory`], after which the tag may be drawn, [`Answer::Spent`], and [`Answer::VaultFault`], after which
-    /// proposer 0 is down.
+    /// [`Answer::RecordFull`] exactly where the marks that are made, all that are reserved and one for each member that is asked would be
+    /// more than a record holds; [`Answer::NoMemory`], after which the tag may be drawn, [`Answer::Spent`], and [`Answer::VaultFault`],
+    /// after which proposer 0 is down.
     pub fn ask_all(&mut self, what: Exchange) -> Result<(), OpAnswer>
-        requires { MayAsk self.old (question_of what) }
-        ensures step { Step (meaning S.contents S.tells S.may_leave S.fault_count V.tells V.may_leave V.fault_count) self.old (AskAll (question_of what)) self.new }
+        requires { MayAsk self.old (question_in self.old what) }
+        ensures step { Step (meaning S.contents S.tells S.may_leave S.fault_count V.tells V.may_leave V.fault_count) self.old (AskAll (question_in self.old what)) self.new }
         ensures ok { OnOk result (IsSome self.new.council.exchange) }
         ensures none { OnErr result (self.new.council.exchange ≡ None) }
         ensures err { IfErr result (WasToldOrder self.new) }
     {
         let alloc = *self.acceptors.allocator();
-        let members = self.era().everyone();
+        let everyone = self.era().everyone();
         let reserved = reserved_in_all(&self.callers, &self.council);
+        let goes_on = self.council.listing_for(&what);
         let opened = open_exchange(
             alloc,
             &mut self.desks[0],
             &mut self.flow,
             &mut self.record,
             reserved,
-            members,
-            what.into_key(),
+            everyone,
+            goes_on,
+            what,
         );
         match opened {
-            Ok(exchange) => {
-                self.council.exchange = Some(exchange);
+            Ok(opened) => {
+                self.council.begin_exchange(opened);
                 Ok(())
             }
             Err(refusal) => {
@@ -112,11 +120,15 @@ impl<S: Shelf, V: Disk> World<S, V> {
     }
 
     /// Ends the exchange that is open, and tells what came of it. Where proposer 0 crashed within it the operator's call is told
-    /// [`Answer::Crashed`], before all else. After [`Answer::NoMemory`] it stays open.
+    /// [`Answer::Crashed`], before all else. A listing goes on by the next keys that members told; where those whose listing has ended and
+    /// those whose next keys arrived are no prepare quorum or no accept quorum, the call is told [`Answer::Aged`] with the greatest age
+    /// that a member told, or else [`Answer::Short`] with how many of the quorum that is missing they are. After [`Answer::NoMemory`] the
+    /// exchange stays open.
     pub fn gather(&mut self) -> Result<Gathered, OpAnswer>
         requires { MayGather self.old }
         ensures step { Step (meaning S.contents S.tells S.may_leave S.fault_count V.tells V.may_leave V.fault_count) self.old Gather self.new }
         ensures ok { IfOk result (λ found. HasGathered self.old found self.new) }
+        ensures less { result ≡ Ok Gathered.More → left_to_list self.new.council.plan < left_to_list self.old.council.plan }
         ensures err { IfErr result (WasToldOrder self.new) }
     {
         self.council.gather()
@@ -228,25 +240,27 @@ fn to_order(record: &mut Record, reserved: usize, asked: &Asked) -> Result<Order
     })
 }
 
-/// Reserves the marks of an exchange with these members, beside those that are reserved, draws its tag, and asks each of them. After an
-/// `Err` nothing is asked.
+/// Reserves the marks of an exchange, beside those that are reserved, and asks this of those members that are to be asked, with the tag of
+/// the listing that goes on or, where none does, with one that is drawn. After an `Err` nothing is asked.
 fn open_exchange<V: Disk>(
     alloc: Global,
     desk: &mut Desk<V>,
     flow: &mut Flow,
     record: &mut Record,
     reserved: usize,
-    members: Members,
-    key: Key,
-) -> Result<OpenExchange, Answer>
+    everyone: Members,
+    goes_on: Option<&Listing>,
+    what: Exchange,
+) -> Result<Opened, Answer>
     requires idle { desk.old.round ≡ None }
     requires proposer { desk.old.id ≤ 16 }
     requires queue { exchange_place < length flow.old.own }
     requires few { length «record».old.marks + reserved ≤ 1000000 }
-    ensures ok { IfOk result (λ exchange. Opens (disks V.tells V.may_leave V.fault_count) desk.old desk.new flow.old flow.new (Probe key) members exchange) }
-    ensures room { OnOk result (reserved + length members ≤ «record».new.room) }
-    ensures fits { OnOk result (length «record».old.marks + reserved + length members ≤ 1000000) }
-    ensures refused { IfErr result (FailsToAsk (disks V.tells V.may_leave V.fault_count) desk.old desk.new (length «record».old.marks + reserved + length members)) }
+    requires tag { IfSome (option_copied goes_on) (λ listing. FitsBallot listing.tag) }
+    ensures ok { IfOk result (λ opened. Opens (disks V.tells V.may_leave V.fault_count) desk.old desk.new flow.old flow.new everyone (option_copied goes_on.entry) what opened) }
+    ensures room { OnOk result (reserved + length (asked_from everyone (option_copied goes_on.entry)) ≤ «record».new.room) }
+    ensures fits { OnOk result (length «record».old.marks + reserved + length (asked_from everyone (option_copied goes_on.entry)) ≤ 1000000) }
+    ensures refused { IfErr result (FailsToAsk (disks V.tells V.may_leave V.fault_count) desk.old desk.new (option_copied goes_on.entry) (length «record».old.marks + reserved + length (asked_from everyone (option_copied goes_on.entry)))) }
     ensures not_sent { OnErr result (flow.new ≡ flow.old) }
     ensures marks { «record».new.marks ≡ «record».old.marks }
     ensures grows { «record».old.room ≤ «record».new.room }
@@ -254,6 +268,7 @@ fn open_exchange<V: Disk>(
     if desk.is_down() {
         return Err(Answer::Down);
     }
+    let members = members_asked(everyone, goes_on);
     let count = members.count() as usize;
     if record.marks().len() + reserved + count > MOST_MARKS {
         return Err(Answer::RecordFull);
@@ -262,9 +277,9 @@ fn open_exchange<V: Disk>(
         return Err(Answer::NoMemory { proposed: false });
     }
     let age = desk.age();
-    match desk.tag() {
-        Ok(tag) => match ask_members(alloc, flow, age, tag, members, key) {
-            Ok(exchange) => Ok(exchange),
+    match tag_for(desk, goes_on) {
+        Ok(tag) => match ask_members(alloc, flow, age, tag, everyone, goes_on, what) {
+            Ok(opened) => Ok(opened),
             Err(_) => Err(Answer::NoMemory { proposed: false }),
         },
         Err(VaultError::VaultFault) => Err(Answer::VaultFault),
@@ -274,34 +289,99 @@ fn open_exchange<V: Disk>(
     }
 }
 
-/// Asks each of these members, with the tag. After an `Err` nothing is asked.
+/// The members that are asked: in a listing that goes on, those whose listing has not ended.
+fn members_asked(everyone: Members, goes_on: Option<&Listing>) -> Members
+    ensures { result ≡ asked_from everyone (option_copied goes_on.entry) }
+{
+    match goes_on {
+        Some(listing) => listing.places().asked(&everyone),
+        None => everyone,
+    }
+}
+
+/// Asks each of these members this, with the tag: all of them or, after an `Err`, none.
 fn ask_members(
     alloc: Global,
     flow: &mut Flow,
     age: u64,
     tag: Ballot,
-    members: Members,
-    key: Key,
-) -> Result<OpenExchange, AllocError>
+    everyone: Members,
+    goes_on: Option<&Listing>,
+    what: Exchange,
+) -> Result<Opened, AllocError>
     requires queue { exchange_place < length flow.old.own }
     requires tag { FitsBallot tag }
-    ensures exchange { IfOk result (λ exchange. exchange_view exchange ≡ new_exchange (Probe key) tag members) }
-    ensures sent { OnOk result (Sends flow.old exchange_place (questions_to age tag (Probe key) members) flow.new) }
+    ensures exchange { IfOk result (λ opened. exchange_view opened.exchange ≡ new_exchange (question_from everyone (option_copied goes_on.entry) what) tag (asked_from everyone (option_copied goes_on.entry))) }
+    ensures begun { IfOk result (λ opened. opened.begun ≡ begins_with everyone (option_copied goes_on.entry) what tag) }
+    ensures sent { OnOk result (Sends flow.old exchange_place (questions_to age tag (question_from everyone (option_copied goes_on.entry) what) (asked_from everyone (option_copied goes_on.entry))) flow.new) }
     ensures not_sent { OnErr result (flow.new ≡ flow.old) }
 {
+    let members = members_asked(everyone, goes_on);
+    let begun = begin_listing(alloc, tag, &everyone, goes_on, &what)?;
+    let question = question_for(alloc, &everyone, goes_on, what)?;
     let told = unanswered(alloc, &members)?;
-    let ask = Ask::Probe {
-        tag,
-        key: key.copy()?,
-    };
-    send_to(alloc, flow, EXCHANGE_PLACE, &members, 0, age, ask)?;
-    Ok(OpenExchange {
-        key,
-        tag,
-        members,
-        told,
-        harmed: Members::new(),
-        reserved: members.count() as usize,
-        crashed: false,
+    send_questions(alloc, flow, &members, age, tag, &question)?;
+    Ok(Opened {
+        exchange: OpenExchange {
+            question,
+            tag,
+            members,
+            told,
+            harmed: Members::new(),
+            reserved: members.count() as usize,
+            crashed: false,
+        },
+        begun,
     })
+}
+
+/// What is asked, with the places of the listing that goes on or begins.
+fn question_for(
+    alloc: Global,
+    everyone: &Members,
+    goes_on: Option<&Listing>,
+    what: Exchange,
+) -> Result<Question, AllocError>
+    ensures { IfOk result (λ question. question_view question ≡ question_from everyone.now (option_copied goes_on.entry) what) }
+{
+    match (what, goes_on) {
+        (Exchange::Probe(key), _) => Ok(Question::Probe(key)),
+        (Exchange::List, Some(listing)) => Ok(Question::NextKeys(listing.places().copy()?)),
+        (Exchange::List, None) => Ok(Question::NextKeys(Places::first(alloc, everyone)?)),
+    }
+}
+
+/// The listing that begins, where none goes on and the next keys are asked for.
+fn begin_listing(
+    alloc: Global,
+    tag: Ballot,
+    everyone: &Members,
+    goes_on: Option<&Listing>,
+    what: &Exchange,
+) -> Result<Option<Listing>, AllocError>
+    ensures { IfOk result (λ begun. begun ≡ begins_with everyone.now (option_copied goes_on.entry) what.now tag) }
+{
+    match (what, goes_on) {
+        (Exchange::List, None) => {
+            let places = Places::first(alloc, everyone)?;
+            Ok(Some(Listing::begin(alloc, tag, places)))
+        }
+        _ => Ok(None),
+    }
+}
+
+/// The tag of the listing that goes on, or one that is drawn.
+fn tag_for<V: Disk>(desk: &mut Desk<V>, goes_on: Option<&Listing>) -> Result<Ballot, VaultError>
+    requires up { desk.old.down ≡ false }
+    requires idle { desk.old.round ≡ None }
+    requires proposer { desk.old.id ≤ 16 }
+    requires fits { IfSome (option_copied goes_on) (λ listing. FitsBallot listing.tag) }
+    ensures tag { IfOk result (λ tag. HasTag (disks V.tells V.may_leave V.fault_count) (option_copied goes_on.entry) desk.old desk.new tag × FitsBallot tag) }
+    ensures desk { OnOk result (desk.new ≡ record desk.old { vault = desk.new.vault }) }
+    ensures failed { IfErr result (FailsToTag (disks V.tells V.may_leave V.fault_count) (option_copied goes_on.entry) desk.old desk.new) }
+{
+    match goes_on {
+        Some(listing) => Ok(listing.tag()),
+        None => desk.tag(),
+    }
 }

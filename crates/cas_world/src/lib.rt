@@ -3,24 +3,21 @@
 //! Each call of [`World`] is one step of the whole store. Threads, texts, files and the network do not live here.
 #![tactic(auto)]
 
-mod answers;
 mod begin;
-mod call;
-mod council;
 mod end;
-mod eras;
 mod exchange;
 mod fault;
 mod open;
 mod parties;
-mod proposal;
+mod plans;
 mod propose;
-mod send;
+mod proposing;
 mod serve;
 mod stray;
 mod turn;
 mod world;
 
-pub use council::{Exchange, Gathered};
+pub use cas_calls::council::{Exchange, Gathered};
 pub use fault::{OpenFault, StrayFault};
+pub use plans::PlanKind;
 pub use world::{Config, World};

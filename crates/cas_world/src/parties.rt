@@ -4,27 +4,27 @@ ghost use Rattle.std.specs.Prelude.{◌≡◌, ◌≤◌, slice_get};
 ghost use Rattle.cas_world.specs.Readers.{up_in};
 ghost use Rattle.cas_cluster.specs.StepStops.{CrashesDesk, broken_off_view};
 ghost use Rattle.cas_cluster.specs.Step.{Step, CrashAcceptor, RestartAcceptor, CrashProposer, RestartProposer};
-ghost use Rattle.cas_cluster.specs.View.{IsAt, era_at, meaning};
+ghost use Rattle.cas_cluster.specs.View.{IsAt, meaning};
 ghost use Rattle.cas_acceptor.specs.Acceptor.{AcceptorView};
 ghost use Rattle.cas_proposer.specs.Desk.{DeskView};
-ghost use Rattle.cas_world.specs.Proposing.{disks};
+ghost use Rattle.cas_calls.specs.Proposing.{disks};
 ghost use Rattle.cas_world.specs.Restarting.{TellsOfAcceptor, TellsOfDesk};
 ghost use Rattle.cas_world.specs.Serve.{shelves};
 
-use crate::answers::crash_answer;
-use crate::council::EXCHANGE_PLACE;
 use crate::world::World;
 use cas_ballot::AcceptorId;
+use cas_calls::answers::crash_answer;
+use cas_calls::council::EXCHANGE_PLACE;
 use cas_disk::Disk;
 use cas_slot::{Shelf, ShelfFault};
 use cas_vault::VaultError;
 
 impl<S: Shelf, V: Disk> World<S, V> {
-    /// Whether the acceptor is up. `None` comes exactly where it is no member.
+    /// Whether the acceptor is up. `None` comes exactly where it was never a member since the opening.
     pub fn acceptor_up(&self, id: AcceptorId) -> Option<bool>
-        ensures { result ≡ up_in (era_at self.now 0) id (slice_get self.now.acceptors id) }
+        ensures { result ≡ up_in self.now.council.used id (slice_get self.now.acceptors id) }
     {
-        if self.era().everyone().has(id) {
+        if self.council.used.has(id) {
             Some(!self.acceptors[usize::from(id.number())].is_down())
         } else {
             None
@@ -94,6 +94,17 @@ impl<S: Shelf, V: Disk> World<S, V> {
         ensures step { Step (meaning S.contents S.tells S.may_leave S.fault_count V.tells V.may_leave V.fault_count) self.old (RestartProposer proposer) self.new }
         ensures tells { (was now : DeskView V) → IsAt self.old.desks proposer was → IsAt self.new.desks proposer now → TellsOfDesk (disks V.tells V.may_leave V.fault_count) was now result }
     {
-        self.desks[usize::from(proposer)].restart()
+        let desk = &mut self.desks[usize::from(proposer)];
+        let was_down = desk.is_down();
+        let restarted = desk.restart();
+        if !was_down {
+            return restarted;
+        }
+        if restarted.is_err() {
+            return restarted;
+        }
+        let number = desk.era();
+        self.council.show(proposer, number);
+        restarted
     }
 }

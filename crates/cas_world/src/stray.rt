@@ -11,12 +11,12 @@ ghost use Rattle.cas_cluster.specs.View.{meaning, reserved_in_all as seen_in_all
 ghost use Rattle.cas_world.specs.Serve.{shelves, KeepsAll, AreNumbered};
 ghost use Rattle.cas_world.specs.Stray.{AsksLate, ArrivesAt, LetsIn};
 
-use crate::council::reserved_in_all;
 use crate::fault::StrayFault;
 use crate::serve::{Served, serve};
 use crate::world::World;
 use cas_acceptor::Acceptor;
 use cas_ballot::AcceptorId;
+use cas_calls::council::reserved_in_all;
 use cas_disk::Disk;
 use cas_flow::{Flow, Message};
 use cas_proposer::Desk;

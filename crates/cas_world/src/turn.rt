@@ -14,11 +14,11 @@ ghost use Rattle.cas_cluster.specs.Step.{Step, Turn, RefuseTurn};
 ghost use Rattle.cas_cluster.specs.View.{meaning};
 ghost use Rattle.cas_slot.specs.declared.message.Request.{Request as ARequest};
 
-use crate::call::Caller;
 use crate::serve::{Served, serve};
 use crate::world::World;
 use cas_acceptor::Acceptor;
 use cas_ballot::AcceptorId;
+use cas_calls::call::Caller;
 use cas_disk::Disk;
 use cas_fate::Verdict;
 use cas_flow::{Fall, Flow, Message};

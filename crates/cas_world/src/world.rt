@@ -6,24 +6,23 @@ ghost use Rattle.cas_cluster.specs.SafeLaws.{HasPlaces};
 ghost use Rattle.cas_cluster.specs.Step.{IsOpening};
 ghost use Rattle.cas_cluster.specs.View.{CallerView, IsAt, era_at, meaning};
 ghost use Rattle.cas_world.specs.Opening.{members_to, unstarted, shelves_of, disks_of, AreStartedBelow, AreDesksBelow, DoesNotOpen};
-ghost use Rattle.cas_world.specs.Answers.{is_done};
 ghost use Rattle.cas_world.specs.Readers.{next_number, told_if, closed_in, IsVerdictIn};
 ghost use Rattle.cas_world.specs.Exchange.{asks_as, place_of};
 ghost use Rattle.cas_world.specs.Serve.{shelves as shelves_like};
-ghost use Rattle.cas_world.specs.Proposing.{disks as disks_like};
+ghost use Rattle.cas_calls.specs.Proposing.{disks as disks_like};
 ghost use Rattle.cas_flow.specs.Flow.{queue_at};
 ghost use Rattle.cas_flow.specs.Message.{head_of};
 ghost use Rattle.cas_proposer.specs.Desk.{DeskView};
 ghost use Rattle.cas_slot.specs.Contents.{kept_at};
 ghost use Rattle.cas_record.specs.Legal.{IsLegal};
 
-use crate::answers::copy_of;
-use crate::call::{Caller, OpenCall};
-use crate::council::{Council, EXCHANGE_PLACE};
 use crate::fault::OpenFault;
 use crate::open::{Lists, Setup, first_members, give_disks, give_shelves, start, take_shelves};
 use cas_acceptor::Acceptor;
 use cas_ballot::AcceptorId;
+use cas_calls::answers::{copy_of, is_done};
+use cas_calls::call::{Caller, OpenCall};
+use cas_calls::council::{Council, EXCHANGE_PLACE};
 use cas_change::Key;
 use cas_disk::Disk;
 use cas_fate::Leg;
@@ -251,11 +250,4 @@ fn closed_by(call: &OpenCall) -> Option<Answer>
         }
         None => None,
     }
-}
-
-/// Whether it tells that the change is done.
-fn is_done(answer: &Answer) -> bool
-    ensures { result ≡ is_done answer.now }
-{
-    matches!(answer, Answer::Done { .. })
 }

@@ -2,7 +2,7 @@ use Rattle.std.proofs.Common.{◌≡◌, ◌+◌, ◌-◌, length, sym, ap, subs
 use Rattle.std.specs.Prelude.{Some, None, IfOk}
 use Rattle.cas_world.specs.Beginning.{opening_of}
 use Rattle.std.specs.Prelude.{is_some}
-use Rattle.cas_world.specs.declared.call.Caller.{Caller}
+use Rattle.cas_calls.specs.declared.call.Caller.{Caller}
 use Rattle.cas_world.proofs.Parts.{at_place}
 use Rattle.cas_world.proofs.Reserving.{others_within, some_not, none_not}
 use Rattle.cas_cluster.proofs.Places.{some_is}

@@ -2,7 +2,7 @@ use Rattle.std.proofs.Common.{◌≡◌, ◌+◌, ◌++◌, ◌∷◌, [], ℕ, 
 use Rattle.std.specs.Prelude.{Option, Some, IfSome, reverse}
 use Rattle.cas_proposer.specs.Desk.{DeskView}
 use Rattle.cas_world.specs.Opening.{IsFaultOf, IsDeskOver, AreDesksBelow}
-use Rattle.cas_world.specs.Proposing.{disks}
+use Rattle.cas_calls.specs.Proposing.{disks}
 use Rattle.cas_world.proofs.Lists.{last_first, next_disk}
 use Rattle.cas_world.proofs.Starting.{one_more_desk}
 use Rattle.cas_world.proofs.open.start_desks.Given.{Over}

@@ -14,10 +14,10 @@ use Rattle.cas_cluster.specs.View.{View, IsAt, meaning}
 use Rattle.cas_cluster.proofs.SafeSteps.{steps_are_safe}
 use Rattle.cas_cluster.proofs.ViewLaws.{done_kept}
 use Rattle.cas_cluster.specs.Council.{reserved_by}
-use Rattle.cas_world.specs.Council.{council_view}
-use Rattle.cas_world.specs.Call.{over}
+use Rattle.cas_calls.specs.Council.{council_view}
+use Rattle.cas_calls.specs.Call.{over}
 use Rattle.cas_world.specs.Count.{Counts}
-use Rattle.cas_world.specs.declared.call.OpenCall.{OpenCall}
+use Rattle.cas_calls.specs.declared.call.OpenCall.{OpenCall}
 use Rattle.cas_world.specs.World.{WasTold, view_of}
 use Rattle.cas_world.proofs.Counts.{IsCounting, counting, counted, fell_short, room_over, quorum_of}
 use Rattle.cas_world.proofs.Parts.{seen_from, remembered_then}

@@ -11,8 +11,8 @@ use Rattle.cas_cluster.proofs.Places.{at_one}
 use Rattle.cas_cluster.proofs.SafeStops.{call_reserves_at}
 use Rattle.cas_cluster.proofs.SafeSteps.{crashed_desk_safe}
 use Rattle.cas_cluster.proofs.Remembering.{crashed_desk}
-use Rattle.cas_world.specs.declared.call.Caller.{Caller}
-use Rattle.cas_world.specs.declared.call.OpenCall.{OpenCall}
+use Rattle.cas_calls.specs.declared.call.Caller.{Caller}
+use Rattle.cas_calls.specs.declared.call.OpenCall.{OpenCall}
 use Rattle.cas_world.specs.World.{view_of, call_view, caller_view}
 use Rattle.cas_world.proofs.Callers.{at_map, IsOpenIn, open_in, not_lent}
 use Rattle.cas_world.proofs.Stops.{crash_seen, crash_goes_on, crash_idle, crash_closes, crashed_caller, closed_is, room_closed, copies_closed, copies_idle}

@@ -8,7 +8,7 @@ use Rattle.cas_flow.specs.Flow.{queue_at}
 use Rattle.cas_world.specs.World.{view_of}
 use Rattle.cas_flow.specs.Queue.{fall_of}
 use Rattle.cas_cluster.specs.StepCouncil.{harms}
-use Rattle.cas_world.specs.Council.{harms_of}
+use Rattle.cas_calls.specs.Council.{harms_of}
 use Rattle.cas_world.proofs.Exchanges.{asking, in_code, first_harm, harm_room, is_member, loses, harmed_seen, harmed_world}
 use Rattle.cas_world.proofs.Parts.{seen_from}
 use Rattle.cas_world.proofs.world.World.lose_asked.Given.{Over}

@@ -6,7 +6,7 @@ use Rattle.cas_proposer.specs.Desk.{DeskView}
 use Rattle.cas_quorum.specs.Era.{majority_era}
 use Rattle.cas_cluster.specs.View.{IsAt, meaning}
 use Rattle.cas_vault.specs.Vault.{disk_of}
-use Rattle.cas_world.specs.Council.{opening_council}
+use Rattle.cas_calls.specs.Council.{opening_council}
 use Rattle.cas_world.specs.Opening.{members_to}
 use Rattle.cas_world.specs.Opening as opening
 use Rattle.cas_world.specs.Opening.{unstarted, shelves_of, disks_of, AllStart, SomeDiskFails}

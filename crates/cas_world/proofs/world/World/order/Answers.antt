@@ -6,8 +6,8 @@ use Rattle.cas_cluster.specs.Step as step
 use Rattle.cas_cluster.specs.StepCouncil.{StepOrder}
 use Rattle.cas_cluster.specs.View.{View, meaning, reserved_in_all}
 use Rattle.cas_cluster.proofs.SafeSteps.{steps_are_safe}
-use Rattle.cas_world.specs.Call.{reserved_of}
-use Rattle.cas_world.specs.Council.{order_view}
+use Rattle.cas_calls.specs.Call.{reserved_of}
+use Rattle.cas_calls.specs.Council.{order_view}
 use Rattle.cas_world.specs.World.{view_of}
 use Rattle.cas_world.proofs.Exchanges.{reserved_fits, ordered, council_world, grown_world}
 use Rattle.cas_world.proofs.Parts.{seen_from, remembered_then}

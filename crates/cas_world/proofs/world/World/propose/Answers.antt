@@ -8,12 +8,12 @@ use Rattle.cas_cluster.specs.Step.{StepPropose}
 use Rattle.cas_cluster.specs.View.{View, IsAt, meaning}
 use Rattle.cas_cluster.proofs.SafeSteps.{steps_are_safe}
 use Rattle.cas_cluster.specs.Council.{reserved_by}
-use Rattle.cas_world.specs.Council.{council_view}
-use Rattle.cas_world.specs.Call.{over, with_proposal}
-use Rattle.cas_world.specs.Proposing.{disks}
+use Rattle.cas_calls.specs.Council.{council_view}
+use Rattle.cas_calls.specs.Call.{over, with_proposal}
+use Rattle.cas_calls.specs.Proposing.{disks}
 use Rattle.cas_world.specs.Reading.{Proposes, EndsShort, HasProposed}
 use Rattle.cas_world.specs.World.{WasTold, view_of}
-use Rattle.cas_world.specs.declared.call.OpenCall.{OpenCall}
+use Rattle.cas_calls.specs.declared.call.OpenCall.{OpenCall}
 use Rattle.cas_world.proofs.Counts.{room_over}
 use Rattle.cas_world.proofs.Parts.{seen_from, remembered_then}
 use Rattle.cas_world.proofs.Proposes.{IsProposing, proposing_in, proposes, ends, not_done, idle_then, told_next, made_next, room_proposed, copies_made, has_proposed, was_told}

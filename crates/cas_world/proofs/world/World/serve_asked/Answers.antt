@@ -11,7 +11,7 @@ use Rattle.cas_flow.specs.Message.{head_of}
 use Rattle.cas_flow.specs.Queue.{fall_of}
 use Rattle.cas_flow.specs.declared.message.Message.{Message}
 use Rattle.cas_flow.specs.declared.message.Message.TheVariants as message
-use Rattle.cas_world.specs.Council.{harms_of}
+use Rattle.cas_calls.specs.Council.{harms_of}
 use Rattle.cas_world.specs.Serve.{Serves}
 use Rattle.cas_world.specs.World.{view_of}
 use Rattle.cas_world.specs.declared.serve.Served.{Served}

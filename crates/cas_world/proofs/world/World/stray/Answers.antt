@@ -6,7 +6,7 @@ use Rattle.cas_cluster.specs.StepFrames.{FindsNoRoom}
 use Rattle.cas_cluster.specs.View.{View, meaning, reserved_of, reserved_in_all}
 use Rattle.cas_cluster.proofs.SafeSteps.{steps_are_safe}
 use Rattle.cas_cluster.specs.Council.{reserved_by}
-use Rattle.cas_world.specs.Council.{council_view}
+use Rattle.cas_calls.specs.Council.{council_view}
 use Rattle.cas_world.specs.Serve.{shelves, KeepsAll}
 use Rattle.cas_world.specs.Stray.{LetsIn}
 use Rattle.cas_world.specs.World.{view_of, caller_view}

@@ -5,7 +5,7 @@ use Rattle.cas_cluster.proofs.SafeSteps.{steps_are_safe}
 use Rattle.cas_flow.specs.Flow.{FlowView}
 use Rattle.cas_proposer.specs.Desk.{DeskView}
 use Rattle.cas_record.specs.Book.{Book}
-use Rattle.cas_world.specs.declared.call.Caller.{Caller}
+use Rattle.cas_calls.specs.declared.call.Caller.{Caller}
 use Rattle.cas_world.specs.World.{view_of, IsWorld}
 use Rattle.cas_world.proofs.Parts.{seen_from, remembered_then}
 use Rattle.cas_cluster.specs.View.{View, meaning}

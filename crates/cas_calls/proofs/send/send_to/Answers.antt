@@ -1,0 +1,21 @@
+use Rattle.std.proofs.Common.{◌≡◌, List, subst, ap, ◌∙◌}
+use Rattle.cas_flow.specs.Flow.{queue_at}
+use Rattle.cas_flow.specs.Queue.{all_bear, messages_of}
+use Rattle.cas_flow.specs.declared.message.Message.{Message}
+use Rattle.cas_cluster.specs.StepCalls.{Sends}
+use Rattle.cas_calls.specs.Sending.{requests_to}
+use Rattle.cas_calls.proofs.Sending.{sends_after, messages_borne, all_borne}
+use Rattle.cas_calls.proofs.send.send_to.Goals as goal
+
+-- src/send.rt:36:5
+pub push_all-requires-clause-bear : goal.push_all-requires-clause-bear
+push_all-requires-clause-bear c = ap all_bear c.in_ok-frames.ensures.each ∙ all_borne (requests_to c.args.proposer c.args.age c.args.ask c.args.members.now)
+
+-- src/send.rt:20:1
+pub returns-clause-sent : goal.returns-clause-sent
+returns-clause-sent c =
+    let messages : messages_of c.in_ok-frames.frames.items ≡ requests_to c.args.proposer c.args.age c.args.ask c.args.members.now =
+    ap messages_of c.in_ok-frames.ensures.each ∙ messages_borne (requests_to c.args.proposer c.args.age c.args.ask c.args.members.now) in
+    sends_after c.args.flow.now c.reserve_own.new.self c.push_all.new.flow c.args.queue (queue_at c.reserve_own.new.self c.args.queue).room (requests_to c.args.proposer c.args.age c.args.ask c.args.members.now)
+    c.requires.queue c.in_ok-reserve_own.ensures.same
+    (subst (λ (l : List Message). Sends c.reserve_own.new.self c.args.queue l c.push_all.new.flow) messages c.push_all.ensures)

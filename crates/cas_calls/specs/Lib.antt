@@ -1,0 +1,5 @@
+pub mod Answers
+pub mod Call
+pub mod Council
+pub mod Proposing
+pub mod Sending

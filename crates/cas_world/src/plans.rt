@@ -1,0 +1,347 @@
+//! Changes of membership: how one begins, and what it does next.
+
+ghost use Rattle.std.specs.Prelude.{◌≡◌, ◌⊎◌, ◌↔◌, ◌+◌, ◌^◌, ◌<◌, ◌≤◌, true, false, Some, option_copied, IsTrue, is_some, IsSome, IsSomeAnd, IfSome, IsErrOf, IfErr, IfNone, IfOk, OnErr, OnOk};
+ghost use Rattle.cas_flow.specs.Flow.{abandoned};
+ghost use Rattle.cas_quorum.specs.Era.{majority_era};
+ghost use Rattle.cas_cluster.specs.Council.{OrderView};
+ghost use Rattle.cas_cluster.specs.Course.{entering};
+ghost use Rattle.cas_cluster.specs.Step.{Step, RefuseKey, OpenPlan as OpensPlan, EnterEra as EntersNext};
+ghost use Rattle.cas_cluster.specs.StepDesks.{EntersEra, FailsToEnter};
+ghost use Rattle.cas_cluster.specs.StepCouncil.{told_view};
+ghost use Rattle.cas_cluster.specs.StepPlans.{Welcomes, used_with};
+ghost use Rattle.cas_cluster.specs.View.{meaning};
+ghost use Rattle.cas_calls.specs.Answers.{is_plain, crash_answer, moved_answer};
+ghost use Rattle.cas_calls.specs.Call.{over};
+ghost use Rattle.cas_calls.specs.Council.{council_view, due_in};
+ghost use Rattle.cas_world.specs.Exchange.{WasToldOrder};
+ghost use Rattle.cas_world.specs.Moving.{Leaves, Stays, MarksMove, closed_with};
+ghost use Rattle.cas_world.specs.Plans.{asked_to, planned_by, IsFor, IsUnderWay, IsAtEnd, IsPartial, MayOpenPlan, MayEnter, step_of, rescanned_of, entrant_of};
+ghost use Rattle.cas_calls.specs.Proposing.{disks};
+
+use crate::world::World;
+use cas_ballot::{AcceptorId, Members};
+use cas_calls::answers::{copy_of_op, crash_answer, moved_answer};
+use cas_calls::call::Caller;
+use cas_calls::council::{Council, EXCHANGE_PLACE, no_memory, reserved_in_all};
+use cas_calls::plan::OpenPlan;
+use cas_change::Key;
+use cas_disk::Disk;
+use cas_flow::Flow;
+use cas_members::{Plan, PlanStep};
+use cas_proposer::Desk;
+use cas_quorum::{Era, PlanFault};
+use cas_record::{Answer, Asked, MOST_MARKS, Mark, OpAnswer, Record};
+use cas_slot::{Shelf, ShelfFault};
+use cas_vault::VaultError;
+use std::alloc::AllocError;
+
+/// How the membership changes.
+#[derive(Clone, Copy, Debug, PartialEq, Eq)]
+pub enum PlanKind {
+    /// The acceptor joins.
+    Join,
+    /// The acceptor leaves.
+    Leave,
+}
+
+impl PlanKind {
+    /// What an operator asks for who wants the acceptor to join or to leave.
+    pub fn asked(self, id: AcceptorId) -> Asked
+        ensures { result ≡ asked_to self id }
+    {
+        match self {
+            PlanKind::Join => Asked::Join(id),
+            PlanKind::Leave => Asked::Leave(id),
+        }
+    }
+
+    /// The plan by which the acceptor joins or leaves from this era on, or why there is none.
+    fn plan(self, era: &Era, used: &Members, id: AcceptorId) -> Result<Plan, PlanFault>
+        requires majorities { era.now ≡ majority_era era.now.number era.now.prep }
+        requires number { era.now.number + 2 < 2 ^ 32 }
+        ensures { result ≡ planned_by self era.now used.now id }
+    {
+        match self {
+            PlanKind::Join => Plan::join(era, used, id),
+            PlanKind::Leave => Plan::leave(era, id),
+        }
+    }
+}
+
+impl<S: Shelf, V: Disk> World<S, V> {
+    /// Whether a change of membership is under way that was opened for just that.
+    pub fn plan_is(&self, asked: &Asked) -> bool
+        ensures { IsTrue result ↔ IsFor self.now.council.plan asked.now }
+    {
+        match &self.council.plan {
+            Some(plan) => plan.asked == *asked,
+            None => false,
+        }
+    }
+
+    /// What the change of membership that is under way does next.
+    pub fn plan_step(&self) -> Option<PlanStep>
+        ensures step { result ≡ step_of self.now.council.plan }
+        ensures end { result ≡ Some PlanStep.Finished → IsAtEnd self.now }
+    {
+        match &self.council.plan {
+            Some(plan) => Some(plan.plan.next()),
+            None => None,
+        }
+    }
+
+    /// How many keys the change of membership that is under way has proposed anew; 0 where none is.
+    pub fn rescanned(&self) -> u32
+        ensures { result ≡ rescanned_of self.now.council.plan }
+    {
+        match &self.council.plan {
+            Some(plan) => plan.rescanned,
+            None => 0,
+        }
+    }
+
+    /// The proposer that has to enter the next era: the least that is not marked as in it. `None` comes where no era is to be entered next.
+    pub fn enter_next(&self) -> Option<u8>
+        ensures next { result ≡ entrant_of self.now.council.plan }
+        ensures known { IfSome result (λ proposer. proposer ≤ self.now.greatest) }
+    {
+        match &self.council.plan {
+            Some(plan) => match plan.next() {
+                Some(_) => Some(plan.entered),
+                None => None,
+            },
+            None => None,
+        }
+    }
+
+    /// The next key that is to be proposed anew, so that the era is settled. `None` comes where none is listed, or the listing of the era
+    /// is not complete.
+    pub fn settle_key(&self) -> Option<&Key>
+        ensures key { option_copied result ≡ due_in self.now.council.plan }
+        ensures none { IfNone result (IsPartial self.now.council.plan) }
+    {
+        match &self.council.plan {
+            Some(plan) => plan.due(),
+            None => None,
+        }
+    }
+
+    /// A copy of the key that [`World::settle_key`] names. Where no memory is found for it the operator's call is told so.
+    pub fn due_key(&mut self) -> Result<Option<Key>, OpAnswer>
+        requires { IsSome self.old.council.order }
+        ensures key { IfOk result (λ key. key ≡ due_in self.old.council.plan) }
+        ensures unchanged { OnOk result (self.new ≡ self.old) }
+        ensures step { OnErr result (Step (meaning S.contents S.tells S.may_leave S.fault_count V.tells V.may_leave V.fault_count) self.old RefuseKey self.new) }
+        ensures told { IfErr result (WasToldOrder self.new) }
+    {
+        let copied = match self.settle_key() {
+            Some(key) => key.copy(),
+            None => return Ok(None),
+        };
+        match copied {
+            Ok(key) => Ok(Some(key)),
+            Err(_) => Err(self.refuse(no_memory())),
+        }
+    }
+
+    /// The change of membership begins for which the operator's call was opened. The shelf of an acceptor that joins is started; where it
+    /// does not start by a fault, the acceptor is a member that is down.
+    ///
+    /// The refusals, each of which the call is told, come in this order: [`Answer::Down`] exactly where proposer 0 is down;
+    /// [`OpAnswer::Busy`] exactly where another change is under way, with the number of the era in which proposer 0 works;
+    /// [`OpAnswer::Refused`] exactly where the membership does not admit it; [`Answer::NoMemory`]. After each of them no change has begun.
+    pub fn open_plan(&mut self, kind: PlanKind, id: AcceptorId) -> Result<(), OpAnswer>
+        requires { MayOpenPlan self.old (asked_to kind id) }
+        ensures step { Step (meaning S.contents S.tells S.may_leave S.fault_count V.tells V.may_leave V.fault_count) self.old OpensPlan self.new }
+        ensures ok { OnOk result (IsUnderWay self.new (asked_to kind id)) }
+        ensures err { IfErr result (WasToldOrder self.new) }
+    {
+        if self.desks[0].is_down() {
+            return Err(self.refuse(OpAnswer::Stopped(Answer::Down)));
+        }
+        if self.council.plan.is_some() {
+            let era = self.era().number;
+            return Err(self.refuse(OpAnswer::Busy { era }));
+        }
+        let members = self.council.used;
+        let plan = match kind.plan(self.era(), &members, id) {
+            Ok(plan) => plan,
+            Err(fault) => return Err(self.refuse(OpAnswer::Refused(fault))),
+        };
+        let Ok(used) = self.welcome(kind, id) else {
+            return Err(self.refuse(no_memory()));
+        };
+        let opened = OpenPlan::new(kind.asked(id), plan);
+        self.council.begin_plan(opened, used);
+        Ok(())
+    }
+
+    /// The shelf of an acceptor that joins is started, or stays down by a fault; one that leaves goes on as it is. Answers who is a member
+    /// then, beside those that were.
+    fn welcome(&mut self, kind: PlanKind, id: AcceptorId) -> Result<Members, AllocError>
+        ensures welcomes { Welcomes (meaning S.contents S.tells S.may_leave S.fault_count V.tells V.may_leave V.fault_count) self.old (asked_to kind id) self.new }
+        ensures used { IfOk result (λ used. used ≡ used_with (asked_to kind id) self.old.council.used) }
+    {
+        let mut used = self.council.used;
+        match kind {
+            PlanKind::Join => {
+                used.insert(id);
+                match self.restart_acceptor(id) {
+                    Err(ShelfFault::NoMemory) => Err(AllocError),
+                    _ => Ok(used),
+                }
+            }
+            PlanKind::Leave => Ok(used),
+        }
+    }
+
+    /// The next proposer enters the era that the change of membership leads to, for which the operator's call was opened: it is marked as
+    /// in the era, keeps no promise, and its open round is closed, which its caller is told.
+    ///
+    /// The refusals, each of which the call is told, come in this order: [`Answer::RecordFull`] exactly where the marks that are made and
+    /// all that are reserved are as many as a record holds; [`OpAnswer::ProposerDown`] exactly where the proposer is down, or goes down
+    /// in this step, and then its open round is closed as by a crash; [`Answer::NoMemory`]. After each of them the step is still due.
+    pub fn enter_era(&mut self, proposer: u8) -> Result<(), OpAnswer>
+        requires { MayEnter self.old proposer }
+        ensures step { Step (meaning S.contents S.tells S.may_leave S.fault_count V.tells V.may_leave V.fault_count) self.old (EntersNext proposer) self.new }
+        ensures ok { OnOk result ((order : OrderView) → self.old.council.order ≡ Some order → IsUnderWay self.new order.asked) }
+        ensures err { IfErr result (WasToldOrder self.new) }
+    {
+        let reserved = reserved_in_all(&self.callers, &self.council);
+        if self.record.marks().len() + reserved >= MOST_MARKS {
+            return Err(self.refuse(OpAnswer::Stopped(Answer::RecordFull)));
+        }
+        let place = usize::from(proposer);
+        if self.desks[place].is_down() {
+            return Err(self.refuse(OpAnswer::ProposerDown { proposer }));
+        }
+        if self.record.reserve(None, reserved + 1).is_err() {
+            return Err(self.refuse(no_memory()));
+        }
+        let Some(next) = self.council.next_era() else {
+            unreachable!()
+        };
+        let desk = &mut self.desks[place];
+        let caller = &mut self.callers[place];
+        let moved = move_on(desk, caller, &mut self.flow, proposer, &next);
+        let greatest = self.config.proposers;
+        let council = &mut self.council;
+        mark_move(
+            council,
+            &mut self.record,
+            &mut self.flow,
+            greatest,
+            proposer,
+            next,
+            moved,
+        )
+    }
+
+    /// The operator's call is told that its step is refused, by an answer that holds no memory.
+    fn refuse(&mut self, refusal: OpAnswer) -> OpAnswer
+        requires { is_plain refusal ≡ true }
+        ensures answer { result ≡ refusal }
+        ensures told { self.new ≡ told_view self.old refusal }
+    {
+        self.council.tell(copy_of_op(&refusal));
+        refusal
+    }
+}
+
+/// The desk enters the era, or does not. Where it does, or goes down, its open round is closed, its caller is told so, and its frames join
+/// the late ones; otherwise all stays.
+fn move_on<V: Disk>(
+    desk: &mut Desk<V>,
+    caller: &mut Caller,
+    flow: &mut Flow,
+    proposer: u8,
+    next: &Era,
+) -> Result<(), VaultError>
+    requires up { desk.old.down ≡ false }
+    requires proposer { proposer ≤ 16 }
+    requires open { IsSome desk.old.round → IsSome caller.old.call }
+    ensures ok { OnOk result (Leaves (EntersEra (disks V.tells V.may_leave V.fault_count) next.now) (closed_with (λ proposed. moved_answer proposed next.now.number)) proposer desk.old desk.new caller.old caller.new flow.old flow.new) }
+    ensures fault { IsErrOf result VaultError.VaultFault → Leaves (FailsToEnter (disks V.tells V.may_leave V.fault_count) next.now) (closed_with crash_answer) proposer desk.old desk.new caller.old caller.new flow.old flow.new }
+    ensures no_memory { IsErrOf result VaultError.NoMemory → Stays (disks V.tells V.may_leave V.fault_count) desk.old desk.new caller.old caller.new flow.old flow.new }
+    ensures cause { IfErr result (λ error. (error ≡ VaultError.VaultFault) ⊎ (error ≡ VaultError.NoMemory)) }
+{
+    let closes = has_round(desk);
+    let proposed = caller.has_proposed();
+    match desk.move_to(next) {
+        Ok(()) => {
+            leave(
+                caller,
+                flow,
+                proposer,
+                closes,
+                moved_answer(proposed, next.number),
+            );
+            Ok(())
+        }
+        Err(VaultError::VaultFault) => {
+            leave(caller, flow, proposer, closes, crash_answer(proposed));
+            Err(VaultError::VaultFault)
+        }
+        Err(error) => Err(error),
+    }
+}
+
+/// Whether the desk has an open round.
+fn has_round<V: Disk>(desk: &Desk<V>) -> bool
+    ensures { result ≡ is_some desk.now.round }
+{
+    desk.round().is_some()
+}
+
+/// The proposer's frames join the late ones, and where a round of it is closed, its caller is told so.
+fn leave(caller: &mut Caller, flow: &mut Flow, proposer: u8, closes: bool, told: Answer)
+    requires proposer { proposer ≤ 16 }
+    requires open { closes ≡ true → IsSome caller.old.call }
+    ensures flow { flow.new ≡ abandoned flow.old proposer }
+    ensures closed { closes ≡ true → IfSome caller.old.call (λ call. caller.new ≡ record caller.old { call = Some (record (over call told) { is_closed = true }) }) }
+    ensures stays { closes ≡ false → caller.new ≡ caller.old }
+{
+    flow.abandon(proposer);
+    if closes {
+        caller.close_round(told);
+    }
+}
+
+/// The proposer that moved on is marked as in the era. Where it went down an exchange of proposer 0 is broken off, and the operator's call
+/// is told; so it is where no memory was found.
+fn mark_move(
+    council: &mut Council,
+    record: &mut Record,
+    flow: &mut Flow,
+    greatest: u8,
+    proposer: u8,
+    next: Era,
+    moved: Result<(), VaultError>,
+) -> Result<(), OpAnswer>
+    requires plan { IsSomeAnd council.old.plan (λ plan. (entering plan.plan.left ≡ Some next) × (plan.entered ≡ proposer)) }
+    requires proposer { proposer ≤ 16 }
+    requires room { 0 < «record».old.room }
+    requires cause { IfErr moved (λ error. (error ≡ VaultError.VaultFault) ⊎ (error ≡ VaultError.NoMemory)) }
+    ensures moves { MarksMove greatest proposer next moved (council_view council.old) (council_view council.new) council.old.eras.0 council.new.eras.0 flow.old flow.new «record».old «record».new result }
+{
+    match moved {
+        Ok(()) => {
+            let number = next.number;
+            council.enter(greatest, next);
+            record.push(Mark::EraEntered { proposer, number });
+            Ok(())
+        }
+        Err(VaultError::VaultFault) => {
+            if proposer == 0 {
+                flow.abandon(EXCHANGE_PLACE);
+                council.break_off();
+            }
+            council.tell(OpAnswer::ProposerDown { proposer });
+            Err(OpAnswer::ProposerDown { proposer })
+        }
+        Err(_) => {
+            council.tell(no_memory());
+            Err(no_memory())
+        }
+    }
+}
