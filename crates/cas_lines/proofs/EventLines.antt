@@ -28,7 +28,7 @@ use Rattle.cas_lines.specs.declared.events.Party.{Party}
 use Rattle.cas_lines.specs.declared.events.Party.TheVariants as parties
 use Rattle.cas_lines.specs.declared.events.HaltPoint.{HaltPoint}
 use Rattle.cas_lines.specs.declared.events.HaltPoint.TheVariants as points
-use Rattle.cas_lines.specs.Command.{IsAcceptor, IsProposer, leg_word, IsLeg, IsWho, IsVerdict, IsEvent, IsHalt, IsCommand}
+use Rattle.cas_lines.specs.Command.{IsAcceptor, IsProposer, leg_word, IsLeg, IsWho, IsVerdict, HasLast, IsHalt, IsCommand}
 use Rattle.cas_lines.specs.Reading.{within, ended, key_in, key_at, event_name, leg_name, verdict_name, party_name, halt_point_name, acceptor_of, proposer_of, one_or_all, leg_in, leg_at, who_in, who_at, verdict_at, party_at, halt_point_at, acceptor_at, proposer_at, net_at, crash_of, restart_of, halt_of, halt_at, show_at, event_at}
 use Rattle.cas_lines.proofs.ChangeLines.{ended_found, key_in-found, key_in-again}
 
@@ -226,11 +226,11 @@ net_found proposers left command e =
     ∙ ap (λ (ws : List Word). codes "net" ∷ leg.0 ∷ who.0 ∷ ws) verdict.1 in
     subst (IsCommand proposers (codes "net" ∷ left.words)) same (leg.0, who.0, verdict.0, split, is_leg, is_who, is_verdict)
 
--- a first word, and then a number
-event_parts : (first second : Word) (left words : List Word) (last : Word) (P : Word → Type 0) → words ≡ second ∷ left → left ≡ last ∷ [] → P last → IsEvent (first ∷ words) (first ∷ second ∷ []) P
-event_parts first second left words last P behind end says = (last, ap (λ (ws : List Word). first ∷ ws) behind ∙ ap (λ (ws : List Word). first ∷ second ∷ ws) end, says)
+-- two words, and a last one
+pub last_parts : (first second : Word) (left words : List Word) (last : Word) (P : Word → Type 0) → words ≡ second ∷ left → left ≡ last ∷ [] → P last → HasLast (first ∷ words) (first ∷ second ∷ []) P
+last_parts first second left words last P behind end says = (last, ap (λ (ws : List Word). first ∷ ws) behind ∙ ap (λ (ws : List Word). first ∷ second ∷ ws) end, says)
 
-last_acceptor : (left : WordsLeft) (id : ℕ) → ended (acceptor_at left) ≡ Ok id → (word : Word) × (left.words ≡ word ∷ []) × IsAcceptor id word
+pub last_acceptor : (left : WordsLeft) (id : ℕ) → ended (acceptor_at left) ≡ Ok id → (word : Word) × (left.words ≡ word ∷ []) × IsAcceptor id word
 unfolding acceptor_at
 last_acceptor left id e =
     let w = last_one_found (said acceptor_of why.BadNumber) left id e in
@@ -249,12 +249,12 @@ crash_of-found proposers parties.Acceptor words left command behind e =
     let a = bind_ok (ended (acceptor_at left)) _ command e in
     let last = last_acceptor left a.0 a.1 in
     let same : CrashAcceptor a.0 ≡ command = cc (a.2) in
-    subst (IsCommand proposers (codes "crash" ∷ words)) same (event_parts (codes "crash") (codes "acceptor") left.words words last.0 (IsAcceptor a.0) behind last.1 last.2)
+    subst (IsCommand proposers (codes "crash" ∷ words)) same (last_parts (codes "crash") (codes "acceptor") left.words words last.0 (IsAcceptor a.0) behind last.1 last.2)
 crash_of-found proposers parties.Proposer words left command behind e =
     let a = bind_ok (ended (proposer_at proposers left)) _ command e in
     let last = last_proposer proposers left a.0 a.1 in
     let same : CrashProposer a.0 ≡ command = cc (a.2) in
-    subst (IsCommand proposers (codes "crash" ∷ words)) same (event_parts (codes "crash") (codes "proposer") left.words words last.0 (IsProposer proposers a.0) behind last.1 last.2)
+    subst (IsCommand proposers (codes "crash" ∷ words)) same (last_parts (codes "crash") (codes "proposer") left.words words last.0 (IsProposer proposers a.0) behind last.1 last.2)
 
 restart_of-found : (proposers : ℕ) (party : Party) (words : List Word) (left : WordsLeft) (command : Command) → words ≡ party_word party ∷ left.words → restart_of party proposers left ≡ Ok command
     → IsCommand proposers (codes "restart" ∷ words) command
@@ -263,12 +263,12 @@ restart_of-found proposers parties.Acceptor words left command behind e =
     let a = bind_ok (ended (acceptor_at left)) _ command e in
     let last = last_acceptor left a.0 a.1 in
     let same : RestartAcceptor a.0 ≡ command = cc (a.2) in
-    subst (IsCommand proposers (codes "restart" ∷ words)) same (event_parts (codes "restart") (codes "acceptor") left.words words last.0 (IsAcceptor a.0) behind last.1 last.2)
+    subst (IsCommand proposers (codes "restart" ∷ words)) same (last_parts (codes "restart") (codes "acceptor") left.words words last.0 (IsAcceptor a.0) behind last.1 last.2)
 restart_of-found proposers parties.Proposer words left command behind e =
     let a = bind_ok (ended (proposer_at proposers left)) _ command e in
     let last = last_proposer proposers left a.0 a.1 in
     let same : RestartProposer a.0 ≡ command = cc (a.2) in
-    subst (IsCommand proposers (codes "restart" ∷ words)) same (event_parts (codes "restart") (codes "proposer") left.words words last.0 (IsProposer proposers a.0) behind last.1 last.2)
+    subst (IsCommand proposers (codes "restart" ∷ words)) same (last_parts (codes "restart") (codes "proposer") left.words words last.0 (IsProposer proposers a.0) behind last.1 last.2)
 
 party_found : (left : WordsLeft) (party : Party) (after : WordsLeft) → party_at left ≡ Ok (party, after) → left.words ≡ party_word party ∷ after.words
 unfolding party_at

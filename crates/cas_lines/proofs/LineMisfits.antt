@@ -20,7 +20,7 @@ use Rattle.cas_change_text.proofs.Stopping.{IsReader, IsWhole, read_as, after, o
 use Rattle.cas_fate.specs.declared.fate.Verdict.TheVariants as verdicts
 use Rattle.cas_lines.specs.declared.reading.TheConstants.{LONGEST_LINE}
 use Rattle.cas_lines.specs.declared.command.Command.{Command}
-use Rattle.cas_lines.specs.declared.command.Command.TheVariants.{Get, Set, Num, Init, Add, Cas, CasNum, Del, DelVersion, Do, Probe, Net, CrashAcceptor, RestartAcceptor, CrashProposer, RestartProposer, HaltPrepared, HaltProposed, Stray, Show}
+use Rattle.cas_lines.specs.declared.command.Command.TheVariants.{Get, Set, Num, Init, Add, Cas, CasNum, Del, DelVersion, Do, Join, Leave, Probe, Net, CrashAcceptor, RestartAcceptor, CrashProposer, RestartProposer, HaltPrepared, HaltProposed, Stray, Show}
 use Rattle.cas_lines.specs.declared.changes.ChangeName.{ChangeName}
 use Rattle.cas_lines.specs.declared.changes.ChangeName.TheVariants as names
 use Rattle.cas_lines.specs.declared.events.EventName.{EventName}
@@ -114,12 +114,18 @@ change_up_to-whole most caller =
 
 -- ---- operator lines
 
+acceptor_reader : IsReader acceptor_at
+unfolding acceptor_at
+acceptor_reader = said_reader acceptor_of why.BadNumber (codes "0") 0 refl
+
 op_name_reader : IsReader op_name_at
 unfolding op_name_at
 op_name_reader = said_reader op_name why.UnknownWord (codes "probe") ops.Probe refl
 
 op_of_name-whole : (most : ℕ) (name : OpName) → IsWhole (λ m. op_of_name name) most
 unfolding op_of_name
+op_of_name-whole most ops.Join = made_whole (to_end acceptor_at) most (λ id. Join id) (whole_to_end acceptor_at most acceptor_reader)
+op_of_name-whole most ops.Leave = made_whole (to_end acceptor_at) most (λ id. Leave id) (whole_to_end acceptor_at most acceptor_reader)
 op_of_name-whole most ops.Probe = made_whole (to_end key_at) most (λ key. Probe key) (whole_to_end key_at most key_reader)
 
 op_whole : (most : ℕ) → IsWhole (λ m. op_at) most
@@ -155,10 +161,6 @@ party_reader = said_reader party_name why.UnknownWord (codes "acceptor") parties
 halt_point_reader : IsReader halt_point_at
 unfolding halt_point_at
 halt_point_reader = said_reader halt_point_name why.UnknownWord (codes "after-prepare") points.Prepared refl
-
-acceptor_reader : IsReader acceptor_at
-unfolding acceptor_at
-acceptor_reader = said_reader acceptor_of why.BadNumber (codes "0") 0 refl
 
 proposer_reader : (proposers : ℕ) → IsReader (proposer_at proposers)
 unfolding proposer_at
@@ -248,6 +250,8 @@ unlimited_of proposers words (Cas caller key version text) is = is
 unlimited_of proposers words (CasNum caller key version number) is = is
 unlimited_of proposers words (Del caller key) is = is
 unlimited_of proposers words (DelVersion caller key version) is = is
+unlimited_of proposers words (Join id) is = is
+unlimited_of proposers words (Leave id) is = is
 unlimited_of proposers words (Probe key) is = is
 unlimited_of proposers words (Net leg who verdict) is = is
 unlimited_of proposers words (CrashAcceptor id) is = is

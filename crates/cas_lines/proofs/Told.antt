@@ -126,3 +126,18 @@ fails_by gives start lines held more room stop old new h (stopped {mid = mid} {l
 pub fails_told : {S : Type 0} (gives : S → Taken → S → Type 0) (start : S) (lines : List (List ℕ)) (old new : LinesState) (source new_source : S)
     → HandsOutTold gives start lines old.held source → TellsAtOnce gives old source (Err ReadFault) new new_source → FailsBehind gives start new_source lines
 fails_told gives start lines old new source new_source h t = fails_by gives start lines old.held t.more _ t.stop source new_source h t.heard (t.tells.0.1 refl)
+
+-- ---- the end
+ends_by : {S : Type 0} (gives : S → Taken → S → Type 0) (start : S) (lines : List (List ℕ)) (held more : List ℕ) (room : ℕ) (stop : Option Taken) (old new : S)
+    → HandsOutTold gives start lines held old → Heard gives room held old more stop new → stop ≡ Some End → held ++ more ≡ [] → HasTold gives start lines [] new
+ends_by gives start lines held more room stop old new h (going calls) is empty = absurd cc
+ends_by gives start lines held more room stop old new h (stopped {mid = mid} {last = last} calls still gave) is empty =
+    let last_is : last ≡ End = cc in
+    let whole : lines_of (h.bytes ++ more) ≡ h.ended = h.split more ∙ ap (λ b. h.ended ++ lines_of b) empty ∙ append-nil h.ended in
+    subst (λ l. HasTold gives start l [] new) (ap (λ l. h.told ++ l) whole ∙ sym h.all)
+    (told_end (asked_told gives start h.told h.bytes room held old more mid h.calls calls) (subst (λ t. gives mid t new) last_is gave))
+
+-- where the source ended, all lines that it told were handed out
+pub ends_told : {S : Type 0} (gives : S → Taken → S → Type 0) (start : S) (lines : List (List ℕ)) (old new : LinesState) (source new_source : S)
+    → HandsOutTold gives start lines old.held source → TellsAtOnce gives old source (Ok None) new new_source → HasTold gives start lines [] new_source
+ends_told gives start lines old new source new_source h t = ends_by gives start lines old.held t.more _ t.stop source new_source h t.heard t.tells.0 t.tells.1

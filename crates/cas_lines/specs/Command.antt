@@ -15,7 +15,7 @@ use Rattle.cas_fate.specs.declared.fate.Verdict.{Verdict}
 use Rattle.cas_fate.specs.declared.fate.Verdict.TheVariants as verdicts
 use Rattle.cas_lines.specs.declared.reading.TheConstants.{LONGEST_LINE}
 use Rattle.cas_lines.specs.declared.command.Command.{Command}
-use Rattle.cas_lines.specs.declared.command.Command.TheVariants.{Get, Set, Num, Init, Add, Cas, CasNum, Del, DelVersion, Do, Probe, Net, CrashAcceptor, RestartAcceptor, CrashProposer, RestartProposer, HaltPrepared, HaltProposed, Stray, Show}
+use Rattle.cas_lines.specs.declared.command.Command.TheVariants.{Get, Set, Num, Init, Add, Cas, CasNum, Del, DelVersion, Do, Join, Leave, Probe, Net, CrashAcceptor, RestartAcceptor, CrashProposer, RestartProposer, HaltPrepared, HaltProposed, Stray, Show}
 
 -- ---- the grammar
 
@@ -73,8 +73,8 @@ IsVerdict verdicts.Late word = word ≡ codes "late"
 IsVerdict verdicts.Hold word = ⊥
 
 -- these words, and a last one
-abbrev pub IsEvent : List Word → List Word → (Word → Type 0) → Type 0
-IsEvent words names P = (last : Word) × (words ≡ names ++ last ∷ []) × P last
+abbrev pub HasLast : List Word → List Word → (Word → Type 0) → Type 0
+HasLast words names P = (last : Word) × (words ≡ names ++ last ∷ []) × P last
 
 -- a halt of a proposer at the point of this name
 abbrev pub IsHalt : ℕ → List Word → ℕ → Word → Type 0
@@ -92,16 +92,18 @@ IsCommand proposers words (CasNum caller key version number) = IsFormAt proposer
 IsCommand proposers words (Del caller key) = IsForm proposers words caller (codes "del") key []
 IsCommand proposers words (DelVersion caller key version) = IsFormWith proposers words caller (codes "delv") key (λ word. u64_of word ≡ Some version)
 IsCommand proposers words (Do caller key program) = (rest : List Word) × IsForm proposers words caller (codes "do") key rest × IsProgram rest program
+IsCommand proposers words (Join id) = HasLast words (codes "op" ∷ codes "join" ∷ []) (IsAcceptor id)
+IsCommand proposers words (Leave id) = HasLast words (codes "op" ∷ codes "leave" ∷ []) (IsAcceptor id)
 IsCommand proposers words (Probe key) = (words ≡ codes "op" ∷ codes "probe" ∷ key ∷ []) × IsKey key
 IsCommand proposers words (Net leg who verdict) =
     (first second third : Word) × (words ≡ codes "net" ∷ first ∷ second ∷ third ∷ []) × IsLeg leg first × IsWho who second × IsVerdict verdict third
-IsCommand proposers words (CrashAcceptor id) = IsEvent words (codes "crash" ∷ codes "acceptor" ∷ []) (IsAcceptor id)
-IsCommand proposers words (RestartAcceptor id) = IsEvent words (codes "restart" ∷ codes "acceptor" ∷ []) (IsAcceptor id)
-IsCommand proposers words (CrashProposer proposer) = IsEvent words (codes "crash" ∷ codes "proposer" ∷ []) (IsProposer proposers proposer)
-IsCommand proposers words (RestartProposer proposer) = IsEvent words (codes "restart" ∷ codes "proposer" ∷ []) (IsProposer proposers proposer)
+IsCommand proposers words (CrashAcceptor id) = HasLast words (codes "crash" ∷ codes "acceptor" ∷ []) (IsAcceptor id)
+IsCommand proposers words (RestartAcceptor id) = HasLast words (codes "restart" ∷ codes "acceptor" ∷ []) (IsAcceptor id)
+IsCommand proposers words (CrashProposer proposer) = HasLast words (codes "crash" ∷ codes "proposer" ∷ []) (IsProposer proposers proposer)
+IsCommand proposers words (RestartProposer proposer) = HasLast words (codes "restart" ∷ codes "proposer" ∷ []) (IsProposer proposers proposer)
 IsCommand proposers words (HaltPrepared proposer) = IsHalt proposers words proposer (codes "after-prepare")
 IsCommand proposers words (HaltProposed proposer) = IsHalt proposers words proposer (codes "after-propose")
-IsCommand proposers words (Stray index) = IsEvent words (codes "stray" ∷ []) (λ word. u64_of word ≡ Some index)
+IsCommand proposers words (Stray index) = HasLast words (codes "stray" ∷ []) (λ word. u64_of word ≡ Some index)
 IsCommand proposers words (Show id key) = (word : Word) × (words ≡ codes "show" ∷ word ∷ key ∷ []) × IsAcceptor id word × IsKey key
 
 -- the same, where a program may have any number of clauses

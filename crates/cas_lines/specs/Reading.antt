@@ -20,7 +20,7 @@ use Rattle.cas_fate.specs.declared.fate.Verdict.TheVariants as verdicts
 use Rattle.cas_lines.specs.Command.{is_remark}
 use Rattle.cas_lines.specs.declared.reading.TheConstants.{LONGEST_LINE}
 use Rattle.cas_lines.specs.declared.command.Command.{Command}
-use Rattle.cas_lines.specs.declared.command.Command.TheVariants.{Get, Set, Num, Init, Add, Cas, CasNum, Del, DelVersion, Do, Probe, Net, CrashAcceptor, RestartAcceptor, CrashProposer, RestartProposer, HaltPrepared, HaltProposed, Stray, Show}
+use Rattle.cas_lines.specs.declared.command.Command.TheVariants.{Get, Set, Num, Init, Add, Cas, CasNum, Del, DelVersion, Do, Join, Leave, Probe, Net, CrashAcceptor, RestartAcceptor, CrashProposer, RestartProposer, HaltPrepared, HaltProposed, Stray, Show}
 use Rattle.cas_lines.specs.declared.changes.ChangeName.{ChangeName}
 use Rattle.cas_lines.specs.declared.changes.ChangeName.TheVariants as names
 use Rattle.cas_lines.specs.declared.events.EventName.{EventName}
@@ -110,11 +110,24 @@ change_at caller left = do
   key ← key_at name.1
   change_of_name name.0 caller key.0 key.1
 
+-- ---- acceptors
+
+abbrev pub acceptor_of : Word → Option ℕ
+acceptor_of word = within 0 63 (u64_of word)
+
+unfoldable pub acceptor_at : WordsLeft → Read ℕ
+acceptor_at left = do
+  word ← word_at left
+  id ← ok_or (acceptor_of word.0) (refusal_at why.BadNumber left)
+  Ok (id, word.1)
+
 -- ---- operator lines
 
 -- what an operator's line asks for, as a word names it
 abbrev pub op_name : Word → Option OpName
-op_name word = if bytes_eq word (codes "probe") then Some ops.Probe else None
+op_name word = if bytes_eq word (codes "join") then Some ops.Join
+    else (if bytes_eq word (codes "leave") then Some ops.Leave
+    else (if bytes_eq word (codes "probe") then Some ops.Probe else None))
 
 unfoldable pub op_name_at : WordsLeft → Read OpName
 op_name_at left = do
@@ -124,6 +137,8 @@ op_name_at left = do
 
 -- the operator's line of this name, by what follows it
 unfoldable pub op_of_name : OpName → WordsLeft → Result Command TextRefusal
+op_of_name ops.Join left = ended (acceptor_at left) >>= λ id. Ok (Join id)
+op_of_name ops.Leave left = ended (acceptor_at left) >>= λ id. Ok (Leave id)
 op_of_name ops.Probe left = ended (key_at left) >>= λ key. Ok (Probe key)
 
 -- a name, and what follows it
@@ -163,9 +178,6 @@ party_name word = if bytes_eq word (codes "acceptor") then Some parties.Acceptor
 abbrev pub halt_point_name : Word → Option HaltPoint
 halt_point_name word = if bytes_eq word (codes "after-prepare") then Some points.Prepared
     else (if bytes_eq word (codes "after-propose") then Some points.Proposed else None)
-
-abbrev pub acceptor_of : Word → Option ℕ
-acceptor_of word = within 0 63 (u64_of word)
 
 abbrev pub proposer_of : ℕ → Word → Option ℕ
 proposer_of proposers word = within 0 proposers (u64_of word)
@@ -209,12 +221,6 @@ halt_point_at left = do
   word ← word_at left
   point ← ok_or (halt_point_name word.0) (refusal_at why.UnknownWord left)
   Ok (point, word.1)
-
-unfoldable pub acceptor_at : WordsLeft → Read ℕ
-acceptor_at left = do
-  word ← word_at left
-  id ← ok_or (acceptor_of word.0) (refusal_at why.BadNumber left)
-  Ok (id, word.1)
 
 unfoldable pub proposer_at : ℕ → WordsLeft → Read ℕ
 proposer_at proposers left = do

@@ -14,9 +14,6 @@ use cas_record::{Answer, Cause};
 use cas_slot::{Accepted, Slot};
 use std::alloc::{AllocError, Global};
 
-#[cfg(test)]
-mod tests;
-
 /// What an event is answered.
 #[derive(Clone, Copy, Debug, PartialEq, Eq)]
 pub enum EventAnswer {

@@ -11,9 +11,6 @@ use cas_change::{Act, Clause, Guard, Key, Program, Text};
 use cas_fate::{Leg, Verdict};
 use std::alloc::{AllocError, Global};
 
-#[cfg(test)]
-mod tests;
-
 /// What a line asks for: a change of the key's register for this caller, what an operator asks for, or an event.
 ///
 /// Callers are numbered from 1. Proposers are numbered from 0, which is the operator's own.
@@ -78,6 +75,14 @@ pub enum Command {
         caller: u8,
         key: Key,
         program: Program,
+    },
+    /// `op join`: the acceptor becomes a member.
+    Join {
+        id: AcceptorId,
+    },
+    /// `op leave`: the acceptor is a member no longer.
+    Leave {
+        id: AcceptorId,
     },
     /// `op probe`: tells what each member keeps for a key.
     Probe {

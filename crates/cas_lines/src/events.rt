@@ -254,7 +254,7 @@ fn read_proposer(proposers: u8, words: &mut Words<'_>) -> Result<u8, TextRefusal
 }
 
 /// The acceptor whose number the last word says.
-fn last_acceptor(words: &mut Words<'_>) -> Result<AcceptorId, TextRefusal>
+pub fn last_acceptor(words: &mut Words<'_>) -> Result<AcceptorId, TextRefusal>
     ensures { result ≡ ended (acceptor_at words.old) }
 {
     let id = read_acceptor(words)?;

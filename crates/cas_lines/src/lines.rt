@@ -17,9 +17,6 @@ use std::alloc::{AllocError, AllocFailed, Global};
 use std::marker::Model;
 use thiserror::Error;
 
-#[cfg(test)]
-mod tests;
-
 /// How many bytes a line may have before its newline, with a carriage return that is dropped.
 pub const LINE_LIMIT: usize = 65_536;
 

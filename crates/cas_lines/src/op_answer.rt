@@ -14,9 +14,6 @@ use cas_record::{OpAnswer, Probe};
 use cas_slot::{Accepted, Tell};
 use std::alloc::{AllocError, Global};
 
-#[cfg(test)]
-mod tests;
-
 /// The line that answers an operator, with its newline.
 pub fn print_op(alloc: Global, answer: &OpAnswer) -> Result<Vec<u8>, AllocError>
     ensures { IfOk result (λ line. line.items ≡ op_line answer.now) }

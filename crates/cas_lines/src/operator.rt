@@ -5,6 +5,7 @@ ghost use Rattle.cas_change_text.specs.Reading.{Reads, GivesInMemory};
 ghost use Rattle.cas_lines.specs.Reading.{ended, key_at, op_name, op_name_at, op_of_name, op_at};
 
 use crate::command::Command;
+use crate::events::last_acceptor;
 use crate::parts::read_key;
 use cas_change::Key;
 use cas_change_text::{TextRefusal, Why, Words, next_word, read_end, says};
@@ -13,6 +14,10 @@ use std::alloc::Global;
 /// What an operator's line asks for, by its second word.
 #[derive(Clone, Copy, Debug, PartialEq, Eq)]
 pub enum OpName {
+    /// That an acceptor becomes a member.
+    Join,
+    /// That a member is one no longer.
+    Leave,
     /// What each member keeps for a key.
     Probe,
 }
@@ -21,7 +26,11 @@ pub enum OpName {
 fn op_name(word: &[u8]) -> Option<OpName>
     ensures { result ≡ op_name word.now }
 {
-    if says(word, "probe") {
+    if says(word, "join") {
+        Some(OpName::Join)
+    } else if says(word, "leave") {
+        Some(OpName::Leave)
+    } else if says(word, "probe") {
         Some(OpName::Probe)
     } else {
         None
@@ -56,6 +65,14 @@ fn op_of_name(alloc: Global, name: OpName, words: &mut Words<'_>) -> Result<Comm
     ensures { GivesInMemory result (op_of_name name words.old) }
 {
     match name {
+        OpName::Join => {
+            let id = last_acceptor(words)?;
+            Ok(Command::Join { id })
+        }
+        OpName::Leave => {
+            let id = last_acceptor(words)?;
+            Ok(Command::Leave { id })
+        }
         OpName::Probe => {
             let key = last_key(alloc, words)?;
             Ok(Command::Probe { key })

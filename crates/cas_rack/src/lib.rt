@@ -5,8 +5,6 @@
 
 mod rack;
 mod store;
-#[cfg(test)]
-mod tests;
 
 pub use rack::{ACCEPTORS, Rack, RackFault, VAULTS};
 pub use store::{Room, Store};

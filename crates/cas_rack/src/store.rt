@@ -7,7 +7,7 @@ ghost use Rattle.cas_cluster.specs.View.{meaning};
 ghost use Rattle.cas_disk_shelf.specs.Shelf.{disk_of};
 ghost use Rattle.cas_record.specs.Legal.{IsLegal};
 ghost use Rattle.cas_world.specs.Opening.{members_to, disks_of, AreDesksBelow};
-ghost use Rattle.cas_world.specs.Proposing.{disks as disks_like};
+ghost use Rattle.cas_calls.specs.Proposing.{disks as disks_like};
 ghost use Rattle.cas_rack.specs.Store.{acceptor_disks, AreReached, StaysClosed};
 
 use crate::rack::{ACCEPTORS, Rack};

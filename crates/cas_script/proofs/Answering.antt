@@ -7,6 +7,7 @@ use Rattle.cas_lines.specs.declared.answer.Shown.{Shown}
 use Rattle.cas_lines.specs.declared.command.Command.{Command}
 use Rattle.cas_lines.specs.declared.command.Command.TheVariants.{Probe, Show}
 use Rattle.cas_record.specs.declared.answer.Answer.{Answer}
+use Rattle.cas_record.specs.declared.operator.Asked as operator
 use Rattle.cas_record.specs.declared.operator.OpAnswer.{OpAnswer}
 use Rattle.cas_script.specs.Probes.{IsProbe}
 use Rattle.cas_cluster.specs.View.{Meaning, View}
@@ -15,12 +16,13 @@ use Rattle.cas_world.specs.Beginning.{HasNoCall}
 use Rattle.cas_script.specs.Changes.{IsChange}
 use Rattle.cas_script.specs.Conditions.{Rule}
 use Rattle.cas_script.specs.Events.{IsShown}
+use Rattle.cas_script.specs.Membership.{ChangesMembers}
 use Rattle.cas_script.specs.Network.{IsNetwork}
-use Rattle.cas_script.specs.Script.{State, LineAnswer, Changed, Happened, Shows, Operated, RunsProbe, probes, RunsChange, RunsEvent, IsAnswered, changes, happens, shows, text_of, IsIn, AnswersLine, RanOrNot, ran, Runs, nowhere}
+use Rattle.cas_script.specs.Script.{State, LineAnswer, Changed, Happened, Shows, Operated, RunsProbe, probes, RunsMembership, changes_members, membership_of, RunsChange, RunsEvent, IsAnswered, changes, happens, shows, text_of, IsIn, AnswersLine, RanOrNot, ran, Runs, nowhere}
 use Rattle.cas_script.specs.Stage.{Stage, IsStage}
 use Rattle.cas_script.specs.declared.halt.Halt.{Halt}
 use Rattle.cas_script.specs.declared.network.Network.{Network}
-use Rattle.cas_script.proofs.Keeping.{change_keeps, stays_quiet, idle_then}
+use Rattle.cas_script.proofs.Keeping.{change_leaves, stays_quiet, idle_then}
 use Rattle.cas_script.proofs.Stages.{stage_of, halt_at, world_is, halts_are, network_is}
 
 -- ---- results
@@ -55,6 +57,32 @@ shows_run {S} {V} m tries stage state line command id key shown world at is says
 pub probes_run : {S V : Type 0} (m : Meaning S V) (tries : ℕ) (old stage : Stage S V) (state : State S V) (line : List ℕ) (command : Command) (key : List ℕ) (answer : OpAnswer) → IsIn old state → IsLine old.world.greatest line (Some command) → command ≡ Probe key
     → (runs : Runs (RunsProbe m state key answer) stage) → IsAnswered m tries state line (Operated answer) runs.new
 probes_run m tries old stage state line command key answer at is says runs = probes key (subst (λ (c : Command). IsLine state.world.greatest line (Some c)) says (line_of old state line (Some command) at is)) runs.has
+
+pub members_run : {S V : Type 0} (m : Meaning S V) (tries : ℕ) (old stage : Stage S V) (state : State S V) (line : List ℕ) (command : Command) (asked : operator.Asked) (answer : OpAnswer) → IsIn old state → IsLine old.world.greatest line (Some command) → membership_of command ≡ Some asked
+    → (runs : Runs (RunsMembership m tries state asked answer) stage) → IsAnswered m tries state line (Operated answer) runs.new
+members_run m tries old stage state line command asked answer at is asks runs = changes_members command asked (line_of old state line (Some command) at is) asks runs.has
+
+-- ---- a change of membership
+pub membership_runs : {S V : Type 0} (m : Meaning S V) (world now : View S V) (network next : Network) (halts : List Halt) (tries : ℕ) (seen : Stage S V) (state : State S V) (asked : operator.Asked) (after : Halt) (answer : OpAnswer)
+    → stage_of world network halts tries ≡ seen → IsIn seen state → 0 < length halts
+    → (IsNetwork network state.rules → IsNetwork next state.rules) → (IsNetwork network state.rules → ChangesMembers m tries state.rules asked (slice_index_or halts 0 nowhere) world answer after now)
+    → Runs (RunsMembership m tries state asked answer) (stage_of now next (slice_set halts 0 after) tries)
+membership_runs {S} {V} m world now network next halts tries seen state asked after answer is at low still runs = record {
+  new = record state { world = now; halts = slice_set state.halts 0 after };
+  is_in = record {
+    world = refl;
+    network = still (network_is world network halts tries seen state is at);
+    halts = ap (λ (l : List Halt). slice_set l 0 after) (halts_are world network halts tries seen state is at);
+  };
+  has = record {
+    halt = slice_index_or halts 0 nowhere;
+    at_halt = halt_at halts state.halts 0 0 refl low (halts_are world network halts tries seen state is at);
+    after = after;
+    changes = subst (λ (w : View S V). ChangesMembers m tries state.rules asked (slice_index_or halts 0 nowhere) w answer after now) (world_is world network halts tries seen state is at) (runs (network_is world network halts tries seen state is at));
+    rules = refl;
+    halts = refl;
+  };
+}
 
 -- ---- a probe
 pub probe_runs : {S V : Type 0} (m : Meaning S V) (world now : View S V) (network next : Network) (halts : List Halt) (tries : ℕ) (seen : Stage S V) (state : State S V) (key : List ℕ) (answer : OpAnswer) → stage_of world network halts tries ≡ seen → IsIn seen state
@@ -98,7 +126,7 @@ change_stage m world now network next halts afters tries proposers id key progra
   known = greatest ∙ is.known;
   few = is.few;
   some = is.some;
-  idle = idle_then world now id (change_keeps m tries is.ruled.0 id key program halt after world now answer (runs is.ruled.0 is.ruled.1)) is.idle idle;
-  quiet = stays_quiet ((change_keeps m tries is.ruled.0 id key program halt after world now answer (runs is.ruled.0 is.ruled.1)).council is.quiet.exchange) is.quiet;
+  idle = idle_then world now id (change_leaves m tries is.ruled.0 id key program halt after world now answer (runs is.ruled.0 is.ruled.1)) is.idle idle;
+  quiet = stays_quiet ((change_leaves m tries is.ruled.0 id key program halt after world now answer (runs is.ruled.0 is.ruled.1)).council is.quiet) is.quiet;
   ruled = (is.ruled.0, still is.ruled.0 is.ruled.1);
 }

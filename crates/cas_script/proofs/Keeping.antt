@@ -25,6 +25,7 @@ use Rattle.cas_script.specs.Changes.{Turned, AllTurned, FailsToTurn, EndsPrepare
 use Rattle.cas_script.specs.Conditions.{Rule}
 use Rattle.cas_script.specs.Events as events
 use Rattle.cas_script.specs.Events.{CrashesAcceptor, RestartsAcceptor, RestartsProposer, StraysIn}
+use Rattle.cas_script.specs.Orders.{KeepsIdle}
 use Rattle.cas_script.specs.Stage.{AllIdle}
 use Rattle.cas_script.specs.declared.halt.Halt.{Halt}
 
@@ -32,10 +33,20 @@ use Rattle.cas_script.specs.declared.halt.Halt.{Halt}
 pub record KeepsOthers {S V : Type 0} (old new : View S V) (id : ℕ) : Type 0 where
   pub greatest : new.greatest ≡ old.greatest
   pub others : (p : ℕ) → p ≢ id → slice_get new.callers p ≡ slice_get old.callers p
-  -- and where no exchange is open, what the operator has under way
+  -- all that the operator has under way stays, where no exchange is open
   pub council : old.council.exchange ≡ None → new.council ≡ old.council
 
-get_other : {A : Type 0} (all : List A) (place : ℕ) (x : A) (p : ℕ) → p ≢ place → slice_get (slice_set all place x) p ≡ slice_get all p
+-- a call that begins or ends leaves it where the operator has no open call
+pub record LeavesOthers {S V : Type 0} (old new : View S V) (id : ℕ) : Type 0 where
+  pub greatest : new.greatest ≡ old.greatest
+  pub others : (p : ℕ) → p ≢ id → slice_get new.callers p ≡ slice_get old.callers p
+  pub council : IsAtRest old.council → new.council ≡ old.council
+
+-- no operator's call is open still
+pub stays_quiet : {old new : Council} → new ≡ old → IsAtRest old → IsAtRest new
+stays_quiet same was = subst IsAtRest (sym same) was
+
+pub get_other : {A : Type 0} (all : List A) (place : ℕ) (x : A) (p : ℕ) → p ≢ place → slice_get (slice_set all place x) p ≡ slice_get all p
 get_other [] place x p other = refl
 get_other (one ∷ rest) zero x zero other = absurd (other refl)
 get_other (one ∷ rest) zero x (suc p) other = refl
@@ -50,19 +61,26 @@ sets old new id next greatest callers council = record { greatest = greatest; co
 stays : {S V : Type 0} (old new : View S V) (id : ℕ) → new.greatest ≡ old.greatest → new.callers ≡ old.callers → new.council ≡ old.council → KeepsOthers old new id
 stays old new id greatest callers council = record { greatest = greatest; council = λ quiet. council; others = λ p other. ap (λ (l : List CallerView). slice_get l p) callers }
 
-both : {S V : Type 0} (old mid new : View S V) (id : ℕ) → KeepsOthers old mid id → KeepsOthers mid new id → KeepsOthers old new id
-both {S} {V} old mid new id before after = record {
+-- so none is open then
+pub quiet_then : {S V : Type 0} (old new : View S V) (id : ℕ) → KeepsOthers old new id → old.council.exchange ≡ None → new.council.exchange ≡ None
+quiet_then old new id keeps quiet = ap (λ (c : Council). c.exchange) (keeps.council quiet) ∙ quiet
+
+pub both : {S V : Type 0} (old mid new : View S V) (id : ℕ) → KeepsOthers old mid id → KeepsOthers mid new id → KeepsOthers old new id
+both old mid new id before after = record {
   greatest = after.greatest ∙ before.greatest;
   others = λ p other. after.others p other ∙ before.others p other;
-  council = λ quiet. after.council (ap (λ (c : Council). c.exchange) (before.council quiet) ∙ quiet) ∙ before.council quiet;
+  council = λ quiet. after.council (quiet_then old mid id before quiet) ∙ before.council quiet;
+}
+
+then_leaves : {S V : Type 0} (old mid new : View S V) (id : ℕ) → KeepsOthers old mid id → LeavesOthers mid new id → LeavesOthers old new id
+then_leaves old mid new id before after = record {
+  greatest = after.greatest ∙ before.greatest;
+  others = λ p other. after.others p other ∙ before.others p other;
+  council = λ rest. after.council (stays_quiet (before.council rest.exchange) rest) ∙ before.council rest.exchange;
 }
 
 same : {S V : Type 0} (old : View S V) (id : ℕ) → KeepsOthers old old id
 same old id = record { greatest = refl; others = λ p other. refl; council = λ quiet. refl }
-
--- so none is open then
-pub quiet_then : {S V : Type 0} (old new : View S V) (id : ℕ) → KeepsOthers old new id → old.council.exchange ≡ None → new.council.exchange ≡ None
-quiet_then old new id keeps quiet = ap (λ (c : Council). c.exchange) (keeps.council quiet) ∙ quiet
 
 -- ---- the calls of a caller
 pub begin_keeps : {S V : Type 0} (m : Meaning S V) (old new : View S V) (id : ℕ) (key : List ℕ) (program : List Clause) → StepBegin m old id key program new → KeepsOthers old new id
@@ -80,9 +98,23 @@ begin_keeps {S} {V} m old new id key program by = both old by.middle new id (ope
     in_round (calls.fails desk now at none up fails is) = sets by.middle new id _ (ap (λ (w : View S V). w.greatest) is) (ap (λ (w : View S V). w.callers) is) (ap (λ (w : View S V). w.council) is)
     in_round (calls.loses desk now ballot at none up loses is) = sets by.middle new id _ (ap (λ (w : View S V). w.greatest) is) (ap (λ (w : View S V). w.callers) is) (ap (λ (w : View S V). w.council) is)
 
-no_begin_keeps : {S V : Type 0} (m : Meaning S V) (old new : View S V) (id : ℕ) (key : List ℕ) → calls.RefusesCall m old id key new → KeepsOthers old new id
-no_begin_keeps {S} {V} m old new id key (calls.stays is) = stays old new id (ap (λ (w : View S V). w.greatest) is) (ap (λ (w : View S V). w.callers) is) (ap (λ (w : View S V). w.council) is)
-no_begin_keeps {S} {V} m old new id key (calls.loses caller desk now ballot at_caller at_desk none up loses is) = stays old new id (ap (λ (w : View S V). w.greatest) is) (ap (λ (w : View S V). w.callers) is) (ap (λ (w : View S V). w.council) is)
+-- a key is proposed anew within a call of the operator
+at_rest_stays : {old new : Council} {id : ℕ} {key : List ℕ} {answer : Answer} → calls.Rescans old id key answer new → IsAtRest old → new ≡ old
+at_rest_stays (calls.rescans of done is) rest = absurd (cc (sym rest.order ∙ of.is_open))
+at_rest_stays (calls.stops of not_done is) rest = absurd (cc (sym rest.order ∙ of.is_open))
+at_rest_stays (calls.is_none other is) rest = is
+
+no_begin_leaves : {S V : Type 0} (m : Meaning S V) (old new : View S V) (id : ℕ) (key : List ℕ) → calls.RefusesCall m old id key new → LeavesOthers old new id
+no_begin_leaves {S} {V} m old new id key (calls.stays told council refusal anew is) = record {
+  greatest = ap (λ (w : View S V). w.greatest) is;
+  others = λ p other. ap (λ (w : View S V). slice_get w.callers p) is;
+  council = λ rest. ap (λ (w : View S V). w.council) is ∙ at_rest_stays anew rest;
+}
+no_begin_leaves {S} {V} m old new id key (calls.loses caller desk now ballot council at_caller at_desk none up loses anew is) = record {
+  greatest = ap (λ (w : View S V). w.greatest) is;
+  others = λ p other. ap (λ (w : View S V). slice_get w.callers p) is;
+  council = λ rest. ap (λ (w : View S V). w.council) is ∙ at_rest_stays anew rest;
+}
 
 pub turn_keeps : {S V : Type 0} (m : Meaning S V) (old new : View S V) (id : ℕ) (v : Verdict) → StepTurn m old id v new → KeepsOthers old new id
 turn_keeps {S} {V} m old new id v by = in_turn by.of_call by.front by.turn
@@ -118,8 +150,12 @@ count_keeps {S} {V} m old new id by = in_phase by.at_round.of_call by.at_round.d
     in_phase at desk round (calls.counts now by outcome quorum confirmers proposed ends is) = sets old new id _ (ap (λ (w : View S V). w.greatest) is) (ap (λ (w : View S V). w.callers) is) (ap (λ (w : View S V). w.council) is)
     in_phase at desk round (calls.ends now verdict why verdict_is cause ends is) = sets old new id _ (ap (λ (w : View S V). w.greatest) is) (ap (λ (w : View S V). w.callers) is) (ap (λ (w : View S V). w.council) is)
 
-pub end_keeps : {S V : Type 0} (m : Meaning S V) (old new : View S V) (id : ℕ) (told : Answer) → StepEnd m old id told new → KeepsOthers old new id
-end_keeps {S} {V} m old new id told by = sets old new id _ (ap (λ (w : View S V). w.greatest) by.ends.view) (ap (λ (w : View S V). w.callers) by.ends.view) (ap (λ (w : View S V). w.council) by.ends.view)
+end_leaves : {S V : Type 0} (m : Meaning S V) (old new : View S V) (id : ℕ) (told : Answer) → StepEnd m old id told new → LeavesOthers old new id
+end_leaves {S} {V} m old new id told by = record {
+  greatest = ap (λ (w : View S V). w.greatest) by.ends.view;
+  others = λ p other. ap (λ (w : View S V). slice_get w.callers p) by.ends.view ∙ get_other old.callers id _ p other;
+  council = λ rest. ap (λ (w : View S V). w.council) by.ends.view ∙ at_rest_stays by.ends.rescans rest;
+}
 
 desk_crash_keeps : {S V : Type 0} (m : Meaning S V) (old new : View S V) (id : ℕ) → CrashesDesk m old id new → KeepsOthers old new id
 desk_crash_keeps {S} {V} m old new id (stops.idle desk now at none crashes is) = stays old new id (ap (λ (w : View S V). w.greatest) is) (ap (λ (w : View S V). w.callers) is) (ap (λ (w : View S V). w.council) is)
@@ -164,33 +200,34 @@ round_keeps m rules id halt after old new (changes.halts {turned = turned} turns
 round_keeps m rules id halt after old new (changes.ends_short by) = prepare_keeps m rules id halt old new by
 round_keeps m rules id halt after old new (changes.proposes {proposed = proposed} by accepted) = both old proposed new id (prepare_keeps m rules id halt old proposed by) (accepted_keeps m rules id halt after proposed new accepted)
 
-rounds_keep : {S V : Type 0} (m : Meaning S V) (rules : List Rule) (id : ℕ) (key : List ℕ) (program : List Clause) (tries : ℕ) (halt after : Halt) (old new : View S V) → AreRounds m rules id key program tries halt old after new → KeepsOthers old new id
+pub rounds_keep : {S V : Type 0} (m : Meaning S V) (rules : List Rule) (id : ℕ) (key : List ℕ) (program : List Clause) (tries : ℕ) (halt after : Halt) (old new : View S V) → AreRounds m rules id key program tries halt old after new → KeepsOthers old new id
 rounds_keep m rules id key program tries halt after old new (changes.last by ends) = round_keeps m rules id halt after old new by
 rounds_keep m rules id key program tries halt after old new (changes.another {mid = mid} {met = met} {begun = begun} many by is_met begins more) =
     both old met new id (round_keeps m rules id halt mid old met by) (both met begun new id (begin_keeps m met begun id key program begins) (rounds_keep m rules id key program _ mid after begun new more))
 
-pub change_keeps : {S V : Type 0} (m : Meaning S V) (tries : ℕ) (rules : List Rule) (id : ℕ) (key : List ℕ) (program : List Clause) (halt after : Halt) (old new : View S V) (answer : Answer) → IsChange m tries rules id key program halt old answer after new → KeepsOthers old new id
-change_keeps m tries rules id key program halt after old new answer (changes.refused is by) = no_begin_keeps m old new id key by
-change_keeps m tries rules id key program halt after old new answer (changes.ended {begun = begun} {told = told} begins rounds ends) =
-    both old begun new id (begin_keeps m old begun id key program begins) (both begun told new id (rounds_keep m rules id key program tries halt after begun told rounds) (end_keeps m told new id answer ends))
+pub change_leaves : {S V : Type 0} (m : Meaning S V) (tries : ℕ) (rules : List Rule) (id : ℕ) (key : List ℕ) (program : List Clause) (halt after : Halt) (old new : View S V) (answer : Answer) → IsChange m tries rules id key program halt old answer after new → LeavesOthers old new id
+change_leaves m tries rules id key program halt after old new answer (changes.refused is by) = no_begin_leaves m old new id key by
+change_leaves m tries rules id key program halt after old new answer (changes.ended {begun = begun} {told = told} begins rounds ends) =
+    then_leaves old told new id (both old begun told id (begin_keeps m old begun id key program begins) (rounds_keep m rules id key program tries halt after begun told rounds)) (end_leaves m told new id answer ends)
 
 -- ---- no call is open
-pub idle_then : {S V : Type 0} (old new : View S V) (id : ℕ) → KeepsOthers old new id → AllIdle old → HasNoCall new id → AllIdle new
-idle_then old new id keeps idle own p low = elim (true_or_false (nat_eq p id)) [
+pub still_none : {S V : Type 0} (old new : View S V) (id : ℕ) → LeavesOthers old new id → HasNoCall new id → (p : ℕ) → HasNoCall old p → HasNoCall new p
+still_none old new id leaves own p was = elim (true_or_false (nat_eq p id)) [
   | inl is ↦ subst (HasNoCall new) (sym (eqb-true p id is)) own
-  | inr other ↦ let was = idle p (subst (λ (g : ℕ). p ≤ g) keeps.greatest low) in
-      record { caller = was.caller; at_caller = keeps.others p (eqb-false p id other) ∙ was.at_caller; none_open = was.none_open }
+  | inr other ↦ record { caller = was.caller; at_caller = leaves.others p (eqb-false p id other) ∙ was.at_caller; none_open = was.none_open }
 ]
+
+pub idle_then : {S V : Type 0} (old new : View S V) (id : ℕ) → LeavesOthers old new id → AllIdle old → HasNoCall new id → AllIdle new
+idle_then old new id leaves idle own p low = still_none old new id leaves own p (idle p (subst (λ (g : ℕ). p ≤ g) leaves.greatest low))
+
+pub all_idle : {S V : Type 0} (old new : View S V) → KeepsIdle old new → AllIdle old → AllIdle new
+all_idle old new keeps idle p low = keeps.idle p (idle p (subst (λ (g : ℕ). p ≤ g) keeps.greatest low))
 
 -- no caller changes
 pub record KeepsCallers {S V : Type 0} (old new : View S V) : Type 0 where
   pub greatest : new.greatest ≡ old.greatest
   pub callers : new.callers ≡ old.callers
-  pub council : old.council.exchange ≡ None → new.council ≡ old.council
-
--- no operator's call is open still
-pub stays_quiet : {old new : Council} → new ≡ old → IsAtRest old → IsAtRest new
-stays_quiet same was = subst IsAtRest (sym same) was
+  pub council : IsAtRest old.council → new.council ≡ old.council
 
 pub still_idle : {S V : Type 0} (old new : View S V) → new.greatest ≡ old.greatest → new.callers ≡ old.callers → AllIdle old → AllIdle new
 still_idle old new greatest callers idle p low =
@@ -201,7 +238,7 @@ by_view : {S V : Type 0} (old changed new : View S V) → new ≡ changed → ch
 by_view {S} {V} old changed new is greatest callers council = record {
   greatest = ap (λ (w : View S V). w.greatest) is ∙ greatest;
   callers = ap (λ (w : View S V). w.callers) is ∙ callers;
-  council = λ quiet. ap (λ (w : View S V). w.council) is ∙ council;
+  council = λ rest. ap (λ (w : View S V). w.council) is ∙ council;
 }
 
 pub crashes_keep : {S V : Type 0} (m : Meaning S V) (old new : View S V) (id : ℕ) (answer : EventAnswer) → CrashesAcceptor m old id answer new → KeepsCallers old new
@@ -239,7 +276,7 @@ crash_between {S} {V} m old new id low idle (stops.of_operator middle operator c
     record {
       greatest = after.greatest ∙ before.greatest;
       callers = ap (λ (w : View S V). w.callers) is ∙ before.callers;
-      council = λ quiet. after.council (ap (λ (c : Council). c.exchange) (before.council quiet) ∙ quiet) ∙ before.council quiet;
+      council = λ rest. after.council (stays_quiet (before.council rest) rest).exchange ∙ before.council rest;
     }
 
 stray_step : {S V : Type 0} (m : Meaning S V) (old new : View S V) (index : ℕ) (late : Message) → frames.Strays m old index late new → KeepsCallers old new

@@ -1,10 +1,13 @@
 pub mod Answering
+pub mod Asking
+pub mod Carrying
+pub mod Entering
 pub mod Happenings
 pub mod Keeping
 pub mod Opened
 pub mod Outcomes
 pub mod Playing
-pub mod Probing
+pub mod Rescanning
 pub mod Rules
 pub mod Stages
 pub mod Turns

@@ -1,6 +1,14 @@
 -- What is so of a result by whether it is an error.
-use Rattle.std.proofs.Common.{◌≡◌, true, false, Ok, Err}
-use Rattle.std.specs.Prelude.{Result, IfErr, OnOk, OnErr, is_err}
+use Rattle.std.proofs.Common.{◌≡◌, true, false, Option, None, Some, Ok, Err, refl}
+use Rattle.std.specs.Prelude.{Result, IfErr, IfNone, IsSome, OnOk, OnErr, is_err, is_some, option_map}
+
+pub if_none : {T P : Type 0} (o : Option T) → is_some o ≡ false → IfNone o P → P
+if_none None none p = p
+if_none (Some x) none p = absurd cc
+
+pub some_mapped : {T U : Type 0} (f : T → U) (o : Option T) → is_some o ≡ true → IsSome (option_map f o)
+some_mapped f None some = absurd cc
+some_mapped f (Some x) some = refl
 
 pub on_err : {T E P : Type 0} (r : Result T E) → is_err r ≡ true → OnErr r P → P
 on_err (Ok x) e p = absurd cc

@@ -16,6 +16,7 @@ use Rattle.cas_record.specs.declared.answer.Cause.TheVariants as cause
 use Rattle.cas_record.proofs.Eras.{le_or_lt}
 use Rattle.cas_round.specs.declared.verdict.RoundVerdict.{RoundVerdict}
 use Rattle.cas_round.specs.declared.verdict.RoundVerdict.TheVariants as verdict
+use Rattle.cas_cluster.specs.Council.{Council}
 use Rattle.cas_cluster.specs.Step.{StepBegin, StepTurn, StepRefuseTurn, StepPropose, StepCount, StepEnd}
 use Rattle.cas_cluster.specs.StepStops.{CrashesDesk, StepCrashProposer, of_client, of_operator, idle, closes, closed_by_crash, OpenCallAt}
 use Rattle.cas_cluster.specs.StepCalls as calls
@@ -28,7 +29,7 @@ use Rattle.cas_world.specs.Readers.{next_number, closed_in, told_if, IsVerdictIn
 use Rattle.cas_world.specs.Reading.{HasProposed}
 use Rattle.cas_world.specs.World.{IsInPhase, WasTold}
 use Rattle.cas_script.specs.Changes.{IsRefused, full, no_memory, IsAccepting, HasQuorum, IsMet}
-use Rattle.cas_script.proofs.Keeping.{quiet_then, begin_keeps, refuse_keeps, propose_keeps, count_keeps, crash_keeps}
+use Rattle.cas_script.proofs.Keeping.{KeepsOthers, quiet_then, begin_keeps, refuse_keeps, propose_keeps, count_keeps, crash_keeps}
 use Rattle.cas_script.specs.Playing.{Asked, IsFor, HasBegun, IsPlaying, IsOver, is_conflict}
 
 -- ---- who plays on
@@ -110,6 +111,8 @@ turn_fails {S} {V} m old new id asked proposed was by =
     let is : IsFor new id asked next = for_on old new id asked was.call was.is_for at.caller at.call next at.at_caller at.is_open
     (ap (λ (w : View S V). w.callers) by.view ∙ ap (λ (l : List CallerView). slice_set l id (record at.caller { call = Some next })) (callers_stay by.refuses)) refl refl in
     record {
+      call = next;
+      is_for = is;
       was_told = told_on new id asked next (answer.NoMemory proposed) is (ap (λ (b : Bool). Some (answer.NoMemory b)) has);
       quiet = quiet_then old new id (refuse_keeps m old new id by) was.quiet;
       again = λ met told. absurd (cc told);
@@ -182,6 +185,8 @@ none_of (Some x) is = absurd (cc is)
 -- a prepare phase that ended without a proposal
 pub propose_over : {S V : Type 0} (m : Meaning S V) (old new : View S V) (id : ℕ) (asked : Asked) (told : Answer) → IsPlaying old id asked false → StepPropose m old id new → ((caller : CallerView) → slice_get old.callers id ≡ Some caller → WasTold new id caller.number told) → IsOver new id asked told
 propose_over {S} {V} m old new id asked told was by tells = record {
+  call = (now_for by.at_round.of_call by.at_round.desk by.at_round.round by.proposes).0;
+  is_for = (now_for by.at_round.of_call by.at_round.desk by.at_round.round by.proposes).1;
   was_told = subst (λ (n : ℕ). WasTold new id n told) was.is_for.number (tells was.is_for.caller was.is_for.at_caller);
   quiet = quiet_then old new id (propose_keeps m old new id by) was.quiet;
   again = in_phase by.at_round.of_call by.at_round.desk by.at_round.round by.proposes;
@@ -196,6 +201,13 @@ propose_over {S} {V} m old new id asked told was by tells = record {
 
     over_for : (at : OpenCallAt old id) (now : DeskView V) (one : Answer) → new.callers ≡ slice_set old.callers id (record at.caller { call = Some (calls.over at.call one) }) → IsFor new id asked (calls.over at.call one)
     over_for at now one callers = for_on old new id asked was.call was.is_for at.caller at.call (calls.over at.call one) at.at_caller at.is_open callers refl refl
+
+    now_for : (of_call : OpenCallAt old id) (desk : DeskView V) (round : Round) → calls.ProposesOrEnds m old id desk round of_call.caller of_call.call new → (call : CallView) × IsFor new id asked call
+    now_for at desk round (calls.proposes now turned read by ride outcome flow quorum confirmers reads turns made sends same) =
+        (calls.proposing at.call outcome, for_on old new id asked was.call was.is_for at.caller at.call (calls.proposing at.call outcome) at.at_caller at.is_open (ap (λ (w : View S V). w.callers) same) refl refl)
+    now_for at desk round (calls.ends now verdict one is refuses ends same) = (calls.over at.call one, over_for at now one (ap (λ (w : View S V). w.callers) same))
+    now_for at desk round (calls.fails now fails same) = (calls.over at.call answer.VaultFault, over_for at now answer.VaultFault (ap (λ (w : View S V). w.callers) same))
+    now_for at desk round (calls.loses now ballot loses same) = (calls.over at.call (answer.NoMemory false), over_for at now (answer.NoMemory false) (ap (λ (w : View S V). w.callers) same))
 
     in_phase : (of_call : OpenCallAt old id) (desk : DeskView V) (round : Round) → calls.ProposesOrEnds m old id desk round of_call.caller of_call.call new → (met : Ballot) → told ≡ answer.Conflict met → MayBegin new id asked.number asked.key asked.program
     in_phase at desk round (calls.proposes now turned read by ride outcome flow quorum confirmers reads turns made sends same) met conflict =
@@ -257,8 +269,9 @@ refuse_greatest {S} {V} m old new id by = ap (λ (v : View S V). v.greatest) by.
     by_case (frames.kept id acceptor now there finds same) = ap (λ (v : View S V). v.greatest) same
 
 pub no_begin_idle : {S V : Type 0} (m : Meaning S V) (old new : View S V) (id : ℕ) (key : List ℕ) → calls.RefusesCall m old id key new → HasNoCall old id → HasNoCall new id
-no_begin_idle {S} {V} m old new id key (calls.stays same) none = subst (λ (v : View S V). HasNoCall v id) (sym same) none
-no_begin_idle {S} {V} m old new id key (calls.loses caller desk now ballot at_caller at_desk no_round up loses same) none =
+no_begin_idle {S} {V} m old new id key (calls.stays told council refusal anew same) none =
+    record { caller = none.caller; at_caller = subst (λ (v : View S V). IsAt v.callers id none.caller) (sym same) none.at_caller; none_open = none.none_open }
+no_begin_idle {S} {V} m old new id key (calls.loses caller desk now ballot council at_caller at_desk no_round up loses anew same) none =
     record { caller = none.caller; at_caller = subst (λ (v : View S V). IsAt v.callers id none.caller) (sym same) none.at_caller; none_open = none.none_open }
 
 -- ---- what is told
@@ -318,11 +331,20 @@ may_again view id asked told over is = let met = conflict_met told is in over.ag
 -- ---- a count
 pub count_over : {S V : Type 0} (m : Meaning S V) (old new : View S V) (id : ℕ) (asked : Asked) (told : Answer) → IsPlaying old id asked true → StepCount m old id new → ((caller : CallerView) → slice_get old.callers id ≡ Some caller → WasTold new id caller.number told) → IsOver new id asked told
 count_over {S} {V} m old new id asked told was by tells = record {
+  call = (now_for by.at_round.of_call by.at_round.desk by.at_round.round by.counts).0;
+  is_for = (now_for by.at_round.of_call by.at_round.desk by.at_round.round by.counts).1;
   was_told = subst (λ (n : ℕ). WasTold new id n told) was.is_for.number (tells was.is_for.caller was.is_for.at_caller);
   quiet = quiet_then old new id (count_keeps m old new id by) was.quiet;
   again = in_phase by.at_round.of_call by.at_round.desk by.at_round.round by.counts;
 }
   where
+    over_for : (at : OpenCallAt old id) (one : Answer) → new.callers ≡ slice_set old.callers id (record at.caller { call = Some (calls.over at.call one) }) → (call : CallView) × IsFor new id asked call
+    over_for at one callers = (calls.over at.call one, for_on old new id asked was.call was.is_for at.caller at.call (calls.over at.call one) at.at_caller at.is_open callers refl refl)
+
+    now_for : (of_call : OpenCallAt old id) (desk : DeskView V) (round : Round) → calls.CountsOrEnds m old id desk round of_call.caller of_call.call new → (call : CallView) × IsFor new id asked call
+    now_for at desk round (calls.counts now by outcome quorum confirmers proposed ends same) = over_for at _ (ap (λ (w : View S V). w.callers) same)
+    now_for at desk round (calls.ends now verdict why is cause ends same) = over_for at _ (ap (λ (w : View S V). w.callers) same)
+
     not_so : (at : OpenCallAt old id) (one : Answer) (met : Ballot) → new.callers ≡ slice_set old.callers id (record at.caller { call = Some (calls.over at.call one) }) → told ≡ answer.Conflict met → one ≡ answer.Conflict met
     not_so at one met callers conflict =
         let is = for_on old new id asked was.call was.is_for at.caller at.call (calls.over at.call one) at.at_caller at.is_open callers refl refl in
@@ -357,7 +379,7 @@ crash_of {S} {V} m old middle new id asked proposed closed was (closes desk now 
     record {
       told = told;
       is = says is.caller is.at_caller ∙ ap closed_in is.is_call ∙ closed_told (is_some at.call.proposed);
-      over = record { was_told = told_on new id asked (closed_by_crash at.call) told is refl; quiet = quiet; again = λ met conflict. absurd (crashed_not_met (is_some at.call.proposed) met conflict) };
+      over = record { call = closed_by_crash at.call; is_for = is; was_told = told_on new id asked (closed_by_crash at.call) told is refl; quiet = quiet; again = λ met conflict. absurd (crashed_not_met (is_some at.call.proposed) met conflict) };
     }
 
 pub crash_over : {S V : Type 0} (m : Meaning S V) (old new : View S V) (id : ℕ) (asked : Asked) (proposed : Bool) (closed : Option Answer) → IsPlaying old id asked proposed → StepCrashProposer m old id new → ((caller : CallerView) → IsAt new.callers id caller → closed ≡ closed_in caller.call)
@@ -480,6 +502,26 @@ begun_not_met m old new id key program P by met =
     let one : met.of_call.caller ≡ b.caller = at_one new.callers id met.of_call.at_caller b.at_caller in
     absurd (b.no_conflict (subst (λ (c : CallView). WasMet c.told) (some_is (sym met.of_call.is_open ∙ ap (λ (c : CallerView). c.call) one ∙ b.is_call)) met.met))
 
+-- so its caller was told that
+pub begun_over : {S V : Type 0} (m : Meaning S V) (old new : View S V) (id number : ℕ) (key : List ℕ) (program : List Clause) (told : Answer) → old.council.exchange ≡ None → StepBegin m old id key program new → WasTold new id number told
+    → IsOver new id (record { number = number; key = key; program = program }) told
+begun_over m old new id number key program told quiet by was =
+    let b = begins_for m old new id key program by in
+    record {
+      call = b.call;
+      is_for = record {
+        caller = b.caller;
+        at_caller = b.at_caller;
+        number = ap (λ (c : CallerView). c.number) (at_one new.callers id b.at_caller was.at_caller) ∙ was.same_number;
+        is_call = b.is_call;
+        key = b.key_is;
+        program = b.program_is;
+      };
+      was_told = was;
+      quiet = quiet_then old new id (begin_keeps m old new id key program by) quiet;
+      again = λ met conflict. absurd (b.no_conflict (subst WasMet (sym (told_in new id number told was b.caller b.call b.at_caller b.is_call ∙ ap (λ (a : Answer). Some a) conflict)) tt));
+    }
+
 -- a call that is refused as it would begin
 refused_by : {S V : Type 0} {A : Type 0} (world : View S V) (id : ℕ) (told : Answer) → (IsErrOf {T = A} (Err told) answer.RecordFull ↔ IsFull world id)
     → (told ≡ answer.RecordFull) ⊎ (told ≡ answer.NoMemory false) → IsRefused world id told
@@ -494,9 +536,9 @@ refused_by {S} {V} {A} world id told cause (inr is) = subst (IsRefused world id)
 
 pub refusal_is : {S V : Type 0} {A : Type 0} (m : Meaning S V) (old new : View S V) (id number : ℕ) (key : List ℕ) (program : List Clause) (told : Answer) → HasNoCall old id → is_refusal told ≡ true
     → (IsErrOf {T = A} (Err told) answer.RecordFull ↔ IsFull old id)
-    → BeginsOrNot {A = A} m old id number key program (Err told) new → IsRefused old id told × calls.RefusesCall m old id key new × HasNoCall new id
+    → BeginsOrNot {A = A} m old id number key program (Err told) new → IsRefused old id told × calls.RefusesCall m old id key new × HasNoCall new id × calls.Rescans old.council id key told new.council
 refusal_is m old new id number key program told none is cause (inl begun) = absurd (cc (begun.2 none, is))
-refusal_is m old new id number key program told none is cause (inr not_begun) = (refused_by old id told cause not_begun.2, not_begun.0, no_begin_idle m old new id key not_begun.0 none)
+refusal_is m old new id number key program told none is cause (inr not_begun) = (refused_by old id told cause not_begun.2, not_begun.0, no_begin_idle m old new id key not_begun.0 none, not_begun.3)
 
 pub told_is : {S V : Type 0} (A : Type 0) (m : Meaning S V) (old new : View S V) (id number : ℕ) (key : List ℕ) (program : List Clause) (told : Answer) → is_refusal told ≡ false
     → BeginsOrNot {A = A} m old id number key program (Err told) new → StepBegin m old id key program new × WasTold new id number told
@@ -512,3 +554,12 @@ pub again_is : {S V : Type 0} (A : Type 0) (m : Meaning S V) (old new : View S V
 again_is A m old new id number before key program told last was (inl begun) = (begun.0, begun.1)
 again_is A m old new id number before key program told last was (inr not_begun) =
     absurd (cc (sym not_begun.1.none_open ∙ ap (λ (c : CallerView). c.call) (at_one old.callers id not_begun.1.at_caller was.at_caller) ∙ was.is_open))
+
+-- ---- a call ends
+-- the key that it was for is proposed anew with it, if it is due
+pub ends_rescan : {S V : Type 0} (m : Meaning S V) (old told new : View S V) (id : ℕ) (asked : Asked) (answer : Answer) → KeepsOthers old told id → old.council.exchange ≡ None → IsOver told id asked answer → StepEnd m told id answer new
+    → calls.Rescans old.council id asked.key answer new.council
+ends_rescan {S} {V} m old told new id asked answer keeps quiet over by =
+    let key : by.of_call.call.key ≡ asked.key = ap (λ (c : CallView). c.key) (same_call told id asked over.call over.is_for by.of_call) ∙ over.is_for.key in
+    subst (λ (c : Council). calls.Rescans c id asked.key answer new.council) (keeps.council quiet)
+    (subst (λ (c : Council). calls.Rescans told.council id asked.key answer c) (sym (ap (λ (w : View S V). w.council) by.ends.view)) (subst (λ (k : List ℕ). calls.Rescans told.council id k answer by.ends.council) key by.ends.rescans))

@@ -14,13 +14,13 @@ use Rattle.cas_vault.specs.declared.error.VaultError.{VaultError}
 use Rattle.cas_vault.specs.declared.error.VaultError.TheVariants as vault_error
 use Rattle.cas_cluster.specs.Step.{Step, Stray, RefuseStray, CrashAcceptor, RestartAcceptor, RestartProposer}
 use Rattle.cas_cluster.specs.StepCalls.{most_marks}
-use Rattle.cas_cluster.specs.View.{Meaning, View, IsAt, reserved_in_all, era_at}
+use Rattle.cas_cluster.specs.View.{Meaning, View, IsAt, reserved_in_all}
 use Rattle.cas_world.specs.Readers.{up_in}
 use Rattle.cas_world.specs.Restarting.{TellsOfAcceptor, TellsOfDesk}
 
--- whether the acceptor is up, where it is a member
+-- whether the acceptor is up, where it is or was a member
 abbrev pub is_up : {S V : Type 0} → View S V → ℕ → Option Bool
-is_up view id = up_in (era_at view 0) id (slice_get view.acceptors id)
+is_up view id = up_in view.council.used id (slice_get view.acceptors id)
 
 -- ---- acceptors
 -- one that is no member is absent

@@ -1,7 +1,10 @@
 pub mod Changes
 pub mod Conditions
 pub mod Events
+pub mod Exchanges
+pub mod Membership
 pub mod Network
+pub mod Orders
 pub mod Playing
 pub mod Probes
 pub mod Script

@@ -58,6 +58,8 @@ is_conflict other = false
 
 -- it was told this, and where that is a conflict it may begin another round
 pub record IsOver {S V : Type 0} (view : View S V) (id : ℕ) (asked : Asked) (told : Answer) : Type 0 where
+  pub call : CallView
+  pub is_for : IsFor view id asked call
   pub was_told : WasTold view id asked.number told
   pub quiet : view.council.exchange ≡ None
   pub again : (met : Ballot) → told ≡ answer.Conflict met → MayBegin view id asked.number asked.key asked.program

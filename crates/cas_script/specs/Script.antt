@@ -1,5 +1,5 @@
 -- A script: its lines run one after another, each has its answer, and the answers are its transcript.
-use Rattle.std.specs.Prelude.{◌≡◌, ℕ, suc, Bool, true, false, List, [], ◌∷◌, ◌++◌, Some, None, Err, replicate, slice_set}
+use Rattle.std.specs.Prelude.{◌≡◌, ℕ, suc, Bool, true, false, List, [], ◌∷◌, ◌++◌, Option, Some, None, Err, replicate, slice_set}
 use Rattle.cas_change_text.specs.declared.refusal.Why.{Why}
 use Rattle.cas_lines.specs.Answers.{change_line, bad_line, event_line, op_line, shown_line}
 use Rattle.cas_lines.specs.Command.{IsLine, Asked, change_of}
@@ -8,8 +8,10 @@ use Rattle.cas_lines.specs.declared.answer.EventAnswer.{EventAnswer}
 use Rattle.cas_lines.specs.declared.answer.EventAnswer.TheVariants as event
 use Rattle.cas_lines.specs.declared.answer.Shown.{Shown}
 use Rattle.cas_lines.specs.declared.command.Command.{Command}
-use Rattle.cas_lines.specs.declared.command.Command.TheVariants.{Probe, Net, CrashAcceptor, RestartAcceptor, CrashProposer, RestartProposer, HaltPrepared, HaltProposed, Stray, Show}
+use Rattle.cas_lines.specs.declared.command.Command.TheVariants.{Join, Leave, Probe, Net, CrashAcceptor, RestartAcceptor, CrashProposer, RestartProposer, HaltPrepared, HaltProposed, Stray, Show}
 use Rattle.cas_record.specs.declared.answer.Answer.{Answer}
+use Rattle.cas_record.specs.declared.operator.Asked as operator
+use Rattle.cas_record.specs.declared.operator.Asked.TheVariants.{Join as ToJoin, Leave as ToLeave}
 use Rattle.cas_record.specs.declared.operator.OpAnswer.{OpAnswer}
 use Rattle.cas_cluster.specs.Step as step
 use Rattle.cas_cluster.specs.Step.{Step}
@@ -17,6 +19,7 @@ use Rattle.cas_cluster.specs.View.{Meaning, View, IsAt}
 use Rattle.cas_script.specs.Changes.{IsChange}
 use Rattle.cas_script.specs.Conditions.{Rule}
 use Rattle.cas_script.specs.Events.{CrashesAcceptor, RestartsAcceptor, RestartsProposer, StraysIn, IsShown}
+use Rattle.cas_script.specs.Membership.{ChangesMembers}
 use Rattle.cas_script.specs.Network.{IsNetwork}
 use Rattle.cas_script.specs.Probes.{IsProbe}
 use Rattle.cas_script.specs.Stage.{Stage}
@@ -74,6 +77,21 @@ pub record RunsProbe {S V : Type 0} (m : Meaning S V) (old : State S V) (key : L
   pub rules : new.rules ≡ old.rules
   pub halts : new.halts ≡ old.halts
 
+-- the change of membership that a command asks for
+abbrev pub membership_of : Command → Option operator.Asked
+membership_of (Join id) = Some (ToJoin id)
+membership_of (Leave id) = Some (ToLeave id)
+membership_of command = None
+
+-- a line that asks for it runs it, and the halts of proposer 0 may be used up
+pub record RunsMembership {S V : Type 0} (m : Meaning S V) (tries : ℕ) (old : State S V) (asked : operator.Asked) (answer : OpAnswer) (new : State S V) : Type 0 where
+  pub halt : Halt
+  pub at_halt : IsAt old.halts 0 halt
+  pub after : Halt
+  pub changes : ChangesMembers m tries old.rules asked halt old.world answer after new.world
+  pub rules : new.rules ≡ old.rules
+  pub halts : new.halts ≡ slice_set old.halts 0 after
+
 -- the line is run as its words say, by a script of so many tries
 pub data IsAnswered {S V : Type 0} (m : Meaning S V) (tries : ℕ) (old : State S V) (line : List ℕ) : LineAnswer → State S V → Type 0 where
   changes : {answer : Answer} {new : State S V} (command : Command) (asked : Asked) → IsLine old.world.greatest line (Some command) → change_of command ≡ Some asked → RunsChange m tries old asked answer new
@@ -81,6 +99,8 @@ pub data IsAnswered {S V : Type 0} (m : Meaning S V) (tries : ℕ) (old : State 
   happens : {answer : EventAnswer} {new : State S V} (command : Command) → IsLine old.world.greatest line (Some command) → RunsEvent m old command answer new → IsAnswered m tries old line (Happened answer) new
   shows : {shown : Shown} (id : ℕ) (key : List ℕ) → IsLine old.world.greatest line (Some (Show id key)) → IsShown m old.world id key shown → IsAnswered m tries old line (Shows id key shown) old
   probes : {answer : OpAnswer} {new : State S V} (key : List ℕ) → IsLine old.world.greatest line (Some (Probe key)) → RunsProbe m old key answer new → IsAnswered m tries old line (Operated answer) new
+  changes_members : {answer : OpAnswer} {new : State S V} (command : Command) (asked : operator.Asked) → IsLine old.world.greatest line (Some command) → membership_of command ≡ Some asked → RunsMembership m tries old asked answer new
+      → IsAnswered m tries old line (Operated answer) new
   -- a line that is refused changes nothing
   refused : (why : Why) (word : ℕ) → line_in old.world.greatest line ≡ Err (record { why = why; word = word }) → IsAnswered m tries old line (Bad why) old
   remark : IsLine old.world.greatest line None → IsAnswered m tries old line Remark old

@@ -2,10 +2,10 @@
 
 ghost use Rattle.std.specs.Prelude.{◌≡◌, ◌≤◌, ◌↔◌, Bool, true, false, None, Some, List, IsTrue, IfErr, OnOk, OnErr};
 ghost use Rattle.cas_cluster.specs.Step.{Step, CrashProposer};
+ghost use Rattle.cas_cluster.specs.StepCalls.{Rescans};
 ghost use Rattle.cas_cluster.specs.View.{meaning};
 ghost use Rattle.cas_record.specs.declared.answer.Answer.TheVariants as answer;
 ghost use Rattle.cas_world.specs.Beginning.{is_refusal, HasNoCall};
-ghost use Rattle.cas_world.specs.World.{WasTold};
 ghost use Rattle.cas_script.specs.Changes.{AllTurned, FailsToTurn, EndsPrepare, IsAccepted, IsRound, AreRounds, IsChange, HasQuorum};
 ghost use Rattle.cas_script.specs.Conditions.{Rule};
 ghost use Rattle.cas_script.specs.Network.{IsNetwork};
@@ -39,6 +39,7 @@ pub fn change<S: Shelf, V: Disk>(
     requires network { (rules : List Rule) × IsNetwork network.old rules }
     ensures change { (rules : List Rule) → IsNetwork network.old rules → IsChange (meaning S.contents S.tells S.may_leave S.fault_count V.tells V.may_leave V.fault_count) tries rules caller key.now program.now halt.old world.old result halt.new world.new }
     ensures network { (rules : List Rule) → IsNetwork network.old rules → IsNetwork network.new rules }
+    ensures rescans { Rescans world.old.council caller key.now result world.new.council }
     ensures idle { HasNoCall world.new caller }
     ensures greatest { world.new.greatest ≡ world.old.greatest }
 {
@@ -78,7 +79,7 @@ fn rounds<S: Shelf, V: Disk>(
     requires network { (rules : List Rule) × IsNetwork network.old rules }
     ensures rounds { (rules : List Rule) → IsNetwork network.old rules → AreRounds (meaning S.contents S.tells S.may_leave S.fault_count V.tells V.may_leave V.fault_count) rules caller key.now program.now tries halt.old world.old halt.new world.new }
     ensures network { (rules : List Rule) → IsNetwork network.old rules → IsNetwork network.new rules }
-    ensures told { WasTold world.new caller call result }
+    ensures over { IsOver world.new caller (record { number = call; key = key.now; program = program.now }) result }
     ensures greatest { world.new.greatest ≡ world.old.greatest }
 {
     let told = round(world, network, halt, caller);

@@ -13,7 +13,7 @@ use cas_vault::VaultError;
 use cas_world::{StrayFault, World};
 use std::alloc::AllocError;
 
-/// The acceptor crashes, if it is a member.
+/// The acceptor crashes, if it is or was a member.
 pub(crate) fn crash_acceptor<S: Shelf, V: Disk>(
     world: &mut World<S, V>,
     id: AcceptorId,
@@ -29,7 +29,7 @@ pub(crate) fn crash_acceptor<S: Shelf, V: Disk>(
     }
 }
 
-/// The acceptor is up again or stays down, if it is a member.
+/// The acceptor is up again or stays down, if it is or was a member.
 pub(crate) fn restart_acceptor<S: Shelf, V: Disk>(
     world: &mut World<S, V>,
     id: AcceptorId,
@@ -92,7 +92,7 @@ pub(crate) fn stray<S: Shelf, V: Disk>(world: &mut World<S, V>, index: u64) -> E
     }
 }
 
-/// What the acceptor keeps for the key, if it is a member and up.
+/// What the acceptor keeps for the key, if it is or was a member and is up.
 pub(crate) fn show<S: Shelf, V: Disk>(
     world: &World<S, V>,
     id: AcceptorId,

@@ -6,13 +6,13 @@
 
 mod changes;
 mod events;
+mod exchange;
 mod halt;
+mod membership;
 mod network;
 mod probe;
 mod run;
 mod script;
-#[cfg(test)]
-mod tests;
 
 pub use changes::change;
 pub use halt::Halt;

@@ -6,15 +6,18 @@ ghost use Rattle.cas_cluster.specs.View.{meaning};
 ghost use Rattle.cas_lines.specs.Answers.{bad_line};
 ghost use Rattle.cas_lines.specs.Command.{IsLine, IsKnown, Asked, change_of};
 ghost use Rattle.cas_lines.specs.declared.command.Command.{Command as ACommand};
+ghost use Rattle.cas_world.specs.Plans.{asked_to};
 ghost use Rattle.cas_script.specs.Stage.{AllIdle};
-ghost use Rattle.cas_script.specs.Script.{State, IsIn, AnswersLine, RanOrNot, RunsChange, RunsEvent, RunsProbe, Runs, is_event, opening_state};
+ghost use Rattle.cas_script.specs.Script.{State, IsIn, AnswersLine, RanOrNot, RunsChange, RunsEvent, RunsProbe, RunsMembership, Runs, is_event, opening_state};
 
 use crate::changes::change;
 use crate::events::{crash_acceptor, restart_acceptor, restart_proposer, show, stray};
 use crate::halt::Halt;
+use crate::membership::change_members;
 use crate::network::Network;
 use crate::probe::probe;
 use crate::script::{PROPOSERS, Script};
+use cas_ballot::AcceptorId;
 use cas_change::Key;
 use cas_change_text::{TextRefusal, Why};
 use cas_disk::Disk;
@@ -23,7 +26,7 @@ use cas_lines::command::{Change, Command, read_command};
 use cas_lines::lines::Line;
 use cas_record::{Answer, OpAnswer};
 use cas_slot::Shelf;
-use cas_world::World;
+use cas_world::{PlanKind, World};
 use std::alloc::{AllocError, Global};
 
 impl<S: Shelf, V: Disk> Script<S, V> {
@@ -82,6 +85,14 @@ impl<S: Shelf, V: Disk> Script<S, V> {
             let answer = self.run_probe(key)?;
             return print_op(alloc, &answer);
         }
+        if let Command::Join { id } = command {
+            let answer = self.run_membership(alloc, PlanKind::Join, *id)?;
+            return print_op(alloc, &answer);
+        }
+        if let Command::Leave { id } = command {
+            let answer = self.run_membership(alloc, PlanKind::Leave, *id)?;
+            return print_op(alloc, &answer);
+        }
         match command.change(alloc)? {
             Some(asked) => {
                 let answer = self.run_change(&asked);
@@ -119,6 +130,28 @@ impl<S: Shelf, V: Disk> Script<S, V> {
         ensures tries { self.new.tries ≡ self.old.tries }
     {
         probe(&mut self.world, &mut self.network, key)
+    }
+
+    /// Runs a change of membership, and gives what the operator is told. After an `Err` it was not run.
+    fn run_membership(
+        &mut self,
+        alloc: Global,
+        kind: PlanKind,
+        id: AcceptorId,
+    ) -> Result<OpAnswer, AllocError>
+        ensures runs { (state : State _ _) → IsIn self.old state → IfOk result (λ answer. Runs (λ new. RunsMembership (meaning S.contents S.tells S.may_leave S.fault_count V.tells V.may_leave V.fault_count) self.old.tries state (asked_to kind id) answer new) self.new) }
+        ensures err { OnErr result (self.new ≡ self.old) }
+        ensures tries { self.new.tries ≡ self.old.tries }
+    {
+        change_members(
+            alloc,
+            &mut self.world,
+            &mut self.network,
+            &mut self.halts[0],
+            self.tries,
+            kind,
+            id,
+        )
     }
 
     /// Runs an event line, and gives its answer.

@@ -191,8 +191,8 @@ begin_kept {S} {V} m old new id key program by = kept_both m old by.middle new i
     in_round (calls.loses desk now ballot at none_open up loses is) = kept_desk m by.middle new id desk now at (keeps_lost m.disks desk now by.call.key ballot up loses) (ap (λ (w : View S V). w.acceptors) is) (ap (λ (w : View S V). w.desks) is)
 
 no_begin_kept : {S V : Type 0} (m : Meaning S V) (old new : View S V) (id : ℕ) (key : List ℕ) → calls.RefusesCall m old id key new → Kept m old new id
-no_begin_kept {S} {V} m old new id key (calls.stays is) = kept_same m old new id (ap (λ (w : View S V). w.acceptors) is) (ap (λ (w : View S V). w.desks) is)
-no_begin_kept {S} {V} m old new id key (calls.loses caller desk now ballot at_caller at none_open up loses is) = kept_desk m old new id desk now at (keeps_lost m.disks desk now key ballot up loses) (ap (λ (w : View S V). w.acceptors) is) (ap (λ (w : View S V). w.desks) is)
+no_begin_kept {S} {V} m old new id key (calls.stays told council refusal rescans is) = kept_same m old new id (ap (λ (w : View S V). w.acceptors) is) (ap (λ (w : View S V). w.desks) is)
+no_begin_kept {S} {V} m old new id key (calls.loses caller desk now ballot council at_caller at none_open up loses rescans is) = kept_desk m old new id desk now at (keeps_lost m.disks desk now key ballot up loses) (ap (λ (w : View S V). w.acceptors) is) (ap (λ (w : View S V). w.desks) is)
 
 propose_kept : {S V : Type 0} (m : Meaning S V) (old new : View S V) (id : ℕ) → StepPropose m old id new → Kept m old new id
 propose_kept {S} {V} m old new id by = in_phase by.at_round.of_call by.at_round.desk by.at_round.at_desk by.at_round.up by.at_round.round by.proposes

@@ -14,11 +14,19 @@ use Rattle.cas_script.specs.Changes.{Turned, FailsToTurn, EndsPrepare, IsAccepte
 use Rattle.cas_script.specs.Conditions.{Rule, verdict_on}
 use Rattle.cas_script.specs.Events as events
 use Rattle.cas_script.specs.Events.{CrashesAcceptor, RestartsAcceptor, RestartsProposer, StraysIn}
+use Rattle.cas_change.specs.declared.program.Act.TheVariants.{Keep}
+use Rattle.cas_change.specs.declared.program.Guard.TheVariants.{Always}
+use Rattle.cas_lines.specs.Command.{one}
+use Rattle.cas_record.specs.declared.operator.Asked.{Asked}
 use Rattle.cas_record.specs.declared.operator.Asked.TheVariants as asked
 use Rattle.cas_record.specs.declared.operator.OpAnswer.{OpAnswer}
-use Rattle.cas_cluster.specs.Council.{Probe}
+use Rattle.cas_cluster.specs.Council.{Question, Probe, NextKeys}
+use Rattle.cas_script.specs.Exchanges as exchanges
+use Rattle.cas_script.specs.Exchanges.{AskTurned, AsksMembers}
+use Rattle.cas_script.specs.Membership as membership
+use Rattle.cas_script.specs.Membership.{Advances, HasAdvanced, IsTakenUp, ChangesMembers}
 use Rattle.cas_script.specs.Probes as probes
-use Rattle.cas_script.specs.Probes.{AskTurned, AsksMembers, IsProbe}
+use Rattle.cas_script.specs.Probes.{IsProbe}
 use Rattle.cas_script.specs.Script as script
 use Rattle.cas_script.specs.Script.{State, LineAnswer, RunsEvent, IsAnswered}
 use Rattle.cas_script.specs.declared.halt.Halt.{Halt}
@@ -104,22 +112,44 @@ event_stays {S} {V} m old new command answer (script.halt_prepared halt at is) =
 event_stays {S} {V} m old new command answer (script.halt_proposed halt at is) = same_world old new (ap (λ (s : State S V). s.world) is)
 event_stays m old new command answer (script.stray {index = index} {world = world} by) = stray_stays m old.world world index answer by
 
--- ---- a probe
+-- ---- an exchange
 ask_turned_stays : {S V : Type 0} (m : Meaning S V) (rules : List Rule) (old new : View S V) → AskTurned m rules old new → Stays old new
-ask_turned_stays m rules old new probes.none = same old
-ask_turned_stays m rules old new (probes.one_more {mid = mid} frame before at by) = both old mid new (ask_turned_stays m rules old mid before) (by_step m mid new (step.TurnExchange (verdict_on rules frame)) by)
+ask_turned_stays m rules old new exchanges.none = same old
+ask_turned_stays m rules old new (exchanges.one_more {mid = mid} frame before at by) = both old mid new (ask_turned_stays m rules old mid before) (by_step m mid new (step.TurnExchange (verdict_on rules frame)) by)
 
-asks_stays : {S V : Type 0} (m : Meaning S V) (rules : List Rule) (key : List ℕ) (old new : View S V) → AsksMembers m rules key old new → Stays old new
-asks_stays m rules key old new (probes.not_asked by none) = by_step m old new (step.AskAll (Probe key)) by
-asks_stays m rules key old new (probes.no_memory {asked = asked} by fails) =
-    both old asked new (by_step m old asked (step.AskAll (Probe key)) by) (both asked fails.mid new (ask_turned_stays m rules asked fails.mid fails.turned) (by_step m fails.mid new step.RefuseTurnExchange fails.fails))
-asks_stays m rules key old new (probes.gathered {asked = asked} {turned = turned} by turns gathers) =
-    both old asked new (by_step m old asked (step.AskAll (Probe key)) by) (both asked turned new (ask_turned_stays m rules asked turned turns.turned) (by_step m turned new step.Gather gathers))
+asks_stays : {S V : Type 0} (m : Meaning S V) (rules : List Rule) (question : Question) (old new : View S V) → AsksMembers m rules question old new → Stays old new
+asks_stays m rules question old new (exchanges.not_asked by none) = by_step m old new (step.AskAll question) by
+asks_stays m rules question old new (exchanges.no_memory {asked = asked} by fails) =
+    both old asked new (by_step m old asked (step.AskAll question) by) (both asked fails.mid new (ask_turned_stays m rules asked fails.mid fails.turned) (by_step m fails.mid new step.RefuseTurnExchange fails.fails))
+asks_stays m rules question old new (exchanges.gathered {asked = asked} {turned = turned} by turns gathers) =
+    both old asked new (by_step m old asked (step.AskAll question) by) (both asked turned new (ask_turned_stays m rules asked turned turns.turned) (by_step m turned new step.Gather gathers))
 
+-- ---- a probe
 probe_stays : {S V : Type 0} (m : Meaning S V) (rules : List Rule) (key : List ℕ) (old new : View S V) (answer : OpAnswer) → IsProbe m rules key old answer new → Stays old new
 probe_stays m rules key old new answer (probes.refused why by) = by_step m old new step.RefuseOrder by
 probe_stays m rules key old new answer (probes.told {ordered = ordered} {asked_all = asked_all} by asks tells) =
-    both old ordered new (by_step m old ordered (step.Order (asked.Probe key)) by) (both ordered asked_all new (asks_stays m rules key ordered asked_all asks) (by_step m asked_all new (step.Tell answer) tells))
+    both old ordered new (by_step m old ordered (step.Order (asked.Probe key)) by) (both ordered asked_all new (asks_stays m rules (Probe key) ordered asked_all asks) (by_step m asked_all new (step.Tell answer) tells))
+
+-- ---- a change of membership
+advance_stays : {S V : Type 0} (m : Meaning S V) (tries : ℕ) (rules : List Rule) (halt after : Halt) (old new : View S V) → Advances m tries rules halt old after new → Stays old new
+advance_stays m tries rules halt after old new (membership.lists places settles none asks) = asks_stays m rules (NextKeys places) old new asks
+advance_stays m tries rules halt after old new (membership.rescans key answer due change) = change_stays m tries rules 0 key (one Always Keep) halt after old new answer change
+advance_stays m tries rules halt after old new (membership.no_memory by) = by_step m old new step.RefuseKey by
+advance_stays m tries rules halt after old new (membership.enters proposer due by) = by_step m old new (step.EnterEra proposer) by
+
+advanced_stays : {S V : Type 0} (m : Meaning S V) (tries : ℕ) (rules : List Rule) (halt : Halt) (old : View S V) (after : Halt) (new : View S V) → HasAdvanced m tries rules halt old after new → Stays old new
+advanced_stays m tries rules halt old after new membership.none = same old
+advanced_stays m tries rules halt old after new (membership.one_more {before = before} {mid = mid} first on by) = both old mid new (advanced_stays m tries rules halt old before mid first) (advance_stays m tries rules before after mid new by)
+
+taken_up_stays : {S V : Type 0} (m : Meaning S V) (asked : Asked) (old new : View S V) → IsTakenUp m asked old new → Stays old new
+taken_up_stays m asked old new (membership.resumes is) = same old
+taken_up_stays m asked old new (membership.opens not_yet by) = by_step m old new step.OpenPlan by
+
+members_stay : {S V : Type 0} (m : Meaning S V) (tries : ℕ) (rules : List Rule) (asked : Asked) (halt after : Halt) (old new : View S V) (answer : OpAnswer) → ChangesMembers m tries rules asked halt old answer after new → Stays old new
+members_stay m tries rules asked halt after old new answer (membership.refused why by) = by_step m old new step.RefuseOrder by
+members_stay m tries rules asked halt after old new answer (membership.told {ordered = ordered} {over = over} by carried tells) =
+    both old ordered new (by_step m old ordered (step.Order asked) by)
+    (both ordered carried.taken_up new (taken_up_stays m asked ordered carried.taken_up carried.takes_up) (both carried.taken_up over new (advanced_stays m tries rules halt carried.taken_up after over carried.advances) (by_step m over new (step.Tell answer) tells)))
 
 -- ---- a line
 pub line_stays : {S V : Type 0} (m : Meaning S V) (tries : ℕ) (old new : State S V) (line : List ℕ) (answer : LineAnswer) → IsAnswered m tries old line answer new → Stays old.world new.world
@@ -128,6 +158,8 @@ line_stays m tries old new line answer (script.changes {answer = told} command a
 line_stays m tries old new line answer (script.happens {answer = told} command is_line runs) = event_stays m old new command told runs
 line_stays m tries old new line answer (script.shows id key is_line shown) = same old.world
 line_stays m tries old new line answer (script.probes {answer = told} key is_line runs) = probe_stays m old.rules key old.world new.world told runs.probe
+line_stays m tries old new line answer (script.changes_members {answer = told} command asked is_line asks runs) =
+    members_stay m tries old.rules asked runs.halt runs.after old.world new.world told runs.changes
 line_stays m tries old new line answer (script.refused why word is_line) = same old.world
 line_stays m tries old new line answer (script.remark is_line) = same old.world
 

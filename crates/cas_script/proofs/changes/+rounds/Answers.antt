@@ -1,21 +1,21 @@
 use Rattle.std.proofs.Common.{rules, sym, ◌∙◌, arith}
 use Rattle.std.specs.Prelude.{⊤}
 use Rattle.cas_script.specs.Changes.{last, another, none_begun}
-use Rattle.cas_script.proofs.Playing.{has_begun, begun_not_met, again_is, is_met, not_met, may_again}
+use Rattle.cas_script.proofs.Playing.{has_begun, begun_over, begun_not_met, again_is, is_met, not_met, may_again}
 use Rattle.cas_script.proofs.changes.+rounds.Goals as goal
 
 pub returns-then-tries-eq1-clause-rounds : goal.returns-then-tries-eq1-clause-rounds
 returns-then-tries-eq1-clause-rounds g n c rules is = last (c.round-told.ensures.round rules is) (λ met. c.if-tries-eq1.true)
 
-pub returns-then-tries-eq1-clause-told : goal.returns-then-tries-eq1-clause-told
-returns-then-tries-eq1-clause-told g n c = (c.round-told.ensures.over _ c.requires.begun).was_told
+pub returns-then-tries-eq1-clause-over : goal.returns-then-tries-eq1-clause-over
+returns-then-tries-eq1-clause-over g n c = c.round-told.ensures.over _ c.requires.begun
 
 pub returns-then-not-is_conflict-clause-rounds : goal.returns-then-not-is_conflict-clause-rounds
 returns-then-not-is_conflict-clause-rounds g n c rules is =
     last (c.round-told.ensures.round rules is) (not_met c.round-told.new.world c.args.caller c.args.call c.args.tries c.round-told.result (c.round-told.ensures.over _ c.requires.begun).was_told (sym c.is_conflict.ensures ∙ c.if-not-is_conflict.true))
 
-pub returns-then-not-is_conflict-clause-told : goal.returns-then-not-is_conflict-clause-told
-returns-then-not-is_conflict-clause-told g n c = (c.round-told.ensures.over _ c.requires.begun).was_told
+pub returns-then-not-is_conflict-clause-over : goal.returns-then-not-is_conflict-clause-over
+returns-then-not-is_conflict-clause-over g n c = c.round-told.ensures.over _ c.requires.begun
 
 pub begin-requires-clause-may : goal.begin-requires-clause-may
 begin-requires-clause-may g n c = may_again c.round-told.new.world c.args.caller _ c.round-told.result (c.round-told.ensures.over _ c.requires.begun) (sym c.is_conflict.ensures ∙ c.if-not-is_conflict.false)
@@ -53,9 +53,11 @@ returns-clause-rounds g n c rules is =
     another (omega (arith, c.if-tries-eq1.false, c.requires.some)) (c.round-told.ensures.round rules is) (is_met c.round-told.new.world c.args.caller c.args.call c.round-told.result was (sym c.is_conflict.ensures ∙ c.if-not-is_conflict.false)) begun.0
     (last none_begun (begun_not_met _ c.round-told.new.world c.begin.new.self c.args.caller c.args.key.now c.args.program.now _ begun.0))
 
-pub returns-clause-told : goal.returns-clause-told
-returns-clause-told g n c =
-    (again_is ⊤ _ c.round-told.new.world c.begin.new.self c.args.caller c.args.call c.args.call c.args.key.now c.args.program.now c.in-Err.told c.round-told.result (c.round-told.ensures.over _ c.requires.begun).was_told c.in-Err.ensures.step).1
+pub returns-clause-over : goal.returns-clause-over
+returns-clause-over g n c =
+    let before = c.round-told.ensures.over _ c.requires.begun in
+    let begun = again_is ⊤ _ c.round-told.new.world c.begin.new.self c.args.caller c.args.call c.args.call c.args.key.now c.args.program.now c.in-Err.told c.round-told.result before.was_told c.in-Err.ensures.step in
+    begun_over _ c.round-told.new.world c.begin.new.self c.args.caller c.args.call c.args.key.now c.args.program.now c.in-Err.told before.quiet begun.0 begun.1
 
 pub begin-requires-clause-unasked : goal.begin-requires-clause-unasked
 begin-requires-clause-unasked g n c = λ is_first. (c.round-told.ensures.over _ c.requires.begun).quiet

@@ -2,11 +2,12 @@ use Rattle.std.proofs.Common.{◌≡◌, Option, Some, ap, subst, ◌∙◌}
 use Rattle.std.specs.Prelude.{IfSome, vec_items}
 use Rattle.cas_cluster.specs.View.{meaning}
 use Rattle.cas_lines.specs.Command.{change_of}
-use Rattle.cas_script.specs.Script.{Changed, Happened, Shows, Operated}
+use Rattle.cas_script.specs.Script.{Changed, Happened, Shows, Operated, membership_of}
 use Rattle.cas_script.specs.Stage.{Stage}
-use Rattle.cas_script.proofs.Answering.{with_text, without_text, changes_run, happens_run, shows_run, probes_run}
+use Rattle.cas_script.proofs.Answering.{with_text, without_text, changes_run, happens_run, shows_run, probes_run, members_run}
 use Rattle.cas_script.proofs.script.Script.answer_command.Given.{Over}
 use Rattle.cas_script.proofs.script.Script.answer_command.Goals as goal
+use Rattle.cas_script.proofs.script.Script.answer_command.Goals.{After-drop-asked}
 
 pub returns-in-Show-clause-answers : goal.returns-in-Show-clause-answers
 returns-in-Show-clause-answers g c state line number at is =
@@ -14,7 +15,35 @@ returns-in-Show-clause-answers g c state line number at is =
     (shows_run (meaning {S = g.row.S.Denot} g.S.Shelf.contents g.S.Shelf.tells g.S.Shelf.may_leave g.S.Shelf.fault_count g.V.Disk.tells g.V.Disk.may_leave g.V.Disk.fault_count) c.args.self.now.tries c.args.self.now state line c.args.command.now c.in-Show.id c.in-Show.key c.in_ok-shown.shown c.self.inside.world at is c.in-Show.is (ap (λ (v : Stage _ _). v.world) c.self.view_is ∙ at.world) c.in_ok-shown.ensures)
     c.print_shown.ensures
 
-asks_is : (g : Over) (c : goal.After-drop-asked g) → change_of c.args.command.now ≡ Some (record { caller = c.in-Some.asked.caller; key = c.in-Some.asked.key.now; program = c.in-Some.asked.program })
+pub returns-in-Join : goal.returns-in-Join
+returns-in-Join g c = record {
+  answers = λ state line number at is.
+      let runs = c.in_ok-answer-2.ensures.runs state at in
+      with_text (meaning {S = g.row.S.Denot} g.S.Shelf.contents g.S.Shelf.tells g.S.Shelf.may_leave g.S.Shelf.fault_count g.V.Disk.tells g.V.Disk.may_leave g.V.Disk.fault_count) c.args.self.now.tries number state line c.run_membership.new.self vec_items c.print_op-in-Join.result (Operated c.in_ok-answer-2.answer) runs.new runs.is_in
+      (members_run (meaning {S = g.row.S.Denot} g.S.Shelf.contents g.S.Shelf.tells g.S.Shelf.may_leave g.S.Shelf.fault_count g.V.Disk.tells g.V.Disk.may_leave g.V.Disk.fault_count) c.args.self.now.tries c.args.self.now c.run_membership.new.self state line c.args.command.now _ c.in_ok-answer-2.answer at is (ap membership_of c.in-Join.is) runs)
+      c.print_op-in-Join.ensures;
+  err = λ state line at is.
+      let runs = c.in_ok-answer-2.ensures.runs state at in
+      without_text (meaning {S = g.row.S.Denot} g.S.Shelf.contents g.S.Shelf.tells g.S.Shelf.may_leave g.S.Shelf.fault_count g.V.Disk.tells g.V.Disk.may_leave g.V.Disk.fault_count) c.args.self.now.tries state line c.run_membership.new.self c.print_op-in-Join.result (Operated c.in_ok-answer-2.answer) runs.new runs.is_in
+      (members_run (meaning {S = g.row.S.Denot} g.S.Shelf.contents g.S.Shelf.tells g.S.Shelf.may_leave g.S.Shelf.fault_count g.V.Disk.tells g.V.Disk.may_leave g.V.Disk.fault_count) c.args.self.now.tries c.args.self.now c.run_membership.new.self state line c.args.command.now _ c.in_ok-answer-2.answer at is (ap membership_of c.in-Join.is) runs);
+  tries = c.run_membership.ensures.tries;
+}
+
+pub returns-in-Leave : goal.returns-in-Leave
+returns-in-Leave g c = record {
+  answers = λ state line number at is.
+      let runs = c.in_ok-answer-3.ensures.runs state at in
+      with_text (meaning {S = g.row.S.Denot} g.S.Shelf.contents g.S.Shelf.tells g.S.Shelf.may_leave g.S.Shelf.fault_count g.V.Disk.tells g.V.Disk.may_leave g.V.Disk.fault_count) c.args.self.now.tries number state line c.run_membership-in-Leave.new.self vec_items c.print_op-in-Leave.result (Operated c.in_ok-answer-3.answer) runs.new runs.is_in
+      (members_run (meaning {S = g.row.S.Denot} g.S.Shelf.contents g.S.Shelf.tells g.S.Shelf.may_leave g.S.Shelf.fault_count g.V.Disk.tells g.V.Disk.may_leave g.V.Disk.fault_count) c.args.self.now.tries c.args.self.now c.run_membership-in-Leave.new.self state line c.args.command.now _ c.in_ok-answer-3.answer at is (ap membership_of c.in-Leave.is) runs)
+      c.print_op-in-Leave.ensures;
+  err = λ state line at is.
+      let runs = c.in_ok-answer-3.ensures.runs state at in
+      without_text (meaning {S = g.row.S.Denot} g.S.Shelf.contents g.S.Shelf.tells g.S.Shelf.may_leave g.S.Shelf.fault_count g.V.Disk.tells g.V.Disk.may_leave g.V.Disk.fault_count) c.args.self.now.tries state line c.run_membership-in-Leave.new.self c.print_op-in-Leave.result (Operated c.in_ok-answer-3.answer) runs.new runs.is_in
+      (members_run (meaning {S = g.row.S.Denot} g.S.Shelf.contents g.S.Shelf.tells g.S.Shelf.may_leave g.S.Shelf.fault_count g.V.Disk.tells g.V.Disk.may_leave g.V.Disk.fault_count) c.args.self.now.tries c.args.self.now c.run_membership-in-Leave.new.self state line c.args.command.now _ c.in_ok-answer-3.answer at is (ap membership_of c.in-Leave.is) runs);
+  tries = c.run_membership-in-Leave.ensures.tries;
+}
+
+asks_is : (g : Over) (c : After-drop-asked g) → change_of c.args.command.now ≡ Some (record { caller = c.in-Some.asked.caller; key = c.in-Some.asked.key.now; program = c.in-Some.asked.program })
 asks_is g c = subst (λ (o : Option _). IfSome o (λ asked. change_of c.args.command.now ≡ Some (record { caller = asked.caller; key = asked.key.now; program = asked.program }))) c.in-Some.is c.in_ok-asked.ensures.asked
 
 pub returns-in-Some : goal.returns-in-Some

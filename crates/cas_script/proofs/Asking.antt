@@ -1,0 +1,417 @@
+-- What the calls of an exchange do to a world, and those of the operator's call.
+use Rattle.std.proofs.Common.{◌≡◌, ◌≢◌, ◌<◌, ◌≤◌, ℕ, Bool, true, false, List, [], Option, None, Some, slice_get, refl, sym, ap, subst, ◌∙◌, inl, inr, arith, length-drop}
+use Rattle.std.specs.Prelude.{if◌then◌else◌, ◌&&◌, ◌==◌, length, option_map, IsSome}
+use Rattle.cas_ballot.specs.declared.ballot.Ballot.{Ballot}
+use Rattle.cas_fate.specs.declared.fate.Leg.{Leg}
+use Rattle.cas_fate.specs.declared.fate.Verdict.{Verdict}
+use Rattle.cas_fate.specs.declared.fate.Verdict.TheVariants.{Hold}
+use Rattle.cas_flow.specs.Flow.{queue_at}
+use Rattle.cas_flow.specs.Message.{head_of}
+use Rattle.cas_flow.specs.declared.message.Message.{Message}
+use Rattle.cas_members.specs.declared.plan.PlanStep.{PlanStep}
+use Rattle.cas_members.specs.declared.plan.PlanStep.TheVariants.{Settle, Enter, Finished}
+use Rattle.cas_members.specs.Plan.{next_of}
+use Rattle.cas_record.specs.declared.answer.Answer.TheVariants as answer
+use Rattle.cas_record.specs.declared.operator.Asked.{Asked}
+use Rattle.cas_record.specs.declared.operator.Asked.TheVariants as asked
+use Rattle.cas_record.specs.declared.operator.OpAnswer.{OpAnswer}
+use Rattle.cas_record.specs.declared.operator.OpAnswer.TheVariants as op
+use Rattle.cas_record.specs.declared.operator.Probes.{Probes}
+use Rattle.cas_calls.specs.Council.{IsProbed, first_of, first_where, due_in, left_to_list, listed_if, listed_with}
+use Rattle.cas_calls.specs.declared.council.Exchange.{Exchange}
+use Rattle.cas_calls.specs.declared.council.Exchange.TheVariants as what
+use Rattle.cas_calls.specs.declared.council.Gathered.{Gathered}
+use Rattle.cas_calls.specs.declared.council.Gathered.TheVariants as gathered
+use Rattle.cas_cluster.specs.Council.{Council, Question, Probe, NextKeys, MemberPlace, ListingView, OrderView, PlanView, ExchangeView, IsAtRest, exchange_place, silent_order, stepped, told_so, with_listing}
+use Rattle.cas_cluster.specs.Remaining.{keys_left}
+use Rattle.cas_cluster.specs.Step as step
+use Rattle.cas_cluster.specs.Step.{Step}
+use Rattle.cas_cluster.specs.StepCouncil as council
+use Rattle.cas_cluster.specs.StepCouncil.{StepOrder, StepTell, StepAskAll, AsksAll, StepTurnExchange, TurnsExchange, StepRefuseTurnExchange, StepGather, Gathers, everyone, places_from, listing_in, plan_asked, listing_begun, begun_listing}
+use Rattle.cas_cluster.specs.StepFrames as frames
+use Rattle.cas_cluster.specs.View.{Meaning, View, CallerView}
+use Rattle.cas_cluster.proofs.Places.{some_is}
+use Rattle.cas_world.specs.Beginning.{HasNoCall}
+use Rattle.cas_world.specs.Exchange.{asks_as, place_of, turn_of, refusal_of, MayAsk, MayGather, WasToldOrder, HasGathered, probed, lists, question_in}
+use Rattle.cas_world.specs.Plans.{IsUnderWay, IsPartial, step_of}
+use Rattle.cas_script.specs.Conditions.{Rule, verdict_of}
+use Rattle.cas_script.specs.Exchanges.{AskTurned, one_more, HasListed, CameOf, IsAsking, KeepsCalls, KeepsOrder, listing_left}
+use Rattle.cas_script.specs.Membership.{TakesStep, left_of, steps_left}
+use Rattle.cas_script.specs.Orders.{IsFree, KeepsIdle}
+use Rattle.cas_script.specs.Playing.{turns_left}
+use Rattle.cas_script.proofs.Rescanning.{with_asked, settles_by, Settles}
+use Rattle.cas_script.proofs.Turns.{front_of, not_held, fewer_taken, fewer_answered}
+
+-- ---- the calls of callers
+by_view : {S V : Type 0} (old changed new : View S V) → new ≡ changed → changed.greatest ≡ old.greatest → changed.callers ≡ old.callers → KeepsCalls old new
+by_view {S} {V} old changed new is greatest callers = record { greatest = ap (λ (w : View S V). w.greatest) is ∙ greatest; callers = ap (λ (w : View S V). w.callers) is ∙ callers }
+
+pub same_calls : {S V : Type 0} (old : View S V) → KeepsCalls old old
+same_calls old = record { greatest = refl; callers = refl }
+
+pub both_calls : {S V : Type 0} (old mid new : View S V) → KeepsCalls old mid → KeepsCalls mid new → KeepsCalls old new
+both_calls old mid new before after = record { greatest = after.greatest ∙ before.greatest; callers = after.callers ∙ before.callers }
+
+pub keeps_idle : {S V : Type 0} (old new : View S V) → KeepsCalls old new → KeepsIdle old new
+keeps_idle old new keeps = record {
+  greatest = keeps.greatest;
+  idle = λ id was. record { caller = was.caller; at_caller = ap (λ (l : List CallerView). slice_get l id) keeps.callers ∙ was.at_caller; none_open = was.none_open };
+}
+
+pub same_idle : {S V : Type 0} (old : View S V) → KeepsIdle old old
+same_idle old = record { greatest = refl; idle = λ id was. was }
+
+pub both_idle : {S V : Type 0} (old mid new : View S V) → KeepsIdle old mid → KeepsIdle mid new → KeepsIdle old new
+both_idle old mid new before after = record { greatest = after.greatest ∙ before.greatest; idle = λ id was. after.idle id (before.idle id was) }
+
+pub order_keeps : {S V : Type 0} (old new : View S V) (what : Asked) → StepOrder old what new → KeepsCalls old new
+order_keeps old new what by = by_view old _ new by.view refl refl
+
+pub tell_keeps : {S V : Type 0} (old new : View S V) (told : OpAnswer) → StepTell old told new → KeepsCalls old new
+tell_keeps old new told (council.tells order said is_open was_told same is) = by_view old _ new is refl refl
+tell_keeps old new told (council.finishes order is_open by is) = by_view old _ new is refl refl
+
+pub ask_keeps : {S V : Type 0} (m : Meaning S V) (old new : View S V) (question : Question) → StepAskAll m old question new → KeepsCalls old new
+ask_keeps {S} {V} m old new question by = by_case by.asks
+  where
+    by_case : AsksAll m old question by.desk new → KeepsCalls old new
+    by_case (council.asks now tag flow up room drawn is_now sends is) = by_view old _ new is refl refl
+    by_case (council.is_down down is) = by_view old _ new is refl refl
+    by_case (council.is_full up full is) = by_view old _ new is refl refl
+    by_case (council.is_spent now up spent kept is_now is) = by_view old _ new is refl refl
+    by_case (council.fails now up fault is) = by_view old _ new is refl refl
+    by_case (council.no_memory now tag up loss is) = by_view old _ new is refl refl
+
+pub ask_turn_keeps : {S V : Type 0} (m : Meaning S V) (old new : View S V) (verdict : Verdict) → StepTurnExchange m old verdict new → KeepsCalls old new
+ask_turn_keeps {S} {V} m old new verdict by = by_case by.turn
+  where
+    by_case : TurnsExchange m old verdict by.front by.at.exchange new → KeepsCalls old new
+    by_case (council.held fall is) = by_view old old new is refl refl
+    by_case (council.gone fall is) = by_view old _ new is refl refl
+    by_case (council.answers request acceptor now reply fall front at table is) = by_view old _ new is refl refl
+    by_case (council.finds_down request acceptor fall front at down is) = by_view old _ new is refl refl
+    by_case (council.brings_down request acceptor now fall front at stops is) = by_view old _ new is refl refl
+    by_case (council.arrives reply fall front to_it is) = by_view old _ new is refl refl
+
+-- where no memory is found nothing of the council changes, and no call
+no_room : {S V : Type 0} (m : Meaning S V) (old new : View S V) → frames.FindsNoRoom m old new → KeepsCalls old new × (new.council ≡ old.council)
+no_room {S} {V} m old new (frames.stays is) = (by_view old old new is refl refl, ap (λ (w : View S V). w.council) is)
+no_room {S} {V} m old new (frames.kept id acceptor now there finds is) = (by_view old _ new is refl refl, ap (λ (w : View S V). w.council) is)
+
+pub ask_refusal_keeps : {S V : Type 0} (m : Meaning S V) (old new : View S V) → StepRefuseTurnExchange m old new → KeepsCalls old new
+ask_refusal_keeps m old new by = both_calls old by.middle new (no_room m old by.middle by.refuses).0 (by_view by.middle _ new by.view refl refl)
+
+pub gather_keeps : {S V : Type 0} (old new : View S V) → StepGather old new → KeepsCalls old new
+gather_keeps {S} {V} old new by = by_case by.gathers
+  where
+    by_case : Gathers old by.at.exchange new → KeepsCalls old new
+    by_case (council.crashed down is) = by_view old _ new is refl refl
+    by_case (council.probed key found up question keeps is) = by_view old _ new is refl refl
+    by_case (council.lists of listing up enough on is) = by_view old _ new is refl refl
+    by_case (council.is_short of short up few is) = by_view old _ new is refl refl
+    by_case (council.no_memory up is) = by_view old _ new is refl refl
+
+-- ---- the exchange
+-- the operator's call is open, and no exchange yet
+pub may_ask : {S V : Type 0} (old new : View S V) (key : List ℕ) → IsAtRest old.council → HasNoCall old 0 → StepOrder old (asked.Probe key) new → MayAsk new (Probe key)
+may_ask {S} {V} old new key quiet idle by =
+    let keeps = order_keeps old new (asked.Probe key) by in
+    record {
+      order = record { asked = asked.Probe key; told = None };
+      is_open = ap (λ (w : View S V). w.council.order) by.view;
+      is_for = refl;
+      none_open = ap (λ (w : View S V). w.council.exchange) by.view ∙ quiet.exchange;
+      idle = record { caller = idle.caller; at_caller = ap (λ (l : List CallerView). slice_get l 0) keeps.callers ∙ idle.at_caller; none_open = idle.none_open };
+    }
+
+-- it opens
+pub record HasAsked {S V : Type 0} (old : View S V) (question : Question) (new : View S V) : Type 0 where
+  pub order : OrderView
+  pub was_open : old.council.order ≡ Some order
+  pub is_order : new.council.order ≡ Some order
+  pub exchange : ExchangeView
+  pub is_open : new.council.exchange ≡ Some exchange
+  pub same : exchange.question ≡ question
+  pub tag : Ballot
+  pub plan : new.council.plan ≡ plan_asked question tag old.council.plan
+
+pub has_asked : {S V : Type 0} (m : Meaning S V) (old new : View S V) (question : Question) → StepAskAll m old question new → IsSome new.council.exchange → HasAsked old question new
+has_asked {S} {V} m old new question by some = by_case by.asks
+  where
+    not_open : new.council.exchange ≡ None → HasAsked old question new
+    not_open none = absurd (cc (subst (λ (o : Option ExchangeView). IsSome o) none some))
+
+    by_case : AsksAll m old question by.desk new → HasAsked old question new
+    by_case (council.asks now tag flow up room drawn is_now sends is) = record {
+      order = by.may.order;
+      was_open = by.may.is_open;
+      is_order = ap (λ (w : View S V). w.council.order) is ∙ by.may.is_open;
+      exchange = council.new_exchange question tag (council.asked_by old question);
+      is_open = ap (λ (w : View S V). w.council.exchange) is;
+      same = refl;
+      tag = tag;
+      plan = ap (λ (w : View S V). w.council.plan) is;
+    }
+    by_case (council.is_down down is) = not_open (ap (λ (w : View S V). w.council.exchange) is ∙ by.may.none_open)
+    by_case (council.is_full up full is) = not_open (ap (λ (w : View S V). w.council.exchange) is ∙ by.may.none_open)
+    by_case (council.is_spent now up spent kept is_now is) = not_open (ap (λ (w : View S V). w.council.exchange) is ∙ by.may.none_open)
+    by_case (council.fails now up fault is) = not_open (ap (λ (w : View S V). w.council.exchange) is ∙ by.may.none_open)
+    by_case (council.no_memory now tag up loss is) = not_open (ap (λ (w : View S V). w.council.exchange) is ∙ by.may.none_open)
+
+pub is_asking : {S V : Type 0} (old new : View S V) (question : Question) → HasAsked old question new → IsAsking new question
+is_asking old new question has = record { order = has.order; is_order = has.is_order; exchange = has.exchange; is_open = has.is_open; same = has.same }
+
+-- it goes on
+pub still_asks : {S V : Type 0} (m : Meaning S V) (old new : View S V) (question : Question) (verdict : Verdict) → IsAsking old question → StepTurnExchange m old verdict new → IsAsking new question
+still_asks {S} {V} m old new question verdict was by = by_case by.turn
+  where
+    same_question : by.at.exchange.question ≡ question
+    same_question = ap (λ (e : ExchangeView). e.question) (some_is (sym by.at.is_open ∙ was.is_open)) ∙ was.same
+
+    goes_on : (next : ExchangeView) (changed : View S V) → new ≡ changed → changed.council.order ≡ old.council.order → changed.council.exchange ≡ Some next → next.question ≡ by.at.exchange.question → IsAsking new question
+    goes_on next changed is order exchange same = record {
+      order = was.order;
+      is_order = ap (λ (w : View S V). w.council.order) is ∙ order ∙ was.is_order;
+      exchange = next;
+      is_open = ap (λ (w : View S V). w.council.exchange) is ∙ exchange;
+      same = same ∙ same_question;
+    }
+
+    by_case : TurnsExchange m old verdict by.front by.at.exchange new → IsAsking new question
+    by_case (council.held fall is) = goes_on by.at.exchange old is refl by.at.is_open refl
+    by_case (council.gone fall is) = goes_on _ _ is refl refl refl
+    by_case (council.answers request acceptor now reply fall front at table is) = goes_on by.at.exchange _ is refl by.at.is_open refl
+    by_case (council.finds_down request acceptor fall front at down is) = goes_on _ _ is refl refl refl
+    by_case (council.brings_down request acceptor now fall front at stops is) = goes_on _ _ is refl refl refl
+    by_case (council.arrives reply fall front to_it is) = goes_on _ _ is refl refl refl
+
+-- no memory: the operator's call was told so
+pub told_none : {S V : Type 0} (m : Meaning S V) (old new : View S V) (question : Question) → IsAsking old question → StepRefuseTurnExchange m old new → WasToldOrder new (op.Stopped (answer.NoMemory false))
+told_none {S} {V} m old new question was by = record {
+  order = told_so (op.Stopped (answer.NoMemory false)) was.order;
+  is_open = ap (λ (w : View S V). w.council.order) by.view ∙ ap (λ (c : Council). option_map (told_so (op.Stopped (answer.NoMemory false))) c.order) (no_room m old by.middle by.refuses).1 ∙ ap (option_map (told_so (op.Stopped (answer.NoMemory false)))) was.is_order;
+  said = op.Stopped (answer.NoMemory false);
+  was_said = refl;
+  same = refl;
+}
+
+-- the operator's call stays within its turns
+order_by : {S V : Type 0} (old changed new : View S V) → new ≡ changed → changed.council.order ≡ old.council.order → changed.council.plan ≡ old.council.plan → KeepsOrder old new
+order_by {S} {V} old changed new is order plan = record { order = ap (λ (w : View S V). w.council.order) is ∙ order; plan = ap (λ (w : View S V). w.council.plan) is ∙ plan }
+
+pub same_order : {S V : Type 0} (old : View S V) → KeepsOrder old old
+same_order old = record { order = refl; plan = refl }
+
+pub both_orders : {S V : Type 0} (old mid new : View S V) → KeepsOrder old mid → KeepsOrder mid new → KeepsOrder old new
+both_orders old mid new before after = record { order = after.order ∙ before.order; plan = after.plan ∙ before.plan }
+
+pub turn_order : {S V : Type 0} (m : Meaning S V) (old new : View S V) (verdict : Verdict) → StepTurnExchange m old verdict new → KeepsOrder old new
+turn_order {S} {V} m old new verdict by = by_case by.turn
+  where
+    by_case : TurnsExchange m old verdict by.front by.at.exchange new → KeepsOrder old new
+    by_case (council.held fall is) = order_by old old new is refl refl
+    by_case (council.gone fall is) = order_by old _ new is refl refl
+    by_case (council.answers request acceptor now reply fall front at table is) = order_by old _ new is refl refl
+    by_case (council.finds_down request acceptor fall front at down is) = order_by old _ new is refl refl
+    by_case (council.brings_down request acceptor now fall front at stops is) = order_by old _ new is refl refl
+    by_case (council.arrives reply fall front to_it is) = order_by old _ new is refl refl
+
+-- it is gathered
+pub may_gather : {S V : Type 0} (view : View S V) (question : Question) → IsAsking view question → (queue_at view.flow exchange_place).messages ≡ [] → MayGather view
+may_gather view question is none = record { order = is.order; is_order = is.is_order; exchange = is.exchange; is_open = is.is_open; none_waits = none }
+
+-- the open exchange asks this
+asks_this : {S V : Type 0} (view : View S V) (question other : Question) (exchange : ExchangeView) → IsAsking view question → view.council.exchange ≡ Some exchange → exchange.question ≡ other → question ≡ other
+asks_this view question other exchange was is_open is = sym was.same ∙ ap (λ (e : ExchangeView). e.question) (some_is (sym was.is_open ∙ is_open)) ∙ is
+
+-- the plan of a listing that begins, or goes on
+begun_as : {S V : Type 0} (old asked turned : View S V) (places : List MemberPlace) (has : HasAsked old (NextKeys places) asked) → KeepsOrder asked turned → (plan now : PlanView) → old.council.plan ≡ Some plan → turned.council.plan ≡ Some now → now ≡ listing_begun places has.tag plan
+begun_as old asked turned places has keeps plan now was is = some_is (sym is ∙ keeps.plan ∙ has.plan ∙ ap (option_map (listing_begun places has.tag)) was)
+
+pub came_of : {S V : Type 0} (old asked turned new : View S V) (question : Question) (result : Gathered) → MayAsk old question → HasAsked old question asked → KeepsOrder asked turned → IsAsking turned question → HasGathered turned result new → CameOf question old result new
+came_of {S} {V} old asked turned new (Probe key) result may has keeps was (probed exchange other kept is_open question is_probed has_found told) =
+    let key_is : key ≡ other = cc (asks_this turned (Probe key) (Probe other) exchange was is_open question) in
+    subst (λ (g : Gathered). CameOf (Probe key) old g new) (sym is_probed) (subst (λ (k : List ℕ). WasToldOrder new (op.Probed k kept)) (sym key_is) told)
+came_of old asked turned new (Probe key) result may has keeps was (lists exchange places plan listing is_open question is_plan is next) = absurd (cc (asks_this turned (Probe key) (NextKeys places) exchange was is_open question))
+came_of old asked turned new (NextKeys places) result may has keeps was (probed exchange key kept is_open question is_probed has_found told) = absurd (cc (asks_this turned (NextKeys places) (Probe key) exchange was is_open question))
+came_of {S} {V} old asked turned new (NextKeys places) result may has keeps was (lists exchange other plan listing is_open question is_plan is next) =
+    let due = may.is_for.1 in
+    let begun : plan ≡ listing_begun places has.tag due.plan = begun_as old asked turned places has keeps due.plan plan due.is_plan is_plan in
+    record {
+      order = has.order;
+      was_open = has.was_open;
+      goes_on = ap (λ (c : Council). c.order) next ∙ ap (option_map silent_order) (keeps.order ∙ has.is_order);
+      over = ap (λ (c : Council). c.exchange) next;
+      plan = due.plan;
+      was_plan = due.is_plan;
+      listing = listing;
+      is_plan = ap (λ (c : Council). c.plan) next ∙ ap (λ (p : PlanView). Some (with_listing p listing)) begun;
+      came = is;
+    }
+
+-- what was found for a key that was probed
+pub was_probed : {S V : Type 0} (old new : View S V) (key : List ℕ) (result : Gathered) → CameOf (Probe key) old result new → IsProbed result
+was_probed old new key (gathered.Probed found) came = tt
+was_probed old new key gathered.More came = absurd came
+was_probed old new key gathered.Listed came = absurd came
+
+pub told_found : {S V : Type 0} (old new : View S V) (key : List ℕ) (result : Gathered) (found : Probes) → CameOf (Probe key) old result new → result ≡ gathered.Probed found → WasToldOrder new (op.Probed key found)
+told_found old new key result found came is = subst (λ (g : Gathered). CameOf (Probe key) old g new) is came
+
+-- what goes on is not complete
+not_complete : (complete : Bool) → gathered.More ≡ listed_if complete → complete ≡ false
+not_complete true is = absurd (cc is)
+not_complete false is = refl
+
+-- how much was left as its frames were sent
+left_begun : (places : List MemberPlace) (tag : Ballot) (members : List ℕ) (listing : Option ListingView) → places ≡ places_from members listing → keys_left (begun_listing places tag listing).places ≡ keys_left (places_from members listing)
+left_begun places tag members None is = ap keys_left is
+left_begun places tag members (Some listing) is = refl
+
+-- where it goes on and is not complete, less is left
+pub less_left : {S V : Type 0} (old asked turned new : View S V) (question : Question) (result : Gathered) → MayAsk old question → HasAsked old question asked → KeepsOrder asked turned → CameOf question old result new → result ≡ gathered.More
+    → left_to_list new.council.plan < left_to_list turned.council.plan → listing_left new < listing_left old
+less_left old asked turned new (Probe key) result may has keeps came more less = absurd (subst (λ (g : Gathered). CameOf (Probe key) old g new) more came)
+less_left {S} {V} old asked turned new (NextKeys places) result may has keeps came more less =
+    let due = may.is_for.1 in
+    let plan_then : turned.council.plan ≡ Some (listing_begun places has.tag due.plan) = keeps.plan ∙ has.plan ∙ ap (option_map (listing_begun places has.tag)) due.is_plan in
+    let before : left_to_list turned.council.plan ≡ keys_left (places_from (everyone old) due.plan.listing) = ap left_to_list plan_then ∙ left_begun places has.tag (everyone old) due.plan.listing due.goes_on in
+    let at_old : listing_left old ≡ keys_left (places_from (everyone old) due.plan.listing) = ap (λ (p : Option PlanView). keys_left (places_from (everyone old) (listing_in p))) due.is_plan in
+    let partial : came.listing.complete ≡ false = not_complete came.listing.complete (sym more ∙ came.came) in
+    let plan_now : new.council.plan ≡ Some (record came.plan { listing = Some came.listing }) =
+    came.is_plan ∙ ap (λ (c : Bool). Some (if c && (length came.listing.keys == 0) then stepped came.plan else record came.plan { listing = Some came.listing })) partial in
+    let at_new : listing_left new ≡ keys_left came.listing.places = ap (λ (p : Option PlanView). keys_left (places_from (everyone new) (listing_in p))) plan_now in
+    let after : left_to_list new.council.plan ≡ keys_left came.listing.places = ap left_to_list plan_now in
+    omega (arith, less, before, at_old, at_new, after)
+
+-- the call is over
+pub quiet_after : {S V : Type 0} (old new : View S V) (told : OpAnswer) → StepTell old told new → IsAtRest new.council
+quiet_after {S} {V} old new told (council.tells order said is_open was_told same is) = record { order = ap (λ (w : View S V). w.council.order) is; exchange = ap (λ (w : View S V). w.council.exchange) is }
+quiet_after {S} {V} old new told (council.finishes order is_open by is) = record { order = ap (λ (w : View S V). w.council.order) is; exchange = ap (λ (w : View S V). w.council.exchange) is }
+
+-- ---- its frames are those of proposer 0
+module _ {S V : Type 0} (m : Meaning S V) (old new : View S V) (question : Question) (is : IsAsking old question) where
+  pub as_ask_turn : (verdict : Verdict) → Step m old (turn_of old 0 verdict) new → StepTurnExchange m old verdict new
+  as_ask_turn verdict by = subst (λ (o : Option ExchangeView). Step m old (if asks_as o 0 then step.TurnExchange verdict else step.Turn 0 verdict) new) is.is_open by
+
+  pub as_ask_refusal : Step m old (refusal_of old 0) new → StepRefuseTurnExchange m old new
+  as_ask_refusal by = subst (λ (o : Option ExchangeView). Step m old (if asks_as o 0 then step.RefuseTurnExchange else step.RefuseTurn 0) new) is.is_open by
+
+pub ask_front : {S V : Type 0} (view : View S V) (question : Question) {front : Option (Leg × ℕ)} → IsAsking view question → front ≡ option_map head_of (slice_get (queue_at view.flow (place_of view 0)).messages 0)
+    → front ≡ option_map head_of (slice_get (queue_at view.flow exchange_place).messages 0)
+ask_front view question {front} is shown = subst (λ (o : Option ExchangeView). front ≡ option_map head_of (slice_get (queue_at view.flow (if asks_as o 0 then exchange_place else 0)).messages 0)) is.is_open shown
+
+-- a frame that is not held back leaves fewer turns
+pub ask_turn_fewer : {S V : Type 0} (m : Meaning S V) (old new : View S V) (verdict : Verdict) → verdict ≢ Hold → StepTurnExchange m old verdict new → turns_left new exchange_place < turns_left old exchange_place
+ask_turn_fewer {S} {V} m old new verdict free by = in_turn by.turn
+  where
+    in_turn : TurnsExchange m old verdict by.front by.at.exchange new → turns_left new exchange_place < turns_left old exchange_place
+    in_turn (council.held fall is) = absurd (not_held (queue_at old.flow exchange_place).again verdict free fall)
+    in_turn (council.gone fall is) = fewer_taken old.flow new.flow exchange_place verdict by.front by.waits free (ap (λ (w : View S V). w.flow) is)
+    in_turn (council.answers request acceptor now reply fall front at table is) = fewer_answered old.flow new.flow exchange_place verdict request reply (by.waits ∙ ap (λ (x : Message). Some x) front) fall (ap (λ (w : View S V). w.flow) is)
+    in_turn (council.finds_down request acceptor fall front at down is) = fewer_taken old.flow new.flow exchange_place verdict by.front by.waits free (ap (λ (w : View S V). w.flow) is)
+    in_turn (council.brings_down request acceptor now fall front at stops is) = fewer_taken old.flow new.flow exchange_place verdict by.front by.waits free (ap (λ (w : View S V). w.flow) is)
+    in_turn (council.arrives reply fall front to_it is) = fewer_taken old.flow new.flow exchange_place verdict by.front by.waits free (ap (λ (w : View S V). w.flow) is)
+
+-- of the frame became what the rules say
+pub ask_turned_more : {S V : Type 0} (m : Meaning S V) (rules : List Rule) (old mid new : View S V) (front : Option (Leg × ℕ)) (leg : Leg) (peer : ℕ) (verdict : Verdict) → front ≡ option_map head_of (slice_get (queue_at mid.flow exchange_place).messages 0) → front ≡ Some (leg, peer)
+    → verdict ≡ verdict_of rules leg peer → AskTurned m rules old mid → StepTurnExchange m mid verdict new → AskTurned m rules old new
+ask_turned_more m rules old mid new front leg peer verdict shown is says before by =
+    let one = front_of (queue_at mid.flow exchange_place).messages front leg peer shown is in
+    one_more one.frame before one.at (subst (λ (v : Verdict). StepTurnExchange m mid v new) (says ∙ ap (λ (h : Leg × ℕ). verdict_of rules h.0 h.1) (sym one.head)) by)
+
+-- ---- a listing
+-- what the operator's call asks for is under way, and its era is to be settled
+pub may_list : {S V : Type 0} (view : View S V) (asked : Asked) → IsUnderWay view asked → IsFree view → step_of view.council.plan ≡ Some Settle → IsPartial view.council.plan → MayAsk view (question_in view what.List)
+may_list view asked was free settles partial = record {
+  order = was.order;
+  is_open = was.is_open;
+  is_for = (
+    refl,
+    record {
+      plan = was.plan.open_plan;
+      is_plan = was.plan.is_open;
+      is_for = was.plan.same ∙ sym was.is_for;
+      settles = some_is (sym (ap step_of was.plan.is_open) ∙ settles);
+      partial = λ listing is. partial.partial was.plan.open_plan listing was.plan.is_open is;
+      goes_on = ap (λ (p : Option PlanView). places_from (everyone view) (listing_in p)) was.plan.is_open;
+    },
+  );
+  none_open = free.quiet;
+  idle = free.idle;
+}
+
+-- where none is complete no key is due
+pub none_due : (plan : Option PlanView) → IsPartial plan → due_in plan ≡ None
+none_due None partial = refl
+none_due (Some plan) partial = by_step (next_of plan.progress.left)
+  where
+    by_listing : (listing : Option ListingView) → plan.listing ≡ listing → first_of listing ≡ None
+    by_listing None is = refl
+    by_listing (Some listing) is = ap (λ (c : Bool). if c then slice_get listing.keys 0 else None) (partial.partial plan listing refl is)
+
+    by_step : (step : PlanStep) → first_where step plan.listing ≡ None
+    by_step Settle = by_listing plan.listing refl
+    by_step (Enter era) = refl
+    by_step Finished = refl
+
+-- the call goes on after it, and no more steps are left
+pub record HasGoneOn {S V : Type 0} (old new : View S V) : Type 0 where
+  pub under_way : (asked : Asked) → IsUnderWay old asked → IsUnderWay new asked
+  pub no_more : steps_left new ≤ steps_left old
+
+pub has_gone_on : {S V : Type 0} (old new : View S V) (result : Gathered) → HasListed old result new → HasGoneOn old new
+has_gone_on {S} {V} old new result came = record {
+  under_way = λ asked was. record {
+    order = silent_order came.order;
+    is_open = came.goes_on;
+    is_for = ap (λ (o : OrderView). o.asked) (some_is (sym came.was_open ∙ was.is_open)) ∙ was.is_for;
+    untold = refl;
+    plan = record { open_plan = with_listing came.plan came.listing; is_open = came.is_plan; same = with_asked came.plan came.listing ∙ ap (λ (p : PlanView). p.asked) (some_is (sym came.was_plan ∙ was.plan.is_open)) ∙ was.plan.same };
+  };
+  no_more = omega (arith, no_more_by (came.listing.complete && (length came.listing.keys == 0)), ap left_of came.is_plan, ap left_of came.was_plan);
+}
+  where
+    no_more_by : (b : Bool) → left_of (Some (if b then stepped came.plan else record came.plan { listing = Some came.listing })) ≤ left_of (Some came.plan)
+    no_more_by true = omega (arith, length-drop 1 came.plan.progress.left)
+    no_more_by false = omega arith
+
+-- it is not complete: the era is still to be settled
+pub still_partial : {S V : Type 0} (old new : View S V) → HasListed old gathered.More new → step_of old.council.plan ≡ Some Settle → (step_of new.council.plan ≡ Some Settle) × IsPartial new.council.plan
+still_partial {S} {V} old new came settles = (
+  ap step_of plan_now ∙ sym (ap step_of came.was_plan) ∙ settles,
+  record { partial = λ plan listing is_plan is. ap (λ (l : ListingView). l.complete) (some_is (sym is ∙ ap (λ (p : PlanView). p.listing) (some_is (sym is_plan ∙ plan_now)))) ∙ partial },
+)
+  where
+    partial : came.listing.complete ≡ false
+    partial = not_complete came.listing.complete came.came
+
+    plan_now : new.council.plan ≡ Some (record came.plan { listing = Some came.listing })
+    plan_now = came.is_plan ∙ ap (λ (c : Bool). Some (if c && (length came.listing.keys == 0) then stepped came.plan else record came.plan { listing = Some came.listing })) partial
+
+-- it is complete: a key is due, or the era is settled
+complete_then : (complete : Bool) → gathered.Listed ≡ listed_if complete → complete ≡ true
+complete_then true is = refl
+complete_then false is = absurd (cc is)
+
+pub takes_step : {S V : Type 0} (old new : View S V) → HasListed old gathered.Listed new → step_of old.council.plan ≡ Some Settle → TakesStep old new
+takes_step {S} {V} old new came settles =
+    let so : Settles came.plan (with_listing came.plan came.listing) came.listing = settles_by came.plan came.listing (some_is (sym (ap step_of came.was_plan) ∙ settles)) (complete_then came.listing.complete came.came) in
+    elim so.takes [
+      | inl less ↦ inl (omega (arith, less, ap left_of came.is_plan, ap left_of came.was_plan))
+      | inr due ↦ inr (subst (λ (p : Option PlanView). IsSome (due_in p)) (sym came.is_plan) due)
+    ]
+
+-- what came of a listing is no probe, and is either
+pub not_probed : {S V A : Type 0} (old new : View S V) (found : Probes) → HasListed old (gathered.Probed found) new → A
+not_probed {A = A} old new found came = by_complete came.listing.complete came.came
+  where
+    by_complete : (c : Bool) → gathered.Probed found ≡ listed_if c → A
+    by_complete true is = absurd (cc is)
+    by_complete false is = absurd (cc is)
+
+-- what does not go on is complete
+pub is_whole : {S V : Type 0} (old new : View S V) (result : Gathered) → HasListed old result new → (result ≡ gathered.More → ⊥) → HasListed old gathered.Listed new
+is_whole old new (gathered.Probed found) came other = not_probed old new found came
+is_whole old new gathered.More came other = absurd (other refl)
+is_whole old new gathered.Listed came other = came

@@ -1,0 +1,94 @@
+use Rattle.std.proofs.Common.{◌≡◌, ◌<◌, true, false, Option, Some, refl, inr, sym, ap, subst, ◌∙◌}
+use Rattle.std.specs.Prelude.{IsSome}
+use Rattle.cas_calls.specs.Council.{due_in}
+use Rattle.cas_change.specs.declared.program.Clause.{Clause}
+use Rattle.cas_cluster.specs.Council.{OrderView}
+use Rattle.cas_cluster.specs.Protocol.{is_done}
+use Rattle.cas_cluster.specs.View.{View, meaning}
+use Rattle.cas_record.specs.declared.answer.Answer.{Answer}
+use Rattle.cas_record.specs.declared.operator.Asked.{Asked}
+use Rattle.cas_world.specs.Plans.{IsUnderWay}
+use Rattle.cas_script.specs.Changes.{IsChange}
+use Rattle.cas_script.specs.Conditions.{Rule}
+use Rattle.cas_script.specs.Membership.{HasAdvanced, none, one_more, rescans, no_memory, keys_listed}
+use Rattle.cas_script.specs.Network.{IsNetwork}
+use Rattle.cas_script.specs.Orders.{KeepsIdle}
+use Rattle.cas_script.proofs.Asking.{both_idle, keeps_idle}
+use Rattle.cas_script.proofs.Carrying.{GoesFrom, same_goes, then_goes, goes_on_from, takes_from, change_idle, rescanned_from, rescan_goes}
+use Rattle.cas_script.proofs.Entering.{key_keeps}
+use Rattle.cas_script.proofs.Keeping.{change_leaves}
+use Rattle.cas_script.proofs.Rescanning.{Rescanned, is_rescan, not_done, told_stopped}
+use Rattle.cas_script.proofs.membership.rescan.Given.{Over}
+use Rattle.cas_script.proofs.membership.rescan.Goals as goal
+use Rattle.cas_script.proofs.membership.rescan.Goals.{After-drop-key-inside-in-Some}
+
+pub loop-key-init : goal.loop-key-init
+loop-key-init g c = record { advances = λ rules is. none; network = λ rules is. is; goes = same_goes c.args.world.now c.requires.free; takes = λ due. inr due }
+
+pub due_key-requires : goal.due_key-requires
+due_key-requires g c =
+    let was = c.loop-key.invariant.goes.under_way c.requires.under_way.0 c.requires.under_way.1 in
+    subst (λ (o : Option OrderView). IsSome o) (sym was.is_open) refl
+
+pub returns-in_err-key-clause-advances : goal.returns-in_err-key-clause-advances
+returns-in_err-key-clause-advances g c rules is =
+    one_more (c.loop-key.invariant.advances rules is) (goes_on_from c.args.world.now c.loop-key.world c.requires.under_way.0 c.loop-key.invariant.goes c.requires.under_way.1) (no_memory c.in_err-key.ensures.step)
+
+pub returns-in_err-key-clause-idle : goal.returns-in_err-key-clause-idle
+returns-in_err-key-clause-idle g c = both_idle c.args.world.now c.loop-key.world c.due_key.new.self c.loop-key.invariant.goes.idle (keeps_idle c.loop-key.world c.due_key.new.self (key_keeps c.loop-key.world c.due_key.new.self c.in_err-key.ensures.step))
+
+-- ---- a key is due
+goes_mid : (g : Over) (c : After-drop-key-inside-in-Some g) → GoesFrom c.args.world.now c.due_key.new.self
+goes_mid g c = subst (GoesFrom c.args.world.now) (sym c.in_ok-key.ensures.unchanged) c.loop-key.invariant.goes
+
+under_way : (g : Over) (c : After-drop-key-inside-in-Some g) → IsUnderWay c.due_key.new.self c.requires.under_way.0
+under_way g c = (goes_mid g c).under_way c.requires.under_way.0 c.requires.under_way.1
+
+due : (g : Over) (c : After-drop-key-inside-in-Some g) → due_in c.due_key.new.self.council.plan ≡ Some c.in-Some.key
+due g c = ap (λ (w : View _ _). due_in w.council.plan) c.in_ok-key.ensures.unchanged ∙ sym c.in_ok-key.ensures.key ∙ c.in-Some.is
+
+idle : (g : Over) (c : After-drop-key-inside-in-Some g) → KeepsIdle c.due_key.new.self c.change.new.world
+idle g c = change_idle c.due_key.new.self c.change.new.world 0
+    (change_leaves _ c.args.tries c.requires.network.0 0 c.in-Some.key c.args.program.now c.loop-key.halt c.change.new.halt c.due_key.new.self c.change.new.world c.change.result (c.change.ensures.change c.requires.network.0 (c.loop-key.invariant.network c.requires.network.0 c.requires.network.1))) c.change.ensures.idle
+
+advances : (g : Over) (c : After-drop-key-inside-in-Some g) (rules : _) → IsNetwork c.args.network.now rules → HasAdvanced (meaning g.S.Shelf.contents g.S.Shelf.tells g.S.Shelf.may_leave g.S.Shelf.fault_count g.V.Disk.tells g.V.Disk.may_leave g.V.Disk.fault_count) c.args.tries rules c.args.halt.now c.args.world.now c.change.new.halt c.change.new.world
+advances g c rules is =
+    one_more (subst (λ (w : View _ _). HasAdvanced (meaning g.S.Shelf.contents g.S.Shelf.tells g.S.Shelf.may_leave g.S.Shelf.fault_count g.V.Disk.tells g.V.Disk.may_leave g.V.Disk.fault_count) c.args.tries rules c.args.halt.now c.args.world.now c.loop-key.halt w) (sym c.in_ok-key.ensures.unchanged) (c.loop-key.invariant.advances rules is))
+    (goes_on_from c.args.world.now c.due_key.new.self c.requires.under_way.0 (goes_mid g c) c.requires.under_way.1)
+    (rescans c.in-Some.key c.change.result (due g c) (subst (λ (p : _). IsChange (meaning g.S.Shelf.contents g.S.Shelf.tells g.S.Shelf.may_leave g.S.Shelf.fault_count g.V.Disk.tells g.V.Disk.may_leave g.V.Disk.fault_count) c.args.tries rules 0 c.in-Some.key p c.loop-key.halt c.due_key.new.self c.change.result c.change.new.halt c.change.new.world) c.requires.program (c.change.ensures.change rules (c.loop-key.invariant.network rules is))))
+
+-- ---- it was done
+so : (g : Over) (c : After-drop-key-inside-in-Some g) → Rescanned c.due_key.new.self c.change.new.world
+so g c = rescanned_from c.due_key.new.self c.change.new.world c.requires.under_way.0 c.in-Some.key c.change.result (under_way g c) (due g c) (ap is_done c.in-Done.is) c.change.ensures.rescans
+
+pub loop-key-smaller : goal.loop-key-smaller
+loop-key-smaller g c = subst (λ (w : View _ _). keys_listed c.change.new.world < keys_listed w) c.in_ok-key.ensures.unchanged (so g c).fewer
+
+pub loop-key-preserved : goal.loop-key-preserved
+loop-key-preserved g c = record {
+  advances = advances g c;
+  network = λ rules is. c.change.ensures.network rules (c.loop-key.invariant.network rules is);
+  goes = then_goes c.args.world.now c.due_key.new.self c.change.new.world (goes_mid g c) (rescan_goes c.due_key.new.self c.change.new.world (goes_mid g c).free (so g c) (idle g c));
+  takes = λ was_due. takes_from c.args.world.now c.due_key.new.self c.change.new.world (goes_mid g c) (so g c).takes;
+}
+
+-- ---- it was not
+pub returns-in_default-change : goal.returns-in_default-change
+returns-in_default-change g c =
+    let goes = subst (GoesFrom c.args.world.now) (sym c.in_ok-key.ensures.unchanged) c.loop-key.invariant.goes in
+    let due = ap (λ (w : View _ _). due_in w.council.plan) c.in_ok-key.ensures.unchanged ∙ sym c.in_ok-key.ensures.key ∙ c.in-Some.is in
+    record {
+      advances = λ rules is.
+          one_more (subst (λ (w : View _ _). HasAdvanced (meaning g.S.Shelf.contents g.S.Shelf.tells g.S.Shelf.may_leave g.S.Shelf.fault_count g.V.Disk.tells g.V.Disk.may_leave g.V.Disk.fault_count) c.args.tries rules c.args.halt.now c.args.world.now c.loop-key.halt w) (sym c.in_ok-key.ensures.unchanged) (c.loop-key.invariant.advances rules is))
+          (goes_on_from c.args.world.now c.due_key.new.self c.requires.under_way.0 goes c.requires.under_way.1)
+          (rescans c.in-Some.key c.change.result due (subst (λ (p : _). IsChange (meaning g.S.Shelf.contents g.S.Shelf.tells g.S.Shelf.may_leave g.S.Shelf.fault_count g.V.Disk.tells g.V.Disk.may_leave g.V.Disk.fault_count) c.args.tries rules 0 c.in-Some.key p c.loop-key.halt c.due_key.new.self c.change.result c.change.new.halt c.change.new.world) c.requires.program (c.change.ensures.change rules (c.loop-key.invariant.network rules is))));
+      under_way = λ asked was. tt;
+      fewer = λ was_due. tt;
+      no_more = tt;
+      told = told_stopped c.due_key.new.self c.change.new.world c.in-Some.key c.change.result (is_rescan c.due_key.new.self c.requires.under_way.0 c.in-Some.key (goes.under_way c.requires.under_way.0 c.requires.under_way.1) due) (not_done c.change.result c.in_default-change.not-Done) c.change.ensures.rescans;
+      network = λ rules is. c.change.ensures.network rules (c.loop-key.invariant.network rules is);
+      free = tt;
+      idle = both_idle c.args.world.now c.due_key.new.self c.change.new.world goes.idle
+          (change_idle c.due_key.new.self c.change.new.world 0
+          (change_leaves _ c.args.tries c.requires.network.0 0 c.in-Some.key c.args.program.now c.loop-key.halt c.change.new.halt c.due_key.new.self c.change.new.world c.change.result (c.change.ensures.change c.requires.network.0 (c.loop-key.invariant.network c.requires.network.0 c.requires.network.1))) c.change.ensures.idle);
+    }

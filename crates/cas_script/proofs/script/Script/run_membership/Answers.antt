@@ -1,0 +1,30 @@
+use Rattle.std.proofs.Common.{◌≡◌, ℕ, slice_set, slice_index_or, sym, ap, subst, ◌∙◌, arith}
+use Rattle.std.proofs.lemmas.Result.{IfOk-weaker}
+use Rattle.cas_cluster.specs.View.{meaning}
+use Rattle.cas_world.specs.Plans.{asked_to}
+use Rattle.cas_script.specs.Membership.{ChangesMembers}
+use Rattle.cas_script.specs.Script.{RunsMembership, Runs, nowhere}
+use Rattle.cas_script.specs.Stage.{Stage}
+use Rattle.cas_script.proofs.Answering.{membership_runs}
+use Rattle.cas_script.proofs.Keeping.{all_idle}
+use Rattle.cas_script.proofs.Stages.{stage_of, network_is}
+use Rattle.cas_script.proofs.script.Script.run_membership.Goals as goal
+
+pub invariant_of-self : goal.invariant_of-self
+invariant_of-self g c = record {
+  known = c.change_members.ensures.idle.greatest ∙ c.self.invariant.known;
+  few = c.self.invariant.few;
+  some = c.self.invariant.some;
+  idle = all_idle c.self.inside.world c.change_members.new.world c.change_members.ensures.idle c.self.invariant.idle;
+  quiet = c.change_members.ensures.quiet;
+  ruled = (c.self.invariant.ruled.0, c.change_members.ensures.network c.self.invariant.ruled.0 c.self.invariant.ruled.1);
+}
+
+pub returns-clause-runs : goal.returns-clause-runs
+returns-clause-runs g c state at =
+    IfOk-weaker c.change_members.result (λ a. ChangesMembers (meaning {S = g.row.S.Denot} g.S.Shelf.contents g.S.Shelf.tells g.S.Shelf.may_leave g.S.Shelf.fault_count g.V.Disk.tells g.V.Disk.may_leave g.V.Disk.fault_count) c.self.inside.tries state.rules (asked_to c.args.kind c.args.id) (slice_index_or c.self.inside.halts 0 nowhere) c.self.inside.world a c.change_members.new.halt c.change_members.new.world)
+    (λ a. Runs (RunsMembership (meaning {S = g.row.S.Denot} g.S.Shelf.contents g.S.Shelf.tells g.S.Shelf.may_leave g.S.Shelf.fault_count g.V.Disk.tells g.V.Disk.may_leave g.V.Disk.fault_count) c.args.self.now.tries state (asked_to c.args.kind c.args.id) a) (stage_of c.change_members.new.world c.change_members.new.network (slice_set c.self.inside.halts 0 c.change_members.new.halt) c.self.inside.tries))
+    (λ a h. subst (λ (n : ℕ). Runs (RunsMembership (meaning {S = g.row.S.Denot} g.S.Shelf.contents g.S.Shelf.tells g.S.Shelf.may_leave g.S.Shelf.fault_count g.V.Disk.tells g.V.Disk.may_leave g.V.Disk.fault_count) n state (asked_to c.args.kind c.args.id) a) (stage_of c.change_members.new.world c.change_members.new.network (slice_set c.self.inside.halts 0 c.change_members.new.halt) c.self.inside.tries)) (ap (λ (v : Stage _ _). v.tries) c.self.view_is)
+    (membership_runs (meaning {S = g.row.S.Denot} g.S.Shelf.contents g.S.Shelf.tells g.S.Shelf.may_leave g.S.Shelf.fault_count g.V.Disk.tells g.V.Disk.may_leave g.V.Disk.fault_count) c.self.inside.world c.change_members.new.world c.self.inside.network c.change_members.new.network c.self.inside.halts c.self.inside.tries c.args.self.now state (asked_to c.args.kind c.args.id) c.change_members.new.halt a c.self.view_is at
+    (omega (arith, c.self.ranges)) (c.change_members.ensures.network state.rules) (λ n. h)))
+    (c.change_members.ensures.changes state.rules (network_is c.self.inside.world c.self.inside.network c.self.inside.halts c.self.inside.tries c.args.self.now state c.self.view_is at))

@@ -1,0 +1,81 @@
+-- What an exchange does to a world, in which proposer 0 asks all members: the calls that it makes, one after another.
+use Rattle.std.specs.Prelude.{◌≡◌, ℕ, List, [], None, Some}
+use Rattle.cas_flow.specs.Flow.{queue_at}
+use Rattle.cas_flow.specs.declared.message.Message.{Message}
+use Rattle.cas_record.specs.declared.operator.OpAnswer.TheVariants as op
+use Rattle.cas_calls.specs.Council.{listed_if}
+use Rattle.cas_calls.specs.declared.council.Gathered.{Gathered}
+use Rattle.cas_calls.specs.declared.council.Gathered.TheVariants as came
+use Rattle.cas_cluster.specs.Council.{Question, Probe, NextKeys, ExchangeView, ListingView, OrderView, PlanView, exchange_place, silent_order, with_listing}
+use Rattle.cas_cluster.specs.Remaining.{keys_left}
+use Rattle.cas_cluster.specs.Step.{Step, AskAll, TurnExchange, RefuseTurnExchange, Gather}
+use Rattle.cas_cluster.specs.StepCouncil.{everyone, listing_in, places_from}
+use Rattle.cas_cluster.specs.View.{Meaning, View, IsAt}
+use Rattle.cas_world.specs.Exchange.{WasToldOrder}
+use Rattle.cas_script.specs.Conditions.{Rule, verdict_on}
+
+-- ---- turns
+-- turns were made, each on the first frame of the exchange, of which became what the rules say
+pub data AskTurned {S V : Type 0} (m : Meaning S V) (rules : List Rule) (old : View S V) : View S V → Type 0 where
+  none : AskTurned m rules old old
+  one_more : {mid new : View S V} (frame : Message) → AskTurned m rules old mid → IsAt (queue_at mid.flow exchange_place).messages 0 frame → Step m mid (TurnExchange (verdict_on rules frame)) new → AskTurned m rules old new
+
+-- turns were made until none of the exchange's frames waits
+pub record AllAskTurned {S V : Type 0} (m : Meaning S V) (rules : List Rule) (old new : View S V) : Type 0 where
+  pub turned : AskTurned m rules old new
+  pub none_waits : (queue_at new.flow exchange_place).messages ≡ []
+
+-- after some turns one found no memory
+pub record FailsToAsk {S V : Type 0} (m : Meaning S V) (rules : List Rule) (old new : View S V) : Type 0 where
+  pub mid : View S V
+  pub turned : AskTurned m rules old mid
+  pub fails : Step m mid RefuseTurnExchange new
+
+-- ---- the whole
+-- The members are asked this, and what they told is gathered; or none is asked, or a turn finds no memory.
+pub data AsksMembers {S V : Type 0} (m : Meaning S V) (rules : List Rule) (question : Question) (old : View S V) : View S V → Type 0 where
+  not_asked : {new : View S V} → Step m old (AskAll question) new → new.council.exchange ≡ None → AsksMembers m rules question old new
+  no_memory : {asked new : View S V} → Step m old (AskAll question) asked → FailsToAsk m rules asked new → AsksMembers m rules question old new
+  gathered : {asked turned new : View S V} → Step m old (AskAll question) asked → AllAskTurned m rules asked turned → Step m turned Gather new → AsksMembers m rules question old new
+
+-- ---- what came of it
+-- the listing of the change of membership that is under way went on to another, and the operator's call goes on
+pub record HasListed {S V : Type 0} (old : View S V) (gathered : Gathered) (new : View S V) : Type 0 where
+  pub order : OrderView
+  pub was_open : old.council.order ≡ Some order
+  pub goes_on : new.council.order ≡ Some (silent_order order)
+  pub over : new.council.exchange ≡ None
+  pub plan : PlanView
+  pub was_plan : old.council.plan ≡ Some plan
+  pub listing : ListingView
+  pub is_plan : new.council.plan ≡ Some (with_listing plan listing)
+  pub came : gathered ≡ listed_if listing.complete
+
+-- what each keeps for the key, as the operator's call may tell; or the next keys
+abbrev pub CameOf : {S V : Type 0} → Question → View S V → Gathered → View S V → Type 0
+CameOf (Probe key) old (came.Probed found) new = WasToldOrder new (op.Probed key found)
+CameOf (Probe key) old other new = ⊥
+CameOf (NextKeys places) old result new = HasListed old result new
+
+-- how much is left to be listed
+abbrev pub listing_left : {S V : Type 0} → View S V → ℕ
+listing_left view = keys_left (places_from (everyone view) (listing_in view.council.plan))
+
+-- ---- what stays
+-- an exchange for the operator's open call asks this
+pub record IsAsking {S V : Type 0} (view : View S V) (question : Question) : Type 0 where
+  pub order : OrderView
+  pub is_order : view.council.order ≡ Some order
+  pub exchange : ExchangeView
+  pub is_open : view.council.exchange ≡ Some exchange
+  pub same : exchange.question ≡ question
+
+-- the operator's call stays, and its change of membership
+pub record KeepsOrder {S V : Type 0} (old new : View S V) : Type 0 where
+  pub order : new.council.order ≡ old.council.order
+  pub plan : new.council.plan ≡ old.council.plan
+
+-- the calls of the callers stay
+pub record KeepsCalls {S V : Type 0} (old new : View S V) : Type 0 where
+  pub greatest : new.greatest ≡ old.greatest
+  pub callers : new.callers ≡ old.callers

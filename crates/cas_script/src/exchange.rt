@@ -1,0 +1,63 @@
+//! One exchange, in which proposer 0 asks all members: from its question to what they told.
+
+ghost use Rattle.std.specs.Prelude.{◌≡◌, ◌<◌, IfOk, IfErr, OnOk, OnErr, List, false};
+ghost use Rattle.cas_cluster.specs.Council.{Question};
+ghost use Rattle.cas_cluster.specs.View.{meaning};
+ghost use Rattle.cas_record.specs.declared.answer.Answer.TheVariants as answer;
+ghost use Rattle.cas_record.specs.declared.operator.OpAnswer.TheVariants as op;
+ghost use Rattle.cas_world.specs.Exchange.{MayAsk, WasToldOrder, question_in};
+ghost use Rattle.cas_script.specs.Conditions.{Rule};
+ghost use Rattle.cas_script.specs.Exchanges.{AllAskTurned, FailsToAsk, AsksMembers, CameOf, IsAsking, KeepsCalls, KeepsOrder, listing_left};
+ghost use Rattle.cas_script.specs.Network.{IsNetwork};
+
+use crate::network::Network;
+use cas_disk::Disk;
+use cas_record::{Answer, OpAnswer};
+use cas_slot::Shelf;
+use cas_world::{Exchange, Gathered, World};
+use std::alloc::AllocError;
+
+/// Asks the members, and gathers what they told. What becomes of each frame the network says. An `Err` is what the operator's call was
+/// told, and so is what a probe found.
+pub(crate) fn exchange<S: Shelf, V: Disk>(
+    world: &mut World<S, V>,
+    network: &mut Network,
+    what: Exchange,
+) -> Result<Gathered, OpAnswer>
+    requires may { MayAsk world.old (question_in world.old what) }
+    requires network { (rules : List Rule) × IsNetwork network.old rules }
+    ensures asks { (rules : List Rule) → IsNetwork network.old rules → AsksMembers (meaning S.contents S.tells S.may_leave S.fault_count V.tells V.may_leave V.fault_count) rules (question_in world.old what) world.old world.new }
+    ensures gathered { IfOk result (λ gathered. CameOf (question_in world.old what) world.old gathered world.new) }
+    ensures less { result ≡ Ok Gathered.More → listing_left world.new < listing_left world.old }
+    ensures told { IfErr result (WasToldOrder world.new) }
+    ensures network { (rules : List Rule) → IsNetwork network.old rules → IsNetwork network.new rules }
+    ensures calls { KeepsCalls world.old world.new }
+{
+    world.ask_all(what)?;
+    if ask_turns(world, network).is_err() {
+        return Err(OpAnswer::Stopped(Answer::NoMemory { proposed: false }));
+    }
+    world.gather()
+}
+
+/// Makes turns until no frame of the exchange waits. What becomes of each frame the network says.
+fn ask_turns<S: Shelf, V: Disk>(
+    world: &mut World<S, V>,
+    network: &mut Network,
+) -> Result<(), AllocError>
+    requires asks { (question : Question) × IsAsking world.old question }
+    requires network { (rules : List Rule) × IsNetwork network.old rules }
+    ensures through { (rules : List Rule) → IsNetwork network.old rules → OnOk result (AllAskTurned (meaning S.contents S.tells S.may_leave S.fault_count V.tells V.may_leave V.fault_count) rules world.old world.new) }
+    ensures fails { (rules : List Rule) → IsNetwork network.old rules → OnErr result (FailsToAsk (meaning S.contents S.tells S.may_leave S.fault_count V.tells V.may_leave V.fault_count) rules world.old world.new) }
+    ensures asks { (question : Question) → IsAsking world.old question → OnOk result (IsAsking world.new question) }
+    ensures order { OnOk result (KeepsOrder world.old world.new) }
+    ensures told { OnErr result (WasToldOrder world.new (op.Stopped (answer.NoMemory false))) }
+    ensures network { (rules : List Rule) → IsNetwork network.old rules → IsNetwork network.new rules }
+    ensures calls { KeepsCalls world.old world.new }
+{
+    while let Some(front) = world.front(0) {
+        let verdict = network.verdict(front.0, front.1);
+        world.turn(0, verdict)?;
+    }
+    Ok(())
+}
