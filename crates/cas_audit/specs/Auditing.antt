@@ -40,3 +40,11 @@ RulesAreLegal = (marks : List Mark) → (IsLegal marks ↔ AllKept rules marks) 
 -- no record has two first broken rules
 abbrev pub BrokenRulesAreOne : Type 0
 BrokenRulesAreOne = (marks : List Mark) (one two : ℕ) → IsFirstBroken 0 rules one marks → IsFirstBroken 0 rules two marks → one ≡ two
+
+-- an audit has one verdict
+abbrev pub VerdictsAreOne : Type 0
+VerdictsAreOne = (marks : List Mark) (one two : Option Broken) → IsVerdict one marks → IsVerdict two marks → one ≡ two
+
+-- once a rule is broken, each further mark has the same verdict
+abbrev pub VerdictsStay : Type 0
+VerdictsStay = (mark : Mark) (marks : List Mark) (broken : Broken) → IsVerdict (Some broken) marks → IsVerdict (Some broken) (mark ∷ marks)

@@ -1,5 +1,11 @@
 pub mod Auditing
+pub mod Keeping
 pub mod Printing
+pub mod Progress
 pub mod Ranges
 pub mod Reading
 pub mod Rules
+pub mod Tables
+pub mod Texts
+pub mod Told
+pub mod Watching

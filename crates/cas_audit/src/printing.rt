@@ -16,9 +16,6 @@ use cas_change_text::{print_program, push_state};
 use cas_record::{Acknowledgment, Answer, Asked, Cause, Mark, OpAnswer, Proposal};
 use std::alloc::{AllocError, Global};
 
-#[cfg(test)]
-mod tests;
-
 /// Whether a record's text can have the mark: an operator's answer to a probe is never written, nor is one that says that a
 /// step was stopped by being done.
 pub fn has_text(mark: &Mark) -> bool

@@ -26,9 +26,6 @@ use cas_quorum::PlanFault;
 use cas_record::{Acknowledgment, Answer, Asked, Cause, Mark, OpAnswer, Proposal};
 use std::alloc::Global;
 
-#[cfg(test)]
-mod tests;
-
 /// The refusal of the word at this place, which is none of those that may stand there.
 fn unknown_word(at: usize) -> TextRefusal
     ensures { result ≡ record { why = Why.UnknownWord; word = at } }

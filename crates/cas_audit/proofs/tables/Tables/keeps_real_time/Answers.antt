@@ -1,0 +1,7 @@
+use Rattle.std.proofs.Common.{reverse, sym, subst}
+use Rattle.std.specs.Prelude.{IfOk, IsTrue, ◌↔◌}
+use Rattle.cas_audit.specs.Keeping.{KeepsRealTime}
+use Rattle.cas_audit.proofs.tables.Tables.keeps_real_time.Goals as goal
+
+pub returns-in-Ended : goal.returns-in-Ended
+returns-in-Ended c = subst (λ mark. IfOk c.answer_is_late.result (λ kept. IsTrue kept ↔ KeepsRealTime mark (reverse c.args.marks.now))) (sym c.in-Ended.is) c.answer_is_late.ensures
