@@ -5,12 +5,13 @@ use Rattle.cas_quorum.specs.declared.era.Era.{Era}
 use Rattle.cas_collect.specs.declared.collect.CollectStep.{CollectStep}
 use Rattle.cas_collect.specs.declared.collect.CollectStep.TheVariants.{Round, Renew, Ages, Floor, Remove, End}
 
--- a collection as it stands
+-- a collection as it stands: the steps that were confirmed, and the one that comes next
 pub record Collection : Type 0 where
   pub key : List ℕ
   pub era : Era
   pub proposers : ℕ
   pub confirmed : List CollectStep
+  pub step : CollectStep
 
 -- the steps in their order, with a renewal of each proposer from 0 to the greatest
 abbrev pub collection_steps : ℕ → List CollectStep

@@ -22,8 +22,8 @@ pub enum CollectStep {
     End,
 }
 
-/// A deletion of one key that is under way, seen as its key, its era, the greatest number of a proposer, and the steps
-/// that were confirmed.
+/// A deletion of one key that is under way, seen as its key, its era, the greatest number of a proposer, the steps
+/// that were confirmed and the one that comes next.
 ///
 /// The steps come in one order: [`CollectStep::Round`], [`CollectStep::Renew`] for each proposer from 0 to the greatest,
 /// [`CollectStep::Ages`], [`CollectStep::Floor`], [`CollectStep::Remove`], [`CollectStep::End`].
@@ -46,6 +46,7 @@ impl Model for Collect {
       era = collect.era;
       proposers = collect.proposers;
       confirmed = take (place_of collect.proposers collect.step) (collection_steps collect.proposers);
+      step = collect.step;
     } };
 
     ghost invariant = { λ collect. IsStepOf collect.proposers collect.step };
@@ -54,7 +55,7 @@ impl Model for Collect {
 impl Collect {
     /// The collection of the key in that era, with the proposers 0 to `proposers`, before its first step.
     pub fn begin(key: Key, proposers: u8, era: &Era) -> Collect
-        ensures { result ≡ record { key = key; era = era.now; proposers = proposers; confirmed = [] } }
+        ensures { result ≡ record { key = key; era = era.now; proposers = proposers; confirmed = []; step = CollectStep.Round } }
     {
         Collect {
             key,
@@ -80,7 +81,8 @@ impl Collect {
 
     /// The step that comes next in the order, where exactly those before it were confirmed.
     pub fn next(&self) -> CollectStep
-        ensures { IsNext self.now.proposers self.now.confirmed result }
+        ensures next { result ≡ self.now.step }
+        ensures order { IsNext self.now.proposers self.now.confirmed result }
     {
         self.step
     }
@@ -88,7 +90,7 @@ impl Collect {
     /// The step, which was next, was confirmed. The end stays the end.
     pub fn confirm(&mut self, step: CollectStep)
         requires { IsNext self.old.proposers self.old.confirmed step }
-        ensures { self.new ≡ record self.old { confirmed = with_step self.old.confirmed step } }
+        ensures { self.new ≡ record self.old { confirmed = with_step self.old.confirmed step; step = step_after self.old.proposers step } }
     {
         self.step = step_after(step, self.proposers);
     }

@@ -1,6 +1,6 @@
 use Rattle.std.proofs.Common.{List, ap}
 use Rattle.cas_collect.specs.declared.collect.CollectStep.{CollectStep}
-use Rattle.cas_collect.specs.Order.{Collection}
+use Rattle.cas_collect.specs.Order.{Collection, step_after}
 use Rattle.cas_collect.proofs.OrderLemmas.{confirmed_by, IsStepOf-confirmed}
 use Rattle.cas_collect.proofs.collect.Collect.confirm.Goals as goal
 
@@ -16,6 +16,7 @@ returns c =
       era = c.self.inside.era;
       proposers = c.self.inside.proposers;
       confirmed = steps;
+      step = step_after c.self.inside.proposers c.args.step;
     } in
     rw (← c.self.view_is, c.step_after-self-inside.ensures)
     (ap more (confirmed_by c.self.inside.proposers c.self.inside.step c.args.step c.self.invariant (rw (← c.self.view_is) at c.requires)))
