@@ -394,9 +394,10 @@ impl<V: Disk> Desk<V> {
         self.down
     }
 
-    /// How often it was renewed.
+    /// How often it was renewed. While the desk is up, whatever a crash leaves of its vault was renewed as often.
     pub fn age(&self) -> u64
-        ensures { result ≡ (kept_of self.now.vault).age }
+        ensures age { result ≡ (kept_of self.now.vault).age }
+        ensures stands { self.now.down ≡ false → Stands V.tells V.seen V.may_leave self.now.vault }
     {
         self.vault.age()
     }
