@@ -51,7 +51,7 @@ abbrev pub plan_view : OpenPlan → PlanView
 plan_view plan = record { asked = plan.asked; progress = plan.plan; entered = plan.entered; rescanned = plan.rescanned; listing = plan.listing }
 
 abbrev pub council_view : Council → cluster.Council
-council_view council = record { order = option_map order_view council.order; exchange = option_map exchange_view council.exchange; plan = option_map plan_view council.plan; used = council.used }
+council_view council = record { order = option_map order_view council.order; exchange = option_map exchange_view council.exchange; plan = option_map plan_view council.plan; used = council.used; collection = None }
 
 -- all proposers work in this era, whose members are these, and nothing is under way
 abbrev pub opening_council : Era → List ℕ → Council
@@ -120,8 +120,8 @@ IsProbed other = ⊥
 
 -- the next keys are asked for
 abbrev pub IsOfKeys : cluster.Question → Type 0
-IsOfKeys (cluster.Probe key) = ⊥
 IsOfKeys (cluster.NextKeys places) = ⊤
+IsOfKeys other = ⊥
 
 -- an era is to be settled, and its listing has begun
 pub record IsListing (under_way : Option PlanView) : Type 0 where
@@ -134,6 +134,7 @@ pub record IsListing (under_way : Option PlanView) : Type 0 where
 abbrev pub MayList : cluster.Question → Option PlanView → Type 0
 MayList (cluster.Probe key) plan = ⊤
 MayList (cluster.NextKeys places) plan = IsListing plan
+MayList other plan = ⊥
 
 -- whether a listing is at its end
 abbrev pub listed_if : Bool → Gathered

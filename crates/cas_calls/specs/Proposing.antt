@@ -13,6 +13,7 @@ use Rattle.cas_record.specs.declared.answer.Answer.TheVariants as answer
 use Rattle.cas_flow.specs.Flow.{FlowView}
 use Rattle.cas_quorum.specs.declared.era.Era.{Era}
 use Rattle.cas_vault.specs.Vault.{kept_of}
+use Rattle.cas_cluster.specs.Parties.{IsAged}
 use Rattle.cas_cluster.specs.StepCalls.{Sends, accepts_to}
 use Rattle.cas_cluster.specs.StepDesks.{MayHaveDrawn, FailsToDraw, LosesMemory}
 use Rattle.cas_cluster.specs.View.{DiskMeaning}
@@ -37,9 +38,10 @@ proposing_of author key era program ready = record {
 abbrev pub disks : {V : Type 0} → Type 0 → (V → List ℕ → Type 0) → (V → ℕ) → DiskMeaning V
 disks tells may_leave faults = record { tells = tells; may_leave = may_leave; faults = faults }
 
--- the ballot that rides with the accepts of the open round is drawn, or there is none
+-- the ballot that rides with the accepts of the open round is drawn, or there is none; its vault keeps the age, wherever it stops
 pub record RidesOn {V : Type 0} (m : DiskMeaning V) (round : Round) (old new : DeskView V) (ride : Option Ballot) : Type 0 where
   pub drawn : MayHaveDrawn m old.id old.vault new.vault ride
+  pub aged : m.tells → IsAged m (kept_of old.vault).age new.vault
   pub desk : new ≡ record old { vault = new.vault; round = Some (record round { ride = ride }) }
   pub fits : IfSome ride FitsBallot
 

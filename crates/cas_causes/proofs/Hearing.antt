@@ -22,9 +22,12 @@ use Rattle.cas_cluster.specs.StepStops.{OpenCallAt, closed_by, closed_by_crash, 
 use Rattle.cas_cluster.specs.StepPlans as plans
 use Rattle.cas_cluster.specs.StepPlans.{Welcomes, StepOpenPlan, OpensPlan, StepEnterEra, EntersNext}
 use Rattle.cas_cluster.specs.StepCalls as calls
+use Rattle.cas_cluster.specs.Collection.{tomb_of}
+use Rattle.cas_cluster.specs.StepCollect as collect
+use Rattle.cas_cluster.specs.StepCollect.{keep_always, StepBeginCollect, StepGatherRound, StepRenew, StepAskCollect, StepGatherCollect}
 use Rattle.cas_cluster.specs.StepCouncil as council
 use Rattle.cas_cluster.specs.StepCouncil.{StepTell, StepAskAll, StepTurnExchange, StepGather}
-use Rattle.cas_cluster.specs.StepDesks.{HearsReply, Crashes, EntersEra, FailsToEnter}
+use Rattle.cas_cluster.specs.StepDesks.{HearsReply, Crashes, EntersEra, FailsToEnter, Renews, FailsToRenew}
 use Rattle.cas_cluster.specs.StepFrames as frames
 use Rattle.cas_cluster.specs.View.{Meaning, View, CallView, IsAt}
 use Rattle.cas_cluster.proofs.Places.{at_one, at_set}
@@ -69,8 +72,8 @@ passes_both : {S V : Type 0} (old mid new : View S V) (id : ℕ) → Passes old 
 passes_both old mid new id before after desk at = let first = before desk at in let now = after first.0 first.1 in (now.0, now.1, now.2 ∙ first.2)
 
 -- ---- calls of others
-begin_passes : {S V : Type 0} (m : Meaning S V) (old new : View S V) (id caller : ℕ) (key : List ℕ) (program : List Clause) → id ≢ caller → StepBegin m old caller key program new → Something old new id
-begin_passes {S} {V} m old new id caller key program other by = both_nothing old by.middle new id (opens by.opens) (in_round by.begins)
+begin_passes : {S V : Type 0} (m : Meaning S V) (old new : View S V) (id caller : ℕ) (key : List ℕ) (program : List Clause) → id ≢ caller → StepBegin m old caller key program new → Passes old new id
+begin_passes {S} {V} m old new id caller key program other by = passes_both old by.middle new id (opens by.opens) (in_round by.begins)
   where
     opens : calls.Opens old caller key program by.middle → Passes old by.middle id
     opens (calls.first was at none room is) = passes_same old by.middle id (ap (λ (w : View S V). w.desks) is)
@@ -84,9 +87,9 @@ begin_passes {S} {V} m old new id caller key program other by = both_nothing old
     in_round (calls.fails desk now at none up fails is) = passes_other by.middle new id caller now other (ap (λ (w : View S V). w.desks) is)
     in_round (calls.loses desk now ballot at none up loses is) = passes_other by.middle new id caller now other (ap (λ (w : View S V). w.desks) is)
 
-no_begin_passes : {S V : Type 0} (m : Meaning S V) (old new : View S V) (id caller : ℕ) (key : List ℕ) → id ≢ caller → calls.RefusesCall m old caller key new → Something old new id
-no_begin_passes {S} {V} m old new id caller key other (calls.stays told council why rescan is) = same_desks old new id (ap (λ (w : View S V). w.desks) is)
-no_begin_passes {S} {V} m old new id caller key other (calls.loses at_caller desk now ballot council at_it at_desk none up loses rescan is) = other_desk old new id caller now other (ap (λ (w : View S V). w.desks) is)
+no_begin_passes : {S V : Type 0} (m : Meaning S V) (old new : View S V) (id caller : ℕ) (key : List ℕ) → id ≢ caller → calls.RefusesCall m old caller key new → Passes old new id
+no_begin_passes {S} {V} m old new id caller key other (calls.stays told council why rescan is) = passes_same old new id (ap (λ (w : View S V). w.desks) is)
+no_begin_passes {S} {V} m old new id caller key other (calls.loses at_caller desk now ballot council at_it at_desk none up loses rescan is) = passes_other old new id caller now other (ap (λ (w : View S V). w.desks) is)
 
 propose_passes : {S V : Type 0} (m : Meaning S V) (old new : View S V) (id proposer : ℕ) → id ≢ proposer → StepPropose m old proposer new → Something old new id
 propose_passes {S} {V} m old new id proposer other by = in_phase by.at_round.of_call by.at_round.desk by.at_round.round by.proposes
@@ -97,12 +100,12 @@ propose_passes {S} {V} m old new id proposer other by = in_phase by.at_round.of_
     in_phase at desk round (calls.fails now fails is) = other_desk old new id proposer now other (ap (λ (w : View S V). w.desks) is)
     in_phase at desk round (calls.loses now ballot loses is) = other_desk old new id proposer now other (ap (λ (w : View S V). w.desks) is)
 
-count_passes : {S V : Type 0} (m : Meaning S V) (old new : View S V) (id proposer : ℕ) → id ≢ proposer → StepCount m old proposer new → Something old new id
+count_passes : {S V : Type 0} (m : Meaning S V) (old new : View S V) (id proposer : ℕ) → id ≢ proposer → StepCount m old proposer new → Passes old new id
 count_passes {S} {V} m old new id proposer other by = in_phase by.at_round.of_call by.at_round.desk by.at_round.round by.counts
   where
-    in_phase : (of_call : OpenCallAt old proposer) (desk : DeskView V) (round : Round) → calls.CountsOrEnds m old proposer desk round of_call.caller of_call.call new → Something old new id
-    in_phase at desk round (calls.counts now by outcome quorum confirmers proposed ends is) = other_desk old new id proposer now other (ap (λ (w : View S V). w.desks) is)
-    in_phase at desk round (calls.ends now verdict why verdict_is cause ends is) = other_desk old new id proposer now other (ap (λ (w : View S V). w.desks) is)
+    in_phase : (of_call : OpenCallAt old proposer) (desk : DeskView V) (round : Round) → calls.CountsOrEnds m old proposer desk round of_call.caller of_call.call new → Passes old new id
+    in_phase at desk round (calls.counts now by outcome quorum confirmers proposed ends is) = passes_other old new id proposer now other (ap (λ (w : View S V). w.desks) is)
+    in_phase at desk round (calls.ends now verdict why verdict_is cause ends is) = passes_other old new id proposer now other (ap (λ (w : View S V). w.desks) is)
 
 left_passes : {S V : Type 0} (DeskTurns : DeskView V → DeskView V → Type 0) (closed : CallView → CallView) (old new : View S V) (id proposer : ℕ) → id ≢ proposer → LeavesRound DeskTurns closed old proposer new → Passes old new id
 left_passes {S} {V} DeskTurns closed old new id proposer other (stops.idle desk now at none turns is) = passes_other old new id proposer now other (ap (λ (w : View S V). w.desks) is)
@@ -211,6 +214,7 @@ gather_passes {S} {V} old new id by = in_gather by.gathers
 tell_passes : {S V : Type 0} (old new : View S V) (id : ℕ) (answer : OpAnswer) → StepTell old answer new → Something old new id
 tell_passes {S} {V} old new id answer (council.tells order said is_open told same is) = same_desks old new id (ap (λ (w : View S V). w.desks) is)
 tell_passes {S} {V} old new id answer (council.finishes order is_open by is) = same_desks old new id (ap (λ (w : View S V). w.desks) is)
+tell_passes {S} {V} old new id answer (council.collects order is_open by is) = same_desks old new id (ap (λ (w : View S V). w.desks) is)
 
 -- ---- changes of membership
 welcome_passes : {S V : Type 0} (m : Meaning S V) (old new : View S V) (id : ℕ) (asked : Asked) → Welcomes m old asked new → Passes old new id
@@ -249,14 +253,61 @@ enter_passes {S} {V} m old new id proposer apart by = in_case by.enters
         ([], nothing (passes_both old middle new id (down_passes (FailsToEnter m.disks by.next) old middle id by.plan.entered other down) (passes_same middle new id (ap (λ (w : View S V). w.desks) is))))
     in_case (plans.no_memory now room up kept now_is is) = other_desk old new id by.plan.entered now other (ap (λ (w : View S V). w.desks) is)
 
+-- ---- collections
+begin_collect_passes : {S V : Type 0} (m : Meaning S V) (old new : View S V) (id : ℕ) (key : List ℕ) → id ≢ 0 → StepBeginCollect m (λ before after. StepBegin m before 0 key keep_always after) old key new → Something old new id
+begin_collect_passes {S} {V} m old new id key other by = in_case by.begins
+  where
+    in_case : collect.BeginsCollection m (λ before after. StepBegin m before 0 key keep_always after) old key by.may.order by.desk by.caller new → Something old new id
+    in_case (collect.is_down none down is) = same_desks old new id (ap (λ (w : View S V). w.desks) is)
+    in_case (collect.is_busy plan none up planned is) = same_desks old new id (ap (λ (w : View S V). w.desks) is)
+    in_case (collect.is_full none up unplanned full is) = same_desks old new id (ap (λ (w : View S V). w.desks) is)
+    in_case (collect.no_memory middle none up unplanned refuses is) = both_nothing old middle new id (no_begin_passes m old middle id 0 key other refuses) (passes_same middle new id (ap (λ (w : View S V). w.desks) is))
+    in_case (collect.begins middle unplanned begins is) = both_nothing old middle new id (begin_passes m old middle id 0 key keep_always other begins) (passes_same middle new id (ap (λ (w : View S V). w.desks) is))
+
+gather_round_passes : {S V : Type 0} (old new : View S V) (id : ℕ) → StepGatherRound old new → Something old new id
+gather_round_passes {S} {V} old new id by = in_case by.gathers
+  where
+    in_case : collect.GathersRound old by.at new → Something old new id
+    in_case (collect.all ballot members tombstone all is) = same_desks old new id (ap (λ (w : View S V). w.desks) is)
+    in_case (collect.is_absent ballot members acceptor tombstone least is) = same_desks old new id (ap (λ (w : View S V). w.desks) is)
+    in_case (collect.is_held version tombstone is) = same_desks old new id (ap (λ (w : View S V). w.desks) is)
+
+renew_passes : {S V : Type 0} (m : Meaning S V) (old new : View S V) (id proposer : ℕ) → id ≢ proposer → StepRenew m old proposer new → Something old new id
+renew_passes {S} {V} m old new id proposer other by = in_case by.renews
+  where
+    in_case : collect.RenewsNext m old by.at proposer by.desk new → Something old new id
+    in_case (collect.renews age middle leaves is) = both_nothing old middle new id
+        (left_passes (Renews m.disks by.at.collection.course.key (tomb_of by.at.collection.tombstone) age) (closed_by (answer.Aged age) (cause.Aged age)) old middle id proposer other leaves) (passes_same middle new id (ap (λ (w : View S V). w.desks) is))
+    in_case (collect.is_down down is) = same_desks old new id (ap (λ (w : View S V). w.desks) is)
+    in_case (collect.fails middle down is) = both_nothing old middle new id (down_passes (FailsToRenew m.disks) old middle id proposer other down) (passes_same middle new id (ap (λ (w : View S V). w.desks) is))
+    in_case (collect.is_spent up spent is) = same_desks old new id (ap (λ (w : View S V). w.desks) is)
+    in_case (collect.no_memory now up finds is) = other_desk old new id proposer now other (ap (λ (w : View S V). w.desks) is)
+
+ask_collect_passes : {S V : Type 0} (m : Meaning S V) (old new : View S V) (id : ℕ) → StepAskCollect m old new → Something old new id
+ask_collect_passes {S} {V} m old new id by = in_case by.asks
+  where
+    in_case : collect.AsksCollect m old by.may.at by.desk new → Something old new id
+    in_case (collect.asks question flow up asks room aged sends is) = same_desks old new id (ap (λ (w : View S V). w.desks) is)
+    in_case (collect.is_down down is) = same_desks old new id (ap (λ (w : View S V). w.desks) is)
+    in_case (collect.is_full question up asks full is) = same_desks old new id (ap (λ (w : View S V). w.desks) is)
+    in_case (collect.no_memory up is) = same_desks old new id (ap (λ (w : View S V). w.desks) is)
+
+gather_collect_passes : {S V : Type 0} (old new : View S V) (id : ℕ) → StepGatherCollect old new → Something old new id
+gather_collect_passes {S} {V} old new id by = in_case by.gathers
+  where
+    in_case : collect.GathersCollect old by.at by.of_exchange.exchange new → Something old new id
+    in_case (collect.crashed crashed is) = same_desks old new id (ap (λ (w : View S V). w.desks) is)
+    in_case (collect.all up all is) = same_desks old new id (ap (λ (w : View S V). w.desks) is)
+    in_case (collect.is_absent acceptor up least is) = same_desks old new id (ap (λ (w : View S V). w.desks) is)
+
 -- ---- all of them
 pub steps : {S V : Type 0} (m : Meaning S V) → StepsPassOrBring m
-steps m old new id (step.Begin caller key program) not_own by = begin_passes m old new id caller key program (λ is. not_own (sym is)) by
-steps m old new id (step.RefuseBegin caller key) not_own by = no_begin_passes m old new id caller key (λ is. not_own (sym is)) by
+steps m old new id (step.Begin caller key program) not_own by = ([], nothing (begin_passes m old new id caller key program (λ is. not_own (sym is)) by))
+steps m old new id (step.RefuseBegin caller key) not_own by = ([], nothing (no_begin_passes m old new id caller key (λ is. not_own (sym is)) by))
 steps m old new id (step.Turn proposer v) not_own by = turn_brings m old new id proposer v by
 steps {S} {V} m old new id (step.RefuseTurn proposer) not_own by = both_nothing old by.middle new id (no_room_passes m old by.middle id by.refuses) (passes_same by.middle new id (ap (λ (w : View S V). w.desks) by.view))
 steps m old new id (step.Propose proposer) not_own by = propose_passes m old new id proposer (λ is. not_own (sym is)) by
-steps m old new id (step.Count proposer) not_own by = count_passes m old new id proposer (λ is. not_own (sym is)) by
+steps m old new id (step.Count proposer) not_own by = ([], nothing (count_passes m old new id proposer (λ is. not_own (sym is)) by))
 steps {S} {V} m old new id (step.End caller told) not_own by = other_desk old new id caller by.ends.now (λ is. not_own (sym is)) (ap (λ (w : View S V). w.desks) by.ends.view)
 steps m old new id (step.Stray index) not_own by = stray_brings m old new id index by
 steps m old new id step.RefuseStray not_own by = ([], nothing (no_room_passes m old new id by))
@@ -274,3 +325,13 @@ steps m old new id step.Gather not_own by = gather_passes old new id by
 steps {S} {V} m old new id step.RefuseKey not_own by = same_desks old new id (ap (λ (w : View S V). w.desks) by.view)
 steps m old new id step.OpenPlan not_own by = plan_passes m old new id by
 steps m old new id (step.EnterEra proposer) not_own by = enter_passes m old new id proposer (λ is. not_own (sym is)) by
+steps m old new id (step.BeginCollect key) not_own by = begin_collect_passes m old new id key (λ is. not_own (sym is)) by
+steps {S} {V} m old new id step.ReadHeld not_own by = other_desk old new id 0 by.now (λ is. not_own (sym is)) (ap (λ (w : View S V). w.desks) by.view)
+steps {S} {V} m old new id step.CountCollect not_own by = both_nothing old by.middle new id (count_passes m old by.middle id 0 (λ is. not_own (sym is)) by.counts) (passes_same by.middle new id (ap (λ (w : View S V). w.desks) by.view))
+steps {S} {V} m old new id (step.EndCollect told) not_own by =
+    both_nothing old by.middle new id (passes_other old by.middle id 0 by.ends.ends.now (λ is. not_own (sym is)) (ap (λ (w : View S V). w.desks) by.ends.ends.view)) (passes_same by.middle new id (ap (λ (w : View S V). w.desks) by.view))
+steps m old new id step.GatherRound not_own by = gather_round_passes old new id by
+steps m old new id (step.Renew proposer) not_own by = renew_passes m old new id proposer (λ is. not_own (sym is)) by
+steps m old new id step.AskCollect not_own by = ask_collect_passes m old new id by
+steps m old new id step.GatherCollect not_own by = gather_collect_passes old new id by
+steps {S} {V} m old new id step.MakeFloor not_own by = same_desks old new id (ap (λ (w : View S V). w.desks) by.view)

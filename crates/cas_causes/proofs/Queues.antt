@@ -16,7 +16,7 @@ use Rattle.cas_record.specs.declared.answer.Answer.TheVariants as answer
 use Rattle.cas_slot.specs.declared.message.Reply.{Reply}
 use Rattle.cas_cluster.specs.Step as step
 use Rattle.cas_cluster.specs.Step.{StepBegin, StepTurn, StepRefuseTurn, StepPropose, StepCount, StepEnd, StepStray, StepCrashAcceptor, StepRestartAcceptor, StepRestartProposer}
-use Rattle.cas_cluster.specs.StepDesks.{Crashes, EntersEra, FailsToEnter}
+use Rattle.cas_cluster.specs.StepDesks.{Crashes, EntersEra, FailsToEnter, Renews, FailsToRenew}
 use Rattle.cas_cluster.specs.StepStops as stops
 use Rattle.cas_cluster.specs.StepStops.{OpenCallAt, closed_by, closed_by_crash, LeavesRound, GoesDown}
 use Rattle.cas_cluster.specs.StepPlans as plans
@@ -26,6 +26,9 @@ use Rattle.cas_record.specs.declared.operator.Asked.{Asked}
 use Rattle.cas_record.specs.declared.operator.OpAnswer.{OpAnswer}
 use Rattle.cas_cluster.specs.StepCalls as calls
 use Rattle.cas_cluster.specs.Council.{Question, exchange_place}
+use Rattle.cas_cluster.specs.Collection.{tomb_of}
+use Rattle.cas_cluster.specs.StepCollect as collect
+use Rattle.cas_cluster.specs.StepCollect.{keep_always, StepBeginCollect, StepGatherRound, StepRenew, StepAskCollect, StepGatherCollect}
 use Rattle.cas_cluster.specs.StepCouncil as council
 use Rattle.cas_cluster.specs.StepCouncil.{StepTell, StepAskAll, StepTurnExchange, StepGather}
 use Rattle.cas_cluster.specs.StepFrames as frames
@@ -287,6 +290,8 @@ tell_stays {S} {V} old new id answer apart (council.tells order said is_open tol
     stays_by old new id (ap (λ (w : View S V). queue_at w.flow id) is ∙ abandoned_other old.flow exchange_place id apart) (keeps_same old.callers new.callers id (ap (λ (w : View S V). w.callers) is))
 tell_stays {S} {V} old new id answer apart (council.finishes order is_open by is) =
     stays_by old new id (ap (λ (w : View S V). queue_at w.flow id) is ∙ abandoned_other old.flow exchange_place id apart) (keeps_same old.callers new.callers id (ap (λ (w : View S V). w.callers) is))
+tell_stays {S} {V} old new id answer apart (council.collects order is_open by is) =
+    stays_by old new id (ap (λ (w : View S V). queue_at w.flow id) is ∙ abandoned_other old.flow exchange_place id apart) (keeps_same old.callers new.callers id (ap (λ (w : View S V). w.callers) is))
 
 -- ---- changes of membership
 welcome_stays : {S V : Type 0} (m : Meaning S V) (old new : View S V) (id : ℕ) (asked : Asked) → Welcomes m old asked new → Stays old new id
@@ -325,6 +330,53 @@ enter_stays {S} {V} m old new id proposer apart other_one by = in_case by.enters
     in_case (plans.fails middle room down is) = then_told middle (down_stays (FailsToEnter m.disks by.next) old middle id by.plan.entered apart other down) (ap (λ (w : View S V). w.flow) is) (ap (λ (w : View S V). w.callers) is)
     in_case (plans.no_memory now room up kept_it now_is is) = stays_same old new id (ap (λ (w : View S V). w.flow) is) (ap (λ (w : View S V). w.callers) is)
 
+-- ---- collections
+begin_collect_stays : {S V : Type 0} (m : Meaning S V) (old new : View S V) (id : ℕ) (key : List ℕ) → id ≢ 0 → StepBeginCollect m (λ before after. StepBegin m before 0 key keep_always after) old key new → Stays old new id
+begin_collect_stays {S} {V} m old new id key other by = in_case by.begins
+  where
+    in_case : collect.BeginsCollection m (λ before after. StepBegin m before 0 key keep_always after) old key by.may.order by.desk by.caller new → Stays old new id
+    in_case (collect.is_down none down is) = stays_same old new id (ap (λ (w : View S V). w.flow) is) (ap (λ (w : View S V). w.callers) is)
+    in_case (collect.is_busy plan none up planned is) = stays_same old new id (ap (λ (w : View S V). w.flow) is) (ap (λ (w : View S V). w.callers) is)
+    in_case (collect.is_full none up unplanned full is) = stays_same old new id (ap (λ (w : View S V). w.flow) is) (ap (λ (w : View S V). w.callers) is)
+    in_case (collect.no_memory middle none up unplanned refuses is) = stays_both old middle new id (no_begin_stays m old middle id 0 key refuses) (stays_same middle new id (ap (λ (w : View S V). w.flow) is) (ap (λ (w : View S V). w.callers) is))
+    in_case (collect.begins middle unplanned begins is) = stays_both old middle new id (begin_stays m old middle id 0 key keep_always other begins) (stays_same middle new id (ap (λ (w : View S V). w.flow) is) (ap (λ (w : View S V). w.callers) is))
+
+gather_round_stays : {S V : Type 0} (old new : View S V) (id : ℕ) → StepGatherRound old new → Stays old new id
+gather_round_stays {S} {V} old new id by = in_case by.gathers
+  where
+    in_case : collect.GathersRound old by.at new → Stays old new id
+    in_case (collect.all ballot members tombstone all is) = stays_same old new id (ap (λ (w : View S V). w.flow) is) (ap (λ (w : View S V). w.callers) is)
+    in_case (collect.is_absent ballot members acceptor tombstone least is) = stays_same old new id (ap (λ (w : View S V). w.flow) is) (ap (λ (w : View S V). w.callers) is)
+    in_case (collect.is_held version tombstone is) = stays_same old new id (ap (λ (w : View S V). w.flow) is) (ap (λ (w : View S V). w.callers) is)
+
+renew_stays : {S V : Type 0} (m : Meaning S V) (old new : View S V) (id proposer : ℕ) → id ≢ exchange_place → id ≢ proposer → StepRenew m old proposer new → Stays old new id
+renew_stays {S} {V} m old new id proposer apart other by = in_case by.renews
+  where
+    in_case : collect.RenewsNext m old by.at proposer by.desk new → Stays old new id
+    in_case (collect.renews age middle leaves is) = stays_both old middle new id
+        (left_stays (Renews m.disks by.at.collection.course.key (tomb_of by.at.collection.tombstone) age) (closed_by (answer.Aged age) (cause.Aged age)) old middle id proposer other leaves) (stays_same middle new id (ap (λ (w : View S V). w.flow) is) (ap (λ (w : View S V). w.callers) is))
+    in_case (collect.is_down down is) = stays_same old new id (ap (λ (w : View S V). w.flow) is) (ap (λ (w : View S V). w.callers) is)
+    in_case (collect.fails middle down is) = stays_both old middle new id (down_stays (FailsToRenew m.disks) old middle id proposer apart other down) (stays_same middle new id (ap (λ (w : View S V). w.flow) is) (ap (λ (w : View S V). w.callers) is))
+    in_case (collect.is_spent up spent is) = stays_same old new id (ap (λ (w : View S V). w.flow) is) (ap (λ (w : View S V). w.callers) is)
+    in_case (collect.no_memory now up finds is) = stays_same old new id (ap (λ (w : View S V). w.flow) is) (ap (λ (w : View S V). w.callers) is)
+
+ask_collect_stays : {S V : Type 0} (m : Meaning S V) (old new : View S V) (id : ℕ) → id ≢ exchange_place → StepAskCollect m old new → Stays old new id
+ask_collect_stays {S} {V} m old new id apart by = in_case by.asks
+  where
+    in_case : collect.AsksCollect m old by.may.at by.desk new → Stays old new id
+    in_case (collect.asks question flow up asks room aged sends is) = stays_by old new id (ap (λ (w : View S V). queue_at w.flow id) is ∙ sends.others id apart) (keeps_same old.callers new.callers id (ap (λ (w : View S V). w.callers) is))
+    in_case (collect.is_down down is) = stays_same old new id (ap (λ (w : View S V). w.flow) is) (ap (λ (w : View S V). w.callers) is)
+    in_case (collect.is_full question up asks full is) = stays_same old new id (ap (λ (w : View S V). w.flow) is) (ap (λ (w : View S V). w.callers) is)
+    in_case (collect.no_memory up is) = stays_same old new id (ap (λ (w : View S V). w.flow) is) (ap (λ (w : View S V). w.callers) is)
+
+gather_collect_stays : {S V : Type 0} (old new : View S V) (id : ℕ) → StepGatherCollect old new → Stays old new id
+gather_collect_stays {S} {V} old new id by = in_case by.gathers
+  where
+    in_case : collect.GathersCollect old by.at by.of_exchange.exchange new → Stays old new id
+    in_case (collect.crashed crashed is) = stays_same old new id (ap (λ (w : View S V). w.flow) is) (ap (λ (w : View S V). w.callers) is)
+    in_case (collect.all up all is) = stays_same old new id (ap (λ (w : View S V). w.flow) is) (ap (λ (w : View S V). w.callers) is)
+    in_case (collect.is_absent acceptor up least is) = stays_same old new id (ap (λ (w : View S V). w.flow) is) (ap (λ (w : View S V). w.callers) is)
+
 -- ---- all of them
 -- the proposer's own frame has its turn
 abbrev pub OwnTurn : {S V : Type 0} → Meaning S V → View S V → View S V → ℕ → step.Event → Type 0
@@ -360,3 +412,13 @@ stays_or_turn m old new id step.Gather apart not_own by = inl (gather_stays old 
 stays_or_turn {S} {V} m old new id step.RefuseKey apart not_own by = inl (stays_same old new id (ap (λ (w : View S V). w.flow) by.view) (ap (λ (w : View S V). w.callers) by.view))
 stays_or_turn m old new id step.OpenPlan apart not_own by = inl (plan_stays m old new id by)
 stays_or_turn m old new id (step.EnterEra proposer) apart not_own by = inl (enter_stays m old new id proposer apart (λ is. not_own (sym is)) by)
+stays_or_turn m old new id (step.BeginCollect key) apart not_own by = inl (begin_collect_stays m old new id key (λ is. not_own (sym is)) by)
+stays_or_turn {S} {V} m old new id step.ReadHeld apart not_own by =
+    inl (stays_by old new id (ap (λ (w : View S V). queue_at w.flow id) by.view) (keeps_other old.callers new.callers id 0 _ (λ is. not_own (sym is)) (ap (λ (w : View S V). w.callers) by.view)))
+stays_or_turn {S} {V} m old new id step.CountCollect apart not_own by = inl (stays_both old by.middle new id (count_stays m old by.middle id 0 (λ is. not_own (sym is)) by.counts) (stays_same by.middle new id (ap (λ (w : View S V). w.flow) by.view) (ap (λ (w : View S V). w.callers) by.view)))
+stays_or_turn {S} {V} m old new id (step.EndCollect told) apart not_own by = inl (stays_both old by.middle new id (end_stays m old by.middle id 0 told (λ is. not_own (sym is)) by.ends) (stays_same by.middle new id (ap (λ (w : View S V). w.flow) by.view) (ap (λ (w : View S V). w.callers) by.view)))
+stays_or_turn m old new id step.GatherRound apart not_own by = inl (gather_round_stays old new id by)
+stays_or_turn m old new id (step.Renew proposer) apart not_own by = inl (renew_stays m old new id proposer apart (λ is. not_own (sym is)) by)
+stays_or_turn m old new id step.AskCollect apart not_own by = inl (ask_collect_stays m old new id apart by)
+stays_or_turn m old new id step.GatherCollect apart not_own by = inl (gather_collect_stays old new id by)
+stays_or_turn {S} {V} m old new id step.MakeFloor apart not_own by = inl (stays_same old new id (ap (λ (w : View S V). w.flow) by.view) (ap (λ (w : View S V). w.callers) by.view))

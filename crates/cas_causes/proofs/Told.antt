@@ -236,20 +236,20 @@ heard_above cluster log is_phase ballot met replies orderly made of_round stands
 
 pub met_above : {S V : Type 0} (m : Meaning S V) → WhatIsMetIsAbove m
 met_above {S} {V} m shelves_tell disks_tell view id caller desk round met is at_caller at_desk is_round verdict_is =
-    by_round desk.round is_round (is.logged.agrees.desks id desk caller at_desk at_caller).round
+    by_round desk.round is_round (is.followed.logged.agrees.desks id desk caller at_desk at_caller).round
   where
     log : List Happening
-    log = is.logged.global.log
+    log = is.followed.logged.global.log
 
-    in_phase : (call : CallView) → IsPrepareTrue log id call (queue_at view.flow id).messages round ⊎ IsAcceptTrue log is.logged.global.made id caller.number call (queue_at view.flow id).messages round → BallotLess round.ballot met
+    in_phase : (call : CallView) → IsPrepareTrue log id call (queue_at view.flow id).messages round ⊎ IsAcceptTrue log is.followed.logged.global.made id caller.number call (queue_at view.flow id).messages round → BallotLess round.ballot met
     in_phase call (inl prepare) =
-        heard_above is.cluster log is_prepare round.ballot met prepare.replies is.logged.history.orderly prepare.made (λ p e. inl e) ((verdict_is.prepare prepare.replies prepare.preparing).1.stands)
+        heard_above is.followed.cluster log is_prepare round.ballot met prepare.replies is.followed.logged.history.orderly prepare.made (λ p e. inl e) ((verdict_is.prepare prepare.replies prepare.preparing).1.stands)
     in_phase call (inr accept) =
-        heard_above is.cluster log is_accept round.ballot met accept.replies is.logged.history.orderly accept.replied (λ p e. inr e) ((verdict_is.accept accept.prepared accept.replies accept.accepting).1.stands)
+        heard_above is.followed.cluster log is_accept round.ballot met accept.replies is.followed.logged.history.orderly accept.replied (λ p e. inr e) ((verdict_is.accept accept.prepared accept.replies accept.accepting).1.stands)
 
-    by_round : (open_ : Option Round) → open_ ≡ Some round → IsOpenTrue is.cluster log is.logged.global.made id (era_at view id).number caller (queue_at view.flow id).messages open_ → BallotLess round.ballot met
+    by_round : (open_ : Option Round) → open_ ≡ Some round → IsOpenTrue is.followed.cluster log is.followed.logged.global.made id (era_at view id).number caller (queue_at view.flow id).messages open_ → BallotLess round.ballot met
     by_round None e of = absurd (cc e)
-    by_round (Some other) e of = in_phase of.call (subst (λ (r : Round). IsPrepareTrue log id of.call (queue_at view.flow id).messages r ⊎ IsAcceptTrue log is.logged.global.made id caller.number of.call (queue_at view.flow id).messages r) (some_is e) of.phase)
+    by_round (Some other) e of = in_phase of.call (subst (λ (r : Round). IsPrepareTrue log id of.call (queue_at view.flow id).messages r ⊎ IsAcceptTrue log is.followed.logged.global.made id caller.number of.call (queue_at view.flow id).messages r) (some_is e) of.phase)
 
 -- where a round's open phase meets a ballot, it is above
 pub verdict_above : {S V : Type 0} (m : Meaning S V) (view : View S V) (id : ℕ) (caller : CallerView) (met : Ballot) → m.shelves.tells → m.disks.tells → IsRemembered m view → IsAt view.callers id caller → HasVerdict view id (verdict.Met met) → (desk : DeskView V) → IsAt view.desks id desk

@@ -6,7 +6,7 @@ use Rattle.cas_proposer.specs.Desk.{DeskView}
 use Rattle.cas_proposer.specs.Round.{IsPreparing, IsAccepting}
 use Rattle.cas_proposer.specs.declared.round.Round.{Round}
 use Rattle.cas_slot.specs.declared.message.Reply.{Reply}
-use Rattle.cas_cluster.specs.Step.{Event, Begin, RefuseBegin, Propose, Count, End, CrashProposer, Step, AskAll, EnterEra}
+use Rattle.cas_cluster.specs.Step.{Event, Begin, RefuseBegin, Propose, Count, End, CrashProposer, Step, AskAll, EnterEra, BeginCollect, ReadHeld, CountCollect, EndCollect, Renew}
 use Rattle.cas_cluster.specs.StepDesks.{HearsReply}
 use Rattle.cas_cluster.specs.View.{Meaning, View, IsAt}
 
@@ -20,6 +20,11 @@ IsOwnCall id (End caller answer) = caller ≡ id
 IsOwnCall id (CrashProposer proposer) = proposer ≡ id
 IsOwnCall id (AskAll question) = 0 ≡ id
 IsOwnCall id (EnterEra proposer) = proposer ≡ id
+IsOwnCall id (BeginCollect key) = 0 ≡ id
+IsOwnCall id ReadHeld = 0 ≡ id
+IsOwnCall id CountCollect = 0 ≡ id
+IsOwnCall id (EndCollect answer) = 0 ≡ id
+IsOwnCall id (Renew proposer) = proposer ≡ id
 IsOwnCall id other = ⊥
 
 -- a reply waited in front of the proposer's own frames, or among the late ones

@@ -28,7 +28,7 @@ use Rattle.cas_cluster.proofs.Along.{along, lawful_front, orderly_front, deeds_e
 use Rattle.cas_cluster.proofs.Answered.{deeds_marks}
 use Rattle.cas_cluster.proofs.Around.{Parties, parties_more, parties_seen, Everyone, Whole}
 use Rattle.cas_cluster.proofs.Events.{keeps, deeds_elsewhere}
-use Rattle.cas_cluster.proofs.Others.{IsOfOthers, no_floor_of, acceptor_still}
+use Rattle.cas_cluster.proofs.Others.{IsOfOthers, asks_nothing, no_floor_of, acceptor_still}
 use Rattle.cas_cluster.proofs.Places.{but_set}
 use Rattle.cas_cluster.proofs.Staying.{stops, left_is}
 
@@ -38,7 +38,7 @@ IsQuiet h = (p : ℕ) → IsOfOthers p h
 
 quiet_step : {S V : Type 0} (m : Meaning S V) (cluster : Cluster) (all : List Made) (view : View S V) (h : Happening) (log : List Happening) → Lawful cluster (h ∷ log) → Orderly cluster (h ∷ log) → IsQuiet h
     → Parties m cluster log all view Everyone → Parties m cluster (h ∷ log) all view Everyone
-quiet_step m cluster all view h log lawful orderly quiet was = parties_more m cluster log all view Everyone h orderly (no_floor_of 0 (quiet 0)) (λ p these. quiet p) was
+quiet_step m cluster all view h log lawful orderly quiet was = parties_more m cluster log all view Everyone h lawful orderly (no_floor_of 0 (quiet 0)) (asks_nothing view.council.collection h quiet) (λ p these. quiet p) was
 
 -- all parties stay as they were where an acceptor does something
 parties_done : {S V : Type 0} (m : Meaning S V) (cluster : Cluster) (log : List Happening) (all : List Made) (view : View S V) (to : ℕ) (old : Contents) (request : Request) (tell : Tell)

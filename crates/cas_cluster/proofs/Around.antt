@@ -10,7 +10,7 @@ use Rattle.cas_quorum.specs.declared.era.Era.{Era}
 use Rattle.cas_slot.specs.Contents.{Contents}
 use Rattle.cas_record.specs.declared.mark.Mark.{Mark}
 use Rattle.cas_record.specs.Happening.{Happening, marks_of}
-use Rattle.cas_record.specs.Lawful.{Cluster, ClusterMeets}
+use Rattle.cas_record.specs.Lawful.{Cluster, ClusterMeets, Lawful}
 use Rattle.cas_record.specs.Orderly.{Orderly}
 use Rattle.cas_record.specs.Places.{Stands}
 use Rattle.cas_cluster.specs.Acceptors.{IsElsewhere}
@@ -19,7 +19,7 @@ use Rattle.cas_cluster.specs.Listed.{IsCouncilTrue}
 use Rattle.cas_cluster.specs.Parties.{IsAcceptorTrue, AreMessagesTrue, IsEraOf, IsDeskTrue, IsCallerTrue}
 use Rattle.cas_cluster.specs.Protocol.{Made, GlobalState, HasHistory}
 use Rattle.cas_cluster.specs.View.{Meaning, View, CallerView, IsAt, era_at, era_in}
-use Rattle.cas_cluster.proofs.Others.{IsOfOthers, FloorsNot, no_floor_of, council_still, messages_still, desk_still, caller_still, calls_of_others, acceptor_still, desk_more, caller_more}
+use Rattle.cas_cluster.proofs.Others.{IsOfOthers, FloorsNot, AsksFor, no_floor_of, council_still, messages_still, desk_still, caller_still, calls_of_others, acceptor_still, desk_more, caller_more}
 use Rattle.cas_cluster.proofs.Courses.{era_set, era_kept}
 use Rattle.cas_cluster.proofs.Places.{same_or_not, other_set}
 
@@ -49,15 +49,15 @@ parties_of m cluster global view These is = record {
 }
 
 -- they still are once the log goes on with what is of others
-pub parties_more : {S V : Type 0} (m : Meaning S V) (cluster : Cluster) (log : List Happening) (all : List Made) (view : View S V) (These : ℕ → Type 0) (h : Happening) → Orderly cluster (h ∷ log) → FloorsNot h → ((p : ℕ) → These p → IsOfOthers p h)
+pub parties_more : {S V : Type 0} (m : Meaning S V) (cluster : Cluster) (log : List Happening) (all : List Made) (view : View S V) (These : ℕ → Type 0) (h : Happening) → Lawful cluster (h ∷ log) → Orderly cluster (h ∷ log) → FloorsNot h → AsksFor view.council.collection h → ((p : ℕ) → These p → IsOfOthers p h)
     → Parties m cluster log all view These → Parties m cluster (h ∷ log) all view These
-parties_more m cluster log all view These h orderly none of was = record {
+parties_more m cluster log all view These h lawful orderly none asks of was = record {
   greatest = was.greatest;
   few = was.few;
   eras = was.eras;
   desks = λ p these desk caller at_desk at_caller. desk_still m cluster h log all (era_at view p).number p caller (queue_at view.flow p).messages desk orderly (of p these) (was.desks p these desk caller at_desk at_caller);
   callers = λ p these caller at. caller_still h log all caller (calls_of_others h p (of p these)) (was.callers p these caller at);
-  council = council_still cluster h log view.council none was.council;
+  council = council_still cluster h log view.council lawful none asks was.council;
   own = λ p. messages_still h log (queue_at view.flow p).messages (was.own p);
   late = messages_still h log view.flow.late was.late;
 }
@@ -165,26 +165,26 @@ floors_not : (id : ℕ) (h : Happening) → IsOf id h → FloorsNot h
 floors_not id h of = no_floor_of (suc id) (of.0 (suc id) (λ same. omega (arith, same)))
 
 -- the log goes on with it
-pub around_more : {S V : Type 0} (m : Meaning S V) (cluster : Cluster) (log : List Happening) (kept : ℕ → Contents) (all : List Made) (view : View S V) (id : ℕ) (h : Happening) → IsOf id h
+pub around_more : {S V : Type 0} (m : Meaning S V) (cluster : Cluster) (log : List Happening) (kept : ℕ → Contents) (all : List Made) (view : View S V) (id : ℕ) (h : Happening) → IsOf id h → AsksFor view.council.collection h
     → Around m cluster (record { log = log; kept = kept; made = all }) view id → HasHistory cluster (record { log = h ∷ log; kept = kept; made = all })
     → Around m cluster (record { log = h ∷ log; kept = kept; made = all }) view id
-around_more m cluster log kept all view id h of was history = record {
+around_more m cluster log kept all view id h of asks was history = record {
   meets = was.meets;
   history = history;
   acceptors = λ a acceptor at. acceptor_still m cluster h log a (kept a) history.lawful (of.1 a) (was.acceptors a acceptor at);
-  parties = parties_more m cluster log all view (λ p. p ≡ id → ⊥) h history.orderly (floors_not id h of) of.0 was.parties;
+  parties = parties_more m cluster log all view (λ p. p ≡ id → ⊥) h history.lawful history.orderly (floors_not id h of) asks of.0 was.parties;
 }
 
 -- and something more is made
-pub around_made : {S V : Type 0} (m : Meaning S V) (cluster : Cluster) (log : List Happening) (kept : ℕ → Contents) (all more : List Made) (view : View S V) (id : ℕ) (h : Happening) → IsOf id h
+pub around_made : {S V : Type 0} (m : Meaning S V) (cluster : Cluster) (log : List Happening) (kept : ℕ → Contents) (all more : List Made) (view : View S V) (id : ℕ) (h : Happening) → IsOf id h → AsksFor view.council.collection h
     → ((x : Made) → Stands x all → Stands x more)
     → Around m cluster (record { log = log; kept = kept; made = all }) view id → HasHistory cluster (record { log = h ∷ log; kept = kept; made = more })
     → Around m cluster (record { log = h ∷ log; kept = kept; made = more }) view id
-around_made m cluster log kept all more view id h of grows was history = record {
+around_made m cluster log kept all more view id h of asks grows was history = record {
   meets = was.meets;
   history = history;
   acceptors = λ a acceptor at. acceptor_still m cluster h log a (kept a) history.lawful (of.1 a) (was.acceptors a acceptor at);
-  parties = parties_made m cluster (h ∷ log) all more view (λ p. p ≡ id → ⊥) grows (parties_more m cluster log all view (λ p. p ≡ id → ⊥) h history.orderly (floors_not id h of) of.0 was.parties);
+  parties = parties_made m cluster (h ∷ log) all more view (λ p. p ≡ id → ⊥) grows (parties_more m cluster log all view (λ p. p ≡ id → ⊥) h history.lawful history.orderly (floors_not id h of) asks of.0 was.parties);
 }
 
 -- the proposer works in another era of the cluster

@@ -1,6 +1,6 @@
 -- What requests of a proposer's round do to what is known: each may be made, and nothing else changes.
 use Rattle.std.proofs.Common.{◌≡◌, ◌<◌, ◌≤◌, ℕ, arith, true, List, [], ◌∷◌, refl, sym, subst, ◌∙◌, inl, inr}
-use Rattle.std.specs.Prelude.{map, Option, None, Some, Contains}
+use Rattle.std.specs.Prelude.{⊤, map, Option, None, Some, Contains}
 use Rattle.cas_ballot.specs.declared.ballot.Ballot.{Ballot}
 use Rattle.cas_ballot.specs.Members.{has_member}
 use Rattle.cas_cache.specs.declared.ready.Ready.{Ready}
@@ -14,13 +14,14 @@ use Rattle.cas_record.specs.Happening.{Happening, Asked, Drew, marks_of}
 use Rattle.cas_record.specs.Lawful.{Cluster}
 use Rattle.cas_record.specs.Orderly.{MayAsk, IsAboveFloors}
 use Rattle.cas_record.specs.Places.{Stands, here}
-use Rattle.cas_cluster.specs.Council.{ListingView, Question, Probe, NextKeys, PlanView}
+use Rattle.cas_cluster.specs.Collected.{AsksAboveFor}
+use Rattle.cas_cluster.specs.Council.{ListingView, Question, Probe, NextKeys, NewAges, Removal, PlanView}
 use Rattle.cas_cluster.specs.Listed.{IsPlanTrue}
 use Rattle.cas_cluster.specs.StepCouncil.{question_to, HasTag, WhereDrawn}
 use Rattle.cas_cluster.specs.StepDesks.{GoesOn, HasKept}
 use Rattle.cas_proposer.specs.Desk.{DeskView}
-use Rattle.cas_cluster.specs.Parties.{IsMessageTrue, AreMessagesTrue, IsVaultTrue, AreReady, IsInHand, IsCallerTrue}
-use Rattle.cas_cluster.specs.Protocol.{Made, GlobalState, IsMadeAsk, IsAskable, Asks}
+use Rattle.cas_cluster.specs.Parties.{IsMessageTrue, AreMessagesTrue, IsAged, IsVaultTrue, AreReady, IsInHand, IsCallerTrue}
+use Rattle.cas_cluster.specs.Protocol.{IsEndedAsk, Made, GlobalState, IsMadeAsk, IsAskable, Asks}
 use Rattle.cas_cluster.specs.View.{DiskMeaning, Meaning, View, CallerView}
 use Rattle.cas_cluster.proofs.Around.{Around, around_more}
 use Rattle.cas_cluster.proofs.Events.{keeps}
@@ -67,9 +68,14 @@ asked_none request k f s now = absurd (cc now)
 asked_calls : (request : Request) (id : ℕ) → LeavesCalls (Asked request) id
 asked_calls request id = record { begins = λ n k p now. absurd (cc now); ends = λ n r a now. absurd (cc now); proposes = λ p now. absurd (cc now) }
 
-pub asked_vault : {S V : Type 0} (m : Meaning S V) (f : ℕ → Request) (tos : List ℕ) (log : List Happening) (id era : ℕ) (vault : Vault V) → IsVaultTrue m log id era vault → IsVaultTrue m (asked_log f tos log) id era vault
-asked_vault m f tos log id era vault =
-    asked_all f (λ l. IsVaultTrue m l id era vault) (λ to l was. vault_still m (Asked (f to)) l (λ b k e now own. absurd (cc now)) (λ e now. absurd (cc now)) (asked_none (f to)) was) tos log
+asked_same : {request other : Request} → Asked request ≡ Asked other → request ≡ other
+asked_same now = cc now
+
+pub asked_vault : {S V : Type 0} (m : Meaning S V) (f : ℕ → Request) (tos : List ℕ) (log : List Happening) (id era : ℕ) (vault : Vault V) → ((to : ℕ) → IsAged m.disks (f to).age vault)
+    → IsVaultTrue m log id era vault → IsVaultTrue m (asked_log f tos log) id era vault
+asked_vault {S} {V} m f tos log id era vault aged =
+    asked_all f (λ l. IsVaultTrue m l id era vault) (λ to l was. vault_still m (Asked (f to)) l (λ b k e now own. absurd (cc now)) (λ e now. absurd (cc now)) (asked_none (f to))
+    (λ request now own. subst (λ (r : Request). IsAged m.disks r.age vault) (sym (asked_same now)) (aged to)) was) tos log
 
 pub asked_caller : (f : ℕ → Request) (tos : List ℕ) (log : List Happening) (all : List Made) (id : ℕ) (caller : CallerView) → IsCallerTrue log all id caller → IsCallerTrue (asked_log f tos log) all id caller
 asked_caller f tos log all id caller = asked_all f (λ l. IsCallerTrue l all id caller) (λ to l was. caller_still (Asked (f to)) l all caller (asked_calls (f to) id) was) tos log
@@ -90,12 +96,12 @@ asked_ready cluster f tos log all id era cache rides =
 
 -- ---- that they may be made
 pub asked_around : {S V : Type 0} (m : Meaning S V) (cluster : Cluster) (global : GlobalState) (view : View S V) (id : ℕ) (f : ℕ → Request) (tos : List ℕ) → ((to : ℕ) → (f to).from ≡ id)
-    → ((rest : List ℕ) (to : ℕ) → Has to tos → IsAskable cluster (asked_global global f rest) (f to))
+    → ((rest : List ℕ) (to : ℕ) → Has to tos → IsAskable cluster (asked_global global f rest) (f to)) → ((to : ℕ) → AsksAboveFor view.council.collection (f to))
     → Around m cluster global view id → Around m cluster (asked_global global f tos) view id
-asked_around m cluster global view id f [] own may around = around
-asked_around m cluster global view id f (to ∷ tos) own may around =
-    let before = asked_around m cluster global view id f tos own (λ rest x h. may rest x (inr h)) around in
-    around_more m cluster (asked_log f tos global.log) global.kept global.made view id (Asked (f to)) (λ p other same. other (sym same ∙ own to), λ a. tt) before
+asked_around m cluster global view id f [] own may above around = around
+asked_around m cluster global view id f (to ∷ tos) own may above around =
+    let before = asked_around m cluster global view id f tos own (λ rest x h. may rest x (inr h)) above around in
+    around_more m cluster (asked_log f tos global.log) global.kept global.made view id (Asked (f to)) (λ p other same. other (sym same ∙ own to), λ a. tt) (λ request now. let same : request ≡ f to = cc now in subst (AsksAboveFor view.council.collection) (sym same) (above to)) before
     (keeps cluster before.meets (asked_global global f tos) before.history (Asks (f to) (may tos to (inl refl))))
 
 -- the tag of an exchange: proposer 0 drew it in the era, above the floors of no key
@@ -111,21 +117,31 @@ asked_tag f tos log era tag = asked_all f (λ l. IsTag l era tag) (λ to l was. 
 pub asked_plan : (cluster : Cluster) (f : ℕ → Request) (tos : List ℕ) (log : List Happening) (plan : Option PlanView) → IsPlanTrue cluster log plan → IsPlanTrue cluster (asked_log f tos log) plan
 asked_plan cluster f tos log plan = asked_all f (λ l. IsPlanTrue cluster l plan) (λ to l was. plan_still cluster (Asked (f to)) l plan (asked_none (f to)) was) tos log
 
+-- what is asked is of no key's collection
+abbrev pub IsOfNoKey : Question → Type 0
+IsOfNoKey (Probe key) = ⊤
+IsOfNoKey (NextKeys places) = ⊤
+IsOfNoKey other = ⊥
+
 -- a request of an exchange with such a tag
-pub may_question : (cluster : Cluster) (global : GlobalState) (question : Question) (age era : ℕ) (tag : Ballot) (to : ℕ) → has_member (cluster.members era) to ≡ true → to < 64 → IsTag global.log era tag
+pub may_question : (cluster : Cluster) (global : GlobalState) (question : Question) (age era : ℕ) (tag : Ballot) (to : ℕ) → IsOfNoKey question → has_member (cluster.members era) to ≡ true → to < 64 → IsTag global.log era tag
     → IsAskable cluster global (question_to age tag question to)
-may_question cluster global (Probe key) age era tag to member small is = record {
+may_question cluster global (Probe key) age era tag to plain member small is = record {
   may = record { era = era; drawn = is.drawn; own = is.own; member = member; above = is.above };
   made = tt;
+  ended = tt;
   from = omega arith;
   to = small;
 }
-may_question cluster global (NextKeys places) age era tag to member small is = record {
+may_question cluster global (NextKeys places) age era tag to plain member small is = record {
   may = record { era = era; drawn = is.drawn; own = is.own; member = member; above = is.above };
   made = tt;
+  ended = tt;
   from = omega arith;
   to = small;
 }
+may_question cluster global (NewAges key least) age era tag to plain member small is = absurd plain
+may_question cluster global (Removal key) age era tag to plain member small is = absurd plain
 
 -- a request to prepare a ballot that is in hand
 pub may_prepare : (cluster : Cluster) (global : GlobalState) (request : Request) (id era : ℕ) (key : List ℕ) (ballot : Ballot) → request.from ≡ id → request.ask ≡ ask.Prepare key ballot
@@ -134,6 +150,7 @@ may_prepare cluster global request id era key ballot from is member low small ha
   may = subst (MayAsk cluster global.log request) (sym is)
       (record { era = era; drawn = hand.drawn; own = hand.own ∙ sym from; member = member; above = hand.above_floors });
   made = subst (IsMadeAsk global.made) (sym is) tt;
+  ended = subst (IsEndedAsk (marks_of global.log)) (sym is) tt;
   from = subst (λ (n : ℕ). n ≤ 16) (sym from) low;
   to = small;
 }
@@ -145,7 +162,7 @@ where_drawn None is = is
 where_drawn (Some listing) is = absurd is
 
 pub goes_same : {V : Type 0} (m : DiskMeaning V) (vault : Vault V) → HasKept m vault vault
-goes_same m vault = record { shows = record { counter = refl; kept = refl }; goes_on = record { still_past = λ tells n past. past; era = λ tells era other is. is; never_falls = omega arith } }
+goes_same m vault = record { shows = record { counter = refl; kept = refl }; goes_on = record { still_past = λ tells n past. past; ages = λ tells age is. is; era = λ tells era other is. is; never_falls = omega arith } }
 
 pub tag_goes_on : {V : Type 0} (m : DiskMeaning V) (listing : Option ListingView) (desk now : DeskView V) (tag : Ballot) → HasTag m listing desk now tag → GoesOn m desk.vault now.vault
 tag_goes_on m None desk now tag drawn = drawn.goes_on

@@ -29,6 +29,7 @@ use Rattle.cas_cluster.specs.StepCalls.{Sends, prepares_to}
 use Rattle.cas_cluster.specs.StepDesks.{BeginsToPrepare, HasDrawn}
 use Rattle.cas_cluster.specs.View.{Meaning, View, CallView, CallerView, IsAt, with_desk, era_at}
 use Rattle.cas_cluster.proofs.Around.{Whole, around, settles, leaves_desk}
+use Rattle.cas_cluster.proofs.Renewing.{drawn_above, IsRenewedFor, asks_by}
 use Rattle.cas_cluster.proofs.Asks.{asked_log, asked_global, asked_around, asked_messages, asked_vault, asked_caller, asked_still, asked_hand, asked_ready, may_prepare}
 use Rattle.cas_cluster.proofs.Caches.{contains_without, ready_fewer, one_without, none_without}
 use Rattle.cas_cluster.proofs.Draws.{drew, drew_vault, drew_ready, drew_caller, drew_messages, drew_around, drew_in_hand}
@@ -81,15 +82,16 @@ not_accept {id} {age} {key} {k} {ballot} {b} {to} {request} {e} {asked} {state} 
 
 pub begins_to_prepare : {S V : Type 0} (m : Meaning S V) (cluster : Cluster) (global : GlobalState) (old : View S V) (id : ℕ) (caller : CallerView) (call : CallView) (desk now : DeskView V) (ballot : Ballot) (round : Round) (flow : FlowView)
     → m.disks.tells → IsAt old.callers id caller → caller.call ≡ Some call → call.proposed ≡ None → IsAt old.desks id desk
-    → BeginsToPrepare m.disks (era_at old id) call.key desk now ballot round → Sends old.flow id (prepares_to id (kept_of desk.vault).age call.key ballot (era_at old id).prep) flow → Whole m cluster global old
+    → BeginsToPrepare m.disks (era_at old id) call.key desk now ballot round → Sends old.flow id (prepares_to id (kept_of desk.vault).age call.key ballot (era_at old id).prep) flow → IsRenewedFor m.disks old.council.collection id desk → Whole m cluster global old
     → Whole m cluster (asked_global (drew global (Some ballot) call.key (era_at old id).number) (prepare_request id (kept_of desk.vault).age call.key ballot) (era_at old id).prep) (record (with_desk old id now) { flow = flow })
-begins_to_prepare {S} {V} m cluster global old id caller call desk now ballot round flow tells at_caller is_open unproposed at_desk begins sends whole =
+begins_to_prepare {S} {V} m cluster global old id caller call desk now ballot round flow tells at_caller is_open unproposed at_desk begins sends renewed whole =
     let low : id ≤ 16 = omega (arith, of.known, whole.parties.greatest, whole.parties.few) in
     let after_draw = drew_around m cluster global old id call.key desk.vault now.vault (Some ballot) of.known drawn of.vault (around m cluster global old id whole) in
     let after_asks = asked_around m cluster middle old id f (era_at old id).prep (λ to. refl)
     (λ rest to h. may_prepare cluster (asked_global middle f rest) (f to) id era call.key ballot refl refl
     (era_is.prep_members to (has_member_of to (era_at old id).prep h)) low (member_low (era_at old id).prep to era_is.prep_set (has_member_of to (era_at old id).prep h))
-    (asked_hand f rest middle.log id era call.key ballot hand)) after_draw in
+    (asked_hand f rest middle.log id era call.key ballot hand))
+    (λ to. asks_by old.council.collection (f to) (λ tag least is. cc is) (λ c age is at round same. drawn_above m.disks desk.id desk.vault now.vault _ ballot (renewed c age is at).past begins.drawn)) after_draw in
     settles m cluster (asked_global middle f (era_at old id).prep) old (record (with_desk old id now) { flow = flow }) id after_asks
     (leaves_desk old id now _ (λ p other. ap (λ (q : QueueView). q.messages) (sends.others p other)))
     (record {
@@ -153,7 +155,7 @@ begins_to_prepare {S} {V} m cluster global old id caller call desk now ballot ro
     desk_true = record {
       same_id = ap (λ (d : DeskView V). d.id) begins.desk ∙ of.same_id;
       known = of.known;
-      vault = asked_vault m f (era_at old id).prep middle.log id era now.vault (drew_vault m global.log id era call.key desk.vault now.vault (Some ballot) tells drawn of.vault);
+      vault = asked_vault m f (era_at old id).prep middle.log id era now.vault (λ to. begins.aged tells) (drew_vault m global.log id era call.key desk.vault now.vault (Some ballot) tells drawn of.vault);
       cached = subst (AreReady cluster log global.made id era) (sym (ap (λ (d : DeskView V). d.cache) begins.desk))
           (ready_fewer cluster log global.made id era (without call.key desk.cache) desk.cache (λ entry h. contains_without call.key desk.cache h)
           (asked_ready cluster f (era_at old id).prep middle.log global.made id era desk.cache (λ to k ready has_it request e asked state now is. absurd (not_accept now is))

@@ -87,14 +87,14 @@ opens_first {S} {V} m cluster global old id key program caller at none whole =
     let history = keeps cluster whole.meets global whole.history (Begins id (suc caller.number) key program number) in
     let now : CallerView = record { number = suc caller.number; call = Some (new_call key program (round_marks (era_at old id) - 1)) } in
     settles m cluster (begun_global global id (suc caller.number) key program) old (opened old id caller key program) id
-    (around_more m cluster global.log global.kept global.made old id (Marked (Begun id (suc caller.number) key program)) (λ p other same. other (sym same), λ a. tt) (around m cluster global old id whole) history)
+    (around_more m cluster global.log global.kept global.made old id (Marked (Begun id (suc caller.number) key program)) (λ p other same. other (sym same), λ a. tt) (λ request now. absurd (cc now)) (around m cluster global old id whole) history)
     (leaves_caller old id now _ _ (λ p other. refl))
     (record {
       desk = λ desk c at_desk at_caller.
           let of = whole.parties.desks id tt desk caller at_desk at in record {
             same_id = of.same_id;
             known = of.known;
-            vault = vault_still m (Marked (Begun id (suc caller.number) key program)) global.log (λ b k e same own. absurd (cc same)) (λ e same. absurd (cc same)) (λ k f s same. absurd (cc same)) of.vault;
+            vault = vault_still m (Marked (Begun id (suc caller.number) key program)) global.log (λ b k e same own. absurd (cc same)) (λ e same. absurd (cc same)) (λ k f s same. absurd (cc same)) (λ request same own. absurd (cc same)) of.vault;
             cached = ready_mild cluster (Marked (Begun id (suc caller.number) key program)) global.log global.made id (era_at old id).number desk.cache (begun_mild id (suc caller.number) key program) of.cached;
             one_each = of.one_each;
             none_open = of.none_open;

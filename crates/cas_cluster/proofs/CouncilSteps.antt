@@ -33,7 +33,9 @@ use Rattle.cas_record.specs.declared.operator.OpAnswer.TheVariants as told
 use Rattle.cas_record.specs.Happening.{Happening, Marked, Asked, Drew, marks_of}
 use Rattle.cas_record.specs.Lawful.{Cluster, AllEntered}
 use Rattle.cas_record.specs.Legal.{IsProposed, IsEnded}
-use Rattle.cas_record.specs.Places.{here}
+use Rattle.cas_record.specs.Orderly.{IsRoundAsk}
+use Rattle.cas_record.specs.Places.{Stands, here}
+use Rattle.cas_slot.specs.declared.ages.Ages.{Ages}
 use Rattle.cas_fate.specs.declared.fate.Verdict.{Verdict}
 use Rattle.cas_flow.specs.Queue.{QueueView}
 use Rattle.cas_cluster.specs.StepCalls.{Sends}
@@ -41,24 +43,26 @@ use Rattle.cas_cluster.specs.StepFrames.{replied_flow, votes_marked}
 use Rattle.cas_cluster.proofs.AcceptorSteps.{answered_global, answers, reply_made, stops_within}
 use Rattle.cas_cluster.proofs.Harms.{member_low, has_member_of}
 use Rattle.cas_cluster.specs.Acceptors.{IsElsewhere}
-use Rattle.cas_cluster.specs.Council.{Place, GoesOn, MemberPlace, ListingView, place_in, has_ended, Question, Probe, NextKeys, ask_of, IsReplyTo, ExchangeView, PlanView, Council, with_listing, complete_only, without_partial, at_rest, exchange_place, telling, broken_off, crashed_in}
-use Rattle.cas_cluster.specs.Listed.{AreShown, IsListingTrue, IsPlanKnown, IsPlanTrue, IsCouncilTrue}
+use Rattle.cas_cluster.specs.Council.{Place, GoesOn, MemberPlace, ListingView, place_in, has_ended, Question, Probe, NextKeys, NewAges, Removal, tag_key, ask_of, IsReplyTo, ExchangeView, PlanView, Council, with_listing, complete_only, without_partial, at_rest, exchange_place, telling, broken_off, crashed_in}
+use Rattle.cas_cluster.specs.Collected.{AsksAboveFor, IsCollectingTrue}
+use Rattle.cas_cluster.specs.Listed.{AreShown, IsListingTrue, IsPlanKnown, IsPlanTrue, AreUsed, IsCouncilTrue}
 use Rattle.cas_cluster.specs.History.{IsLogged}
-use Rattle.cas_cluster.specs.Parties.{AreMessagesTrue, IsEraOf, IsExchangeTrue, IsOpenTrue, IsDeskTrue, IsMessageTrue, WasMade, WereTold}
-use Rattle.cas_cluster.specs.Protocol.{GlobalState, HasHistory, Harms, TellsOperator, with_mark}
+use Rattle.cas_cluster.specs.Parties.{AreMessagesTrue, IsEraOf, IsAged, IsExchangeTrue, IsOpenTrue, IsDeskTrue, IsMessageTrue, WasMade, WereTold}
+use Rattle.cas_cluster.specs.Protocol.{IsAskable, GlobalState, HasHistory, Harms, TellsOperator, with_mark}
 use Rattle.cas_cluster.specs.StepDesks.{MayHaveDrawn, HasDrawn, HasKept, LosesMemory, FailsToDraw}
 use Rattle.cas_cluster.specs.StepCouncil as council
 use Rattle.cas_cluster.specs.Listings.{ListsOn}
 use Rattle.cas_cluster.specs.StepCouncil.{asked_by, places_from, IsForQuestion, listing_in, listing_for, HasTag, WhereDrawn, begun_listing, listing_begun, plan_asked, ListsFor, listed_view, question_to, StepOrder, told_over, StepGather, Gathers, with_council, with_exchange, told_view, gathered, told_marks, harm_marks, harmed_exchange, questions_to, everyone, new_exchange, awaits, hears, harms, MayAskAll, AsksAll, StepAskAll, TurnsExchange, StepTurnExchange, StepRefuseTurnExchange}
-use Rattle.cas_cluster.specs.View.{DiskMeaning, Meaning, View, CallerView, IsAt, era_at, with_desk, with_acceptor}
+use Rattle.cas_cluster.specs.View.{DiskMeaning, Meaning, View, CallView, CallerView, IsAt, era_at, with_desk, with_acceptor}
 use Rattle.cas_cluster.proofs.Around.{Whole, whole_of, logged, around, settles, parties_more, Everyone, leaves_desk}
-use Rattle.cas_cluster.proofs.Asks.{asked_log, asked_global, asked_around, asked_vault, asked_caller, asked_still, asked_later, asked_messages, asked_marks, asked_ready, asked_plan, asked_tag, IsTag, may_question, where_drawn, goes_same}
+use Rattle.cas_cluster.proofs.Renewing.{asks_by}
+use Rattle.cas_cluster.proofs.Asks.{IsOfNoKey, asked_log, asked_global, asked_around, asked_vault, asked_caller, asked_still, asked_later, asked_messages, asked_marks, asked_ready, asked_plan, asked_tag, IsTag, may_question, where_drawn, goes_same}
 use Rattle.cas_cluster.proofs.Draws.{drew, drew_in_hand, drew_marks}
 use Rattle.cas_cluster.proofs.EndSteps.{lost, none_left, others_left, all_joined_true, IsQuiet, quiet_true, quiet_fails}
 use Rattle.cas_cluster.proofs.Events.{keeps}
 use Rattle.cas_cluster.proofs.FrameSteps.{marked, taken_flows, replied_flows, answer_marks, refuses_stray}
 use Rattle.cas_cluster.proofs.RoundSteps.{none_waits}
-use Rattle.cas_cluster.proofs.Others.{IsOfOthers, no_floor_of, acceptor_still}
+use Rattle.cas_cluster.proofs.Others.{IsOfOthers, asks_nothing, no_floor_of, acceptor_still}
 use Rattle.cas_cluster.proofs.Places.{same_or_not, some_is, at_one, contains_none, at_set, own_set, but_set, contains_append, contains_at}
 
 -- ---- what the operator has under way
@@ -125,7 +129,7 @@ whole_more m cluster global view h others elsewhere history whole = record {
   meets = whole.meets;
   history = history;
   acceptors = λ a acceptor at. acceptor_still m cluster h global.log a (global.kept a) history.lawful (elsewhere a) (whole.acceptors a acceptor at);
-  parties = parties_more m cluster global.log global.made view Everyone h history.orderly (no_floor_of 0 (others 0)) (λ p these. others p) whole.parties;
+  parties = parties_more m cluster global.log global.made view Everyone h history.lawful history.orderly (no_floor_of 0 (others 0)) (asks_nothing view.council.collection h others) (λ p these. others p) whole.parties;
 }
 
 -- ---- the operator's call
@@ -153,7 +157,7 @@ partial_true cluster log (Some plan) was = record { settled = was.settled; listi
 -- it is over, and so is an exchange
 closes : {S V : Type 0} (m : Meaning S V) (cluster : Cluster) (global : GlobalState) (old : View S V) → Whole m cluster global old → Whole m cluster global (record (with_council old (at_rest old.council)) { flow = abandoned old.flow exchange_place })
 closes m cluster global old whole =
-    counsels m cluster global (record old { flow = abandoned old.flow exchange_place }) (at_rest old.council) (λ exchange open_. absurd (cc open_), partial_true cluster global.log old.council.plan whole.parties.council.1)
+    counsels m cluster global (record old { flow = abandoned old.flow exchange_place }) (at_rest old.council) (λ exchange open_. absurd (cc open_), partial_true cluster global.log old.council.plan whole.parties.council.1, whole.parties.council.2, tt)
     (reflows m cluster global old (abandoned old.flow exchange_place) (abandoned_flows global.log old.flow (whole.parties.own exchange_place) whole.parties.late) whole)
 
 -- the mark of what it was told, where it leaves one
@@ -191,9 +195,10 @@ ends_told {cluster = cluster} m old asked answer is =
     marked m cluster told.after (record (with_council old (at_rest old.council)) { flow = abandoned old.flow exchange_place }) (told_marks asked answer) (marks_of is.global.log) told.whole is.agrees.marks told.marks_are
 
 -- the rest of what is under way may change as it likes
-pub counsels_by : {S V : Type 0} {cluster : Cluster} (m : Meaning S V) (old : View S V) (next : Council) → next.exchange ≡ old.council.exchange → (is : IsLogged m cluster old) → IsPlanTrue cluster is.global.log next.plan → IsLogged m cluster (with_council old next)
-counsels_by {cluster = cluster} m old next same is plan =
-    logged m cluster is.global (with_council old next) (counsels m cluster is.global old next (λ exchange some. is.agrees.council.0 exchange (sym same ∙ some), plan) (whole_of m old is)) is.agrees.marks
+pub counsels_by : {S V : Type 0} {cluster : Cluster} (m : Meaning S V) (old : View S V) (next : Council) → next.exchange ≡ old.council.exchange → (is : IsLogged m cluster old) → IsPlanTrue cluster is.global.log next.plan → AreUsed cluster next.used → IsCollectingTrue cluster is.global.log next.collection
+    → IsLogged m cluster (with_council old next)
+counsels_by {cluster = cluster} m old next same is plan used collecting =
+    logged m cluster is.global (with_council old next) (counsels m cluster is.global old next (λ exchange some. is.agrees.council.0 exchange (sym same ∙ some), plan, used, collecting) (whole_of m old is)) is.agrees.marks
 
 -- ---- what was told is gathered
 -- what is known of the listing that goes on by what was told
@@ -204,13 +209,13 @@ pub gathers : {S V : Type 0} {cluster : Cluster} (m : Meaning S V) (old : View S
 gathers {S} {V} {cluster} m old new is by lists = by_case by.gathers
   where
     over : (answer : OpAnswer) → IsLogged m cluster (gathered old answer)
-    over answer = logged m cluster is.global (gathered old answer) (counsels m cluster is.global old _ (λ exchange open_. absurd (cc open_), is.agrees.council.1) (whole_of m old is)) is.agrees.marks
+    over answer = logged m cluster is.global (gathered old answer) (counsels m cluster is.global old _ (λ exchange open_. absurd (cc open_), is.agrees.council.1, is.agrees.council.2, is.agrees.council.3) (whole_of m old is)) is.agrees.marks
 
     by_case : Gathers old by.at.exchange new → IsLogged m cluster new
     by_case (council.crashed crashed view) = subst (IsLogged m cluster) (sym view) (over _)
     by_case (council.probed key found up question found_is view) = subst (IsLogged m cluster) (sym view) (over _)
     by_case (council.lists of listing up enough on view) = subst (IsLogged m cluster) (sym view)
-        (logged m cluster is.global (listed_view old of.plan listing) (counsels m cluster is.global old _ (λ exchange open_. absurd (cc open_), lists of listing on) (whole_of m old is)) is.agrees.marks)
+        (logged m cluster is.global (listed_view old of.plan listing) (counsels m cluster is.global old _ (λ exchange open_. absurd (cc open_), lists of listing on, is.agrees.council.2, is.agrees.council.3) (whole_of m old is)) is.agrees.marks)
     by_case (council.is_short of short up missing view) = subst (IsLogged m cluster) (sym view) (over _)
     by_case (council.no_memory up view) = subst (IsLogged m cluster) (sym view) (logged m cluster is.global _ (tells_view m cluster is.global old _ (whole_of m old is)) is.agrees.marks)
 
@@ -224,7 +229,7 @@ drew_only {V} m desk now tag idle drawn is_now = record {
   drawn = drawn;
   counter = sym (ap (λ (r : Option Round). counter_without r (counter_of now.vault)) idle);
   kept = refl;
-  goes_on = record { still_past = λ tells n past. past; era = λ tells era other is. is; never_falls = omega arith };
+  goes_on = record { still_past = λ tells n past. past; ages = λ tells age is. is; era = λ tells era other is. is; never_falls = omega arith };
 }
   where
     cache : now.cache ≡ desk.cache
@@ -241,14 +246,43 @@ member_in cluster era to is has = elim (or_cases (has_member era.prep to) (has_m
 no_accept : (tag : Ballot) (to : ℕ) {ballot : Ballot} {key : List ℕ} {era : ℕ} {ride : Option Ballot} {state : State} (question : Question) → ask_of tag question to ≡ ask.Accept key ballot era ride state → ⊥
 no_accept tag to (Probe key) is = cc is
 no_accept tag to (NextKeys places) is = cc is
+no_accept tag to (NewAges key least) is = cc is
+no_accept tag to (Removal key) is = cc is
+
+-- what is of no key's collection tells no ages, and is no request of a round
+plain_tells_none : (tag : Ballot) (question : Question) (to : ℕ) {one : Ballot} {least : Ages} → IsOfNoKey question → ask_of tag question to ≡ ask.Ages one least → ⊥
+plain_tells_none tag (Probe key) to plain is = cc is
+plain_tells_none tag (NextKeys places) to plain is = cc is
+plain_tells_none tag (NewAges key least) to plain is = plain
+plain_tells_none tag (Removal key) to plain is = plain
+
+plain_no_round : (tag : Ballot) (question : Question) (to : ℕ) → IsOfNoKey question → IsRoundAsk (ask_of tag question to) → ⊥
+plain_no_round tag (Probe key) to plain round = round
+plain_no_round tag (NextKeys places) to plain round = round
+plain_no_round tag (NewAges key least) to plain round = plain
+plain_no_round tag (Removal key) to plain round = plain
+
+-- what the open call asks for apart from a collection is of no key's
+plain_for : (members : List ℕ) (council : Council) (call : Option CallView) (asked : OperatorAsked) (question : Question) → IsForQuestion members council call asked question → IsOfNoKey question
+plain_for members council call asked (Probe key) is = tt
+plain_for members council call asked (NextKeys places) is = tt
+plain_for members council call asked (NewAges key least) is = absurd is
+plain_for members council call asked (Removal key) is = absurd is
+
+-- the tag of such a question is of no key
+plain_key : (question : Question) → IsOfNoKey question → tag_key question ≡ []
+plain_key (Probe key) plain = refl
+plain_key (NextKeys places) plain = refl
+plain_key (NewAges key least) plain = absurd plain
+plain_key (Removal key) plain = absurd plain
 
 -- each of them is asked
-asks_whole : {S V : Type 0} (m : Meaning S V) (cluster : Cluster) (global : GlobalState) (view : View S V) (age : ℕ) (tag : Ballot) (question : Question) (tos : List ℕ) (desk : DeskView V) (caller : CallerView) → IsAt view.desks 0 desk → IsAt view.callers 0 caller → desk.round ≡ None
-    → IsTag global.log (era_at view 0).number tag → ((to : ℕ) → Has to tos → (has_member (cluster.members (era_at view 0).number) to ≡ true) × (to < 64))
+pub asks_each : {S V : Type 0} (m : Meaning S V) (cluster : Cluster) (global : GlobalState) (view : View S V) (age : ℕ) (tag : Ballot) (question : Question) (tos : List ℕ) (desk : DeskView V) (caller : CallerView) → IsAt view.desks 0 desk → IsAt view.callers 0 caller → desk.round ≡ None → IsAged m.disks age desk.vault
+    → ((rest : List ℕ) (to : ℕ) → Has to tos → IsAskable cluster (asked_global global (question_to age tag question) rest) (question_to age tag question to)) → ((to : ℕ) → AsksAboveFor view.council.collection (question_to age tag question to))
     → Whole m cluster global view → Whole m cluster (asked_global global (question_to age tag question) tos) view
-asks_whole {S} {V} m cluster global view age tag question tos desk caller at_desk at_caller idle is_tag members whole =
+asks_each {S} {V} m cluster global view age tag question tos desk caller at_desk at_caller idle aged askable above whole =
     settles m cluster (asked_global global f tos) view view 0
-    (asked_around m cluster global view 0 f tos (λ to. refl) (λ rest to h. may_question cluster (asked_global global f rest) question age era tag to (members to h).0 (members to h).1 (asked_tag f rest global.log era tag is_tag)) (around m cluster global view 0 whole))
+    (asked_around m cluster global view 0 f tos (λ to. refl) askable above (around m cluster global view 0 whole))
     (record { greatest = refl; eras = refl; acceptors = refl; desks = λ p d other at. at; callers = λ p c other at. at; council = refl; own = λ p other. refl })
     (record {
       desk = λ d c at_d at_c. still d c at_d at_c (whole.parties.desks 0 tt d c at_d at_c) (ap (λ (x : DeskView V). x.round) (at_one view.desks 0 at_d at_desk) ∙ idle);
@@ -274,13 +308,24 @@ asks_whole {S} {V} m cluster global view age tag question tos desk caller at_des
     still d c at_d at_c of none = record {
       same_id = of.same_id;
       known = of.known;
-      vault = asked_vault m f tos global.log 0 era d.vault of.vault;
+      vault = asked_vault m f tos global.log 0 era d.vault (λ to. subst (λ (x : DeskView V). IsAged m.disks age x.vault) (sym (at_one view.desks 0 at_d at_desk)) aged) of.vault;
       cached = asked_ready cluster f tos global.log global.made 0 era d.cache (λ to k ready has_it request e asked state now is. absurd (not_accept now is)) of.cached;
       one_each = of.one_each;
       none_open = of.none_open;
       round = subst (IsOpenTrue cluster log global.made 0 era c (queue_at view.flow 0).messages) (sym none)
           (none_waits cluster global.log global.made 0 era c (queue_at view.flow 0).messages d.round none of.round);
     }
+
+-- where it is of no key's collection
+asks_whole : {S V : Type 0} (m : Meaning S V) (cluster : Cluster) (global : GlobalState) (view : View S V) (age : ℕ) (tag : Ballot) (question : Question) (tos : List ℕ) (desk : DeskView V) (caller : CallerView) → IsAt view.desks 0 desk → IsAt view.callers 0 caller → desk.round ≡ None → IsAged m.disks age desk.vault
+    → IsOfNoKey question → IsTag global.log (era_at view 0).number tag → ((to : ℕ) → Has to tos → (has_member (cluster.members (era_at view 0).number) to ≡ true) × (to < 64))
+    → Whole m cluster global view → Whole m cluster (asked_global global (question_to age tag question) tos) view
+asks_whole m cluster global view age tag question tos desk caller at_desk at_caller idle aged plain is_tag members whole =
+    let f = question_to age tag question in
+    let era = (era_at view 0).number in
+    asks_each m cluster global view age tag question tos desk caller at_desk at_caller idle aged
+    (λ rest to h. may_question cluster (asked_global global f rest) question age era tag to plain (members to h).0 (members to h).1 (asked_tag f rest global.log era tag is_tag))
+    (λ to. asks_by view.council.collection (f to) (λ one least is. plain_tells_none tag question to plain is) (λ c a is at round. absurd (plain_no_round tag question to plain round))) whole
 
 -- a desk without an open round that stays quiet
 quiets_desk : {S V : Type 0} (m : Meaning S V) (cluster : Cluster) (global : GlobalState) (old : View S V) (id : ℕ) (desk now : DeskView V) → IsAt old.desks id desk → desk.round ≡ None
@@ -306,16 +351,22 @@ fails_whole m cluster global old id key desk now tells at_desk idle by whole =
     (λ c at_c. quiet_fails m cluster global.log global.made id (era_at old id).number c (queue_at old.flow id).messages key desk now tells (whole.parties.desks id tt desk c at_desk at_c) by) whole
 
 -- at first no member has told anything
-none_told : (members : List ℕ) (place : ℕ) (answer : Answered) (told : Tell) → IsAt (map (λ member. record { acceptor = member; told = None }) members) place answer → answer.told ≡ Some told → ⊥
+pub none_told : (members : List ℕ) (place : ℕ) (answer : Answered) (told : Tell) → IsAt (map (λ member. record { acceptor = member; told = None }) members) place answer → answer.told ≡ Some told → ⊥
 none_told [] place answer told at is = cc at
 none_told (member ∷ members) zero answer told at is = cc (is, ap (λ (a : Answered). a.told) (some_is at))
 none_told (member ∷ members) (suc place) answer told at is = none_told members place answer told at is
 
--- who is asked is a member
-asked_within : {S V : Type 0} (cluster : Cluster) (view : View S V) (question : Question) → IsEraOf cluster (era_at view 0) → (to : ℕ) → Has to (asked_by view question) → (has_member (cluster.members (era_at view 0).number) to ≡ true) × (to < 64)
-asked_within cluster view (Probe key) is to h =
+-- all members are
+pub everyone_within : {S V : Type 0} (cluster : Cluster) (view : View S V) → IsEraOf cluster (era_at view 0) → (to : ℕ) → Has to (everyone view) → (has_member (cluster.members (era_at view 0).number) to ≡ true) × (to < 64)
+everyone_within cluster view is to h =
     let has = has_member_of to (everyone view) h in
     (member_in cluster (era_at view 0) to is has, member_low (everyone view) to (IsMemberSet-members_where (λ n. has_member (era_at view 0).prep n || has_member (era_at view 0).acc n)) has)
+
+-- who is asked is a member
+asked_within : {S V : Type 0} (cluster : Cluster) (view : View S V) (question : Question) → IsEraOf cluster (era_at view 0) → (to : ℕ) → Has to (asked_by view question) → (has_member (cluster.members (era_at view 0).number) to ≡ true) × (to < 64)
+asked_within cluster view (Probe key) is to h = everyone_within cluster view is to h
+asked_within cluster view (NewAges key least) is to h = everyone_within cluster view is to h
+asked_within cluster view (Removal key) is to h = everyone_within cluster view is to h
 asked_within cluster view (NextKeys places) is to h =
     let test : ℕ → Bool = λ n. has_member (everyone view) n && not (has_ended (place_in places n)) in
     let has = has_member_of to (members_where test) h in (
@@ -329,8 +380,8 @@ pub record IsReadyToList {S V : Type 0} (cluster : Cluster) (log : List Happenin
   pub entered : AllEntered cluster plan.progress.era.number (marks_of log)
 
 abbrev pub ReadyToAsk : {S V : Type 0} → Cluster → List Happening → View S V → Question → Type 0
-ReadyToAsk cluster log view (Probe key) = ⊤
 ReadyToAsk cluster log view (NextKeys places) = (plan : PlanView) → view.council.plan ≡ Some plan → next_of plan.progress.left ≡ Settle → IsReadyToList cluster log view plan
+ReadyToAsk cluster log view other = ⊤
 
 -- at first nothing is listed
 fresh_place : (members : List ℕ) (member : ℕ) → place_in (map (λ one. record { member = one; place = GoesOn None }) members) member ≡ GoesOn None
@@ -375,6 +426,9 @@ asks_all {S} {V} {cluster} m old question new tells is ready by = by_case by.ask
     era : ℕ
     era = (era_at old 0).number
 
+    plain : IsOfNoKey question
+    plain = plain_for (everyone old) old.council may.caller.call may.order.asked question may.is_for
+
     of : IsDeskTrue m cluster is.global.log is.global.made era 0 may.caller (queue_at old.flow 0).messages by.desk
     of = whole.parties.desks 0 tt by.desk may.caller may.at_desk may.at_caller
 
@@ -391,16 +445,16 @@ asks_all {S} {V} {cluster} m old question new tells is ready by = by_case by.ask
         let hand = drew_in_hand m cluster is.global 0 era [] by.desk.vault now.vault tag of.known (subst (λ (i : ℕ). HasDrawn m.disks i by.desk.vault now.vault tag) of.same_id drawn) of.vault whole.history in
         record { own = hand.own; drawn = hand.drawn; above = hand.above_floors }
 
-    asked : (now : DeskView V) (tag : Ballot) (flow : FlowView) → now ≡ record by.desk { vault = now.vault } → IsTagged m cluster is.global (with_desk old 0 now) tag (plan_asked question tag old.council.plan)
+    asked : (now : DeskView V) (tag : Ballot) (flow : FlowView) → now ≡ record by.desk { vault = now.vault } → IsAged m.disks (kept_of by.desk.vault).age now.vault → IsTagged m cluster is.global (with_desk old 0 now) tag (plan_asked question tag old.council.plan)
         → Sends old.flow exchange_place (questions_to (kept_of by.desk.vault).age tag question (asked_by old question)) flow
         → IsLogged m cluster (with_council (record (with_desk old 0 now) { flow = flow }) (record old.council { exchange = Some (new_exchange question tag (asked_by old question)); plan = plan_asked question tag old.council.plan }))
-    asked now tag flow is_now tagged sends =
+    asked now tag flow is_now aged tagged sends =
         let view : View S V = with_desk old 0 now in
         let age : ℕ = (kept_of by.desk.vault).age in
         let tos : List ℕ = asked_by old question in
         let f : ℕ → Request = question_to age tag question in
         let then_ : Whole m cluster (asked_global tagged.after f tos) view =
-        asks_whole m cluster tagged.after view age tag question tos now may.caller (at_set old.desks 0 by.desk now may.at_desk) may.at_caller (ap (λ (d : DeskView V). d.round) is_now ∙ may.idle) tagged.is_tag
+        asks_whole m cluster tagged.after view age tag question tos now may.caller (at_set old.desks 0 by.desk now may.at_desk) may.at_caller (ap (λ (d : DeskView V). d.round) is_now ∙ may.idle) aged plain tagged.is_tag
         (asked_within cluster old question (whole.parties.eras 0 (omega arith))) tagged.whole in
         let log : List Happening = asked_log f tos tagged.after.log in
         let flows : ReFlows log old.flow flow = record {
@@ -417,10 +471,12 @@ asks_all {S} {V} {cluster} m old question new tells is ready by = by_case by.ask
           λ exchange open_. subst (IsExchangeTrue log) (some_is open_) (record {
             own = tagged.is_tag.own;
             era = era;
-            drawn = asked_later f tos tagged.after.log tagged.is_tag.drawn;
+            drawn = subst (λ (k : List ℕ). Stands (Drew tag k era) log) (sym (plain_key question plain)) (asked_later f tos tagged.after.log tagged.is_tag.drawn);
             told = λ place answer told at is_told. absurd (none_told tos place answer told at is_told);
           }),
           asked_plan cluster f tos tagged.after.log (plan_asked question tag old.council.plan) tagged.plan_true,
+          is.agrees.council.2,
+          then_.parties.council.3,
         ) (reflows m cluster (asked_global tagged.after f tos) view flow flows then_))
         (asked_marks f tos tagged.after.log ∙ tagged.marks ∙ is.agrees.marks)
 
@@ -433,6 +489,8 @@ asks_all {S} {V} {cluster} m old question new tells is ready by = by_case by.ask
       plan_true = (drawn_whole now (Some tag) drawn is_now).parties.council.1;
       marks = drew_marks is.global.log [] era (Some tag);
     }
+    tagged_by (NewAges key least) now tag ready has_tag is_now is_for = absurd is_for
+    tagged_by (Removal key) now tag ready has_tag is_now is_for = absurd is_for
     tagged_by (NextKeys places) now tag ready has_tag is_now (none_open, due) = subst (λ (o : Option PlanView). IsTagged m cluster is.global (with_desk old 0 now) tag (option_map (listing_begun places tag) o)) (sym due.is_plan)
         (by_listing due.plan.listing refl (subst (λ (o : Option PlanView). HasTag m.disks (listing_in o) by.desk now tag) due.is_plan has_tag))
       where
@@ -482,7 +540,7 @@ asks_all {S} {V} {cluster} m old question new tells is ready by = by_case by.ask
             })
 
     by_case : AsksAll m old question by.desk new → IsLogged m cluster new
-    by_case (council.asks now tag flow up room tagged is_now sends view) = subst (IsLogged m cluster) (sym view) (asked now tag flow is_now (tagged_by question now tag ready tagged is_now may.is_for) sends)
+    by_case (council.asks now tag flow up room tagged is_now sends view) = subst (IsLogged m cluster) (sym view) (asked now tag flow is_now (tagged.aged tells) (tagged_by question now tag ready tagged.has_tag is_now may.is_for) sends)
     by_case (council.is_down down view) = subst (IsLogged m cluster) (sym view) (told_one old is.global _ whole is.agrees.marks)
     by_case (council.is_full up full view) = subst (IsLogged m cluster) (sym view) (told_one old is.global _ whole is.agrees.marks)
     by_case (council.is_spent now up spent kept is_now view) = subst (IsLogged m cluster) (sym view) (told_one (with_desk old 0 now) is.global _ (drawn_whole now None kept is_now) is.agrees.marks)
@@ -532,7 +590,7 @@ harmed_turn m cluster global view verdict front exchange member down is_open in_
     let was = is.whole.parties.council.0 exchange is_open in
     let moved = record view { flow = taken view.flow exchange_place verdict } in
     marked m cluster is.after (with_exchange moved (harmed_exchange exchange member)) (harm_marks exchange member down) (marks_of global.log)
-    (counsels m cluster is.after moved _ (λ other open_. subst (IsExchangeTrue is.after.log) (some_is open_) (record { own = was.own; era = was.era; drawn = was.drawn; told = was.told }), is.whole.parties.council.1)
+    (counsels m cluster is.after moved _ (λ other open_. subst (IsExchangeTrue is.after.log) (some_is open_) (record { own = was.own; era = was.era; drawn = was.drawn; told = was.told }), is.whole.parties.council.1, is.whole.parties.council.2, is.whole.parties.council.3)
     (reflows m cluster is.after view (taken view.flow exchange_place verdict) (taken_reflows is.after.log view.flow verdict in_front (is.whole.parties.own exchange_place) is.whole.parties.late) is.whole))
     marks is.marks
 
@@ -581,6 +639,8 @@ turns_exchange {S} {V} {cluster} m old verdict new tells is step = by_turn step.
             told = heard_told is.global.log exchange.tag exchange.question reply exchange.told (position (awaits reply.from) exchange.told) (front_true front) to_it was.told;
           }),
           whole.parties.council.1,
+          whole.parties.council.2,
+          whole.parties.council.3,
         ) (reflows m cluster is.global old (taken old.flow exchange_place verdict) (taken_reflows is.global.log old.flow verdict step.waits (whole.parties.own exchange_place) whole.parties.late) whole))
         is.agrees.marks)
 
@@ -602,6 +662,6 @@ pub breaks_off : {S V : Type 0} {cluster : Cluster} (m : Meaning S V) (old : Vie
 breaks_off {cluster = cluster} m old is =
     let whole = whole_of m old is in
     logged m cluster is.global (broken_off_view old)
-    (counsels m cluster is.global (record old { flow = abandoned old.flow exchange_place }) (crashed_in old.council) (broken_true is.global.log old.council.exchange whole.parties.council.0, whole.parties.council.1)
+    (counsels m cluster is.global (record old { flow = abandoned old.flow exchange_place }) (crashed_in old.council) (broken_true is.global.log old.council.exchange whole.parties.council.0, whole.parties.council.1, whole.parties.council.2, whole.parties.council.3)
     (reflows m cluster is.global old (abandoned old.flow exchange_place) (abandoned_flows is.global.log old.flow (whole.parties.own exchange_place) whole.parties.late) whole))
     is.agrees.marks

@@ -88,7 +88,7 @@ pub counts : {S V : Type 0} (m : Meaning S V) (cluster : Cluster) (global : Glob
     (with_call (with_desk old id now) id caller (over call (answer.Done outcome.state outcome.took round.ballot)))
 counts {S} {V} m cluster global old id caller call desk now round outcome by tells at_caller is_open at_desk none own same_era era accept quorum confirmers proposed ends whole =
     quiets m cluster after old id caller (over call (answer.Done outcome.state outcome.took round.ballot)) now old.flow
-    (around_more m cluster global.log global.kept global.made old id h (λ p other. tt, λ a. tt) (around m cluster global old id whole) history) was
+    (around_more m cluster global.log global.kept global.made old id h (λ p other. tt, λ a. tt) (λ request now. absurd (cc now)) (around m cluster global old id whole) history) was
     (call_told after.log global.made id caller.number call (answer.Done outcome.state outcome.took round.ballot) call.is_closed 1 (was.call call is_open) done) quiet none (λ p other. refl) (messages_still h global.log old.flow.late whole.parties.late)
   where
     a : Acknowledgment
@@ -154,7 +154,7 @@ counts {S} {V} m cluster global old id caller call desk now round outcome by tel
     quiet = record {
       same_id = ap (λ (d : DeskView V). d.id) ends.desk ∙ of.same_id;
       known = of.known;
-      vault = vault_still m h global.log (λ b k e same x. absurd (cc same)) (λ e same. absurd (cc same)) (λ k f s same. absurd (cc same)) (vault_goes_on m global.log id (era_at old id).number tells ends.goes_on of.vault);
+      vault = vault_still m h global.log (λ b k e same x. absurd (cc same)) (λ e same. absurd (cc same)) (λ k f s same. absurd (cc same)) (λ request same own. absurd (cc same)) (vault_goes_on m global.log id (era_at old id).number tells ends.goes_on of.vault);
       cached = ready_mild cluster h global.log global.made id (era_at old id).number now.cache (acked_mild a)
           (subst (AreReady cluster global.log global.made id (era_at old id).number) (sym (ap (λ (d : DeskView V). d.cache) ends.desk)) held_ready);
       one_each = subst HaveOneEach (sym (ap (λ (d : DeskView V). d.cache) ends.desk)) (one_after round (offered_by round round.ride outcome.state by) desk.cache of.one_each);
@@ -202,7 +202,7 @@ pub ends_call : {S V : Type 0} (m : Meaning S V) (cluster : Cluster) (global : G
     → Whole m cluster (with_mark global (Marked (Ended id caller.number call.rounds told))) (record (with_caller (with_desk old id now) id (record caller { call = None })) { flow = abandoned old.flow id })
 ends_call {S} {V} m cluster global old id caller call told desk now tells at_caller is_open is_told at_desk closed whole =
     settles m cluster after old (record (with_caller (with_desk old id now) id (record caller { call = None })) { flow = abandoned old.flow id }) id
-    (around_more m cluster global.log global.kept global.made old id h (λ p other same. other (sym same), λ a. tt) (around m cluster global old id whole) history)
+    (around_more m cluster global.log global.kept global.made old id h (λ p other same. other (sym same), λ a. tt) (λ request now. absurd (cc now)) (around m cluster global old id whole) history)
     (leaves_both old id now (record caller { call = None }) _ _ (others_left old.flow id))
     (record {
       desk = λ d c at_d at_c.
@@ -248,7 +248,7 @@ ends_call {S} {V} m cluster global old id caller call told desk now tells at_cal
     quiet_after = record {
       same_id = quiet.same_id;
       known = quiet.known;
-      vault = vault_still m h global.log (λ b k e same x. absurd (cc same)) (λ e same. absurd (cc same)) (λ k f s same. absurd (cc same)) quiet.vault;
+      vault = vault_still m h global.log (λ b k e same x. absurd (cc same)) (λ e same. absurd (cc same)) (λ k f s same. absurd (cc same)) (λ request same own. absurd (cc same)) quiet.vault;
       cached = ready_mild cluster h global.log global.made id era now.cache (ended_mild id caller.number call.rounds told) quiet.cached;
       one_each = quiet.one_each;
       none_open = quiet.none_open;

@@ -48,6 +48,7 @@ over_on {S} {V} old asked answer was = subst IsCourse (sym (told_course old aske
 
 tell_on : {S V : Type 0} (old new : View S V) (answer : OpAnswer) → StepTell old answer new → IsCourse (course_of old) → IsCourse (course_of new)
 tell_on {S} {V} old new answer (told_by.tells order said is_open told same view) was = subst IsCourse (sym (ap course_of view)) (over_on old order.asked answer was)
+tell_on {S} {V} old new answer (told_by.collects order is_open by view) was = subst IsCourse (sym (ap course_of view)) (over_on old order.asked answer was)
 tell_on {S} {V} old new answer (told_by.finishes order is_open by view) was =
     subst IsCourse (sym (ap course_of view)) (over_on (with_council old (record old.council { plan = None })) order.asked answer (finish_on old by.plan by.is_plan by.none_left was))
 
@@ -149,6 +150,7 @@ led_on m old new step.Gather leads by was = gather_on old new by was
 led_on m old new (step.Tell answer) leads by was = tell_on old new answer by was
 led_on m old new step.OpenPlan leads by was = open_on m old new by was
 led_on m old new (step.EnterEra id) leads by was = enter_on m old new id by was
+led_on {S} {V} m old new (step.EndCollect told) leads by was = subst IsCourse (sym (ap course_of by.view)) (end_on m old by.middle 0 told by.ends was)
 led_on m old new event none by was = absurd none
 
 pub stays_on_course : {S V : Type 0} (m : Meaning S V) (old new : View S V) (event : Event) → Step m old event new → IsCourse (course_of old) → IsCourse (course_of new)

@@ -14,10 +14,10 @@ use Rattle.cas_record.specs.Orderly.{IsAboveFloors}
 use Rattle.cas_record.specs.Places.{here}
 use Rattle.cas_record.proofs.PlaceLemmas.{newest_or}
 use Rattle.cas_cluster.specs.Desks.{IsPastAll}
-use Rattle.cas_cluster.specs.Parties.{AreMessagesTrue, WereMade, IsVaultTrue, AreReady, IsInHand, IsCallerTrue}
+use Rattle.cas_cluster.specs.Parties.{AreMessagesTrue, WereMade, IsAged, IsVaultTrue, AreReady, IsInHand, IsCallerTrue}
 use Rattle.cas_cluster.specs.Protocol.{Made, GlobalState, HasHistory, Draws as DrawsEvent}
 use Rattle.cas_cluster.specs.StepDesks.{GoesOn, HasDrawn, MayHaveDrawn}
-use Rattle.cas_cluster.specs.View.{Meaning, View, CallerView, era_at}
+use Rattle.cas_cluster.specs.View.{DiskMeaning, Meaning, View, CallerView, era_at}
 use Rattle.cas_cluster.proofs.Around.{Around, around_more}
 use Rattle.cas_cluster.proofs.Events.{keeps}
 use Rattle.cas_cluster.proofs.Others.{LeavesCalls, ProposesNot, FloorsNot, AsksToRide, later, hand_still, ready_still, replies_still, messages_still, caller_still}
@@ -25,10 +25,19 @@ use Rattle.cas_cluster.proofs.Places.{some_is}
 use Rattle.cas_cluster.proofs.Rides.{draws}
 
 -- ---- vaults
+-- what lasts of a vault as it changes: what it is past, and the ages that it keeps
+pub record Lasts {V : Type 0} (m : DiskMeaning V) (old new : Vault V) : Type 0 where
+  pub still_past : (n : ℕ) → IsPast m.may_leave n old → IsPast m.may_leave n new
+  pub ages : (age : ℕ) → IsAged m age old → IsAged m age new
+
+pub lasts : {V : Type 0} {m : DiskMeaning V} {old new : Vault V} → m.tells → GoesOn m old new → Lasts m old new
+lasts tells on = record { still_past = on.still_past tells; ages = on.ages tells }
+
 pub vault_goes_on : {S V : Type 0} (m : Meaning S V) (log : List Happening) (id era : ℕ) {old new : Vault V} → m.disks.tells → GoesOn m.disks old new → IsVaultTrue m log id era old → IsVaultTrue m log id era new
 vault_goes_on m log id era tells on was = record {
   past = λ ballot key e stands own. on.still_past tells ballot.counter (was.past ballot key e stands own);
   past_floors = λ key floor has. on.still_past tells floor.counter (was.past_floors key floor has);
+  ages = λ request stands own. on.ages tells request.age (was.ages request stands own);
   is_in = was.is_in;
   not_beyond = was.not_beyond;
 }
@@ -64,6 +73,10 @@ drew_vault m log id era key old new (Some ballot) tells by was =
         | inr before ↦ on.past b k e before own
       ];
       past_floors = on.past_floors;
+      ages = λ request stands own. elim (newest_or stands) [
+        | inl now ↦ absurd (cc now)
+        | inr before ↦ on.ages request before own
+      ];
       is_in = elim on.is_in [ inl first ↦ inl first | inr entered ↦ inr (later entered) ];
       not_beyond = λ stands. elim (newest_or stands) [
         | inl now ↦ absurd (cc now)
@@ -112,7 +125,7 @@ drew_around m cluster global view id key old new (Some ballot) known by vault ar
     let history : HasHistory cluster (drew global (Some ballot) key era) =
     subst (λ (b : Ballot). HasHistory cluster (drew global (Some b) key era)) (sym by.draws.next) (keeps cluster around.meets global around.history (DrawsEvent id era (counter_of old) key all)) in
     around_more m cluster global.log global.kept global.made view id (Drew ballot key era)
-    (λ p other own. other (sym own ∙ ap (λ (b : Ballot). b.proposer) by.draws.next), λ a. tt) around history
+    (λ p other own. other (sym own ∙ ap (λ (b : Ballot). b.proposer) by.draws.next), λ a. tt) (λ request now. absurd (cc now)) around history
 
 -- the ballot is in hand
 pub drew_in_hand : {S V : Type 0} (m : Meaning S V) (cluster : Cluster) (global : GlobalState) (id era : ℕ) (key : List ℕ) (old new : Vault V) (ballot : Ballot)

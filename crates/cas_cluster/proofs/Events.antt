@@ -38,30 +38,31 @@ use Rattle.cas_record.specs.Places.{Stands, here, past}
 use Rattle.cas_record.specs.Replay.{replay_from, opening_state}
 use Rattle.cas_record.proofs.Listings.{stones_of_listing}
 use Rattle.cas_record.proofs.Orders.{round_asked}
-use Rattle.cas_record.proofs.PlaceLemmas.{newest_or, none_at_nil}
+use Rattle.cas_record.proofs.LogLemmas.{part_of}
+use Rattle.cas_record.proofs.PlaceLemmas.{newest_or, none_at_nil, stands_part}
 use Rattle.cas_record.proofs.Tests.{nat_same, nat_is}
 use Rattle.cas_record.proofs.LawLemmas.{lawful_is_legal}
 use Rattle.cas_cluster.specs.Acceptors.{told_of, IsAcceptedState, Tells, IsMadeState, IsEmptyAt, IsAskState, IsElsewhere, deeds_of, votes_of, done_log, answered_log}
 use Rattle.cas_cluster.specs.Desks.{IsRiding}
 use Rattle.cas_cluster.specs.Laws.{GoesOn}
 use Rattle.cas_cluster.specs.Proposers.{IsReplyTrue, AreRepliesTrue, AreFloorsClear, state_read}
-use Rattle.cas_cluster.specs.Protocol.{Made, GlobalState, kept_but, AllReplied, HasMade, IsMadeAsk, IsPrepared, IsPreparedByRide, is_done, IsLeaving, Begins, Draws, Asks, Answers, StopsWithin, Proposes, ProposesByRide, Counts, EndsDone, EndsElse, Harms, TellsOperator, MakesFloor, Enters, MarksEra, Run, opened, then, IsMadeOf, Knows, HasHistory, EventsKeepHistory, RunsAreLegal}
+use Rattle.cas_cluster.specs.Protocol.{Made, GlobalState, kept_but, AllReplied, HasMade, IsMadeAsk, IsPrepared, IsPreparedByRide, is_done, IsLeaving, Begins, Draws, Asks, Answers, StopsWithin, Proposes, ProposesByRide, Counts, EndsDone, EndsElse, Harms, TellsOperator, MakesFloor, Enters, MarksEra, Run, opened, then, IsMadeOf, IsFloorClear, Knows, HasHistory, EventsKeepHistory, RunsAreLegal, HasEnded, IsEndedAsk}
 use Rattle.cas_cluster.proofs.Along.{EachOf, along, deeds_each, votes_each}
 use Rattle.cas_cluster.proofs.Answered.{answers, deeds}
 use Rattle.cas_cluster.proofs.Growing.{made_grows, ask_grows}
 use Rattle.cas_cluster.proofs.Known as known
-use Rattle.cas_cluster.proofs.Proposes.{propose, count}
+use Rattle.cas_cluster.proofs.Proposes.{clear_of_floors, propose, count}
 use Rattle.cas_cluster.proofs.Rides.{rides, draws, done}
 use Rattle.cas_cluster.proofs.Staying.{tells_still}
 
 -- ---- what is known goes on
 -- what must be so for the happening to add nothing unknown
-abbrev IsGood : List Happening → Happening → Type 0
-IsGood log (Asked request) = IsAskState (marks_of log) request.ask × ((request.from ≤ 16) × (request.to < 64))
-IsGood log (Replied request reply) = IsReplyTrue (Replied request reply ∷ log) reply
-IsGood log (Marked (Proposed p)) = Stands (Drew p.ballot p.key p.era) log
-IsGood log (Marked (Floor key floor state)) = IsEmptyAt (marks_of log) key floor × ((acceptor : ℕ) → IsClear log acceptor key floor)
-IsGood log other = ⊤
+abbrev IsGood : Cluster → List Happening → Happening → Type 0
+IsGood cluster log (Asked request) = IsAskState (marks_of log) request.ask × ((request.from ≤ 16) × (request.to < 64)) × IsEndedAsk (marks_of log) request.ask
+IsGood cluster log (Replied request reply) = IsReplyTrue (Replied request reply ∷ log) reply
+IsGood cluster log (Marked (Proposed p)) = Stands (Drew p.ballot p.key p.era) log
+IsGood cluster log (Marked (Floor key floor state)) = IsEmptyAt (marks_of log) key floor × IsFloorClear cluster log key floor
+IsGood cluster log other = ⊤
 
 -- a mark that stands then is what happened, or stood before
 pub mark_now : (h : Happening) (log : List Happening) {mark : Mark} → Stands mark (marks_of (h ∷ log)) → (Marked mark ≡ h) ⊎ Stands mark (marks_of log)
@@ -70,6 +71,28 @@ mark_now (Marked now) log stands = elim (newest_or stands) [
   | inr before ↦ inr before
 ]
 mark_now h log stands = inr stands
+
+-- a mark stays
+mark_grows : (h : Happening) (log : List Happening) {mark : Mark} → Stands mark (marks_of log) → Stands mark (marks_of (h ∷ log))
+mark_grows (Marked now) log stands = record { older = stands.older; at = past stands.at }
+mark_grows h log stands = stands
+
+-- a call that has ended has
+pub ended_grows : (h : Happening) (log : List Happening) {ballot : Ballot} → HasEnded (marks_of log) ballot → HasEnded (marks_of (h ∷ log)) ballot
+ended_grows h log was = record {
+  proposal = was.proposal;
+  stands = mark_grows h log was.stands;
+  same_ballot = was.same_ballot;
+  ended = record { rounds = was.ended.rounds; answer = was.ended.answer; stands = mark_grows h log was.ended.stands };
+}
+
+ended_ask_grows : (h : Happening) (log : List Happening) (question : Ask) → IsEndedAsk (marks_of log) question → IsEndedAsk (marks_of (h ∷ log)) question
+ended_ask_grows h log (ask.Ages tag least) was = ended_grows h log was
+ended_ask_grows h log (ask.Prepare key ballot) was = tt
+ended_ask_grows h log (ask.Accept key ballot era ride state) was = tt
+ended_ask_grows h log (ask.Remove key tomb) was = tt
+ended_ask_grows h log (ask.List tag after) was = tt
+ended_ask_grows h log (ask.Probe tag key) was = tt
 
 -- a floor that stands then stood before, or is what happened
 floor_now : (h : Happening) (log : List Happening) (key : List ℕ) (floor : Ballot) → HasFloor key floor (marks_of (h ∷ log)) → ((state : State) × (Marked (Floor key floor state) ≡ h)) ⊎ HasFloor key floor (marks_of log)
@@ -87,6 +110,18 @@ clear_stays h log above (never_asked never) = never_asked (λ request stands to 
   | inr before ↦ never request before to round same
 ])
 
+-- and so do the members of the eras that the floor is for
+floor_clear_stays : (cluster : Cluster) (h : Happening) (log : List Happening) {key : List ℕ} {floor : Ballot}
+    → ((request : Request) → Asked request ≡ h → IsRoundAsk request.ask → key_of request.ask ≡ key → BallotLess floor (tag_of request.ask)) → IsFloorClear cluster log key floor → IsFloorClear cluster (h ∷ log) key floor
+floor_clear_stays cluster h log above was = record {
+  era = was.era;
+  all_in = elim was.all_in [
+    | inl first ↦ inl first
+    | inr all ↦ inr (λ proposer known. stands_part (all proposer known) (part_of {log = h ∷ log} here))
+  ];
+  clear = λ number acceptor late member. clear_stays h log above (was.clear number acceptor late member);
+}
+
 not_asked : {request : Request} {key : List ℕ} {floor : Ballot} {state : State} → Asked request ≡ Marked (Floor key floor state) → ⊥
 not_asked e = cc
 
@@ -98,10 +133,11 @@ above_floor cluster h log {key} {floor} orderly has request now round same =
     let ask_for : MayAskFor cluster log request (key_of request.ask) (tag_of request.ask) = round_asked cluster log request request.ask round may in
     ask_for.above.above (subst (λ k. Stands (Floor k floor has.state) (marks_of log)) (sym same) has.stands)
 
-knows_more : (cluster : Cluster) (h : Happening) (log : List Happening) (all : List Made) → Lawful cluster (h ∷ log) → Orderly cluster (h ∷ log) → IsGood log h → Knows log all → Knows (h ∷ log) all
+knows_more : (cluster : Cluster) (h : Happening) (log : List Happening) (all : List Made) → Lawful cluster (h ∷ log) → Orderly cluster (h ∷ log) → IsGood cluster log h → Knows cluster log all → Knows cluster (h ∷ log) all
 knows_more cluster h log all lawful orderly good knows = record {
   asked = λ request stands. ask_grows cluster h log request.ask lawful (elim (newest_or stands) [ inl now ↦ (new_ask request now).0 | inr before ↦ knows.asked request before ]);
   known = λ request stands. elim (newest_or stands) [ inl now ↦ (new_ask request now).1 | inr before ↦ knows.known request before ];
+  ended = λ request stands. ended_ask_grows h log request.ask (elim (newest_or stands) [ inl now ↦ (new_ask request now).2 | inr before ↦ knows.ended request before ]);
   replied = λ request reply stands. elim (newest_or stands) [
     | inl now ↦ subst (λ (x : Happening). IsReplyTrue (x ∷ log) reply) now (new_reply request reply now)
     | inr before ↦ known.reply_stays cluster h log lawful reply (knows.replied request reply before)
@@ -124,27 +160,27 @@ knows_more cluster h log all lawful orderly good knows = record {
     | inl now ↦ let empty = (new_floor key floor now).0 in (empty.0, made_grows cluster h log lawful empty.1)
     | inr before ↦ let empty = knows.floors key floor before in (empty.0, made_grows cluster h log lawful empty.1)
   ];
-  clear = λ key floor acceptor has. elim (floor_now h log key floor has) [
-    | inl now ↦ clear_stays h log (λ request asked round same. absurd (not_asked (asked ∙ sym now.1))) ((new_floor key floor now).1 acceptor)
-    | inr before ↦ clear_stays h log (above_floor cluster h log orderly before) (knows.clear key floor acceptor before)
+  clear = λ key floor has. elim (floor_now h log key floor has) [
+    | inl now ↦ floor_clear_stays cluster h log (λ request asked round same. absurd (not_asked (asked ∙ sym now.1))) (new_floor key floor now).1
+    | inr before ↦ floor_clear_stays cluster h log (above_floor cluster h log orderly before) (knows.clear key floor before)
   ];
 }
   where
-    new_ask : (request : Request) → Asked request ≡ h → IsAskState (marks_of log) request.ask × ((request.from ≤ 16) × (request.to < 64))
-    new_ask request now = subst (IsGood log) (sym now) good
+    new_ask : (request : Request) → Asked request ≡ h → IsAskState (marks_of log) request.ask × ((request.from ≤ 16) × (request.to < 64)) × IsEndedAsk (marks_of log) request.ask
+    new_ask request now = subst (IsGood cluster log) (sym now) good
 
     new_reply : (request : Request) (reply : Reply) → Replied request reply ≡ h → IsReplyTrue (Replied request reply ∷ log) reply
-    new_reply request reply now = subst (IsGood log) (sym now) good
+    new_reply request reply now = subst (IsGood cluster log) (sym now) good
 
     new_proposal : (p : Proposal) → Marked (Proposed p) ≡ h → Stands (Drew p.ballot p.key p.era) log
-    new_proposal p now = subst (IsGood log) (sym now) good
+    new_proposal p now = subst (IsGood cluster log) (sym now) good
 
-    new_floor : (key : List ℕ) (floor : Ballot) → (state : State) × (Marked (Floor key floor state) ≡ h) → IsEmptyAt (marks_of log) key floor × ((acceptor : ℕ) → IsClear log acceptor key floor)
-    new_floor key floor now = subst (IsGood log) (sym now.1) good
+    new_floor : (key : List ℕ) (floor : Ballot) → (state : State) × (Marked (Floor key floor state) ≡ h) → IsEmptyAt (marks_of log) key floor × IsFloorClear cluster log key floor
+    new_floor key floor now = subst (IsGood cluster log) (sym now.1) good
 
 -- ---- one happening
 -- the cluster after something that is no deed of an acceptor
-goes_on : (cluster : Cluster) (global : GlobalState) (h : Happening) → HasHistory cluster global → May cluster global.log h → HasReason cluster global.log h → ((id : ℕ) → IsElsewhere id h) → IsGood global.log h
+goes_on : (cluster : Cluster) (global : GlobalState) (h : Happening) → HasHistory cluster global → May cluster global.log h → HasReason cluster global.log h → ((id : ℕ) → IsElsewhere id h) → IsGood cluster global.log h
     → HasHistory cluster (record { log = h ∷ global.log; kept = global.kept; made = global.made })
 goes_on cluster global h history may reason elsewhere good = record {
   lawful = (history.lawful, may);
@@ -175,16 +211,16 @@ ask_state cluster global request question history may made = tt
 -- ---- answers
 -- the happening adds nothing unknown wherever it stands
 abbrev IsPlain : Happening → Type 0
-IsPlain h = (log : List Happening) → IsGood log h
+IsPlain h = (cluster : Cluster) (log : List Happening) → IsGood cluster log h
 
-knows_front : (cluster : Cluster) (front log : List Happening) (all : List Made) → EachOf IsPlain front → Lawful cluster (front ++ log) → Orderly cluster (front ++ log) → Knows log all → Knows (front ++ log) all
-knows_front cluster front log all = along cluster IsPlain (λ l. Knows l all) (λ h l lawful orderly plain. knows_more cluster h l all lawful orderly (plain l)) front log
+knows_front : (cluster : Cluster) (front log : List Happening) (all : List Made) → EachOf IsPlain front → Lawful cluster (front ++ log) → Orderly cluster (front ++ log) → Knows cluster log all → Knows cluster (front ++ log) all
+knows_front cluster front log all = along cluster IsPlain (λ l. Knows cluster l all) (λ h l lawful orderly plain. knows_more cluster h l all lawful orderly (plain cluster l)) front log
 
 pub tells_front : (cluster : Cluster) (front log : List Happening) (id : ℕ) (kept : Contents) → EachOf (IsElsewhere id) front → Lawful cluster (front ++ log) → Orderly cluster (front ++ log) → Tells log id kept → Tells (front ++ log) id kept
 tells_front cluster front log id kept = along cluster (IsElsewhere id) (λ l. Tells l id kept) (λ h l lawful orderly elsewhere. tells_still cluster h l id kept lawful elsewhere) front log
 
 deeds_plain : (to : ℕ) (old : Contents) (question : Ask) (answer : Tell) → EachOf IsPlain (deeds_of to old question answer)
-deeds_plain to old question answer = deeds_each IsPlain to old question answer (record { promised = λ key ballot told log. tt; took = λ key ballot ride log. tt; dropped = λ key tomb log. tt; raised = λ least log. tt })
+deeds_plain to old question answer = deeds_each IsPlain to old question answer (record { promised = λ key ballot told c log. tt; took = λ key ballot ride c log. tt; dropped = λ key tomb c log. tt; raised = λ least c log. tt })
 
 pub deeds_elsewhere : (id to : ℕ) (old : Contents) (question : Ask) (answer : Tell) → (to ≡ id → ⊥) → EachOf (IsElsewhere id) (deeds_of to old question answer)
 deeds_elsewhere id to old question answer other =
@@ -234,7 +270,7 @@ answers_on cluster global request reply new history asked answered =
           (tells_front cluster votes (acts ++ global.log) id (global.kept id) (votes_each (IsElsewhere id) to request.ask reply.tell (λ key ballot. tt)) did.1.lawful.0 did.1.orderly.0
           (tells_front cluster acts global.log id (global.kept id) (deeds_elsewhere id to old request.ask reply.tell other) did.0.lawful did.0.orderly (history.tells id))));
       knows = knows_more cluster (Replied request reply) (votes ++ (acts ++ global.log)) global.made did.1.lawful did.1.orderly true_
-          (knows_front cluster votes (acts ++ global.log) global.made (votes_each IsPlain to request.ask reply.tell (λ key ballot log. tt)) did.1.lawful.0 did.1.orderly.0
+          (knows_front cluster votes (acts ++ global.log) global.made (votes_each IsPlain to request.ask reply.tell (λ key ballot c log. tt)) did.1.lawful.0 did.1.orderly.0
           (knows_front cluster acts global.log global.made (deeds_plain to old request.ask reply.tell) did.0.lawful did.0.orderly history.knows));
     }
 
@@ -252,6 +288,7 @@ proposes cluster global p program state history begun drawn may is_read =
       knows = record {
         asked = on.knows.asked;
         known = on.knows.known;
+        ended = on.knows.ended;
         replied = on.knows.replied;
         drawn = on.knows.drawn;
         floors = on.knows.floors;
@@ -278,7 +315,8 @@ proposes cluster global p program state history begun drawn may is_read =
 prepared : (cluster : Cluster) (global : GlobalState) (p : Proposal) (program : List Clause) (read : Option Accepted) → HasHistory cluster global → Stands (Begun p.caller p.call p.key program) (marks_of global.log) → IsPrepared cluster global.log p read
     → HasHistory cluster (record { log = Marked (Proposed p) ∷ global.log; kept = global.kept; made = record { proposal = p; outcome = outcome_of program (state_read read) } ∷ global.made })
 prepared cluster global p program read history begun is =
-    let clear : AreFloorsClear global.log p.key p.ballot p.prepared_by = record { empty = λ floor has. history.knows.floors p.key floor has; clear = λ acceptor floor member has less. history.knows.clear p.key floor acceptor has } in
+    let clear : AreFloorsClear global.log p.key p.ballot p.prepared_by =
+    clear_of_floors cluster global.log p is.replies history.lawful history.orderly is.round (all_true is.replies history is.replied) is.by (history.knows.floors p.key) (history.knows.clear p.key) in
     let may = propose cluster global.log p is.replies read history.lawful history.orderly is.round (all_true is.replies history is.replied) is.by is.quorum is.is_read is.same_read clear in
     proposes cluster global p program (state_read read) history begun is.round.drawn may.0 may.1
 
@@ -314,7 +352,7 @@ pub keeps : EventsKeepHistory
 keeps cluster meets global history (Begins caller call key program numbered) = goes_on cluster global _ history numbered tt (λ id. tt) tt
 keeps cluster meets global history (Draws proposer era counter key all) = goes_on cluster global _ history tt (draws cluster global.log proposer era counter key all) (λ id. tt) tt
 keeps cluster meets global history (Asks request askable) =
-    goes_on cluster global (Asked request) history tt askable.may (λ id. tt) (ask_state cluster global request request.ask history askable.may askable.made, (askable.from, askable.to))
+    goes_on cluster global (Asked request) history tt askable.may (λ id. tt) (ask_state cluster global request request.ask history askable.may askable.made, (askable.from, askable.to), askable.ended)
 keeps cluster meets global history (Answers request reply new asked answered) = answers_on cluster global request reply new history asked answered
 keeps cluster meets global history (StopsWithin request tell new asked row) = stops_within cluster global request tell new history asked row
 keeps cluster meets global history (Proposes p program read begun is) = prepared cluster global p program read history begun is
@@ -331,7 +369,7 @@ keeps cluster meets global history (EndsElse caller call rounds answer is) =
 keeps cluster meets global history (Harms caller call down) = goes_on cluster global _ history tt tt (λ id. tt) tt
 keeps cluster meets global history (TellsOperator asked told) = goes_on cluster global _ history tt tt (λ id. tt) tt
 keeps cluster meets global history (MakesFloor key tomb may) =
-    goes_on cluster global (Marked (Floor key tomb Empty)) history (inr (record { is_empty = refl; acked = may.acked })) tt (λ id. tt) ((may.era, has_made history may.made), may.clear)
+    goes_on cluster global (Marked (Floor key tomb Empty)) history (inr (record { is_empty = refl; acked = may.acked })) tt (λ id. tt) (may.made, may.clear)
 keeps cluster meets global history (Enters proposer left leaving) =
     goes_on cluster global (Entered proposer (suc left)) history (record { left = left; next = refl; may_leave = leaves cluster meets global.log proposer left history.lawful leaving }) tt (λ id. tt) tt
 keeps cluster meets global history (MarksEra proposer era may) = goes_on cluster global _ history may tt (λ id. tt) tt
@@ -353,11 +391,12 @@ opens cluster = record {
   knows = record {
     asked = λ request stands. absurd (none_at_nil stands.at);
     known = λ request stands. absurd (none_at_nil stands.at);
+    ended = λ request stands. absurd (none_at_nil stands.at);
     replied = λ request reply stands. absurd (none_at_nil stands.at);
     drawn = λ p stands. absurd (none_at_nil stands.at);
     made = λ m stands. absurd (none_at_nil stands.at);
     floors = λ key floor has. absurd (none_at_nil has.stands.at);
-    clear = λ key floor acceptor has. absurd (none_at_nil has.stands.at);
+    clear = λ key floor has. absurd (none_at_nil has.stands.at);
   };
 }
 

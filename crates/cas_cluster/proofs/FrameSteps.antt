@@ -538,7 +538,7 @@ harms {S} {V} m cluster global view id caller call acceptor down at is_open low 
             meets = whole.meets;
             history = history;
             acceptors = λ a each at_each. acceptor_still m cluster harm global.log a (global.kept a) history.lawful tt (whole.acceptors a each at_each);
-            parties = parties_more m cluster global.log global.made view Everyone harm history.orderly (no_floor_of 0 {h = harm} tt) (λ p these. tt) whole.parties;
+            parties = parties_more m cluster global.log global.made view Everyone harm history.lawful history.orderly (no_floor_of 0 {h = harm} tt) (λ request now. absurd (cc now)) (λ p these. tt) whole.parties;
           };
           is_call = subst (λ (l : List ℕ). IsCallTrue harmed_log.log global.made id caller.number (record call { told = None; harmed = l; reserved = (harmed_by call acceptor).reserved })) (sym same)
               (call_with harmed_log.log global.made id caller.number call (with_member call.harmed acceptor) (harmed_by call acceptor).reserved (IsMemberSet-members_where (λ k. k == acceptor || has_member call.harmed k))

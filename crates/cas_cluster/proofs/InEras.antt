@@ -1,13 +1,13 @@
 -- The disks of proposers stay in their eras, whatever is called but that which leads on to another era.
 use Rattle.std.proofs.Common.{◌≡◌, ◌≤◌, ℕ, List, [], Option, None, Some, sym, ap, subst, inl, inr, arith}
-use Rattle.std.specs.Prelude.{◌⊎◌, true, false, slice_set}
+use Rattle.std.specs.Prelude.{⊤, ◌⊎◌, true, false, slice_set}
 use Rattle.cas_change.specs.declared.program.Clause.{Clause}
 use Rattle.cas_fate.specs.declared.fate.Verdict.{Verdict}
 use Rattle.cas_flow.specs.declared.message.Message.{Message}
 use Rattle.cas_proposer.specs.Desk.{DeskView}
 use Rattle.cas_proposer.specs.declared.round.Round.{Round}
 use Rattle.cas_record.specs.declared.answer.Answer.{Answer}
-use Rattle.cas_cluster.specs.Council.{Question, Probe, NextKeys}
+use Rattle.cas_cluster.specs.Council.{Question, Probe, NextKeys, NewAges, Removal}
 use Rattle.cas_cluster.specs.Course.{Course}
 use Rattle.cas_cluster.specs.History.{IsInEra, inside, torn}
 use Rattle.cas_cluster.specs.Parties.{IsWithin}
@@ -56,15 +56,16 @@ unchanged {V} m same = record {
 }
 
 -- a ballot that may ride was drawn or not
-goes_on : {V : Type 0} (m : DiskMeaning V) (id : ℕ) (old new : Vault V) (ballot : Option Ballot) → MayHaveDrawn m id old new ballot → GoesOn m old new
+pub goes_on : {V : Type 0} (m : DiskMeaning V) (id : ℕ) (old new : Vault V) (ballot : Option Ballot) → MayHaveDrawn m id old new ballot → GoesOn m old new
 goes_on m id old new None kept = kept.goes_on
 goes_on m id old new (Some ballot) drawn = drawn.goes_on
 
 -- and what is done after that goes on, too
-then_on : {V : Type 0} {m : DiskMeaning V} {old middle new : Vault V} → GoesOn m old middle → GoesOn m middle new → GoesOn m old new
+pub then_on : {V : Type 0} {m : DiskMeaning V} {old middle new : Vault V} → GoesOn m old middle → GoesOn m middle new → GoesOn m old new
 then_on first next = record {
   still_past = λ tells n past. next.still_past tells n (first.still_past tells n past);
   era = λ tells era other was. next.era tells era other (first.era tells era other was);
+  ages = λ tells age was. next.ages tells age (first.ages tells age was);
   never_falls = omega (arith, first.never_falls, next.never_falls);
 }
 
@@ -206,7 +207,7 @@ ask_in {S} {V} m of old new question tells by was = in_case by.asks
     at = by.may.at_desk
 
     in_case : council.AsksAll m old question by.desk new → AreIn m of new.desks
-    in_case (council.asks now tag flow up room tagged now_is sends is) = one_changed m of _ _ 0 _ _ (ap (λ (w : View S V). w.desks) is) at (up_kept m.disks tells up (tag_goes_on m.disks (council.listing_for old.council question) by.desk now tag tagged)) was
+    in_case (council.asks now tag flow up room tagged now_is sends is) = one_changed m of _ _ 0 _ _ (ap (λ (w : View S V). w.desks) is) at (up_kept m.disks tells up (tag_goes_on m.disks (council.listing_for old.council question) by.desk now tag tagged.has_tag)) was
     in_case (council.is_down down is) = none_changed m of (ap (λ (w : View S V). w.desks) is) was
     in_case (council.is_full up full is) = none_changed m of (ap (λ (w : View S V). w.desks) is) was
     in_case (council.is_spent now up spent kept now_is is) = one_changed m of _ _ 0 _ _ (ap (λ (w : View S V). w.desks) is) at (up_kept m.disks tells up kept.goes_on) was
@@ -235,29 +236,52 @@ gather_in {S} {V} m of old new by was = in_case by.gathers
     in_case (council.is_short lists_for short up missing is) = none_changed m of (ap (λ (w : View S V). w.desks) is) was
     in_case (council.no_memory up is) = none_changed m of (ap (λ (w : View S V). w.desks) is) was
 
--- ---- all of them but those that lead on
-pub desks_in : {S V : Type 0} (m : Meaning S V) (of : Course) (old new : View S V) (event : Event) → m.disks.tells → Step m old event new → AreIn m of old.desks → Leads event ⊎ AreIn m of new.desks
-desks_in m of old new (step.Begin id key program) tells by was = inr (begins_in m of old new id key program tells by was)
-desks_in m of old new (step.RefuseBegin id key) tells by was = inr (no_begin_in m of old new id key tells by was)
-desks_in m of old new (step.Turn id verdict) tells by was = inr (turn_in m of old new id verdict by was)
-desks_in {S} {V} m of old new (step.RefuseTurn id) tells by was = inr (none_changed m of (ap (λ (w : View S V). w.desks) by.view) (no_room_in m of old by.middle by.refuses was))
-desks_in m of old new (step.Propose id) tells by was = inr (propose_in m of old new id tells by was)
-desks_in m of old new (step.Count id) tells by was = inr (count_in m of old new id tells by was)
-desks_in m of old new (step.End id told) tells by was = inl tt
-desks_in m of old new (step.Stray index) tells by was = inr (stray_in m of old new index by.late by.strays was)
-desks_in m of old new step.RefuseStray tells by was = inr (no_room_in m of old new by was)
-desks_in m of old new (step.CrashAcceptor id) tells by was = inr (stop_in m of old new id by was)
-desks_in m of old new (step.RestartAcceptor id) tells by was = inr (start_in m of old new id by was)
-desks_in m of old new (step.CrashProposer id) tells by was = inr (down_in m of (Crashes m.disks) old new id (λ desk now at crashes. era_kept m of id (crash_kept m.disks tells crashes) (was id desk at).1) by was)
-desks_in m of old new (step.RestartProposer id) tells by was = inl tt
-desks_in {S} {V} m of old new (step.Order asked) tells by was = inr (none_changed m of (ap (λ (w : View S V). w.desks) by.view) was)
-desks_in {S} {V} m of old new step.RefuseOrder tells by was = inr (none_changed m of (ap (λ (w : View S V). w.desks) by) was)
-desks_in m of old new (step.Tell told) tells by was = inl tt
-desks_in m of old new (step.AskAll (Probe key)) tells by was = inr (ask_in m of old new (Probe key) tells by was)
-desks_in m of old new (step.AskAll (NextKeys places)) tells by was = inl tt
-desks_in m of old new (step.TurnExchange verdict) tells by was = inr (ask_turn_in m of old new verdict by was)
-desks_in {S} {V} m of old new step.RefuseTurnExchange tells by was = inr (none_changed m of (ap (λ (w : View S V). w.desks) by.view) (no_room_in m of old by.middle by.refuses was))
-desks_in m of old new step.Gather tells by was = inl tt
-desks_in {S} {V} m of old new step.RefuseKey tells by was = inr (none_changed m of (ap (λ (w : View S V). w.desks) by.view) was)
-desks_in m of old new step.OpenPlan tells by was = inl tt
-desks_in m of old new (step.EnterEra id) tells by was = inl tt
+-- ---- all of them but those that lead on, and those of a collection
+abbrev pub IsPlain : Event → Type 0
+IsPlain (step.BeginCollect key) = ⊥
+IsPlain step.ReadHeld = ⊥
+IsPlain step.CountCollect = ⊥
+IsPlain (step.EndCollect told) = ⊥
+IsPlain step.GatherRound = ⊥
+IsPlain (step.Renew proposer) = ⊥
+IsPlain step.AskCollect = ⊥
+IsPlain step.GatherCollect = ⊥
+IsPlain step.MakeFloor = ⊥
+IsPlain event = ⊤
+
+pub desks_in : {S V : Type 0} (m : Meaning S V) (of : Course) (old new : View S V) (event : Event) → m.disks.tells → IsPlain event → Step m old event new → AreIn m of old.desks → Leads event ⊎ AreIn m of new.desks
+desks_in m of old new (step.Begin id key program) tells plain by was = inr (begins_in m of old new id key program tells by was)
+desks_in m of old new (step.RefuseBegin id key) tells plain by was = inr (no_begin_in m of old new id key tells by was)
+desks_in m of old new (step.Turn id verdict) tells plain by was = inr (turn_in m of old new id verdict by was)
+desks_in {S} {V} m of old new (step.RefuseTurn id) tells plain by was = inr (none_changed m of (ap (λ (w : View S V). w.desks) by.view) (no_room_in m of old by.middle by.refuses was))
+desks_in m of old new (step.Propose id) tells plain by was = inr (propose_in m of old new id tells by was)
+desks_in m of old new (step.Count id) tells plain by was = inr (count_in m of old new id tells by was)
+desks_in m of old new (step.End id told) tells plain by was = inl tt
+desks_in m of old new (step.Stray index) tells plain by was = inr (stray_in m of old new index by.late by.strays was)
+desks_in m of old new step.RefuseStray tells plain by was = inr (no_room_in m of old new by was)
+desks_in m of old new (step.CrashAcceptor id) tells plain by was = inr (stop_in m of old new id by was)
+desks_in m of old new (step.RestartAcceptor id) tells plain by was = inr (start_in m of old new id by was)
+desks_in m of old new (step.CrashProposer id) tells plain by was = inr (down_in m of (Crashes m.disks) old new id (λ desk now at crashes. era_kept m of id (crash_kept m.disks tells crashes) (was id desk at).1) by was)
+desks_in m of old new (step.RestartProposer id) tells plain by was = inl tt
+desks_in {S} {V} m of old new (step.Order asked) tells plain by was = inr (none_changed m of (ap (λ (w : View S V). w.desks) by.view) was)
+desks_in {S} {V} m of old new step.RefuseOrder tells plain by was = inr (none_changed m of (ap (λ (w : View S V). w.desks) by) was)
+desks_in m of old new (step.Tell told) tells plain by was = inl tt
+desks_in m of old new (step.AskAll (Probe key)) tells plain by was = inr (ask_in m of old new (Probe key) tells by was)
+desks_in m of old new (step.AskAll (NextKeys places)) tells plain by was = inl tt
+desks_in m of old new (step.AskAll (NewAges key least)) tells plain by was = absurd by.may.is_for
+desks_in m of old new (step.AskAll (Removal key)) tells plain by was = absurd by.may.is_for
+desks_in m of old new (step.TurnExchange verdict) tells plain by was = inr (ask_turn_in m of old new verdict by was)
+desks_in {S} {V} m of old new step.RefuseTurnExchange tells plain by was = inr (none_changed m of (ap (λ (w : View S V). w.desks) by.view) (no_room_in m of old by.middle by.refuses was))
+desks_in m of old new step.Gather tells plain by was = inl tt
+desks_in {S} {V} m of old new step.RefuseKey tells plain by was = inr (none_changed m of (ap (λ (w : View S V). w.desks) by.view) was)
+desks_in m of old new step.OpenPlan tells plain by was = inl tt
+desks_in m of old new (step.EnterEra id) tells plain by was = inl tt
+desks_in m of old new (step.BeginCollect key) tells plain by was = absurd plain
+desks_in m of old new step.ReadHeld tells plain by was = absurd plain
+desks_in m of old new step.CountCollect tells plain by was = absurd plain
+desks_in m of old new (step.EndCollect told) tells plain by was = absurd plain
+desks_in m of old new step.GatherRound tells plain by was = absurd plain
+desks_in m of old new (step.Renew proposer) tells plain by was = absurd plain
+desks_in m of old new step.AskCollect tells plain by was = absurd plain
+desks_in m of old new step.GatherCollect tells plain by was = absurd plain
+desks_in m of old new step.MakeFloor tells plain by was = absurd plain

@@ -6,7 +6,6 @@ use Rattle.cas_flow.specs.Flow.{queue_at, abandoned}
 use Rattle.cas_flow.specs.declared.message.Message.{Message}
 use Rattle.cas_proposer.specs.Desk.{DeskView, IsCrashed}
 use Rattle.cas_vault.specs.declared.vault.Vault.{Vault}
-use Rattle.cas_vault.specs.Vault.{IsPast}
 use Rattle.cas_record.specs.declared.answer.Answer.{Answer}
 use Rattle.cas_record.specs.declared.answer.Answer.TheVariants as answer
 use Rattle.cas_record.specs.declared.answer.Cause.{Cause}
@@ -23,6 +22,7 @@ use Rattle.cas_cluster.specs.StepStops.{OpenCallAt, closed_by, closed_by_crash, 
 use Rattle.cas_cluster.specs.View.{Meaning, View, CallView, CallerView, IsAt, era_at}
 use Rattle.cas_cluster.proofs.Around.{Whole, whole_of, logged, Around, around, leaves_desk, settles}
 use Rattle.cas_cluster.proofs.CouncilSteps as council
+use Rattle.cas_cluster.proofs.Draws.{Lasts}
 use Rattle.cas_cluster.proofs.EndSteps.{IsQuiet, quiet_true, quiets, none_left, others_left, all_joined_true, call_told}
 use Rattle.cas_cluster.proofs.Places.{contains_none, own_set}
 
@@ -73,16 +73,17 @@ left_marks {S} {V} DeskTurns closed old new id (stops.closes desk now round of a
 
 -- ---- it goes down
 -- the log tells of its vault and its promises what it told; and a desk that crashed holds none
-pub vault_past : {S V : Type 0} (m : Meaning S V) (log : List Happening) (id era : ℕ) {old new : Vault V} → ((n : ℕ) → IsPast m.disks.may_leave n old → IsPast m.disks.may_leave n new) → IsVaultTrue m log id era old → IsVaultTrue m log id era new
+pub vault_past : {S V : Type 0} (m : Meaning S V) (log : List Happening) (id era : ℕ) {old new : Vault V} → Lasts m.disks old new → IsVaultTrue m log id era old → IsVaultTrue m log id era new
 vault_past m log id era still was = record {
-  past = λ ballot key e drawn own. still ballot.counter (was.past ballot key e drawn own);
-  past_floors = λ key floor has. still floor.counter (was.past_floors key floor has);
+  past = λ ballot key e drawn own. still.still_past ballot.counter (was.past ballot key e drawn own);
+  past_floors = λ key floor has. still.still_past floor.counter (was.past_floors key floor has);
+  ages = λ request stands own. still.ages request.age (was.ages request stands own);
   is_in = was.is_in;
   not_beyond = was.not_beyond;
 }
 
 pub quiet_crashed : {S V : Type 0} (m : Meaning S V) (cluster : Cluster) (log : List Happening) (all : List Made) (id era : ℕ) (caller : CallerView) (waiting : List Message) (desk now : DeskView V)
-    → ((n : ℕ) → IsPast m.disks.may_leave n desk.vault → IsPast m.disks.may_leave n now.vault) → IsCrashed desk now → IsDeskTrue m cluster log all era id caller waiting desk → IsQuiet m cluster log all id era now
+    → Lasts m.disks desk.vault now.vault → IsCrashed desk now → IsDeskTrue m cluster log all era id caller waiting desk → IsQuiet m cluster log all id era now
 quiet_crashed {S} {V} m cluster log all id era caller waiting desk now still crashed of = record {
   same_id = ap (λ (d : DeskView V). d.id) crashed ∙ of.same_id;
   known = of.known;
@@ -94,7 +95,7 @@ quiet_crashed {S} {V} m cluster log all id era caller waiting desk now still cra
 
 -- wherever a crash leaves its vault past all that it was past
 pub crashed_logged : {S V : Type 0} {cluster : Cluster} (m : Meaning S V) (old : View S V) (id : ℕ) (DeskTurns : DeskView V → DeskView V → Type 0) (new : View S V)
-    → ((desk now : DeskView V) → DeskTurns desk now → IsCrashed desk now × ((n : ℕ) → IsPast m.disks.may_leave n desk.vault → IsPast m.disks.may_leave n now.vault))
+    → ((desk now : DeskView V) → DeskTurns desk now → IsCrashed desk now × Lasts m.disks desk.vault now.vault)
     → IsLogged m cluster old → LeavesRound DeskTurns closed_by_crash old id new → IsLogged m cluster new
 crashed_logged {S} {V} {cluster} m old id DeskTurns new crashes is by =
     let whole = whole_of m old is in
@@ -106,7 +107,7 @@ crashed_logged {S} {V} {cluster} m old id DeskTurns new crashes is by =
     (is.agrees.marks ∙ sym (ap (λ (l : List Mark). reverse l) (left_marks DeskTurns closed_by_crash old new id by)))
 
 pub down_logged : {S V : Type 0} {cluster : Cluster} (m : Meaning S V) (old : View S V) (id : ℕ) (DeskTurns : DeskView V → DeskView V → Type 0) (new : View S V)
-    → ((desk now : DeskView V) → DeskTurns desk now → IsCrashed desk now × ((n : ℕ) → IsPast m.disks.may_leave n desk.vault → IsPast m.disks.may_leave n now.vault))
+    → ((desk now : DeskView V) → DeskTurns desk now → IsCrashed desk now × Lasts m.disks desk.vault now.vault)
     → IsLogged m cluster old → GoesDown DeskTurns old id new → IsLogged m cluster new
 down_logged m old id DeskTurns new crashes is (stops.of_client apart by) = crashed_logged m old id DeskTurns new crashes is by
 down_logged {cluster = cluster} m old id DeskTurns new crashes is (stops.of_operator middle first by view) = subst (IsLogged m cluster) (sym view) (council.breaks_off m middle (crashed_logged m old id DeskTurns middle crashes is by))

@@ -6,6 +6,7 @@ pub mod Asks
 pub mod Beginnings
 pub mod Caches
 pub mod CallSteps
+pub mod Collecting
 pub mod CouncilSteps
 pub mod CountSteps
 pub mod CourseSteps
@@ -14,6 +15,7 @@ pub mod Deeds
 pub mod Draws
 pub mod EndSteps
 pub mod Events
+pub mod Flooring
 pub mod FrameSteps
 pub mod Growing
 pub mod Handling
@@ -40,8 +42,13 @@ pub mod Remaining
 pub mod Remembering
 pub mod Rescanning
 pub mod Rides
+pub mod Renewals
+pub mod Renewing
 pub mod RoundSteps
 pub mod SafeCalls
+pub mod SafeCollect
+pub mod SafeCollecting
+pub mod SafeCollections
 pub mod SafeCouncil
 pub mod SafeListings
 pub mod SafeOpens

@@ -73,14 +73,14 @@ page_is after (Some (tell.Listed from keys more)) page e = by_test (is_after fro
 page_is after (Some told) page e = absurd (cc e)
 
 -- the answer of which it is
-record IsAnswerOf (told : List Answered) (member : ℕ) (said : Tell) : Type 0 where
-  place : ℕ
-  answer : Answered
-  at : IsAt told place answer
-  is_told : answer.told ≡ Some said
-  same : answer.acceptor ≡ member
+pub record IsAnswerOf (told : List Answered) (member : ℕ) (said : Tell) : Type 0 where
+  pub place : ℕ
+  pub answer : Answered
+  pub at : IsAt told place answer
+  pub is_told : answer.told ≡ Some said
+  pub same : answer.acceptor ≡ member
 
-answer_of : (told : List Answered) (member : ℕ) (said : Tell) → told_by told member ≡ Some said → IsAnswerOf told member said
+pub answer_of : (told : List Answered) (member : ℕ) (said : Tell) → told_by told member ≡ Some said → IsAnswerOf told member said
 answer_of [] member said e = absurd (cc e)
 answer_of (one ∷ told) member said e = by_test (one.acceptor == member) refl e (answer_of told member said)
   where

@@ -4,6 +4,7 @@ use Rattle.std.proofs.Common.{◌≡◌, ℕ, List, [], ◌∷◌, ◌++◌, Opt
 use Rattle.std.specs.Prelude.{option_map, ⊤, ◌⊎◌, suc, Bool, true, false, if◌then◌else◌}
 use Rattle.cas_ballot.specs.Members.{has_member}
 use Rattle.cas_change.specs.declared.program.Clause.{Clause}
+use Rattle.cas_change.specs.declared.state.State.TheVariants.{Empty}
 use Rattle.cas_fate.specs.declared.fate.Verdict.{Verdict}
 use Rattle.cas_flow.specs.Message.{head_of}
 use Rattle.cas_flow.specs.declared.message.Message.{Message}
@@ -19,21 +20,25 @@ use Rattle.cas_record.specs.declared.mark.Mark.{Mark}
 use Rattle.cas_record.specs.declared.mark.Mark.TheVariants.{Begun, Proposed, Voted, Acked, Floor, EraEntered, Ended, Harmed, Told}
 use Rattle.cas_record.specs.declared.answer.Answer.{Answer}
 use Rattle.cas_record.specs.declared.answer.Answer.TheVariants as answer
+use Rattle.cas_record.specs.declared.answer.Cause.TheVariants as cause
 use Rattle.cas_record.specs.declared.operator.Asked.{Asked}
 use Rattle.cas_record.specs.declared.operator.OpAnswer.{OpAnswer}
 use Rattle.cas_record.specs.declared.operator.OpAnswer.TheVariants as told_it
 use Rattle.cas_cluster.specs.Acceptors.{votes_of}
-use Rattle.cas_cluster.specs.Council.{Probe, NextKeys, PlanView, without_partial}
+use Rattle.cas_cluster.specs.Council.{Probe, NextKeys, NewAges, Removal, PlanView, without_partial}
 use Rattle.cas_cluster.specs.Course.{Entry, Course, entries_in, course_of}
 use Rattle.cas_cluster.specs.Step as step
 use Rattle.cas_cluster.specs.Step.{Event, Step, StepBegin, StepTurn, StepRefuseTurn, StepPropose, StepCount, StepEnd, StepCrashAcceptor, StepRestartAcceptor}
 use Rattle.cas_cluster.specs.StepCalls as calls
+use Rattle.cas_cluster.specs.Collection.{tomb_of}
+use Rattle.cas_cluster.specs.StepCollect as collect
+use Rattle.cas_cluster.specs.StepCollect.{keep_always, StepBeginCollect, StepGatherRound, StepRenew, StepAskCollect, StepGatherCollect}
 use Rattle.cas_cluster.specs.StepCouncil as council
 use Rattle.cas_cluster.specs.StepCouncil.{StepAskAll, StepTurnExchange}
-use Rattle.cas_cluster.specs.StepDesks.{Crashes}
+use Rattle.cas_cluster.specs.StepDesks.{Crashes, Renews, FailsToRenew}
 use Rattle.cas_cluster.specs.StepFrames as frames
 use Rattle.cas_cluster.specs.StepStops as stops
-use Rattle.cas_cluster.specs.StepStops.{OpenCallAt, LeavesRound, GoesDown, closed_by_crash}
+use Rattle.cas_cluster.specs.StepStops.{OpenCallAt, LeavesRound, GoesDown, closed_by, closed_by_crash}
 use Rattle.cas_cluster.specs.View.{Meaning, View, CallView, with_marks}
 use Rattle.cas_cluster.proofs.Rescanning.{undone_plan, refused_undone}
 
@@ -180,6 +185,53 @@ told_course old asked said = ap (λ (c : Course). record c { plan = option_map w
 pub end_course : {S V : Type 0} (m : Meaning S V) (old new : View S V) (id : ℕ) (told : Answer) → (by : StepEnd m old id told new) → course_of new ≡ record (course_of old) { plan = by.ends.council.plan }
 end_course {S} {V} m old new id told by = ap course_of by.ends.view ∙ ap (λ (c : Course). record c { plan = by.ends.council.plan }) (quiet old (Ended id by.of_call.caller.number by.of_call.call.rounds told ∷ []) refl)
 
+-- ---- collections
+collect_course : {S V : Type 0} (m : Meaning S V) (old new : View S V) (key : List ℕ) → StepBeginCollect m (λ before after. StepBegin m before 0 key keep_always after) old key new → course_of new ≡ course_of old
+collect_course {S} {V} m old new key by = in_case by.begins
+  where
+    in_case : collect.BeginsCollection m (λ before after. StepBegin m before 0 key keep_always after) old key by.may.order by.desk by.caller new → course_of new ≡ course_of old
+    in_case (collect.is_down none down view) = ap course_of view
+    in_case (collect.is_busy plan none up busy view) = ap course_of view
+    in_case (collect.is_full none up unplanned full view) = ap course_of view
+    in_case (collect.no_memory middle none up unplanned refuses view) = ap course_of view ∙ no_begin_course m old middle 0 key refuses
+    in_case (collect.begins middle unplanned begins view) = ap course_of view ∙ begin_course m old middle 0 key keep_always begins
+
+round_course : {S V : Type 0} (old new : View S V) → StepGatherRound old new → course_of new ≡ course_of old
+round_course {S} {V} old new by = in_case by.gathers
+  where
+    in_case : collect.GathersRound old by.at new → course_of new ≡ course_of old
+    in_case (collect.all ballot by_whom is all view) = ap course_of view
+    in_case (collect.is_absent ballot by_whom acceptor is least view) = ap course_of view
+    in_case (collect.is_held version is view) = ap course_of view
+
+renew_course : {S V : Type 0} (m : Meaning S V) (old new : View S V) (id : ℕ) → StepRenew m old id new → course_of new ≡ course_of old
+renew_course {S} {V} m old new id by = in_case by.renews
+  where
+    in_case : collect.RenewsNext m old by.at id by.desk new → course_of new ≡ course_of old
+    in_case (collect.renews age middle leaves view) =
+        ap course_of view ∙ left_course (Renews m.disks by.at.collection.course.key (tomb_of by.at.collection.tombstone) age) (closed_by (answer.Aged age) (cause.Aged age)) old middle id leaves
+    in_case (collect.is_down down view) = ap course_of view
+    in_case (collect.fails middle down view) = ap course_of view ∙ down_course (FailsToRenew m.disks) old middle id down
+    in_case (collect.is_spent up spent view) = ap course_of view
+    in_case (collect.no_memory now up finds view) = ap course_of view
+
+ask_collect_course : {S V : Type 0} (m : Meaning S V) (old new : View S V) → StepAskCollect m old new → course_of new ≡ course_of old
+ask_collect_course {S} {V} m old new by = in_case by.asks
+  where
+    in_case : collect.AsksCollect m old by.may.at by.desk new → course_of new ≡ course_of old
+    in_case (collect.asks question flow up asks room aged sends view) = ap course_of view
+    in_case (collect.is_down down view) = ap course_of view
+    in_case (collect.is_full question up asks full view) = ap course_of view
+    in_case (collect.no_memory up view) = ap course_of view
+
+gather_collect_course : {S V : Type 0} (old new : View S V) → StepGatherCollect old new → course_of new ≡ course_of old
+gather_collect_course {S} {V} old new by = in_case by.gathers
+  where
+    in_case : collect.GathersCollect old by.at by.of_exchange.exchange new → course_of new ≡ course_of old
+    in_case (collect.crashed crashed view) = ap course_of view
+    in_case (collect.all up all view) = ap course_of view
+    in_case (collect.is_absent acceptor up least view) = ap course_of view
+
 -- ---- all of them
 -- the calls that may lead on
 abbrev pub Leads : Event → Type 0
@@ -190,6 +242,7 @@ Leads (step.AskAll (NextKeys places)) = ⊤
 Leads step.Gather = ⊤
 Leads step.OpenPlan = ⊤
 Leads (step.EnterEra proposer) = ⊤
+Leads (step.EndCollect answer) = ⊤
 Leads other = ⊥
 
 -- a call leaves the course as it was, or it is one of them
@@ -212,9 +265,20 @@ on_course {S} {V} m old new step.RefuseOrder by = inr (ap course_of by)
 on_course m old new (step.Tell told) by = inl tt
 on_course m old new (step.AskAll (Probe key)) by = inr (ask_course m old new key by)
 on_course m old new (step.AskAll (NextKeys places)) by = inl tt
+on_course m old new (step.AskAll (NewAges key least)) by = absurd by.may.is_for
+on_course m old new (step.AskAll (Removal key)) by = absurd by.may.is_for
 on_course m old new (step.TurnExchange verdict) by = inr (ask_turn_course m old new verdict by)
 on_course {S} {V} m old new step.RefuseTurnExchange by = inr (ap course_of by.view ∙ no_room_course m old by.middle by.refuses)
 on_course m old new step.Gather by = inl tt
 on_course {S} {V} m old new step.RefuseKey by = inr (ap course_of by.view)
 on_course m old new step.OpenPlan by = inl tt
 on_course m old new (step.EnterEra id) by = inl tt
+on_course m old new (step.BeginCollect key) by = inr (collect_course m old new key by)
+on_course {S} {V} m old new step.ReadHeld by = inr (ap course_of by.view)
+on_course {S} {V} m old new step.CountCollect by = inr (ap course_of by.view ∙ count_course m old by.middle 0 by.counts)
+on_course m old new (step.EndCollect told) by = inl tt
+on_course m old new step.GatherRound by = inr (round_course old new by)
+on_course m old new (step.Renew id) by = inr (renew_course m old new id by)
+on_course m old new step.AskCollect by = inr (ask_collect_course m old new by)
+on_course m old new step.GatherCollect by = inr (gather_collect_course old new by)
+on_course {S} {V} m old new step.MakeFloor by = inr (ap course_of by.view ∙ quiet old (Floor by.at.collection.course.key (tomb_of by.at.collection.tombstone) Empty ∷ []) refl)

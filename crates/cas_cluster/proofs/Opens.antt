@@ -3,7 +3,7 @@ use Rattle.std.proofs.Common.{◌≡◌, ◌<◌, ◌≤◌, ℕ, zero, suc, Boo
 use Rattle.std.specs.Prelude.{◌==◌, length, if◌then◌else◌, replicate, slice_index_or, Contains}
 use Rattle.std.proofs.lemmas.List.{get_or-replicate}
 use Rattle.cas_base.proofs.Bools.{true_or_false, if_false}
-use Rattle.cas_ballot.specs.Members.{IsMemberSet}
+use Rattle.cas_ballot.specs.Members.{has_member, IsMemberSet}
 use Rattle.cas_flow.specs.Flow.{FlowView, queue_at, empty_flow}
 use Rattle.cas_flow.specs.Queue.{QueueView, empty_queue}
 use Rattle.cas_flow.specs.declared.message.Message.{Message}
@@ -19,7 +19,7 @@ use Rattle.cas_record.proofs.LawLemmas.{lawful_is_legal}
 use Rattle.cas_record.proofs.PlaceLemmas.{none_at_nil}
 use Rattle.cas_record.proofs.Tests.{nat_same}
 use Rattle.cas_cluster.specs.Council.{Council}
-use Rattle.cas_cluster.specs.History.{IsLogged, inside, IsRemembered}
+use Rattle.cas_cluster.specs.History.{IsLogged, inside, IsFollowed, IsRemembered}
 use Rattle.cas_cluster.specs.Listed.{IsCouncilTrue}
 use Rattle.cas_cluster.specs.Parties.{AreMessagesTrue, IsEraOf, IsWithin, AreReady, HaveOneEach, HasNone, IsOpenTrue, IsCallerTrue}
 use Rattle.cas_cluster.specs.Course.{entries_in, course_of, IsNoEra, IsCourse, IsCourseOf}
@@ -54,6 +54,7 @@ first_has : (greatest : ℕ) (members : List ℕ) → IsMemberSet members → 0 
 first_has greatest members set some = record {
   prep_members = λ acceptor member. member;
   acc_members = λ acceptor member. member;
+  only_members = λ acceptor member. inl member;
   prepares = λ by. refl;
   accepts = λ by. refl;
   prep_set = set;
@@ -78,6 +79,11 @@ first_alone greatest members (suc era) some = record {
       | inl is ↦ absurd (omega (arith, nat_same {a = suc n} {b = 0} is))
       | inr other ↦ other
     ]
+
+-- its members are used
+first_used : (is_zero : Bool) (members : List ℕ) (acceptor : ℕ) → has_member (if is_zero then members else []) acceptor ≡ true → has_member members acceptor ≡ true
+first_used true members acceptor member = member
+first_used false members acceptor none = absurd (cc none)
 
 -- ---- nothing is under way
 empty_queues : (n p : ℕ) → slice_index_or (replicate n empty_queue) p empty_queue ≡ empty_queue
@@ -114,6 +120,7 @@ opening_logged {S} {V} m shelves disks members view is = logged m cluster openin
       vault = record {
         past = λ b k e stands own. absurd (none_at_nil stands.at);
         past_floors = λ k floor has. absurd (none_at_nil has.stands.at);
+        ages = λ request stands own. absurd (none_at_nil stands.at);
         is_in = inl (ap (λ (e : Era). e.number) (era_is p fresh.0));
         not_beyond = λ stands. none_at_nil stands.at;
       };
@@ -123,7 +130,7 @@ opening_logged {S} {V} m shelves disks members view is = logged m cluster openin
       round = subst (IsOpenTrue cluster [] [] p (era_at view p).number caller (queue_at view.flow p).messages) (sym fresh.1.none_open) (none_under_way view.flow p is.flow);
     };
     callers = λ p these caller at. subst (IsCallerTrue [] [] p) (sym (is.callers p caller at)) (record { number = refl; call = λ call none. absurd (cc none); ended = λ call is_proposed. absurd (none_at_nil is_proposed.stands.at) });
-    council = subst (IsCouncilTrue cluster []) (sym is.council) (λ exchange none. absurd (cc none), tt);
+    council = subst (IsCouncilTrue cluster []) (sym is.council) (λ exchange none. absurd (cc none), tt, record { set = is.member_set; members = λ era acceptor. first_used (era == 0) members acceptor }, tt);
     own = λ p. no_messages (queue_at view.flow p).messages (none_under_way view.flow p is.flow);
     late = no_messages view.flow.late (ap (λ (f : FlowView). f.late) is.flow);
   };
@@ -144,8 +151,8 @@ opening_course m members view is = ap (λ (l : List Era). course view.greatest l
 pub opening_on_course : {S V : Type 0} (m : Meaning S V) (members : List ℕ) (view : View S V) → IsOpening m members view → IsCourse (course_of view)
 opening_on_course m members view is = subst IsCourse (sym (opening_course m members view is)) (course_opens view.greatest members is.few (record { majorities = refl; member_set = is.member_set; some = is.some }))
 
-pub opening_remembered : {S V : Type 0} (m : Meaning S V) → m.shelves.tells → m.disks.tells → (members : List ℕ) (view : View S V) → IsOpening m members view → IsRemembered m view
-opening_remembered m shelves disks members view is = record {
+opening_followed : {S V : Type 0} (m : Meaning S V) → m.shelves.tells → m.disks.tells → (members : List ℕ) (view : View S V) → IsOpening m members view → IsFollowed m view
+opening_followed m shelves disks members view is = record {
   cluster = first_cluster view.greatest members;
   logged = opening_logged m shelves disks members view is;
   course = subst (IsCourseOf (first_cluster view.greatest members)) (sym (opening_course m members view is)) (record {
@@ -157,8 +164,14 @@ opening_remembered m shelves disks members view is = record {
       (fresh.0, inside (subst (λ (e : Era). IsWithin m.disks e.number e.number desk.vault) (sym (ap (λ (l : List Era). era_in l id) is.eras ∙ get_or-replicate 17 id (majority_era 0 members) (majority_era 0 []) (omega (arith, fresh.0, is.few)))) (fresh.1.in_era disks)));
 }
 
+pub opening_remembered : {S V : Type 0} (m : Meaning S V) → m.shelves.tells → m.disks.tells → (members : List ℕ) (view : View S V) → IsOpening m members view → IsRemembered m view
+opening_remembered m shelves disks members view is = record {
+  followed = opening_followed m shelves disks members view is;
+  renewed = λ collection proposer age desk is_some at at_desk. absurd (cc (is_some, ap (λ (c : Council). c.collection) is.council));
+}
+
 pub logged_legal : {S V : Type 0} {cluster : Cluster} (m : Meaning S V) (view : View S V) → IsLogged m cluster view → IsLegal (reverse view.marks)
 logged_legal {cluster = cluster} m view is = subst IsLegal is.agrees.marks (lawful_is_legal cluster is.meets is.global.log is.history.lawful)
 
 pub remembered_legal : {S V : Type 0} (m : Meaning S V) (view : View S V) → IsRemembered m view → IsLegal (reverse view.marks)
-remembered_legal m view is = logged_legal m view is.logged
+remembered_legal m view is = logged_legal m view is.followed.logged

@@ -3,6 +3,7 @@ use Rattle.std.proofs.Common.{◌≡◌, ◌≤◌, ℕ, suc, List, ◌∷◌, O
 use Rattle.std.specs.Prelude.{⊤, ◌⊎◌, ◌==◌}
 use Rattle.cas_base.proofs.Bools.{if_false, true_or_false}
 use Rattle.cas_ballot.specs.declared.ballot.Ballot.{Ballot}
+use Rattle.cas_ballot.proofs.BallotLemmas.{less_not_at_most}
 use Rattle.cas_cache.specs.declared.ready.Ready.{Ready}
 use Rattle.cas_change.specs.declared.program.Clause.{Clause}
 use Rattle.cas_change.specs.declared.state.State.{State}
@@ -27,18 +28,21 @@ use Rattle.cas_record.specs.Legal.{HasFloor, IsProposed, IsEnded, IsAcked, calls
 use Rattle.cas_record.specs.Chain.{is_call}
 use Rattle.cas_record.specs.Orderly.{Orderly, HasReason, MayAsk, IsAboveFloors}
 use Rattle.cas_record.specs.Listing.{WasAbsent}
-use Rattle.cas_record.specs.Places.{Stands, past, IsOlderPart, whole}
-use Rattle.cas_record.specs.Places.{later as older_by}
+use Rattle.cas_record.specs.Places.{Stands, here, past, IsOlderPart, whole, later as older_by}
+use Rattle.cas_record.proofs.Orders.{age_later}
 use Rattle.cas_record.proofs.PlaceLemmas.{newest_or, at_part}
 use Rattle.cas_record.proofs.Tests.{nat_same, step_up}
 use Rattle.cas_cluster.specs.Acceptors.{IsElsewhere}
+use Rattle.cas_cluster.specs.Collected.{IsTombstoneTrue, IsSoughtTrue, AsksAboveFor, IsCollectingTrue}
+use Rattle.cas_cluster.specs.Collection.{Tombstone, Acknowledged, CollectionView}
 use Rattle.cas_cluster.specs.Council.{Place, GoesOn, Ended, place_in, ListingView, ExchangeView, PlanView, Council}
 use Rattle.cas_cluster.specs.Listed.{IsShown, rescanned, listed, absent, AreShown, IsListingTrue, IsPlanTrue, IsAskingTrue, IsCouncilTrue}
-use Rattle.cas_cluster.specs.Parties.{IsAcceptorTrue, WasMade, IsMessageTrue, AreMessagesTrue, WereMade, IsInHand, IsHeldReady, IsPrepareTrue, IsRideTrue, IsAcceptTrue, IsRoundTrue, IsOpenTrue, IsVaultTrue, IsDeskTrue, IsRefusalTrue, IsToldTrue, IsCallTrue, AreEnded, IsCallerTrue}
+use Rattle.cas_cluster.specs.Parties.{IsAcceptorTrue, WasMade, IsMessageTrue, AreMessagesTrue, WereMade, IsInHand, IsHeldReady, IsPrepareTrue, IsRideTrue, IsAcceptTrue, IsRoundTrue, IsOpenTrue, IsAged, IsVaultTrue, IsDeskTrue, IsRefusalTrue, IsToldTrue, IsCallTrue, AreEnded, IsCallerTrue}
 use Rattle.cas_cluster.specs.Proposers.{AllRide}
 use Rattle.cas_cluster.specs.Protocol.{Made, HasMade, IsListed}
-use Rattle.cas_cluster.specs.View.{Meaning, CallView, CallerView}
-use Rattle.cas_cluster.proofs.Events.{mark_now}
+use Rattle.cas_cluster.specs.View.{Meaning, CallView, CallerView, IsAt}
+use Rattle.cas_cluster.proofs.Events.{mark_now, ended_grows}
+use Rattle.cas_cluster.proofs.Growing.{made_grows}
 use Rattle.cas_cluster.proofs.Staying.{left_still}
 
 -- ---- whose a happening is
@@ -222,13 +226,22 @@ DrawsNot h id = (ballot : Ballot) (key : List ℕ) (era : ℕ) → Drew ballot k
 abbrev pub EntersNot : Happening → ℕ → Type 0
 EntersNot h id = (era : ℕ) → Entered id era ≡ h → ⊥
 
-pub vault_still : {S V : Type 0} (m : Meaning S V) (h : Happening) (log : List Happening) {id era : ℕ} {vault : Vault V} → DrawsNot h id → EntersNot h id → FloorsNot h → IsVaultTrue m log id era vault → IsVaultTrue m (h ∷ log) id era vault
-vault_still m h log {id} {era} draws enters none was = record {
+-- what it asks of this proposer bears an age that the vault keeps
+abbrev pub AsksWithin : {S V : Type 0} → Meaning S V → Happening → ℕ → Vault V → Type 0
+AsksWithin m h id vault = (request : Request) → Asked request ≡ h → request.from ≡ id → IsAged m.disks request.age vault
+
+pub vault_still : {S V : Type 0} (m : Meaning S V) (h : Happening) (log : List Happening) {id era : ℕ} {vault : Vault V} → DrawsNot h id → EntersNot h id → FloorsNot h → AsksWithin m h id vault
+    → IsVaultTrue m log id era vault → IsVaultTrue m (h ∷ log) id era vault
+vault_still m h log {id} {era} draws enters none asks was = record {
   past = λ ballot key e stands own. elim (newest_or stands) [
     | inl now ↦ absurd (draws ballot key e now own)
     | inr before ↦ was.past ballot key e before own
   ];
   past_floors = λ key floor has. was.past_floors key floor (floors_before h log none has);
+  ages = λ request stands own. elim (newest_or stands) [
+    | inl now ↦ asks request now own
+    | inr before ↦ was.ages request before own
+  ];
   is_in = in_later h log was.is_in;
   not_beyond = λ stands. elim (newest_or stands) [
     | inl now ↦ enters (suc era) now
@@ -241,7 +254,7 @@ pub desk_still : {S V : Type 0} (m : Meaning S V) (cluster : Cluster) (h : Happe
 desk_still m cluster h log all era id caller waiting desk orderly others was = record {
   same_id = was.same_id;
   known = was.known;
-  vault = vault_still m h log draws enters (no_floor_of id others) was.vault;
+  vault = vault_still m h log draws enters (no_floor_of id others) asks was.vault;
   cached = λ key ready has. ready_of cluster h log all orderly others (was.cached key ready has);
   one_each = was.one_each;
   none_open = was.none_open;
@@ -253,6 +266,9 @@ desk_still m cluster h log all era id caller waiting desk orderly others was = r
 
     enters : EntersNot h id
     enters e now = let of : IsOfOthers id (Entered id e) = subst (IsOfOthers id) (sym now) others in of refl
+
+    asks : AsksWithin m h id desk.vault
+    asks request now own = absurd (let of : IsOfOthers id (Asked request) = subst (IsOfOthers id) (sym now) others in of own)
 
 -- ---- callers
 -- no call of the caller begins, ends or is proposed
@@ -287,7 +303,7 @@ pub acked_later : (h : Happening) (log : List Happening) {key : List ℕ} {ballo
 acked_later h log was = record { acknowledgment = was.acknowledgment; stands = mark_later h log was.stands; same_key = was.same_key; same_ballot = was.same_ballot }
 
 -- ---- the operator
-exchange_still : (h : Happening) (log : List Happening) (open_ : Option ExchangeView) → IsAskingTrue log open_ → IsAskingTrue (h ∷ log) open_
+pub exchange_still : (h : Happening) (log : List Happening) (open_ : Option ExchangeView) → IsAskingTrue log open_ → IsAskingTrue (h ∷ log) open_
 exchange_still h log open_ were exchange is_open = let was = were exchange is_open in record {
   own = was.own;
   era = was.era;
@@ -359,9 +375,61 @@ plan_still cluster h log (Some plan) none was = record {
   listing = λ listing is. listing_still cluster h log plan.progress.era.number listing none (was.listing listing is);
 }
 
+-- what is asked is above the tombstone of the collection, where its proposer was renewed for it
+abbrev pub AsksFor : Option CollectionView → Happening → Type 0
+AsksFor collection h = (request : Request) → Asked request ≡ h → AsksAboveFor collection request
+
+-- what is nobody's asks nothing
+pub asks_nothing : (collection : Option CollectionView) (h : Happening) → ((p : ℕ) → IsOfOthers p h) → AsksFor collection h
+asks_nothing collection h others request now = let of : IsOfOthers request.from (Asked request) = subst (IsOfOthers request.from) (sym now) (others request.from) in absurd (of refl)
+
+pub tomb_still : (cluster : Cluster) (h : Happening) (log : List Happening) {key : List ℕ} {era : ℕ} {tomb : Ballot} {by : List ℕ} → Lawful cluster (h ∷ log) → IsTombstoneTrue log key era tomb by → IsTombstoneTrue (h ∷ log) key era tomb by
+tomb_still cluster h log lawful was = record {
+  own = was.own;
+  drawn = later was.drawn;
+  made = made_grows cluster h log lawful was.made;
+  proposal = was.proposal;
+  proposed = mark_later h log was.proposed;
+  same_ballot = was.same_ballot;
+  by_operator = was.by_operator;
+  acked = acked_later h log was.acked;
+  taken = λ acceptor member. let took = was.taken acceptor member in (took.0, later took.1);
+}
+
+pub sought_still : (cluster : Cluster) (h : Happening) (log : List Happening) (key : List ℕ) (era : ℕ) (tombstone : Tombstone) → Lawful cluster (h ∷ log) → IsSoughtTrue log key era tombstone → IsSoughtTrue (h ∷ log) key era tombstone
+sought_still cluster h log key era (Acknowledged tomb by) lawful was = tomb_still cluster h log lawful was
+sought_still cluster h log key era other lawful was = was
+
+pub all_entered_later : (cluster : Cluster) (h : Happening) (log : List Happening) {era : ℕ} → (era ≡ 0) ⊎ AllEntered cluster era (marks_of log) → (era ≡ 0) ⊎ AllEntered cluster era (marks_of (h ∷ log))
+all_entered_later cluster h log were = elim were [
+  | inl first ↦ inl first
+  | inr entered ↦ inr (entered_later cluster h log entered)
+]
+
+-- what is known of a collection stays
+pub collection_still : (cluster : Cluster) (h : Happening) (log : List Happening) (collection : Option CollectionView) → Lawful cluster (h ∷ log) → AsksFor collection h → IsCollectingTrue cluster log collection → IsCollectingTrue cluster (h ∷ log) collection
+collection_still cluster h log None lawful asks was = tt
+collection_still cluster h log (Some collection) lawful asks was = record {
+  tombstone = sought_still cluster h log collection.course.key collection.course.era.number collection.tombstone lawful was.tombstone;
+  entered = all_entered_later cluster h log was.entered;
+  taken = λ past_round acceptor member. let took = was.taken past_round acceptor member in (took.0, later took.1);
+  none_yet = was.none_yet;
+  ended = λ past_round. ended_grows h log (was.ended past_round);
+  older = λ proposer age request at stands own round same low. elim (newest_or stands) [
+    | inl now ↦ absurd (less_not_at_most ((asks request now).above age (subst (λ (n : ℕ). IsAt collection.ages n age) (sym own) at) round same) low)
+    | inr before ↦ was.older proposer age request at before own round same low
+  ];
+  told_alone = λ tomb by request least is stands tells. elim (newest_or stands) [
+    | inl now ↦ absurd ((asks request now).tells_none tomb least tells)
+    | inr before ↦ was.told_alone tomb by request least is before tells
+  ];
+  told = λ after acceptor proposer age member at. omega (arith, was.told after acceptor proposer age member at, age_later (h ∷ log) acceptor proposer here);
+  floor = λ after. let has = was.floor after in record { state = has.state; stands = mark_later h log has.stands };
+}
+
 -- what is known of what the operator has under way stays
-pub council_still : (cluster : Cluster) (h : Happening) (log : List Happening) (council : Council) → FloorsNot h → IsCouncilTrue cluster log council → IsCouncilTrue cluster (h ∷ log) council
-council_still cluster h log council none was = (exchange_still h log council.exchange was.0, plan_still cluster h log council.plan none was.1)
+pub council_still : (cluster : Cluster) (h : Happening) (log : List Happening) (council : Council) → Lawful cluster (h ∷ log) → FloorsNot h → AsksFor council.collection h → IsCouncilTrue cluster log council → IsCouncilTrue cluster (h ∷ log) council
+council_still cluster h log council lawful none asks was = (exchange_still h log council.exchange was.0, plan_still cluster h log council.plan none was.1, was.2, collection_still cluster h log council.collection lawful asks was.3)
 
 -- ---- what callers are told
 refusal_still : (h : Happening) (log : List Happening) {id number : ℕ} {told : Answer} → LeavesCalls h id → IsRefusalTrue log id number told → IsRefusalTrue (h ∷ log) id number told

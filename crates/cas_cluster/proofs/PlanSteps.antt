@@ -5,7 +5,6 @@ use Rattle.std.proofs.lemmas.List.{reverse-append, reverse-reverse}
 use Rattle.cas_proposer.specs.Desk.{DeskView}
 use Rattle.cas_round.proofs.Lists.{Has, has, contains}
 use Rattle.cas_vault.specs.declared.vault.Vault.{Vault}
-use Rattle.cas_vault.specs.Vault.{IsPast}
 use Rattle.cas_record.specs.declared.mark.Mark.{Mark}
 use Rattle.cas_record.specs.declared.mark.Mark.TheVariants.{Begun, Proposed, Voted, Acked, Floor, EraEntered, Ended, Harmed, Told}
 use Rattle.cas_record.specs.Happening.{Happening, Entered, marks_of}
@@ -19,6 +18,7 @@ use Rattle.cas_cluster.specs.Parties.{IsVaultTrue, AreReady, HaveOneEach}
 use Rattle.cas_cluster.specs.Protocol.{Made, GlobalState, IsLeaving, Enters, with_mark}
 use Rattle.cas_cluster.specs.View.{Meaning, View}
 use Rattle.cas_cluster.proofs.Around.{Around, around_more, IsOf}
+use Rattle.cas_cluster.proofs.Draws.{Lasts}
 use Rattle.cas_cluster.proofs.EndSteps.{IsQuiet}
 use Rattle.cas_cluster.proofs.Events.{keeps}
 use Rattle.cas_cluster.proofs.Places.{contains_none, has_append}
@@ -103,14 +103,18 @@ abbrev entry_of : Happening → ℕ
 entry_of (Entered proposer era) = era
 entry_of other = 0
 
-entered_vault : {S V : Type 0} (m : Meaning S V) (log : List Happening) (id era : ℕ) {old new : Vault V} → ((n : ℕ) → IsPast m.disks.may_leave n old → IsPast m.disks.may_leave n new) → (Stands (Entered id (suc (suc era))) log → ⊥)
+entered_vault : {S V : Type 0} (m : Meaning S V) (log : List Happening) (id era : ℕ) {old new : Vault V} → Lasts m.disks old new → (Stands (Entered id (suc (suc era))) log → ⊥)
     → IsVaultTrue m log id era old → IsVaultTrue m (Entered id (suc era) ∷ log) id (suc era) new
 entered_vault m log id era still none was = record {
   past = λ ballot key e drawn own. elim (newest_or drawn) [
     | inl now ↦ absurd (cc now)
-    | inr before ↦ still ballot.counter (was.past ballot key e before own)
+    | inr before ↦ still.still_past ballot.counter (was.past ballot key e before own)
   ];
-  past_floors = λ key floor has. still floor.counter (was.past_floors key floor has);
+  past_floors = λ key floor has. still.still_past floor.counter (was.past_floors key floor has);
+  ages = λ request stands own. elim (newest_or stands) [
+    | inl now ↦ absurd (cc now)
+    | inr before ↦ still.ages request.age (was.ages request before own)
+  ];
   is_in = inr (record { older = log; at = here });
   not_beyond = λ stands. elim (newest_or stands) [
     | inl now ↦ omega (arith, ap entry_of now)
@@ -120,7 +124,7 @@ entered_vault m log id era still none was = record {
 
 -- one without promise and round works on in the next era
 pub quiet_entered : {S V : Type 0} (m : Meaning S V) (cluster : Cluster) (log : List Happening) (all : List Made) (id era : ℕ) (old now : DeskView V) → now.id ≡ old.id → now.cache ≡ [] → now.round ≡ None
-    → ((n : ℕ) → IsPast m.disks.may_leave n old.vault → IsPast m.disks.may_leave n now.vault) → (Stands (Entered id (suc (suc era))) log → ⊥) → old.id ≡ id → id ≤ cluster.greatest → IsVaultTrue m log id era old.vault
+    → Lasts m.disks old.vault now.vault → (Stands (Entered id (suc (suc era))) log → ⊥) → old.id ≡ id → id ≤ cluster.greatest → IsVaultTrue m log id era old.vault
     → IsQuiet m cluster (Entered id (suc era) ∷ log) all id (suc era) now
 quiet_entered m cluster log all id era old now same_id no_promise none still beyond own known vault = record {
   same_id = same_id ∙ own;
@@ -137,4 +141,4 @@ of_entry id era = (λ p other same. other (sym same), λ a. tt)
 
 pub entered_around : {S V : Type 0} (m : Meaning S V) (cluster : Cluster) (global : GlobalState) (old : View S V) (id era : ℕ) → IsLeaving cluster global.log id era → Around m cluster global old id → Around m cluster (with_mark global (Entered id (suc era))) old id
 entered_around m cluster global old id era leaving was =
-    around_more m cluster global.log global.kept global.made old id (Entered id (suc era)) (of_entry id (suc era)) was (keeps cluster was.meets global was.history (Enters id era leaving))
+    around_more m cluster global.log global.kept global.made old id (Entered id (suc era)) (of_entry id (suc era)) (λ request now. absurd (cc now)) was (keeps cluster was.meets global was.history (Enters id era leaving))

@@ -1,10 +1,11 @@
 -- The plans of the table are paths: what they enter follows each other and meets, and the last of it is whole.
-use Rattle.std.proofs.Common.{◌≡◌, ◌<◌, ◌≤◌, ℕ, ◌+◌, zero, suc, List, [], ◌∷◌, ◌++◌, length, Some, refl, sym, ap, subst, arith}
-use Rattle.std.specs.Prelude.{⊤, ◌==◌, ◌||◌, ◌%◌, nat_le, Bool, true, false, if◌then◌else◌, Ok, Err}
+use Rattle.std.proofs.Common.{◌≡◌, ◌<◌, ◌≤◌, ℕ, ◌+◌, zero, suc, List, [], ◌∷◌, ◌++◌, length, Some, refl, sym, ap, subst, inl, inr, arith}
+use Rattle.std.specs.Prelude.{⊤, ◌⊎◌, ◌==◌, ◌||◌, ◌%◌, nat_le, Bool, true, false, if◌then◌else◌, Ok, Err}
 use Rattle.std.proofs.lemmas.Bool.{leb-false}
-use Rattle.cas_base.proofs.Bools.{or_right}
-use Rattle.cas_ballot.specs.Members.{members_where, has_member, with_member, without_member, IsMemberSet}
-use Rattle.cas_ballot.proofs.CountLemmas.{length-within, le-length-without_member}
+use Rattle.cas_base.proofs.Bools.{or_cases, or_right}
+use Rattle.cas_ballot.specs.Members.{members_where, has_member, with_member, without_member, union_of, IsMemberSet}
+use Rattle.cas_ballot.proofs.CountLemmas.{IsWithin, IsWithin-same, IsWithin-with_member, IsWithin-without_member, length-within, le-length-without_member}
+use Rattle.cas_ballot.proofs.MemberLemmas.{members_where_tells, IsMemberSet-members_where}
 use Rattle.cas_members.specs.declared.plan.PlanStep.{PlanStep}
 use Rattle.cas_members.specs.declared.plan.PlanStep.TheVariants.{Settle, Enter, Finished}
 use Rattle.cas_members.specs.declared.plan.TheConstants.{MOST_MEMBERS}
@@ -16,10 +17,12 @@ use Rattle.cas_quorum.specs.declared.era.Era.{Era}
 use Rattle.cas_quorum.specs.declared.fault.PlanFault.TheVariants.{AlreadyIn, NotIn, IdUsed, TooMany, Last}
 use Rattle.cas_quorum.specs.Era.{era_of_majorities, majority_era, NeighboursMeet}
 use Rattle.cas_record.specs.declared.operator.Asked.{Asked}
+use Rattle.cas_record.specs.declared.operator.Asked.TheVariants.{Join}
 use Rattle.cas_record.proofs.Tests.{nat_same}
 use Rattle.cas_cluster.specs.Course.{IsWhole, Follows, IsPath, IsStart, entering}
 use Rattle.cas_cluster.specs.StepPlans as plans
 use Rattle.cas_cluster.specs.StepPlans.{IsPlanned}
+use Rattle.cas_cluster.proofs.Harms.{member_low}
 
 -- ---- eras by majorities
 follows_by : (era : Era) (number : ℕ) (prep acc : List ℕ) → number ≡ suc era.number → IsMemberSet prep → IsMemberSet acc → 0 < length prep → 0 < length acc → Follows era (era_of_majorities number prep acc)
@@ -154,6 +157,85 @@ planned_starts era used asked progress whole planned =
 -- all eras of it meet
 pub planned_meets : (era : Era) (used : List ℕ) (asked : Asked) (progress : Progress) → IsWhole era → IsPlanned era used asked (Ok progress) → NeighboursMeet (progress.era ∷ eras_in progress.left)
 planned_meets era used asked progress whole planned = (planned_of_table era used asked progress whole planned).goes.meets
+
+-- ---- who is a member
+-- the acceptor is a member of one of the eras
+abbrev pub IsMemberOfOne : List Era → ℕ → Type 0
+IsMemberOfOne [] acceptor = ⊥
+IsMemberOfOne (era ∷ later) acceptor = (has_member (union_of era.prep era.acc) acceptor ≡ true) ⊎ IsMemberOfOne later acceptor
+
+-- a set that has all who prepare and all who accept has all members
+has_both : (prep acc all : List ℕ) (acceptor : ℕ) → IsWithin prep all → IsWithin acc all → has_member (union_of prep acc) acceptor ≡ true → has_member all acceptor ≡ true
+has_both prep acc all acceptor prepares accepts member =
+    let small = member_low (union_of prep acc) acceptor (IsMemberSet-members_where (λ n. has_member prep n || has_member acc n)) member in
+    elim (or_cases (has_member prep acceptor) (has_member acc acceptor) (members_where_tells (λ n. has_member prep n || has_member acc n) acceptor member)) [
+      | inl first ↦ prepares.all acceptor small first
+      | inr second ↦ accepts.all acceptor small second
+    ]
+
+-- with an era entered at once, and with one between
+once_within : (all prep acc : List ℕ) (number : ℕ) (acceptor : ℕ) (settled : Bool) → IsWithin prep all → IsWithin acc all
+    → IsMemberOfOne (eras_in ((if settled then [] else Settle ∷ []) ++ Enter (era_of_majorities number prep acc) ∷ [])) acceptor → has_member all acceptor ≡ true
+once_within all prep acc number acceptor true prepares accepts (inl member) = has_both prep acc all acceptor prepares accepts member
+once_within all prep acc number acceptor false prepares accepts (inl member) = has_both prep acc all acceptor prepares accepts member
+once_within all prep acc number acceptor true prepares accepts (inr none) = absurd none
+once_within all prep acc number acceptor false prepares accepts (inr none) = absurd none
+
+twice_within : (all prep acc last : List ℕ) (number later : ℕ) (acceptor : ℕ) (settled : Bool) → IsWithin prep all → IsWithin acc all → IsWithin last all
+    → IsMemberOfOne (eras_in ((if settled then [] else Settle ∷ []) ++ Enter (era_of_majorities number prep acc) ∷ Settle ∷ Enter (majority_era later last) ∷ [])) acceptor → has_member all acceptor ≡ true
+twice_within all prep acc last number later acceptor true prepares accepts ends (inl member) = has_both prep acc all acceptor prepares accepts member
+twice_within all prep acc last number later acceptor false prepares accepts ends (inl member) = has_both prep acc all acceptor prepares accepts member
+twice_within all prep acc last number later acceptor true prepares accepts ends (inr (inl member)) = has_both last last all acceptor ends ends member
+twice_within all prep acc last number later acceptor false prepares accepts ends (inr (inl member)) = has_both last last all acceptor ends ends member
+twice_within all prep acc last number later acceptor true prepares accepts ends (inr (inr none)) = absurd none
+twice_within all prep acc last number later acceptor false prepares accepts ends (inr (inr none)) = absurd none
+
+join_within : (era : Era) (id acceptor : ℕ) → IsMemberOfOne (eras_in (join_steps era id)) acceptor → has_member (with_member era.prep id) acceptor ≡ true
+join_within era id acceptor = by_parity (length era.prep % 2 == 1)
+  where
+    more : List ℕ
+    more = with_member era.prep id
+
+    by_parity : (odd : Bool) → IsMemberOfOne (eras_in (if odd then settle_first era ++ Enter (era_of_majorities (era.number + 1) era.prep more) ∷ Settle ∷ Enter (majority_era (era.number + 2) more) ∷ [] else (settle_first era ++ Enter (majority_era (era.number + 1) more) ∷ []))) acceptor
+        → has_member more acceptor ≡ true
+    by_parity true = twice_within more era.prep more more (era.number + 1) (era.number + 2) acceptor (era.number == 0) (IsWithin-with_member era.prep id) (IsWithin-same more) (IsWithin-same more)
+    by_parity false = once_within more more more (era.number + 1) acceptor (era.number == 0) (IsWithin-same more) (IsWithin-same more)
+
+leave_within : (era : Era) (id acceptor : ℕ) → IsMemberOfOne (eras_in (leave_steps era id)) acceptor → has_member era.prep acceptor ≡ true
+leave_within era id acceptor = by_parity (length era.prep % 2 == 0)
+  where
+    less : List ℕ
+    less = without_member era.prep id
+
+    by_parity : (even : Bool) → IsMemberOfOne (eras_in (if even then settle_first era ++ Enter (era_of_majorities (era.number + 1) less era.prep) ∷ Settle ∷ Enter (majority_era (era.number + 2) less) ∷ [] else (settle_first era ++ Enter (majority_era (era.number + 1) less) ∷ []))) acceptor
+        → has_member era.prep acceptor ≡ true
+    by_parity true = twice_within era.prep less era.prep less (era.number + 1) (era.number + 2) acceptor (era.number == 0) (IsWithin-without_member era.prep id) (IsWithin-same era.prep) (IsWithin-without_member era.prep id)
+    by_parity false = once_within era.prep less less (era.number + 1) acceptor (era.number == 0) (IsWithin-without_member era.prep id) (IsWithin-without_member era.prep id)
+
+-- who joins was used by nobody
+join_unused : (era : Era) (used : List ℕ) (id : ℕ) (progress : Progress) → Ok progress ≡ join_of era used id → has_member used id ≡ false
+join_unused era used id progress planned = by_tests (has_member era.prep id) (has_member used id) (nat_le MOST_MEMBERS (length era.prep)) refl planned
+  where
+    by_tests : (a b c : Bool) → has_member used id ≡ b → Ok progress ≡ (if a then Err AlreadyIn else if b then Err IdUsed else if c then Err TooMany else Ok (record { era = era; left = join_steps era id })) → has_member used id ≡ false
+    by_tests true b c test is = absurd (cc is)
+    by_tests false true c test is = absurd (cc is)
+    by_tests false false c test is = test
+
+-- a member of an era that a change leads to: it is one already, or it joins by that change and was none before
+pub data IsMemberThen (era : Era) (used : List ℕ) (asked : Asked) (acceptor : ℕ) : Type 0 where
+  already : has_member era.prep acceptor ≡ true → IsMemberThen era used asked acceptor
+  joins : asked ≡ Join acceptor → has_member used acceptor ≡ false → acceptor < 64 → IsMemberThen era used asked acceptor
+
+pub planned_members : (era : Era) (used : List ℕ) (asked : Asked) (progress : Progress) → IsWhole era → IsPlanned era used asked (Ok progress) → (acceptor : ℕ) → IsMemberOfOne (eras_in progress.left) acceptor → IsMemberThen era used asked acceptor
+planned_members era used asked progress whole (plans.joins id asked_so planned) acceptor member =
+    let within = join_within era id acceptor (subst (λ (p : Progress). IsMemberOfOne (eras_in p.left) acceptor) (joined era used id progress planned) member) in
+    elim (or_cases (acceptor == id) (has_member era.prep acceptor) (members_where_tells (λ n. n == id || has_member era.prep n) acceptor within)) [
+      | inl same ↦ subst (IsMemberThen era used asked) (sym (nat_same same)) (joins asked_so (join_unused era used id progress planned)
+          (subst (λ (n : ℕ). n < 64) (nat_same same) (member_low (with_member era.prep id) acceptor (IsMemberSet-members_where (λ n. n == id || has_member era.prep n)) within)))
+      | inr is ↦ already is
+    ]
+planned_members era used asked progress whole (plans.leaves id asked_so planned) acceptor member =
+    already (leave_within era id acceptor (subst (λ (p : Progress). IsMemberOfOne (eras_in p.left) acceptor) (has_left era id progress planned).is member))
 
 -- ---- one era after another
 abbrev pub AreNext : Era → List Era → Type 0

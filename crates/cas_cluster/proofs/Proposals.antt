@@ -34,12 +34,13 @@ use Rattle.cas_record.specs.Places.{here}
 use Rattle.cas_record.proofs.LogLemmas.{part_of}
 use Rattle.cas_record.proofs.Orders.{reason}
 use Rattle.cas_record.proofs.PlaceLemmas.{newest_or, stands_part}
-use Rattle.cas_cluster.specs.Parties.{AreMessagesTrue, IsEraOf, IsVaultTrue, AreReady, HaveOneEach, HasNone, IsInHand, IsOfPhase, waits, IsPhaseHeard, IsRideTrue, IsRoundTrue, IsOpenTrue, IsDeskTrue, IsCallTrue, IsCallerTrue, asked_in}
+use Rattle.cas_cluster.specs.Parties.{AreMessagesTrue, IsEraOf, IsAged, IsVaultTrue, AreReady, HaveOneEach, HasNone, IsInHand, IsOfPhase, waits, IsPhaseHeard, IsRideTrue, IsRoundTrue, IsOpenTrue, IsDeskTrue, IsCallTrue, IsCallerTrue, asked_in}
 use Rattle.cas_cluster.specs.Proposers.{AllRide}
 use Rattle.cas_cluster.specs.Protocol.{Made, GlobalState, HasHistory, IsAskable, with_proposal}
 use Rattle.cas_cluster.specs.StepCalls.{Sends, accepts_to, proposal_of, proposing, proposed_view}
 use Rattle.cas_cluster.specs.View.{Meaning, View, CallView, CallerView, IsAt, era_at}
 use Rattle.cas_cluster.proofs.Around.{Whole, Around, around_made, IsOf, settles, leaves_both}
+use Rattle.cas_cluster.specs.Collected.{AsksAboveFor}
 use Rattle.cas_cluster.proofs.Asks.{asked_log, asked_global, asked_all, asked_around, asked_later, asked_messages, asked_vault, asked_caller, asked_still, asked_hand, asked_ready}
 use Rattle.cas_cluster.proofs.CallSteps.{no_harm}
 use Rattle.cas_cluster.proofs.Harms.{member_low, member_has, has_of_map, has_map_of, has_member_of}
@@ -124,6 +125,7 @@ pub record IsReadyToPropose {S V : Type 0} (m : Meaning S V) (cluster : Cluster)
   pub known : id ≤ cluster.greatest
   pub same_id : now.id ≡ id
   pub vault : IsVaultTrue m global.log id (era_at old id).number now.vault
+  pub aged : IsAged m.disks age now.vault
   pub cached : AreReady cluster global.log global.made id (era_at old id).number now.cache
   pub one_each : HaveOneEach now.cache
   pub none_open : HasNone (Some round) now.cache
@@ -137,6 +139,7 @@ pub record IsReadyToPropose {S V : Type 0} (m : Meaning S V) (cluster : Cluster)
   pub accepting : IsAccepting prepared [] round
   pub none_waits : (queue_at old.flow id).messages ≡ []
   pub late : AreMessagesTrue global.log old.flow.late
+  pub above : (to : ℕ) → AsksAboveFor old.council.collection (accept_request id age round.key round.ballot round.era.number round.ride outcome.state to)
   pub sends : Sends old.flow id (accepts_to id age round.key round.ballot round.era.number round.ride outcome.state round.era.acc) flow
 
 abbrev pub accept_requests : ℕ → ℕ → Round → Outcome → ℕ → Request
@@ -192,7 +195,7 @@ proposes {S} {V} m cluster global old id age caller call now round outcome flow 
     low = omega (arith, of.known, around.parties.greatest, around.parties.few)
 
     after_proposal : Around m cluster after old id
-    after_proposal = around_made m cluster global.log global.kept global.made made old id h (proposal_of_one id caller.number round read by of.in_hand.own) (λ x stands. later stands) around history
+    after_proposal = around_made m cluster global.log global.kept global.made made old id h (proposal_of_one id caller.number round read by of.in_hand.own) (λ request now. absurd (cc now)) (λ x stands. later stands) around history
 
     askable : (rest : List ℕ) (to : ℕ) → Has to round.era.acc → IsAskable cluster (asked_global after f rest) (f to)
     askable rest to h_to = record {
@@ -208,12 +211,13 @@ proposes {S} {V} m cluster global old id age caller call now round outcome flow 
         asked_all f (λ l. IfSome round.ride (MayRide l round.key round.ballot)) (λ t l was. ride_later l (Asked (f t)) round.key round.ballot round.ride was) rest after.log (ride_later global.log h round.key round.ballot round.ride (rides_or_none global.log id round.era.number round.key round.ballot round.ride of.ride)),
       );
       made = record { made = new_made; stands = record { older = global.made; at = here }; same_key = refl; same_ballot = refl; same_era = refl; same_state = refl };
+      ended = tt;
       from = low;
       to = member_low round.era.acc to of.is_era.acc_set (has_member_of to round.era.acc h_to);
     }
 
     after_asks : Around m cluster (proposed_global global id age round p outcome) old id
-    after_asks = asked_around m cluster after old id f round.era.acc (λ to. refl) askable after_proposal
+    after_asks = asked_around m cluster after old id f round.era.acc (λ to. refl) askable of.above after_proposal
 
     differs : (key : List ℕ) (ready : Ready) → Contains now.cache (key, ready) → round.key ≡ key → ⊥
     differs key ready has_it same = of.none_open ready (subst (λ (k : List ℕ). Contains now.cache (k, ready)) (sym same) has_it)
@@ -259,7 +263,8 @@ proposes {S} {V} m cluster global old id age caller call now round outcome flow 
     desk_true = record {
       same_id = of.same_id;
       known = of.known;
-      vault = asked_vault m f round.era.acc after.log id era now.vault (vault_still m h global.log (λ b k e same own. absurd (cc same)) (λ e same. absurd (cc same)) (no_floor p) of.vault);
+      vault = asked_vault m f round.era.acc after.log id era now.vault (λ to. of.aged)
+          (vault_still m h global.log (λ b k e same own. absurd (cc same)) (λ e same. absurd (cc same)) (no_floor p) (λ request same own. absurd (cc same)) of.vault);
       cached = asked_ready cluster f round.era.acc after.log made id era now.cache
           (λ to key ready has_it request e asked s same is. absurd (differs key ready has_it (asks_ride same is).0))
           (λ key ready has_it. ready_more cluster after.log (λ x stands. later stands)

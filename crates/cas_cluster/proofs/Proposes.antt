@@ -1,5 +1,5 @@
 -- A proposer with a quorum proposes lawfully, and what it read is the state from which its proposal goes on.
-use Rattle.std.proofs.Common.{◌≡◌, ◌<◌, ℕ, true, false, List, [], ◌∷◌, Option, Some, None, refl, sym, ap, subst, ◌∙◌, inl, inr}
+use Rattle.std.proofs.Common.{◌≡◌, ◌<◌, ◌≤◌, ℕ, suc, arith, true, false, List, [], ◌∷◌, Option, Some, None, refl, sym, ap, subst, ◌∙◌, inl, inr}
 use Rattle.std.specs.Prelude.{◌⊎◌, ◌==◌, ◌&&◌, not, Contains}
 use Rattle.cas_base.proofs.Bools.{and_left, and_right, both_true, or_left, or_right, if_false, not_both, not_tells, not_of_false, false_of_not}
 use Rattle.cas_ballot.specs.declared.ballot.Ballot.{Ballot}
@@ -23,13 +23,14 @@ use Rattle.cas_record.specs.declared.mark.Proposal.{Proposal}
 use Rattle.cas_record.specs.declared.entry.Entry.{Entry}
 use Rattle.cas_record.specs.Chain.{is_key, chain_of, link_of, has_calls, has_opening, opens_at}
 use Rattle.cas_record.specs.Replay.{replay_from, opening_state}
-use Rattle.cas_record.specs.Happening.{Happening, Promised, Drew, marks_of}
-use Rattle.cas_record.specs.Lawful.{Cluster, Lawful, IsIn, IsMade, Granted, MayPropose}
+use Rattle.cas_record.specs.Happening.{Happening, Promised, Entered, Drew, marks_of}
+use Rattle.cas_record.specs.Lawful.{Cluster, Lawful, IsIn, AllEntered, IsMade, Granted, MayPropose}
 use Rattle.cas_record.specs.Legal.{HasProposal, HasFloor}
 use Rattle.cas_record.specs.Orderly.{Orderly, MayDraw, WasRead, nothing_read, read_from}
 use Rattle.cas_record.specs.Places.{Stands, At, here, past}
 use Rattle.cas_record.proofs.ChainLemmas.{chain_zero, OpensAt}
 use Rattle.cas_record.proofs.LogLemmas.{ProposedAt, proposed_at, not_opened}
+use Rattle.cas_record.proofs.Eras.{le_or_lt, entered_of_mark, entered_by}
 use Rattle.cas_record.proofs.Grants.{granted_promise}
 use Rattle.cas_record.proofs.LinkLemmas.{link_read}
 use Rattle.cas_record.proofs.Orders.{reason}
@@ -38,8 +39,9 @@ use Rattle.cas_record.proofs.Tests.{nat_same, nat_is, key_same, key_refl, ballot
 use Rattle.cas_cluster.specs.Acceptors.{IsAcceptedState, IsEmptyAt}
 use Rattle.cas_cluster.specs.Laws.{IsStateRead, ProposersProposeLawfully, ProposersCountLawfully}
 use Rattle.cas_cluster.specs.Proposers.{AreRepliesTrue, IsOpenRound, AreFloorsClear, state_read}
+use Rattle.cas_cluster.specs.Protocol.{IsFloorClear}
 use Rattle.cas_cluster.proofs.Answered.{made_not_zero}
-use Rattle.cas_cluster.proofs.Proposing.{promise_told, acceptance_told, HasPromised, promise_heard, vote_heard}
+use Rattle.cas_cluster.proofs.Proposing.{promise_told, acceptance_told, HasPromised, member_heard, promise_heard, vote_heard}
 
 -- ---- who promised
 -- the reply by which an acceptor promised
@@ -221,6 +223,38 @@ state_is_read cluster log p replies read lawful orderly round true_ by is_read r
         → state_read r ≡ replay_from (opening_state p.key (marks_of log)) (chain_of p.key (link_of (marks_of log) p) (marks_of log))
     at_floor None made zero empty = empty.1.state_is
     at_floor (Some a) made zero empty = absurd (made_not_zero cluster log lawful made zero)
+
+-- ---- who is clear of floors
+-- who promised is a member of the era of the ballot
+member_promised : (cluster : Cluster) {log : List Happening} (p : Proposal) (replies : List Reply) → Orderly cluster log → Stands (Drew p.ballot p.key p.era) log → AreRepliesTrue log replies
+    → (acceptor : ℕ) → has_member (promisers_of p.ballot replies) acceptor ≡ true → has_member (cluster.members p.era) acceptor ≡ true
+member_promised cluster p replies orderly drawn true_ acceptor member =
+    let who = promiser replies p.ballot acceptor member in
+    subst (λ (a : ℕ). has_member (cluster.members p.era) a ≡ true) who.from
+    (member_heard cluster p.key p.ballot p.era who.reply orderly drawn (true_ who.reply (contains who.reply replies who.stands)) who.is_heard)
+
+-- an era that all are in comes after that of no proposer
+pub all_in_low : (cluster : Cluster) (log : List Happening) (all proposer era : ℕ) → Lawful cluster log → proposer ≤ cluster.greatest → (Stands (Entered proposer (suc era)) log → ⊥)
+    → (all ≡ 0) ⊎ AllEntered cluster all (marks_of log) → all ≤ era
+all_in_low cluster log all proposer era lawful known not_beyond (inl first) = omega (arith, first)
+all_in_low cluster log all proposer era lawful known not_beyond (inr all_in) = elim (le_or_lt all era) [
+  | inl low ↦ low
+  | inr beyond ↦ absurd (not_beyond (entered_by cluster all (suc era) (omega arith) lawful (entered_of_mark cluster log lawful (all_in proposer known)) (omega arith) beyond))
+]
+
+-- a quorum of a round is clear of the floors that members are clear of
+pub clear_of_floors : (cluster : Cluster) (log : List Happening) (p : Proposal) (replies : List Reply) → Lawful cluster log → Orderly cluster log → IsOpenRound log p.caller p.call p.key p.ballot p.era
+    → AreRepliesTrue log replies → p.prepared_by ≡ promisers_of p.ballot replies → ((floor : Ballot) → HasFloor p.key floor (marks_of log) → IsEmptyAt (marks_of log) p.key floor)
+    → ((floor : Ballot) → HasFloor p.key floor (marks_of log) → IsFloorClear cluster log p.key floor) → AreFloorsClear log p.key p.ballot p.prepared_by
+clear_of_floors cluster log p replies lawful orderly round true_ by empty clear =
+    let may : MayDraw cluster round.drawn.older p.ballot p.key p.era = reason cluster orderly round.drawn.at in
+    record {
+      empty = empty;
+      clear = λ acceptor floor member has less.
+          let of = clear floor has in
+          of.clear p.era acceptor (all_in_low cluster log of.era p.ballot.proposer p.era lawful may.known round.not_beyond of.all_in)
+          (member_promised cluster p replies orderly round.drawn true_ acceptor (sym (ap (λ ids. has_member ids acceptor) by) ∙ member));
+    }
 
 pub propose : ProposersProposeLawfully
 propose cluster log p replies read lawful orderly round true_ by quorum is_read read_is floors = (

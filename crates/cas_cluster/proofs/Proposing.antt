@@ -4,6 +4,7 @@ use Rattle.std.specs.Ordering.{is_eq}
 use Rattle.cas_base.proofs.Bools.{and_left, and_right}
 use Rattle.cas_ballot.specs.declared.ballot.Ballot.{Ballot}
 use Rattle.cas_ballot.specs.Ballot.{ballot_cmp, BallotAtMost}
+use Rattle.cas_ballot.specs.Members.{has_member}
 use Rattle.cas_change.specs.declared.state.State.{State}
 use Rattle.cas_slot.specs.declared.message.Ask.{Ask}
 use Rattle.cas_slot.specs.declared.message.Ask.TheVariants as ask
@@ -73,9 +74,15 @@ same_key : (cluster : Cluster) {log : List Happening} {request : Request} {key k
     → (asked : Stands (Asked request) log) → MayAskFor cluster asked.older request k ballot → k ≡ key
 same_key cluster orderly drawn asked may = (drawn_once cluster orderly (stands_deeper may.drawn asked.at) drawn).0
 
-pub promise_heard : (cluster : Cluster) {log : List Happening} (key : List ℕ) (ballot : Ballot) (era : ℕ) (reply : Reply) (accepted : Option Accepted) → Orderly cluster log → Stands (Drew ballot key era) log
-    → IsReplyTrue log reply → is_heard is_prepare ballot reply ≡ true → reply.tell ≡ tell.Promised accepted → HasPromised log key ballot reply accepted
-promise_heard cluster {log} key ballot era reply accepted orderly drawn true_ heard_ tells =
+-- the request to which a reply of the prepare phase is the answer
+record WasPrepareAsked (cluster : Cluster) (log : List Happening) (request : Request) (ballot : Ballot) : Type 0 where
+  key : List ℕ
+  is : request.ask ≡ ask.Prepare key ballot
+  asked : Stands (Asked request) log
+  may : MayAskFor cluster asked.older request key ballot
+
+was_prepare_asked : (cluster : Cluster) {log : List Happening} (ballot : Ballot) (reply : Reply) → Orderly cluster log → (true_ : IsReplyTrue log reply) → is_heard is_prepare ballot reply ≡ true → WasPrepareAsked cluster log true_.request ballot
+was_prepare_asked cluster {log} ballot reply orderly true_ heard_ =
     let request = true_.request in
     let may : MayReply true_.replied.older request reply = reason cluster orderly true_.replied.at in
     let asked : Stands (Asked request) log = stands_deeper may.asked true_.replied.at in
@@ -83,8 +90,24 @@ promise_heard cluster {log} key ballot era reply accepted orderly drawn true_ he
     let is_phase : is_prepare (phase_of request.ask) ≡ true = ap is_prepare (sym may.phase) ∙ and_left (is_prepare reply.phase) (is_eq (ballot_cmp reply.tag ballot)) heard_ in
     let is_tag : tag_of request.ask ≡ ballot = sym may.tag ∙ ballot_same {a = reply.tag} {b = ballot} (and_right (is_prepare reply.phase) (is_eq (ballot_cmp reply.tag ballot)) heard_) in
     let prepare = prepare_asked request.ask ballot is_phase is_tag in
-    let ask_for : MayAskFor cluster asked.older request prepare.key ballot = subst (MayAsk cluster asked.older request) prepare.is may_ask in
-    let key_is : prepare.key ≡ key = same_key cluster orderly drawn asked ask_for in
+    record { key = prepare.key; is = prepare.is; asked = asked; may = subst (MayAsk cluster asked.older request) prepare.is may_ask }
+
+-- who made the reply is a member of the era in which the ballot was drawn
+pub member_heard : (cluster : Cluster) {log : List Happening} (key : List ℕ) (ballot : Ballot) (era : ℕ) (reply : Reply) → Orderly cluster log → Stands (Drew ballot key era) log
+    → IsReplyTrue log reply → is_heard is_prepare ballot reply ≡ true → has_member (cluster.members era) reply.from ≡ true
+member_heard cluster {log} key ballot era reply orderly drawn true_ heard_ =
+    let may : MayReply true_.replied.older true_.request reply = reason cluster orderly true_.replied.at in
+    let prepare = was_prepare_asked cluster ballot reply orderly true_ heard_ in
+    let same_era : prepare.may.era ≡ era = (drawn_once cluster orderly (stands_deeper prepare.may.drawn prepare.asked.at) drawn).1 in
+    subst (λ (e : ℕ). has_member (cluster.members e) reply.from ≡ true) same_era (subst (λ (a : ℕ). has_member (cluster.members prepare.may.era) a ≡ true) (sym may.from) prepare.may.member)
+
+pub promise_heard : (cluster : Cluster) {log : List Happening} (key : List ℕ) (ballot : Ballot) (era : ℕ) (reply : Reply) (accepted : Option Accepted) → Orderly cluster log → Stands (Drew ballot key era) log
+    → IsReplyTrue log reply → is_heard is_prepare ballot reply ≡ true → reply.tell ≡ tell.Promised accepted → HasPromised log key ballot reply accepted
+promise_heard cluster {log} key ballot era reply accepted orderly drawn true_ heard_ tells =
+    let request = true_.request in
+    let may : MayReply true_.replied.older request reply = reason cluster orderly true_.replied.at in
+    let prepare = was_prepare_asked cluster ballot reply orderly true_ heard_ in
+    let key_is : prepare.key ≡ key = same_key cluster orderly drawn prepare.asked prepare.may in
     let question : request.ask ≡ ask.Prepare key ballot = prepare.is ∙ ap (λ k. ask.Prepare k ballot) key_is in
     let told : IsTold true_.replied.older request.to (ask.Prepare key ballot) (tell.Promised accepted) = subst (λ q. IsTold true_.replied.older request.to q (tell.Promised accepted)) question (subst (IsTold true_.replied.older request.to request.ask) tells may.told) in
     record {

@@ -13,7 +13,7 @@ use Rattle.cas_change.specs.declared.state.State.{State}
 use Rattle.cas_members.specs.Plan.{eras_in, next_of}
 use Rattle.cas_quorum.specs.declared.era.Era.{Era}
 use Rattle.cas_quorum.specs.Era.{majority_era}
-use Rattle.cas_vault.specs.Vault.{kept_of, IsPast}
+use Rattle.cas_vault.specs.Vault.{kept_of}
 use Rattle.cas_round.proofs.Lists.{contains}
 use Rattle.cas_record.specs.declared.answer.Answer.{Answer}
 use Rattle.cas_record.specs.declared.answer.Answer.TheVariants as answer
@@ -31,7 +31,7 @@ use Rattle.cas_cluster.specs.Listed.{IsPlanKnown, IsPlanTrue}
 use Rattle.cas_cluster.specs.StepCalls as calls
 use Rattle.cas_cluster.specs.StepCalls.{IsRescan, Rescans, rescanned_by, one_more}
 use Rattle.cas_cluster.specs.Course.{Entry, Course, IsNoEra, course_of, entries_in, Follows, entering, next_era, shown_era, era_shown, WorksIn, not_yet, entered, IsUnderWay, IsCourse, IsCourseOf}
-use Rattle.cas_cluster.specs.History.{IsLogged, IsInEra, inside, torn, IsRemembered}
+use Rattle.cas_cluster.specs.History.{IsLogged, IsInEra, inside, torn, IsFollowed, IsRemembered}
 use Rattle.cas_cluster.specs.Parties.{AreMessagesTrue, IsWithin, IsEraOf, AreReady, HaveOneEach, IsDeskTrue, IsDoneTrue, IsToldTrue, IsCallTrue, IsCallerTrue}
 use Rattle.cas_cluster.specs.Protocol.{Made, GlobalState, is_done, IsListed, IsLeaving, MarksEra, with_mark}
 use Rattle.cas_cluster.specs.Step as step
@@ -48,10 +48,12 @@ use Rattle.cas_cluster.proofs.Around.{Whole, whole_of, logged, Around, around, a
 use Rattle.cas_cluster.proofs.CouncilSteps as council
 use Rattle.cas_cluster.proofs.CourseSteps.{welcome_course, enters_course}
 use Rattle.cas_cluster.proofs.Courses.{AtSettle, course, at_settle, settle_enters, path_settles, course_relisted, course_stepped, follows_sized, leads, era_set, era_kept, stays_on, course_finished, course_entered}
+use Rattle.cas_cluster.proofs.Draws.{Lasts, lasts}
 use Rattle.cas_cluster.proofs.EndSteps.{IsQuiet, quiet_true}
 use Rattle.cas_cluster.proofs.Events.{keeps as happens}
 use Rattle.cas_cluster.proofs.FrameSteps.{marked}
-use Rattle.cas_cluster.proofs.InEras.{era_kept as kept_in, crash_kept, left_in, AreIn, end_in, ask_in, gather_in, desks_in, one_put, one_changed, up_kept, down_in}
+use Rattle.cas_cluster.specs.Collected.{AreRenewed}
+use Rattle.cas_cluster.proofs.InEras.{IsPlain, era_kept as kept_in, crash_kept, left_in, AreIn, end_in, ask_in, gather_in, desks_in, one_put, one_changed, up_kept, down_in}
 use Rattle.cas_cluster.proofs.Leaving.{crashed_logged, vault_past, closing_move, left_whole, left_marks, down_logged}
 use Rattle.cas_cluster.proofs.OpeningPlans.{plan_opened}
 use Rattle.cas_cluster.proofs.OnCourse.{Leads, on_course, left_course, down_course, told_course, end_course}
@@ -59,14 +61,14 @@ use Rattle.cas_cluster.proofs.Others.{LeavesCalls, plan_still, messages_still, c
 use Rattle.cas_cluster.proofs.Listings.{listing_on, listing_rescanned, rescan_of, known_listed}
 use Rattle.cas_cluster.proofs.Places.{contains_back, same_or_not, own_set, other_set, but_set, at_one, contains_none, some_is}
 use Rattle.cas_cluster.proofs.PlanSteps.{entry_there, entry_stands, none_after, quiet_entered, entered_around}
+use Rattle.cas_cluster.proofs.Renewals.{renews_on, left_renewed, crash_above}
 use Rattle.cas_cluster.proofs.RoundSteps.{none_waits}
-use Rattle.cas_cluster.proofs.Steps.{keeps_log}
-use Rattle.cas_cluster.proofs.Steps.{ends as ends_logged}
+use Rattle.cas_cluster.proofs.Steps.{keeps_log, ends as ends_logged}
 
 -- ---- a vault that shows something else
 -- the desk is the same but for that
-revaulted : {S V : Type 0} (m : Meaning S V) (cluster : Cluster) (global : GlobalState) (old : View S V) (id : ℕ) (desk now : DeskView V) → IsAt old.desks id desk → now ≡ record desk { vault = now.vault; down = now.down }
-    → ((n : ℕ) → IsPast m.disks.may_leave n desk.vault → IsPast m.disks.may_leave n now.vault) → Whole m cluster global old → Whole m cluster global (with_desk old id now)
+pub revaulted : {S V : Type 0} (m : Meaning S V) (cluster : Cluster) (global : GlobalState) (old : View S V) (id : ℕ) (desk now : DeskView V) → IsAt old.desks id desk → now ≡ record desk { vault = now.vault; down = now.down }
+    → Lasts m.disks desk.vault now.vault → Whole m cluster global old → Whole m cluster global (with_desk old id now)
 revaulted {S} {V} m cluster global old id desk now at is_now still whole =
     settles m cluster global old (with_desk old id now) id (around m cluster global old id whole) (leaves_desk old id now _ (λ p other. refl))
     (record {
@@ -111,7 +113,7 @@ shown_same of id low is = by_plan of.plan is.under_way
             by_number false same = refl
 
 -- the same eras in another place of the view
-same_course : {S V : Type 0} (m : Meaning S V) {cluster : Cluster} (old new : View S V) → course_of new ≡ course_of old → IsLogged m cluster new → IsCourseOf cluster (course_of old) → AreIn m (course_of old) new.desks → IsRemembered m new
+pub same_course : {S V : Type 0} (m : Meaning S V) {cluster : Cluster} (old new : View S V) → course_of new ≡ course_of old → IsLogged m cluster new → IsCourseOf cluster (course_of old) → AreIn m (course_of old) new.desks → IsFollowed m new
 same_course m {cluster} old new same log on desks = record {
   cluster = cluster;
   logged = log;
@@ -121,17 +123,17 @@ same_course m {cluster} old new same log on desks = record {
 
 -- ---- a proposer is up again
 -- its vault is in its era, and shows that
-restarts_inside : {S V : Type 0} (m : Meaning S V) (old : View S V) (id : ℕ) (desk now : DeskView V) → (is : IsRemembered m old) → m.disks.tells → IsAt old.desks id desk → Restarts m.disks desk now
-    → IsInEra m (course_of old) id now → IsRemembered m (with_desk old id now)
+restarts_inside : {S V : Type 0} (m : Meaning S V) (old : View S V) (id : ℕ) (desk now : DeskView V) → (is : IsFollowed m old) → m.disks.tells → IsAt old.desks id desk → Restarts m.disks desk now
+    → IsInEra m (course_of old) id now → IsFollowed m (with_desk old id now)
 restarts_inside m old id desk now is disks at by inside_it =
     same_course m old (with_desk old id now) refl
-    (logged m is.cluster is.logged.global (with_desk old id now) (revaulted m is.cluster is.logged.global old id desk now at by.desk (by.still_past disks) (whole_of m old is.logged)) is.logged.agrees.marks)
+    (logged m is.cluster is.logged.global (with_desk old id now) (revaulted m is.cluster is.logged.global old id desk now at by.desk (record { still_past = by.still_past disks; ages = by.ages disks }) (whole_of m old is.logged)) is.logged.agrees.marks)
     is.course (one_put m (course_of old) _ _ id _ _ refl at inside_it is.in_eras)
 
 -- ---- a proposer goes on to the next era
 -- what is known where one is in the era that all entered last, and the next is to be entered
 record GoesNext {S V : Type 0} (m : Meaning S V) (old : View S V) (id : ℕ) (plan : PlanView) (next : Era) : Type 0 where
-  is : IsRemembered m old
+  is : IsFollowed m old
   is_plan : old.council.plan ≡ Some plan
   is_next : entering plan.progress.left ≡ Some next
   desk : DeskView V
@@ -206,7 +208,7 @@ entry_around m old id plan next at in_base =
 
 -- without promise and round it is in that era
 entry_quiet : {S V : Type 0} (m : Meaning S V) (old : View S V) (id : ℕ) (plan : PlanView) (next : Era) → (at : GoesNext m old id plan next) → era_at old id ≡ plan.progress.era → (now : DeskView V) → now.id ≡ at.desk.id → now.cache ≡ [] → now.round ≡ None
-    → ((n : ℕ) → IsPast m.disks.may_leave n at.desk.vault → IsPast m.disks.may_leave n now.vault) → IsQuiet m at.is.cluster (after_entry m old id plan next at).log (after_entry m old id plan next at).made id (era_in (slice_set old.eras id next) id).number now
+    → Lasts m.disks at.desk.vault now.vault → IsQuiet m at.is.cluster (after_entry m old id plan next at).log (after_entry m old id plan next at).made id (era_in (slice_set old.eras id next) id).number now
 entry_quiet m old id plan next at in_base now same_id none idle still =
     let of = at.is.logged.agrees.desks id at.desk at.caller at.at_desk at.at_caller in
     let number = (follows_next m old id plan next at).number ∙ sym (ap (λ (e : Era). suc e.number) in_base) in
@@ -226,7 +228,7 @@ still_in {S} {V} m of eras id desk same (torn plan next is_plan is_next in_base 
 -- ---- a proposer is up again in the next era
 restarts_entered : {S V : Type 0} (m : Meaning S V) (old : View S V) (id : ℕ) (plan : PlanView) (next : Era) (now : DeskView V) → (at : GoesNext m old id plan next) → m.disks.tells
     → era_at old id ≡ plan.progress.era → at.desk.cache ≡ [] → at.desk.round ≡ None → Restarts m.disks at.desk now → IsWithin m.disks next.number next.number now.vault
-    → IsRemembered m (record (with_desk old id now) { eras = slice_set old.eras id next })
+    → IsFollowed m (record (with_desk old id now) { eras = slice_set old.eras id next })
 restarts_entered {S} {V} m old id plan next now at disks in_base none idle by within = record {
   cluster = at.is.cluster;
   logged = logged m at.is.cluster after new whole at.is.logged.agrees.marks;
@@ -254,7 +256,7 @@ restarts_entered {S} {V} m old id plan next now at disks in_base none idle by wi
           subst (λ (x : DeskView V). IsDeskTrue m at.is.cluster after.log after.made (era_at new id).number id c (queue_at old.flow id).messages x) (sym (own_set old.desks id now d at_d))
           (quiet_true m at.is.cluster after.log after.made id (era_at new id).number c (queue_at old.flow id).messages now
           (none_waits at.is.cluster at.is.logged.global.log at.is.logged.global.made id (era_at old id).number c (queue_at old.flow id).messages at.desk.round idle (at.is.logged.agrees.desks id at.desk c at.at_desk at_c).round)
-          (entry_quiet m old id plan next at in_base now (ap (λ (x : DeskView V). x.id) by.desk) (ap (λ (x : DeskView V). x.cache) by.desk ∙ none) (ap (λ (x : DeskView V). x.round) by.desk ∙ idle) (by.still_past disks)));
+          (entry_quiet m old id plan next at in_base now (ap (λ (x : DeskView V). x.id) by.desk) (ap (λ (x : DeskView V). x.cache) by.desk ∙ none) (ap (λ (x : DeskView V). x.round) by.desk ∙ idle) (record { still_past = by.still_past disks; ages = by.ages disks })));
       caller = λ c at_c. caller_still (Entered id next.number) at.is.logged.global.log at.is.logged.global.made c (entered_leaves id next.number id) (log_whole.parties.callers id tt c at_c);
       own = messages_still (Entered id next.number) at.is.logged.global.log (queue_at old.flow id).messages (log_whole.parties.own id);
       late = messages_still (Entered id next.number) at.is.logged.global.log old.flow.late log_whole.parties.late;
@@ -271,28 +273,28 @@ restarts_entered {S} {V} m old id plan next now at disks in_base none idle by wi
         (was.0, still_in m (course_of old) (slice_set old.eras id next) p d (era_kept old.eras id p next other) was.1)
 
 -- it is up again, in the era that its vault shows
-shown_up : {S V : Type 0} (m : Meaning S V) (old : View S V) (id : ℕ) (desk now : DeskView V) (caller : CallerView) → IsRemembered m old → m.disks.tells → IsAt old.desks id desk → IsAt old.callers id caller → Restarts m.disks desk now → now.down ≡ false
-    → IsRemembered m (record (with_desk old id now) { eras = slice_set old.eras id (era_shown old.council.plan (era_at old id) (kept_of now.vault).era) })
+shown_up : {S V : Type 0} (m : Meaning S V) (old : View S V) (id : ℕ) (desk now : DeskView V) (caller : CallerView) → IsFollowed m old → m.disks.tells → IsAt old.desks id desk → IsAt old.callers id caller → Restarts m.disks desk now → now.down ≡ false
+    → IsFollowed m (record (with_desk old id now) { eras = slice_set old.eras id (era_shown old.council.plan (era_at old id) (kept_of now.vault).era) })
 shown_up {S} {V} m old id desk now caller is disks at at_c by up = by_era (is.in_eras id desk at).1
   where
     low : id ≤ old.greatest
     low = (is.in_eras id desk at).0
 
     -- it shows its era
-    same : IsWithin m.disks (era_at old id).number (era_at old id).number now.vault → IsRemembered m (record (with_desk old id now) { eras = slice_set old.eras id (era_shown old.council.plan (era_at old id) (kept_of now.vault).era) })
-    same within = subst (λ (l : List Era). IsRemembered m (record (with_desk old id now) { eras = l }))
+    same : IsWithin m.disks (era_at old id).number (era_at old id).number now.vault → IsFollowed m (record (with_desk old id now) { eras = slice_set old.eras id (era_shown old.council.plan (era_at old id) (kept_of now.vault).era) })
+    same within = subst (λ (l : List Era). IsFollowed m (record (with_desk old id now) { eras = l }))
         (sym (ap (λ (n : ℕ). slice_set old.eras id (era_shown old.council.plan (era_at old id) n)) within.kept ∙ ap (λ (e : Era). slice_set old.eras id e) (shown_same (course_of old) id low is.course.is_course) ∙ set-get_or old.eras id (majority_era 0 [])))
         (restarts_inside m old id desk now is disks at by (inside within))
 
     -- or the next one
     goes : (plan : PlanView) (next : Era) → old.council.plan ≡ Some plan → next_era old.council.plan ≡ Some next → era_at old id ≡ plan.progress.era → desk.cache ≡ [] → desk.round ≡ None → IsWithin m.disks next.number next.number now.vault
-        → IsRemembered m (record (with_desk old id now) { eras = slice_set old.eras id (era_shown old.council.plan (era_at old id) (kept_of now.vault).era) })
-    goes plan next is_plan is_next in_base none idle within = subst (λ (e : Era). IsRemembered m (record (with_desk old id now) { eras = slice_set old.eras id e }))
+        → IsFollowed m (record (with_desk old id now) { eras = slice_set old.eras id (era_shown old.council.plan (era_at old id) (kept_of now.vault).era) })
+    goes plan next is_plan is_next in_base none idle within = subst (λ (e : Era). IsFollowed m (record (with_desk old id now) { eras = slice_set old.eras id e }))
         (sym (ap (λ (n : ℕ). era_shown old.council.plan (era_at old id) n) within.kept ∙ ap (λ (o : Option Era). shown_era o (era_at old id) next.number) is_next ∙ if_true (next.number == next.number) next (era_at old id) (nat_is refl)))
         (restarts_entered m old id plan next now
         (record { is = is; is_plan = is_plan; is_next = ap next_era (sym is_plan) ∙ is_next; desk = desk; caller = caller; at_desk = at; at_caller = at_c }) disks in_base none idle by within)
 
-    by_era : IsInEra m (course_of old) id desk → IsRemembered m (record (with_desk old id now) { eras = slice_set old.eras id (era_shown old.council.plan (era_at old id) (kept_of now.vault).era) })
+    by_era : IsInEra m (course_of old) id desk → IsFollowed m (record (with_desk old id now) { eras = slice_set old.eras id (era_shown old.council.plan (era_at old id) (kept_of now.vault).era) })
     by_era (inside within) = same (one_of (by.shows up disks (era_at old id).number (era_at old id).number within))
     by_era (torn plan next is_plan is_next in_base down none idle within) = elim (by.shows up disks (era_at old id).number next.number within) [
       | inl stays ↦ same stays
@@ -300,7 +302,7 @@ shown_up {S} {V} m old id desk now caller is disks at at_c by up = by_era (is.in
     ]
 
 -- it stays down
-stays_down : {S V : Type 0} (m : Meaning S V) (old : View S V) (id : ℕ) (desk now : DeskView V) → IsRemembered m old → m.disks.tells → IsAt old.desks id desk → Restarts m.disks desk now → now.down ≡ true → IsRemembered m (with_desk old id now)
+stays_down : {S V : Type 0} (m : Meaning S V) (old : View S V) (id : ℕ) (desk now : DeskView V) → IsFollowed m old → m.disks.tells → IsAt old.desks id desk → Restarts m.disks desk now → now.down ≡ true → IsFollowed m (with_desk old id now)
 stays_down {S} {V} m old id desk now is disks at by down = restarts_inside m old id desk now is disks at by (by_era (is.in_eras id desk at).1)
   where
     by_era : IsInEra m (course_of old) id desk → IsInEra m (course_of old) id now
@@ -308,11 +310,11 @@ stays_down {S} {V} m old id desk now is disks at by down = restarts_inside m old
     by_era (torn plan next is_plan is_next in_base was_down none idle within) =
         torn plan next is_plan is_next in_base down (ap (λ (d : DeskView V). d.cache) by.desk ∙ none) (ap (λ (d : DeskView V). d.round) by.desk ∙ idle) (by.stays down disks _ _ within)
 
-restarts : {S V : Type 0} (m : Meaning S V) (old : View S V) (id : ℕ) (new : View S V) → m.disks.tells → IsRemembered m old → StepRestartProposer m old id new → IsRemembered m new
-restarts m old id new disks is (step.was_up_already desk at up view) = subst (IsRemembered m) (sym view) is
-restarts {S} {V} m old id new disks is (step.restarts desk now caller at at_c down by view) = subst (IsRemembered m) (sym view) (by_down now.down refl)
+restarts : {S V : Type 0} (m : Meaning S V) (old : View S V) (id : ℕ) (new : View S V) → m.disks.tells → IsFollowed m old → StepRestartProposer m old id new → IsFollowed m new
+restarts m old id new disks is (step.was_up_already desk at up view) = subst (IsFollowed m) (sym view) is
+restarts {S} {V} m old id new disks is (step.restarts desk now caller at at_c down by view) = subst (IsFollowed m) (sym view) (by_down now.down refl)
   where
-    by_down : (b : Bool) → now.down ≡ b → IsRemembered m (record (with_desk old id now) { eras = if b then old.eras else slice_set old.eras id (era_shown old.council.plan (era_at old id) (kept_of now.vault).era) })
+    by_down : (b : Bool) → now.down ≡ b → IsFollowed m (record (with_desk old id now) { eras = if b then old.eras else slice_set old.eras id (era_shown old.council.plan (era_at old id) (kept_of now.vault).era) })
     by_down true stays = stays_down m old id desk now is disks at by stays
     by_down false up = shown_up m old id desk now caller is disks at at_c by up
 
@@ -345,7 +347,7 @@ enters_log {S} {V} m old id plan next at disks (not_yet few in_base) = record {
   quiet = λ now desk at_d enters.
       let same = at_one old.desks id at_d at.at_desk in
       entry_quiet m old id plan next at in_base now (ap (λ (x : DeskView V). x.id) enters.desk ∙ ap (λ (x : DeskView V). x.id) same) (ap (λ (x : DeskView V). x.cache) enters.desk) (ap (λ (x : DeskView V). x.round) enters.desk)
-      (subst (λ (x : DeskView V). (n : ℕ) → IsPast m.disks.may_leave n x.vault → IsPast m.disks.may_leave n now.vault) same (enters.still_past disks));
+      (subst (λ (x : DeskView V). Lasts m.disks x.vault now.vault) same (record { still_past = enters.still_past disks; ages = enters.ages disks }));
   entered = record { older = at.is.logged.global.log; at = here };
   same_marks = refl;
 }
@@ -363,7 +365,7 @@ enters_log {S} {V} m old id plan next at disks (entered there) = record {
       subst (λ (e : Era). IsQuiet m at.is.cluster at.is.logged.global.log at.is.logged.global.made id e.number now) (in_next ∙ sym is_set) (record {
         same_id = ap (λ (x : DeskView V). x.id) enters.desk ∙ of.same_id;
         known = of.known;
-        vault = vault_past m at.is.logged.global.log id (era_at old id).number (enters.still_past disks) of.vault;
+        vault = vault_past m at.is.logged.global.log id (era_at old id).number (record { still_past = enters.still_past disks; ages = enters.ages disks }) of.vault;
         cached = subst (AreReady at.is.cluster at.is.logged.global.log at.is.logged.global.made id (era_at old id).number) (sym (ap (λ (x : DeskView V). x.cache) enters.desk)) (λ key ready h. absurd (contains_none h));
         one_each = subst HaveOneEach (sym (ap (λ (x : DeskView V). x.cache) enters.desk)) tt;
         none_open = ap (λ (x : DeskView V). x.round) enters.desk;
@@ -399,6 +401,8 @@ enters_logged {S} {V} m old plan next middle at disks leaves =
       marked_whole.parties.council.0,
       plan_entered at.is.cluster marked_global.log plan next (plan.entered == middle.greatest) (path_settles next (rest_of plan.progress.left) (leads plan.progress.era next plan.progress.left at.is_next (planned m old plan.entered plan next at).is_course.under_way.start).path)
           (subst (IsPlanTrue at.is.cluster marked_global.log) (ap (λ (c : Course). c.plan) (left_course (EntersEra m.disks next) (closed_by (answer.Moved next.number) (cause.Moved next.number)) old middle plan.entered leaves) ∙ at.is_plan) marked_whole.parties.council.1),
+      marked_whole.parties.council.2,
+      marked_whole.parties.council.3,
     ) marked_whole)
     (at.is.logged.agrees.marks ∙ ap (λ (l : List Mark). reverse l) (sym (left_marks (EntersEra m.disks next) (closed_by (answer.Moved next.number) (cause.Moved next.number)) old middle plan.entered leaves)))
     (ap (λ (l : List Mark). EraEntered plan.entered next.number ∷ l) log.same_marks)
@@ -484,7 +488,7 @@ torn_still {S} {V} m old plan next at p d other at_d = by_era (at.is.in_eras p d
         ]
 
 enters_remembered : {S V : Type 0} (m : Meaning S V) (old : View S V) (plan : PlanView) (next : Era) (middle : View S V) → (at : GoesNext m old plan.entered plan next) → m.disks.tells
-    → LeavesRound (EntersEra m.disks next) (closed_by (answer.Moved next.number) (cause.Moved next.number)) old plan.entered middle → IsRemembered m (entered_view middle plan next)
+    → LeavesRound (EntersEra m.disks next) (closed_by (answer.Moved next.number) (cause.Moved next.number)) old plan.entered middle → IsFollowed m (entered_view middle plan next)
 enters_remembered {S} {V} m old plan next middle at disks leaves = record {
   cluster = at.is.cluster;
   logged = enters_logged m old plan next middle at disks leaves;
@@ -525,14 +529,14 @@ enters_remembered {S} {V} m old plan next middle at disks leaves = record {
     by_place p d (inr other) = ((at.is.in_eras p d other.1).0, torn_still m old plan next at p d other.0 other.1)
 
 -- ---- the operator is told something
-pub tells_remembered : {S V : Type 0} (m : Meaning S V) (old : View S V) (answer : OpAnswer) → IsRemembered m old → IsRemembered m (told_view old answer)
-tells_remembered m old answer is = same_course m old (told_view old answer) refl (council.counsels_by m old _ refl is.logged is.logged.agrees.council.1) is.course is.in_eras
+pub tells_remembered : {S V : Type 0} (m : Meaning S V) (old : View S V) (answer : OpAnswer) → IsFollowed m old → IsFollowed m (told_view old answer)
+tells_remembered m old answer is = same_course m old (told_view old answer) refl (council.counsels_by m old _ refl is.logged is.logged.agrees.council.1 is.logged.agrees.council.2 is.logged.agrees.council.3) is.course is.in_eras
 
 -- its vault failed
-fails_remembered : {S V : Type 0} (m : Meaning S V) (old : View S V) (plan : PlanView) (next : Era) (middle : View S V) → (at : GoesNext m old plan.entered plan next) → m.disks.tells → GoesDown (FailsToEnter m.disks next) old plan.entered middle → IsRemembered m middle
+fails_remembered : {S V : Type 0} (m : Meaning S V) (old : View S V) (plan : PlanView) (next : Era) (middle : View S V) → (at : GoesNext m old plan.entered plan next) → m.disks.tells → GoesDown (FailsToEnter m.disks next) old plan.entered middle → IsFollowed m middle
 fails_remembered {S} {V} m old plan next middle at disks down =
     same_course m old middle (down_course (FailsToEnter m.disks next) old middle plan.entered down)
-    (down_logged m old plan.entered (FailsToEnter m.disks next) middle (λ desk now fails. (fails.crashed, fails.still_past disks)) at.is.logged down) at.is.course
+    (down_logged m old plan.entered (FailsToEnter m.disks next) middle (λ desk now fails. (fails.crashed, record { still_past = fails.still_past disks; ages = fails.ages disks })) at.is.logged down) at.is.course
     (down_in m (course_of old) (FailsToEnter m.disks next) old middle plan.entered (λ desk now at_d fails. in_era desk now fails (at.is.in_eras plan.entered desk at_d).1) down at.is.in_eras)
   where
     works : WorksIn plan plan.entered (era_at old plan.entered)
@@ -546,29 +550,29 @@ fails_remembered {S} {V} m old plan next middle at disks down =
         by_era (not_yet few in_base) left = torn plan next at.is_plan (ap next_era at.is_plan ∙ at.is_next) in_base (ap (λ (d : DeskView V). d.down) fails.crashed) (ap (λ (d : DeskView V). d.cache) fails.crashed) (ap (λ (d : DeskView V). d.round) fails.crashed) left
         by_era (entered there) left = inside (subst (λ (n : ℕ). IsWithin m.disks (era_at old plan.entered).number n now.vault) (ap (λ (e : Era). e.number) (some_is (sym at.is_next ∙ there))) left)
 
-enters : {S V : Type 0} (m : Meaning S V) (old : View S V) (id : ℕ) (new : View S V) → m.disks.tells → IsRemembered m old → StepEnterEra m old id new → IsRemembered m new
+enters : {S V : Type 0} (m : Meaning S V) (old : View S V) (id : ℕ) (new : View S V) → m.disks.tells → IsFollowed m old → StepEnterEra m old id new → IsFollowed m new
 enters {S} {V} m old id new disks is by = by_case by.enters
   where
     at : GoesNext m old by.plan.entered by.plan by.next
     at = record { is = is; is_plan = by.may.is_plan; is_next = ap next_era (sym by.may.is_plan) ∙ by.may.is_next; desk = by.desk; caller = by.may.caller; at_desk = by.may.at_desk; at_caller = by.may.at_caller }
 
-    by_case : EntersNext m old by.plan by.next by.desk new → IsRemembered m new
-    by_case (plans.enters middle room leaves view) = subst (IsRemembered m) (sym view) (enters_remembered m old by.plan by.next middle at disks leaves)
-    by_case (plans.is_full full view) = subst (IsRemembered m) (sym view) (tells_remembered m old _ is)
-    by_case (plans.is_down room down view) = subst (IsRemembered m) (sym view) (tells_remembered m old _ is)
-    by_case (plans.fails middle room down view) = subst (IsRemembered m) (sym view) (tells_remembered m middle _ (fails_remembered m old by.plan by.next middle at disks down))
-    by_case (plans.no_memory now room up kept now_is view) = subst (IsRemembered m) (sym view) (tells_remembered m (with_desk old by.plan.entered now) _
+    by_case : EntersNext m old by.plan by.next by.desk new → IsFollowed m new
+    by_case (plans.enters middle room leaves view) = subst (IsFollowed m) (sym view) (enters_remembered m old by.plan by.next middle at disks leaves)
+    by_case (plans.is_full full view) = subst (IsFollowed m) (sym view) (tells_remembered m old _ is)
+    by_case (plans.is_down room down view) = subst (IsFollowed m) (sym view) (tells_remembered m old _ is)
+    by_case (plans.fails middle room down view) = subst (IsFollowed m) (sym view) (tells_remembered m middle _ (fails_remembered m old by.plan by.next middle at disks down))
+    by_case (plans.no_memory now room up kept now_is view) = subst (IsFollowed m) (sym view) (tells_remembered m (with_desk old by.plan.entered now) _
         (same_course m old (with_desk old by.plan.entered now) refl
         (logged m is.cluster is.logged.global (with_desk old by.plan.entered now) (revaulted m is.cluster is.logged.global old by.plan.entered by.desk now by.may.at_desk
-        (now_is ∙ ap (λ (b : Bool). record by.desk { vault = now.vault; down = b }) (sym (ap (λ (d : DeskView V). d.down) now_is))) (kept.goes_on.still_past disks) (whole_of m old is.logged)) is.logged.agrees.marks)
+        (now_is ∙ ap (λ (b : Bool). record by.desk { vault = now.vault; down = b }) (sym (ap (λ (d : DeskView V). d.down) now_is))) (lasts disks kept.goes_on) (whole_of m old is.logged)) is.logged.agrees.marks)
         is.course (one_changed m (course_of old) _ _ by.plan.entered _ _ refl by.may.at_desk (up_kept m.disks disks up kept.goes_on) is.in_eras)))
 
 -- ---- a change of membership is at its end
-finishes : {S V : Type 0} (m : Meaning S V) (old : View S V) (asked : Asked) (answer : OpAnswer) (plan : PlanView) → IsRemembered m old → old.council.plan ≡ Some plan → plan.progress.left ≡ []
-    → IsRemembered m (with_council old (record old.council { plan = None }))
+finishes : {S V : Type 0} (m : Meaning S V) (old : View S V) (asked : Asked) (answer : OpAnswer) (plan : PlanView) → IsFollowed m old → old.council.plan ≡ Some plan → plan.progress.left ≡ []
+    → IsFollowed m (with_council old (record old.council { plan = None }))
 finishes {S} {V} m old asked answer plan is is_plan none = record {
   cluster = is.cluster;
-  logged = council.counsels_by m old _ refl is.logged tt;
+  logged = council.counsels_by m old _ refl is.logged tt is.logged.agrees.council.2 is.logged.agrees.council.3;
   course = record {
     is_course = course_finished old.greatest old.eras (entries_in old.marks) plan none on.is_course;
     later = λ era none_left. absurd (contains_none none_left);
@@ -597,7 +601,7 @@ record Carries {S V : Type 0} (m : Meaning S V) (cluster : Cluster) (old : View 
   in_era : (id : ℕ) (desk : DeskView V) → IsInEra m (course old.greatest old.eras (Some plan) (entries_in old.marks)) id desk → IsInEra m (course old.greatest old.eras (Some next) (entries_in old.marks)) id desk
 
 carried : {S V : Type 0} (m : Meaning S V) {cluster : Cluster} (old new : View S V) (plan next : PlanView) → old.council.plan ≡ Some plan → course_of new ≡ course old.greatest old.eras (Some next) (entries_in old.marks)
-    → Carries m cluster old plan next → IsLogged m cluster new → IsCourseOf cluster (course_of old) → AreIn m (course_of old) new.desks → IsRemembered m new
+    → Carries m cluster old plan next → IsLogged m cluster new → IsCourseOf cluster (course_of old) → AreIn m (course_of old) new.desks → IsFollowed m new
 carried {S} {V} m {cluster} old new plan next is_plan same by log on desks = record {
   cluster = cluster;
   logged = log;
@@ -648,13 +652,13 @@ lists_on {S} {V} m cluster old plan listing settles = by_test (listing.complete 
     by_test false = relists m cluster old plan plan.rescanned (Some listing)
 
 -- the call is over
-over : {S V : Type 0} (m : Meaning S V) (old : View S V) (asked : Asked) (answer : OpAnswer) → IsRemembered m old → IsRemembered m (told_over old asked answer)
+over : {S V : Type 0} (m : Meaning S V) (old : View S V) (asked : Asked) (answer : OpAnswer) → IsFollowed m old → IsFollowed m (told_over old asked answer)
 over {S} {V} m old asked answer is = by_plan old.council.plan refl
   where
     log : IsLogged m is.cluster (told_over old asked answer)
     log = council.ends_told m old asked answer is.logged
 
-    by_plan : (plan : Option PlanView) → old.council.plan ≡ plan → IsRemembered m (told_over old asked answer)
+    by_plan : (plan : Option PlanView) → old.council.plan ≡ plan → IsFollowed m (told_over old asked answer)
     by_plan None none = same_course m old (told_over old asked answer) (told_course old asked answer ∙ ap (λ (p : Option PlanView). course old.greatest old.eras (option_map without_partial p) (entries_in old.marks)) none
         ∙ sym (ap (λ (p : Option PlanView). course old.greatest old.eras p (entries_in old.marks)) none)) log is.course is.in_eras
     by_plan (Some plan) is_plan = carried m old (told_over old asked answer) plan (without_partial plan) is_plan
@@ -663,11 +667,11 @@ over {S} {V} m old asked answer is = by_plan old.council.plan refl
 
 -- ---- an era is settled
 -- what is so of the cluster then
-settling : {S V : Type 0} (m : Meaning S V) (old : View S V) (plan : PlanView) → IsRemembered m old → old.council.plan ≡ Some plan → next_of plan.progress.left ≡ Settle → AtSettle old.greatest old.eras plan (entries_in old.marks)
+settling : {S V : Type 0} (m : Meaning S V) (old : View S V) (plan : PlanView) → IsFollowed m old → old.council.plan ≡ Some plan → next_of plan.progress.left ≡ Settle → AtSettle old.greatest old.eras plan (entries_in old.marks)
 settling m old plan is is_plan settles = at_settle old.greatest old.eras plan (entries_in old.marks) settles (subst (λ (p : Option PlanView). IsCourse (course old.greatest old.eras p (entries_in old.marks))) is_plan is.course.is_course)
 
 -- all are asked for their next keys
-asks_keys : {S V : Type 0} (m : Meaning S V) (old : View S V) (places : List MemberPlace) (new : View S V) → m.disks.tells → IsRemembered m old → StepAskAll m old (NextKeys places) new → IsRemembered m new
+asks_keys : {S V : Type 0} (m : Meaning S V) (old : View S V) (places : List MemberPlace) (new : View S V) → m.disks.tells → IsFollowed m old → StepAskAll m old (NextKeys places) new → IsFollowed m new
 asks_keys {S} {V} m old places new disks is by = by_case by.asks
   where
     due : told_by.IsDueToList (told_by.everyone old) old.council by.may.order.asked places
@@ -688,7 +692,7 @@ asks_keys {S} {V} m old places new disks is by = by_case by.asks
     desks : AreIn m (course_of old) new.desks
     desks = ask_in m (course_of old) old new (NextKeys places) disks by is.in_eras
 
-    by_case : told_by.AsksAll m old (NextKeys places) by.desk new → IsRemembered m new
+    by_case : told_by.AsksAll m old (NextKeys places) by.desk new → IsFollowed m new
     by_case (told_by.asks now tag flow up room tagged now_is sends view) =
         carried m old new due.plan (told_by.listing_begun places tag due.plan) due.is_plan
         (ap course_of view ∙ ap (λ (p : Option PlanView). course old.greatest old.eras (option_map (told_by.listing_begun places tag) p) (entries_in old.marks)) due.is_plan)
@@ -700,7 +704,7 @@ asks_keys {S} {V} m old places new disks is by = by_case by.asks
     by_case (told_by.no_memory now tag up loses view) = same_course m old new (ap course_of view) log is.course desks
 
 -- what they told is gathered
-gathers : {S V : Type 0} (m : Meaning S V) (old : View S V) (new : View S V) → IsRemembered m old → StepGather old new → IsRemembered m new
+gathers : {S V : Type 0} (m : Meaning S V) (old : View S V) (new : View S V) → IsFollowed m old → StepGather old new → IsFollowed m new
 gathers {S} {V} m old new is by = by_case by.gathers
   where
     known : council.ListsKnown is.cluster is.logged.global.log old by.at.exchange
@@ -719,7 +723,7 @@ gathers {S} {V} m old new is by = by_case by.gathers
     desks : AreIn m (course_of old) new.desks
     desks = gather_in m (course_of old) old new by is.in_eras
 
-    by_case : told_by.Gathers old by.at.exchange new → IsRemembered m new
+    by_case : told_by.Gathers old by.at.exchange new → IsFollowed m new
     by_case (told_by.crashed down view) = same_course m old new (ap course_of view) log is.course desks
     by_case (told_by.probed key found up question keeps view) = same_course m old new (ap course_of view) log is.course desks
     by_case (told_by.lists of listing up enough on view) = carried m old new of.plan (with_listing of.plan listing) of.is_plan (ap course_of view) (lists_on m is.cluster old of.plan listing of.settles) log is.course desks
@@ -731,7 +735,7 @@ is_done_true : (log : List Happening) (all : List Made) (id number : ℕ) (told 
 is_done_true log all id number (answer.Done state took ballot) done is = (state, took, ballot, is)
 is_done_true log all id number told done is = absurd (cc done)
 
-ends : {S V : Type 0} (m : Meaning S V) (old : View S V) (id : ℕ) (told : Answer) (new : View S V) → m.disks.tells → IsRemembered m old → StepEnd m old id told new → IsRemembered m new
+ends : {S V : Type 0} (m : Meaning S V) (old : View S V) (id : ℕ) (told : Answer) (new : View S V) → m.disks.tells → IsFollowed m old → StepEnd m old id told new → IsFollowed m new
 ends {S} {V} m old id told new disks is by = by_case by.ends.rescans
   where
     at : OpenCallAt old id
@@ -764,7 +768,7 @@ ends {S} {V} m old id told new disks is by = by_case by.ends.rescans
         (subst (λ (n : ℕ). IsDoneTrue is.logged.global.log is.logged.global.made n at.caller.number done.0 done.1 done.2) of.by_operator done.3)
         (known.listing of.listing of.is_listing) beyond
 
-    by_case : Rescans old.council id at.call.key told by.ends.council → IsRemembered m new
+    by_case : Rescans old.council id at.call.key told by.ends.council → IsFollowed m new
     by_case (calls.is_none none same) = same_course m old new (end_course m old new id told by ∙ ap (λ (c : Council). course old.greatest old.eras c.plan (entries_in old.marks)) same)
         (logged_with old.council.plan (ap (λ (c : Council). c.plan) same) (ap (λ (c : Council). c.exchange) same) is.logged.agrees.council.1) is.course desks
     by_case (calls.stops of undone same) = same_course m old new (end_course m old new id told by ∙ ap (λ (c : Council). course old.greatest old.eras c.plan (entries_in old.marks)) same)
@@ -781,17 +785,18 @@ ends {S} {V} m old id told new disks is by = by_case by.ends.rescans
         (known_listed is.cluster is.logged.global.log counted listing (record { settled = known.settled; listing = known.listing })
         (listing_rescanned is.cluster is.logged.global.log of.plan.progress.era.number of.listing at.call.key of.first (anew of done) (known.listing of.listing of.is_listing)))) is.course desks
 
-tells : {S V : Type 0} (m : Meaning S V) (old : View S V) (answer : OpAnswer) (new : View S V) → IsRemembered m old → StepTell old answer new → IsRemembered m new
-tells {S} {V} m old answer new is (told_by.tells order said is_open told same view) = subst (IsRemembered m) (sym view) (over m old order.asked answer is)
-tells {S} {V} m old answer new is (told_by.finishes order is_open by view) = subst (IsRemembered m) (sym view) (over m _ order.asked answer (finishes m old order.asked answer by.plan is by.is_plan by.none_left))
+tells : {S V : Type 0} (m : Meaning S V) (old : View S V) (answer : OpAnswer) (new : View S V) → IsFollowed m old → StepTell old answer new → IsFollowed m new
+tells {S} {V} m old answer new is (told_by.tells order said is_open told same view) = subst (IsFollowed m) (sym view) (over m old order.asked answer is)
+tells {S} {V} m old answer new is (told_by.collects order is_open by view) = subst (IsFollowed m) (sym view) (over m old order.asked answer is)
+tells {S} {V} m old answer new is (told_by.finishes order is_open by view) = subst (IsFollowed m) (sym view) (over m _ order.asked answer (finishes m old order.asked answer by.plan is by.is_plan by.none_left))
 
 -- ---- calls that do not lead on
-quietly : {S V : Type 0} (m : Meaning S V) (old : View S V) (event : Event) (new : View S V) → m.shelves.tells → m.disks.tells → IsRemembered m old → Step m old event new → Leads event ⊎ IsRemembered m new
-quietly m old event new shelves disks is by = elim (keeps_log m old event new shelves disks is.logged by) [
+quietly : {S V : Type 0} (m : Meaning S V) (old : View S V) (event : Event) (new : View S V) → m.shelves.tells → m.disks.tells → IsPlain event → AreRenewed m old → IsFollowed m old → Step m old event new → Leads event ⊎ IsFollowed m new
+quietly m old event new shelves disks plain renewed is by = elim (keeps_log m old event new shelves disks plain renewed is.logged by) [
   | inl leads ↦ inl leads
   | inr log ↦ elim (on_course m old new event by) [
     | inl leads ↦ inl leads
-    | inr same ↦ elim (desks_in m (course_of old) old new event disks by is.in_eras) [
+    | inr same ↦ elim (desks_in m (course_of old) old new event disks plain by is.in_eras) [
       | inl leads ↦ inl leads
       | inr desks ↦ inr (same_course m old new same log is.course desks)
     ]
@@ -800,20 +805,20 @@ quietly m old event new shelves disks is by = elim (keeps_log m old event new sh
 
 -- ---- a change of membership begins
 -- an acceptor that joins is started, or stays down
-welcomed : {S V : Type 0} (m : Meaning S V) (old middle : View S V) (asked : Asked) → m.shelves.tells → m.disks.tells → IsRemembered m old → Welcomes m old asked middle → IsRemembered m middle
-welcomed {S} {V} m old middle asked shelves disks is by = by_case by
+welcomed : {S V : Type 0} (m : Meaning S V) (old middle : View S V) (asked : Asked) → m.shelves.tells → m.disks.tells → AreRenewed m old → IsFollowed m old → Welcomes m old asked middle → IsFollowed m middle
+welcomed {S} {V} m old middle asked shelves disks renewed is by = by_case by
   where
-    restarted : (id : ℕ) → Step m old (step.RestartAcceptor id) middle → IsRemembered m middle
-    restarted id by = elim (quietly m old (step.RestartAcceptor id) middle shelves disks is by) [
+    restarted : (id : ℕ) → Step m old (step.RestartAcceptor id) middle → IsFollowed m middle
+    restarted id by = elim (quietly m old (step.RestartAcceptor id) middle shelves disks tt renewed is by) [
       | inl none ↦ absurd none
       | inr done ↦ done
     ]
 
-    by_case : Welcomes m old asked middle → IsRemembered m middle
+    by_case : Welcomes m old asked middle → IsFollowed m middle
     by_case (plans.starts id acceptor now joins at starts view) = restarted id (step.starts acceptor now at starts view)
     by_case (plans.fails id acceptor now joins at fails view) = restarted id (step.fails acceptor now at fails view)
-    by_case (plans.is_up id acceptor joins at up view) = subst (IsRemembered m) (sym view) is
-    by_case (plans.stays id leaves view) = subst (IsRemembered m) (sym view) is
+    by_case (plans.is_up id acceptor joins at up view) = subst (IsFollowed m) (sym view) is
+    by_case (plans.stays id leaves view) = subst (IsFollowed m) (sym view) is
 
 welcome_council : {S V : Type 0} (m : Meaning S V) (old middle : View S V) (asked : Asked) → Welcomes m old asked middle → middle.council ≡ old.council
 welcome_council {S} {V} m old middle asked (plans.starts id acceptor now joins at starts view) = ap (λ (w : View S V). w.council) view
@@ -821,45 +826,66 @@ welcome_council {S} {V} m old middle asked (plans.fails id acceptor now joins at
 welcome_council {S} {V} m old middle asked (plans.is_up id acceptor joins at up view) = ap (λ (w : View S V). w.council) view
 welcome_council {S} {V} m old middle asked (plans.stays id leaves view) = ap (λ (w : View S V). w.council) view
 
-opens : {S V : Type 0} (m : Meaning S V) (old : View S V) (new : View S V) → m.shelves.tells → m.disks.tells → IsRemembered m old → StepOpenPlan m old new → IsRemembered m new
-opens {S} {V} m old new shelves disks is by = by_case by.opens
+opens : {S V : Type 0} (m : Meaning S V) (old : View S V) (new : View S V) → m.shelves.tells → m.disks.tells → AreRenewed m old → IsFollowed m old → StepOpenPlan m old new → IsFollowed m new
+opens {S} {V} m old new shelves disks renewed is by = by_case by.opens
   where
-    by_case : OpensPlan m old by.order.asked by.desk new → IsRemembered m new
-    by_case (plans.is_down down view) = subst (IsRemembered m) (sym view) (tells_remembered m old _ is)
-    by_case (plans.is_busy plan up busy view) = subst (IsRemembered m) (sym view) (tells_remembered m old _ is)
-    by_case (plans.refuses fault up none planned view) = subst (IsRemembered m) (sym view) (tells_remembered m old _ is)
-    by_case (plans.opens progress middle up none planned welcomes view) = subst (IsRemembered m) (sym view)
-        (plan_opened m middle old.council.used by.order.asked progress (record (hushed middle.council) { plan = Some (plans.new_plan by.order.asked progress); used = plans.used_with by.order.asked middle.council.used })
-        refl refl (ap (λ (c : Council). c.plan) (welcome_council m old middle by.order.asked welcomes) ∙ none)
-        (subst (λ (c : Course). IsPlanned (era_in c.eras 0) old.council.used by.order.asked (Ok progress)) (sym (welcome_course m old middle by.order.asked welcomes)) planned)
-        (welcomed m old middle by.order.asked shelves disks is welcomes))
-    by_case (plans.no_memory middle up none welcomes view) = subst (IsRemembered m) (sym view) (tells_remembered m middle _ (welcomed m old middle by.order.asked shelves disks is welcomes))
+    by_case : OpensPlan m old by.order.asked by.desk new → IsFollowed m new
+    by_case (plans.is_down down view) = subst (IsFollowed m) (sym view) (tells_remembered m old _ is)
+    by_case (plans.is_busy plan up busy view) = subst (IsFollowed m) (sym view) (tells_remembered m old _ is)
+    by_case (plans.refuses fault up none planned view) = subst (IsFollowed m) (sym view) (tells_remembered m old _ is)
+    by_case (plans.opens progress middle up none planned welcomes view) = subst (IsFollowed m) (sym view)
+        (plan_opened m middle by.order.asked progress (record (hushed middle.council) { plan = Some (plans.new_plan by.order.asked progress); used = plans.used_with by.order.asked middle.council.used })
+        refl refl refl (ap (λ (c : Council). c.collection) (welcome_council m old middle by.order.asked welcomes) ∙ by.none_collected) (ap (λ (c : Council). c.plan) (welcome_council m old middle by.order.asked welcomes) ∙ none)
+        (subst (λ (c : Council). IsPlanned (era_at middle 0) c.used by.order.asked (Ok progress)) (sym (welcome_council m old middle by.order.asked welcomes))
+        (subst (λ (c : Course). IsPlanned (era_in c.eras 0) old.council.used by.order.asked (Ok progress)) (sym (welcome_course m old middle by.order.asked welcomes)) planned))
+        (welcomed m old middle by.order.asked shelves disks renewed is welcomes))
+    by_case (plans.no_memory middle up none welcomes view) = subst (IsFollowed m) (sym view) (tells_remembered m middle _ (welcomed m old middle by.order.asked shelves disks renewed is welcomes))
 
 -- ---- all of them
-led : {S V : Type 0} (m : Meaning S V) (old : View S V) (event : Event) (new : View S V) → m.shelves.tells → m.disks.tells → IsRemembered m old → Leads event → Step m old event new → IsRemembered m new
-led m old (step.RestartProposer id) new shelves disks is leads by = restarts m old id new disks is by
-led m old (step.End id told) new shelves disks is leads by = ends m old id told new disks is by
-led m old (step.AskAll (NextKeys places)) new shelves disks is leads by = asks_keys m old places new disks is by
-led m old step.Gather new shelves disks is leads by = gathers m old new is by
-led m old (step.Tell answer) new shelves disks is leads by = tells m old answer new is by
-led m old step.OpenPlan new shelves disks is leads by = opens m old new shelves disks is by
-led m old (step.EnterEra id) new shelves disks is leads by = enters m old id new disks is by
-led m old event new shelves disks is none by = absurd none
+led : {S V : Type 0} (m : Meaning S V) (old : View S V) (event : Event) (new : View S V) → m.shelves.tells → m.disks.tells → IsPlain event → AreRenewed m old → IsFollowed m old → Leads event → Step m old event new → IsFollowed m new
+led m old (step.RestartProposer id) new shelves disks plain renewed is leads by = restarts m old id new disks is by
+led m old (step.End id told) new shelves disks plain renewed is leads by = ends m old id told new disks is by
+led m old (step.AskAll (NextKeys places)) new shelves disks plain renewed is leads by = asks_keys m old places new disks is by
+led m old step.Gather new shelves disks plain renewed is leads by = gathers m old new is by
+led m old (step.Tell answer) new shelves disks plain renewed is leads by = tells m old answer new is by
+led m old step.OpenPlan new shelves disks plain renewed is leads by = opens m old new shelves disks renewed is by
+led m old (step.EnterEra id) new shelves disks plain renewed is leads by = enters m old id new disks is by
+led m old (step.EndCollect answer) new shelves disks plain renewed is leads by = absurd plain
+led m old event new shelves disks plain renewed is none by = absurd none
 
-pub keeps : {S V : Type 0} (m : Meaning S V) (old : View S V) (event : Event) (new : View S V) → m.shelves.tells → m.disks.tells → IsRemembered m old → Step m old event new → IsRemembered m new
-keeps m old event new shelves disks is by = elim (quietly m old event new shelves disks is by) [
-  | inl leads ↦ led m old event new shelves disks is leads by
+-- whatever is called but what belongs to a collection
+pub follows : {S V : Type 0} (m : Meaning S V) (old : View S V) (event : Event) (new : View S V) → m.shelves.tells → m.disks.tells → IsPlain event → AreRenewed m old → IsFollowed m old → Step m old event new → IsFollowed m new
+follows m old event new shelves disks plain renewed is by = elim (quietly m old event new shelves disks plain renewed is by) [
+  | inl leads ↦ led m old event new shelves disks plain renewed is leads by
   | inr done ↦ done
 ]
 
+pub plainly : {S V : Type 0} (m : Meaning S V) (old : View S V) (event : Event) (new : View S V) → m.shelves.tells → m.disks.tells → IsPlain event → IsRemembered m old → Step m old event new → IsRemembered m new
+plainly m old event new shelves disks plain is by = record {
+  followed = follows m old event new shelves disks plain is.renewed is.followed by;
+  renewed = renews_on m old event new disks plain by is.renewed;
+}
+
 -- ---- parts of calls
 -- a desk crashes
-pub crashed_desk : {S V : Type 0} (m : Meaning S V) (old : View S V) (id : ℕ) (new : View S V) → m.disks.tells → IsRemembered m old → CrashesDesk m old id new → IsRemembered m new
-crashed_desk m old id new disks is by =
+crashed_followed : {S V : Type 0} (m : Meaning S V) (old : View S V) (id : ℕ) (new : View S V) → m.disks.tells → IsFollowed m old → CrashesDesk m old id new → IsFollowed m new
+crashed_followed m old id new disks is by =
     same_course m old new (left_course (Crashes m.disks) closed_by_crash old new id by)
-    (crashed_logged m old id (Crashes m.disks) new (λ desk now crash. (crash.crashed, crash.goes_on.still_past disks)) is.logged by) is.course
+    (crashed_logged m old id (Crashes m.disks) new (λ desk now crash. (crash.crashed, lasts disks crash.goes_on)) is.logged by) is.course
     (left_in m (course_of old) (Crashes m.disks) closed_by_crash old new id (λ desk now at crash. kept_in m (course_of old) id (crash_kept m.disks disks crash) (is.in_eras id desk at).1) by is.in_eras)
 
 -- an exchange, if one is open, is broken off
+broken_followed : {S V : Type 0} (m : Meaning S V) (old : View S V) → IsFollowed m old → IsFollowed m (broken_off_view old)
+broken_followed m old is = same_course m old (broken_off_view old) refl (council.breaks_off m old is.logged) is.course is.in_eras
+
+pub crashed_desk : {S V : Type 0} (m : Meaning S V) (old : View S V) (id : ℕ) (new : View S V) → m.disks.tells → IsRemembered m old → CrashesDesk m old id new → IsRemembered m new
+crashed_desk m old id new disks is by = record {
+  followed = crashed_followed m old id new disks is.followed by;
+  renewed = left_renewed m old new id (Crashes m.disks) closed_by_crash (λ desk now crash. crash_above m.disks desk now disks crash) by is.renewed;
+}
+
 pub broken_off : {S V : Type 0} (m : Meaning S V) (old : View S V) → IsRemembered m old → IsRemembered m (broken_off_view old)
-broken_off m old is = same_course m old (broken_off_view old) refl (council.breaks_off m old is.logged) is.course is.in_eras
+broken_off m old is = record { followed = broken_followed m old is.followed; renewed = is.renewed }
+
+pub told_remembered : {S V : Type 0} (m : Meaning S V) (old : View S V) (answer : OpAnswer) → IsRemembered m old → IsRemembered m (told_view old answer)
+told_remembered m old answer is = record { followed = tells_remembered m old answer is.followed; renewed = is.renewed }

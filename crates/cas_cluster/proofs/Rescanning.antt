@@ -16,6 +16,12 @@ rescan_asks old id key told new (calls.rescans of done same) = ap (λ (c : Counc
 rescan_asks old id key told new (calls.stops of undone same) = ap (λ (c : Council). c.exchange) same
 rescan_asks old id key told new (calls.is_none none same) = ap (λ (c : Council). c.exchange) same
 
+-- nobody becomes a member by it
+pub rescan_used : (old : Council) (id : ℕ) (key : List ℕ) (told : Answer) (new : Council) → Rescans old id key told new → new.used ≡ old.used
+rescan_used old id key told new (calls.rescans of done same) = ap (λ (c : Council). c.used) same
+rescan_used old id key told new (calls.stops of undone same) = ap (λ (c : Council). c.used) same
+rescan_used old id key told new (calls.is_none none same) = ap (λ (c : Council). c.used) same
+
 -- as much stays reserved for the operator's call, be it told something
 pub told_reserves : (order : Option OrderView) (said : OpAnswer) → reserved_for_order (option_map (told_so said) order) ≡ reserved_for_order order
 told_reserves None said = refl

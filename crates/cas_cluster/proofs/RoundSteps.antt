@@ -27,7 +27,7 @@ use Rattle.cas_record.specs.declared.mark.Proposal.{Proposal}
 use Rattle.cas_record.specs.Happening.{Happening, Entered, marks_of}
 use Rattle.cas_record.specs.Lawful.{Cluster}
 use Rattle.cas_record.specs.Places.{Stands}
-use Rattle.cas_cluster.specs.Parties.{WereMade, IsEraOf, IsVaultTrue, AreReady, IsHeldReady, HaveOneEach, HasNone, IsInHand, IsPrepareTrue, IsOpenTrue, IsDeskTrue, IsCallerTrue}
+use Rattle.cas_cluster.specs.Parties.{WereMade, IsEraOf, IsAged, IsVaultTrue, AreReady, IsHeldReady, HaveOneEach, HasNone, IsInHand, IsPrepareTrue, IsOpenTrue, IsDeskTrue, IsCallerTrue}
 use Rattle.cas_cluster.specs.Proposers.{IsOpenRound, state_read}
 use Rattle.cas_cluster.specs.Protocol.{Made, GlobalState, HasHistory, AllReplied, Proposes, ProposesByRide, with_proposal}
 use Rattle.cas_cluster.specs.StepCalls.{Sends, accepts_to, proposal_of, proposed_view}
@@ -37,7 +37,9 @@ use Rattle.cas_cluster.proofs.Around.{Whole, Around, around}
 use Rattle.cas_cluster.proofs.Caches.{contains_without, contains_promise, ready_fewer, one_without, none_without}
 use Rattle.cas_cluster.proofs.Draws.{drew, drew_vault, drew_ready, drew_caller, drew_messages, drew_around, drew_hand, drew_replies, drew_ride}
 use Rattle.cas_cluster.proofs.Events.{keeps}
-use Rattle.cas_cluster.proofs.Proposals.{IsReadyToPropose, proposed_global, proposes}
+use Rattle.cas_cluster.specs.Collection.{tomb_of}
+use Rattle.cas_cluster.proofs.Renewing.{IsRenewedFor, asks_by}
+use Rattle.cas_cluster.proofs.Proposals.{accept_requests, IsReadyToPropose, proposed_global, proposes}
 
 -- replies that were made
 pub all_replied : (log : List Happening) (replies : List Reply) → WereMade log replies → AllReplied log replies
@@ -69,10 +71,10 @@ begun_here log all id caller call key is_open same caller_true = subst (λ (k : 
 pub begins_by_promise : {S V : Type 0} (m : Meaning S V) (cluster : Cluster) (global : GlobalState) (old : View S V) (id : ℕ) (caller : CallerView) (call : CallView) (desk now : DeskView V) (ready : Ready) (ride : Option Ballot) (round : Round)
     (outcome : Outcome) (flow : FlowView) → m.disks.tells → IsAt old.callers id caller → caller.call ≡ Some call → call.proposed ≡ None → IsAt old.desks id desk
     → BeginsByPromise m.disks (era_at old id) call.key desk now ready ride round → outcome ≡ outcome_of call.program ready.state
-    → Sends old.flow id (accepts_to id (kept_of desk.vault).age round.key round.ballot round.era.number ride outcome.state round.era.acc) flow → Whole m cluster global old
+    → Sends old.flow id (accepts_to id (kept_of desk.vault).age round.key round.ballot round.era.number ride outcome.state round.era.acc) flow → IsRenewedFor m.disks old.council.collection id desk → Whole m cluster global old
     → Whole m cluster (proposed_global (drew global ride call.key (era_at old id).number) id (kept_of desk.vault).age (record round { ride = ride }) (proposal_of id caller.number round ready.read ready.by) outcome)
     (proposed_view old id caller call now flow (proposal_of id caller.number round ready.read ready.by) outcome)
-begins_by_promise {S} {V} m cluster global old id caller call desk now ready ride round outcome flow tells at_caller is_open unproposed at_desk begins is_outcome sends whole =
+begins_by_promise {S} {V} m cluster global old id caller call desk now ready ride round outcome flow tells at_caller is_open unproposed at_desk begins is_outcome sends renewed whole =
     proposes m cluster before old id (kept_of desk.vault).age caller call now (record round { ride = ride }) outcome flow ready.read ready.by ready_to (drew_around m cluster global old id call.key desk.vault now.vault ride of.known drawn of.vault (around m cluster global old id whole)) history
   where
     era : ℕ
@@ -151,6 +153,7 @@ begins_by_promise {S} {V} m cluster global old id caller call desk now ready rid
       known = of.known;
       same_id = ap (λ (d : DeskView V). d.id) begins.desk ∙ of.same_id;
       vault = vault;
+      aged = begins.aged tells;
       cached = subst (AreReady cluster before.log before.made id era) (sym (ap (λ (d : DeskView V). d.cache) begins.desk))
           (ready_fewer cluster before.log before.made id era (without call.key desk.cache) desk.cache (λ entry h. contains_without call.key desk.cache h) (drew_ready cluster global.log global.made id era desk.cache call.key ride of.cached));
       one_each = subst (λ (d : DeskView V). HaveOneEach d.cache) (sym begins.desk) (one_without call.key desk.cache of.one_each);
@@ -166,6 +169,9 @@ begins_by_promise {S} {V} m cluster global old id caller call desk now ready rid
       accepting = record { phase = begins.opened.1.phase; met = begins.opened.1.met };
       none_waits = none_waits cluster global.log global.made id era caller (queue_at old.flow id).messages desk.round begins.none_open of.round;
       late = drew_messages global.log old.flow.late call.key era ride whole.parties.late;
+      above = λ to. asks_by old.council.collection (accept_requests id (kept_of desk.vault).age (record round { ride = ride }) outcome to) (λ tag least is. cc is) (λ c age is at asks_round same.
+          subst (BallotLess (tomb_of c.tombstone)) (sym about_ballot) ((renewed c age is at).cached ready
+          (subst (λ (k : List ℕ). Contains desk.cache (k, ready)) (sym about_key ∙ same) (contains_promise call.key ready desk.cache begins.promise))).0);
       sends = sends;
     }
 
@@ -179,11 +185,11 @@ pub proposes_round : {S V : Type 0} (m : Meaning S V) (cluster : Cluster) (globa
     (ride : Option Ballot) (outcome : Outcome) (flow : FlowView) → m.disks.tells → IsAt old.callers id caller → caller.call ≡ Some call → IsAt old.desks id desk → desk.round ≡ Some round → (queue_at old.flow id).messages ≡ []
     → IsPrepareTrue global.log id call (queue_at old.flow id).messages round → round.key ≡ call.key → round.era.number ≡ (era_at old id).number → IsEraOf cluster round.era
     → has_quorum round.phase ≡ true → IsConfirmersOf round by → IsReadOf round read → ((replies : List Reply) → IsPreparing replies round → IsAccepting replies [] (record round { phase = phase_is }))
-    → MayHaveDrawn m.disks desk.id desk.vault now.vault ride → now ≡ record desk { vault = now.vault; round = Some (record round { ride = ride; phase = phase_is }) } → outcome ≡ outcome_of call.program (state_read read)
-    → Sends old.flow id (accepts_to id (kept_of desk.vault).age round.key round.ballot round.era.number ride outcome.state round.era.acc) flow → Whole m cluster global old
+    → MayHaveDrawn m.disks desk.id desk.vault now.vault ride → IsAged m.disks (kept_of desk.vault).age now.vault → now ≡ record desk { vault = now.vault; round = Some (record round { ride = ride; phase = phase_is }) } → outcome ≡ outcome_of call.program (state_read read)
+    → Sends old.flow id (accepts_to id (kept_of desk.vault).age round.key round.ballot round.era.number ride outcome.state round.era.acc) flow → IsRenewedFor m.disks old.council.collection id desk → Whole m cluster global old
     → Whole m cluster (proposed_global (drew global ride round.key (era_at old id).number) id (kept_of desk.vault).age (record round { ride = ride; phase = phase_is }) (proposal_of id caller.number round (accepted_ballot read) by) outcome)
     (proposed_view old id caller call now flow (proposal_of id caller.number round (accepted_ballot read) by) outcome)
-proposes_round {S} {V} m cluster global old id caller call desk now round phase_is read by ride outcome flow tells at_caller is_open at_desk is_round no_frames prepare same_key same_era is_era quorum confirmers is_read accepts may_drawn is_now is_outcome sends whole =
+proposes_round {S} {V} m cluster global old id caller call desk now round phase_is read by ride outcome flow tells at_caller is_open at_desk is_round no_frames prepare same_key same_era is_era quorum confirmers is_read accepts may_drawn aged is_now is_outcome sends renewed whole =
     proposes m cluster before old id (kept_of desk.vault).age caller call now final outcome flow (accepted_ballot read) by ready_to after_draw history
   where
     era : ℕ
@@ -249,6 +255,7 @@ proposes_round {S} {V} m cluster global old id caller call desk now round phase_
       known = of.known;
       same_id = ap (λ (d : DeskView V). d.id) is_now ∙ of.same_id;
       vault = vault;
+      aged = aged;
       cached = subst (AreReady cluster before.log before.made id era) (sym (ap (λ (d : DeskView V). d.cache) is_now)) (drew_ready cluster global.log global.made id era desk.cache round.key ride of.cached);
       one_each = subst (λ (d : DeskView V). HaveOneEach d.cache) (sym is_now) of.one_each;
       none_open = subst (λ (d : DeskView V). HasNone (Some final) d.cache) (sym is_now) (subst (λ (r : Option Round). HasNone r desk.cache) is_round of.none_open);
@@ -264,5 +271,6 @@ proposes_round {S} {V} m cluster global old id caller call desk now round phase_
       accepting = let turned = accepts prepare.replies prepare.preparing in record { phase = turned.phase; met = turned.met };
       none_waits = no_frames;
       late = drew_messages global.log old.flow.late round.key era ride whole.parties.late;
+      above = λ to. asks_by old.council.collection (accept_requests id (kept_of desk.vault).age final outcome to) (λ tag least is. cc is) (λ c age is at asks_round same. (renewed c age is at).ballot round is_round same);
       sends = sends;
     }

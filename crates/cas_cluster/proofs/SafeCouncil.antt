@@ -33,7 +33,7 @@ use Rattle.cas_cluster.proofs.SafeCalls.{about_members}
 use Rattle.cas_cluster.proofs.SafeOpens.{no_members}
 use Rattle.cas_cluster.proofs.SafeStops.{AreFit, fit_fewer, desk_idles, acceptor_safe, room_not_found_safe}
 use Rattle.cas_cluster.proofs.SafeTurns.{Moves, taken_moves, replied_moves, IsWithin, Spends, spends_harm, taken_others, replied_others}
-use Rattle.cas_cluster.specs.Council.{place_in, has_ended, Question, NextKeys, IsReplyTo, phase_for, ExchangeView, OrderView, PlanView, without_partial, with_listing, hushed, silent_order, at_rest, ask_of, exchange_place, reserved_for_order, reserved_for_exchange, telling, Probe}
+use Rattle.cas_cluster.specs.Council.{place_in, has_ended, Question, NextKeys, NewAges, Removal, IsReplyTo, phase_for, ExchangeView, OrderView, PlanView, without_partial, with_listing, hushed, silent_order, at_rest, ask_of, exchange_place, reserved_for_order, reserved_for_exchange, telling, Probe}
 use Rattle.cas_cluster.specs.Safe.{IsExchangeSafe, IsAskingSafe, AreListingsSafe, IsAskingOf, IsCouncilSafe, IsSound, requests_in}
 use Rattle.cas_cluster.specs.StepCalls.{Sends}
 use Rattle.cas_cluster.specs.StepCouncil as council
@@ -88,14 +88,19 @@ plan_safe old plan used was listings = council_safe old old.flow (record old.cou
 
 pub tell_safe : {S V : Type 0} (old : View S V) (answer : OpAnswer) (new : View S V) → IsSound old → StepTell old answer new → IsSound new
 tell_safe old answer new was (council.tells order said is_open told same view) = subst IsSound (sym view) (over_safe old order answer is_open was)
+tell_safe old answer new was (council.collects order is_open by view) = subst IsSound (sym view) (over_safe old order answer is_open was)
 tell_safe old answer new was (council.finishes order is_open by view) = subst IsSound (sym view) (over_safe _ order answer is_open (plan_safe old None old.council.used was (ended_safe old.council.plan old.council.exchange by.plan by.is_plan by.none_left was.council.0 was.council.1)))
 
 -- ---- what was told is gathered
+pub gathered_safe : {S V : Type 0} (old : View S V) (answer : OpAnswer) → IsSound old → (queue_at old.flow exchange_place).messages ≡ [] → IsSound (gathered old answer)
+gathered_safe old answer was none =
+    council_safe old old.flow (record (telling old.council answer) { exchange = None }) old.marks was refl (λ p other. refl) (omega arith) none (was.council.0, none_asks old.council.plan) (omega (arith, was.room, told_reserves old.council.order answer))
+
 pub gather_safe : {S V : Type 0} (old : View S V) (new : View S V) → IsSound old → StepGather old new → IsSound new
 gather_safe {S} {V} old new was by = by_case by.gathers
   where
     over : (answer : OpAnswer) → IsSound (gathered old answer)
-    over answer = council_safe old old.flow (record (telling old.council answer) { exchange = None }) old.marks was refl (λ p other. refl) (omega arith) by.none_waits (was.council.0, none_asks old.council.plan) (omega (arith, was.room, told_reserves old.council.order answer))
+    over answer = gathered_safe old answer was by.none_waits
 
     by_case : Gathers old by.at.exchange new → IsSound new
     by_case (council.crashed crashed view) = subst IsSound (sym view) (over _)
@@ -127,9 +132,14 @@ asks_question age tag question tos messages are request h =
 none_within : (members : List ℕ) (acceptor : ℕ) → has_member [] acceptor ≡ true → has_member members acceptor ≡ true
 none_within members acceptor e = absurd (cc e)
 
--- those that are asked are a set
+-- all members are a set, and so are those that are asked
+pub everyone_set : {S V : Type 0} (view : View S V) → IsMemberSet (everyone view)
+everyone_set view = IsMemberSet-members_where (λ n. has_member (era_at view 0).prep n || has_member (era_at view 0).acc n)
+
 asked_set : {S V : Type 0} (view : View S V) (question : Question) → IsMemberSet (asked_by view question)
-asked_set view (Probe key) = IsMemberSet-members_where (λ n. has_member (era_at view 0).prep n || has_member (era_at view 0).acc n)
+asked_set view (Probe key) = everyone_set view
+asked_set view (NewAges key least) = everyone_set view
+asked_set view (Removal key) = everyone_set view
 asked_set view (NextKeys places) = IsMemberSet-members_where (λ n. has_member (everyone view) n && not (has_ended (place_in places n)))
 
 -- at first no reply waits
@@ -137,6 +147,31 @@ asks_no_reply : (f : ℕ → Request) (tos : List ℕ) (messages : List Message)
 asks_no_reply f tos messages are reply h =
     let of = has_of_map (λ (to : ℕ). message.Request (f to)) (message.Reply reply) tos (has (message.Reply reply) (map (λ to. message.Request (f to)) tos) (subst (λ (l : List Message). Contains l (message.Reply reply)) are h)) in
     cc of.1.1
+
+-- where no exchange is open, no frame of one waits
+pub none_waiting : {S V : Type 0} (old : View S V) → IsSound old → old.council.exchange ≡ None → (queue_at old.flow exchange_place).messages ≡ []
+none_waiting old was none = subst (λ (e : Option ExchangeView). IsAskingSafe e (queue_at old.flow exchange_place)) none was.asking
+
+-- an exchange whose questions were just sent
+pub sent_safe : (old flow : FlowView) (age : ℕ) (tag : Ballot) (question : Question) (tos : List ℕ) → (queue_at old exchange_place).messages ≡ [] → FitsBallot tag → IsMemberSet tos → Sends old exchange_place (questions_to age tag question tos) flow
+    → IsExchangeSafe (new_exchange question tag tos) (queue_at flow exchange_place)
+sent_safe old flow age tag question tos none fits set sends = record {
+  tag = fits;
+  member_set = set;
+  about = about_members f tos tos (queue_at flow exchange_place).messages (λ to. refl) waiting refl;
+  asks = asks_question age tag question tos (queue_at flow exchange_place).messages waiting;
+  replies = λ reply h. absurd (asks_no_reply f tos (queue_at flow exchange_place).messages waiting reply h);
+  harmed_set = no_members;
+  harmed_within = none_within tos;
+  reserved = omega arith;
+  room = omega (arith, sends.room, ap requests_in waiting, requests_of_map f tos, length-map tos (λ (to : ℕ). message.Request (f to)));
+}
+  where
+    f : ℕ → Request
+    f = question_to age tag question
+
+    waiting : (queue_at flow exchange_place).messages ≡ questions_to age tag question tos
+    waiting = sends.own ∙ ap (λ (l : List Message). l ++ questions_to age tag question tos) none
 
 pub ask_safe : {S V : Type 0} (m : Meaning S V) (old : View S V) (question : Question) (new : View S V) → IsSound old → StepAskAll m old question new → IsSound new
 ask_safe {S} {V} m old question new was by = by_case by.asks
@@ -150,26 +185,12 @@ ask_safe {S} {V} m old question new was by = by_case by.asks
     asked : (now : DeskView V) (tag : Ballot) (flow : FlowView) → HasRoomToAsk old question → FitsBallot tag × IsCouncilSafe (record old.council { exchange = Some (new_exchange question tag tos); plan = plan_asked question tag old.council.plan }) → now ≡ record by.desk { vault = now.vault } → Sends old.flow exchange_place (questions_to (kept_of by.desk.vault).age tag question tos) flow
         → IsSound (with_council (record (with_desk old 0 now) { flow = flow }) (record old.council { exchange = Some (new_exchange question tag tos); plan = plan_asked question tag old.council.plan }))
     asked now tag flow room fits is_now sends =
-        let age : ℕ = (kept_of by.desk.vault).age in
-        let f : ℕ → Request = question_to age tag question in
-        let none : (queue_at old.flow exchange_place).messages ≡ [] = subst (λ (e : Option ExchangeView). IsAskingSafe e (queue_at old.flow exchange_place)) may.none_open was.asking in
-        let waiting : (queue_at flow exchange_place).messages ≡ questions_to age tag question tos = sends.own ∙ ap (λ (l : List Message). l ++ questions_to age tag question tos) none in
         council_safe (with_desk old 0 now) flow (record old.council { exchange = Some (new_exchange question tag tos); plan = plan_asked question tag old.council.plan }) old.marks (vault_changes old 0 by.desk now was may.at_desk may.idle is_now) sends.queues sends.others (omega arith)
-        (record {
-          tag = fits.0;
-          member_set = asked_set old question;
-          about = about_members f tos tos (queue_at flow exchange_place).messages (λ to. refl) waiting refl;
-          asks = asks_question age tag question tos (queue_at flow exchange_place).messages waiting;
-          replies = λ reply h. absurd (asks_no_reply f tos (queue_at flow exchange_place).messages waiting reply h);
-          harmed_set = no_members;
-          harmed_within = none_within tos;
-          reserved = omega arith;
-          room = omega (arith, sends.room, ap requests_in waiting, requests_of_map f tos, length-map tos (λ (to : ℕ). message.Request (f to)));
-        }) fits.1
+        (sent_safe old.flow flow (kept_of by.desk.vault).age tag question tos (none_waiting old was may.none_open) fits.0 (asked_set old question) sends) fits.1
         (omega (arith, room, ap reserved_for_exchange may.none_open))
 
     by_case : AsksAll m old question by.desk new → IsSound new
-    by_case (council.asks now tag flow up room tagged is_now sends view) = subst IsSound (sym view) (asked now tag flow room (asked_safe m.disks (everyone old) tos old.council may.caller.call may.order.asked question by.desk now tag may.is_for tagged was.council) is_now sends)
+    by_case (council.asks now tag flow up room tagged is_now sends view) = subst IsSound (sym view) (asked now tag flow room (asked_safe m.disks (everyone old) tos old.council may.caller.call may.order.asked question by.desk now tag may.is_for tagged.has_tag was.council) is_now sends)
     by_case (council.is_down down view) = subst IsSound (sym view) (told_view_safe old _ was)
     by_case (council.is_full up full view) = subst IsSound (sym view) (told_view_safe old _ was)
     by_case (council.is_spent now up spent kept is_now view) = subst IsSound (sym view) (told_view_safe (with_desk old 0 now) _ (vault_changes old 0 by.desk now was may.at_desk may.idle is_now))
@@ -186,10 +207,14 @@ ask_safe {S} {V} m old question new was by = by_case by.asks
 ask_tag : (tag : Ballot) (question : Question) (to : ℕ) → tag_of (ask_of tag question to) ≡ tag
 ask_tag tag (Probe key) to = refl
 ask_tag tag (NextKeys places) to = refl
+ask_tag tag (NewAges key least) to = refl
+ask_tag tag (Removal key) to = refl
 
 ask_phase : (tag : Ballot) (question : Question) (to : ℕ) → phase_of (ask_of tag question to) ≡ phase_for question
 ask_phase tag (Probe key) to = refl
 ask_phase tag (NextKeys places) to = refl
+ask_phase tag (NewAges key least) to = refl
+ask_phase tag (Removal key) to = refl
 
 -- an exchange that goes on, with the frames that wait then
 goes_on : (exchange new : ExchangeView) (queue rest : QueueView) (votes : ℕ) → IsExchangeSafe exchange queue → new.question ≡ exchange.question → new.tag ≡ exchange.tag → new.members ≡ exchange.members
@@ -258,6 +283,8 @@ harmed_safe {S} {V} old verdict front exchange member down was is_open waits to 
 pub no_vote : (tag : Ballot) (question : Question) (request : Request) (reply : Reply) → request.ask ≡ ask_of tag question request.to → length (votes_marked request reply) ≡ 0
 no_vote tag (Probe key) request reply is = ap (λ (a : Ask). length (marks_of (votes_of request.to a reply.tell))) is
 no_vote tag (NextKeys places) request reply is = ap (λ (a : Ask). length (marks_of (votes_of request.to a reply.tell))) is
+no_vote tag (NewAges key least) request reply is = ap (λ (a : Ask). length (marks_of (votes_of request.to a reply.tell))) is
+no_vote tag (Removal key) request reply is = ap (λ (a : Ask). length (marks_of (votes_of request.to a reply.tell))) is
 
 pub turn_exchange_safe : {S V : Type 0} (m : Meaning S V) (old : View S V) (verdict : Verdict) (new : View S V) → IsSound old → StepTurnExchange m old verdict new → IsSound new
 turn_exchange_safe {S} {V} m old verdict new was step = by_turn step.turn

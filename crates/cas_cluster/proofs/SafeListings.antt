@@ -11,7 +11,7 @@ use Rattle.cas_quorum.specs.declared.era.Era.{Era}
 use Rattle.cas_record.specs.declared.answer.Answer.{Answer}
 use Rattle.cas_record.specs.declared.operator.Asked.{Asked}
 use Rattle.cas_slot.specs.Slots.{is_above, rises}
-use Rattle.cas_cluster.specs.Council.{MemberPlace, ListingView, Question, Probe, NextKeys, ExchangeView, PlanView, Council, stepped, with_listing, complete_only, without_partial, broken_off}
+use Rattle.cas_cluster.specs.Council.{MemberPlace, ListingView, Question, Probe, NextKeys, NewAges, Removal, ExchangeView, PlanView, Council, stepped, with_listing, complete_only, without_partial, broken_off}
 use Rattle.cas_cluster.specs.Course.{entering}
 use Rattle.cas_cluster.specs.Safe.{IsListingSafe, AreListingsSafe, IsOfListing, IsAskingOf, IsCouncilSafe}
 use Rattle.cas_cluster.specs.StepCalls as calls
@@ -90,7 +90,12 @@ rest_rises [] rising = refl
 rest_rises (key ∷ []) rising = refl
 rest_rises (key ∷ next ∷ keys) rising = and_right (is_above (Some key) next) (rises (Some next) keys) rising
 
--- a key is proposed anew
+-- a key is proposed anew, and no collection begins or ends with it
+pub rescan_collects : (old : Council) (id : ℕ) (key : List ℕ) (told : Answer) (new : Council) → Rescans old id key told new → new.collection ≡ old.collection
+rescan_collects old id key told new (calls.rescans of done same) = ap (λ (c : Council). c.collection) same
+rescan_collects old id key told new (calls.stops of undone same) = ap (λ (c : Council). c.collection) same
+rescan_collects old id key told new (calls.is_none none same) = ap (λ (c : Council). c.collection) same
+
 pub rescan_safe : (old : Council) (id : ℕ) (key : List ℕ) (told : Answer) (new : Council) → Rescans old id key told new → IsCouncilSafe old → IsCouncilSafe new
 rescan_safe old id key told new (calls.is_none none same) was = subst IsCouncilSafe (sym same) was
 rescan_safe old id key told new (calls.stops of undone same) was = subst IsCouncilSafe (sym same) was
@@ -146,6 +151,8 @@ enters_safe under_way open_ greatest plan next is_plan is_next listings was = (b
 pub asked_safe : {V : Type 0} (m : DiskMeaning V) (members tos : List ℕ) (council : Council) (call : Option CallView) (asked : Asked) (question : Question) (desk now : DeskView V) (tag : Ballot) → IsForQuestion members council call asked question
     → HasTag m (listing_for council question) desk now tag → IsCouncilSafe council → FitsBallot tag × IsCouncilSafe (record council { exchange = Some (new_exchange question tag tos); plan = plan_asked question tag council.plan })
 asked_safe m members tos council call asked (Probe key) desk now tag is_for drawn was = (drawn.fits, (was.0, λ exchange places is asks. absurd (cc (asks, ap (λ (e : ExchangeView). e.question) (some_is is)))))
+asked_safe m members tos council call asked (NewAges key least) desk now tag is_for drawn was = absurd is_for
+asked_safe m members tos council call asked (Removal key) desk now tag is_for drawn was = absurd is_for
 asked_safe {V} m members tos council call asked (NextKeys places) desk now tag (none_open, due) has_tag was = subst Fits (sym due.is_plan) (by_listing due.plan.listing refl (subst (λ (o : Option PlanView). HasTag m (listing_in o) desk now tag) due.is_plan has_tag))
   where
     exchange : ExchangeView

@@ -8,7 +8,7 @@ use Rattle.cas_quorum.specs.declared.era.Era.{Era}
 use Rattle.cas_quorum.specs.Era.{majority_era}
 use Rattle.cas_record.specs.declared.mark.Mark.{Mark}
 use Rattle.cas_cluster.specs.Council.{Council, exchange_place, reserved_by}
-use Rattle.cas_cluster.specs.Safe.{IsAskingSafe, IsCouncilSafe, IsSound}
+use Rattle.cas_cluster.specs.Safe.{IsAskingSafe, IsCouncilSafe, IsCollectingIn, IsSound}
 use Rattle.cas_cluster.proofs.SafeListings.{no_listings, none_asks}
 use Rattle.cas_cluster.specs.SafeLaws.{OpeningsAreSafe}
 use Rattle.cas_cluster.specs.View.{Meaning, CallerView, IsAt, new_caller, reserved_in, reserved_of, era_at, era_in}
@@ -33,7 +33,11 @@ sets (suc n) zero set = (set, set)
 sets (suc n) (suc id) set = sets n id set
 
 pub opens_are_safe : {S V : Type 0} (m : Meaning S V) → OpeningsAreSafe m
-opens_are_safe {S} {V} m members view is places = record { sound = sound; course = opening_on_course m members view is }
+opens_are_safe {S} {V} m members view is places = record {
+  sound = sound;
+  course = opening_on_course m members view is;
+  collection = subst (λ (c : Council). IsCollectingIn c (era_at view 0) view.greatest) (sym is.council) (record { each = λ collection none. absurd (cc none); exchange = λ exchange none asks. absurd (cc none) });
+}
   where
     sound : IsSound view
     sound = record {

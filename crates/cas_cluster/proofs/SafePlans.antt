@@ -28,7 +28,7 @@ use Rattle.cas_cluster.proofs.CourseSteps.{welcome_course}
 use Rattle.cas_cluster.proofs.OnCourse.{left_course}
 use Rattle.cas_cluster.proofs.SafeListings.{begun_safe, enters_safe}
 use Rattle.cas_cluster.proofs.SafeParts.{council_safe, more_by, safe_but, desk_low, changes_desk}
-use Rattle.cas_cluster.proofs.SafeStops.{restarts_acceptor_safe, left_safe, left_reserves, down_safe, era_safe}
+use Rattle.cas_cluster.proofs.SafeStops.{restarts_acceptor_safe, crashed_fit, left_safe, left_reserves, down_safe, era_safe}
 
 -- another change of membership is under way, and the open call is told nothing
 planned_safe : {S V : Type 0} (old : View S V) (plan : Option PlanView) (used : List ℕ) → IsSound old → AreListingsSafe plan × IsAskingOf plan old.council.exchange → IsSound (with_council old (record (hushed old.council) { plan = plan; used = used }))
@@ -77,10 +77,10 @@ enters_next {S} {V} m old middle plan next was prep acc room is_next is_plan lea
   where
     left : IsSound middle
     left = left_safe old plan.entered (EntersEra m.disks next) (answer.Moved next.number) (cause.Moved next.number) middle
-        (λ desk now enters. (ap (λ (d : DeskView V). d.id) enters.desk, ap (λ (d : DeskView V). d.round) enters.desk, ap (λ (d : DeskView V). d.cache) enters.desk)) was leaves
+        (λ desk now enters. (ap (λ (d : DeskView V). d.id) enters.desk, ap (λ (d : DeskView V). d.round) enters.desk, crashed_fit desk now (ap (λ (d : DeskView V). d.cache) enters.desk))) was leaves
 
 -- a desk whose vault shows something else goes on with its round
-revault_safe : {S V : Type 0} (old : View S V) (id : ℕ) (desk now : DeskView V) → IsSound old → IsAt old.desks id desk → now ≡ record desk { vault = now.vault } → IsSound (with_desk old id now)
+pub revault_safe : {S V : Type 0} (old : View S V) (id : ℕ) (desk now : DeskView V) → IsSound old → IsAt old.desks id desk → now ≡ record desk { vault = now.vault } → IsSound (with_desk old id now)
 revault_safe {S} {V} old id desk now was at is_now =
     safe_but old (with_desk old id now) id was (desk_low old id desk was at) (changes_desk old id now old.flow was refl (λ p other. refl))
     (λ d caller at_d at_caller. subst (λ (x : DeskView V). IsPartySafe (era_at old id) (length old.marks) id x caller (queue_at old.flow id)) (sym (own_set old.desks id now d at_d ∙ is_now))

@@ -7,6 +7,7 @@ use Rattle.cas_ballot.specs.Ballot.{FitsBallot}
 use Rattle.cas_ballot.specs.Members.{has_member, IsMemberSet}
 use Rattle.cas_cache.specs.declared.ready.Ready.{Ready}
 use Rattle.cas_change.specs.declared.outcome.Outcome.{Outcome}
+use Rattle.cas_change.specs.declared.program.Clause.{Clause}
 use Rattle.cas_flow.specs.Flow.{FlowView, queue_at}
 use Rattle.cas_flow.specs.Queue.{QueueView}
 use Rattle.cas_flow.specs.declared.message.Message.{Message}
@@ -26,16 +27,16 @@ use Rattle.cas_record.specs.declared.mark.Mark.TheVariants.{Proposed, Acked}
 use Rattle.cas_record.specs.declared.mark.Proposal.{Proposal}
 use Rattle.cas_cluster.specs.Parties.{asked_in}
 use Rattle.cas_cluster.specs.Safe.{requests_in, IsPartySafe, IsRoundSafe, IsOpenSafe, IsSound}
-use Rattle.cas_cluster.specs.Step.{OpenRoundAt, StepPropose, StepCount}
+use Rattle.cas_cluster.specs.Step.{StepBegin, OpenRoundAt, StepPropose, StepCount}
 use Rattle.cas_cluster.specs.StepCalls as calls
 use Rattle.cas_cluster.specs.StepCalls.{most_marks, round_marks, with_call, over, proposing, proposed_view, proposal_of, Sends, accepts_to, offered_by, BeginsRound, ProposesOrEnds, CountsOrEnds}
 use Rattle.cas_cluster.specs.StepDesks.{MayHaveDrawn}
 use Rattle.cas_cluster.specs.View.{DiskMeaning, Meaning, View, CallView, CallerView, IsAt, reserved_in, era_at}
 use Rattle.cas_cluster.proofs.Caches.{contains_without, contains_promise}
-use Rattle.cas_cluster.proofs.CallSteps.{no_harm}
+use Rattle.cas_cluster.proofs.CallSteps.{anew, no_harm}
 use Rattle.cas_cluster.proofs.Places.{own_set, some_is}
 use Rattle.cas_cluster.proofs.Proposals.{accept_request}
-use Rattle.cas_cluster.proofs.SafeCalls.{prepares_safe, about_members, accepts_is, enough}
+use Rattle.cas_cluster.proofs.SafeCalls.{opens_safe, prepares_safe, about_members, accepts_is, enough}
 use Rattle.cas_cluster.proofs.SafeParts.{more_by, reserved_set, requests_of_map, set_within, safe_but, desk_low, changes_both, idle_at}
 use Rattle.cas_cluster.proofs.SafeStops.{none_waits_at, begin_stays_safe, begin_spent_safe, fails_safe, loses_safe, ends_safe, counted_safe}
 
@@ -50,7 +51,7 @@ asks_to_accept era (Accept p) is = refl
 
 -- a round that prepares has what it takes to propose
 pub prepare_reserves : (era : Era) (caller : CallerView) (queue : QueueView) (round : Round) (call : CallView) → IsMemberSet era.prep → caller.call ≡ Some call → is_preparing round.phase ≡ true → IsOpenSafe era caller queue round
-    → 3 + 3 * length era.acc ≤ call.reserved
+    → 4 + 3 * length era.acc ≤ call.reserved
 prepare_reserves era caller queue round call prep is_open preparing is =
     let same : is.call ≡ call = some_is (sym is.is_open ∙ is_open) in
     let asked = asks_to_prepare era round.phase preparing in
@@ -66,7 +67,7 @@ pub proposed_safe : {S V : Type 0} (old : View S V) (id : ℕ) (caller : CallerV
     → IsSound old → IsAt old.callers id caller → caller.call ≡ Some call → IsAt old.desks id desk → now.id ≡ desk.id → now.down ≡ false → now.round ≡ Some round
     → round.key ≡ call.key → round.era ≡ (era_at old id) → FitsBallot round.ballot → ((b : Ballot) → round.ride ≡ Some b → FitsBallot b) → is_preparing round.phase ≡ false
     → ((key : List ℕ) (ready : Ready) → Contains now.cache (key, ready) → Contains desk.cache (key, ready)) → (queue_at old.flow id).messages ≡ []
-    → Sends old.flow id (accepts_to id age key ballot (era_at old id).number ride outcome.state (era_at old id).acc) flow → 3 + 3 * length (era_at old id).acc ≤ call.reserved → IsSound (proposed_view old id caller call now flow p outcome)
+    → Sends old.flow id (accepts_to id age key ballot (era_at old id).number ride outcome.state (era_at old id).acc) flow → 4 + 3 * length (era_at old id).acc ≤ call.reserved → IsSound (proposed_view old id caller call now flow p outcome)
 proposed_safe {S} {V} old id caller call desk now round flow p age key ballot ride outcome was at_caller is_open at_desk same up is_round same_key same_era fits rides accepting fewer none sends reserved =
     safe_but old (proposed_view old id caller call now flow p outcome) id was (desk_low old id desk was at_desk) (changes_both old id now after flow marks was sends.queues sends.others (more_by old.marks (Proposed p ∷ [])))
     (λ d c at_d at_c. subst (λ (x : DeskView V). IsPartySafe (era_at old id) (length marks) id x c (queue_at flow id)) (sym (own_set old.desks id now d at_d))
@@ -150,6 +151,11 @@ begins_safe {S} {V} m old id caller call new was at_caller is_open unproposed un
 begins_safe {S} {V} m old id caller call new was at_caller is_open unproposed unharmed (calls.loses desk now ballot at_desk idle up by view) =
     loses_safe m old id caller call call.key desk now ballot (answer.NoMemory false) new was at_caller is_open at_desk (none_waits_at old id caller desk was at_caller at_desk idle) by view
 
+pub begin_safe : {S V : Type 0} (m : Meaning S V) (old : View S V) (id : ℕ) (key : List ℕ) (program : List Clause) (new : View S V) → IsSound old → StepBegin m old id key program new → IsSound new
+begin_safe m old id key program new was by =
+    let of = anew old id key program by.middle by.caller by.call by.opens by.at_caller by.is_open in
+    begins_safe m by.middle id by.caller by.call new (opens_safe old id key program by.middle was by.opens) by.at_caller by.is_open of.unproposed of.unharmed by.begins
+
 -- ---- the prepare phase ends
 open_at : {S V : Type 0} (old : View S V) (id : ℕ) → IsSound old → (at : OpenRoundAt old id) → IsOpenSafe (era_at old id) at.of_call.caller (queue_at old.flow id) at.round
 open_at old id was at = subst (IsRoundSafe (era_at old id) at.of_call.caller (queue_at old.flow id)) at.is_open (was.parties id at.desk at.of_call.caller at.at_desk at.of_call.at_caller).round
@@ -172,7 +178,7 @@ proposes_safe {S} {V} m old id new was step = by_case step.proposes
     same : is.call ≡ call
     same = some_is (sym is.is_open ∙ at.of_call.is_open)
 
-    reserved : 3 + 3 * length (era_at old id).acc ≤ call.reserved
+    reserved : 4 + 3 * length (era_at old id).acc ≤ call.reserved
     reserved = prepare_reserves (era_at old id) caller (queue_at old.flow id) at.round call (was.prep_sets id) at.of_call.is_open step.preparing is
 
     by_case : ProposesOrEnds m old id at.desk at.round caller call new → IsSound new

@@ -36,6 +36,7 @@ use Rattle.cas_record.specs.declared.mark.Mark.TheVariants.{Ended}
 use Rattle.cas_record.specs.Happening.{marks_of}
 use Rattle.cas_cluster.specs.Acceptors.{votes_of}
 use Rattle.cas_cluster.specs.Parties.{asked_in}
+use Rattle.cas_cluster.specs.Collection.{reserved_for_collection}
 use Rattle.cas_cluster.specs.Council.{ExchangeView, Council, broken_off, crashed_in, exchange_place, reserved_for_order, reserved_for_exchange}
 use Rattle.cas_cluster.specs.Safe.{requests_in, handled_in, handled_once, IsPartySafe, IsRoundSafe, IsOpenSafe, IsIdleSafe, IsSound, IsAskingSafe, IsCouncilSafe}
 use Rattle.cas_cluster.specs.Step as step
@@ -55,7 +56,7 @@ use Rattle.cas_cluster.proofs.EndSteps.{none_left}
 use Rattle.cas_cluster.proofs.Courses.{era_kept}
 use Rattle.cas_cluster.proofs.Places.{same_or_not, own_set, some_is, queue_same, queue_other, contains_none}
 use Rattle.cas_cluster.proofs.Rescanning.{rescan_asks, rescan_reserves}
-use Rattle.cas_cluster.proofs.SafeListings.{broken_asks, rescan_safe}
+use Rattle.cas_cluster.proofs.SafeListings.{broken_asks, rescan_collects, rescan_safe}
 use Rattle.cas_cluster.proofs.SafeParts.{more_marks, more_by, reserved_set, set_within, safe_but, council_safe, caller_low, desk_low, changes_both, changes_caller, changes_desk, party_idle, idle_at, keeps_set}
 use Rattle.cas_cluster.proofs.FrameSteps.{same_asked}
 
@@ -240,12 +241,12 @@ asked_set era (Prepare p) prep acc = prep
 asked_set era (Accept p) prep acc = acc
 
 reserves_by : (era : Era) (phase : OpenPhase) (reserved harmed requests handled : ℕ) → harmed ≤ length (asked_in era phase) → handled ≤ requests
-    → (is_preparing phase ≡ true → 3 + 3 * length era.acc + length era.prep ≤ reserved + harmed) → (is_preparing phase ≡ false → 2 + 2 * requests + length era.acc ≤ reserved + harmed + handled) → 2 ≤ reserved
+    → (is_preparing phase ≡ true → 4 + 3 * length era.acc + length era.prep ≤ reserved + harmed) → (is_preparing phase ≡ false → 3 + 2 * requests + length era.acc ≤ reserved + harmed + handled) → 3 ≤ reserved
 reserves_by era (Prepare p) reserved harmed requests handled few once prepares accepts = omega (arith, few, prepares refl)
 reserves_by era (Accept p) reserved harmed requests handled few once prepares accepts = omega (arith, few, once, accepts refl)
 
--- of an open round the mark of its call's end is reserved
-pub reserves_one : (era : Era) (caller : CallerView) (queue : QueueView) (round : Round) (was : IsOpenSafe era caller queue round) → IsMemberSet era.prep → IsMemberSet era.acc → 2 ≤ was.call.reserved
+-- of an open round the marks of an acknowledgment, of its call's end and of a floor are reserved
+pub reserves_one : (era : Era) (caller : CallerView) (queue : QueueView) (round : Round) (was : IsOpenSafe era caller queue round) → IsMemberSet era.prep → IsMemberSet era.acc → 3 ≤ was.call.reserved
 reserves_one era caller queue round was prep acc =
     reserves_by era round.phase was.call.reserved (length was.call.harmed) (requests_in queue.messages) (handled_once queue)
     (set_within was.call.harmed (asked_in era round.phase) was.harmed_set (asked_set era round.phase prep acc) was.harmed_within) (handled_few queue.again queue.messages) was.prepare_room was.accept_room
@@ -307,8 +308,8 @@ over_safe old id caller call desk now told was at_caller is_open at_desk same no
 left_alone : (flow : FlowView) (id p : ℕ) → (p ≡ id → ⊥) → queue_at (abandoned flow id) p ≡ queue_at flow p
 left_alone flow id p other = queue_other flow.own id p (emptied (queue_at flow id)) other
 
--- what a crash leaves of a desk
-crashed_fit : {V : Type 0} (desk now : DeskView V) → now.cache ≡ [] → AreFit desk.cache → AreFit now.cache
+-- of a desk that keeps no promise
+pub crashed_fit : {V : Type 0} (desk now : DeskView V) → now.cache ≡ [] → AreFit desk.cache → AreFit now.cache
 crashed_fit desk now none were = subst AreFit (sym none) (λ key ready h. absurd (contains_none h))
 
 -- as much stays reserved for it
@@ -331,12 +332,12 @@ broken_safe (Some exchange) queue was = record {
   room = omega arith;
 }
 
--- a desk that stops or moves on has no open round and no promise then
+-- a desk that stops or moves on has no open round then
 pub left_safe : {S V : Type 0} (old : View S V) (id : ℕ) (DeskTurns : DeskView V → DeskView V → Type 0) (told : Answer) (why : Cause) (new : View S V)
-    → ((desk now : DeskView V) → DeskTurns desk now → (now.id ≡ desk.id) × (now.round ≡ None) × (now.cache ≡ [])) → IsSound old → LeavesRound DeskTurns (closed_by told why) old id new → IsSound new
+    → ((desk now : DeskView V) → DeskTurns desk now → (now.id ≡ desk.id) × (now.round ≡ None) × (AreFit desk.cache → AreFit now.cache)) → IsSound old → LeavesRound DeskTurns (closed_by told why) old id new → IsSound new
 left_safe {S} {V} old id DeskTurns told why new turns was (stops.idle desk now at none by view) =
     let how = turns desk now by in
-    subst IsSound (sym view) (desk_idles old id desk now (abandoned old.flow id) was at how.0 how.1 (crashed_fit desk now how.2)
+    subst IsSound (sym view) (desk_idles old id desk now (abandoned old.flow id) was at how.0 how.1 how.2
     (λ caller at_caller. record {
       none_waits = none_left old.flow id;
       reserved = (idle_at (era_at old id) caller (queue_at old.flow id) desk.round none (was.parties id desk caller at at_caller).round).reserved;
@@ -346,7 +347,7 @@ left_safe {S} {V} old id DeskTurns told why new turns was (stops.closes desk now
     let how = turns desk now by in
     let caller = of_call.caller in
     let call = of_call.call in
-    subst IsSound (sym view) (call_idles old id caller (record caller { call = Some (closed_by told why call) }) desk now (abandoned old.flow id) old.marks was of_call.at_caller at how.0 how.1 (crashed_fit desk now how.2) refl
+    subst IsSound (sym view) (call_idles old id caller (record caller { call = Some (closed_by told why call) }) desk now (abandoned old.flow id) old.marks was of_call.at_caller at how.0 how.1 how.2 refl
     (λ other is. subst (λ (c : CallView). 0 < c.reserved) (some_is is) (omega arith)) (none_left old.flow id) (length-set old.flow.own id (emptied (queue_at old.flow id))) (left_alone old.flow id) (omega arith)
     (omega (arith, ap reserved_in of_call.is_open, call_reserves_at old id caller call desk was of_call.at_caller of_call.is_open at)))
 
@@ -373,8 +374,8 @@ broken_off_safe old was =
 pub down_safe : {S V : Type 0} (old : View S V) (id : ℕ) (DeskTurns : DeskView V → DeskView V → Type 0) (new : View S V) → ((desk now : DeskView V) → DeskTurns desk now → IsCrashed desk now) → IsSound old → GoesDown DeskTurns old id new → IsSound new
 down_safe {S} {V} old id DeskTurns new crashes was by = by_case by
   where
-    turns : (desk now : DeskView V) → DeskTurns desk now → (now.id ≡ desk.id) × (now.round ≡ None) × (now.cache ≡ [])
-    turns desk now by = let crashed = crashes desk now by in (ap (λ (d : DeskView V). d.id) crashed, ap (λ (d : DeskView V). d.round) crashed, ap (λ (d : DeskView V). d.cache) crashed)
+    turns : (desk now : DeskView V) → DeskTurns desk now → (now.id ≡ desk.id) × (now.round ≡ None) × (AreFit desk.cache → AreFit now.cache)
+    turns desk now by = let crashed = crashes desk now by in (ap (λ (d : DeskView V). d.id) crashed, ap (λ (d : DeskView V). d.round) crashed, crashed_fit desk now (ap (λ (d : DeskView V). d.cache) crashed))
 
     by_case : GoesDown DeskTurns old id new → IsSound new
     by_case (stops.of_client apart leaves) = left_safe old id DeskTurns answer.Crashed cause.Crashed new turns was leaves
@@ -437,15 +438,17 @@ restarts_proposer_safe {S} {V} m old id new was sets (step.restarts desk now its
         (λ d at_d. ap (λ (x : DeskView V). x.round) (own_set old.desks id now d at_d ∙ by.desk) ∙ (was.parties id desk its_caller at at_its).idle down)
 
 -- ---- calls that end, and calls that are refused
--- the exchange of the operator is as it was, and as much stays reserved for its call
-counsel_safe : {S V : Type 0} (old : View S V) (next : Council) → IsSound old → IsCouncilSafe next → next.exchange ≡ old.council.exchange → reserved_for_order next.order ≡ reserved_for_order old.council.order → IsSound (with_council old next)
-counsel_safe old next was safe exchange reserved =
+-- the exchange of the operator is as it was, and as much stays reserved for its call and its collection
+counsel_safe : {S V : Type 0} (old : View S V) (next : Council) → IsSound old → IsCouncilSafe next → next.exchange ≡ old.council.exchange → reserved_for_order next.order ≡ reserved_for_order old.council.order
+    → next.collection ≡ old.council.collection → IsSound (with_council old next)
+counsel_safe old next was safe exchange reserved collected =
     council_safe old old.flow next old.marks was refl (λ p other. refl) (omega arith) (subst (λ (e : Option ExchangeView). IsAskingSafe e (queue_at old.flow exchange_place)) (sym exchange) was.asking) safe
-    (omega (arith, was.room, ap reserved_for_exchange exchange, reserved))
+    (omega (arith, was.room, ap reserved_for_exchange exchange, reserved, ap reserved_for_collection collected))
 
 rescans_safe : {S V : Type 0} (old : View S V) (id : ℕ) (key : List ℕ) (told : Answer) (next : Council) → IsSound old → Rescans old.council id key told next → IsSound (with_council old next)
 rescans_safe old id key told next was by =
     counsel_safe old next was (rescan_safe old.council id key told next by was.council) (rescan_asks old.council id key told next by) (rescan_reserves old.council id key told next by)
+    (rescan_collects old.council id key told next by)
 
 pub ends_call_safe : {S V : Type 0} (m : Meaning S V) (old : View S V) (id : ℕ) (caller : CallerView) (call : CallView) (told : Answer) (new : View S V) → IsSound old → IsAt old.callers id caller → caller.call ≡ Some call
     → EndsCall m old id caller call told new → IsSound new

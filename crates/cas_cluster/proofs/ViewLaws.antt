@@ -1,11 +1,11 @@
 -- The laws of a cluster as it is seen.
-use Rattle.std.proofs.Common.{◌≡◌, ℕ, true, List, Option, Ok, reverse, refl, sym, ap, subst, ◌∙◌, inl, inr}
+use Rattle.std.proofs.Common.{◌≡◌, ℕ, true, List, Option, None, Some, Ok, reverse, refl, sym, ap, subst, ◌∙◌, inl, inr, arith}
 use Rattle.std.specs.Cmp.Lexicographic.{slice_cmp}
 use Rattle.std.specs.FinMap as map
 use Rattle.std.specs.Ordering.{nat_cmp}
 use Rattle.cas_base.proofs.Bools.{true_or_false}
 use Rattle.cas_ballot.specs.declared.ballot.Ballot.{Ballot}
-use Rattle.cas_ballot.specs.Ballot.{zero_ballot, BallotAtMost}
+use Rattle.cas_ballot.specs.Ballot.{zero_ballot, BallotAtMost, BallotLess}
 use Rattle.cas_ballot.specs.Members.{has_member}
 use Rattle.cas_ballot.proofs.BallotLemmas.{at_most_antisym, zero_at_most}
 use Rattle.cas_acceptor.specs.Acceptor.{AcceptorView}
@@ -18,20 +18,31 @@ use Rattle.cas_record.specs.declared.mark.Mark.{Mark}
 use Rattle.cas_record.specs.declared.mark.Mark.TheVariants.{Acked}
 use Rattle.cas_record.specs.Chain.{chain_of}
 use Rattle.cas_record.specs.Happening.{Happening, marks_of}
-use Rattle.cas_record.specs.Orderly.{IsAboveFloors}
+use Rattle.cas_record.specs.Orderly.{IsAboveFloors, IsClear, IsNoneOrAbove}
 use Rattle.cas_record.specs.Places.{Stands, IsPrefix}
 use Rattle.cas_record.proofs.LogLemmas.{acked_at, not_zero, acked_proposed}
+use Rattle.cas_cluster.specs.View.{CallerView, Meaning, View, CallView, era_at, IsAt}
 use Rattle.cas_cluster.specs.Acceptors.{IsLeft, Tells}
 use Rattle.cas_cluster.specs.Held.{Holds}
 use Rattle.cas_cluster.specs.History.{IsRemembered}
-use Rattle.cas_cluster.specs.Parties.{IsAcceptorTrue}
+use Rattle.cas_cluster.specs.Parties.{IsAcceptorTrue, IsDeskTrue, IsPrepareTrue, IsAcceptTrue, IsOpenTrue}
 use Rattle.cas_cluster.specs.Step.{IsOpening, History}
 use Rattle.cas_cluster.specs.Step as step
-use Rattle.cas_cluster.specs.View.{Meaning, View}
-use Rattle.cas_cluster.specs.ViewLaws.{OpeningsAreRemembered, StepsAreRemembered, HistoriesAreLegal, IsKeptBy, WhatIsDoneIsKept}
+use Rattle.cas_cluster.specs.ViewLaws.{OpeningsAreRemembered, StepsAreRemembered, HistoriesAreLegal, IsKeptBy, WhatIsDoneIsKept, FloorsArePassed, MembersAreClear}
 use Rattle.cas_cluster.proofs.Held.{held_by}
 use Rattle.cas_cluster.proofs.Opens.{opening_remembered, remembered_legal}
-use Rattle.cas_cluster.proofs.Remembering.{keeps}
+use Rattle.cas_cluster.proofs.Collecting.{keeps}
+use Rattle.cas_cluster.proofs.Places.{some_is}
+use Rattle.cas_cluster.proofs.Proposes.{all_in_low}
+use Rattle.cas_cluster.proofs.SafeParts.{at_low}
+use Rattle.cas_cluster.specs.Protocol.{IsFloorClear}
+use Rattle.cas_proposer.specs.Desk.{DeskView}
+use Rattle.cas_record.specs.Lawful.{SlotTold}
+use Rattle.cas_record.proofs.Floors.{accepted_after}
+use Rattle.std.specs.Prelude.{◌≤◌, ◌⊎◌}
+use Rattle.cas_flow.specs.Flow.{queue_at}
+use Rattle.cas_proposer.specs.declared.round.Round.{Round}
+use Rattle.cas_record.specs.Legal.{HasFloor}
 
 pub openings : {S V : Type 0} (m : Meaning S V) → OpeningsAreRemembered m
 openings m shelves disks members view is = opening_remembered m shelves disks members view is
@@ -62,38 +73,106 @@ nothing_holds key ballot low =
 
 pub done_kept : {S V : Type 0} (m : Meaning S V) → WhatIsDoneIsKept m
 done_kept {S} {V} m tells view a is stands above = record {
-  quorum = λ id low same. sym ((is.logged.agrees.eras id low).accepts a.by) ∙ sym (ap (λ (e : ℕ). is.cluster.accepts e a.by) same) ∙ held.0;
-  kept = λ id acceptor member at. kept_by id acceptor member (is.logged.agrees.acceptors id acceptor at);
+  quorum = λ id low same. sym ((is.followed.logged.agrees.eras id low).accepts a.by) ∙ sym (ap (λ (e : ℕ). is.followed.cluster.accepts e a.by) same) ∙ held.0;
+  kept = λ id acceptor member at. kept_by id acceptor member (is.followed.logged.agrees.acceptors id acceptor at);
 }
   where
     log : List Happening
-    log = is.logged.global.log
+    log = is.followed.logged.global.log
 
     stood : Stands (Acked a) (marks_of log)
-    stood = subst (Stands (Acked a)) (sym is.logged.agrees.marks) stands
+    stood = subst (Stands (Acked a)) (sym is.followed.logged.agrees.marks) stands
 
-    held : (is.cluster.accepts a.era a.by ≡ true)
+    held : (is.followed.cluster.accepts a.era a.by ≡ true)
         × ((acceptor : ℕ) (kept new : Contents) → has_member a.by acceptor ≡ true → Tells log acceptor kept → IsLeft log acceptor kept (Ok new) → Holds log a.key a.ballot new)
-    held = held_by is.cluster is.logged.meets log a is.logged.history.lawful is.logged.history.orderly stood (subst (λ (l : List Mark). IsAboveFloors l a.key a.ballot) (sym is.logged.agrees.marks) above)
+    held = held_by is.followed.cluster is.followed.logged.meets log a is.followed.logged.history.lawful is.followed.logged.history.orderly stood (subst (λ (l : List Mark). IsAboveFloors l a.key a.ballot) (sym is.followed.logged.agrees.marks) above)
 
     some : a.ballot ≡ zero_ballot → ⊥
-    some zero = let proposed = acked_proposed is.cluster is.logged.history.lawful (acked_at log (record { acknowledgment = a; stands = stood; same_key = refl; same_ballot = refl })) in not_zero is.cluster is.logged.history.lawful proposed.at (proposed.same_ballot ∙ zero)
+    some zero = let proposed = acked_proposed is.followed.cluster is.followed.logged.history.lawful (acked_at log (record { acknowledgment = a; stands = stood; same_key = refl; same_ballot = refl })) in not_zero is.followed.cluster is.followed.logged.history.lawful proposed.at (proposed.same_ballot ∙ zero)
 
-    holds : (id : ℕ) → has_member a.by id ≡ true → (left : Contents) → IsLeft log id (is.logged.global.kept id) (Ok left) → Holds log a.key a.ballot left
-    holds id member left may = held.1 id (is.logged.global.kept id) left member (is.logged.history.tells id) may
+    holds : (id : ℕ) → has_member a.by id ≡ true → (left : Contents) → IsLeft log id (is.followed.logged.global.kept id) (Ok left) → Holds log a.key a.ballot left
+    holds id member left may = held.1 id (is.followed.logged.global.kept id) left member (is.followed.logged.history.tells id) may
 
-    started : (id : ℕ) (acceptor : AcceptorView S) → has_member a.by id ≡ true → IsAcceptorTrue m log id (is.logged.global.kept id) acceptor → acceptor.started ≡ true
+    started : (id : ℕ) (acceptor : AcceptorView S) → has_member a.by id ≡ true → IsAcceptorTrue m log id (is.followed.logged.global.kept id) acceptor → acceptor.started ≡ true
     started id acceptor member of = elim (true_or_false acceptor.started) [
       | inl has_started ↦ has_started
-      | inr none ↦ absurd (some (nothing_holds a.key a.ballot (subst (λ (c : Contents). BallotAtMost a.ballot (accepted_ballot (accepted_at c a.key))) (of.not_started none) (holds id member (is.logged.global.kept id) (inl refl)).at_least)))
+      | inr none ↦ absurd (some (nothing_holds a.key a.ballot (subst (λ (c : Contents). BallotAtMost a.ballot (accepted_ballot (accepted_at c a.key))) (of.not_started none) (holds id member (is.followed.logged.global.kept id) (inl refl)).at_least)))
     ]
 
-    kept_by : (id : ℕ) (acceptor : AcceptorView S) → has_member a.by id ≡ true → IsAcceptorTrue m log id (is.logged.global.kept id) acceptor → IsKeptBy m (reverse view.marks) a.key a.ballot acceptor
+    kept_by : (id : ℕ) (acceptor : AcceptorView S) → has_member a.by id ≡ true → IsAcceptorTrue m log id (is.followed.logged.global.kept id) acceptor → IsKeptBy m (reverse view.marks) a.key a.ballot acceptor
     kept_by id acceptor member of =
         let has_started = started id acceptor member of in
         record {
           started = has_started;
-          at_least = λ left may. (holds id member left (left_of m log id (is.logged.global.kept id) acceptor tells of has_started (Ok left) may)).at_least;
-          begins = λ left may. subst (λ (l : List Mark). IsPrefix (chain_of a.key a.ballot l) (chain_of a.key (accepted_ballot (accepted_at left a.key)) l)) is.logged.agrees.marks
-              (holds id member left (left_of m log id (is.logged.global.kept id) acceptor tells of has_started (Ok left) may)).begins;
+          at_least = λ left may. (holds id member left (left_of m log id (is.followed.logged.global.kept id) acceptor tells of has_started (Ok left) may)).at_least;
+          begins = λ left may. subst (λ (l : List Mark). IsPrefix (chain_of a.key a.ballot l) (chain_of a.key (accepted_ballot (accepted_at left a.key)) l)) is.followed.logged.agrees.marks
+              (holds id member left (left_of m log id (is.followed.logged.global.kept id) acceptor tells of has_started (Ok left) may)).begins;
         }
+
+-- ---- floors
+pub floors_passed : {S V : Type 0} (m : Meaning S V) → FloorsArePassed m
+floors_passed {S} {V} m shelves disks view key floor id desk caller is has at_desk at_caller = record {
+  vault = of.vault.past_floors key floor stood;
+  promise = λ ready h. let held = of.cached key ready h in (held.in_hand.above_floors.above stood.stands, held.over_floors floor stood);
+  round = λ round is_open same. by_round desk.round round is_open same of.round;
+}
+  where
+    log : List Happening
+    log = is.followed.logged.global.log
+
+    stood : HasFloor key floor (marks_of log)
+    stood = subst (HasFloor key floor) (sym is.followed.logged.agrees.marks) has
+
+    of : IsDeskTrue m is.followed.cluster log is.followed.logged.global.made (era_at view id).number id caller (queue_at view.flow id).messages desk
+    of = is.followed.logged.agrees.desks id desk caller at_desk at_caller
+
+    in_phase : (call : CallView) (round : Round) → round.key ≡ key → IsPrepareTrue log id call (queue_at view.flow id).messages round ⊎ IsAcceptTrue log is.followed.logged.global.made id caller.number call (queue_at view.flow id).messages round → BallotLess floor round.ballot
+    in_phase call round same (inl prepare) = prepare.in_hand.above_floors.above (subst (λ (k : List ℕ). HasFloor k floor (marks_of log)) (sym same) stood).stands
+    in_phase call round same (inr accept) = accept.above_floors.above (subst (λ (k : List ℕ). HasFloor k floor (marks_of log)) (sym same) stood).stands
+
+    by_round : (open_ : Option Round) (round : Round) → open_ ≡ Some round → round.key ≡ key → IsOpenTrue is.followed.cluster log is.followed.logged.global.made id (era_at view id).number caller (queue_at view.flow id).messages open_ → BallotLess floor round.ballot
+    by_round None round e same true_of = absurd (cc e)
+    by_round (Some one) round e same true_of =
+        let is_it : one ≡ round = some_is e in
+        subst (λ (r : Round). BallotLess floor r.ballot) is_it (in_phase true_of.call one (ap (λ (r : Round). r.key) is_it ∙ same) true_of.phase)
+
+pub members_clear : {S V : Type 0} (m : Meaning S V) → MembersAreClear m
+members_clear {S} {V} m shelves disks view key floor proposer id acceptor safe is has known member at up left may =
+    subst (λ (c : Contents). IsNoneOrAbove floor (accepted_ballot (accepted_at c key))) (sym same_left)
+    (subst (λ (s : SlotTold). IsNoneOrAbove floor s.accepted) ((is.followed.logged.history.tells id).slots key) (accepted_after is.followed.cluster log id key floor is.followed.logged.history.lawful is.followed.logged.history.orderly clear))
+  where
+    log : List Happening
+    log = is.followed.logged.global.log
+
+    kept : Contents
+    kept = is.followed.logged.global.kept id
+
+    of : IsAcceptorTrue m log id kept acceptor
+    of = is.followed.logged.agrees.acceptors id acceptor at
+
+    same_left : left ≡ kept
+    same_left = let same : Ok left ≡ Ok kept = of.lasts up (Ok left) may ∙ ap (λ (c : Contents). Ok c) (of.keeps up) in cc same
+
+    stood : HasFloor key floor (marks_of log)
+    stood = subst (HasFloor key floor) (sym is.followed.logged.agrees.marks) has
+
+    known_of : IsFloorClear is.followed.cluster log key floor
+    known_of = is.followed.logged.history.knows.clear key floor stood
+
+    desk : (d : DeskView V) × IsAt view.desks proposer d
+    desk = at_low view.desks proposer (omega (arith, known, safe.sound.desks))
+
+    caller : (c : CallerView) × IsAt view.callers proposer c
+    caller = at_low view.callers proposer (omega (arith, known, safe.sound.callers))
+
+    of_desk : IsDeskTrue m is.followed.cluster log is.followed.logged.global.made (era_at view proposer).number proposer caller.0 (queue_at view.flow proposer).messages desk.0
+    of_desk = is.followed.logged.agrees.desks proposer desk.0 caller.0 desk.1 caller.1
+
+    low : known_of.era ≤ (era_at view proposer).number
+    low = all_in_low is.followed.cluster log known_of.era proposer (era_at view proposer).number is.followed.logged.history.lawful of_desk.known of_desk.vault.not_beyond known_of.all_in
+
+    clear : IsClear log id key floor
+    clear = known_of.clear (era_at view proposer).number id low (elim member [
+      | inl prepares ↦ (is.followed.logged.agrees.eras proposer known).prep_members id prepares
+      | inr accepts ↦ (is.followed.logged.agrees.eras proposer known).acc_members id accepts
+    ])

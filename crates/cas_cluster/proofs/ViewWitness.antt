@@ -49,7 +49,7 @@ use Rattle.cas_change.specs.declared.outcome.Took.TheVariants.{Clause as ByClaus
 use Rattle.cas_record.specs.Places.{here, past}
 use Rattle.cas_record.specs.Witness.{three, key_a, at}
 use Rattle.cas_cluster.specs.Council.{opening_council}
-use Rattle.cas_cluster.specs.Parties.{IsWithin}
+use Rattle.cas_cluster.specs.Parties.{IsAged, IsWithin}
 use Rattle.cas_cluster.specs.Step.{Begin, Turn, Propose, Count, End, Stray, CrashAcceptor, RestartAcceptor, CrashProposer, RestartProposer, Step, IsOpening, IsFreshAcceptor, IsFreshDesk, History, opens, steps, crashes, starts, restarts}
 use Rattle.cas_cluster.specs.StepStops.{of_client, closes}
 use Rattle.cas_cluster.specs.StepAcceptors.{AnswersByTable, StopsWithin}
@@ -87,9 +87,13 @@ module _ {D : Type 0} (begun : Vault D) where
   in_era : (counter : ℕ) → IsWithin toys.disks 0 0 (vault_at counter)
   in_era counter = record { kept = refl; left = λ c other on too. inl (ap (λ (k : Kept). k.era) (same_kept other kept c too on)) }
 
+  in_age : (counter : ℕ) → IsAged toys.disks 0 (vault_at counter)
+  in_age counter = record { kept = omega arith; left = λ c other on too. omega arith }
+
   goes_on : (old new : ℕ) → old ≤ new → GoesOn toys.disks (vault_at old) (vault_at new)
   goes_on old new up = record {
     still_past = λ tells n past. record { counter = omega (arith, up, past.counter); images = past.images };
+    ages = λ tells age is. record { kept = is.kept; left = is.left };
     era = λ tells e other is. record { kept = is.kept; left = is.left };
     never_falls = omega arith;
   }
@@ -246,6 +250,7 @@ module _ {D : Type 0} (begun : Vault D) where
           none_open = refl;
           no_promise = refl;
           drawn = draws 1 0 (omega arith) (omega arith) refl;
+          aged = λ tells. in_age 1;
           opened = (
             record { of_key = refl; in_era = refl; at = refl; ride = refl; met = refl },
             record { phase = record { same_era = refl; same_ballot = refl; tally = tally.nothing is_promise; read = refl }; met = refl },
@@ -437,6 +442,7 @@ module _ {D : Type 0} (begun : Vault D) where
             accepts = λ replies h. record { phase = record { same_era = refl; same_ballot = refl; tally = tally.nothing is_acceptance }; met = h.met };
           };
           drawn = draws 1 1 (omega arith) (omega arith) refl;
+          aged = λ tells. in_age 2;
           desk = refl;
         }) refl (sends (accepts_to 1 0 key_a one 0 (Some two) five three) 6 [] (omega arith)) refl;
   }
@@ -661,6 +667,7 @@ module _ {D : Type 0} (begun : Vault D) where
           none_open = refl;
           promise = refl;
           drawn = draws 1 2 (omega arith) (omega arith) refl;
+          aged = λ tells. in_age 3;
           opened = (
             record { of_key = refl; in_era = refl; at = refl; ride = refl; met = refl },
             record { phase = record { same_era = refl; same_ballot = refl; tally = tally.nothing is_acceptance }; met = refl },
@@ -717,6 +724,7 @@ module _ {D : Type 0} (begun : Vault D) where
           none_open = refl;
           no_promise = refl;
           drawn = draws 2 0 (omega arith) (omega arith) refl;
+          aged = λ tells. in_age 1;
           opened = (
             record { of_key = refl; in_era = refl; at = refl; ride = refl; met = refl },
             record { phase = record { same_era = refl; same_ballot = refl; tally = tally.nothing is_promise; read = refl }; met = refl },
@@ -788,6 +796,7 @@ module _ {D : Type 0} (begun : Vault D) where
   restarted = record {
     desk = refl;
     still_past = λ tells n past. past;
+    ages = λ tells age is. is;
     shows = λ up tells e other is. inl (record { kept = is.kept; left = λ c k may on. inl (ap (λ (x : Kept). x.era) (same_kept k kept c on may) ∙ is.kept) });
     stays = λ down. absurd (cc down);
     never_falls = omega arith;

@@ -1,9 +1,9 @@
 -- A cluster gets new eras, one after another: what it had stays, and its quorums still meet.
 use Rattle.std.proofs.Common.{◌≡◌, ◌≤◌, ◌<◌, ℕ, ◌+◌, suc, true, List, [], ◌∷◌, length, refl, sym, ap, subst, ◌∙◌, inl, inr, arith}
 use Rattle.std.specs.Prelude.{◌⊎◌, ◌||◌, ◌==◌, if◌then◌else◌, Contains}
-use Rattle.cas_base.proofs.Bools.{if_true, if_false, or_left, or_right, false_of_not, not_both}
+use Rattle.cas_base.proofs.Bools.{if_true, if_false, or_left, or_right, or_cases, false_of_not, not_both}
 use Rattle.cas_ballot.specs.Members.{has_member, union_of}
-use Rattle.cas_ballot.proofs.MemberLemmas.{has-members_where}
+use Rattle.cas_ballot.proofs.MemberLemmas.{members_where_tells, has-members_where}
 use Rattle.cas_quorum.specs.declared.era.Era.{Era}
 use Rattle.cas_quorum.specs.Era.{holds_prep, holds_acc, IsSized, Meet, NeighboursMeet}
 use Rattle.cas_quorum.specs.Quorum.{majority_of, Shared}
@@ -15,7 +15,7 @@ use Rattle.cas_cluster.specs.Course.{Follows, IsNoEra}
 use Rattle.cas_cluster.specs.Parties.{IsEraOf}
 use Rattle.cas_cluster.proofs.Harms.{member_low}
 use Rattle.cas_cluster.proofs.Places.{same_or_not, contains_none}
-use Rattle.cas_cluster.proofs.Plans.{AreNext}
+use Rattle.cas_cluster.proofs.Plans.{IsMemberOfOne, AreNext}
 
 -- ---- one at a number
 -- this at the number, and elsewhere what was there
@@ -57,6 +57,7 @@ keeps_era : (cluster : Cluster) (next era : Era) → (era.number ≡ next.number
 keeps_era cluster next era other is = record {
   prep_members = λ acceptor member. subst (λ (l : List ℕ). has_member l acceptor ≡ true) (sym (other_members cluster next era.number other)) (is.prep_members acceptor member);
   acc_members = λ acceptor member. subst (λ (l : List ℕ). has_member l acceptor ≡ true) (sym (other_members cluster next era.number other)) (is.acc_members acceptor member);
+  only_members = λ acceptor member. is.only_members acceptor (subst (λ (l : List ℕ). has_member l acceptor ≡ true) (other_members cluster next era.number other) member);
   prepares = λ by. other_prepares cluster next era.number by other ∙ is.prepares by;
   accepts = λ by. other_accepts cluster next era.number by other ∙ is.accepts by;
   prep_set = is.prep_set;
@@ -87,6 +88,8 @@ has_era : (cluster : Cluster) (base next : Era) → Follows base next → IsEraO
 has_era cluster base next follows = record {
   prep_members = λ acceptor member. in_union acceptor (member_low next.prep acceptor follows.prep_set member) (or_left (has_member next.prep acceptor) (has_member next.acc acceptor) member);
   acc_members = λ acceptor member. in_union acceptor (member_low next.acc acceptor follows.acc_set member) (or_right (has_member next.prep acceptor) (has_member next.acc acceptor) member);
+  only_members = λ acceptor member. or_cases (has_member next.prep acceptor) (has_member next.acc acceptor) (members_where_tells (λ n. has_member next.prep n || has_member next.acc n) acceptor
+      (subst (λ (l : List ℕ). has_member l acceptor ≡ true) (own next.number (union_of next.prep next.acc) cluster.members) member));
   prepares = λ by. own_prepares cluster next next.number by refl;
   accepts = λ by. own_accepts cluster next next.number by refl;
   prep_set = follows.prep_set;
@@ -176,6 +179,7 @@ new_widened cluster next none = record {
 pub record IsWidening (cluster wider : Cluster) (base : Era) (later : List Era) : Type 0 where
   pub meets : ClusterMeets wider
   pub widened : IsWidened cluster wider
+  pub members : (number acceptor : ℕ) → has_member (wider.members number) acceptor ≡ true → (has_member (cluster.members number) acceptor ≡ true) ⊎ IsMemberOfOne later acceptor
   pub keeps : (era : Era) → era.number ≤ base.number → IsEraOf cluster era → IsEraOf wider era
   pub has : (era : Era) → Contains later era → IsEraOf wider era
   pub none_beyond : (number : ℕ) → base.number + length later < number → IsNoEra wider number
@@ -195,10 +199,25 @@ meets_itself : (era : Era) (later : List Era) → NeighboursMeet (era ∷ later)
 meets_itself era [] meet = meet
 meets_itself era (next ∷ later) meet = meet.0
 
+-- its members are those that the cluster had there, or those of the new era
+new_member : (cluster : Cluster) (next : Era) (number acceptor : ℕ) → has_member ((with_era cluster next).members number) acceptor ≡ true
+    → (has_member (cluster.members number) acceptor ≡ true) ⊎ (has_member (union_of next.prep next.acc) acceptor ≡ true)
+new_member cluster next number acceptor member = elim (same_or_not number next.number) [
+  | inl is ↦ inr (subst (λ (l : List ℕ). has_member l acceptor ≡ true) (ap (with_era cluster next).members is ∙ own next.number (union_of next.prep next.acc) cluster.members) member)
+  | inr other ↦ inl (subst (λ (l : List ℕ). has_member l acceptor ≡ true) (other_members cluster next number other) member)
+]
+
 further : (cluster wider : Cluster) (base next : Era) (later : List Era) → Follows base next → IsLast cluster base → IsWidening (with_era cluster next) wider next later → IsWidening cluster wider base (next ∷ later)
 further cluster wider base next later follows last rest = record {
   meets = rest.meets;
   widened = widened_on (new_widened cluster next (last.none_beyond next.number (omega (arith, follows.number)))) rest.widened;
+  members = λ number acceptor member. elim (rest.members number acceptor member) [
+    | inl before ↦ elim (new_member cluster next number acceptor before) [
+      | inl was ↦ inl was
+      | inr new ↦ inr (inl new)
+    ]
+    | inr there ↦ inr (inr there)
+  ];
   keeps = λ era low is. rest.keeps era (omega (arith, low, follows.number)) (keeps_era cluster next era (λ same. omega (arith, same, low, follows.number)) is);
   has = λ era has_it. elim (has era (next ∷ later) has_it) [
     | inl is ↦ subst (IsEraOf wider) is (rest.keeps next (omega arith) (has_era cluster base next follows))
@@ -213,6 +232,7 @@ widens_last cluster base [] last follows meet = (
   record {
     meets = last.meets;
     widened = widened_same cluster;
+    members = λ number acceptor member. inl member;
     keeps = λ era low is. is;
     has = λ era none. absurd (contains_none none);
     none_beyond = λ number far. last.none_beyond number (omega (arith, far));

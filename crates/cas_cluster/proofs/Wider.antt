@@ -1,24 +1,82 @@
 -- What is logged of a cluster is logged of a wider one: its new eras are beyond all that happened.
-use Rattle.std.proofs.Common.{◌≡◌, ◌≤◌, ℕ, List, Option, None, Some, sym, subst, ◌∙◌, arith}
+use Rattle.std.proofs.Common.{◌≡◌, ◌≤◌, ℕ, true, false, List, Option, None, Some, sym, subst, ◌∙◌, inl, inr, arith}
+use Rattle.std.specs.Prelude.{◌⊎◌}
+use Rattle.cas_base.proofs.Bools.{not_both}
+use Rattle.cas_ballot.specs.declared.ballot.Ballot.{Ballot}
+use Rattle.cas_ballot.specs.Members.{has_member}
 use Rattle.cas_cache.specs.declared.ready.Ready.{Ready}
 use Rattle.cas_flow.specs.Flow.{queue_at}
 use Rattle.cas_flow.specs.declared.message.Message.{Message}
 use Rattle.cas_proposer.specs.Desk.{DeskView}
 use Rattle.cas_proposer.specs.declared.round.Round.{Round}
 use Rattle.cas_quorum.specs.declared.era.Era.{Era}
-use Rattle.cas_record.specs.Happening.{Happening}
-use Rattle.cas_record.specs.Lawful.{Cluster}
+use Rattle.cas_slot.specs.Message.{tag_of}
+use Rattle.cas_slot.specs.Rules.{key_of}
+use Rattle.cas_record.specs.Happening.{Happening, marks_of}
+use Rattle.cas_record.specs.Lawful.{Cluster, AllEntered}
+use Rattle.cas_record.specs.Orderly.{Orderly, MayAskFor, IsClear, never_asked}
 use Rattle.cas_record.proofs.Clusters.{lawful_more, orderly_more}
+use Rattle.cas_record.proofs.Orders.{reason, round_asked}
+use Rattle.cas_cluster.specs.Council.{Council}
 use Rattle.cas_cluster.specs.History.{AgreesWith, IsLogged}
-use Rattle.cas_cluster.specs.Listed.{IsPlanTrue}
+use Rattle.cas_cluster.specs.Listed.{AreUsed, IsCouncilTrue}
 use Rattle.cas_cluster.specs.Parties.{IsHeldReady, IsOpenTrue, IsDeskTrue}
-use Rattle.cas_cluster.specs.Protocol.{Made, GlobalState, HasHistory}
+use Rattle.cas_cluster.specs.Protocol.{Made, GlobalState, IsFloorClear, HasHistory}
+use Rattle.cas_cluster.specs.StepCouncil.{with_council}
 use Rattle.cas_cluster.specs.View.{Meaning, View, CallerView, era_at}
+use Rattle.cas_cluster.proofs.Plans.{IsMemberOfOne}
 use Rattle.cas_cluster.proofs.Widening.{IsWidening}
 
-wider_history : (cluster wider : Cluster) (base : Era) (later : List Era) (global : GlobalState) → IsWidening cluster wider base later → HasHistory cluster global → HasHistory wider global
-wider_history cluster wider base later global more was =
-    record { lawful = lawful_more more.widened global.log was.lawful; orderly = orderly_more more.widened global.log was.orderly; tells = was.tells; knows = was.knows }
+-- ---- floors
+-- all are in no era beyond the base, and who becomes a member was one in the base or was never used
+pub record IsAhead (cluster : Cluster) (log : List Happening) (base : Era) (later : List Era) (used : List ℕ) : Type 0 where
+  pub all_in : (era : ℕ) → AllEntered cluster era (marks_of log) → era ≤ base.number
+  pub joins : (acceptor : ℕ) → IsMemberOfOne later acceptor → (has_member (cluster.members base.number) acceptor ≡ true) ⊎ (has_member used acceptor ≡ false)
+
+-- who was never used was asked for no ballot
+unused_clear : (cluster : Cluster) (log : List Happening) (used : List ℕ) (acceptor : ℕ) (key : List ℕ) (floor : Ballot) → Orderly cluster log → AreUsed cluster used → has_member used acceptor ≡ false → IsClear log acceptor key floor
+unused_clear cluster log used acceptor key floor orderly are unused = never_asked (λ request asked to round same.
+    let may : MayAskFor cluster asked.older request (key_of request.ask) (tag_of request.ask) = round_asked cluster asked.older request request.ask round (reason cluster orderly asked.at) in
+    absurd (not_both (has_member used acceptor) (subst (λ (a : ℕ). has_member used a ≡ true) to (are.members may.era request.to may.member)) unused))
+
+wider_clear : (cluster wider : Cluster) (base : Era) (later : List Era) (log : List Happening) (used : List ℕ) (key : List ℕ) (floor : Ballot) → IsWidening cluster wider base later → IsAhead cluster log base later used → AreUsed cluster used → Orderly cluster log
+    → IsFloorClear cluster log key floor → IsFloorClear wider log key floor
+wider_clear cluster wider base later log used key floor more ahead are orderly was = record {
+  era = was.era;
+  all_in = elim was.all_in [
+    | inl first ↦ inl first
+    | inr all ↦ inr (λ proposer known. all proposer (subst (λ (n : ℕ). proposer ≤ n) more.widened.greatest known))
+  ];
+  clear = λ number acceptor late member. elim (more.members number acceptor member) [
+    | inl before ↦ was.clear number acceptor late before
+    | inr new ↦ elim (ahead.joins acceptor new) [
+      | inl in_base ↦ was.clear base.number acceptor low in_base
+      | inr unused ↦ unused_clear cluster log used acceptor key floor orderly are unused
+    ]
+  ];
+}
+  where
+    low : was.era ≤ base.number
+    low = elim was.all_in [ inl first ↦ omega (arith, first) | inr all ↦ ahead.all_in was.era all ]
+
+-- ---- the history
+wider_history : (cluster wider : Cluster) (base : Era) (later : List Era) (global : GlobalState) (used : List ℕ) → IsWidening cluster wider base later → IsAhead cluster global.log base later used → AreUsed cluster used
+    → HasHistory cluster global → HasHistory wider global
+wider_history cluster wider base later global used more ahead are was = record {
+  lawful = lawful_more more.widened global.log was.lawful;
+  orderly = orderly_more more.widened global.log was.orderly;
+  tells = was.tells;
+  knows = record {
+    asked = was.knows.asked;
+    known = was.knows.known;
+    ended = was.knows.ended;
+    replied = was.knows.replied;
+    drawn = was.knows.drawn;
+    made = was.knows.made;
+    floors = was.knows.floors;
+    clear = λ key floor has. wider_clear cluster wider base later global.log used key floor more ahead are was.orderly (was.knows.clear key floor has);
+  };
+}
 
 -- ---- desks
 -- its quorum is one of the wider cluster
@@ -64,9 +122,10 @@ wider_desk m cluster wider base later log all era id caller waiting desk more lo
 }
 
 -- ---- the whole
-wider_agrees : {S V : Type 0} (m : Meaning S V) (cluster wider : Cluster) (base : Era) (later : List Era) (global : GlobalState) (view : View S V) → IsWidening cluster wider base later
-    → ((id : ℕ) → id ≤ view.greatest → (era_at view id).number ≤ base.number) → view.council.plan ≡ None → AgreesWith m cluster global view → AgreesWith m wider global view
-wider_agrees m cluster wider base later global view more low none was = record {
+-- with what the operator has under way then
+wider_agrees : {S V : Type 0} (m : Meaning S V) (cluster wider : Cluster) (base : Era) (later : List Era) (global : GlobalState) (view : View S V) (next : Council) → IsWidening cluster wider base later
+    → ((id : ℕ) → id ≤ view.greatest → (era_at view id).number ≤ base.number) → IsCouncilTrue wider global.log next → AgreesWith m cluster global view → AgreesWith m wider global (with_council view next)
+wider_agrees m cluster wider base later global view next more low council was = record {
   marks = was.marks;
   greatest = more.widened.greatest ∙ was.greatest;
   few = was.few;
@@ -76,16 +135,16 @@ wider_agrees m cluster wider base later global view more low none was = record {
       let of = was.desks id desk caller at_desk at_caller in
       wider_desk m cluster wider base later global.log global.made (era_at view id).number id caller (queue_at view.flow id).messages desk more (low id (omega (arith, of.known, was.greatest))) of;
   callers = was.callers;
-  council = (was.council.0, subst (IsPlanTrue wider global.log) (sym none) tt);
+  council = council;
   own = was.own;
   late = was.late;
 }
 
-pub wider_logged : {S V : Type 0} (m : Meaning S V) (cluster wider : Cluster) (base : Era) (later : List Era) (view : View S V) → IsWidening cluster wider base later
-    → ((id : ℕ) → id ≤ view.greatest → (era_at view id).number ≤ base.number) → view.council.plan ≡ None → IsLogged m cluster view → IsLogged m wider view
-wider_logged m cluster wider base later view more low none is = record {
+pub wider_logged : {S V : Type 0} (m : Meaning S V) (cluster wider : Cluster) (base : Era) (later : List Era) (view : View S V) (next : Council) → IsWidening cluster wider base later
+    → ((id : ℕ) → id ≤ view.greatest → (era_at view id).number ≤ base.number) → (is : IsLogged m cluster view) → IsAhead cluster is.global.log base later view.council.used → IsCouncilTrue wider is.global.log next → IsLogged m wider (with_council view next)
+wider_logged m cluster wider base later view next more low is ahead council = record {
   meets = more.meets;
   global = is.global;
-  history = wider_history cluster wider base later is.global more is.history;
-  agrees = wider_agrees m cluster wider base later is.global view more low none is.agrees;
+  history = wider_history cluster wider base later is.global view.council.used more ahead is.agrees.council.2 is.history;
+  agrees = wider_agrees m cluster wider base later is.global view next more low council is.agrees;
 }

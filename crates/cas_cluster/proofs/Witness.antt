@@ -166,7 +166,7 @@ asks_for log request from member stands no_floor = record {
 }
 
 abbrev asks_first : Event small_cluster drawn
-asks_first = Asks (ask_prepare 1) (record { may = asks_for drawn.log (ask_prepare 1) refl refl (record { older = begun.log; at = here }) refl; made = tt; from = omega arith; to = omega arith })
+asks_first = Asks (ask_prepare 1) (record { may = asks_for drawn.log (ask_prepare 1) refl refl (record { older = begun.log; at = here }) refl; made = tt; ended = tt; from = omega arith; to = omega arith })
 
 abbrev asked_first : GlobalState
 asked_first = after small_cluster drawn asks_first
@@ -181,7 +181,7 @@ abbrev promised_first : GlobalState
 promised_first = after small_cluster asked_first first_promises
 
 abbrev asks_second : Event small_cluster promised_first
-asks_second = Asks (ask_prepare 2) (record { may = asks_for promised_first.log (ask_prepare 2) refl refl (record { older = begun.log; at = past (past (past here)) }) refl; made = tt; from = omega arith; to = omega arith })
+asks_second = Asks (ask_prepare 2) (record { may = asks_for promised_first.log (ask_prepare 2) refl refl (record { older = begun.log; at = past (past (past here)) }) refl; made = tt; ended = tt; from = omega arith; to = omega arith })
 
 abbrev asked_second : GlobalState
 asked_second = after small_cluster promised_first asks_second
@@ -288,6 +288,7 @@ asks_to_accept = Asks (ask_accept 1) (record {
   may = accepts drawn_ride.log (ask_accept 1) refl (asks_for drawn_ride.log (ask_accept 1) refl refl (record { older = begun.log; at = past (past drawn_stands.at) }) refl)
       (record { older = promised_second.log; at = past here }) (record { older = proposed.log; at = here });
   made = made_five;
+  ended = tt;
   from = omega arith;
   to = omega arith;
 })
@@ -345,6 +346,7 @@ abbrev asks_other : Event small_cluster accepted_again
 asks_other = Asks (ask_accept 2) (record {
   may = accepts accepted_again.log (ask_accept 2) refl (asks_for accepted_again.log (ask_accept 2) refl refl drawn_still (ap (list_any is_floor) marks_again)) proposed_still ride_still;
   made = made_five;
+  ended = tt;
   from = omega arith;
   to = omega arith;
 })
@@ -395,6 +397,7 @@ asks_late = Asks (ask_accept 3) (record {
   may = accepts accepted_by_other.log (ask_accept 3) refl (asks_for accepted_by_other.log (ask_accept 3) refl refl (other_has drawn_still) (ap (list_any is_floor) marks_other)) (other_has proposed_still)
       (other_has ride_still);
   made = made_five;
+  ended = tt;
   from = omega arith;
   to = omega arith;
 })
@@ -612,7 +615,7 @@ may_ask_against = record {
 }
 
 abbrev asks_against : Event small_cluster contended
-asks_against = Asks ask_against (record { may = may_ask_against; made = tt; from = omega arith; to = omega arith })
+asks_against = Asks ask_against (record { may = may_ask_against; made = tt; ended = tt; from = omega arith; to = omega arith })
 
 abbrev asked_against : GlobalState
 asked_against = after small_cluster contended asks_against

@@ -1,4 +1,5 @@
--- What the operator has under way: its call that is open, the exchange in which proposer 0 asks all members, and the change of membership.
+-- What the operator has under way: its call that is open, the exchange in which proposer 0 asks all members, the change of membership, and
+-- the collection of a deleted key.
 -- The frames of an exchange have a queue of their own.
 use Rattle.std.specs.Prelude.{◌≡◌, ◌+◌, ◌==◌, ◌&&◌, ℕ, Bool, true, false, if◌then◌else◌, List, [], ◌∷◌, length, drop, Option, None, Some, option_map}
 use Rattle.cas_ballot.specs.declared.ballot.Ballot.{Ballot}
@@ -11,6 +12,8 @@ use Rattle.cas_record.specs.declared.operator.Asked.{Asked}
 use Rattle.cas_record.specs.declared.operator.OpAnswer.{OpAnswer}
 use Rattle.cas_record.specs.declared.operator.Probe.{Probe as Answered}
 use Rattle.cas_members.specs.Steps.{Progress}
+use Rattle.cas_slot.specs.declared.ages.Ages.{Ages}
+use Rattle.cas_cluster.specs.Collection.{CollectionView, reserved_for_collection}
 
 -- ---- listings
 -- how far the listing of a member has come: behind a key, or nowhere yet; or to its end
@@ -52,16 +55,31 @@ pub data Question : Type 0 where
   Probe : (key : List ℕ) → Question
   -- the next keys that each keeps a slot of, behind its place
   NextKeys : (places : List MemberPlace) → Question
+  -- that each answers no request any more that is older than this, for the collection of a key
+  NewAges : (key : List ℕ) (least : Ages) → Question
+  -- that each removes its slot of a key that is collected
+  Removal : (key : List ℕ) → Question
 
 -- the request to one of them
 abbrev pub ask_of : Ballot → Question → ℕ → Ask
 ask_of tag (Probe key) member = ask.Probe tag key
 ask_of tag (NextKeys places) member = ask.List tag (after_of (place_in places member))
+ask_of tag (NewAges key least) member = ask.Ages tag least
+ask_of tag (Removal key) member = ask.Remove key tag
 
 -- the phase of it
 abbrev pub phase_for : Question → Phase
 phase_for (Probe key) = phase.Probe
 phase_for (NextKeys places) = phase.List
+phase_for (NewAges key least) = phase.Ages
+phase_for (Removal key) = phase.Remove
+
+-- the key for which its tag was drawn: in a collection the tag is the tombstone's ballot, and otherwise it is of no key
+abbrev pub tag_key : Question → List ℕ
+tag_key (Probe key) = []
+tag_key (NextKeys places) = []
+tag_key (NewAges key least) = key
+tag_key (Removal key) = key
 
 -- the reply is to a request of this tag and question
 pub record IsReplyTo (of : Ballot) (question : Question) (reply : Reply) : Type 0 where
@@ -123,20 +141,21 @@ pub record Council : Type 0 where
   pub order : Option OrderView
   pub exchange : Option ExchangeView
   pub plan : Option PlanView
+  pub collection : Option CollectionView
   -- who was a member since the opening
   pub used : List ℕ
 
 abbrev pub opening_council : List ℕ → Council
-opening_council members = record { order = None; exchange = None; plan = None; used = members }
+opening_council members = record { order = None; exchange = None; plan = None; collection = None; used = members }
 
 -- no call is open, and no exchange
 pub record IsAtRest (council : Council) : Type 0 where
   pub order : council.order ≡ None
   pub exchange : council.exchange ≡ None
 
--- all else is as it was, but for a listing that is not complete
+-- a collection is over with its call; all else is as it was, but for a listing that is not complete
 abbrev pub at_rest : Council → Council
-at_rest council = record council { order = None; exchange = None; plan = option_map without_partial council.plan }
+at_rest council = record council { order = None; exchange = None; plan = option_map without_partial council.plan; collection = None }
 
 -- ---- the queue and the marks
 -- the queue of the exchange stands behind those of the proposers
@@ -153,7 +172,7 @@ reserved_for_exchange None = 0
 reserved_for_exchange (Some exchange) = exchange.reserved
 
 abbrev pub reserved_by : Council → ℕ
-reserved_by council = reserved_for_order council.order + reserved_for_exchange council.exchange
+reserved_by council = reserved_for_order council.order + reserved_for_exchange council.exchange + reserved_for_collection council.collection
 
 -- ---- parts of it
 -- the open call is told this

@@ -7,6 +7,7 @@ use Rattle.cas_proposer.specs.Desk.{DeskView}
 use Rattle.cas_quorum.specs.declared.era.Era.{Era}
 use Rattle.cas_record.specs.Happening.{marks_of}
 use Rattle.cas_record.specs.Lawful.{Cluster, ClusterMeets}
+use Rattle.cas_cluster.specs.Collected.{AreRenewed}
 use Rattle.cas_cluster.specs.Council.{PlanView}
 use Rattle.cas_cluster.specs.Course.{Course, course_of, next_era, IsCourseOf}
 use Rattle.cas_cluster.specs.Parties.{IsWithin, IsAcceptorTrue, AreMessagesTrue, IsEraOf, IsDeskTrue, IsCallerTrue}
@@ -47,8 +48,13 @@ AreInEras {S} {V} m view = (id : ℕ) (desk : DeskView V) → IsAt view.desks id
 
 -- ---- the whole
 -- there is a cluster whose log agrees with it, with the eras of its course, and each proposer's disk is in its era
-pub record IsRemembered {S V : Type 0} (m : Meaning S V) (view : View S V) : Type 0 where
+pub record IsFollowed {S V : Type 0} (m : Meaning S V) (view : View S V) : Type 0 where
   pub cluster : Cluster
   pub logged : IsLogged m cluster view
   pub course : IsCourseOf cluster (course_of view)
   pub in_eras : AreInEras m view
+
+-- and each proposer that was renewed for a collection is so
+pub record IsRemembered {S V : Type 0} (m : Meaning S V) (view : View S V) : Type 0 where
+  pub followed : IsFollowed m view
+  pub renewed : AreRenewed m view

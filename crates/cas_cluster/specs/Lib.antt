@@ -1,4 +1,6 @@
 pub mod Acceptors
+pub mod Collected
+pub mod Collection
 pub mod Council
 pub mod Course
 pub mod Desks
@@ -16,6 +18,7 @@ pub mod SafeLaws
 pub mod Step
 pub mod StepAcceptors
 pub mod StepCalls
+pub mod StepCollect
 pub mod StepCouncil
 pub mod StepDesks
 pub mod StepFrames

@@ -1,6 +1,8 @@
--- What the log tells of what the operator has under way: of its exchange, and of the change of membership and its listing.
+-- What the log tells of what the operator has under way: of its exchange, and of the change of membership and its listing; and that all who
+-- are members were used.
 use Rattle.std.specs.Prelude.{◌≡◌, ◌⊎◌, ⊤, ℕ, true, false, List, [], Option, None, Some}
 use Rattle.std.specs.List.{list_any}
+use Rattle.cas_ballot.specs.Members.{has_member, IsMemberSet}
 use Rattle.cas_quorum.specs.declared.era.Era.{Era}
 use Rattle.cas_slot.specs.Slots.{is_above}
 use Rattle.cas_record.specs.Chain.{is_key}
@@ -11,6 +13,7 @@ use Rattle.cas_record.specs.Listing.{WasAbsent}
 use Rattle.cas_record.specs.Orderly.{IsAboveFloors}
 use Rattle.cas_record.specs.Places.{Stands}
 use Rattle.cas_cluster.specs.Council.{Place, GoesOn, Ended, place_in, ListingView, ExchangeView, PlanView, Council}
+use Rattle.cas_cluster.specs.Collected.{IsCollectingTrue}
 use Rattle.cas_cluster.specs.Course.{entering}
 use Rattle.cas_cluster.specs.Parties.{IsExchangeTrue}
 use Rattle.cas_cluster.specs.Protocol.{IsListed}
@@ -54,5 +57,10 @@ IsPlanTrue cluster log (Some plan) = IsPlanKnown cluster log plan
 abbrev pub IsAskingTrue : List Happening → Option ExchangeView → Type 0
 IsAskingTrue log open_ = (exchange : ExchangeView) → open_ ≡ Some exchange → IsExchangeTrue log exchange
 
+-- who is a member of an era of the cluster is among those who were used
+pub record AreUsed (cluster : Cluster) (used : List ℕ) : Type 0 where
+  pub set : IsMemberSet used
+  pub members : (era acceptor : ℕ) → has_member (cluster.members era) acceptor ≡ true → has_member used acceptor ≡ true
+
 abbrev pub IsCouncilTrue : Cluster → List Happening → Council → Type 0
-IsCouncilTrue cluster log council = IsAskingTrue log council.exchange × IsPlanTrue cluster log council.plan
+IsCouncilTrue cluster log council = IsAskingTrue log council.exchange × IsPlanTrue cluster log council.plan × AreUsed cluster council.used × IsCollectingTrue cluster log council.collection

@@ -41,7 +41,7 @@ use Rattle.cas_record.specs.Orderly.{IsAboveFloors}
 use Rattle.cas_record.specs.Places.{Stands}
 use Rattle.cas_cluster.specs.Acceptors.{IsLeft}
 use Rattle.cas_record.specs.declared.operator.Probe.{Probe as Answered}
-use Rattle.cas_cluster.specs.Council.{Question, ExchangeView, IsReplyTo}
+use Rattle.cas_cluster.specs.Council.{Question, ExchangeView, IsReplyTo, tag_key}
 use Rattle.cas_cluster.specs.Proposers.{AllRide}
 use Rattle.cas_cluster.specs.Protocol.{Made, HasMade}
 use Rattle.cas_cluster.specs.View.{DiskMeaning, Meaning, CallView, CallerView, IsAt}
@@ -91,6 +91,7 @@ WereMade log replies = (reply : Reply) → Contains replies reply → WasMade lo
 pub record IsEraOf (cluster : Cluster) (era : Era) : Type 0 where
   pub prep_members : (acceptor : ℕ) → has_member era.prep acceptor ≡ true → has_member (cluster.members era.number) acceptor ≡ true
   pub acc_members : (acceptor : ℕ) → has_member era.acc acceptor ≡ true → has_member (cluster.members era.number) acceptor ≡ true
+  pub only_members : (acceptor : ℕ) → has_member (cluster.members era.number) acceptor ≡ true → (has_member era.prep acceptor ≡ true) ⊎ (has_member era.acc acceptor ≡ true)
   pub prepares : (by : List ℕ) → cluster.prepares era.number by ≡ holds_prep era by
   pub accepts : (by : List ℕ) → cluster.accepts era.number by ≡ holds_acc era by
   pub prep_set : IsMemberSet era.prep
@@ -101,6 +102,12 @@ pub record IsEraOf (cluster : Cluster) (era : Era) : Type 0 where
 pub record IsWithin {V : Type 0} (m : DiskMeaning V) (era other : ℕ) (vault : Vault V) : Type 0 where
   pub kept : (kept_of vault).era ≡ era
   pub left : (c : List ℕ) (kept : Kept) → m.may_leave (disk_of vault) c → KeptOn kept c → (kept.era ≡ era) ⊎ (kept.era ≡ other)
+
+-- ---- ages
+-- the vault keeps this age or a greater one, and so does whatever a crash leaves of it
+pub record IsAged {V : Type 0} (m : DiskMeaning V) (age : ℕ) (vault : Vault V) : Type 0 where
+  pub kept : age ≤ (kept_of vault).age
+  pub left : (c : List ℕ) (kept : Kept) → m.may_leave (disk_of vault) c → KeptOn kept c → age ≤ kept.age
 
 -- ---- ballots in hand
 -- A ballot that the proposer drew for the key in the era and proposed nothing at, above the floors of the key.
@@ -196,10 +203,12 @@ IsOpenTrue cluster log all id era caller waiting None = waiting ≡ []
 IsOpenTrue cluster log all id era caller waiting (Some round) = IsRoundTrue cluster log all id era caller waiting round
 
 -- ---- desks
--- It draws no ballot twice and none below a floor, wherever it stops; and its proposer is in this era and in no later one.
+-- It draws no ballot twice and none below a floor, wherever it stops, and its proposer asked nothing at an age above the one that it keeps
+-- then; and its proposer is in this era and in no later one.
 pub record IsVaultTrue {S V : Type 0} (m : Meaning S V) (log : List Happening) (id era : ℕ) (vault : Vault V) : Type 0 where
   pub past : (ballot : Ballot) (key : List ℕ) (e : ℕ) → Stands (Drew ballot key e) log → ballot.proposer ≡ id → IsPast m.disks.may_leave ballot.counter vault
   pub past_floors : (key : List ℕ) (floor : Ballot) → HasFloor key floor (marks_of log) → IsPast m.disks.may_leave floor.counter vault
+  pub ages : (request : Request) → Stands (Asked request) log → request.from ≡ id → IsAged m.disks request.age vault
   pub is_in : IsIn log id era
   pub not_beyond : Stands (Entered id (suc era)) log → ⊥
 
@@ -242,7 +251,7 @@ WereTold log tag question answers = (place : ℕ) (answer : Answered) (told : Te
 pub record IsExchangeTrue (log : List Happening) (exchange : ExchangeView) : Type 0 where
   pub own : exchange.tag.proposer ≡ 0
   pub era : ℕ
-  pub drawn : Stands (Drew exchange.tag [] era) log
+  pub drawn : Stands (Drew exchange.tag (tag_key exchange.question) era) log
   pub told : WereTold log exchange.tag exchange.question exchange.told
 
 -- ---- callers

@@ -30,6 +30,7 @@ use Rattle.cas_record.specs.declared.answer.Answer.TheVariants as answer
 use Rattle.cas_record.specs.declared.operator.Asked.{Asked as OperatorAsked}
 use Rattle.cas_record.specs.declared.operator.OpAnswer.{OpAnswer}
 use Rattle.cas_record.specs.declared.mark.Acknowledgment.{Acknowledgment}
+use Rattle.cas_record.specs.declared.mark.Mark.{Mark}
 use Rattle.cas_record.specs.declared.mark.Mark.TheVariants.{Begun, Proposed, Acked, Floor, EraEntered, Ended, Harmed, Told}
 use Rattle.cas_record.specs.declared.mark.Proposal.{Proposal}
 use Rattle.cas_record.specs.Chain.{chain_of, link_of}
@@ -84,9 +85,22 @@ abbrev pub IsMadeAsk : List Made → Ask → Type 0
 IsMadeAsk all (ask.Accept key ballot era ride state) = HasMade all key ballot era state
 IsMadeAsk all other = ⊤
 
+-- the call that proposed the ballot has ended
+pub record HasEnded (marks : List Mark) (ballot : Ballot) : Type 0 where
+  pub proposal : Proposal
+  pub stands : Stands (Proposed proposal) marks
+  pub same_ballot : proposal.ballot ≡ ballot
+  pub ended : IsEnded proposal.caller proposal.call marks
+
+-- new ages are told under the ballot of a call that has ended
+abbrev pub IsEndedAsk : List Mark → Ask → Type 0
+IsEndedAsk marks (ask.Ages tag least) = HasEnded marks tag
+IsEndedAsk marks other = ⊤
+
 pub record IsAskable (cluster : Cluster) (global : GlobalState) (request : Request) : Type 0 where
   pub may : MayAsk cluster global.log request request.ask
   pub made : IsMadeAsk global.made request.ask
+  pub ended : IsEndedAsk (marks_of global.log) request.ask
   pub from : request.from ≤ 16
   pub to : request.to < 64
 
@@ -137,12 +151,17 @@ pub record IsOtherEnd (log : List Happening) (caller call : ℕ) (answer : Answe
   pub unsettled : tells_unsettled answer ≡ true → IsProposed caller call (marks_of log)
   pub harmed : harms_due answer ≤ harms_of caller call (marks_of log)
 
--- the empty state was made at the key's ballot and acknowledged; each acceptor took it, or was never asked at or below it
-pub record MayBeFloor (global : GlobalState) (key : List ℕ) (tomb : Ballot) : Type 0 where
+-- all proposers are in an era, and each member of that era or of a later one took the floor, or was never asked at or below it
+pub record IsFloorClear (cluster : Cluster) (log : List Happening) (key : List ℕ) (floor : Ballot) : Type 0 where
   pub era : ℕ
-  pub made : HasMade global.made key tomb era Empty
+  pub all_in : (era ≡ 0) ⊎ AllEntered cluster era (marks_of log)
+  pub clear : (number acceptor : ℕ) → era ≤ number → has_member (cluster.members number) acceptor ≡ true → IsClear log acceptor key floor
+
+-- the empty state was made at the key's ballot and acknowledged, and members are clear of what was below it
+pub record MayBeFloor (cluster : Cluster) (global : GlobalState) (key : List ℕ) (tomb : Ballot) : Type 0 where
+  pub made : IsEmptyAt (marks_of global.log) key tomb
   pub acked : IsAcked key tomb (marks_of global.log)
-  pub clear : (acceptor : ℕ) → IsClear global.log acceptor key tomb
+  pub clear : IsFloorClear cluster global.log key tomb
 
 -- an accept quorum of the era showed of each key that it had no slot once all were in the era, or the key was rescanned there
 pub record IsListed (cluster : Cluster) (log : List Happening) (era : ℕ) : Type 0 where
@@ -184,7 +203,7 @@ pub data Event (cluster : Cluster) (global : GlobalState) : Type 0 where
   -- the operator was told something
   TellsOperator : (asked : OperatorAsked) (told : OpAnswer) → Event cluster global
   -- a tombstone is made a floor
-  MakesFloor : (key : List ℕ) (tomb : Ballot) → MayBeFloor global key tomb → Event cluster global
+  MakesFloor : (key : List ℕ) (tomb : Ballot) → MayBeFloor cluster global key tomb → Event cluster global
   -- a proposer enters the era after the one that it leaves, and is marked as in it
   Enters : (proposer left : ℕ) → IsLeaving cluster global.log proposer left → Event cluster global
   MarksEra : (proposer era : ℕ) → MayMarkEra global.log proposer era → Event cluster global
@@ -232,22 +251,24 @@ pub record IsMadeOf (log : List Happening) (m : Made) : Type 0 where
   pub same_outcome : m.outcome ≡ outcome_of program state
   pub is_made : IsMadeState (marks_of log) m.proposal.key m.proposal.ballot m.proposal.era m.outcome.state
 
--- what requests ask for and replies tell is so, each ballot was drawn before it was proposed, what was made is so, and each floor is empty and all acceptors are clear of it
-pub record Knows (log : List Happening) (all : List Made) : Type 0 where
+-- what requests ask for and replies tell is so, each ballot was drawn before it was proposed, what was made is so, and each floor is empty
+-- and members are clear of it
+pub record Knows (cluster : Cluster) (log : List Happening) (all : List Made) : Type 0 where
   pub asked : (request : Request) → Stands (Asked request) log → IsAskState (marks_of log) request.ask
   pub known : (request : Request) → Stands (Asked request) log → (request.from ≤ 16) × (request.to < 64)
+  pub ended : (request : Request) → Stands (Asked request) log → IsEndedAsk (marks_of log) request.ask
   pub replied : (request : Request) (reply : Reply) → Stands (Replied request reply) log → IsReplyTrue log reply
   pub drawn : (p : Proposal) → Stands (Proposed p) (marks_of log) → Stands (Drew p.ballot p.key p.era) log
   pub made : (m : Made) → Stands m all → IsMadeOf log m
   pub floors : (key : List ℕ) (floor : Ballot) → HasFloor key floor (marks_of log) → IsEmptyAt (marks_of log) key floor
-  pub clear : (key : List ℕ) (floor : Ballot) (acceptor : ℕ) → HasFloor key floor (marks_of log) → IsClear log acceptor key floor
+  pub clear : (key : List ℕ) (floor : Ballot) → HasFloor key floor (marks_of log) → IsFloorClear cluster log key floor
 
 -- the log is lawful and each happening has its reason; it tells what each acceptor keeps; and what is known is so
 pub record HasHistory (cluster : Cluster) (global : GlobalState) : Type 0 where
   pub lawful : Lawful cluster global.log
   pub orderly : Orderly cluster global.log
   pub tells : (acceptor : ℕ) → Tells global.log acceptor (global.kept acceptor)
-  pub knows : Knows global.log global.made
+  pub knows : Knows cluster global.log global.made
 
 -- ---- laws
 -- Whatever happens, a cluster with a history has one after it.

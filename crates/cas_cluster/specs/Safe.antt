@@ -11,21 +11,28 @@ use Rattle.cas_flow.specs.Queue.{QueueView}
 use Rattle.cas_flow.specs.declared.message.Message.{Message}
 use Rattle.cas_flow.specs.declared.message.Message.TheVariants as message
 use Rattle.cas_acceptor.specs.Acceptor.{AcceptorView}
+use Rattle.cas_collect.specs.Order.{IsStepOf}
+use Rattle.cas_collect.specs.declared.collect.CollectStep.{CollectStep}
+use Rattle.cas_collect.specs.declared.collect.CollectStep.TheVariants.{Round as CollectRound, Renew}
 use Rattle.cas_members.specs.declared.plan.PlanStep.TheVariants.{Settle}
 use Rattle.cas_members.specs.Plan.{next_of}
 use Rattle.cas_proposer.specs.Desk.{DeskView}
 use Rattle.cas_proposer.specs.Round.{is_preparing}
 use Rattle.cas_proposer.specs.declared.round.Round.{Round}
 use Rattle.cas_quorum.specs.declared.era.Era.{Era}
+use Rattle.cas_record.specs.declared.operator.Asked.TheVariants.{Collect}
 use Rattle.cas_round.specs.Replies.{is_prepare}
 use Rattle.cas_slot.specs.Message.{phase_of}
 use Rattle.cas_slot.specs.Slots.{rises}
 use Rattle.cas_slot.specs.declared.message.Reply.{Reply}
 use Rattle.cas_slot.specs.declared.message.Request.{Request}
-use Rattle.cas_cluster.specs.Council.{MemberPlace, ListingView, NextKeys, ask_of, IsReplyTo, ExchangeView, PlanView, Council, exchange_place}
+use Rattle.cas_cluster.specs.Collected.{is_after_floor}
+use Rattle.cas_cluster.specs.Collection.{Tombstone, Acknowledged, CollectionView, tomb_of}
+use Rattle.cas_cluster.specs.Council.{MemberPlace, ListingView, Question, NextKeys, NewAges, Removal, ask_of, IsReplyTo, ExchangeView, OrderView, PlanView, Council, exchange_place}
 use Rattle.cas_cluster.specs.Course.{IsCourse, course_of}
 use Rattle.cas_cluster.specs.Parties.{asked_in}
 use Rattle.cas_cluster.specs.StepCalls.{most_marks}
+use Rattle.cas_cluster.specs.StepCollect.{IsQuestionOf}
 use Rattle.cas_cluster.specs.View.{View, CallView, CallerView, IsAt, era_at, reserved_in_all}
 
 -- ---- frames that wait
@@ -45,9 +52,9 @@ handled_once queue = handled_in queue.again queue.messages
 
 -- ---- an open round
 -- It is of the caller's open call. Each frame is to or from a member that its phase asks, and so is each that was harmed. The marks that
--- may still be made are reserved: in the prepare phase those of the proposal, the acknowledgment and the end, two votes and a harm for
--- each member that accepts, and a harm for each other that prepares; in the accept phase those of the acknowledgment and the end, a vote
--- for each time that a request may be handled, and a harm for each other member.
+-- may still be made are reserved: in the prepare phase those of the proposal, the acknowledgment, the end and a floor, two votes and a harm
+-- for each member that accepts, and a harm for each other that prepares; in the accept phase those of the acknowledgment, the end and a
+-- floor, a vote for each time that a request may be handled, and a harm for each other member.
 pub record IsOpenSafe (era : Era) (caller : CallerView) (queue : QueueView) (round : Round) : Type 0 where
   pub call : CallView
   pub is_open : caller.call ≡ Some call
@@ -61,9 +68,9 @@ pub record IsOpenSafe (era : Era) (caller : CallerView) (queue : QueueView) (rou
   pub harmed_set : IsMemberSet call.harmed
   pub harmed_within : (acceptor : ℕ) → has_member call.harmed acceptor ≡ true → has_member (asked_in era round.phase) acceptor ≡ true
   pub unproposed : is_preparing round.phase ≡ true → call.proposed ≡ None
-  pub prepare_room : is_preparing round.phase ≡ true → 3 + 3 * length era.acc + length era.prep ≤ call.reserved + length call.harmed
+  pub prepare_room : is_preparing round.phase ≡ true → 4 + 3 * length era.acc + length era.prep ≤ call.reserved + length call.harmed
   pub proposed : is_preparing round.phase ≡ false → is_some call.proposed ≡ true
-  pub accept_room : is_preparing round.phase ≡ false → 2 + 2 * requests_in queue.messages + length era.acc ≤ call.reserved + length call.harmed + handled_once queue
+  pub accept_room : is_preparing round.phase ≡ false → 3 + 2 * requests_in queue.messages + length era.acc ≤ call.reserved + length call.harmed + handled_once queue
 
 -- with no open round nothing waits, and the mark of an open call's end is reserved
 pub record IsIdleSafe (caller : CallerView) (queue : QueueView) : Type 0 where
@@ -131,6 +138,57 @@ IsAskingOf under_way open_ = (exchange : ExchangeView) (places : List MemberPlac
 abbrev pub IsCouncilSafe : Council → Type 0
 IsCouncilSafe council = AreListingsSafe council.plan × IsAskingOf council.plan council.exchange
 
+-- ---- collections
+-- how many proposers were renewed before that step
+abbrev pub renewals_before : ℕ → CollectStep → ℕ
+renewals_before greatest CollectRound = 0
+renewals_before greatest (Renew proposer) = proposer
+renewals_before greatest step = greatest + 1
+
+-- all who accept in the era acknowledged it
+pub record IsAcknowledgedByAll (era : Era) (tombstone : Tombstone) : Type 0 where
+  pub ballot : Ballot
+  pub by : List ℕ
+  pub is : tombstone ≡ Acknowledged ballot by
+  pub all : (acceptor : ℕ) → has_member era.acc acceptor ≡ true → has_member by acceptor ≡ true
+
+-- The open call asked for it, and no change of membership is under way. It is of this era, and of the proposers up to the greatest, and at
+-- one of its steps. Its own call is open in its round alone. Past its round all who accept acknowledged its tombstone, and from then to its
+-- floor the mark of that floor is reserved.
+pub record IsCollectionSafe (council : Council) (era : Era) (greatest : ℕ) (collection : CollectionView) : Type 0 where
+  pub order : OrderView
+  pub is_open : council.order ≡ Some order
+  pub is_for : order.asked ≡ Collect collection.course.key
+  pub none_planned : council.plan ≡ None
+  pub same_era : collection.course.era ≡ era
+  pub proposers : collection.course.proposers ≡ greatest
+  pub is_step : IsStepOf greatest collection.course.step
+  pub calling : collection.calling ≡ true → collection.course.step ≡ CollectRound
+  pub ages : length collection.ages ≡ renewals_before greatest collection.course.step
+  pub tomb : FitsBallot (tomb_of collection.tombstone)
+  pub acknowledged : (collection.course.step ≡ CollectRound → ⊥) → IsAcknowledgedByAll era collection.tombstone
+  pub reserved : (ballot : Ballot) (by : List ℕ) → collection.tombstone ≡ Acknowledged ballot by → is_after_floor collection.course.step ≡ false → 0 < collection.reserved
+
+-- an exchange that asks for a collection asks what its step is to ask, and bears the ballot of its tombstone
+abbrev pub is_of_collection : Question → Bool
+is_of_collection (NewAges key least) = true
+is_of_collection (Removal key) = true
+is_of_collection other = false
+
+pub record IsOfCollection (under_way : Option CollectionView) (exchange : ExchangeView) : Type 0 where
+  pub collection : CollectionView
+  pub is_collection : under_way ≡ Some collection
+  pub asks : IsQuestionOf collection exchange.question
+  pub tag : exchange.tag ≡ tomb_of collection.tombstone
+
+pub record IsCollectingIn (council : Council) (era : Era) (greatest : ℕ) : Type 0 where
+  pub each : (collection : CollectionView) → council.collection ≡ Some collection → IsCollectionSafe council era greatest collection
+  pub exchange : (exchange : ExchangeView) → council.exchange ≡ Some exchange → is_of_collection exchange.question ≡ true → IsOfCollection council.collection exchange
+
+-- it is of the era in which proposer 0 works
+abbrev pub IsCollectingSafe : {S V : Type 0} → View S V → Type 0
+IsCollectingSafe view = IsCollectingIn view.council (era_at view 0) view.greatest
+
 -- ---- the whole
 -- each party, each exchange, each listing and the marks are so
 pub record IsSound {S V : Type 0} (view : View S V) : Type 0 where
@@ -148,7 +206,8 @@ pub record IsSound {S V : Type 0} (view : View S V) : Type 0 where
   pub council : IsCouncilSafe view.council
   pub room : length view.marks + reserved_in_all view ≤ most_marks
 
--- and the cluster is on its course through the eras
+-- and the cluster is on its course through the eras, and so is the collection that is under way
 pub record IsSafe {S V : Type 0} (view : View S V) : Type 0 where
   pub sound : IsSound view
   pub course : IsCourse (course_of view)
+  pub collection : IsCollectingSafe view

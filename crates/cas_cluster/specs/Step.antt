@@ -22,6 +22,7 @@ use Rattle.cas_cluster.specs.Course.{era_shown}
 use Rattle.cas_cluster.specs.Parties.{IsWithin}
 use Rattle.cas_cluster.specs.StepAcceptors.{CrashesShelf, StartsShelf, FailsToStart}
 use Rattle.cas_cluster.specs.StepCalls.{most_marks, Opens, BeginsRound, RefusesCall, ProposesOrEnds, CountsOrEnds, EndsCall, telling, with_call}
+use Rattle.cas_cluster.specs.StepCollect.{keep_always, StepBeginCollect, StepReadHeld, StepCountCollect, StepEndCollect, StepGatherRound, StepRenew, StepAskCollect, StepGatherCollect, StepMakeFloor}
 use Rattle.cas_cluster.specs.StepCouncil.{StepOrder, StepTell, StepAskAll, StepTurnExchange, StepRefuseTurnExchange, StepGather, StepRefuseKey}
 use Rattle.cas_cluster.specs.StepDesks.{Restarts}
 use Rattle.cas_cluster.specs.StepPlans.{StepOpenPlan, StepEnterEra}
@@ -64,6 +65,17 @@ pub data Event : Type 0 where
   -- a change of membership begins, and the next proposer enters the era that it leads to; or the operator is told why not
   OpenPlan : Event
   EnterEra : (proposer : ℕ) → Event
+  -- a collection's call begins or goes on with another round, its round reads a held state or is counted, its call ends, and what became of it is gathered
+  BeginCollect : (key : List ℕ) → Event
+  ReadHeld : Event
+  CountCollect : Event
+  EndCollect : (answer : Answer) → Event
+  GatherRound : Event
+  -- the next proposer is renewed; all members are told the new ages, or to remove their slots, and what they answered is gathered; and the tombstone becomes a floor
+  Renew : (proposer : ℕ) → Event
+  AskCollect : Event
+  GatherCollect : Event
+  MakeFloor : Event
 
 -- ---- what they do
 -- a call is begun or goes on, and its round begins, or its caller is told why not
@@ -162,6 +174,15 @@ Step m old Gather new = StepGather old new
 Step m old RefuseKey new = StepRefuseKey old new
 Step m old OpenPlan new = StepOpenPlan m old new
 Step m old (EnterEra proposer) new = StepEnterEra m old proposer new
+Step m old (BeginCollect key) new = StepBeginCollect m (λ before after. StepBegin m before 0 key keep_always after) old key new
+Step m old ReadHeld new = StepReadHeld m old new
+Step m old CountCollect new = StepCountCollect (λ before after. StepCount m before 0 after) old new
+Step m old (EndCollect answer) new = StepEndCollect (λ before after. StepEnd m before 0 answer after) old answer new
+Step m old GatherRound new = StepGatherRound old new
+Step m old (Renew proposer) new = StepRenew m old proposer new
+Step m old AskCollect new = StepAskCollect m old new
+Step m old GatherCollect new = StepGatherCollect old new
+Step m old MakeFloor new = StepMakeFloor old new
 
 -- ---- the beginning
 -- it is up and keeps nothing, or never started

@@ -11,6 +11,7 @@ use Rattle.cas_flow.specs.declared.fall.Fall.TheVariants.{Handle, Gone, Held}
 use Rattle.cas_flow.specs.declared.message.Message.{Message}
 use Rattle.cas_flow.specs.declared.message.Message.TheVariants as message
 use Rattle.cas_acceptor.specs.Acceptor.{AcceptorView}
+use Rattle.cas_collect.specs.declared.collect.CollectStep.TheVariants.{End}
 use Rattle.cas_members.specs.declared.plan.PlanStep.TheVariants.{Settle}
 use Rattle.cas_members.specs.Plan.{next_of}
 use Rattle.cas_proposer.specs.Desk.{DeskView}
@@ -27,8 +28,10 @@ use Rattle.cas_record.specs.declared.operator.OpAnswer.{OpAnswer}
 use Rattle.cas_record.specs.declared.operator.OpAnswer.TheVariants as told
 use Rattle.cas_record.specs.declared.operator.Probe.{Probe as ProbeOf}
 use Rattle.cas_record.specs.declared.operator.Probes.{Probes}
-use Rattle.cas_cluster.specs.Council.{GoesOn, MemberPlace, ListingView, place_in, has_ended, Question, Probe, NextKeys, ask_of, IsReplyTo, ExchangeView, OrderView, PlanView, Council, with_listing, at_rest, exchange_place, telling, hushed}
+use Rattle.cas_cluster.specs.Collection.{CollectionView, tomb_of}
+use Rattle.cas_cluster.specs.Council.{GoesOn, MemberPlace, ListingView, place_in, has_ended, Question, Probe, NextKeys, NewAges, Removal, ask_of, IsReplyTo, ExchangeView, OrderView, PlanView, Council, with_listing, at_rest, exchange_place, telling, hushed}
 use Rattle.cas_cluster.specs.Listings.{counted, ListsOn, missing, why_short}
+use Rattle.cas_cluster.specs.Parties.{IsAged}
 use Rattle.cas_cluster.specs.StepAcceptors.{AnswersByTable, StopsWithin}
 use Rattle.cas_cluster.specs.StepCalls.{Sends, most_marks}
 use Rattle.cas_cluster.specs.StepDesks.{HasDrawn, HasKept, FailsToDraw, LosesMemory}
@@ -80,15 +83,25 @@ pub record IsFinishedBy (council : Council) (order : OrderView) (answer : OpAnsw
   pub none_left : plan.progress.left ≡ []
   pub tells : finished order.asked plan.progress.era.number plan.rescanned answer
 
+-- a collection that was asked for is at its end, and this tells so
+pub record IsCollectedBy (council : Council) (order : OrderView) (answer : OpAnswer) : Type 0 where
+  pub collection : CollectionView
+  pub is_collection : council.collection ≡ Some collection
+  pub is_for : order.asked ≡ asked.Collect collection.course.key
+  pub at_end : collection.course.step ≡ End
+  pub tells : answer ≡ told.Collected collection.course.key (tomb_of collection.tombstone) collection.removed collection.kept
+
 -- the open call is over, and so is an exchange that is open: its frames join the late ones; and a listing that is not complete is dropped
 abbrev pub told_over : {S V : Type 0} → View S V → Asked → OpAnswer → View S V
 told_over view asked answer = with_marks (record (with_council view (at_rest view.council)) { flow = abandoned view.flow exchange_place }) (told_marks asked answer)
 
--- it is told what its last step told; or that the change of membership is at its end, which is no longer under way then
+-- it is told what its last step told; or that the change of membership is at its end, which is no longer under way then; or that the
+-- collection is at its end
 pub data StepTell {S V : Type 0} (old : View S V) (answer : OpAnswer) (new : View S V) : Type 0 where
   tells : (order : OrderView) (said : OpAnswer) → old.council.order ≡ Some order → order.told ≡ Some said → SaysTheSame said answer → new ≡ told_over old order.asked answer → StepTell old answer new
   finishes : (order : OrderView) → old.council.order ≡ Some order → IsFinishedBy old.council order answer
       → new ≡ told_over (with_council old (record old.council { plan = None })) order.asked answer → StepTell old answer new
+  collects : (order : OrderView) → old.council.order ≡ Some order → IsCollectedBy old.council order answer → new ≡ told_over old order.asked answer → StepTell old answer new
 
 -- ---- proposer 0 asks all members
 -- who they are
@@ -98,6 +111,8 @@ everyone view = union_of (era_at view 0).prep (era_at view 0).acc
 -- in a listing only those are asked whose listing has not ended
 abbrev pub asked_by : {S V : Type 0} → View S V → Question → List ℕ
 asked_by view (Probe key) = everyone view
+asked_by view (NewAges key least) = everyone view
+asked_by view (Removal key) = everyone view
 asked_by view (NextKeys places) = members_where (λ member. has_member (everyone view) member && not (has_ended (place_in places member)))
 
 abbrev pub question_to : ℕ → Ballot → Question → ℕ → Request
@@ -125,10 +140,11 @@ pub record IsDueToList (members : List ℕ) (council : Council) (asked : Asked) 
   pub partial : (listing : ListingView) → plan.listing ≡ Some listing → listing.complete ≡ false
   pub goes_on : places ≡ places_from members plan.listing
 
--- the open call was asked for just that; and with a listing the caller has no open call
+-- the open call was asked for just that; and with a listing the caller has no open call; what a collection asks is told apart
 abbrev pub IsForQuestion : List ℕ → Council → Option CallView → Asked → Question → Type 0
 IsForQuestion members council call asked (Probe key) = IsProbeOf asked key
 IsForQuestion members council call asked (NextKeys places) = (call ≡ None) × IsDueToList members council asked places
+IsForQuestion members council call asked other = ⊥
 
 -- the marks of its harms fit
 abbrev pub HasRoomToAsk : {S V : Type 0} → View S V → Question → Type 0
@@ -144,13 +160,18 @@ listing_in None = None
 listing_in (Some plan) = plan.listing
 
 abbrev pub listing_for : Council → Question → Option ListingView
-listing_for council (Probe key) = None
 listing_for council (NextKeys places) = listing_in council.plan
+listing_for council other = None
 
 -- its tag is used again, and otherwise one is drawn
 abbrev pub HasTag : {V : Type 0} → DiskMeaning V → Option ListingView → DeskView V → DeskView V → Ballot → Type 0
 HasTag m None desk now tag = HasDrawn m desk.id desk.vault now.vault tag
 HasTag m (Some listing) desk now tag = (tag ≡ listing.tag) × (now.vault ≡ desk.vault)
+
+-- and its vault keeps the age that the questions bear, wherever it stops
+pub record TagsAll {V : Type 0} (m : DiskMeaning V) (listing : Option ListingView) (desk now : DeskView V) (tag : Ballot) : Type 0 where
+  pub has_tag : HasTag m listing desk now tag
+  pub aged : m.tells → IsAged m (kept_of desk.vault).age now.vault
 
 abbrev pub WhereDrawn : Option ListingView → Type 0 → Type 0
 WhereDrawn None happens = happens
@@ -165,8 +186,8 @@ abbrev pub listing_begun : List MemberPlace → Ballot → PlanView → PlanView
 listing_begun places tag plan = record plan { listing = Some (begun_listing places tag plan.listing) }
 
 abbrev pub plan_asked : Question → Ballot → Option PlanView → Option PlanView
-plan_asked (Probe key) tag plan = plan
 plan_asked (NextKeys places) tag plan = option_map (listing_begun places tag) plan
+plan_asked other tag plan = plan
 
 -- The open call asks for it, and proposer 0, whose caller is the operator's, has no open round.
 pub record MayAskAll {S V : Type 0} (old : View S V) (question : Question) (desk : DeskView V) : Type 0 where
@@ -181,7 +202,7 @@ pub record MayAskAll {S V : Type 0} (old : View S V) (question : Question) (desk
 
 -- It has a tag, and each of them is asked; or the open call is told why not.
 pub data AsksAll {S V : Type 0} (m : Meaning S V) (old : View S V) (question : Question) (desk : DeskView V) (new : View S V) : Type 0 where
-  asks : (now : DeskView V) (tag : Ballot) (flow : FlowView) → desk.down ≡ false → HasRoomToAsk old question → HasTag m.disks (listing_for old.council question) desk now tag → now ≡ record desk { vault = now.vault }
+  asks : (now : DeskView V) (tag : Ballot) (flow : FlowView) → desk.down ≡ false → HasRoomToAsk old question → TagsAll m.disks (listing_for old.council question) desk now tag → now ≡ record desk { vault = now.vault }
       → Sends old.flow exchange_place (questions_to (kept_of desk.vault).age tag question (asked_by old question)) flow
       → new ≡ with_council (record (with_desk old 0 now) { flow = flow }) (record old.council { exchange = Some (new_exchange question tag (asked_by old question)); plan = plan_asked question tag old.council.plan }) → AsksAll m old question desk new
   is_down : desk.down ≡ true → new ≡ told_view old (told.Stopped answer.Down) → AsksAll m old question desk new

@@ -65,6 +65,7 @@ pub record StepOpenPlan {S V : Type 0} (m : Meaning S V) (old : View S V) (new :
   pub is_open : old.council.order ≡ Some order
   pub desk : DeskView V
   pub at_desk : IsAt old.desks 0 desk
+  pub none_collected : old.council.collection ≡ None
   pub opens : OpensPlan m old order.asked desk new
 
 -- ---- a proposer enters the next era

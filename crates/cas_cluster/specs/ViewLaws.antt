@@ -1,23 +1,28 @@
 -- What is true of every cluster as it is seen, where its disks tell what they keep.
-use Rattle.std.specs.Prelude.{◌≡◌, ℕ, ◌≤◌, true, List, reverse, Ok}
+use Rattle.std.specs.Prelude.{◌≡◌, ◌⊎◌, ℕ, ◌≤◌, true, false, List, reverse, Some, Ok, Contains}
 use Rattle.cas_ballot.specs.declared.ballot.Ballot.{Ballot}
-use Rattle.cas_ballot.specs.Ballot.{BallotAtMost}
+use Rattle.cas_ballot.specs.Ballot.{BallotAtMost, BallotLess}
 use Rattle.cas_ballot.specs.Members.{has_member}
 use Rattle.cas_quorum.specs.Era.{holds_acc}
 use Rattle.cas_slot.specs.Contents.{Contents}
 use Rattle.cas_slot.specs.Slot.{accepted_ballot}
 use Rattle.cas_slot.specs.Table.{accepted_at}
 use Rattle.cas_acceptor.specs.Acceptor.{AcceptorView}
+use Rattle.cas_cache.specs.declared.ready.Ready.{Ready}
+use Rattle.cas_proposer.specs.Desk.{DeskView}
+use Rattle.cas_proposer.specs.declared.round.Round.{Round}
+use Rattle.cas_vault.specs.Vault.{IsPast}
 use Rattle.cas_record.specs.declared.mark.Acknowledgment.{Acknowledgment}
 use Rattle.cas_record.specs.declared.mark.Mark.{Mark}
 use Rattle.cas_record.specs.declared.mark.Mark.TheVariants.{Acked}
 use Rattle.cas_record.specs.Chain.{chain_of}
-use Rattle.cas_record.specs.Legal.{IsLegal}
-use Rattle.cas_record.specs.Orderly.{IsAboveFloors}
+use Rattle.cas_record.specs.Legal.{IsLegal, HasFloor}
+use Rattle.cas_record.specs.Orderly.{IsAboveFloors, IsNoneOrAbove}
 use Rattle.cas_record.specs.Places.{Stands, IsPrefix}
 use Rattle.cas_cluster.specs.History.{IsRemembered}
+use Rattle.cas_cluster.specs.Safe.{IsSafe}
 use Rattle.cas_cluster.specs.Step.{Event, Step, IsOpening, History}
-use Rattle.cas_cluster.specs.View.{Meaning, View, IsAt, era_at}
+use Rattle.cas_cluster.specs.View.{Meaning, View, CallerView, IsAt, era_at}
 
 -- A cluster that has just opened is remembered.
 abbrev pub OpeningsAreRemembered : {S V : Type 0} → Meaning S V → Type 0
@@ -46,3 +51,22 @@ pub record IsKept {S V : Type 0} (m : Meaning S V) (view : View S V) (a : Acknow
 
 abbrev pub WhatIsDoneIsKept : {S V : Type 0} → Meaning S V → Type 0
 WhatIsDoneIsKept {S} {V} m = m.shelves.tells → (view : View S V) (a : Acknowledgment) → IsRemembered m view → Stands (Acked a) (reverse view.marks) → IsAboveFloors (reverse view.marks) a.key a.ballot → IsKept m view a
+
+-- The proposer draws nothing at or below the floor, whatever a crash now leaves of its vault; and the promise that it holds of the key, the
+-- round that it has open for the key and the ballot that rides with that are above the floor.
+pub record IsPastFloor {S V : Type 0} (m : Meaning S V) (desk : DeskView V) (key : List ℕ) (floor : Ballot) : Type 0 where
+  pub vault : IsPast m.disks.may_leave floor.counter desk.vault
+  pub promise : (ready : Ready) → Contains desk.cache (key, ready) → BallotLess floor ready.ballot × BallotAtMost floor ready.read
+  pub round : (round : Round) → desk.round ≡ Some round → round.key ≡ key → BallotLess floor round.ballot
+
+-- All proposers are past each floor.
+abbrev pub FloorsArePassed : {S V : Type 0} → Meaning S V → Type 0
+FloorsArePassed {S} {V} m = m.shelves.tells → m.disks.tells → (view : View S V) (key : List ℕ) (floor : Ballot) (id : ℕ) (desk : DeskView V) (caller : CallerView) → IsRemembered m view → HasFloor key floor (reverse view.marks) → IsAt view.desks id desk → IsAt view.callers id caller
+    → IsPastFloor m desk key floor
+
+-- Whatever a crash now leaves of an acceptor that is up, and a member of an era in which a proposer works, it accepted nothing of the key below
+-- the floor: it has no state of the key, or one at or above the floor.
+abbrev pub MembersAreClear : {S V : Type 0} → Meaning S V → Type 0
+MembersAreClear {S} {V} m = m.shelves.tells → m.disks.tells → (view : View S V) (key : List ℕ) (floor : Ballot) (proposer id : ℕ) (acceptor : AcceptorView S) → IsSafe view → IsRemembered m view → HasFloor key floor (reverse view.marks) → proposer ≤ view.greatest
+    → (has_member (era_at view proposer).prep id ≡ true) ⊎ (has_member (era_at view proposer).acc id ≡ true) → IsAt view.acceptors id acceptor → acceptor.down ≡ false
+    → (left : Contents) → m.shelves.may_leave acceptor.shelf (Ok left) → IsNoneOrAbove floor (accepted_ballot (accepted_at left key))

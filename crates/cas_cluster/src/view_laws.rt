@@ -3,7 +3,7 @@
 
 ghost use Rattle.cas_cluster.specs.View.{meaning};
 ghost use Rattle.cas_cluster.specs.SafeLaws.{OpeningsAreSafe, StepsAreSafe};
-ghost use Rattle.cas_cluster.specs.ViewLaws.{OpeningsAreRemembered, StepsAreRemembered, HistoriesAreLegal, WhatIsDoneIsKept};
+ghost use Rattle.cas_cluster.specs.ViewLaws.{OpeningsAreRemembered, StepsAreRemembered, HistoriesAreLegal, WhatIsDoneIsKept, FloorsArePassed, MembersAreClear};
 ghost use Rattle.cas_cluster.specs.ViewWitness.{ShownHistory};
 
 use cas_disk::Disk;
@@ -33,6 +33,18 @@ pub fn histories_are_legal<S: Shelf, V: Disk>()
 /// until a floor is made at or above it.
 pub fn what_is_done_is_kept<S: Shelf, V: Disk>()
     ensures { WhatIsDoneIsKept (meaning S.contents S.tells S.may_leave S.fault_count V.tells V.may_leave V.fault_count) }
+{}
+
+/// All proposers are past each floor: none draws a ballot at or below it, whatever a crash now leaves of its vault, and the promise that one
+/// holds of the key and the round that it has open for the key are above it.
+pub fn floors_are_passed<S: Shelf, V: Disk>()
+    ensures { FloorsArePassed (meaning S.contents S.tells S.may_leave S.fault_count V.tells V.may_leave V.fault_count) }
+{}
+
+/// An acceptor that is up, and a member of an era in which a proposer works, accepted nothing of a key below a floor of it, whatever a crash
+/// now leaves of its shelf: it has no state of the key, or one at or above the floor.
+pub fn members_are_clear<S: Shelf, V: Disk>()
+    ensures { MembersAreClear (meaning S.contents S.tells S.may_leave S.fault_count V.tells V.may_leave V.fault_count) }
 {}
 
 /// A cluster that has just opened, with a place for each party, is safe, whatever its shelves and disks tell: each mark that may still

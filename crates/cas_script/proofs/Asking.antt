@@ -22,7 +22,7 @@ use Rattle.cas_calls.specs.declared.council.Exchange.{Exchange}
 use Rattle.cas_calls.specs.declared.council.Exchange.TheVariants as what
 use Rattle.cas_calls.specs.declared.council.Gathered.{Gathered}
 use Rattle.cas_calls.specs.declared.council.Gathered.TheVariants as gathered
-use Rattle.cas_cluster.specs.Council.{Council, Question, Probe, NextKeys, MemberPlace, ListingView, OrderView, PlanView, ExchangeView, IsAtRest, exchange_place, silent_order, stepped, told_so, with_listing}
+use Rattle.cas_cluster.specs.Council.{Council, Question, Probe, NextKeys, NewAges, Removal, MemberPlace, ListingView, OrderView, PlanView, ExchangeView, IsAtRest, exchange_place, silent_order, stepped, told_so, with_listing}
 use Rattle.cas_cluster.specs.Remaining.{keys_left}
 use Rattle.cas_cluster.specs.Step as step
 use Rattle.cas_cluster.specs.Step.{Step}
@@ -70,6 +70,7 @@ order_keeps old new what by = by_view old _ new by.view refl refl
 pub tell_keeps : {S V : Type 0} (old new : View S V) (told : OpAnswer) → StepTell old told new → KeepsCalls old new
 tell_keeps old new told (council.tells order said is_open was_told same is) = by_view old _ new is refl refl
 tell_keeps old new told (council.finishes order is_open by is) = by_view old _ new is refl refl
+tell_keeps old new told (council.collects order is_open by is) = by_view old _ new is refl refl
 
 pub ask_keeps : {S V : Type 0} (m : Meaning S V) (old new : View S V) (question : Question) → StepAskAll m old question new → KeepsCalls old new
 ask_keeps {S} {V} m old new question by = by_case by.asks
@@ -233,6 +234,8 @@ came_of {S} {V} old asked turned new (Probe key) result may has keeps was (probe
     let key_is : key ≡ other = cc (asks_this turned (Probe key) (Probe other) exchange was is_open question) in
     subst (λ (g : Gathered). CameOf (Probe key) old g new) (sym is_probed) (subst (λ (k : List ℕ). WasToldOrder new (op.Probed k kept)) (sym key_is) told)
 came_of old asked turned new (Probe key) result may has keeps was (lists exchange places plan listing is_open question is_plan is next) = absurd (cc (asks_this turned (Probe key) (NextKeys places) exchange was is_open question))
+came_of old asked turned new (NewAges key least) result may has keeps was by = absurd may.is_for
+came_of old asked turned new (Removal key) result may has keeps was by = absurd may.is_for
 came_of old asked turned new (NextKeys places) result may has keeps was (probed exchange key kept is_open question is_probed has_found told) = absurd (cc (asks_this turned (NextKeys places) (Probe key) exchange was is_open question))
 came_of {S} {V} old asked turned new (NextKeys places) result may has keeps was (lists exchange other plan listing is_open question is_plan is next) =
     let due = may.is_for.1 in
@@ -272,6 +275,8 @@ left_begun places tag members (Some listing) is = refl
 pub less_left : {S V : Type 0} (old asked turned new : View S V) (question : Question) (result : Gathered) → MayAsk old question → HasAsked old question asked → KeepsOrder asked turned → CameOf question old result new → result ≡ gathered.More
     → left_to_list new.council.plan < left_to_list turned.council.plan → listing_left new < listing_left old
 less_left old asked turned new (Probe key) result may has keeps came more less = absurd (subst (λ (g : Gathered). CameOf (Probe key) old g new) more came)
+less_left old asked turned new (NewAges key least) result may has keeps came more less = absurd came
+less_left old asked turned new (Removal key) result may has keeps came more less = absurd came
 less_left {S} {V} old asked turned new (NextKeys places) result may has keeps came more less =
     let due = may.is_for.1 in
     let plan_then : turned.council.plan ≡ Some (listing_begun places has.tag due.plan) = keeps.plan ∙ has.plan ∙ ap (option_map (listing_begun places has.tag)) due.is_plan in
@@ -288,6 +293,7 @@ less_left {S} {V} old asked turned new (NextKeys places) result may has keeps ca
 pub quiet_after : {S V : Type 0} (old new : View S V) (told : OpAnswer) → StepTell old told new → IsAtRest new.council
 quiet_after {S} {V} old new told (council.tells order said is_open was_told same is) = record { order = ap (λ (w : View S V). w.council.order) is; exchange = ap (λ (w : View S V). w.council.exchange) is }
 quiet_after {S} {V} old new told (council.finishes order is_open by is) = record { order = ap (λ (w : View S V). w.council.order) is; exchange = ap (λ (w : View S V). w.council.exchange) is }
+quiet_after {S} {V} old new told (council.collects order is_open by is) = record { order = ap (λ (w : View S V). w.council.order) is; exchange = ap (λ (w : View S V). w.council.exchange) is }
 
 -- ---- its frames are those of proposer 0
 module _ {S V : Type 0} (m : Meaning S V) (old new : View S V) (question : Question) (is : IsAsking old question) where

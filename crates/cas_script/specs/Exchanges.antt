@@ -56,6 +56,7 @@ abbrev pub CameOf : {S V : Type 0} → Question → View S V → Gathered → Vi
 CameOf (Probe key) old (came.Probed found) new = WasToldOrder new (op.Probed key found)
 CameOf (Probe key) old other new = ⊥
 CameOf (NextKeys places) old result new = HasListed old result new
+CameOf other old result new = ⊥
 
 -- how much is left to be listed
 abbrev pub listing_left : {S V : Type 0} → View S V → ℕ

@@ -19,7 +19,7 @@ use Rattle.cas_cluster.specs.Council.{Place, GoesOn, ListingView, PlanView, plac
 use Rattle.cas_cluster.specs.Safe.{IsSafe}
 use Rattle.cas_cluster.specs.StepCalls.{Sends}
 use Rattle.cas_cluster.specs.StepCouncil as steps
-use Rattle.cas_cluster.specs.StepCouncil.{asked_by, begun_listing, listing_begun, listing_for, listing_in, places_from, plan_asked, questions_to, HasTag, IsForQuestion, WhereDrawn, MayAskAll, AsksAll, everyone, told_view, new_exchange, with_council}
+use Rattle.cas_cluster.specs.StepCouncil.{asked_by, begun_listing, listing_begun, listing_for, listing_in, places_from, plan_asked, questions_to, TagsAll, IsForQuestion, WhereDrawn, MayAskAll, AsksAll, everyone, told_view, new_exchange, with_council}
 use Rattle.cas_cluster.specs.StepDesks.{FailsToDraw}
 use Rattle.cas_cluster.specs.View.{Meaning, DiskMeaning, View, CallView, IsAt, era_at, with_desk, reserved_in_all}
 use Rattle.cas_cluster.proofs.SafeCalls.{none_open}
@@ -132,7 +132,7 @@ asks {S} {V} m greatest council council_now acceptors desks desk now callers flo
     let members = asked_is old asking in
     steps.asks now opens.tag flow_now opens.up
     (omega (arith, room, ap (λ (l : List ℕ). length l) members))
-    (subst (λ (o : Option ListingView). HasTag m.disks o desk now opens.tag) (goes_on_is old asking) opens.tagged)
+    (subst (λ (o : Option ListingView). TagsAll m.disks o desk now opens.tag) (goes_on_is old asking) opens.tagged)
     opens.desk
     (subst (λ (l : List ℕ). Sends flow exchange_place (questions_to (kept_of desk.vault).age opens.tag (question_in old asking) l) flow_now) members opens.sends)
     ((λ i. record old { eras = (eras i).0; desks = slice_set desks 0 now; flow = flow_now; marks = marks i; council = is i })

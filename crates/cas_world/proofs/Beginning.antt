@@ -17,9 +17,11 @@ use Rattle.cas_proposer.specs.Desk.{DeskView, Draws, ShowsTheSame, GoesDown, cac
 use Rattle.cas_proposer.specs.Round.{is_preparing}
 use Rattle.cas_proposer.specs.declared.round.Round.{Round}
 use Rattle.cas_cluster.specs.Council.{ListingView}
-use Rattle.cas_cluster.specs.StepCouncil.{HasTag}
+use Rattle.cas_cluster.specs.Parties.{IsAged}
+use Rattle.cas_cluster.specs.StepCouncil.{HasTag, TagsAll}
 use Rattle.cas_cluster.specs.StepDesks.{GoesOn, HasDrawn, HasKept, MayHaveDrawn, FailsToDraw, LosesMemory}
 use Rattle.cas_cluster.specs.View.{DiskMeaning}
+use Rattle.cas_cluster.proofs.Asks.{tag_goes_on}
 use Rattle.cas_calls.specs.Proposing.{disks, RidesOn, ProposesOn, FailsToPropose, proposing_of}
 use Rattle.cas_cache.specs.Entries.{promise_at}
 use Rattle.cas_proposer.specs.Desk.{IsOpened}
@@ -38,16 +40,24 @@ use Rattle.cas_world.specs.Beginning.{FailsToOpen, ProposesBy}
 pub no_more : (old new : ℕ) → new ≡ old → old ≤ new
 no_more old new same = omega (arith, same)
 
-one_era : (b : Bool) (x y : Kept) (era : ℕ) → x.era ≡ era → y.era ≡ era → (if b then x else y).era ≡ era
-one_era true x y era a b = a
-one_era false x y era a b = b
+-- what is kept is of the same age and in the same era
+pub record KeepsPlace (old new : Kept) : Type 0 where
+  pub age : new.age ≡ old.age
+  pub era : new.era ≡ old.era
 
-pub draw_era : (counter : ℕ) (kept : Kept) → (kept_to_draw counter kept).era ≡ kept.era
-draw_era counter kept = one_era (nat_lt kept.bound (counter + 1)) _ kept kept.era refl refl
+pub same_place : {old new : Kept} → new ≡ old → KeepsPlace old new
+same_place same = record { age = ap (λ (k : Kept). k.age) same; era = ap (λ (k : Kept). k.era) same }
 
-era_on : (kept before : Kept) (counter : ℕ) (c : List ℕ) → KeptOn kept c → IsBeforeOrAfter before (kept_to_draw counter before) c → kept.era ≡ before.era
-era_on kept before counter c on (inl b) = ap (λ (k : Kept). k.era) (same_kept kept before c on b)
-era_on kept before counter c on (inr a) = ap (λ (k : Kept). k.era) (same_kept kept (kept_to_draw counter before) c on a) ∙ draw_era counter before
+one_place : (b : Bool) (old x y : Kept) → KeepsPlace old x → KeepsPlace old y → KeepsPlace old (if b then x else y)
+one_place true old x y a b = a
+one_place false old x y a b = b
+
+pub drawn_place : (counter : ℕ) (old new : Kept) → new ≡ kept_to_draw counter old → KeepsPlace old new
+drawn_place counter old new same = subst (KeepsPlace old) (sym same) (one_place (nat_lt old.bound (counter + 1)) old _ old (record { age = refl; era = refl }) (record { age = refl; era = refl }))
+
+place_on : (kept before : Kept) (counter : ℕ) (c : List ℕ) → KeptOn kept c → IsBeforeOrAfter before (kept_to_draw counter before) c → KeepsPlace before kept
+place_on kept before counter c on (inl b) = same_place (same_kept kept before c on b)
+place_on kept before counter c on (inr a) = drawn_place counter before kept (same_kept kept (kept_to_draw counter before) c on a)
 
 none_there : (ride : Option Ballot) → is_none ride ≡ true → ride ≡ None
 none_there None none = refl
@@ -62,6 +72,10 @@ module _ {V : Type 0} (tells : Type 0) (may_leave : V → List ℕ → Type 0) (
   pub goes_on_still : (old new : Vault V) → disk_of new ≡ disk_of old → kept_of new ≡ kept_of old → ((n : ℕ) → IsPast may_leave n old → IsPast may_leave n new) → GoesOn (disks tells may_leave faults) old new
   goes_on_still old new same_disk same_kept_of past = record {
     still_past = λ t. past;
+    ages = λ t age was. record {
+      kept = subst (λ (k : Kept). age ≤ k.age) (sym same_kept_of) was.kept;
+      left = λ c kept left on. was.left c kept (subst (λ (d : V). may_leave d c) same_disk left) on;
+    };
     era = λ t era other was. record {
       kept = ap (λ (k : Kept). k.era) same_kept_of ∙ was.kept;
       left = λ c kept left on. was.left c kept (subst (λ (d : V). may_leave d c) same_disk left) on;
@@ -70,7 +84,14 @@ module _ {V : Type 0} (tells : Type 0) (may_leave : V → List ℕ → Type 0) (
   }
 
   pub goes_on_same : (old : Vault V) → GoesOn (disks tells may_leave faults) old old
-  goes_on_same old = record { still_past = λ t n was. was; era = λ t era other was. was; never_falls = no_more (faults (disk_of old)) (faults (disk_of old)) refl }
+  goes_on_same old = record { still_past = λ t n was. was; ages = λ t age was. was; era = λ t era other was. was; never_falls = no_more (faults (disk_of old)) (faults (disk_of old)) refl }
+
+  -- a vault that is in use keeps its age, whatever a crash leaves
+  pub aged_by : (seen : V → List ℕ) (age : ℕ) (vault : Vault V) → Stands tells seen may_leave vault → (kept_of vault).age ≡ age → tells → IsAged (disks tells may_leave faults) age vault
+  aged_by seen age vault stands is t = record {
+    kept = omega (arith, is);
+    left = λ c kept left on. omega (arith, is, ap (λ (k : Kept). k.age) (same_kept kept (kept_of vault) c on (stands.images t c left)));
+  }
 
   -- no memory was found once a ballot was drawn or not, and the round is ended
   pub loses_after : (old mid new : DeskView V) (round : Round) (ride rides : Option Ballot) → old.round ≡ Some round → MayHaveDrawn (disks tells may_leave faults) old.id old.vault mid.vault ride
@@ -94,18 +115,25 @@ module _ {V : Type 0} (tells : Type 0) (may_leave : V → List ℕ → Type 0) (
       }
 
   module _ (seen : V → List ℕ) (moment : V → ℕ) (left_since : V → ℕ → List ℕ → Type 0) (counts_now : (disk : V) (t : ℕ) (c : List ℕ) → tells → t ≤ moment disk → may_leave disk c → left_since disk t c) where
-    -- a draw keeps the era, wherever it stops
+    -- a draw keeps the age and the era, wherever it stops
     pub goes_on : (old new : Vault V) → (tells → (n : ℕ) → IsPast may_leave n old → IsPast may_leave n new)
-        → (tells → LeavesOnly moment left_since (disk_of old) (disk_of new) (IsBeforeOrAfter (kept_of old) (kept_to_draw (counter_of old) (kept_of old)))) → (kept_of new).era ≡ (kept_of old).era → faults (disk_of old) ≤ faults (disk_of new)
+        → (tells → LeavesOnly moment left_since (disk_of old) (disk_of new) (IsBeforeOrAfter (kept_of old) (kept_to_draw (counter_of old) (kept_of old)))) → KeepsPlace (kept_of old) (kept_of new) → faults (disk_of old) ≤ faults (disk_of new)
         → GoesOn (disks tells may_leave faults) old new
     goes_on old new past moments same never_falls = record {
       still_past = past;
+      ages = λ t age was. record {
+        kept = omega (arith, same.age, was.kept);
+        left = λ c kept left on. omega (arith, (left_place t c kept left on).age, was.kept);
+      };
       era = λ t era other was. record {
-        kept = same ∙ was.kept;
-        left = λ c kept left on. inl (era_on kept (kept_of old) (counter_of old) c on ((moments t).each c (counts_now (disk_of new) (moment (disk_of old)) c t (moments t).later left)) ∙ was.kept);
+        kept = same.era ∙ was.kept;
+        left = λ c kept left on. inl ((left_place t c kept left on).era ∙ was.kept);
       };
       never_falls = never_falls;
     }
+      where
+        left_place : tells → (c : List ℕ) (kept : Kept) → may_leave (disk_of new) c → KeptOn kept c → KeepsPlace (kept_of old) kept
+        left_place t c kept left on = place_on kept (kept_of old) (counter_of old) c on ((moments t).each c (counts_now (disk_of new) (moment (disk_of old)) c t (moments t).later left))
 
     rides_fits : (old new : DeskView V) (ballot : Ballot) → old.id ≤ 16 → Draws old.id old.vault new.vault ballot → Stands tells seen may_leave new.vault → FitsBallot ballot
     rides_fits old new ballot few draws stands =
@@ -124,18 +152,22 @@ module _ {V : Type 0} (tells : Type 0) (may_leave : V → List ℕ → Type 0) (
     rides_by old new round None is may up few same draws at past still moments stands never_falls =
         subst (λ (d : DeskView V). RidesOn (disks tells may_leave faults) round old d None) (sym (same refl)) (record {
           drawn = record { shows = record { counter = refl; kept = refl }; goes_on = goes_on_same old.vault };
+          aged = aged_by seen (kept_of old.vault).age old.vault (subst (λ (d : DeskView V). d.down ≡ false → Stands tells seen may_leave d.vault) (same refl) stands up) refl;
           desk = ap (λ (r : Option Round). record old { round = r }) (is ∙ no_ride round (subst (λ (r : Option Round). IsTrue (may_ride r)) is may));
           fits = tt;
         })
     rides_by old new round (Some b) is may up few same draws at past still moments stands never_falls =
         let drew : Draws old.id old.vault new.vault b = draws b refl in
-        let fits : FitsBallot b = rides_fits old new b few drew (stands (ap (λ (d : DeskView V). d.down) (at b refl) ∙ up)) in record {
+        let in_use : Stands tells seen may_leave new.vault = stands (ap (λ (d : DeskView V). d.down) (at b refl) ∙ up) in
+        let fits : FitsBallot b = rides_fits old new b few drew in_use in
+        let place : KeepsPlace (kept_of old.vault) (kept_of new.vault) = drawn_place (counter_of old.vault) (kept_of old.vault) (kept_of new.vault) drew.kept in record {
           drawn = record {
             draws = drew;
             fits = fits;
             past = λ t. past t b refl;
-            goes_on = goes_on old.vault new.vault still moments (ap (λ (k : Kept). k.era) drew.kept ∙ draw_era (counter_of old.vault) (kept_of old.vault)) never_falls;
+            goes_on = goes_on old.vault new.vault still moments place never_falls;
           };
+          aged = aged_by seen (kept_of old.vault).age new.vault in_use place.age;
           desk = at b refl ∙ ap (λ (r : Option Round). record old { vault = new.vault; round = with_ride r b }) is;
           fits = fits;
         }
@@ -151,7 +183,7 @@ module _ {V : Type 0} (tells : Type 0) (may_leave : V → List ℕ → Type 0) (
           cache = inr (cache ∙ ap (λ (r : Option Round). cache_without r old.cache) is);
           counter = goes.counter;
           kept = goes.kept;
-          goes_on = goes_on old.vault new.vault still moments (ap (λ (k : Kept). k.era) goes.kept) never_falls;
+          goes_on = goes_on old.vault new.vault still moments (same_place goes.kept) never_falls;
           faulted = rose;
         }
 
@@ -164,7 +196,7 @@ module _ {V : Type 0} (tells : Type 0) (may_leave : V → List ℕ → Type 0) (
         → ((n : ℕ) → IsPast may_leave n mid.vault → IsPast may_leave n new.vault) → faults (disk_of old.vault) ≤ faults (disk_of mid.vault) → LosesMemory (disks tells may_leave faults) round.key old new None
     loses_by old mid new round is at shows still moments ends counted same_kept_of same_disk past never_falls =
         loses_after old mid new round None round.ride is
-        (record { shows = shows; goes_on = goes_on old.vault mid.vault still moments (ap (λ (k : Kept). k.era) shows.kept) never_falls })
+        (record { shows = shows; goes_on = goes_on old.vault mid.vault still moments (same_place shows.kept) never_falls })
         (at ∙ ap (λ (r : Option Round). record old { vault = mid.vault; round = r }) is) ends counted same_kept_of same_disk past
 
 -- ---- a promise that is used up
@@ -243,7 +275,7 @@ proposed_at_once {V} m era key program author old new before after proposing rea
   ready = ready;
   ride = on.ride;
   round = round;
-  begins = record { none_open = none; promise = promise; drawn = on.rides.drawn; opened = opened; desk = on.rides.desk };
+  begins = record { none_open = none; promise = promise; drawn = on.rides.drawn; aged = on.rides.aged; opened = opened; desk = on.rides.desk };
   made = made;
   sends = on.sends;
 }
@@ -284,7 +316,7 @@ module _ {V : Type 0} (tells : Type 0) (may_leave : V → List ℕ → Type 0) (
       draws = draws;
       fits = rides_fits tells may_leave faults seen moment left_since counts_now old new ballot few draws stands;
       past = λ t. subst (λ (n : ℕ). IsPast may_leave n new.vault) (draws.counter ∙ sym (ap (λ (b : Ballot). b.counter) draws.next)) (past t);
-      goes_on = goes_on tells may_leave faults seen moment left_since counts_now old.vault new.vault still moments (ap (λ (k : Kept). k.era) draws.kept ∙ draw_era (counter_of old.vault) (kept_of old.vault)) never_falls;
+      goes_on = goes_on tells may_leave faults seen moment left_since counts_now old.vault new.vault still moments (drawn_place (counter_of old.vault) (kept_of old.vault) (kept_of new.vault) draws.kept) never_falls;
     }
 
     -- a tag is drawn
@@ -308,7 +340,7 @@ module _ {V : Type 0} (tells : Type 0) (may_leave : V → List ℕ → Type 0) (
           cache = inl (cache ∙ ap (λ (r : Option Round). cache_without r old.cache) none);
           counter = goes.counter;
           kept = goes.kept;
-          goes_on = goes_on tells may_leave faults seen moment left_since counts_now old.vault new.vault still moments (ap (λ (k : Kept). k.era) goes.kept) never_falls;
+          goes_on = goes_on tells may_leave faults seen moment left_since counts_now old.vault new.vault still moments (same_place goes.kept) never_falls;
           faulted = rose;
         }
 
@@ -319,7 +351,7 @@ module _ {V : Type 0} (tells : Type 0) (may_leave : V → List ℕ → Type 0) (
         → HasKept (disks tells may_leave faults) old.vault new.vault
     kept_by old new shows still moments never_falls = record {
       shows = shows;
-      goes_on = goes_on tells may_leave faults seen moment left_since counts_now old.vault new.vault still moments (ap (λ (k : Kept). k.era) shows.kept) never_falls;
+      goes_on = goes_on tells may_leave faults seen moment left_since counts_now old.vault new.vault still moments (same_place shows.kept) never_falls;
     }
 
   -- no memory was found once a ballot was drawn or not, and no round is open
@@ -345,6 +377,13 @@ module _ {V : Type 0} (tells : Type 0) (may_leave : V → List ℕ → Type 0) (
     None,
     lost_idle [] old new none (subst (λ (v : Vault V). HasKept (disks tells may_leave faults) old.vault v) (sym has.1) (record { shows = record { counter = refl; kept = refl }; goes_on = goes_on_same tells may_leave faults old.vault })) at,
   )
+
+  -- it is one for what is asked at the age of a vault that is in use
+  pub tags_all : (seen : V → List ℕ) (goes_on : Option ListingView) (old new : DeskView V) (tag : Ballot) → Stands tells seen may_leave old.vault → HasTag (disks tells may_leave faults) goes_on old new tag → TagsAll (disks tells may_leave faults) goes_on old new tag
+  tags_all seen goes_on old new tag stands has = record {
+    has_tag = has;
+    aged = λ t. (tag_goes_on (disks tells may_leave faults) goes_on old new tag has).ages t _ (aged_by tells may_leave faults seen (kept_of old.vault).age old.vault stands refl t);
+  }
 
   pub failed_idle : (key : List ℕ) (old new : DeskView V) → old.round ≡ None → HasKept (disks tells may_leave faults) old.vault new.vault → new ≡ record old { vault = new.vault; down = new.down } → new.down ≡ true → Rose (faults (disk_of old.vault)) (faults (disk_of new.vault)) → FailsToDraw (disks tells may_leave faults) key old new
   failed_idle key old new none kept at down rose = record {

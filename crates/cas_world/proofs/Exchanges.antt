@@ -24,7 +24,7 @@ use Rattle.cas_record.specs.Book.{Book}
 use Rattle.cas_cluster.specs.Council as cluster
 use Rattle.cas_cluster.specs.Council.{ExchangeView, OrderView, PlanView, ListingView, MemberPlace, with_listing, stepped, silent_order, at_rest, exchange_place, reserved_by, reserved_for_order, reserved_for_exchange, broken_off, crashed_in, telling, told_so}
 use Rattle.cas_cluster.specs.History.{IsRemembered}
-use Rattle.cas_cluster.specs.Safe.{IsSafe, IsExchangeSafe, IsAskingSafe}
+use Rattle.cas_cluster.specs.Safe.{IsSafe, IsExchangeSafe, IsAskingSafe, is_of_collection}
 use Rattle.cas_cluster.specs.Step as step
 use Rattle.cas_cluster.specs.Step.{Step}
 use Rattle.cas_cluster.specs.StepStops.{broken_off_view}
@@ -35,7 +35,7 @@ use Rattle.cas_cluster.specs.StepCouncil.{IsFinishedBy, finished, ListsFor, Step
 use Rattle.cas_cluster.specs.StepFrames.{replied_flow, votes_marked}
 use Rattle.cas_cluster.specs.View.{Meaning, View, IsAt, era_in, reserved_in_all}
 use Rattle.cas_quorum.specs.declared.era.Era.{Era}
-use Rattle.cas_cluster.proofs.Remembering.{broken_off as breaks_off, tells_remembered as told_remembered}
+use Rattle.cas_cluster.proofs.Remembering.{broken_off as breaks_off, told_remembered}
 use Rattle.cas_cluster.proofs.FrameSteps.{taken_own}
 use Rattle.cas_cluster.proofs.Places.{some_is, contains_at}
 use Rattle.cas_cluster.proofs.Rescanning.{told_reserves}
@@ -268,8 +268,8 @@ open_code (Some x) exchange is = refl
 
 -- the next keys are asked for from some places on
 keys_asked : (question : cluster.Question) → IsOfKeys question → (places : List MemberPlace) × (question ≡ cluster.NextKeys places)
-keys_asked (cluster.Probe key) is = absurd is
 keys_asked (cluster.NextKeys places) is = (places, refl)
+keys_asked other is = absurd is
 
 -- it is of the listing that is under way
 lists_for : {S V : Type 0} (view : View S V) (exchange : ExchangeView) → IsSafe view → view.council.exchange ≡ Some exchange → IsOfKeys exchange.question → (of : IsListing view.council.plan)
@@ -286,10 +286,16 @@ lists_for view exchange safe is_open is_keys of =
 abbrev lists_at : {S V : Type 0} (view : View S V) (exchange : ExchangeView) (of : IsListing view.council.plan) → (exchange.question ≡ cluster.NextKeys of.listing.places) × (exchange.tag ≡ of.listing.tag) → ListsFor view exchange
 lists_at view exchange of there = record { plan = of.plan; is_plan = of.is_plan; settles = of.settles; listing = of.listing; is_listing = of.is_listing; question = there.0; tag = there.1 }
 
+-- where no collection is under way, none asks for one
+none_collects : {S V : Type 0} (view : View S V) (exchange : ExchangeView) → IsSafe view → view.council.collection ≡ None → view.council.exchange ≡ Some exchange → is_of_collection exchange.question ≡ true → ⊥
+none_collects view exchange safe none is_open asks = let of = safe.collection.exchange exchange is_open asks in cc (none, of.is_collection)
+
 -- what is asked may be listed
-pub may_list : {S V : Type 0} (view : View S V) (exchange : ExchangeView) (question : cluster.Question) → IsSafe view → view.council.exchange ≡ Some exchange → exchange.question ≡ question → MayList question view.council.plan
-may_list view exchange (cluster.Probe key) safe is_open is = tt
-may_list view exchange (cluster.NextKeys places) safe is_open is =
+pub may_list : {S V : Type 0} (view : View S V) (exchange : ExchangeView) (question : cluster.Question) → IsSafe view → view.council.collection ≡ None → view.council.exchange ≡ Some exchange → exchange.question ≡ question → MayList question view.council.plan
+may_list view exchange (cluster.Probe key) safe none is_open is = tt
+may_list view exchange (cluster.NewAges key least) safe none is_open is = absurd (none_collects view exchange safe none is_open (ap is_of_collection is))
+may_list view exchange (cluster.Removal key) safe none is_open is = absurd (none_collects view exchange safe none is_open (ap is_of_collection is))
+may_list view exchange (cluster.NextKeys places) safe none is_open is =
     let lists = safe.sound.council.1 exchange places is_open is in
     record { plan = lists.plan; is_plan = lists.is_plan; settles = (safe.sound.council.0 lists.plan lists.listing lists.is_plan lists.is_listing).settles; listing = lists.listing; is_listing = lists.is_listing }
 

@@ -21,6 +21,7 @@ use Rattle.cas_vault.specs.declared.kept.Kept.{Kept}
 use Rattle.cas_vault.specs.declared.error.VaultError.{VaultError}
 use Rattle.cas_vault.specs.declared.error.VaultError.TheVariants as error
 use Rattle.cas_vault.proofs.Keeping.{same_kept}
+use Rattle.cas_cluster.specs.Collection.{reserved_for_collection}
 use Rattle.cas_cluster.specs.Council as cluster
 use Rattle.cas_cluster.specs.Council.{OrderView, PlanView, reserved_by, reserved_for_order, exchange_place, crashed_in, silent_order, told_so, telling, hushed}
 use Rattle.cas_cluster.proofs.Rescanning.{told_reserves}
@@ -60,6 +61,10 @@ module _ {V : Type 0} (tells : Type 0) (may_leave : V → List ℕ → Type 0) (
     up = up;
     desk = desk;
     still_past = past;
+    ages = λ told age is. record {
+      kept = omega (arith, is.kept, ap (λ (k : Kept). k.age) kept);
+      left = λ c k may on. omega (arith, is.kept, ap (λ (x : Kept). x.age) (same_kept k (kept_of new.vault) c on ((stands (ap (λ (d : DeskView V). d.down) desk ∙ up)).images told c may) ∙ kept));
+    };
     in_era = λ told. record {
       kept = ap (λ (k : Kept). k.era) kept;
       left = λ c k may on. inl (ap (λ (x : Kept). x.era) (same_kept k (kept_of new.vault) c on ((stands (ap (λ (d : DeskView V). d.down) desk ∙ up)).images told c may) ∙ kept));
@@ -76,6 +81,13 @@ module _ {V : Type 0} (tells : Type 0) (may_leave : V → List ℕ → Type 0) (
     up = up;
     crashed = crashed;
     still_past = past;
+    ages = λ told age is. record {
+      kept = omega (arith, is.kept, ap (λ (k : Kept). k.age) same);
+      left = λ c k may on. elim (left_at moment left_since may_leave (disk_of old.vault) (disk_of new.vault) (IsBeforeOrAfter (kept_of old.vault) (kept_in_era era.number (kept_of old.vault))) (now told) (moments told) c may) [
+        | inl before ↦ omega (arith, is.kept, ap (λ (x : Kept). x.age) (same_kept k (kept_of old.vault) c on before))
+        | inr after ↦ omega (arith, is.kept, ap (λ (x : Kept). x.age) (same_kept k (kept_in_era era.number (kept_of old.vault)) c on after))
+      ];
+    };
     torn = λ told number is. record {
       kept = ap (λ (k : Kept). k.era) same ∙ is.kept;
       left = λ c k may on. elim (left_at moment left_since may_leave (disk_of old.vault) (disk_of new.vault) (IsBeforeOrAfter (kept_of old.vault) (kept_in_era era.number (kept_of old.vault))) (now told) (moments told) c may) [
@@ -139,7 +151,7 @@ turned DeskTurns closed id desk now caller caller_now flow flow_now (moving.clos
 
 -- ---- the whole
 crash_reserves : (id : ℕ) (council : cluster.Council) → reserved_by (crash_at id council) ≡ reserved_by council
-crash_reserves zero council = ap (λ (n : ℕ). reserved_for_order council.order + n) (broken_reserved council.exchange)
+crash_reserves zero council = ap (λ (n : ℕ). reserved_for_order council.order + n + reserved_for_collection council.collection) (broken_reserved council.exchange)
 crash_reserves (suc id) council = refl
 
 crash_order : (id : ℕ) (council : cluster.Council) → (crash_at id council).order ≡ council.order

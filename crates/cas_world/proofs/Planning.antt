@@ -88,9 +88,9 @@ welcomed m old middle id (step.was_up acceptor at up same) = plans.is_up id acce
 welcomed m old middle id (step.starts acceptor now at by is) = plans.starts id acceptor now refl at by is
 welcomed m old middle id (step.fails acceptor now at by is) = plans.fails id acceptor now refl at by is
 
-pub opens_plan : {S V : Type 0} (m : Meaning S V) (old new : View S V) (asked : Asked) (desk : DeskView V) → MayOpenPlan old asked → IsAt old.desks 0 desk → OpensPlan m old asked desk new → StepOpenPlan m old new
-opens_plan m old new asked desk may at by =
-    record { order = may.order; is_open = may.is_open; desk = desk; at_desk = at; opens = subst (λ (a : Asked). OpensPlan m old a desk new) (sym may.is_for) by }
+pub opens_plan : {S V : Type 0} (m : Meaning S V) (old new : View S V) (asked : Asked) (desk : DeskView V) → MayOpenPlan old asked → old.council.collection ≡ None → IsAt old.desks 0 desk → OpensPlan m old asked desk new → StepOpenPlan m old new
+opens_plan m old new asked desk may none at by =
+    record { order = may.order; is_open = may.is_open; none_collected = none; desk = desk; at_desk = at; opens = subst (λ (a : Asked). OpensPlan m old a desk new) (sym may.is_for) by }
 
 -- an era's number is at most that of the marks
 pub few_entries : (marks : List Mark) → length (entries_in marks) ≤ length marks

@@ -82,7 +82,7 @@ module _ {V : Type 0} (m : DiskMeaning V) (round : Round) (old mid new : DeskVie
         quorum = quorum;
         confirmers = reads.confirmers;
         is_read = reads.is_read;
-        turns = record { turns = turns; drawn = on.rides.drawn; desk = on.rides.desk };
+        turns = record { turns = turns; drawn = on.rides.drawn; aged = on.rides.aged; desk = on.rides.desk };
         made = made_is ∙ ap (λ (k : List ℕ). proposing_of author k era.number call.program ready) (sym same_key)
             ∙ ap (λ (e : Era). proposing_of author round.key e.number call.program ready) reads.in_era
             ∙ ap (λ (r : Ready). proposing_of author round.key round.era.number call.program r) reads.is_ready;

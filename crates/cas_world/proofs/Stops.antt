@@ -24,7 +24,7 @@ use Rattle.cas_cluster.specs.StepStops as stops
 use Rattle.cas_cluster.specs.StepStops.{CrashesDesk}
 use Rattle.cas_quorum.specs.declared.era.Era.{Era}
 use Rattle.cas_cluster.specs.Course.{era_shown}
-use Rattle.cas_cluster.specs.Parties.{IsWithin}
+use Rattle.cas_cluster.specs.Parties.{IsAged, IsWithin}
 use Rattle.cas_cluster.specs.StepDesks.{GoesOn, Crashes, Restarts}
 use Rattle.cas_cluster.specs.View.{DiskMeaning, Meaning, ShelfMeaning, View, CallerView, IsAt, reserved_in, reserved_of, era_at, with_acceptor, with_desk}
 use Rattle.cas_cluster.proofs.Places.{at_one, at_set, but_set, own_set, other_set}
@@ -106,6 +106,10 @@ pub crash_goes_on : {V : Type 0} (m : DiskMeaning V) (old new : Vault V) (seen :
 crash_goes_on m old new seen kept image settled past never_falls = record {
   still_past = past;
   never_falls = never_falls;
+  ages = λ tells age is. record {
+    kept = subst (λ (k : Kept). age ≤ k.age) (sym kept) is.kept;
+    left = λ c k may on. is.left seen k (image tells) (subst (KeptOn k) (settled tells c may) on);
+  };
   era = λ tells era other is. record {
     kept = ap (λ (k : Kept). k.era) kept ∙ is.kept;
     left = λ c k may on. is.left seen k (image tells) (subst (KeptOn k) (settled tells c may) on);
@@ -117,6 +121,7 @@ pub end_goes_on : {V : Type 0} (m : DiskMeaning V) (old new : Vault V) → kept_
 end_goes_on {V} m old new kept disk past = record {
   still_past = λ tells n is. past n is;
   never_falls = no_more (m.faults (disk_of old)) (m.faults (disk_of new)) (ap m.faults disk);
+  ages = λ tells age is. record { kept = subst (λ (k : Kept). age ≤ k.age) (sym kept) is.kept; left = λ c k may on. is.left c k (subst (λ (d : V). m.may_leave d c) disk may) on };
   era = λ tells era other is. record { kept = ap (λ (k : Kept). k.era) kept ∙ is.kept; left = λ c k may on. is.left c k (subst (λ (d : V). m.may_leave d c) disk may) on };
 }
 
@@ -139,9 +144,22 @@ shows_era {V} m old new seen image on lasts era other is = elim (is.left seen (k
 pub stays_within : {V : Type 0} (m : DiskMeaning V) (old new : Vault V) → kept_of new ≡ kept_of old → ((c : List ℕ) → m.may_leave (disk_of new) c → m.may_leave (disk_of old) c) → (era other : ℕ) → IsWithin m era other old → IsWithin m era other new
 stays_within m old new same leaves era other is = record { kept = ap (λ (k : Kept). k.era) same ∙ is.kept; left = λ c k may on. is.left c k (leaves c may) on }
 
+-- a restart shows an age that it kept, and a crash leaves just that from then on
+shows_age : {V : Type 0} (m : DiskMeaning V) (old new : Vault V) (seen : List ℕ) → m.may_leave (disk_of old) seen → KeptOn (kept_of new) seen → ((c : List ℕ) → m.may_leave (disk_of new) c → KeptOn (kept_of new) c)
+    → (age : ℕ) → IsAged m age old → IsAged m age new
+shows_age m old new seen image on lasts age is = record {
+  kept = is.left seen (kept_of new) image on;
+  left = λ c k may k_on. subst (λ (x : Kept). age ≤ x.age) (sym (same_kept k (kept_of new) c k_on (lasts c may))) (is.left seen (kept_of new) image on);
+}
+
+-- one that fails leaves what the vault kept
+stays_aged : {V : Type 0} (m : DiskMeaning V) (old new : Vault V) → kept_of new ≡ kept_of old → ((c : List ℕ) → m.may_leave (disk_of new) c → m.may_leave (disk_of old) c) → (age : ℕ) → IsAged m age old → IsAged m age new
+stays_aged m old new same leaves age is = record { kept = subst (λ (k : Kept). age ≤ k.age) (sym same) is.kept; left = λ c k may on. is.left c k (leaves c may) on }
+
 -- what a restart does to the vault of a desk that was down
 pub record RestartsVault {V : Type 0} (m : DiskMeaning V) (old new : Vault V) (r : Result ⊤ VaultError) : Type 0 where
   pub still_past : m.tells → (n : ℕ) → IsPast m.may_leave n old → IsPast m.may_leave n new
+  pub ages : m.tells → (age : ℕ) → IsAged m age old → IsAged m age new
   pub shows : OnOk r (m.tells → (era other : ℕ) → IsWithin m era other old → IsWithin m era era new ⊎ IsWithin m other other new)
   pub stays : OnErr r (m.tells → (era other : ℕ) → IsWithin m era other old → IsWithin m era other new)
   pub never_falls : m.faults (disk_of old) ≤ m.faults (disk_of new)
@@ -151,12 +169,14 @@ pub restarts_vault : {V : Type 0} (m : DiskMeaning V) (old new : Vault V) (r : R
     → (m.tells → (c : List ℕ) → m.may_leave (disk_of new) c → m.may_leave (disk_of old) c) → (m.tells → (n : ℕ) → IsPast m.may_leave n old → IsPast m.may_leave n new) → m.faults (disk_of old) ≤ m.faults (disk_of new) → RestartsVault m old new r
 restarts_vault m old new (Ok x) seen image reopened lasts same leaves past never_falls = record {
   still_past = past;
+  ages = λ tells. shows_age m old new seen (image tells) (reopened tells) (lasts tells);
   shows = λ tells. shows_era m old new seen (image tells) (reopened tells) (lasts tells);
   stays = tt;
   never_falls = never_falls;
 }
 restarts_vault m old new (Err e) seen image reopened lasts same leaves past never_falls = record {
   still_past = past;
+  ages = λ tells. stays_aged m old new same (leaves tells);
   shows = tt;
   stays = λ tells. stays_within m old new same (leaves tells);
   never_falls = never_falls;
@@ -199,6 +219,7 @@ desk_restarted {S} {V} m old id desk now caller eras r at at_caller down ok err 
     by_result (Ok x) down ok err of = let up : now.down ≡ false = ap (λ (d : DeskView V). d.down) ok in record {
       desk = ok ∙ ap (λ (d : Bool). record desk { vault = now.vault; down = d }) (sym up);
       still_past = of.still_past;
+      ages = of.ages;
       shows = λ is_up. of.shows;
       stays = λ is_down. absurd (cc (is_down, up));
       never_falls = of.never_falls;
@@ -206,6 +227,7 @@ desk_restarted {S} {V} m old id desk now caller eras r at at_caller down ok err 
     by_result (Err e) down ok err of = let still : now.down ≡ true = ap (λ (d : DeskView V). d.down) err ∙ down in record {
       desk = err ∙ ap (λ (d : Bool). record desk { vault = now.vault; down = d }) (sym (ap (λ (d : DeskView V). d.down) err));
       still_past = of.still_past;
+      ages = of.ages;
       shows = λ is_up. absurd (cc (is_up, still));
       stays = λ is_down. of.stays;
       never_falls = of.never_falls;

@@ -18,7 +18,7 @@ use Rattle.cas_record.specs.declared.operator.Probes.{Probes}
 use Rattle.cas_cluster.specs.Council.{MemberPlace, ListingView, PlanView, place_in, has_ended, with_listing, Question, Probe, NextKeys, ExchangeView, OrderView, exchange_place}
 use Rattle.cas_cluster.specs.Step.{Event, Turn, RefuseTurn, TurnExchange, RefuseTurnExchange}
 use Rattle.cas_cluster.specs.StepCalls.{Sends, most_marks}
-use Rattle.cas_cluster.specs.StepCouncil.{everyone, places_from, begun_listing, IsForQuestion, SaysTheSame, HasTag, WhereDrawn, questions_to, new_exchange}
+use Rattle.cas_cluster.specs.StepCouncil.{everyone, places_from, begun_listing, IsForQuestion, SaysTheSame, TagsAll, WhereDrawn, questions_to, new_exchange}
 use Rattle.cas_cluster.specs.StepDesks.{HasKept, FailsToDraw, LosesMemory}
 use Rattle.cas_cluster.specs.View.{DiskMeaning, View}
 use Rattle.cas_world.specs.Beginning.{HasNoCall}
@@ -104,7 +104,7 @@ IsAsked view request = slice_get (queue_at view.flow exchange_place).messages 0 
 pub record Opens {V : Type 0} (m : DiskMeaning V) (old new : DeskView V) (before after : FlowView) (members : List ℕ) (goes_on : Option ListingView) (what : Exchange) (opened : Opened) : Type 0 where
   pub up : old.down ≡ false
   pub tag : Ballot
-  pub tagged : HasTag m goes_on old new tag
+  pub tagged : TagsAll m goes_on old new tag
   pub desk : new ≡ record old { vault = new.vault }
   pub sends : Sends before exchange_place (questions_to (kept_of old.vault).age tag (question_from members goes_on what) (asked_from members goes_on)) after
   pub exchange : exchange_view opened.exchange ≡ new_exchange (question_from members goes_on what) tag (asked_from members goes_on)

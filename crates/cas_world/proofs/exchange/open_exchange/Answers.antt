@@ -1,6 +1,6 @@
-use Rattle.std.proofs.Common.{[], None, refl, sym, ◌∙◌}
+use Rattle.std.proofs.Common.{rules, [], None, refl, sym, ◌∙◌}
 use Rattle.std.specs.Prelude.{option_copied}
-use Rattle.cas_world.proofs.Beginning.{lost_idle, lost_tagged, goes_on_same}
+use Rattle.cas_world.proofs.Beginning.{lost_idle, lost_tagged, goes_on_same, tags_all}
 use Rattle.cas_world.proofs.exchange.open_exchange.Goals as goal
 
 pub returns-then-is_err-clause-refused : goal.returns-then-is_err-clause-refused
@@ -19,3 +19,15 @@ returns-in-Ok-clause-refused g c =
       lost.0,
       lost.1,
     )
+
+pub returns-in-Ok-ask_members-clause-ok : goal.returns-in-Ok-ask_members-clause-ok
+returns-in-Ok-ask_members-clause-ok g c =
+    let up = sym c.is_down.ensures ∙ c.if-is_down.false in record {
+      up = up;
+      tag = c.in-Ok.tag;
+      tagged = tags_all g.V.Disk.tells g.V.Disk.may_leave g.V.Disk.fault_count g.V.Disk.seen (option_copied c.args.goes_on) c.args.desk.now c.tag_for.new.desk c.in-Ok.tag (c.age-age.ensures.stands up) c.in-Ok.ensures.tag.0;
+      desk = c.in-Ok.ensures.desk;
+      sends = search rules;
+      exchange = c.in-Ok-ask_members.ensures.exchange;
+      begun = c.in-Ok-ask_members.ensures.begun;
+    }

@@ -22,7 +22,7 @@ pub gather-requires-clause-lists : goal.gather-requires-clause-lists
 gather-requires-clause-lists g c =
     let is_open = ap (λ (v : View g.row.S.Denot g.row.V.Denot). v.council.exchange) c.self.view_is ∙ c.requires.is_open in
     in_code (λ e. MayList e.question (council_view c.self.inside.council).plan) c.self.inside.council.exchange c.requires.exchange is_open
-    (may_list (view_of c.self.inside.config.proposers c.self.inside.council c.self.inside.acceptors.items c.self.inside.desks.items c.self.inside.callers.items c.self.inside.flow c.self.inside.record) c.requires.exchange c.requires.exchange.question c.self.invariant.safe is_open refl)
+    (may_list (view_of c.self.inside.config.proposers c.self.inside.council c.self.inside.acceptors.items c.self.inside.desks.items c.self.inside.callers.items c.self.inside.flow c.self.inside.record) c.requires.exchange c.requires.exchange.question c.self.invariant.safe refl is_open refl)
 
 -- the exchange in the world
 exchange_is : (g : Over) (c : After-gather g) → (council_view c.self.inside.council).exchange ≡ Some c.requires.exchange
