@@ -1,11 +1,16 @@
+//! Rows of cells on a disk in memory and in a file. What makes a row in memory hands on the bytes of its disk, since each early return
+//! beside a row lets its disk go.
+
 ghost use Rattle.std.specs.Prelude.{◌≡◌, OnOk};
 ghost use Rattle.cas_cells.specs.Format.{IsPayload, count_in, count_told};
 ghost use Rattle.cas_cells.specs.Cells.{cells_of, Stands};
 
+use crate::bytes::{set, stand_at};
 use cas_cells::{CellFault, Cells};
 use cas_disk::{Disk, FileDisk, Image, MemoryDisk, Trouble};
-use std::alloc::Global;
+use std::alloc::{AllocError, Global};
 use std::fs::OpenOptions;
+use std::process::Abort;
 use std::test::Fail;
 
 // A head that tells no cells.
@@ -18,7 +23,7 @@ fn over(
     bytes: &[u8],
     troubles: &[(u64, Trouble)],
     image: Image,
-) -> Result<Cells<MemoryDisk>, CellFault> {
+) -> Result<Cells<MemoryDisk>, AllocError> {
     let troubles = troubles.to_vec(alloc)?;
     let disk = MemoryDisk::new(alloc, bytes.to_vec(alloc)?, troubles, image);
     Ok(Cells::over(alloc, disk))
@@ -49,131 +54,133 @@ fn recovered<D: Disk>(cells: &mut Cells<D>) -> Result<(), CellFault>
     }
 }
 
+// The bytes of the disk of a row.
+fn bytes_of(alloc: Global, cells: Cells<MemoryDisk>) -> Result<Vec<u8>, AllocError> {
+    let disk = cells.into_disk();
+    disk.bytes().to_vec(alloc)
+}
+
+// Whether a row has this count, these payloads in the cells 0 and 1, and no fault.
+fn shows<D: Disk>(cells: &Cells<D>, count: u32, head: &[u8], next: Option<&[u8]>) -> bool {
+    let payloads = (cells.payload(0), cells.payload(1));
+    (cells.count(), cells.faults()) == (count, 0) && payloads == (Some(head), next)
+}
+
+// Formats a row and changes its cell 0.
+fn format_and_change<D: Disk>(cells: &mut Cells<D>) -> Result<bool, CellFault> {
+    cells.format(&HEAD)?;
+    change(cells, &HEAD)?;
+    Ok(shows(cells, 0, &HEAD, None))
+}
+
+// The bytes of a disk whose cell 0 was formatted and changed once: both of its frames are open, the second is current.
+fn changed_once(rt: &impl Abort, alloc: Global) -> Result<Vec<u8>, Fail> {
+    let mut cells = over(alloc, &[], &[], Image::Old)?;
+    assert!(rt; format_and_change(&mut cells)?);
+    Ok(bytes_of(alloc, cells)?)
+}
+
 #[test]
 fn a_formatted_disk_and_a_change_have_their_bytes(rt: HostRuntime) -> Result<(), Fail> {
-    let alloc = rt.alloc();
-    let mut cells = over(alloc, &[], &[], Image::Old)?;
-    cells.format(&HEAD)?;
-    change(&mut cells, &HEAD)?;
-    assert_eq!(rt; cells.count(), 0);
-    assert_eq!(rt; cells.payload(0).unwrap_or(&[]), HEAD.as_slice());
-    assert_eq!(rt; cells.payload(1).unwrap_or(&[9]), [9].as_slice());
-    assert_eq!(rt; cells.faults(), 0);
-    let disk = cells.into_disk();
-    let bytes = disk.bytes();
+    let bytes = changed_once(&rt, rt.alloc())?;
     assert_eq!(rt; bytes.len(), 1024);
-    for (place, want) in [
-        (0, 1),
-        (1, 0),
-        (2, 0),
-        (3, 13),
-        (4, 2),
-        (5, 67),
-        (17, 0),
-        (512, 1),
-        (513, 1),
-        (515, 13),
-        (516, 2),
-    ] {
-        let byte = bytes.get(place).copied();
-        assert_eq!(rt; byte, Some(want), "at {place}");
+    let rows: [(usize, &[u8]); 4] = [
+        (0, &[1, 0, 0, 13, 2, 67]),
+        (17, &[0]),
+        (512, &[1, 1]),
+        (515, &[13, 2]),
+    ];
+    for (place, want) in rows {
+        assert!(rt; stand_at(&bytes, place, want), "at {place}");
     }
     Ok(())
+}
+
+// A head that tells one cell.
+const GROWN: [u8; 13] = [2, 67, 65, 83, 82, 69, 71, 48, 49, 0, 0, 0, 1];
+
+// Formats a row, has it grow, and changes the cell that came.
+fn grow<D: Disk>(cells: &mut Cells<D>) -> Result<bool, CellFault> {
+    cells.format(&HEAD)?;
+    let before = cells.payload_place(0);
+    cells.grow()?;
+    let places = (before, cells.payload_place(0));
+    let grown = shows(cells, 1, &GROWN, None);
+    cells.close_spare(1)?;
+    cells.write_spare(1, &[7])?;
+    cells.open_spare(1)?;
+    recovered(cells)?;
+    Ok(places == (Some(4), Some(516)) && grown && shows(cells, 1, &GROWN, Some(&[7])))
 }
 
 #[test]
 fn a_row_grows(rt: HostRuntime) -> Result<(), Fail> {
-    let alloc = rt.alloc();
-    let mut cells = over(alloc, &[], &[], Image::Old)?;
-    cells.format(&HEAD)?;
-    assert_eq!(rt; cells.payload_place(0), Some(4));
-    cells.grow()?;
-    assert_eq!(rt; cells.payload_place(0), Some(516));
-    assert_eq!(rt; cells.count(), 1);
-    let head = cells.payload(0).unwrap_or(&[]);
-    assert_eq!(rt;
-        head,
-        [2, 67, 65, 83, 82, 69, 71, 48, 49, 0, 0, 0, 1].as_slice()
-    );
-    cells.close_spare(1)?;
-    cells.write_spare(1, &[7])?;
-    cells.open_spare(1)?;
-    recovered(&mut cells)?;
-    assert_eq!(rt; cells.count(), 1);
-    assert_eq!(rt; cells.payload(1).unwrap_or(&[]), [7].as_slice());
+    let mut cells = over(rt.alloc(), &[], &[], Image::Old)?;
+    assert!(rt; grow(&mut cells)?);
     Ok(())
 }
 
-// The bytes of a disk whose cell 0 was formatted and changed once: both of its frames are open, the second is current.
-fn changed_once(alloc: Global) -> Result<Vec<u8>, CellFault> {
-    let mut cells = over(alloc, &[], &[], Image::Old)?;
-    cells.format(&HEAD)?;
-    change(&mut cells, &HEAD)?;
-    let disk = cells.into_disk();
-    Ok(disk.bytes().to_vec(alloc)?)
-}
-
-// What recovery answers over so many of these bytes, some of them changed.
-fn foreign(
-    alloc: Global,
-    bytes: &[u8],
-    changes: &[(usize, u8)],
-    length: usize,
-) -> Result<(), CellFault> {
-    let mut bytes = bytes.to_vec(alloc)?;
-    for (place, value) in changes {
-        if let Some(byte) = bytes.get_mut(*place) {
-            *byte = *value;
-        }
-    }
-    bytes.truncate(length);
-    let mut cells = over(alloc, &bytes, &[], Image::Old)?;
-    recovered(&mut cells)
+// What recovery answers over a disk of these bytes.
+fn told_over(alloc: Global, bytes: &[u8]) -> Result<Result<(), CellFault>, Fail> {
+    let mut cells = over(alloc, bytes, &[], Image::Old)?;
+    Ok(recovered(&mut cells))
 }
 
 #[test]
 fn a_wrong_byte_is_foreign_at_its_place(rt: HostRuntime) -> Result<(), Fail> {
     let alloc = rt.alloc();
-    let bytes = changed_once(alloc)?;
-    let rows: [(&[(usize, u8)], usize, u64); 15] = [
+    // What is changed of the bytes, how many are left, and the place that is told.
+    let rows: [(&[(usize, u8)], usize, Option<u64>); 16] = [
         // numbers
-        (&[(1, 3)], 1024, 1),
-        (&[(513, 3)], 1024, 513),
-        (&[(513, 0)], 1024, 513),
+        (&[(1, 3)], 1024, Some(1)),
+        (&[(513, 3)], 1024, Some(513)),
+        (&[(513, 0)], 1024, Some(513)),
         // lengths
-        (&[(2, 2)], 1024, 2),
-        (&[(3, 0)], 1024, 3),
-        (&[(2, 1), (3, 253)], 1024, 3),
-        (&[(514, 255)], 1024, 514),
+        (&[(2, 2)], 1024, Some(2)),
+        (&[(3, 0)], 1024, Some(3)),
+        (&[(2, 1), (3, 253)], 1024, Some(3)),
+        (&[(514, 255)], 1024, Some(514)),
         // closing zeros
-        (&[(17, 1)], 1024, 17),
-        (&[(1023, 1)], 1024, 1023),
+        (&[(17, 1)], 1024, Some(17)),
+        (&[(1023, 1)], 1024, Some(1023)),
         // a disk that is too short
-        (&[], 0, 0),
-        (&[], 1, 1),
-        (&[], 600, 600),
-        (&[(0, 0), (512, 0)], 1000, 1000),
+        (&[], 0, Some(0)),
+        (&[], 1, Some(1)),
+        (&[], 600, Some(600)),
+        (&[(0, 0), (512, 0)], 1000, Some(1000)),
         // a blank cell 0
-        (&[(0, 0), (512, 0)], 1024, 0),
+        (&[(0, 0), (512, 0)], 1024, Some(0)),
         // cells that are told and not there
-        (&[(528, 1)], 1024, 1024),
+        (&[(528, 1)], 1024, Some(1024)),
+        // nothing is changed
+        (&[], 1024, None),
     ];
-    for (changes, length, at) in rows {
-        let answer = foreign(alloc, &bytes, changes, length);
-        assert_eq!(rt;
-            answer,
-            Err(CellFault::Foreign { at }),
-            "{changes:?} {length}"
-        );
+    for (changes, length, want) in rows {
+        let mut bytes = changed_once(&rt, alloc)?;
+        for (place, value) in changes {
+            set(&mut bytes, *place, *value);
+        }
+        bytes.truncate(length);
+        let answer = match want {
+            Some(at) => Err(CellFault::Foreign { at }),
+            None => Ok(()),
+        };
+        assert_eq!(rt; told_over(alloc, &bytes)?, answer, "{changes:?} {length}");
     }
-    assert_eq!(rt; foreign(alloc, &bytes, &[], 1024), Ok(()));
     Ok(())
+}
+
+// Recovers a row and closes the spare of cell 0.
+fn close<D: Disk>(cells: &mut Cells<D>) -> Result<bool, CellFault> {
+    recovered(cells)?;
+    cells.close_spare(0)?;
+    Ok(shows(cells, 0, &HEAD, None))
 }
 
 #[test]
 fn a_closed_gate_is_not_written_again(rt: HostRuntime) -> Result<(), Fail> {
     let alloc = rt.alloc();
-    let mut bytes = changed_once(alloc)?;
+    let mut bytes = changed_once(&rt, alloc)?;
     // The spare, which is the first frame, is closed over torn bytes.
     for (place, byte) in bytes.iter_mut().enumerate() {
         if place < 512 {
@@ -182,32 +189,38 @@ fn a_closed_gate_is_not_written_again(rt: HostRuntime) -> Result<(), Fail> {
     }
     // The first call reads the cell.
     let mut cells = over(alloc, &bytes, &[(2, Trouble::Fail)], Image::Old)?;
-    recovered(&mut cells)?;
-    cells.close_spare(0)?;
-    assert_eq!(rt; cells.faults(), 0);
-    assert_eq!(rt; cells.payload(0).unwrap_or(&[]), HEAD.as_slice());
-    assert_eq!(rt; cells.into_disk().bytes(), bytes.as_slice());
+    let closed = close(&mut cells)?;
+    let left = bytes_of(alloc, cells)?;
+    assert!(rt; closed && left == bytes);
     Ok(())
+}
+
+// Formats a row and has it grow, while its disk may stop. Whether it shows then what was there before or after.
+fn outlives_growth<D: Disk>(cells: &mut Cells<D>) -> Result<bool, CellFault> {
+    if cells.format(&HEAD).is_ok() {
+        let grown = cells.grow().is_ok();
+        recovered(cells)?;
+        Ok(cells.count() <= 1 && (!grown || cells.count() == 1))
+    } else {
+        Ok(recovered(cells).is_err() || cells.payload(0) == Some(HEAD.as_slice()))
+    }
+}
+
+// Formats a row and changes its cell 0, while its disk may stop in that. Whether it shows then what was there before or after.
+fn outlives_change<D: Disk>(cells: &mut Cells<D>) -> Result<bool, CellFault> {
+    cells.format(&HEAD)?;
+    let changed = change(cells, &[9, 8, 7]).is_ok();
+    recovered(cells)?;
+    let held = cells.payload(0).unwrap_or(&[]);
+    Ok(held == [9, 8, 7].as_slice() || (!changed && held == HEAD.as_slice()))
 }
 
 #[test]
 fn a_stop_leaves_the_row_before_or_after(rt: HostRuntime) -> Result<(), Fail> {
-    let alloc = rt.alloc();
     for image in IMAGES {
         for stop in 1..20 {
-            let mut cells = over(alloc, &[], &[(stop, Trouble::Stop)], image)?;
-            match cells.format(&HEAD) {
-                Ok(()) => {
-                    let grown = cells.grow().is_ok();
-                    recovered(&mut cells)?;
-                    assert!(rt; cells.count() <= 1, "{image:?} {stop}");
-                    assert!(rt; !grown || cells.count() == 1, "{image:?} {stop}");
-                }
-                Err(_) => {
-                    let held = recovered(&mut cells).is_ok();
-                    assert!(rt; !held || cells.payload(0).unwrap_or(&[]) == HEAD.as_slice());
-                }
-            }
+            let mut cells = over(rt.alloc(), &[], &[(stop, Trouble::Stop)], image)?;
+            assert!(rt; outlives_growth(&mut cells)?, "{image:?} {stop}");
         }
     }
     Ok(())
@@ -215,28 +228,29 @@ fn a_stop_leaves_the_row_before_or_after(rt: HostRuntime) -> Result<(), Fail> {
 
 #[test]
 fn a_stop_leaves_the_payload_before_or_after(rt: HostRuntime) -> Result<(), Fail> {
-    let alloc = rt.alloc();
-    let old = HEAD.as_slice();
-    let new: &[u8] = &[9, 8, 7];
     for image in IMAGES {
         for stop in 7..14 {
-            let mut cells = over(alloc, &[], &[(stop, Trouble::Stop)], image)?;
-            cells.format(&HEAD)?;
-            let changed = change(&mut cells, &[9, 8, 7]).is_ok();
-            recovered(&mut cells)?;
-            let held = cells.payload(0).unwrap_or(&[]);
-            assert!(rt;
-                held == new || (!changed && held == old),
-                "{image:?} {stop}"
-            );
+            let mut cells = over(rt.alloc(), &[], &[(stop, Trouble::Stop)], image)?;
+            assert!(rt; outlives_change(&mut cells)?, "{image:?} {stop}");
         }
     }
     Ok(())
 }
 
+// Formats a row and changes its cell 0.
+fn write<D: Disk>(cells: &mut Cells<D>) -> Result<(), CellFault> {
+    cells.format(&HEAD)?;
+    change(cells, &[9, 8, 7])
+}
+
+// Recovers a row, whose cell 0 was changed so.
+fn read<D: Disk>(cells: &mut Cells<D>) -> Result<bool, CellFault> {
+    recovered(cells)?;
+    Ok(cells.payload(0) == Some([9, 8, 7].as_slice()))
+}
+
 #[test]
 fn cells_stay_in_a_file(rt: HostRuntime) -> Result<(), Fail> {
-    let alloc = rt.alloc();
     let path = "cas_cells_file_test";
     let file = OpenOptions::new()
         .read(true)
@@ -244,13 +258,10 @@ fn cells_stay_in_a_file(rt: HostRuntime) -> Result<(), Fail> {
         .create(true)
         .truncate(true)
         .open(&rt, path)?;
-    let mut cells = Cells::over(alloc, FileDisk::over(Some(file)));
-    cells.format(&HEAD)?;
-    change(&mut cells, &[9, 8, 7])?;
+    write(&mut Cells::over(rt.alloc(), FileDisk::over(Some(file))))?;
     let again = OpenOptions::new().read(true).write(true).open(&rt, path)?;
-    let mut cells = Cells::over(alloc, FileDisk::over(Some(again)));
-    recovered(&mut cells)?;
-    assert_eq!(rt; cells.payload(0).unwrap_or(&[]), [9, 8, 7].as_slice());
+    let held = read(&mut Cells::over(rt.alloc(), FileDisk::over(Some(again))))?;
+    assert!(rt; held);
     std::fs::remove_file(&rt, path)?;
     Ok(())
 }

@@ -1,13 +1,18 @@
+//! Shelves on a disk in memory. What makes a shelf hands on the bytes of its disk, since each early return beside a shelf lets all its
+//! tables go.
+
 ghost use Rattle.std.specs.Prelude.{◌≤◌, OnOk};
 ghost use Rattle.cas_ballot.specs.Ballot.{FitsBallot};
 ghost use Rattle.cas_slot.specs.Limits.{SlotBallotsFit};
 
+use crate::bytes::{clear_from, set, stand_at};
 use cas_ballot::Ballot;
 use cas_change::{Body, Key, State};
 use cas_disk::{FileDisk, Image, MemoryDisk, Trouble};
 use cas_disk_shelf::DiskShelf;
 use cas_slot::{Accepted, Ages, MapShelf, Shelf, ShelfFault, Slot};
-use std::alloc::Global;
+use std::alloc::{AllocError, Global};
+use std::process::Abort;
 use std::test::Fail;
 
 const IMAGES: [Image; 4] = [Image::Old, Image::New, Image::Noise(1), Image::Noise(7)];
@@ -65,195 +70,251 @@ fn reopened<S: Shelf>(shelf: &mut S) -> Result<(), ShelfFault>
     }
 }
 
+// Starts a shelf and puts so many keys.
+fn fill<S: Shelf>(alloc: Global, shelf: &mut S, count: u32) -> Result<(), Fail>
+    ensures { OnOk result (S.is_up shelf.new) }
+{
+    shelf.start()?;
+    for n in 0..count {
+        shelf.put(&key(alloc, u64::from(n))?, slot_at(n))?;
+    }
+    Ok(())
+}
+
+// The bytes of a shelf's disk.
+fn bytes_of(alloc: Global, shelf: DiskShelf<MemoryDisk>) -> Result<Vec<u8>, AllocError> {
+    let disk = shelf.into_disk();
+    disk.bytes().to_vec(alloc)
+}
+
+// The bytes of a disk of a new shelf with so many keys.
+fn filled(alloc: Global, count: u32) -> Result<Vec<u8>, Fail> {
+    let mut shelf = over(alloc, &[], &[], Image::Old)?;
+    fill(alloc, &mut shelf, count)?;
+    Ok(bytes_of(alloc, shelf)?)
+}
+
+// What a call does with a shelf over the disk that the one before left.
+#[derive(Clone, Copy)]
+enum Life {
+    // Starts it, and puts a slot at the key.
+    Puts,
+    // Reopens it, which has that slot, and drops it.
+    Drops,
+    // Reopens it, which has no slot.
+    FindsNone,
+    // Reopens it, and raises the ages.
+    Raises,
+    // Reopens it, which has these ages.
+    FindsRaised,
+}
+
+// Whether all is found as it should be.
+fn lives<S: Shelf>(shelf: &mut S, life: Life, key: &Key) -> Result<bool, ShelfFault> {
+    let mut ages = Ages::ZERO;
+    ages.0[16] = 258;
+    match life {
+        Life::Puts => {
+            shelf.start()?;
+            shelf.put(key, slot_at(1))?;
+            Ok(true)
+        }
+        Life::Drops => {
+            reopened(shelf)?;
+            let found = shelf.get(key)? == Some(slot_at(1));
+            shelf.drop_slot(key)?;
+            Ok(found)
+        }
+        Life::FindsNone => {
+            reopened(shelf)?;
+            Ok(shelf.get(key)? == None)
+        }
+        Life::Raises => {
+            reopened(shelf)?;
+            shelf.raise_ages(&ages)?;
+            Ok(true)
+        }
+        Life::FindsRaised => {
+            reopened(shelf)?;
+            Ok(shelf.ages() == ages)
+        }
+    }
+}
+
+// Lives one life after another over a disk of these bytes. After each of them the disk has those bytes that are given from there on.
+fn live(
+    rt: &impl Abort,
+    alloc: Global,
+    mut bytes: Vec<u8>,
+    rows: &[(Life, usize, &[u8])],
+) -> Result<Vec<u8>, Fail> {
+    let key = Key::read(alloc, b"a")?;
+    for (number, (life, at, want)) in rows.iter().enumerate() {
+        let mut shelf = over(alloc, &bytes, &[], Image::Old)?;
+        let found = lives(&mut shelf, *life, &key)?;
+        bytes = bytes_of(alloc, shelf)?;
+        assert!(rt; found && stand_at(&bytes, *at, want), "life {number}");
+    }
+    Ok(bytes)
+}
+
+// The slot is in the first frame of cell 1, behind four bytes of the frame's own, of which the last is its length, and then, in the
+// second frame, a cell that holds no slot.
+const PAYLOADS: [(Life, usize, &[u8]); 3] = [
+    (
+        Life::Puts,
+        1027,
+        &[
+            43, 1, 1, 0x61, 0, 0, 0, 0, 0, 0, 0, 2, 1, 1, 0, 0, 0, 0, 0, 0, 0, 1, 16, 0, 0, 0, 7,
+            1, 0, 0, 0, 0, 0, 0, 0, 3, 255, 255, 255, 255, 255, 255, 255, 251,
+        ],
+    ),
+    (Life::Drops, 1539, &[1, 0]),
+    (Life::FindsNone, 1539, &[1, 0]),
+];
+
 #[test]
 fn payloads_have_their_bytes(rt: HostRuntime) -> Result<(), Fail> {
     let alloc = rt.alloc();
-    let a = Key::read(alloc, b"a")?;
-    let slot = slot_at(1);
-    let want: [u8; 43] = [
-        1, 1, 0x61, 0, 0, 0, 0, 0, 0, 0, 2, 1, 1, 0, 0, 0, 0, 0, 0, 0, 1, 16, 0, 0, 0, 7, 1, 0, 0,
-        0, 0, 0, 0, 0, 3, 255, 255, 255, 255, 255, 255, 255, 251,
-    ];
-    let mut shelf = over(alloc, &[], &[], Image::Old)?;
-    shelf.start()?;
-    shelf.put(&a, slot_at(1))?;
-    // The slot is in the first frame of cell 1, behind four bytes of the frame's own, of which the last is its length.
-    let disk = shelf.into_disk();
-    assert_eq!(rt; disk.bytes().get(1027), Some(&43));
-    assert_eq!(rt; disk.bytes().get(1028..1071), Some(want.as_slice()));
-    let mut shelf = over(alloc, disk.bytes(), &[], Image::Old)?;
-    reopened(&mut shelf)?;
-    assert_eq!(rt; shelf.get(&a)?, Some(slot));
-    // A cell that holds no slot, in its second frame.
-    shelf.drop_slot(&a)?;
-    let disk = shelf.into_disk();
-    assert_eq!(rt; disk.bytes().get(1539), Some(&1));
-    assert_eq!(rt; disk.bytes().get(1540), Some(&0));
-    let mut shelf = over(alloc, disk.bytes(), &[], Image::Old)?;
-    reopened(&mut shelf)?;
-    assert_eq!(rt; shelf.get(&a)?, None);
+    live(&rt, alloc, Vec::new(alloc), &PAYLOADS)?;
     Ok(())
 }
+
+// The head is in the second frame, behind four bytes of the frame's own, of which the last is its length.
+const HEADS: [(Life, usize, &[u8]); 3] = [
+    (
+        Life::Raises,
+        515,
+        &[149, 2, 67, 65, 83, 82, 69, 71, 48, 49, 0, 0, 16, 0],
+    ),
+    (Life::FindsRaised, 662, &[0, 1, 2]),
+    (Life::FindsRaised, 515, &[149]),
+];
 
 #[test]
 fn a_head_has_its_bytes(rt: HostRuntime) -> Result<(), Fail> {
     let alloc = rt.alloc();
-    let mut shelf = over(alloc, &[], &[], Image::Old)?;
-    shelf.start()?;
-    // The same shelf with as many blank cells as there may be.
-    let disk = shelf.into_disk();
-    let mut bytes = disk.bytes().to_vec(alloc)?;
+    // A new shelf with as many blank cells as there may be.
+    let mut bytes = filled(alloc, 0)?;
     if let Some(byte) = bytes.get_mut(4 + 11) {
         *byte = 16;
     }
     for _cell in 0..4096 {
         bytes.extend_from_slice(&[0; 1024])?;
     }
-    let mut shelf = over(alloc, &bytes, &[], Image::Old)?;
-    reopened(&mut shelf)?;
-    let mut ages = Ages::ZERO;
-    ages.0[16] = 258;
-    shelf.raise_ages(&ages)?;
-    // The head is in the second frame, behind four bytes of the frame's own, of which the last is its length.
-    let disk = shelf.into_disk();
-    let bytes = disk.bytes();
-    assert_eq!(rt; bytes.get(515), Some(&149));
-    let front: [u8; 13] = [2, 67, 65, 83, 82, 69, 71, 48, 49, 0, 0, 16, 0];
-    assert_eq!(rt; bytes.get(516..529), Some(front.as_slice()));
-    assert_eq!(rt; bytes.get(662..665), Some([0, 1, 2].as_slice()));
-    let mut shelf = over(alloc, bytes, &[], Image::Old)?;
-    reopened(&mut shelf)?;
-    assert!(rt; shelf.ages() == ages);
+    let bytes = live(&rt, alloc, bytes, &HEADS)?;
     // Each of the cells is looked for.
     let short = bytes.get(..4096 * 1024).unwrap_or(&[]);
-    let mut shelf = over(alloc, short, &[], Image::Old)?;
     let at = 4096 * 1024;
-    assert_eq!(rt; shelf.reopen(), Err(ShelfFault::Foreign { at }));
+    assert_eq!(rt; told_over(alloc, short)?, Err(ShelfFault::Foreign { at }));
     Ok(())
 }
 
-// What is answered over a disk of a new shelf, whose head has this byte at that place, and this length.
-fn reopened_with_head(
-    alloc: Global,
-    place: u8,
-    value: u8,
-    length: u8,
-) -> Result<Result<(), ShelfFault>, Fail> {
-    let mut shelf = over(alloc, &[], &[], Image::Old)?;
-    shelf.start()?;
-    let disk = shelf.into_disk();
-    let mut bytes = disk.bytes().to_vec(alloc)?;
-    if let Some(byte) = bytes.get_mut(3) {
-        *byte = length;
-    }
-    if let Some(byte) = bytes.get_mut(4 + usize::from(place)) {
-        *byte = value;
-    }
-    for (at, byte) in bytes.iter_mut().enumerate() {
-        if at >= 4 + usize::from(length) {
-            *byte = 0;
-        }
-    }
-    let mut shelf = over(alloc, &bytes, &[], Image::Old)?;
+// What a shelf over a disk of these bytes is told when it is reopened.
+fn told_over(alloc: Global, bytes: &[u8]) -> Result<Result<(), ShelfFault>, Fail> {
+    let mut shelf = over(alloc, bytes, &[], Image::Old)?;
     Ok(shelf.reopen())
 }
 
-// What is answered over a disk of a shelf with one cell, which holds this payload.
-fn reopened_with_cell(alloc: Global, payload: &[u8]) -> Result<Result<(), ShelfFault>, Fail> {
-    let mut shelf = over(alloc, &[], &[], Image::Old)?;
-    shelf.start()?;
-    shelf.put(&key(alloc, 0)?, slot_at(0))?;
-    let disk = shelf.into_disk();
-    let mut bytes = disk.bytes().to_vec(alloc)?;
-    let length = u8::try_from(payload.len()).unwrap_or(0);
-    if let Some(byte) = bytes.get_mut(1027) {
-        *byte = length;
-    }
-    for (place, byte) in bytes.iter_mut().enumerate() {
-        if place >= 1028 {
-            *byte = payload.get(place - 1028).copied().unwrap_or(0);
+// A change of a disk's bytes.
+#[derive(Clone, Copy, Debug)]
+enum Patch {
+    // This byte at that place.
+    Byte(usize, u8),
+    // At that place of the head this byte, and this length of the head. The head begins at 4.
+    Head(u8, u8, u8),
+    // This payload behind the head. It begins at 1028.
+    Cell(&'static [u8]),
+}
+
+fn apply(bytes: &mut [u8], patch: Patch) {
+    match patch {
+        Patch::Byte(place, value) => set(bytes, place, value),
+        Patch::Head(place, value, length) => {
+            set(bytes, 3, length);
+            set(bytes, 4 + usize::from(place), value);
+            clear_from(bytes, 4 + usize::from(length));
+        }
+        Patch::Cell(payload) => {
+            clear_from(bytes, 1028);
+            set(bytes, 1027, u8::try_from(payload.len()).unwrap_or(0));
+            for (byte, value) in bytes.iter_mut().skip(1028).zip(payload.iter()) {
+                *byte = *value;
+            }
         }
     }
-    let mut shelf = over(alloc, &bytes, &[], Image::Old)?;
-    Ok(shelf.reopen())
 }
+
+// Of each row a new shelf has so many keys; its disk is changed so, and the shelf is told that place, or nothing, when it is reopened.
+fn tell(rt: &impl Abort, alloc: Global, rows: &[(u32, Patch, Option<u64>)]) -> Result<(), Fail> {
+    for (count, change, want) in rows {
+        let mut bytes = filled(alloc, *count)?;
+        apply(&mut bytes, *change);
+        let answer = match *want {
+            Some(at) => Err(ShelfFault::Foreign { at }),
+            None => Ok(()),
+        };
+        assert_eq!(rt; told_over(alloc, &bytes)?, answer, "{change:?}");
+    }
+    Ok(())
+}
+
+// A frame of no byte is told by its length.
+const PATCHED_PAYLOADS: [(u32, Patch, Option<u64>); 17] = [
+    (0, Patch::Head(0, 3, 149), Some(4)),
+    (0, Patch::Head(8, 50, 149), Some(12)),
+    (0, Patch::Head(9, 1, 149), Some(13)),
+    (0, Patch::Head(11, 17, 149), Some(15)),
+    (0, Patch::Head(0, 2, 150), Some(153)),
+    (0, Patch::Head(0, 2, 148), Some(152)),
+    (0, Patch::Head(0, 2, 12), Some(16)),
+    (0, Patch::Head(0, 2, 0), Some(3)),
+    (1, Patch::Cell(&[]), Some(1027)),
+    (1, Patch::Cell(&[2]), Some(1028)),
+    (1, Patch::Cell(&[0, 0]), Some(1029)),
+    (1, Patch::Cell(&[1]), Some(1029)),
+    (1, Patch::Cell(&[1, 0]), Some(1029)),
+    (1, Patch::Cell(&[1, 1, 32]), Some(1030)),
+    (1, Patch::Cell(&[1, 1, 97, 1]), Some(1031)),
+    (
+        1,
+        Patch::Cell(&[1, 1, 97, 0, 0, 0, 0, 0, 0, 0, 1, 1, 2]),
+        Some(1040),
+    ),
+    (
+        1,
+        Patch::Cell(&[1, 1, 97, 0, 0, 0, 0, 0, 0, 0, 1, 1, 0, 0]),
+        Some(1041),
+    ),
+];
 
 #[test]
 fn the_first_wrong_byte_of_a_payload_is_told(rt: HostRuntime) -> Result<(), Fail> {
-    let alloc = rt.alloc();
-    // The place that is changed in the head, the byte put there, the head's length, and the place on the disk that is told. The
-    // head begins at 4. A frame of no byte is told by its length.
-    let heads: [(u8, u8, u8, u64); 8] = [
-        (0, 3, 149, 4),
-        (8, 50, 149, 12),
-        (9, 1, 149, 13),
-        (11, 17, 149, 15),
-        (0, 2, 150, 153),
-        (0, 2, 148, 152),
-        (0, 2, 12, 16),
-        (0, 2, 0, 3),
-    ];
-    for (place, value, length, at) in heads {
-        let answer = reopened_with_head(alloc, place, value, length)?;
-        assert_eq!(rt; answer, Err(ShelfFault::Foreign { at }), "{place} {length}");
-    }
-    // The same for a payload behind the head, which begins at 1028.
-    let cells: [(&[u8], u64); 9] = [
-        (&[], 1027),
-        (&[2], 1028),
-        (&[0, 0], 1029),
-        (&[1], 1029),
-        (&[1, 0], 1029),
-        (&[1, 1, 32], 1030),
-        (&[1, 1, 97, 1], 1031),
-        (&[1, 1, 97, 0, 0, 0, 0, 0, 0, 0, 1, 1, 2], 1040),
-        (&[1, 1, 97, 0, 0, 0, 0, 0, 0, 0, 1, 1, 0, 0], 1041),
-    ];
-    for (bytes, at) in cells {
-        let answer = reopened_with_cell(alloc, bytes)?;
-        assert_eq!(rt; answer, Err(ShelfFault::Foreign { at }), "{bytes:?}");
-    }
-    Ok(())
+    tell(&rt, rt.alloc(), &PATCHED_PAYLOADS)
 }
+
+// Both frames of cell 0 are open and the first is current, which tells two cells. Of the others the first is open.
+const PATCHED_BYTES: [(u32, Patch, Option<u64>); 13] = [
+    (2, Patch::Byte(1, 3), Some(1)),
+    (2, Patch::Byte(2, 9), Some(2)),
+    (2, Patch::Byte(4, 1), Some(4)),
+    (2, Patch::Byte(12, 50), Some(12)),
+    (2, Patch::Byte(16, 3), Some(3072)),
+    (2, Patch::Byte(1025, 3), Some(1025)),
+    (2, Patch::Byte(1028, 2), Some(1028)),
+    (2, Patch::Byte(1028, 0), Some(1029)),
+    (2, Patch::Byte(1029, 3), Some(1032)),
+    (2, Patch::Byte(1030, 32), Some(1030)),
+    (2, Patch::Byte(2048, 0), None),
+    // the second key becomes the first
+    (2, Patch::Byte(2055, 48), Some(2048)),
+    // what comes first in the order: frames, and then payloads
+    (2, Patch::Byte(1030, 32), Some(1030)),
+];
 
 #[test]
-fn a_disk_stays_short(rt: HostRuntime) -> Result<(), Fail> {
-    let alloc = rt.alloc();
-    let mut shelf = over(alloc, &[], &[], Image::Old)?;
-    put_four(alloc, &mut shelf)?;
-    assert_eq!(rt; shelf.faults(), 0);
-    let disk = shelf.into_disk();
-    assert_eq!(rt; disk.bytes().len(), 5120);
-    let mut shelf = over(alloc, &[], &[], Image::Old)?;
-    put_four(alloc, &mut shelf)?;
-    turn_over(alloc, &mut shelf, 1000)?;
-    let disk = shelf.into_disk();
-    assert_eq!(rt; disk.bytes().len(), 5120);
-    Ok(())
-}
-
-#[test]
-fn a_start_crashes_a_disk_that_stopped(rt: HostRuntime) -> Result<(), Fail> {
-    let alloc = rt.alloc();
-    for call in 1..5 {
-        let mut shelf = over(alloc, &[], &[(call, Trouble::Stop)], Image::Noise(call))?;
-        assert_eq!(rt; shelf.start(), Err(ShelfFault::DiskFault), "{call}");
-        shelf.start()?;
-        shelf.put(&key(alloc, 0)?, slot_at(0))?;
-        assert_eq!(rt; shelf.faults(), 1);
-    }
-    Ok(())
-}
-
-// Starts a shelf and puts four keys.
-fn put_four<S: Shelf>(alloc: Global, shelf: &mut S) -> Result<(), Fail>
-    ensures { OnOk result (S.is_up shelf.new) }
-{
-    shelf.start()?;
-    for n in 0..4 {
-        shelf.put(&key(alloc, u64::from(n))?, slot_at(n))?;
-    }
-    Ok(())
+fn a_foreign_byte_is_told_by_its_place(rt: HostRuntime) -> Result<(), Fail> {
+    tell(&rt, rt.alloc(), &PATCHED_BYTES)
 }
 
 // Drops the oldest key and puts a new one, so often.
@@ -268,11 +329,44 @@ fn turn_over<S: Shelf>(alloc: Global, shelf: &mut S, rounds: u32) -> Result<(), 
 }
 
 #[test]
+fn a_disk_stays_short(rt: HostRuntime) -> Result<(), Fail> {
+    let alloc = rt.alloc();
+    for rounds in [0, 1000] {
+        let mut shelf = over(alloc, &[], &[], Image::Old)?;
+        fill(alloc, &mut shelf, 4)?;
+        turn_over(alloc, &mut shelf, rounds)?;
+        let faults = shelf.faults();
+        let length = shelf.into_disk().bytes().len();
+        assert_eq!(rt; (faults, length), (0, 5120));
+    }
+    Ok(())
+}
+
+// Starts a shelf whose disk stops in that, and once more. Whether the first start is told of it, and one fault is counted.
+fn starts_again<S: Shelf>(shelf: &mut S, key: &Key) -> Result<bool, ShelfFault> {
+    let stopped = shelf.start() == Err(ShelfFault::DiskFault);
+    shelf.start()?;
+    shelf.put(key, slot_at(0))?;
+    Ok(stopped && shelf.faults() == 1)
+}
+
+#[test]
+fn a_start_crashes_a_disk_that_stopped(rt: HostRuntime) -> Result<(), Fail> {
+    let alloc = rt.alloc();
+    let key = key(alloc, 0)?;
+    for call in 1..5 {
+        let mut shelf = over(alloc, &[], &[(call, Trouble::Stop)], Image::Noise(call))?;
+        assert!(rt; starts_again(&mut shelf, &key)?, "{call}");
+    }
+    Ok(())
+}
+
+#[test]
 fn no_file_fails_each_call(rt: HostRuntime) {
     let mut shelf = DiskShelf::over(rt.alloc(), FileDisk::over(None));
-    assert_eq!(rt; shelf.start(), Err(ShelfFault::DiskFault));
-    assert_eq!(rt; shelf.reopen(), Err(ShelfFault::DiskFault));
-    assert_eq!(rt; shelf.faults(), 2);
+    let told = (shelf.start(), shelf.reopen(), shelf.faults());
+    let fault = Err(ShelfFault::DiskFault);
+    assert_eq!(rt; told, (fault, fault, 2));
 }
 
 // A change of a shelf: of the slot of the first key, a new key that grows the disk, a removal, and a raise of ages.
@@ -287,16 +381,6 @@ fn change<S: Shelf>(shelf: &mut S, which: u8, old: &Key, new: &Key) -> Result<()
         2 => shelf.drop_slot(old),
         _ => shelf.raise_ages(&least),
     }
-}
-
-// Starts a shelf and puts two keys.
-fn begin<S: Shelf>(alloc: Global, shelf: &mut S) -> Result<(), Fail>
-    ensures { OnOk result (S.is_up shelf.new) }
-{
-    shelf.start()?;
-    shelf.put(&key(alloc, 0)?, slot_at(0))?;
-    shelf.put(&key(alloc, 1)?, slot_at(1))?;
-    Ok(())
 }
 
 // Whether two shelves show the same.
@@ -317,9 +401,9 @@ struct Outcomes {
 
 fn outcomes_of(alloc: Global, which: u8, old: &Key, new: &Key) -> Result<Outcomes, Fail> {
     let mut before = MapShelf::new(alloc);
-    begin(alloc, &mut before)?;
+    fill(alloc, &mut before, 2)?;
     let mut after = MapShelf::new(alloc);
-    begin(alloc, &mut after)?;
+    fill(alloc, &mut after, 2)?;
     change(&mut after, which, old, new)?;
     Ok(Outcomes { before, after })
 }
@@ -363,54 +447,14 @@ fn outlives_each(
 #[test]
 fn a_stop_at_any_call_leaves_the_old_or_the_new(rt: HostRuntime) -> Result<(), Fail> {
     let alloc = rt.alloc();
-    let mut first = over(alloc, &[], &[], Image::Old)?;
-    begin(alloc, &mut first)?;
-    let disk = first.into_disk();
+    let disk = filled(alloc, 2)?;
     let (old, new) = (key(alloc, 0)?, key(alloc, 2)?);
     for which in 0..4 {
         let wanted = outcomes_of(alloc, which, &old, &new)?;
         for image in IMAGES {
-            let outlived = outlives_each(alloc, disk.bytes(), image, which, &wanted)?;
+            let outlived = outlives_each(alloc, &disk, image, which, &wanted)?;
             assert!(rt; outlived, "{which} {image:?}");
         }
-    }
-    Ok(())
-}
-
-#[test]
-fn a_foreign_byte_is_told_by_its_place(rt: HostRuntime) -> Result<(), Fail> {
-    let alloc = rt.alloc();
-    let mut shelf = over(alloc, &[], &[], Image::Old)?;
-    begin(alloc, &mut shelf)?;
-    let disk = shelf.into_disk();
-    // Both frames of cell 0 are open and the first is current, which tells two cells. Of the others the first is open.
-    for (place, value, want) in [
-        (1, 3, Some(1)),
-        (2, 9, Some(2)),
-        (4, 1, Some(4)),
-        (12, 50, Some(12)),
-        (16, 3, Some(3072)),
-        (1025, 3, Some(1025)),
-        (1028, 2, Some(1028)),
-        (1028, 0, Some(1029)),
-        (1029, 3, Some(1032)),
-        (1030, 32, Some(1030)),
-        (2048, 0, None),
-        // the second key becomes the first
-        (2055, 48, Some(2048)),
-        // what comes first in the order: frames, and then payloads
-        (1030, 32, Some(1030)),
-    ] {
-        let mut bytes = disk.bytes().to_vec(alloc)?;
-        if let Some(byte) = bytes.get_mut(place) {
-            *byte = value;
-        }
-        let mut shelf = over(alloc, &bytes, &[], Image::Old)?;
-        let answer = match want {
-            Some(at) => Err(ShelfFault::Foreign { at }),
-            None => Ok(()),
-        };
-        assert_eq!(rt; shelf.reopen(), answer, "at {place}");
     }
     Ok(())
 }
