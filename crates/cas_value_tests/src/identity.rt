@@ -1,5 +1,17 @@
 use cas_ballot::{AcceptorId, ProposerId};
 
+// The number of the acceptor and of the proposer that are numbered so, where there are such.
+fn numbers(n: u8) -> (Option<u8>, Option<u8>) {
+    let acceptor = match AcceptorId::new(n) {
+        Some(id) => Some(id.number()),
+        None => None,
+    };
+    match ProposerId::new(n) {
+        Some(id) => (acceptor, Some(id.number())),
+        None => (acceptor, None),
+    }
+}
+
 #[test]
 fn are_refused_above_the_greatest(rt: HostRuntime) {
     for (n, acceptor, proposer) in [
@@ -10,15 +22,6 @@ fn are_refused_above_the_greatest(rt: HostRuntime) {
         (64, None, None),
         (255, None, None),
     ] {
-        assert_eq!(rt;
-            AcceptorId::new(n).map(|id| id.number()),
-            acceptor,
-            "acceptor {n}"
-        );
-        assert_eq!(rt;
-            ProposerId::new(n).map(|id| id.number()),
-            proposer,
-            "proposer {n}"
-        );
+        assert_eq!(rt; numbers(n), (acceptor, proposer), "{n}");
     }
 }

@@ -1,33 +1,38 @@
 use cas_change::{Key, KeyFault};
+use std::alloc::Global;
 use std::collections::BTreeMap;
 use std::test::Fail;
 
+// Bytes, and why they are no key.
+const KEYS: [(&[u8], Option<KeyFault>); 14] = [
+    (b"", Some(KeyFault::Empty)),
+    (b"a", None),
+    (b"visits/2018-02", None),
+    (b"!", None),
+    (b"~", None),
+    (b" ", Some(KeyFault::BadByte { at: 0 })),
+    (b"\x7F", Some(KeyFault::BadByte { at: 0 })),
+    (b"a b c", Some(KeyFault::BadByte { at: 1 })),
+    (b"ab\n", Some(KeyFault::BadByte { at: 2 })),
+    (b"\xC3\xA9", Some(KeyFault::BadByte { at: 0 })),
+    (&[b'k'; 64], None),
+    (&[b'k'; 65], Some(KeyFault::TooLong)),
+    (&[b' '; 64], Some(KeyFault::BadByte { at: 0 })),
+    (&[b' '; 65], Some(KeyFault::TooLong)),
+];
+
+// Whether the bytes are read as a key, or refused so.
+fn is_read(alloc: Global, bytes: &[u8], want: Option<KeyFault>) -> bool {
+    match Key::read(alloc, bytes) {
+        Ok(key) => want == None && key.bytes() == bytes,
+        Err(fault) => want == Some(fault),
+    }
+}
+
 #[test]
 fn reads_keys(rt: HostRuntime) {
-    let rows: [(&[u8], Option<KeyFault>); 14] = [
-        (b"", Some(KeyFault::Empty)),
-        (b"a", None),
-        (b"visits/2018-02", None),
-        (b"!", None),
-        (b"~", None),
-        (b" ", Some(KeyFault::BadByte { at: 0 })),
-        (b"\x7F", Some(KeyFault::BadByte { at: 0 })),
-        (b"a b c", Some(KeyFault::BadByte { at: 1 })),
-        (b"ab\n", Some(KeyFault::BadByte { at: 2 })),
-        (b"\xC3\xA9", Some(KeyFault::BadByte { at: 0 })),
-        (&[b'k'; 64], None),
-        (&[b'k'; 65], Some(KeyFault::TooLong)),
-        (&[b' '; 64], Some(KeyFault::BadByte { at: 0 })),
-        (&[b' '; 65], Some(KeyFault::TooLong)),
-    ];
-    for (bytes, want) in rows {
-        match Key::read(rt.alloc(), bytes) {
-            Ok(key) => {
-                assert_eq!(rt; None, want, "{bytes:?}");
-                assert_eq!(rt; key.bytes(), bytes);
-            }
-            Err(fault) => assert_eq!(rt; Some(fault), want, "{bytes:?}"),
-        }
+    for (bytes, want) in KEYS {
+        assert!(rt; is_read(rt.alloc(), bytes, want), "{bytes:?}");
     }
 }
 

@@ -40,3 +40,5 @@ mod plan_fault;
 mod rules;
 #[cfg(test)]
 mod text;
+#[cfg(test)]
+mod value;

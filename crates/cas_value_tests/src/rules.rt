@@ -9,14 +9,15 @@ const fn at(counter: u64, proposer: u8) -> Ballot {
 }
 
 fn slot_of(promise: Ballot, accepted: Option<Ballot>) -> Slot {
-    Slot {
-        promise,
-        accepted: accepted.map(|ballot| Accepted {
+    let accepted = match accepted {
+        Some(ballot) => Some(Accepted {
             ballot,
             era: 0,
             state: State::Empty,
         }),
-    }
+        None => None,
+    };
+    Slot { promise, accepted }
 }
 
 #[test]
@@ -84,16 +85,11 @@ fn follow_the_acceptors_table(rt: HostRuntime) {
     ];
     for (promise, accepted, ballot, prepared, taken) in rows {
         let slot = slot_of(promise, accepted);
-        assert_eq!(rt;
+        let found = (
             on_prepare(Some(&slot), ballot),
-            prepared,
-            "prepare {ballot} at {slot:?}"
-        );
-        assert_eq!(rt;
             on_accept(Some(&slot), ballot),
-            taken,
-            "accept {ballot} at {slot:?}"
         );
+        assert_eq!(rt; found, (prepared, taken), "{ballot} at {slot:?}");
     }
 }
 

@@ -1,27 +1,28 @@
 use cas_change::{Text, TextFault};
+use std::alloc::Global;
 use std::test::Fail;
+
+// Whether the bytes are read as a text, or are too many.
+fn is_read(alloc: Global, bytes: &[u8], fits: bool) -> Result<bool, TextFault> {
+    match Text::read(alloc, bytes) {
+        Ok(text) => Ok(fits && text.bytes() == bytes && text.copy()? == text),
+        Err(fault) => Ok(!fits && fault == TextFault::TooLong),
+    }
+}
+
+// Bytes, and whether they are a text.
+const TEXTS: [(&[u8], bool); 5] = [
+    (b"", true),
+    (b"hello all", true),
+    (b"\x00 \n\xFF", true),
+    (&[b't'; 200], true),
+    (&[b't'; 201], false),
+];
 
 #[test]
 fn reads_texts(rt: HostRuntime) -> Result<(), Fail> {
-    let rows: [(&[u8], bool); 5] = [
-        (b"", true),
-        (b"hello all", true),
-        (b"\x00 \n\xFF", true),
-        (&[b't'; 200], true),
-        (&[b't'; 201], false),
-    ];
-    for (bytes, fits) in rows {
-        match Text::read(rt.alloc(), bytes) {
-            Ok(text) => {
-                assert!(rt; fits, "{bytes:?}");
-                assert_eq!(rt; text.bytes(), bytes);
-                assert!(rt; text.copy()? == text);
-            }
-            Err(fault) => {
-                assert!(rt; !fits, "{bytes:?}");
-                assert_eq!(rt; fault, TextFault::TooLong);
-            }
-        }
+    for (bytes, fits) in TEXTS {
+        assert!(rt; is_read(rt.alloc(), bytes, fits)?, "{bytes:?}");
     }
     Ok(())
 }
