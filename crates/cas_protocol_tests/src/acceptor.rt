@@ -1,4 +1,6 @@
-ghost use Rattle.std.specs.Prelude.{◌≡◌, IsTrue};
+//! Acceptors over a shelf in memory. A row of a table is what is kept for a key, a question, what it is told, and what is kept then.
+
+ghost use Rattle.std.specs.Prelude.{◌≡◌, ◌≤◌, IsTrue};
 ghost use Rattle.cas_ballot.specs.Ballot.{FitsBallot};
 ghost use Rattle.cas_slot.specs.Limits.{SlotBallotsFit, AskBallotsFit, AllBallotsFit};
 
@@ -9,6 +11,7 @@ use cas_slot::{
     Accepted, Ages, Ask, MOST_SLOTS, MapShelf, Phase, Reply, Request, Shelf, Slot, Tell,
 };
 use std::alloc::{AllocError, Global};
+use std::process::Abort;
 use std::test::Fail;
 
 const fn at(counter: u64, proposer: u8) -> Ballot {
@@ -123,7 +126,7 @@ fn ask_fits(ask: &Ask) -> bool
     }
 }
 
-// The ballots of each row are within their limits.
+// What the acceptor replies. The ballots of each row are within their limits.
 fn handle<S: Shelf>(acceptor: &mut Acceptor<S>, ask: Ask) -> Result<Reply, Fail> {
     if !ask_fits(&ask) {
         return Err(Fail::from("a ballot beyond its limits"));
@@ -131,30 +134,19 @@ fn handle<S: Shelf>(acceptor: &mut Acceptor<S>, ask: Ask) -> Result<Reply, Fail>
     Ok(acceptor.handle(&asked(ask))?)
 }
 
+// What the acceptor tells.
+fn tells<S: Shelf>(
+    acceptor: &mut Acceptor<S>,
+    key: &Key,
+    question: Question,
+) -> Result<Tell, Fail> {
+    Ok(handle(acceptor, ask_of(key, question)?)?.tell)
+}
+
 fn running(shelf: MapShelf) -> Acceptor<MapShelf>
     requires { AllBallotsFit shelf }
 {
     Acceptor::running(AcceptorId::new(3).unwrap(), shelf)
-}
-
-fn key_of(alloc: Global, n: usize) -> Result<Key, Fail> {
-    let text = format!(in alloc; "k{n}")?;
-    Ok(Key::read(alloc, text.as_bytes())?)
-}
-
-// What a question is told where this is kept for its key, and what is kept then.
-fn answer(alloc: Global, kept: Kept, question: Question) -> Result<(Tell, Option<Slot>), Fail> {
-    let key = Key::read(alloc, b"a")?;
-    let mut shelf = MapShelf::new(alloc);
-    if let Some(slot) = slot_of(kept) {
-        if !slot_fits(&slot) {
-            return Err(Fail::from("a ballot beyond its limits"));
-        }
-        shelf.put(&key, slot)?;
-    }
-    let mut acceptor = running(shelf);
-    let reply = handle(&mut acceptor, ask_of(&key, question)?)?;
-    Ok((reply.tell, acceptor.into_shelf().get(&key)?))
 }
 
 // Ballots by their counters and proposers.
@@ -199,193 +191,343 @@ const EMPTY: Option<(Ballot, State5)> = Some((AT_2_1, State5::Empty));
 
 const RIDE: Option<Ballot> = Some(AT_4_1);
 
-// What is kept, the ballot of a prepare, the ballot that is met, and what is kept then.
-const PREPARES: [(Kept, Ballot, Option<Ballot>, Kept); 7] = [
-    (None, AT_1_1, None, Some((AT_1_1, None))),
-    (
-        Some((AT_2_1, None)),
-        AT_1_1,
-        Some(AT_2_1),
-        Some((AT_2_1, None)),
-    ),
-    (Some((AT_2_1, None)), AT_2_1, None, Some((AT_2_1, None))),
-    (
-        Some((Ballot::ZERO, FIVE)),
-        AT_2_1,
-        None,
-        Some((Ballot::ZERO, FIVE)),
-    ),
-    (
-        Some((Ballot::ZERO, FIVE)),
-        AT_1_9,
-        Some(AT_2_1),
-        Some((Ballot::ZERO, FIVE)),
-    ),
-    (
-        Some((AT_3_1, FIVE)),
-        AT_2_2,
-        Some(AT_3_1),
-        Some((AT_3_1, FIVE)),
-    ),
-    (Some((AT_3_1, FIVE)), AT_3_2, None, Some((AT_3_2, FIVE))),
-];
+fn key_of(alloc: Global, n: usize) -> Result<Key, Fail> {
+    let text = format!(in alloc; "k{n}")?;
+    Ok(Key::read(alloc, text.as_bytes())?)
+}
 
-#[test]
-fn a_prepare_is_answered_by_the_table(rt: HostRuntime) -> Result<(), Fail> {
-    for (kept, ballot, met, after) in PREPARES {
-        let (tell, slot) = answer(rt.alloc(), kept, Question::Prepare(ballot))?;
-        let want = match met {
-            Some(seen) => Tell::Met(seen),
-            None => Tell::Promised {
-                accepted: accepted_of(kept.and_then(|kept| kept.1)),
+// An acceptor that keeps this for the key.
+fn keeping(alloc: Global, key: &Key, kept: Kept) -> Result<Acceptor<MapShelf>, Fail> {
+    let mut shelf = MapShelf::new(alloc);
+    if let Some(slot) = slot_of(kept) {
+        if !slot_fits(&slot) {
+            return Err(Fail::from("a ballot beyond its limits"));
+        }
+        shelf.put(key, slot)?;
+    }
+    Ok(running(shelf))
+}
+
+// What a question is told.
+#[derive(Clone, Copy)]
+enum Told {
+    Promised(Option<(Ballot, State5)>),
+    Accepted,
+    Met(Ballot),
+    Removed,
+    Kept,
+    Probed(Ballot, Option<(Ballot, State5)>),
+}
+
+impl Told {
+    fn tell(self) -> Tell {
+        match self {
+            Told::Promised(accepted) => Tell::Promised {
+                accepted: accepted_of(accepted),
             },
-        };
-        assert_eq!(rt; tell, want, "{ballot}");
-        assert_eq!(rt; slot, slot_of(after), "{ballot}");
+            Told::Accepted => Tell::Accepted,
+            Told::Met(ballot) => Tell::Met(ballot),
+            Told::Removed => Tell::Removed,
+            Told::Kept => Tell::Kept,
+            Told::Probed(promise, accepted) => Tell::Probed {
+                promise,
+                accepted: accepted_of(accepted),
+            },
+        }
+    }
+}
+
+type Row = (Kept, Question, Told, Kept);
+
+// Whether the question is told so, and the acceptor keeps that then.
+fn answers<S: Shelf>(acceptor: &mut Acceptor<S>, key: &Key, row: Row) -> Result<bool, Fail> {
+    let tell = tells(acceptor, key, row.1)?;
+    let left = acceptor.shelf().get(key)?;
+    Ok(tell == row.2.tell() && left == slot_of(row.3))
+}
+
+fn check(rt: &impl Abort, alloc: Global, rows: &[Row]) -> Result<(), Fail> {
+    let key = Key::read(alloc, b"a")?;
+    for (number, row) in rows.iter().enumerate() {
+        let mut acceptor = keeping(alloc, &key, row.0)?;
+        assert!(rt; answers(&mut acceptor, &key, *row)?, "row {number}");
     }
     Ok(())
 }
 
-// What is kept, the ballot of an accept, what rides, the ballot that is met, and what is kept then.
-const ACCEPTS: [(Kept, Ballot, Option<Ballot>, Option<Ballot>, Kept); 8] = [
-    (None, AT_2_1, None, None, Some((Ballot::ZERO, FIVE))),
-    (None, AT_2_1, RIDE, None, Some((AT_4_1, FIVE))),
+const PREPARES: [Row; 7] = [
+    (
+        None,
+        Question::Prepare(AT_1_1),
+        Told::Promised(None),
+        Some((AT_1_1, None)),
+    ),
     (
         Some((AT_2_1, None)),
-        AT_2_1,
+        Question::Prepare(AT_1_1),
+        Told::Met(AT_2_1),
+        Some((AT_2_1, None)),
+    ),
+    (
+        Some((AT_2_1, None)),
+        Question::Prepare(AT_2_1),
+        Told::Promised(None),
+        Some((AT_2_1, None)),
+    ),
+    (
+        Some((Ballot::ZERO, FIVE)),
+        Question::Prepare(AT_2_1),
+        Told::Promised(FIVE),
+        Some((Ballot::ZERO, FIVE)),
+    ),
+    (
+        Some((Ballot::ZERO, FIVE)),
+        Question::Prepare(AT_1_9),
+        Told::Met(AT_2_1),
+        Some((Ballot::ZERO, FIVE)),
+    ),
+    (
+        Some((AT_3_1, FIVE)),
+        Question::Prepare(AT_2_2),
+        Told::Met(AT_3_1),
+        Some((AT_3_1, FIVE)),
+    ),
+    (
+        Some((AT_3_1, FIVE)),
+        Question::Prepare(AT_3_2),
+        Told::Promised(FIVE),
+        Some((AT_3_2, FIVE)),
+    ),
+];
+
+#[test]
+fn a_prepare_is_answered_by_the_table(rt: HostRuntime) -> Result<(), Fail> {
+    check(&rt, rt.alloc(), &PREPARES)
+}
+
+const ACCEPTS: [Row; 8] = [
+    (
         None,
+        Question::Accept(AT_2_1, None),
+        Told::Accepted,
+        Some((Ballot::ZERO, FIVE)),
+    ),
+    (
         None,
+        Question::Accept(AT_2_1, RIDE),
+        Told::Accepted,
+        Some((AT_4_1, FIVE)),
+    ),
+    (
+        Some((AT_2_1, None)),
+        Question::Accept(AT_2_1, None),
+        Told::Accepted,
         Some((Ballot::ZERO, FIVE)),
     ),
     (
         Some((AT_3_1, None)),
-        AT_2_1,
-        RIDE,
-        Some(AT_3_1),
+        Question::Accept(AT_2_1, RIDE),
+        Told::Met(AT_3_1),
         Some((AT_3_1, None)),
     ),
     (
         Some((AT_3_1, EMPTY)),
-        AT_2_1,
-        RIDE,
-        None,
+        Question::Accept(AT_2_1, RIDE),
+        Told::Accepted,
         Some((AT_3_1, EMPTY)),
     ),
     (
         Some((Ballot::ZERO, EMPTY)),
-        AT_2_1,
-        RIDE,
-        None,
+        Question::Accept(AT_2_1, RIDE),
+        Told::Accepted,
         Some((Ballot::ZERO, EMPTY)),
     ),
     (
         Some((Ballot::ZERO, Some((AT_1_1, State5::Empty)))),
-        AT_2_1,
-        None,
-        None,
+        Question::Accept(AT_2_1, None),
+        Told::Accepted,
         Some((Ballot::ZERO, FIVE)),
     ),
     (
         Some((Ballot::ZERO, FIVE)),
-        AT_1_9,
-        None,
-        Some(AT_2_1),
+        Question::Accept(AT_1_9, None),
+        Told::Met(AT_2_1),
         Some((Ballot::ZERO, FIVE)),
     ),
 ];
 
 #[test]
 fn an_accept_is_answered_by_the_table(rt: HostRuntime) -> Result<(), Fail> {
-    for (kept, ballot, ride, met, after) in ACCEPTS {
-        let (tell, slot) = answer(rt.alloc(), kept, Question::Accept(ballot, ride))?;
-        let want = match met {
-            Some(seen) => Tell::Met(seen),
-            None => Tell::Accepted,
-        };
-        assert_eq!(rt; tell, want, "{ballot}");
-        assert_eq!(rt; slot, slot_of(after), "{ballot}");
-    }
-    Ok(())
+    check(&rt, rt.alloc(), &ACCEPTS)
 }
+
+const AT_2_0: Ballot = Ballot {
+    counter: 2,
+    proposer: 0,
+};
+
+const FIVE_AT_2_0: Option<(Ballot, State5)> = Some((AT_2_0, State5::Five));
+
+const EMPTY_AT_2_0: Option<(Ballot, State5)> = Some((AT_2_0, State5::Empty));
+
+// A removal of the tombstone at 2.0, and then probes.
+const REMOVALS: [Row; 12] = [
+    (None, Question::Remove(AT_2_0), Told::Removed, None),
+    (
+        Some((Ballot::ZERO, EMPTY_AT_2_0)),
+        Question::Remove(AT_2_0),
+        Told::Removed,
+        None,
+    ),
+    (
+        Some((AT_2_0, EMPTY_AT_2_0)),
+        Question::Remove(AT_2_0),
+        Told::Removed,
+        None,
+    ),
+    (
+        Some((AT_2_1, EMPTY_AT_2_0)),
+        Question::Remove(AT_2_0),
+        Told::Kept,
+        Some((AT_2_1, EMPTY_AT_2_0)),
+    ),
+    (
+        Some((Ballot::ZERO, FIVE_AT_2_0)),
+        Question::Remove(AT_2_0),
+        Told::Kept,
+        Some((Ballot::ZERO, FIVE_AT_2_0)),
+    ),
+    (
+        Some((AT_2_0, None)),
+        Question::Remove(AT_2_0),
+        Told::Kept,
+        Some((AT_2_0, None)),
+    ),
+    (
+        None,
+        Question::Probe,
+        Told::Probed(Ballot::ZERO, None),
+        None,
+    ),
+    (
+        Some((Ballot::ZERO, EMPTY_AT_2_0)),
+        Question::Probe,
+        Told::Probed(Ballot::ZERO, EMPTY_AT_2_0),
+        Some((Ballot::ZERO, EMPTY_AT_2_0)),
+    ),
+    (
+        Some((AT_2_0, EMPTY_AT_2_0)),
+        Question::Probe,
+        Told::Probed(AT_2_0, EMPTY_AT_2_0),
+        Some((AT_2_0, EMPTY_AT_2_0)),
+    ),
+    (
+        Some((AT_2_1, EMPTY_AT_2_0)),
+        Question::Probe,
+        Told::Probed(AT_2_1, EMPTY_AT_2_0),
+        Some((AT_2_1, EMPTY_AT_2_0)),
+    ),
+    (
+        Some((Ballot::ZERO, FIVE_AT_2_0)),
+        Question::Probe,
+        Told::Probed(Ballot::ZERO, FIVE_AT_2_0),
+        Some((Ballot::ZERO, FIVE_AT_2_0)),
+    ),
+    (
+        Some((AT_2_0, None)),
+        Question::Probe,
+        Told::Probed(AT_2_0, None),
+        Some((AT_2_0, None)),
+    ),
+];
 
 #[test]
 fn a_removal_and_a_probe_are_answered_by_the_table(rt: HostRuntime) -> Result<(), Fail> {
-    let five = Some((at(2, 0), State5::Five));
-    let empty = Some((at(2, 0), State5::Empty));
-    let rows: [(Kept, bool, Kept); 6] = [
-        // What is kept, whether a removal of the tombstone at 2.0 is told done, and what is kept then.
-        (None, true, None),
-        (Some((at(0, 0), empty)), true, None),
-        (Some((at(2, 0), empty)), true, None),
-        (Some((at(2, 1), empty)), false, Some((at(2, 1), empty))),
-        (Some((at(0, 0), five)), false, Some((at(0, 0), five))),
-        (Some((at(2, 0), None)), false, Some((at(2, 0), None))),
-    ];
-    for (kept, removed, after) in rows {
-        let (tell, slot) = answer(rt.alloc(), kept, Question::Remove(at(2, 0)))?;
-        let want = if removed { Tell::Removed } else { Tell::Kept };
-        assert_eq!(rt; tell, want);
-        assert_eq!(rt; slot, slot_of(after));
-        let (tell, slot) = answer(rt.alloc(), kept, Question::Probe)?;
-        let probed = match slot_of(kept) {
-            Some(slot) => Tell::Probed {
-                promise: slot.promise,
-                accepted: slot.accepted,
-            },
-            None => Tell::Probed {
-                promise: at(0, 0),
-                accepted: None,
-            },
-        };
-        assert_eq!(rt; tell, probed);
-        assert_eq!(rt; slot, slot_of(kept));
-    }
-    Ok(())
+    check(&rt, rt.alloc(), &REMOVALS)
 }
 
 #[test]
 fn a_reply_bears_its_request(rt: HostRuntime) -> Result<(), Fail> {
     let key = Key::read(rt.alloc(), b"a")?;
-    let mut acceptor = running(MapShelf::new(rt.alloc()));
-    let reply = handle(
-        &mut acceptor,
-        ask_of(&key, Question::Accept(at(2, 1), None))?,
-    )?;
+    let ask = ask_of(&key, Question::Accept(AT_2_1, None))?;
+    let reply = handle(&mut running(MapShelf::new(rt.alloc())), ask)?;
     let want = Reply {
         from: AcceptorId::new(3).unwrap(),
         to: 1,
         phase: Phase::Accept,
-        tag: at(2, 1),
+        tag: AT_2_1,
         tell: Tell::Accepted,
     };
     assert_eq!(rt; reply, want);
     Ok(())
 }
 
+// Raises the least age of proposer 1, and answers whether the acceptor tells this.
+fn raises<S: Shelf>(acceptor: &mut Acceptor<S>, age: u64, want: Tell) -> Result<bool, Fail> {
+    let mut least = Ages::ZERO;
+    least.0[1] = age;
+    let tag = AT_2_0;
+    Ok(handle(acceptor, Ask::Ages { tag, least })?.tell == want)
+}
+
 #[test]
 fn a_low_age_is_refused_first(rt: HostRuntime) -> Result<(), Fail> {
     let key = Key::read(rt.alloc(), b"a")?;
     let mut acceptor = running(MapShelf::new(rt.alloc()));
-    let mut least = Ages::ZERO;
-    for (age, told) in [(2, Tell::AgesSet), (3, Tell::AgesSet), (1, Tell::Aged(3))] {
-        least.0[1] = age;
-        let raise = Ask::Ages {
-            tag: at(2, 0),
-            least,
-        };
-        assert_eq!(rt; handle(&mut acceptor, raise)?.tell, told, "{age}");
+    for (age, want) in [(2, Tell::AgesSet), (3, Tell::AgesSet), (1, Tell::Aged(3))] {
+        assert!(rt; raises(&mut acceptor, age, want)?, "{age}");
     }
     for question in [
-        Question::Prepare(at(2, 1)),
-        Question::Accept(at(2, 1), None),
-        Question::Remove(at(2, 1)),
+        Question::Prepare(AT_2_1),
+        Question::Accept(AT_2_1, None),
+        Question::Remove(AT_2_1),
         Question::Probe,
     ] {
-        let reply = handle(&mut acceptor, ask_of(&key, question)?)?;
-        assert_eq!(rt; reply.tell, Tell::Aged(3));
+        assert_eq!(rt; tells(&mut acceptor, &key, question)?, Tell::Aged(3));
     }
-    assert_eq!(rt; acceptor.shelf().get(&key)?, None);
+    assert!(rt; acceptor.shelf().get(&key)?.is_none());
     Ok(())
+}
+
+// Has an acceptor promise to so many keys, which makes a slot of each.
+fn promise_each<S: Shelf>(
+    alloc: Global,
+    acceptor: &mut Acceptor<S>,
+    count: usize,
+) -> Result<(), Fail> {
+    for n in 0..count {
+        tells(acceptor, &key_of(alloc, n)?, Question::Prepare(AT_1_1))?;
+    }
+    Ok(())
+}
+
+// How many keys the acceptor lists behind that key, each of which has the number that comes next; the last of them; and whether more
+// follow.
+fn listed<S: Shelf>(
+    alloc: Global,
+    acceptor: &mut Acceptor<S>,
+    found: usize,
+    after: Option<Key>,
+) -> Result<(usize, Option<Key>, bool), Fail> {
+    let tag = at(9, 0);
+    let Tell::Listed {
+        after: _,
+        keys,
+        more,
+    } = handle(acceptor, Ask::List { tag, after })?.tell
+    else {
+        return Err(Fail::from("no listing"));
+    };
+    for (place, key) in keys.keys().iter().enumerate() {
+        if *key != key_of(alloc, found.saturating_add(place))? {
+            return Err(Fail::from("another key"));
+        }
+    }
+    let last = match keys.keys().last() {
+        Some(key) => Some(key.copy()?),
+        None => None,
+    };
+    Ok((keys.keys().len(), last, more))
 }
 
 #[test]
@@ -393,35 +535,14 @@ fn listings_go_on_by_four(rt: HostRuntime) -> Result<(), Fail> {
     let alloc = rt.alloc();
     for (count, pages) in [(0usize, 1usize), (1, 1), (4, 1), (5, 2), (9, 3)] {
         let mut acceptor = running(MapShelf::new(alloc));
-        for n in 0..count {
-            // A promise alone makes a slot.
-            handle(
-                &mut acceptor,
-                ask_of(&key_of(alloc, n)?, Question::Prepare(at(1, 1)))?,
-            )?;
-        }
+        promise_each(alloc, &mut acceptor, count)?;
         let mut after = None;
         let mut found = 0usize;
         for page in 1..=pages {
-            let list = Ask::List {
-                tag: at(9, 0),
-                after,
-            };
-            let Tell::Listed {
-                after: _,
-                keys,
-                more,
-            } = handle(&mut acceptor, list)?.tell
-            else {
-                return Err(Fail::from("no listing"));
-            };
+            let (keys, last, more) = listed(alloc, &mut acceptor, found, after)?;
             assert_eq!(rt; more, page < pages, "{count} {page}");
-            after = None;
-            for key in keys.keys() {
-                assert!(rt; *key == key_of(alloc, found)?, "{count} {page}");
-                found = found.saturating_add(1);
-                after = Some(key.copy()?);
-            }
+            found = found.saturating_add(keys);
+            after = last;
         }
         assert_eq!(rt; found, count);
     }
@@ -432,43 +553,55 @@ fn listings_go_on_by_four(rt: HostRuntime) -> Result<(), Fail> {
 fn a_new_key_finds_it_full(rt: HostRuntime) -> Result<(), Fail> {
     let alloc = rt.alloc();
     let mut acceptor = running(MapShelf::new(alloc));
-    for n in 0..MOST_SLOTS {
-        handle(
-            &mut acceptor,
-            ask_of(&key_of(alloc, n)?, Question::Prepare(at(1, 1)))?,
-        )?;
-    }
-    let held = key_of(alloc, 7)?;
-    let other = key_of(alloc, MOST_SLOTS)?;
-    let accept = Question::Accept(at(2, 1), None);
-    for (key, question, full) in [
-        (&other, Question::Prepare(at(2, 1)), true),
-        (&other, accept, true),
-        (&held, accept, false),
+    promise_each(alloc, &mut acceptor, MOST_SLOTS)?;
+    let accept = Question::Accept(AT_2_1, None);
+    for (number, question, full) in [
+        (MOST_SLOTS, Question::Prepare(AT_2_1), true),
+        (MOST_SLOTS, accept, true),
+        (7, accept, false),
     ] {
-        let reply = handle(&mut acceptor, ask_of(key, question)?)?;
-        assert_eq!(rt; reply.tell == Tell::Full, full);
+        let tell = tells(&mut acceptor, &key_of(alloc, number)?, question)?;
+        assert_eq!(rt; tell == Tell::Full, full);
     }
-    assert_eq!(rt; acceptor.shelf().get(&other)?, None);
+    let left = acceptor.shelf().get(&key_of(alloc, MOST_SLOTS)?)?;
+    assert!(rt; left.is_none());
     Ok(())
+}
+
+// Whether an acceptor that is down answers nothing, and is restarted.
+fn restarts<S: Shelf>(acceptor: &mut Acceptor<S>, request: &Request) -> bool
+    requires fits { AskBallotsFit request.now.ask }
+    requires known { request.now.from ≤ 16 }
+{
+    let down = acceptor.is_down() && acceptor.handle(request) == Err(HandleFault::Down);
+    let restarted = acceptor.restart().is_ok();
+    down && restarted && !acceptor.is_down()
+}
+
+// Whether an acceptor that is restarted twice keeps the promise at 2.1 that the request asks for between them.
+fn keeps_promise<S: Shelf>(
+    acceptor: &mut Acceptor<S>,
+    key: &Key,
+    request: &Request,
+) -> Result<bool, Fail>
+    requires fits { AskBallotsFit request.now.ask }
+    requires known { request.now.from ≤ 16 }
+{
+    let first = restarts(acceptor, request);
+    acceptor.handle(request)?;
+    acceptor.crash();
+    let again = restarts(acceptor, request);
+    let tell = tells(acceptor, key, Question::Prepare(AT_1_1))?;
+    Ok(first && again && tell == Tell::Met(AT_2_1))
 }
 
 #[test]
 fn a_restart_takes_up_what_was_kept(rt: HostRuntime) -> Result<(), Fail> {
     let key = Key::read(rt.alloc(), b"a")?;
-    let prepare = asked(ask_of(&key, Question::Prepare(at(2, 1)))?);
+    let prepare = asked(ask_of(&key, Question::Prepare(AT_2_1))?);
     assert!(rt; ask_fits(&prepare.ask));
     let mut acceptor = Acceptor::new(AcceptorId::new(3).unwrap(), MapShelf::new(rt.alloc()));
-    assert!(rt; acceptor.is_down());
-    assert_eq!(rt; acceptor.handle(&prepare), Err(HandleFault::Down));
-    acceptor.restart()?;
-    assert!(rt; !acceptor.is_down());
-    acceptor.handle(&prepare)?;
-    acceptor.crash();
-    assert_eq!(rt; acceptor.handle(&prepare), Err(HandleFault::Down));
-    acceptor.restart()?;
-    let reply = handle(&mut acceptor, ask_of(&key, Question::Prepare(at(1, 1)))?)?;
-    assert_eq!(rt; reply.tell, Tell::Met(at(2, 1)));
+    assert!(rt; keeps_promise(&mut acceptor, &key, &prepare)?);
     assert_eq!(rt; acceptor.id().number(), 3);
     Ok(())
 }

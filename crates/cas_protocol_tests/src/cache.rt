@@ -1,10 +1,11 @@
 ghost use Rattle.std.specs.Prelude.{◌≡◌, None, OnOk};
 ghost use Rattle.cas_cache.specs.Cache.{place_of};
 
+use Then::{Forget, Keep, KeepAndClear};
 use cas_ballot::{Ballot, Members};
 use cas_cache::{Cache, Ready};
 use cas_change::{Body, Key, State};
-use std::alloc::Global;
+use std::alloc::{AllocError, Global};
 use std::test::Fail;
 
 // The key that is spelled by this number.
@@ -41,23 +42,55 @@ fn used(alloc: Global, cache: &mut Cache, number: u8) -> Result<bool, Fail>
     Ok(there)
 }
 
+/// What is done once a promise was taken.
+#[derive(Clone, Copy)]
+enum Then {
+    /// The promise at the ballot of this counter is kept.
+    Keep(u64),
+    Forget,
+    /// The same is kept, and all is cleared.
+    KeepAndClear(u64),
+}
+
+// Takes the promise of a key. Answers whether it is the one at the ballot of this counter, or none.
+fn takes(cache: &mut Cache, key: &Key, want: Option<u64>, then: Then) -> Result<bool, AllocError>
+    requires { place_of cache.old ≡ None }
+    ensures { OnOk result (place_of cache.new ≡ None) }
+{
+    let want = match want {
+        Some(counter) => Some(ready_at(counter)),
+        None => None,
+    };
+    let found = cache.take(key)?;
+    match then {
+        Keep(counter) => cache.keep(key, ready_at(counter)),
+        Forget => cache.forget(key),
+        KeepAndClear(counter) => {
+            cache.keep(key, ready_at(counter));
+            cache.clear();
+        }
+    }
+    Ok(found == want)
+}
+
+// The key, the promise that is taken, and what is done then.
+const TAKEN: [(u8, Option<u64>, Then); 6] = [
+    (1, None, Keep(7)),
+    (2, None, Keep(8)),
+    (1, Some(7), Forget),
+    (1, None, Forget),
+    (2, Some(8), KeepAndClear(9)),
+    (2, None, Forget),
+];
+
 #[test]
 fn a_promise_is_taken_once(rt: HostRuntime) -> Result<(), Fail> {
-    let alloc = rt.alloc();
-    let mut cache = Cache::new(alloc)?;
-    let (a, b) = (key_of(alloc, 1)?, key_of(alloc, 2)?);
-    assert_eq!(rt; cache.take(&a)?, None);
-    cache.keep(&a, ready_at(7));
-    assert_eq!(rt; cache.take(&b)?, None);
-    cache.keep(&b, ready_at(8));
-    assert_eq!(rt; cache.take(&a)?, Some(ready_at(7)));
-    cache.forget(&a);
-    assert_eq!(rt; cache.take(&a)?, None);
-    cache.forget(&a);
-    assert_eq!(rt; cache.take(&b)?, Some(ready_at(8)));
-    cache.keep(&b, ready_at(9));
-    cache.clear();
-    assert_eq!(rt; cache.take(&b)?, None);
+    let mut cache = Cache::new(rt.alloc())?;
+    for row in TAKEN {
+        let (number, want, then) = row;
+        let key = key_of(rt.alloc(), number)?;
+        assert!(rt; takes(&mut cache, &key, want, then)?, "{key:?} {want:?}");
+    }
     Ok(())
 }
 

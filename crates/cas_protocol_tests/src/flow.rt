@@ -1,3 +1,5 @@
+//! Frames in flight.
+
 ghost use Rattle.std.specs.Prelude.{IfOk, IsSome};
 ghost use Rattle.cas_wire.specs.Frame.{CanBeAsked, CanBeTold};
 
@@ -5,7 +7,7 @@ use cas_ballot::{AcceptorId, Ballot};
 use cas_fate::{Leg, Verdict};
 use cas_flow::{Flow, Frame, MOST_LATE, Message};
 use cas_slot::{Ages, Ask, Phase, Reply, Request, Tell};
-use std::alloc::Global;
+use std::alloc::{AllocError, Global};
 use std::test::Fail;
 
 const TAG: Ballot = Ballot {
@@ -65,34 +67,44 @@ fn first(flow: &Flow) -> Option<(Leg, u8)> {
     }
 }
 
-// The acceptors' numbers of the late frames.
-fn late_peers(alloc: Global, flow: &Flow) -> Result<Vec<u8>, Fail> {
-    let mut peers = Vec::new(alloc);
-    for index in 0..flow.late() {
-        let frame = flow.look_late(index);
-        if frame.is_blank() {
-            peers.push(0)?;
-            continue;
-        }
-        let peer = match frame.read(alloc)? {
-            Message::Request(request) => request.to,
-            Message::Reply(reply) => reply.from,
-        };
-        peers.push(peer.number())?;
+// The acceptor's number of a frame, and 0 where it is blank.
+fn peer_of(alloc: Global, frame: &Frame) -> Result<u8, AllocError> {
+    if frame.is_blank() {
+        return Ok(0);
     }
-    Ok(peers)
+    let peer = match frame.read(alloc)? {
+        Message::Request(request) => request.to,
+        Message::Reply(reply) => reply.from,
+    };
+    Ok(peer.number())
+}
+
+// Whether these are the acceptors' numbers of the late frames.
+fn are_late(alloc: Global, flow: &Flow, want: &[u8]) -> Result<bool, AllocError> {
+    let mut same = flow.late() == want.len();
+    for index in 0..flow.late() {
+        let peer = peer_of(alloc, flow.look_late(index))?;
+        same = same && want.get(index) == Some(&peer);
+    }
+    Ok(same)
+}
+
+// Whether the frame bears this message and no other.
+fn bears(alloc: Global, frame: &Frame, want: &Message) -> Result<bool, AllocError> {
+    if frame.is_blank() {
+        return Ok(false);
+    }
+    let found = frame.read(alloc)?;
+    Ok(found == *want)
 }
 
 #[test]
 fn a_frame_comes_out_as_it_went_in(rt: HostRuntime) -> Result<(), Fail> {
     let alloc = rt.alloc();
-    assert_eq!(rt;
-        asked(alloc, 2)?.read(alloc)?,
-        Message::Request(request(2)?)
-    );
-    assert_eq!(rt; told(alloc, 3)?.read(alloc)?, Message::Reply(reply(3)?));
-    assert!(rt; Frame::blank(alloc)?.is_blank());
-    assert!(rt; !told(alloc, 3)?.is_blank());
+    let asks = bears(alloc, &asked(alloc, 2)?, &Message::Request(request(2)?))?;
+    let tells = bears(alloc, &told(alloc, 3)?, &Message::Reply(reply(3)?))?;
+    let blank = Frame::blank(alloc)?.is_blank();
+    assert_eq!(rt; (asks, tells, blank), (true, true, true));
     Ok(())
 }
 
@@ -104,16 +116,25 @@ fn own_frames_keep_their_order(rt: HostRuntime) -> Result<(), Fail> {
     flow.reserve_own(1, 4)?;
     flow.push_own(1, asked(alloc, 1)?);
     flow.push_own(1, asked(alloc, 2)?);
-    assert_eq!(rt; first(&flow), Some((Leg::Ages, 1)));
+    let one = first(&flow);
     flow.take(1, Verdict::Deliver);
     flow.push_own(1, told(alloc, 1)?);
-    assert_eq!(rt; first(&flow), Some((Leg::Ages, 2)));
+    let two = first(&flow);
     if flow.front(1).is_some() {
         flow.take(1, Verdict::Lose);
     }
-    assert_eq!(rt; first(&flow), Some((Leg::Reply, 1)));
-    assert_eq!(rt; flow.front(2), None);
-    assert_eq!(rt; flow.late(), 0);
+    let want = [
+        Some((Leg::Ages, 1)),
+        Some((Leg::Ages, 2)),
+        Some((Leg::Reply, 1)),
+    ];
+    assert_eq!(rt; [one, two, first(&flow)], want);
+    assert_eq!(rt; (flow.front(2).is_some(), flow.late()), (false, 0));
+    Ok(())
+}
+
+fn push_late(alloc: Global, flow: &mut Flow, to: u8) -> Result<(), Fail> {
+    flow.push_late(asked(alloc, to)?);
     Ok(())
 }
 
@@ -122,25 +143,25 @@ fn a_taken_late_frame_closes_the_gap(rt: HostRuntime) -> Result<(), Fail> {
     let alloc = rt.alloc();
     let mut flow = Flow::new(alloc)?;
     for peer in 1..4 {
-        flow.push_late(asked(alloc, peer)?);
+        push_late(alloc, &mut flow, peer)?;
     }
-    assert_eq!(rt; late_peers(alloc, &flow)?.as_slice(), [1, 2, 3].as_slice());
+    let all = are_late(alloc, &flow, &[1, 2, 3])?;
     if flow.late() == 3 {
         flow.take_late(1);
     }
-    assert_eq!(rt; late_peers(alloc, &flow)?.as_slice(), [1, 3].as_slice());
+    let left = are_late(alloc, &flow, &[1, 3])?;
+    assert_eq!(rt; (all, left), (true, true));
     Ok(())
 }
 
 #[test]
 fn a_late_frame_into_a_full_pool_is_lost(rt: HostRuntime) -> Result<(), Fail> {
-    let alloc = rt.alloc();
-    let mut flow = Flow::new(alloc)?;
+    let mut flow = Flow::new(rt.alloc())?;
     for _ in 0..MOST_LATE {
-        flow.push_late(asked(alloc, 1)?);
+        push_late(rt.alloc(), &mut flow, 1)?;
     }
-    assert_eq!(rt; flow.late(), MOST_LATE);
-    flow.push_late(asked(alloc, 2)?);
-    assert_eq!(rt; flow.late(), MOST_LATE);
+    let full = flow.late();
+    push_late(rt.alloc(), &mut flow, 2)?;
+    assert_eq!(rt; (full, flow.late()), (MOST_LATE, MOST_LATE));
     Ok(())
 }

@@ -326,25 +326,55 @@ fn desks_draw_as_in_worked_runs(rt: HostRuntime) -> Result<(), Fail> {
     Ok(())
 }
 
+// Whether a desk draws, raises its age and goes into another era as it should, where it begins a round.
+fn begins<V: Disk>(desk: &mut Desk<V>, key: &Key) -> Result<bool, VaultError>
+    requires up { desk.old.down ≡ false }
+    requires idle { desk.old.round ≡ None }
+{
+    let first = desk.tag()?;
+    let age = desk.renew(key, at(4, 0))?;
+    desk.move_to(&Era::majority(7, three()))?;
+    let second = desk.tag()?;
+    desk.begin(&Era::majority(7, three()), key)?;
+    let open = matches!(desk.round(), Some(round) if round.ballot == at(6, 0));
+    Ok(open && (first, age, second) == (at(1, 0), 1, at(5, 0)))
+}
+
+// Whether a crash takes a desk down with its round, and a restart takes up its age, its era and its bound.
+fn restarts<V: Disk>(desk: &mut Desk<V>) -> Result<bool, VaultError> {
+    desk.crash();
+    let down = desk.is_down() && desk.round().is_none();
+    desk.restart()?;
+    let up = !desk.is_down() && (desk.age(), desk.era()) == (1, 7);
+    Ok(down && up && desk.tag()? == at(101, 0))
+}
+
 #[test]
 fn a_restart_keeps_age_and_era(rt: HostRuntime) -> Result<(), Fail> {
     let key = Key::read(rt.alloc(), b"a")?;
     let mut desk = desk_of(rt.alloc(), 0)?;
-    assert_eq!(rt; desk.tag()?, at(1, 0));
-    assert_eq!(rt; desk.renew(&key, at(4, 0))?, 1);
-    desk.move_to(&Era::majority(7, three()))?;
-    assert_eq!(rt; desk.tag()?, at(5, 0));
-    desk.begin(&Era::majority(7, three()), &key)?;
-    assert!(rt; matches!(desk.round(), Some(round) if round.ballot == at(6, 0)));
-    desk.crash();
-    assert!(rt; desk.is_down());
-    assert!(rt; desk.round().is_none());
-    desk.restart()?;
-    assert!(rt; !desk.is_down());
-    assert_eq!(rt; (desk.age(), desk.era()), (1, 7));
-    assert_eq!(rt; desk.tag()?, at(101, 0));
-    assert_eq!(rt; desk.into_vault().counter(), 101);
+    let began = begins(&mut desk, &key)?;
+    let restarted = restarts(&mut desk)?;
+    let counter = desk.into_vault().counter();
+    assert_eq!(rt; (began, restarted, counter), (true, true, 101));
     Ok(())
+}
+
+// Draws a number. Where the vault fails, the desk is down, and the counter of what it draws after a restart is answered.
+fn draws_again<V: Disk>(rt: &impl Abort, desk: &mut Desk<V>) -> Result<Option<u64>, VaultError>
+    requires { desk.old.down ≡ false }
+{
+    match desk.tag() {
+        Ok(tag) => {
+            assert_eq!(rt; (tag, desk.is_down()), (at(1, 1), false));
+            Ok(None)
+        }
+        Err(fault) => {
+            assert_eq!(rt; (fault, desk.is_down()), (VaultError::VaultFault, true));
+            desk.restart()?;
+            Ok(Some(desk.tag()?.counter))
+        }
+    }
 }
 
 // What a crash leaves of a draw that failed is the bound from before it or the one that it writes.
@@ -356,17 +386,11 @@ fn a_fault_of_its_vault_takes_a_desk_down(rt: HostRuntime) -> Result<(), Fail> {
         let Some(mut desk) = failing(rt.alloc(), 1, call)? else {
             continue;
         };
-        match desk.tag() {
-            Ok(tag) => assert_eq!(rt; (tag, desk.is_down()), (at(1, 1), false)),
-            Err(fault) => {
-                assert_eq!(rt; (fault, desk.is_down()), (VaultError::VaultFault, true));
-                desk.restart()?;
-                match desk.tag()?.counter {
-                    1 => old_bounds = old_bounds.saturating_add(1),
-                    101 => new_bounds = new_bounds.saturating_add(1),
-                    _ => return Err(Fail::from("another counter")),
-                }
-            }
+        match draws_again(&rt, &mut desk)? {
+            None => {}
+            Some(1) => old_bounds = old_bounds.saturating_add(1),
+            Some(101) => new_bounds = new_bounds.saturating_add(1),
+            Some(_) => return Err(Fail::from("another counter")),
         }
     }
     assert!(rt; old_bounds > 0 && new_bounds > 0);
