@@ -462,20 +462,38 @@ fn a_reply_bears_its_request(rt: HostRuntime) -> Result<(), Fail> {
     Ok(())
 }
 
-// Raises the least age of proposer 1, and answers whether the acceptor tells this.
-fn raises<S: Shelf>(acceptor: &mut Acceptor<S>, age: u64, want: Tell) -> Result<bool, Fail> {
+// Raises the least age of proposer 1 in vain where a greater one stands, which is told, or else sets it.
+fn raises<S: Shelf>(
+    acceptor: &mut Acceptor<S>,
+    age: u64,
+    greater: Option<u64>,
+) -> Result<bool, Fail> {
     let mut least = Ages::ZERO;
     least.0[1] = age;
     let tag = AT_2_0;
-    Ok(handle(acceptor, Ask::Ages { tag, least })?.tell == want)
+    let tell = handle(acceptor, Ask::Ages { tag, least })?.tell;
+    Ok(match greater {
+        Some(age) => tell == Tell::Aged(age),
+        None => tell == Tell::AgesSet,
+    })
+}
+
+fn refuses_by_age<S: Shelf>(
+    acceptor: &mut Acceptor<S>,
+    key: &Key,
+    question: Question,
+) -> Result<bool, Fail> {
+    let tell = tells(acceptor, key, question)?;
+    let left = acceptor.shelf().get(key)?;
+    Ok(tell == Tell::Aged(3) && left == None)
 }
 
 #[test]
 fn a_low_age_is_refused_first(rt: HostRuntime) -> Result<(), Fail> {
     let key = Key::read(rt.alloc(), b"a")?;
     let mut acceptor = running(MapShelf::new(rt.alloc()));
-    for (age, want) in [(2, Tell::AgesSet), (3, Tell::AgesSet), (1, Tell::Aged(3))] {
-        assert!(rt; raises(&mut acceptor, age, want)?, "{age}");
+    for (age, greater) in [(2, None), (3, None), (1, Some(3))] {
+        assert!(rt; raises(&mut acceptor, age, greater)?, "{age}");
     }
     for question in [
         Question::Prepare(AT_2_1),
@@ -483,9 +501,8 @@ fn a_low_age_is_refused_first(rt: HostRuntime) -> Result<(), Fail> {
         Question::Remove(AT_2_1),
         Question::Probe,
     ] {
-        assert_eq!(rt; tells(&mut acceptor, &key, question)?, Tell::Aged(3));
+        assert!(rt; refuses_by_age(&mut acceptor, &key, question)?);
     }
-    assert!(rt; acceptor.shelf().get(&key)?.is_none());
     Ok(())
 }
 
@@ -549,6 +566,19 @@ fn listings_go_on_by_four(rt: HostRuntime) -> Result<(), Fail> {
     Ok(())
 }
 
+// Whether a question of the key of this number is told that the acceptor is full, and whether there is a slot of the key then.
+fn finds<S: Shelf>(
+    alloc: Global,
+    acceptor: &mut Acceptor<S>,
+    number: usize,
+    question: Question,
+) -> Result<(bool, bool), Fail> {
+    let key = key_of(alloc, number)?;
+    let tell = tells(acceptor, &key, question)?;
+    let left = acceptor.shelf().get(&key)?;
+    Ok((tell == Tell::Full, left.is_some()))
+}
+
 #[test]
 fn a_new_key_finds_it_full(rt: HostRuntime) -> Result<(), Fail> {
     let alloc = rt.alloc();
@@ -560,11 +590,9 @@ fn a_new_key_finds_it_full(rt: HostRuntime) -> Result<(), Fail> {
         (MOST_SLOTS, accept, true),
         (7, accept, false),
     ] {
-        let tell = tells(&mut acceptor, &key_of(alloc, number)?, question)?;
-        assert_eq!(rt; tell == Tell::Full, full);
+        let found = finds(alloc, &mut acceptor, number, question)?;
+        assert_eq!(rt; found, (full, !full));
     }
-    let left = acceptor.shelf().get(&key_of(alloc, MOST_SLOTS)?)?;
-    assert!(rt; left.is_none());
     Ok(())
 }
 
