@@ -1,0 +1,396 @@
+//! A world whose calls are checked: each is made where it may be, and refused otherwise.
+
+ghost use Rattle.std.specs.Prelude.{◌≡◌, ◌≤◌, ◌+◌, Some, None, true, false, slice_get, slice_set, IfErr, IfSome, OnOk, OnErr};
+ghost use Rattle.cas_cluster.specs.Safe.{IsSafe};
+ghost use Rattle.cas_cluster.specs.Step.{Step, OpenPlan as OpensPlan};
+ghost use Rattle.cas_cluster.specs.View.{CallerView, meaning};
+ghost use Rattle.cas_script.specs.Orders.{IsOrdered, KeepsIdle};
+ghost use Rattle.cas_world.specs.Beginning.{is_refusal};
+ghost use Rattle.cas_world.specs.Exchange.{WasToldOrder};
+ghost use Rattle.cas_world.specs.Plans.{IsUnderWay, asked_to};
+ghost use Rattle.cas_world.specs.World.{IsInPhase};
+
+use cas_ballot::AcceptorId;
+use cas_change::{Key, Program};
+use cas_disk::Disk;
+use cas_fate::{Leg, Verdict};
+use cas_record::{Answer, OpAnswer};
+use cas_script::Script;
+use cas_slot::{Shelf, ShelfFault};
+use cas_vault::VaultError;
+use cas_world::{Config, PlanKind, StrayFault, World};
+use std::alloc::{AllocError, Global};
+use std::marker::Model;
+
+/// How many proposers a world may have, the operator's among them.
+const PROPOSERS: usize = 17;
+
+/// No call is open.
+const NONE_OPEN: [bool; PROPOSERS] = [false; PROPOSERS];
+
+/// A change of membership that the operator's open call asks for.
+#[derive(Clone, Copy, Debug, PartialEq, Eq)]
+pub struct Plan {
+    pub kind: PlanKind,
+    pub id: AcceptorId,
+}
+
+/// What is due of a proposer none of whose frames waits.
+#[derive(Clone, Copy, Debug, PartialEq, Eq)]
+enum Due {
+    /// The prepare phase of its round ends.
+    Propose,
+    /// The accept phase of its round ends.
+    Count,
+}
+
+/// A world, and which of its calls are open. Each method that may not be called now answers `None`, and all is as before.
+#[derive(Drop)]
+pub struct Player<S: Shelf, V: Disk> {
+    world: World<S, V>,
+    /// The greatest number of a proposer.
+    proposers: u8,
+    /// Whether the caller of that number has an open call.
+    calls: [bool; PROPOSERS],
+    /// What the operator's open call asks for, which is under way.
+    plan: Option<Plan>,
+}
+
+impl<S: Shelf, V: Disk> Model for Player<S, V> {
+    ghost use Rattle.std.specs.Prelude.{ℕ, option_map};
+    ghost use Rattle.cas_world.specs.Plans.{asked_to};
+    ghost use Rattle.cas_world_tests.specs.Play.{IsPlay};
+
+    ghost Value = { ℕ };
+
+    ghost view = { λ p. p.proposers };
+
+    ghost invariant = { λ p. IsPlay p.world p.proposers p.calls (option_map (λ plan. asked_to plan.kind plan.id) p.plan) };
+}
+
+impl<S: Shelf + Drop, V: Disk + Drop> Player<S, V> {
+    /// A player of a new world.
+    pub fn open(
+        alloc: Global,
+        config: Config,
+        shelves: Vec<S>,
+        vaults: Vec<V>,
+    ) -> Option<Player<S, V>> {
+        if config.acceptors == 0 || config.acceptors > 9 || config.proposers > 16 {
+            return None;
+        }
+        if shelves.len() != 64 || vaults.len() != 17 {
+            return None;
+        }
+        match World::open(alloc, config, shelves, vaults) {
+            Ok(world) => Some(Player {
+                world,
+                proposers: config.proposers,
+                calls: NONE_OPEN,
+                plan: None,
+            }),
+            Err(_) => None,
+        }
+    }
+
+    /// A script that goes on in the world, where no call is open.
+    pub fn into_script(self, tries: u8) -> Option<Script<S, V>> {
+        let None = self.plan else {
+            return None;
+        };
+        if tries == 0 || self.calls != NONE_OPEN {
+            return None;
+        }
+        Some(Script::new(self.world, self.proposers, tries))
+    }
+}
+
+impl<S: Shelf, V: Disk> Player<S, V> {
+    /// How many late frames there are.
+    pub fn late(&self) -> usize {
+        self.world.late()
+    }
+
+    /// Begins a call of a caller that has none. One that is refused is ended at once.
+    pub fn begin(
+        &mut self,
+        caller: u8,
+        key: &Key,
+        program: &Program,
+    ) -> Option<Result<(), Answer>> {
+        let Some(false) = call_of(&self.calls, self.proposers, caller) else {
+            return None;
+        };
+        if !is_free(&self.plan, caller) {
+            return None;
+        }
+        let call = self.world.next_call(caller);
+        match self.world.begin(caller, call, key, program) {
+            Ok(()) => {
+                set(&mut self.calls, caller, true);
+                Some(Ok(()))
+            }
+            Err(refusal) if is_refusal(&refusal) => Some(Err(refusal)),
+            Err(told) => Some(Err(self.world.end(caller, call, told))),
+        }
+    }
+
+    /// The leg of the proposer's first frame, and the acceptor at its other end.
+    pub fn front(&self, proposer: u8) -> Option<(Leg, AcceptorId)> {
+        if proposer <= self.proposers {
+            self.world.front(proposer)
+        } else {
+            None
+        }
+    }
+
+    /// The proposer's first frame has its turn.
+    pub fn turn(&mut self, proposer: u8, verdict: Verdict) -> Option<Result<(), AllocError>> {
+        let Some(true) = call_of(&self.calls, self.proposers, proposer) else {
+            return None;
+        };
+        let Some(_) = self.world.front(proposer) else {
+            return None;
+        };
+        match self.world.turn(proposer, verdict) {
+            Ok(()) => Some(Ok(())),
+            Err(error) => Some(Err(error)),
+        }
+    }
+
+    /// Ends the prepare phase of the proposer's round. Where it is refused its call is ended.
+    pub fn propose(&mut self, proposer: u8) -> Option<Result<(), Answer>> {
+        let Some(true) = call_of(&self.calls, self.proposers, proposer) else {
+            return None;
+        };
+        if !is_free(&self.plan, proposer) {
+            return None;
+        }
+        let Some(Due::Propose) = what_is_due(&self.world, proposer) else {
+            return None;
+        };
+        let call = last_call(&self.world, proposer);
+        match self.world.propose(proposer) {
+            Ok(()) => Some(Ok(())),
+            Err(told) => {
+                let told = self.world.end(proposer, call, told);
+                set(&mut self.calls, proposer, false);
+                Some(Err(told))
+            }
+        }
+    }
+
+    /// Ends the accept phase of the proposer's round, and its call.
+    pub fn count(&mut self, proposer: u8) -> Option<Answer> {
+        let Some(true) = call_of(&self.calls, self.proposers, proposer) else {
+            return None;
+        };
+        if !is_free(&self.plan, proposer) {
+            return None;
+        }
+        let Some(Due::Count) = what_is_due(&self.world, proposer) else {
+            return None;
+        };
+        let call = last_call(&self.world, proposer);
+        let told = self.world.count(proposer);
+        let told = self.world.end(proposer, call, told);
+        set(&mut self.calls, proposer, false);
+        Some(told)
+    }
+
+    /// Ends a call whose round was closed by another.
+    pub fn closed(&mut self, proposer: u8) -> Option<Answer> {
+        let Some(true) = call_of(&self.calls, self.proposers, proposer) else {
+            return None;
+        };
+        if !is_free(&self.plan, proposer) {
+            return None;
+        }
+        let call = last_call(&self.world, proposer);
+        let Some(told) = self.world.closed(proposer) else {
+            return None;
+        };
+        let told = self.world.end(proposer, call, told);
+        set(&mut self.calls, proposer, false);
+        Some(told)
+    }
+
+    /// The late frame of that place strays in.
+    pub fn stray(&mut self, index: usize) -> Option<Result<AcceptorId, StrayFault>> {
+        if index >= self.world.late() {
+            return None;
+        }
+        match self.world.stray(index) {
+            Ok(peer) => Some(Ok(peer)),
+            Err(fault) => Some(Err(fault)),
+        }
+    }
+
+    /// The acceptor crashes.
+    pub fn crash_acceptor(&mut self, id: AcceptorId) {
+        self.world.crash_acceptor(id);
+    }
+
+    /// The acceptor is up again, or stays down.
+    pub fn restart_acceptor(&mut self, id: AcceptorId) -> Result<(), ShelfFault> {
+        self.world.restart_acceptor(id)
+    }
+
+    /// The proposer crashes.
+    pub fn crash_proposer(&mut self, proposer: u8) -> Option<()> {
+        if proposer > self.proposers {
+            return None;
+        }
+        self.world.crash_proposer(proposer);
+        Some(())
+    }
+
+    /// The proposer is up again, or stays down.
+    pub fn restart_proposer(&mut self, proposer: u8) -> Option<Result<(), VaultError>> {
+        if proposer > self.proposers {
+            return None;
+        }
+        Some(self.world.restart_proposer(proposer))
+    }
+
+    /// A call of the operator opens a change of membership, or takes it up where it stopped. One that is refused is ended.
+    pub fn order(&mut self, kind: PlanKind, id: AcceptorId) -> Option<Result<(), OpAnswer>> {
+        if self.plan.is_some() {
+            return None;
+        }
+        match begin_plan(&mut self.world, kind, id) {
+            Ok(()) => {
+                self.plan = Some(Plan { kind, id });
+                Some(Ok(()))
+            }
+            Err(told) => Some(Err(told)),
+        }
+    }
+
+    /// The next proposer enters the era that the change of membership leads to. Where it does not, the operator's call is ended.
+    pub fn enter(&mut self) -> Option<Result<u8, OpAnswer>> {
+        let Some(_) = self.plan else {
+            return None;
+        };
+        let Some(proposer) = self.world.enter_next() else {
+            return None;
+        };
+        match self.world.enter_era(proposer) {
+            Ok(()) => Some(Ok(proposer)),
+            Err(told) => {
+                let told = self.world.tell(told);
+                self.plan = None;
+                Some(Err(told))
+            }
+        }
+    }
+}
+
+/// Whether the caller of that number has an open call. `None` comes where there is no such caller.
+fn call_of(calls: &[bool; PROPOSERS], proposers: u8, caller: u8) -> Option<bool>
+    requires { proposers ≤ 16 }
+    ensures { IfSome result (λ is_open. (caller ≤ proposers) × (slice_get calls.now caller ≡ Some is_open)) }
+{
+    if caller > proposers {
+        return None;
+    }
+    Some(calls[usize::from(caller)])
+}
+
+/// From now on the caller of that number has an open call, or has none.
+fn set(calls: &mut [bool; PROPOSERS], caller: u8, is_open: bool)
+    requires { caller ≤ 16 }
+    ensures { calls.new ≡ slice_set calls.old caller is_open }
+{
+    calls[usize::from(caller)] = is_open;
+}
+
+/// Whether the calls of this caller go on now: those of caller 0 stand still while a change of membership is under way, which they
+/// could be a part of.
+fn is_free(plan: &Option<Plan>, caller: u8) -> bool
+    ensures { result ≡ true → caller ≡ 0 → plan.now ≡ None }
+{
+    caller != 0 || plan.is_none()
+}
+
+/// Whether a new call that is answered so was not begun.
+fn is_refusal(answer: &Answer) -> bool
+    ensures { result ≡ is_refusal answer.now }
+{
+    matches!(answer, Answer::RecordFull | Answer::NoMemory { .. })
+}
+
+/// The number of the caller's last call.
+fn last_call<S: Shelf, V: Disk>(world: &World<S, V>, caller: u8) -> u32
+    requires { caller ≤ world.now.greatest }
+    ensures { (seen : CallerView) → slice_get world.now.callers caller ≡ Some seen → seen.number ≡ result }
+{
+    world.next_call(caller) - 1
+}
+
+/// What is due of the proposer's round, if one is open and none of its frames waits.
+fn what_is_due<S: Shelf, V: Disk>(world: &World<S, V>, proposer: u8) -> Option<Due>
+    requires known { proposer ≤ world.now.greatest }
+    requires safe { IsSafe world.now }
+    requires quiet { world.now.council.exchange ≡ None }
+    ensures proposes { result ≡ Some Due.Propose → IsInPhase world.now proposer true }
+    ensures counts { result ≡ Some Due.Count → IsInPhase world.now proposer false }
+{
+    let None = world.front(proposer) else {
+        return None;
+    };
+    let Some(_) = world.verdict(proposer) else {
+        return None;
+    };
+    if world.has_proposed(proposer) {
+        Some(Due::Count)
+    } else {
+        Some(Due::Propose)
+    }
+}
+
+/// The operator's call for the change is opened, and the change is, unless it is under way. After an `Err`, which is what the call was
+/// told, none is open.
+fn begin_plan<S: Shelf, V: Disk>(
+    world: &mut World<S, V>,
+    kind: PlanKind,
+    id: AcceptorId,
+) -> Result<(), OpAnswer>
+    requires none { world.old.council.order ≡ None }
+    requires quiet { world.old.council.exchange ≡ None }
+    requires safe { IsSafe world.old }
+    ensures under_way { OnOk result (IsUnderWay world.new (asked_to kind id)) }
+    ensures over { OnErr result (world.new.council.order ≡ None) }
+    ensures quiet { world.new.council.exchange ≡ None }
+    ensures idle { KeepsIdle world.old world.new }
+    ensures safe { IsSafe world.new }
+{
+    let asked = kind.asked(id);
+    match world.order(&asked) {
+        Ok(()) => match take_up(world, kind, id) {
+            Ok(()) => Ok(()),
+            Err(told) => Err(world.tell(told)),
+        },
+        Err(refusal) => Err(OpAnswer::Stopped(refusal)),
+    }
+}
+
+/// Opens the change unless it is under way. An `Err` is what the operator's call was told.
+fn take_up<S: Shelf, V: Disk>(
+    world: &mut World<S, V>,
+    kind: PlanKind,
+    id: AcceptorId,
+) -> Result<(), OpAnswer>
+    requires ordered { IsOrdered world.old (asked_to kind id) }
+    requires safe { IsSafe world.old }
+    ensures under_way { OnOk result (IsUnderWay world.new (asked_to kind id)) }
+    ensures told { IfErr result (WasToldOrder world.new) }
+    ensures idle { KeepsIdle world.old world.new }
+    ensures exchange { world.new.council.exchange ≡ world.old.council.exchange }
+    ensures safe { IsSafe world.new }
+{
+    if world.plan_is(&kind.asked(id)) {
+        return Ok(());
+    }
+    world.open_plan(kind, id)
+}

@@ -1,0 +1,461 @@
+//! Worked plays over shelves and vaults in memory.
+
+use crate::player::Player;
+use crate::steps::Step::{Begin, Closed, Count, Enter, Line, Order, Propose, Times, Turn, Turns};
+use crate::steps::{Play, Step};
+use cas_disk::{Image, MemoryDisk, Trouble};
+use cas_lines::lines::Lines;
+use cas_lines::source::MemorySource;
+use cas_script::Script;
+use cas_slot::MapShelf;
+use cas_world::Config;
+use std::alloc::{AllocError, Global};
+use std::test::Fail;
+
+/// A world with these many acceptors and two proposers of clients.
+const fn among(acceptors: u8) -> Config {
+    Config {
+        acceptors,
+        proposers: 2,
+    }
+}
+
+/// Where the disk of proposer 1 stops, and what a crash leaves of it.
+#[derive(Clone, Copy, Debug)]
+struct Stop {
+    call: u64,
+    image: Image,
+}
+
+/// A play: steps in a new world, then lines of a script in it, and what is written.
+#[derive(Clone, Copy)]
+struct Row<'a> {
+    steps: &'a [Step],
+    lines: &'a str,
+    want: &'a str,
+}
+
+/// Empty shelves in memory.
+fn shelves(alloc: Global) -> Result<Vec<MapShelf>, AllocError> {
+    let mut shelves = Vec::new(alloc);
+    for _shelf in 0..64usize {
+        shelves.push(MapShelf::new(alloc))?;
+    }
+    Ok(shelves)
+}
+
+/// Empty disks in memory, for vaults.
+fn vaults(alloc: Global, stop: Option<Stop>) -> Result<Vec<MemoryDisk>, AllocError> {
+    let mut vaults = Vec::new(alloc);
+    for place in 0..17usize {
+        let mut troubles = Vec::new(alloc);
+        let mut image = Image::New;
+        if let Some(stop) = stop
+            && place == 1
+        {
+            troubles.push((stop.call, Trouble::Stop))?;
+            image = stop.image;
+        }
+        let disk = MemoryDisk::new(alloc, Vec::new(alloc), troubles, image);
+        vaults.push(disk)?;
+    }
+    Ok(vaults)
+}
+
+/// A play in a new world of so many acceptors.
+fn opened(
+    alloc: Global,
+    acceptors: u8,
+    stop: Option<Stop>,
+) -> Result<Play<MapShelf, MemoryDisk>, Fail> {
+    let shelves = shelves(alloc)?;
+    let vaults = vaults(alloc, stop)?;
+    match Player::open(alloc, among(acceptors), shelves, vaults) {
+        Some(player) => Ok(Play::new(alloc, player)),
+        None => Err(Fail::from("a world in memory opens")),
+    }
+}
+
+/// What the script answers to the lines.
+fn answers(
+    alloc: Global,
+    script: &mut Script<MapShelf, MemoryDisk>,
+    lines: &str,
+) -> Result<Vec<u8>, Fail> {
+    let mut source = MemorySource::new(lines.as_bytes().to_vec(alloc)?, 4096, Vec::new(alloc));
+    let mut input = Lines::new(alloc);
+    let mut written = Vec::new(alloc);
+    for _line in 0..1_000 {
+        match input.next(&mut source) {
+            Ok(Some(line)) => written.extend_from_slice(&script.answer(alloc, &line)?)?,
+            Ok(None) => break,
+            Err(_) => return Err(Fail::from("the lines are read")),
+        }
+    }
+    Ok(written)
+}
+
+/// What is written as the player's world goes on as a script of these lines, with two tries.
+fn go_on(
+    alloc: Global,
+    player: Player<MapShelf, MemoryDisk>,
+    lines: &str,
+) -> Result<Vec<u8>, Fail> {
+    if lines.is_empty() {
+        return Ok(Vec::new(alloc));
+    }
+    match player.into_script(2) {
+        Some(mut script) => answers(alloc, &mut script, lines),
+        None => Err(Fail::from("a call is open")),
+    }
+}
+
+/// Takes the steps in a new world of so many acceptors, and then runs the lines in it. Gives all that was written.
+fn play(
+    alloc: Global,
+    acceptors: u8,
+    stop: Option<Stop>,
+    steps: &[Step],
+    lines: &str,
+) -> Result<String, Fail> {
+    let mut play = opened(alloc, acceptors, stop)?;
+    for step in steps {
+        play.take(*step)?;
+    }
+    let (player, mut written) = play.into_parts();
+    written.extend_from_slice(&go_on(alloc, player, lines)?)?;
+    match String::from_utf8(written) {
+        Ok(text) => Ok(text),
+        Err(_) => Err(Fail::from("the answers are text")),
+    }
+}
+
+#[test]
+fn lets_rounds_interleave(rt: HostRuntime) -> Result<(), Fail> {
+    for row in [
+        // Another proposer runs a whole round between the two phases of a round.
+        Row {
+            steps: &[
+                Begin("1 add a 1"),
+                Turns(1),
+                Line("2 get a"),
+                Propose(1),
+                Turns(1),
+                Count(1),
+            ],
+            lines: "1 get a\n",
+            want: "ok\n1: prepare 1 prepare 2 prepare 3 reply 1 reply 2 reply 3\n2: done empty at 1.2\nok\n1: accept 1 accept 2 accept 3 reply 1 reply 2 reply 3\n1: unsettled met 2.2\n1: done empty at 3.1\n",
+        },
+        // It only prepares.
+        Row {
+            steps: &[
+                Begin("1 add a 1"),
+                Turns(1),
+                Begin("2 add a 2"),
+                Turns(2),
+                Propose(1),
+                Turns(1),
+                Count(1),
+                Propose(2),
+                Turns(2),
+                Count(2),
+            ],
+            lines: "",
+            want: "ok\n1: prepare 1 prepare 2 prepare 3 reply 1 reply 2 reply 3\nok\n2: prepare 1 prepare 2 prepare 3 reply 1 reply 2 reply 3\nok\n1: accept 1 accept 2 accept 3 reply 1 reply 2 reply 3\n1: unsettled met 1.2\nok\n2: accept 1 accept 2 accept 3 reply 1 reply 2 reply 3\n2: done v0 num 2 at 1.2\n",
+        },
+        // It reads what one acceptor accepted, so the change that is unsettled stands.
+        Row {
+            steps: &[
+                Line("2 get b"),
+                Begin("1 add a 1"),
+                Turns(1),
+                Propose(1),
+                Turn(1),
+                Line("2 add a 2"),
+                Turns(1),
+                Count(1),
+            ],
+            lines: "1 get a\n",
+            want: "2: done empty at 1.2\nok\n1: prepare 1 prepare 2 prepare 3 reply 1 reply 2 reply 3\nok\n1: accept 1\n2: done v1 num 3 at 3.2\n1: accept 2 accept 3 reply 1 reply 2 reply 3\n1: unsettled met 4.2\n1: done v1 num 3 at 5.1\n",
+        },
+        // It prepares below the promise that rides, and does not read what that acceptor accepted, so the change does not stand.
+        Row {
+            steps: &[
+                Begin("1 add a 1"),
+                Turns(1),
+                Propose(1),
+                Turn(1),
+                Line("2 add a 2"),
+                Turns(1),
+                Count(1),
+            ],
+            lines: "1 get a\n",
+            want: "ok\n1: prepare 1 prepare 2 prepare 3 reply 1 reply 2 reply 3\nok\n1: accept 1\n2: done v0 num 2 at 1.2\n1: accept 2 accept 3 reply 1 reply 2 reply 3\n1: unsettled met 2.2\n1: done v0 num 2 at 3.1\n",
+        },
+    ] {
+        let written = play(rt.alloc(), 3, None, row.steps, row.lines)?;
+        assert_eq!(rt; written.as_str(), row.want);
+    }
+    Ok(())
+}
+
+#[test]
+fn moves_open_rounds_on(rt: HostRuntime) -> Result<(), Fail> {
+    for row in [
+        // An era step between the prepare phase and the proposal. The proposer goes on in the new era, and the other in the one before.
+        Row {
+            steps: &[
+                Begin("1 add a 1"),
+                Turns(1),
+                Order("op join 4"),
+                Enter,
+                Enter,
+                Propose(1),
+                Closed(1),
+                Begin("1 add a 2"),
+                Turns(1),
+                Propose(1),
+                Turns(1),
+                Count(1),
+                Begin("2 add b 1"),
+                Turns(2),
+                Propose(2),
+                Turns(2),
+                Count(2),
+                Line("crash proposer 2"),
+                Enter,
+            ],
+            lines: "restart proposer 2\nop join 4\n1 get a\n",
+            want: "ok\n1: prepare 1 prepare 2 prepare 3 reply 1 reply 2 reply 3\nok\nentered 0\nentered 1\nnot now\n1: moved 1\nok\n1: prepare 1 prepare 2 prepare 3 reply 1 reply 2 reply 3\nok\n1: accept 1 accept 2 accept 3 accept 4 reply 1 reply 2 reply 3 reply 4\n1: done v0 num 2 at 2.1\nok\n2: prepare 1 prepare 2 prepare 3 reply 1 reply 2 reply 3\nok\n2: accept 1 accept 2 accept 3 reply 1 reply 2 reply 3\n2: done v0 num 1 at 1.2\nok\nop: proposer down 2\nok\nop: joined 4 era 2 rescanned 2\n1: done v0 num 2 at 4.1\n",
+        },
+        // The same between the proposal and the count. The late accepts of the era before meet another ballot.
+        Row {
+            steps: &[
+                Begin("1 add a 1"),
+                Turns(1),
+                Propose(1),
+                Order("op join 4"),
+                Enter,
+                Enter,
+                Count(1),
+                Closed(1),
+                Line("crash proposer 2"),
+                Enter,
+            ],
+            lines: "restart proposer 2\nop join 4\nstray 0\nstray 0\nstray 0\n1 get a\nshow 1 a\nshow 4 a\n",
+            want: "ok\n1: prepare 1 prepare 2 prepare 3 reply 1 reply 2 reply 3\nok\nok\nentered 0\nentered 1\nnot now\n1: unsettled moved 1\nok\nop: proposer down 2\nok\nop: joined 4 era 2 rescanned 1\nok\nok\nok\n1: done empty at 3.1\n1 a: promise 4.1 accepted 3.1 era 2 empty\n4 a: promise 4.1 accepted 3.1 era 2 empty\n",
+        },
+    ] {
+        let written = play(rt.alloc(), 3, None, row.steps, row.lines)?;
+        assert_eq!(rt; written.as_str(), row.want);
+    }
+    Ok(())
+}
+
+/// A vault makes six calls of its disk at its opening, four as it draws its first number, and six as it enters an era.
+#[test]
+fn resumes_where_a_vault_stopped(rt: HostRuntime) -> Result<(), Fail> {
+    let steps = [
+        Begin("1 add a 1"),
+        Turns(1),
+        Order("op join 4"),
+        Enter,
+        Enter,
+        Closed(1),
+        Line("restart proposer 1"),
+    ];
+    let lines = "op join 4\n1 add a 1\n";
+    let want =
+        "ok\n1: prepare 1 prepare 2 prepare 3 reply 1 reply 2 reply 3\nok\nentered 0\nop: proposer down 1\n1: crashed\nok\nop: joined 4 era 2 rescanned 1\n1: done v0 num 1 at 101.1\n";
+    for image in [Image::Old, Image::New, Image::Noise(7)] {
+        for call in 11..=16 {
+            let written = play(rt.alloc(), 3, Some(Stop { call, image }), &steps, lines)?;
+            assert_eq!(rt; written.as_str(), want, "at call {call}");
+        }
+    }
+    Ok(())
+}
+
+/// After the last write of an era step a crash leaves the era before or the new one. The new one is marked as the change is resumed.
+#[test]
+fn works_in_the_era_of_its_vault(rt: HostRuntime) -> Result<(), Fail> {
+    let steps = [
+        Order("op join 4"),
+        Enter,
+        Line("1 get b"),
+        Enter,
+        Line("restart proposer 1"),
+        Begin("1 add a 1"),
+        Turns(1),
+        Propose(1),
+        Turns(1),
+        Count(1),
+    ];
+    for (image, want) in [
+        (
+            Image::Old,
+            "ok\nentered 0\n1: done empty at 1.1\nop: proposer down 1\nok\nok\n1: prepare 1 prepare 2 prepare 3 reply 1 reply 2 reply 3\nok\n1: accept 1 accept 2 accept 3 reply 1 reply 2 reply 3\n1: done v0 num 1 at 101.1\nop: joined 4 era 2 rescanned 2\n",
+        ),
+        (
+            Image::New,
+            "ok\nentered 0\n1: done empty at 1.1\nop: proposer down 1\nok\nok\n1: prepare 1 prepare 2 prepare 3 reply 1 reply 2 reply 3\nok\n1: accept 1 accept 2 accept 3 accept 4 reply 1 reply 2 reply 3 reply 4\n1: done v0 num 1 at 101.1\nop: joined 4 era 2 rescanned 2\n",
+        ),
+    ] {
+        let stop = Some(Stop { call: 16, image });
+        let written = play(rt.alloc(), 3, stop, &steps, "op join 4\n")?;
+        assert_eq!(rt; written.as_str(), want);
+    }
+    Ok(())
+}
+
+#[test]
+fn rides_on_the_promise_of_the_round_before(rt: HostRuntime) -> Result<(), Fail> {
+    for (stop, steps, want) in [
+        // The second change on a cached promise sends three frames, and none that prepares.
+        (
+            None,
+            [
+                Line("1 add a 5"),
+                Begin("1 add a 2"),
+                Turns(1),
+                Count(1),
+                Line("1 get a"),
+            ],
+            "1: done v0 num 5 at 1.1\nok\n1: accept 1 accept 2 accept 3 reply 1 reply 2 reply 3\n1: done v1 num 7 at 2.1\n1: done v1 num 7 at 3.1\n",
+        ),
+        // The number of the ballot that is to ride is the first above the bound, and the vault fails as it is drawn.
+        (
+            Some(Stop {
+                call: 11,
+                image: Image::New,
+            }),
+            [
+                Times(99, "1 get a"),
+                Begin("1 get a"),
+                Line("1 get a"),
+                Line("restart proposer 1"),
+                Line("1 get a"),
+            ],
+            "1: done empty at 99.1\n1: vault fault\n1: down\nok\n1: done empty at 101.1\n",
+        ),
+    ] {
+        let written = play(rt.alloc(), 3, stop, &steps, "")?;
+        assert_eq!(rt; written.as_str(), want);
+    }
+    Ok(())
+}
+
+#[test]
+fn bears_with_repeated_and_late_frames(rt: HostRuntime) -> Result<(), Fail> {
+    for row in [
+        // A promise that is told twice counts once.
+        Row {
+            steps: &[
+                Line("net prepare 1 twice"),
+                Line("net reply 2 lose"),
+                Line("net reply 3 lose"),
+                Begin("1 add a 5"),
+                Turns(1),
+                Propose(1),
+            ],
+            lines: "",
+            want: "ok\nok\nok\nok\n1: prepare 1 prepare 1 prepare 2 prepare 3 reply 1 reply 1 reply 2 reply 3\n1: short 1 2\n",
+        },
+        // Late replies of the open phase count.
+        Row {
+            steps: &[
+                Line("net reply * late"),
+                Begin("1 add a 5"),
+                Turns(1),
+                Line("stray 2"),
+                Line("stray 0"),
+                Line("net reply * deliver"),
+                Propose(1),
+                Turns(1),
+                Line("stray 0"),
+                Count(1),
+            ],
+            lines: "",
+            want: "ok\nok\n1: prepare 1 prepare 2 prepare 3 reply 1 reply 2 reply 3\nok\nok\nok\nok\n1: accept 1 accept 2 accept 3 reply 1 reply 2 reply 3\nok\n1: done v0 num 5 at 1.1\n",
+        },
+        // Late replies of a closed round do not count for another.
+        Row {
+            steps: &[
+                Line("net reply * late"),
+                Begin("1 add a 5"),
+                Turns(1),
+                Propose(1),
+                Line("net prepare * lose"),
+                Begin("1 add a 5"),
+                Line("stray 0"),
+                Line("stray 0"),
+                Line("stray 0"),
+                Line("stray 0"),
+                Turns(1),
+                Propose(1),
+            ],
+            lines: "",
+            want: "ok\nok\n1: prepare 1 prepare 2 prepare 3 reply 1 reply 2 reply 3\n1: short 0 2\nok\nok\nok\nok\nok\nnone\n1: prepare 1 prepare 2 prepare 3\n1: short 0 2\n",
+        },
+        // A late request of a round that was done is answered, and the reply is dropped.
+        Row {
+            steps: &[
+                Line("net accept 3 late"),
+                Begin("1 add a 5"),
+                Turns(1),
+                Propose(1),
+                Turns(1),
+                Count(1),
+                Line("net accept 3 deliver"),
+            ],
+            lines: "show 3 a\nstray 0\nstray 0\nstray 0\nshow 3 a\n",
+            want: "ok\nok\n1: prepare 1 prepare 2 prepare 3 reply 1 reply 2 reply 3\nok\n1: accept 1 accept 2 accept 3 reply 1 reply 2\n1: done v0 num 5 at 1.1\nok\n3 a: promise 1.1\nok\nok\nnone\n3 a: promise 2.1 accepted 1.1 era 0 v0 num 5\n",
+        },
+        // Late requests of a round that another overtook are refused.
+        Row {
+            steps: &[
+                Line("net accept * late"),
+                Begin("1 add a 1"),
+                Turns(1),
+                Propose(1),
+                Turns(1),
+                Count(1),
+                Line("net accept * deliver"),
+                Line("2 add a 2"),
+            ],
+            lines: "stray 0\nstray 0\nstray 0\nstray 0\nstray 0\nstray 0\nstray 0\nshow 1 a\n1 get a\n",
+            want: "ok\nok\n1: prepare 1 prepare 2 prepare 3 reply 1 reply 2 reply 3\nok\n1: accept 1 accept 2 accept 3\n1: unsettled short 0 2\nok\n2: done v0 num 2 at 1.2\nok\nok\nok\nok\nok\nok\nnone\n1 a: promise 2.2 accepted 1.2 era 0 v0 num 2\n1: done v0 num 2 at 3.1\n",
+        },
+    ] {
+        let written = play(rt.alloc(), 3, None, row.steps, row.lines)?;
+        assert_eq!(rt; written.as_str(), row.want);
+    }
+    Ok(())
+}
+
+/// With one acceptor a call that is done makes five marks, one that finds its proposer down or is closed before it proposes two, and a
+/// round reserves twelve. So many of each leave room for just two rounds, and with those for no late frame.
+#[test]
+fn has_room_for_so_many_rounds(rt: HostRuntime) -> Result<(), Fail> {
+    let steps = [
+        Line("crash proposer 1"),
+        Times(3, "1 get a"),
+        Line("restart proposer 1"),
+        Times(199_994, "1 get a"),
+        Line("net prepare 1 late"),
+        Begin("1 get b"),
+        Begin("2 get b"),
+        Turns(1),
+        Line("stray 0"),
+        Line("crash proposer 2"),
+        Closed(2),
+        Line("restart proposer 2"),
+        Line("stray 0"),
+        Begin("2 get b"),
+    ];
+    let want =
+        "ok\n1: down\nok\n1: done empty at 199994.1\nok\nok\nok\n1: prepare 1\nrecord full\nok\n2: crashed\nok\nok\n2: record full\n";
+    let written = play(rt.alloc(), 1, None, &steps, "")?;
+    assert_eq!(rt; written.as_str(), want);
+    Ok(())
+}
