@@ -1,5 +1,5 @@
 -- What a player keeps true of its world, of which it remembers the open calls.
-use Rattle.std.specs.Prelude.{◌≡◌, ◌≤◌, ℕ, Bool, false, List, length, Option, None, Some, slice_get}
+use Rattle.std.specs.Prelude.{◌≡◌, ◌≤◌, ℕ, Bool, false, List, Option, None, Some, slice_get}
 use Rattle.cas_record.specs.declared.operator.Asked.{Asked}
 use Rattle.cas_cluster.specs.Safe.{IsSafe}
 use Rattle.cas_cluster.specs.View.{View}
