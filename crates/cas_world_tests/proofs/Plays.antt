@@ -10,7 +10,7 @@ use Rattle.cas_record.specs.declared.operator.OpAnswer.{OpAnswer}
 use Rattle.cas_cluster.specs.Council.{Council}
 use Rattle.cas_cluster.specs.Safe.{IsSafe}
 use Rattle.cas_cluster.specs.Step as step
-use Rattle.cas_cluster.specs.Step.{Step, Event, StepBegin, StepEnd, StepStray, StepCrashAcceptor, StepRestartAcceptor, StepRestartProposer}
+use Rattle.cas_cluster.specs.Step.{Step, Event, StepBegin, StepEnd, StepStray, StepRestartProposer}
 use Rattle.cas_cluster.specs.StepCalls as calls
 use Rattle.cas_cluster.specs.StepCalls.{Rescans, RefusesCall}
 use Rattle.cas_cluster.specs.StepCouncil as council
@@ -174,15 +174,7 @@ refused m old new id proposers key opened change was free (calls.stays told coun
 refused m old new id proposers key opened change was free (calls.loses caller desk now ballot council at_caller at_desk none up loses anew is) =
     unchanged_by old _ new is refl refl (rescans_same anew (λ operator. none_ordered old proposers opened change was (free operator)))
 
--- parties stop and are up again
-pub acceptor_crashes : {S V : Type 0} (m : Meaning S V) (old new : View S V) (id : ℕ) → StepCrashAcceptor m old id new → Unchanged old new
-acceptor_crashes m old new id (step.crashes acceptor now at crashes is) = unchanged_by old _ new is refl refl refl
-
-pub acceptor_restarts : {S V : Type 0} (m : Meaning S V) (old new : View S V) (id : ℕ) → StepRestartAcceptor m old id new → Unchanged old new
-acceptor_restarts m old new id (step.was_up acceptor at up is) = unchanged_by old old new is refl refl refl
-acceptor_restarts m old new id (step.starts acceptor now at starts is) = unchanged_by old _ new is refl refl refl
-acceptor_restarts m old new id (step.fails acceptor now at fails is) = unchanged_by old _ new is refl refl refl
-
+-- a proposer stops and is up again
 pub proposer_restarts : {S V : Type 0} (m : Meaning S V) (old new : View S V) (id : ℕ) → StepRestartProposer m old id new → Unchanged old new
 proposer_restarts m old new id (step.was_up_already desk at up is) = unchanged_by old old new is refl refl refl
 proposer_restarts m old new id (step.restarts desk now caller at at_caller down restarts is) = unchanged_by old _ new is refl refl refl

@@ -16,7 +16,7 @@ use cas_disk::Disk;
 use cas_fate::{Leg, Verdict};
 use cas_record::{Answer, OpAnswer};
 use cas_script::Script;
-use cas_slot::{Shelf, ShelfFault};
+use cas_slot::Shelf;
 use cas_vault::VaultError;
 use cas_world::{Config, PlanKind, StrayFault, World};
 use std::alloc::{AllocError, Global};
@@ -106,11 +106,6 @@ impl<S: Shelf + Drop, V: Disk + Drop> Player<S, V> {
 }
 
 impl<S: Shelf, V: Disk> Player<S, V> {
-    /// How many late frames there are.
-    pub fn late(&self) -> usize {
-        self.world.late()
-    }
-
     /// Begins a call of a caller that has none. One that is refused is ended at once.
     pub fn begin(
         &mut self,
@@ -224,16 +219,6 @@ impl<S: Shelf, V: Disk> Player<S, V> {
             Ok(peer) => Some(Ok(peer)),
             Err(fault) => Some(Err(fault)),
         }
-    }
-
-    /// The acceptor crashes.
-    pub fn crash_acceptor(&mut self, id: AcceptorId) {
-        self.world.crash_acceptor(id);
-    }
-
-    /// The acceptor is up again, or stays down.
-    pub fn restart_acceptor(&mut self, id: AcceptorId) -> Result<(), ShelfFault> {
-        self.world.restart_acceptor(id)
     }
 
     /// The proposer crashes.

@@ -1,9 +1,13 @@
 //! Worked plays over shelves and vaults in memory.
 
 use crate::player::Player;
-use crate::steps::Step::{Begin, Closed, Count, Enter, Line, Order, Propose, Times, Turn, Turns};
+use crate::steps::Step::{
+    Add, BeginAdd, BeginGet, Closed, Count, Crash, Enter, Get, Gets, Join, Net, Propose, Restart,
+    Stray, Turn, Turns,
+};
 use crate::steps::{Play, Step};
 use cas_disk::{Image, MemoryDisk, Trouble};
+use cas_fate::{Leg, Verdict};
 use cas_lines::lines::Lines;
 use cas_lines::source::MemorySource;
 use cas_script::Script;
@@ -136,9 +140,9 @@ fn lets_rounds_interleave(rt: HostRuntime) -> Result<(), Fail> {
         // Another proposer runs a whole round between the two phases of a round.
         Row {
             steps: &[
-                Begin("1 add a 1"),
+                BeginAdd(1, "a", 1),
                 Turns(1),
-                Line("2 get a"),
+                Get(2, "a"),
                 Propose(1),
                 Turns(1),
                 Count(1),
@@ -149,9 +153,9 @@ fn lets_rounds_interleave(rt: HostRuntime) -> Result<(), Fail> {
         // It only prepares.
         Row {
             steps: &[
-                Begin("1 add a 1"),
+                BeginAdd(1, "a", 1),
                 Turns(1),
-                Begin("2 add a 2"),
+                BeginAdd(2, "a", 2),
                 Turns(2),
                 Propose(1),
                 Turns(1),
@@ -166,12 +170,12 @@ fn lets_rounds_interleave(rt: HostRuntime) -> Result<(), Fail> {
         // It reads what one acceptor accepted, so the change that is unsettled stands.
         Row {
             steps: &[
-                Line("2 get b"),
-                Begin("1 add a 1"),
+                Get(2, "b"),
+                BeginAdd(1, "a", 1),
                 Turns(1),
                 Propose(1),
                 Turn(1),
-                Line("2 add a 2"),
+                Add(2, "a", 2),
                 Turns(1),
                 Count(1),
             ],
@@ -181,11 +185,11 @@ fn lets_rounds_interleave(rt: HostRuntime) -> Result<(), Fail> {
         // It prepares below the promise that rides, and does not read what that acceptor accepted, so the change does not stand.
         Row {
             steps: &[
-                Begin("1 add a 1"),
+                BeginAdd(1, "a", 1),
                 Turns(1),
                 Propose(1),
                 Turn(1),
-                Line("2 add a 2"),
+                Add(2, "a", 2),
                 Turns(1),
                 Count(1),
             ],
@@ -205,24 +209,24 @@ fn moves_open_rounds_on(rt: HostRuntime) -> Result<(), Fail> {
         // An era step between the prepare phase and the proposal. The proposer goes on in the new era, and the other in the one before.
         Row {
             steps: &[
-                Begin("1 add a 1"),
+                BeginAdd(1, "a", 1),
                 Turns(1),
-                Order("op join 4"),
+                Join(4),
                 Enter,
                 Enter,
                 Propose(1),
                 Closed(1),
-                Begin("1 add a 2"),
+                BeginAdd(1, "a", 2),
                 Turns(1),
                 Propose(1),
                 Turns(1),
                 Count(1),
-                Begin("2 add b 1"),
+                BeginAdd(2, "b", 1),
                 Turns(2),
                 Propose(2),
                 Turns(2),
                 Count(2),
-                Line("crash proposer 2"),
+                Crash(2),
                 Enter,
             ],
             lines: "restart proposer 2\nop join 4\n1 get a\n",
@@ -231,15 +235,15 @@ fn moves_open_rounds_on(rt: HostRuntime) -> Result<(), Fail> {
         // The same between the proposal and the count. The late accepts of the era before meet another ballot.
         Row {
             steps: &[
-                Begin("1 add a 1"),
+                BeginAdd(1, "a", 1),
                 Turns(1),
                 Propose(1),
-                Order("op join 4"),
+                Join(4),
                 Enter,
                 Enter,
                 Count(1),
                 Closed(1),
-                Line("crash proposer 2"),
+                Crash(2),
                 Enter,
             ],
             lines: "restart proposer 2\nop join 4\nstray 0\nstray 0\nstray 0\n1 get a\nshow 1 a\nshow 4 a\n",
@@ -256,13 +260,13 @@ fn moves_open_rounds_on(rt: HostRuntime) -> Result<(), Fail> {
 #[test]
 fn resumes_where_a_vault_stopped(rt: HostRuntime) -> Result<(), Fail> {
     let steps = [
-        Begin("1 add a 1"),
+        BeginAdd(1, "a", 1),
         Turns(1),
-        Order("op join 4"),
+        Join(4),
         Enter,
         Enter,
         Closed(1),
-        Line("restart proposer 1"),
+        Restart(1),
     ];
     let lines = "op join 4\n1 add a 1\n";
     let want =
@@ -280,12 +284,12 @@ fn resumes_where_a_vault_stopped(rt: HostRuntime) -> Result<(), Fail> {
 #[test]
 fn works_in_the_era_of_its_vault(rt: HostRuntime) -> Result<(), Fail> {
     let steps = [
-        Order("op join 4"),
+        Join(4),
         Enter,
-        Line("1 get b"),
+        Get(1, "b"),
         Enter,
-        Line("restart proposer 1"),
-        Begin("1 add a 1"),
+        Restart(1),
+        BeginAdd(1, "a", 1),
         Turns(1),
         Propose(1),
         Turns(1),
@@ -315,11 +319,11 @@ fn rides_on_the_promise_of_the_round_before(rt: HostRuntime) -> Result<(), Fail>
         (
             None,
             [
-                Line("1 add a 5"),
-                Begin("1 add a 2"),
+                Add(1, "a", 5),
+                BeginAdd(1, "a", 2),
                 Turns(1),
                 Count(1),
-                Line("1 get a"),
+                Get(1, "a"),
             ],
             "1: done v0 num 5 at 1.1\nok\n1: accept 1 accept 2 accept 3 reply 1 reply 2 reply 3\n1: done v1 num 7 at 2.1\n1: done v1 num 7 at 3.1\n",
         ),
@@ -330,11 +334,11 @@ fn rides_on_the_promise_of_the_round_before(rt: HostRuntime) -> Result<(), Fail>
                 image: Image::New,
             }),
             [
-                Times(99, "1 get a"),
-                Begin("1 get a"),
-                Line("1 get a"),
-                Line("restart proposer 1"),
-                Line("1 get a"),
+                Gets(99, 1, "a"),
+                BeginGet(1, "a"),
+                Get(1, "a"),
+                Restart(1),
+                Get(1, "a"),
             ],
             "1: done empty at 99.1\n1: vault fault\n1: down\nok\n1: done empty at 101.1\n",
         ),
@@ -351,10 +355,10 @@ fn bears_with_repeated_and_late_frames(rt: HostRuntime) -> Result<(), Fail> {
         // A promise that is told twice counts once.
         Row {
             steps: &[
-                Line("net prepare 1 twice"),
-                Line("net reply 2 lose"),
-                Line("net reply 3 lose"),
-                Begin("1 add a 5"),
+                Net(Leg::Prepare, Some(1), Verdict::Twice),
+                Net(Leg::Reply, Some(2), Verdict::Lose),
+                Net(Leg::Reply, Some(3), Verdict::Lose),
+                BeginAdd(1, "a", 5),
                 Turns(1),
                 Propose(1),
             ],
@@ -364,15 +368,15 @@ fn bears_with_repeated_and_late_frames(rt: HostRuntime) -> Result<(), Fail> {
         // Late replies of the open phase count.
         Row {
             steps: &[
-                Line("net reply * late"),
-                Begin("1 add a 5"),
+                Net(Leg::Reply, None, Verdict::Late),
+                BeginAdd(1, "a", 5),
                 Turns(1),
-                Line("stray 2"),
-                Line("stray 0"),
-                Line("net reply * deliver"),
+                Stray(2),
+                Stray(0),
+                Net(Leg::Reply, None, Verdict::Deliver),
                 Propose(1),
                 Turns(1),
-                Line("stray 0"),
+                Stray(0),
                 Count(1),
             ],
             lines: "",
@@ -381,16 +385,16 @@ fn bears_with_repeated_and_late_frames(rt: HostRuntime) -> Result<(), Fail> {
         // Late replies of a closed round do not count for another.
         Row {
             steps: &[
-                Line("net reply * late"),
-                Begin("1 add a 5"),
+                Net(Leg::Reply, None, Verdict::Late),
+                BeginAdd(1, "a", 5),
                 Turns(1),
                 Propose(1),
-                Line("net prepare * lose"),
-                Begin("1 add a 5"),
-                Line("stray 0"),
-                Line("stray 0"),
-                Line("stray 0"),
-                Line("stray 0"),
+                Net(Leg::Prepare, None, Verdict::Lose),
+                BeginAdd(1, "a", 5),
+                Stray(0),
+                Stray(0),
+                Stray(0),
+                Stray(0),
                 Turns(1),
                 Propose(1),
             ],
@@ -400,13 +404,13 @@ fn bears_with_repeated_and_late_frames(rt: HostRuntime) -> Result<(), Fail> {
         // A late request of a round that was done is answered, and the reply is dropped.
         Row {
             steps: &[
-                Line("net accept 3 late"),
-                Begin("1 add a 5"),
+                Net(Leg::Accept, Some(3), Verdict::Late),
+                BeginAdd(1, "a", 5),
                 Turns(1),
                 Propose(1),
                 Turns(1),
                 Count(1),
-                Line("net accept 3 deliver"),
+                Net(Leg::Accept, Some(3), Verdict::Deliver),
             ],
             lines: "show 3 a\nstray 0\nstray 0\nstray 0\nshow 3 a\n",
             want: "ok\nok\n1: prepare 1 prepare 2 prepare 3 reply 1 reply 2 reply 3\nok\n1: accept 1 accept 2 accept 3 reply 1 reply 2\n1: done v0 num 5 at 1.1\nok\n3 a: promise 1.1\nok\nok\nnone\n3 a: promise 2.1 accepted 1.1 era 0 v0 num 5\n",
@@ -414,14 +418,14 @@ fn bears_with_repeated_and_late_frames(rt: HostRuntime) -> Result<(), Fail> {
         // Late requests of a round that another overtook are refused.
         Row {
             steps: &[
-                Line("net accept * late"),
-                Begin("1 add a 1"),
+                Net(Leg::Accept, None, Verdict::Late),
+                BeginAdd(1, "a", 1),
                 Turns(1),
                 Propose(1),
                 Turns(1),
                 Count(1),
-                Line("net accept * deliver"),
-                Line("2 add a 2"),
+                Net(Leg::Accept, None, Verdict::Deliver),
+                Add(2, "a", 2),
             ],
             lines: "stray 0\nstray 0\nstray 0\nstray 0\nstray 0\nstray 0\nstray 0\nshow 1 a\n1 get a\n",
             want: "ok\nok\n1: prepare 1 prepare 2 prepare 3 reply 1 reply 2 reply 3\nok\n1: accept 1 accept 2 accept 3\n1: unsettled short 0 2\nok\n2: done v0 num 2 at 1.2\nok\nok\nok\nok\nok\nok\nnone\n1 a: promise 2.2 accepted 1.2 era 0 v0 num 2\n1: done v0 num 2 at 3.1\n",
@@ -438,20 +442,20 @@ fn bears_with_repeated_and_late_frames(rt: HostRuntime) -> Result<(), Fail> {
 #[test]
 fn has_room_for_so_many_rounds(rt: HostRuntime) -> Result<(), Fail> {
     let steps = [
-        Line("crash proposer 1"),
-        Times(3, "1 get a"),
-        Line("restart proposer 1"),
-        Times(199_994, "1 get a"),
-        Line("net prepare 1 late"),
-        Begin("1 get b"),
-        Begin("2 get b"),
+        Crash(1),
+        Gets(3, 1, "a"),
+        Restart(1),
+        Gets(199_994, 1, "a"),
+        Net(Leg::Prepare, Some(1), Verdict::Late),
+        BeginGet(1, "b"),
+        BeginGet(2, "b"),
         Turns(1),
-        Line("stray 0"),
-        Line("crash proposer 2"),
+        Stray(0),
+        Crash(2),
         Closed(2),
-        Line("restart proposer 2"),
-        Line("stray 0"),
-        Begin("2 get b"),
+        Restart(2),
+        Stray(0),
+        BeginGet(2, "b"),
     ];
     let want =
         "ok\n1: down\nok\n1: done empty at 199994.1\nok\nok\nok\n1: prepare 1\nrecord full\nok\n2: crashed\nok\nok\n2: record full\n";

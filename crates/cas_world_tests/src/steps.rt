@@ -2,32 +2,34 @@
 
 use crate::player::Player;
 use cas_ballot::AcceptorId;
+use cas_change::{Act, Clause, Guard, Key, Program};
 use cas_disk::Disk;
 use cas_fate::{Leg, Verdict};
 use cas_lines::answer::{EventAnswer, print_answer, print_event, print_op};
-use cas_lines::command::{Change, Command, read_command};
 use cas_record::{Answer, OpAnswer};
 use cas_script::Network;
-use cas_slot::{Shelf, ShelfFault};
+use cas_slot::Shelf;
 use cas_vault::VaultError;
 use cas_world::{PlanKind, StrayFault};
 use std::alloc::{AllocError, Global};
-
-/// The greatest number of a proposer in a line.
-const LAST_PROPOSER: u8 = 16;
+use std::test::Fail;
 
 /// How many turns are made at most until no frame of a proposer waits.
 const MOST_TURNS: u32 = 1_000;
 
-/// What is done next.
+/// What is done next. Callers and proposers go by their numbers, and keys by their texts.
 #[derive(Clone, Copy, Debug)]
 pub enum Step {
-    /// What a line of a script asks for: a whole change, without another try, or an event.
-    Line(&'static str),
-    /// A whole change, so many times. What came of it last is written.
-    Times(u32, &'static str),
-    /// The change of the line begins.
-    Begin(&'static str),
+    /// A whole change, without another try, adds to a number.
+    Add(u8, &'static str, i64),
+    /// A whole change leaves its register as it is.
+    Get(u8, &'static str),
+    /// The same, so many times. What came of it last is written.
+    Gets(u32, u8, &'static str),
+    /// A change begins that adds to a number.
+    BeginAdd(u8, &'static str, i64),
+    /// A change begins that leaves its register as it is.
+    BeginGet(u8, &'static str),
     /// The proposer's first frame has its turn.
     Turn(u8),
     /// All frames of the proposer have their turns, until none waits.
@@ -38,10 +40,18 @@ pub enum Step {
     Count(u8),
     /// The proposer's call ends, whose round was closed by another.
     Closed(u8),
-    /// The operator's call of the line opens a change of membership, or takes it up again.
-    Order(&'static str),
+    /// The operator's call opens a change of membership by which the acceptor joins, or takes it up again.
+    Join(u8),
     /// The next proposer enters the era that the change leads to.
     Enter,
+    /// From now on this becomes of the frames of that leg to or from an acceptor, or all.
+    Net(Leg, Option<u8>, Verdict),
+    /// The late frame of that place strays in.
+    Stray(usize),
+    /// The proposer crashes.
+    Crash(u8),
+    /// The proposer is up again, or stays down.
+    Restart(u8),
 }
 
 /// A play in progress: its player, and what becomes of the frames.
@@ -76,11 +86,21 @@ impl<S: Shelf, V: Disk> Play<S, V> {
     }
 
     /// Takes the step, and writes a line of what came of it.
-    pub fn take(&mut self, step: Step) -> Result<(), AllocError> {
+    pub fn take(&mut self, step: Step) -> Result<(), Fail> {
         match step {
-            Step::Line(line) => self.run(1, line),
-            Step::Times(times, line) => self.run(times, line),
-            Step::Begin(line) => self.begin(line),
+            Step::Add(caller, key, number) => self.change(1, caller, key, Act::Add(number)),
+            Step::Get(caller, key) => self.change(1, caller, key, Act::Keep),
+            Step::Gets(times, caller, key) => self.change(times, caller, key, Act::Keep),
+            Step::BeginAdd(caller, key, number) => self.begin(caller, key, Act::Add(number)),
+            Step::BeginGet(caller, key) => self.begin(caller, key, Act::Keep),
+            Step::Join(id) => self.join(id),
+            other => Ok(self.call(other)?),
+        }
+    }
+
+    /// Takes a step that names no key and no acceptor.
+    fn call(&mut self, step: Step) -> Result<(), AllocError> {
+        match step {
             Step::Turn(proposer) => self.turns(proposer, 1),
             Step::Turns(proposer) => self.turns(proposer, MOST_TURNS),
             Step::Propose(proposer) => self.propose(proposer),
@@ -92,46 +112,53 @@ impl<S: Shelf, V: Disk> Play<S, V> {
                 let told = self.player.closed(proposer);
                 self.write_answer(proposer, told)
             }
-            Step::Order(line) => self.order(line),
             Step::Enter => self.enter(),
-        }
-    }
-
-    /// What the line asks for is done as a whole, a change so many times.
-    fn run(&mut self, times: u32, line: &str) -> Result<(), AllocError> {
-        let Some(command) = command_of(self.alloc, line) else {
-            return self.write("no line");
-        };
-        match command.change(self.alloc)? {
-            Some(asked) => {
-                let mut told = None;
-                for _time in 0..times {
-                    told = self.change(&asked)?;
-                }
-                self.write_answer(asked.caller, told)
+            other => {
+                let answer = self.event(other);
+                self.write_event(answer)
             }
-            None => match self.event(&command)? {
-                Some(answer) => {
-                    let text = print_event(self.alloc, &answer)?;
-                    self.written.extend_from_slice(&text)
-                }
-                None => self.write("not now"),
-            },
         }
     }
 
-    /// A whole change, without another try.
-    fn change(&mut self, asked: &Change<'_>) -> Result<Option<Answer>, AllocError> {
-        let begun = self.player.begin(asked.caller, asked.key, &asked.program);
-        match begun {
-            Some(Ok(())) => self.round(asked.caller),
+    /// A whole change, so many times, without another try.
+    fn change(&mut self, times: u32, caller: u8, key: &'static str, act: Act) -> Result<(), Fail> {
+        let key = Key::read(self.alloc, key.as_bytes())?;
+        let program = program_of(self.alloc, act)?;
+        let mut told = None;
+        for _time in 0..times {
+            told = self.round(caller, &key, &program)?;
+        }
+        Ok(self.write_answer(caller, told)?)
+    }
+
+    /// A change begins.
+    fn begin(&mut self, caller: u8, key: &'static str, act: Act) -> Result<(), Fail> {
+        let key = Key::read(self.alloc, key.as_bytes())?;
+        let program = program_of(self.alloc, act)?;
+        match self.player.begin(caller, &key, &program) {
+            Some(Ok(())) => self.write("ok")?,
+            Some(Err(told)) => self.write_answer(caller, Some(told))?,
+            None => self.write("not now")?,
+        }
+        Ok(())
+    }
+
+    /// One round of a change, from its beginning to its end.
+    fn round(
+        &mut self,
+        caller: u8,
+        key: &Key,
+        program: &Program,
+    ) -> Result<Option<Answer>, AllocError> {
+        match self.player.begin(caller, key, program) {
+            Some(Ok(())) => self.go_on(caller),
             Some(Err(told)) => Ok(Some(told)),
             None => Ok(None),
         }
     }
 
     /// A round that has begun goes on to its end.
-    fn round(&mut self, proposer: u8) -> Result<Option<Answer>, AllocError> {
+    fn go_on(&mut self, proposer: u8) -> Result<Option<Answer>, AllocError> {
         self.all_turns(proposer)?;
         if let Some(Err(told)) = self.player.propose(proposer) {
             return Ok(Some(told));
@@ -176,21 +203,6 @@ impl<S: Shelf, V: Disk> Play<S, V> {
         self.write(text.as_str())
     }
 
-    /// The change of the line begins.
-    fn begin(&mut self, line: &str) -> Result<(), AllocError> {
-        let Some(command) = command_of(self.alloc, line) else {
-            return self.write("no line");
-        };
-        let Some(asked) = command.change(self.alloc)? else {
-            return self.write("no change");
-        };
-        match self.player.begin(asked.caller, asked.key, &asked.program) {
-            Some(Ok(())) => self.write("ok"),
-            Some(Err(told)) => self.write_answer(asked.caller, Some(told)),
-            None => self.write("not now"),
-        }
-    }
-
     fn propose(&mut self, proposer: u8) -> Result<(), AllocError> {
         match self.player.propose(proposer) {
             Some(Ok(())) => self.write("ok"),
@@ -199,18 +211,14 @@ impl<S: Shelf, V: Disk> Play<S, V> {
         }
     }
 
-    fn order(&mut self, line: &str) -> Result<(), AllocError> {
-        let Some(command) = command_of(self.alloc, line) else {
-            return self.write("no line");
-        };
-        let Some((kind, id)) = plan_of(&command) else {
-            return self.write("no change of membership");
-        };
-        match self.player.order(kind, id) {
-            Some(Ok(())) => self.write("ok"),
-            Some(Err(told)) => self.write_told(&told),
-            None => self.write("not now"),
+    fn join(&mut self, id: u8) -> Result<(), Fail> {
+        let id = AcceptorId::new(id).ok_or("an acceptor")?;
+        match self.player.order(PlanKind::Join, id) {
+            Some(Ok(())) => self.write("ok")?,
+            Some(Err(told)) => self.write_told(&told)?,
+            None => self.write("not now")?,
         }
+        Ok(())
     }
 
     fn enter(&mut self) -> Result<(), AllocError> {
@@ -224,41 +232,37 @@ impl<S: Shelf, V: Disk> Play<S, V> {
         }
     }
 
-    /// An event happens. `None` comes where it may not happen now, and where the line is no event.
-    fn event(&mut self, command: &Command) -> Result<Option<EventAnswer>, AllocError> {
-        match command {
-            Command::Net { leg, who, verdict } => {
-                if *verdict == Verdict::Hold {
-                    return Ok(None);
-                }
-                self.network.set(*leg, *who, *verdict);
-                Ok(Some(EventAnswer::Ok))
-            }
-            Command::CrashAcceptor { id } => {
-                self.player.crash_acceptor(*id);
-                Ok(Some(EventAnswer::Ok))
-            }
-            Command::RestartAcceptor { id } => {
-                Ok(Some(shelf_answer(self.player.restart_acceptor(*id))))
-            }
-            Command::CrashProposer { proposer } => {
-                let crashed = self.player.crash_proposer(*proposer);
-                Ok(crashed.map(|()| EventAnswer::Ok))
-            }
-            Command::RestartProposer { proposer } => {
-                let restarted = self.player.restart_proposer(*proposer);
-                Ok(restarted.map(vault_answer))
-            }
-            Command::Stray { index } => Ok(Some(self.stray(*index))),
-            _ => Ok(None),
+    /// An event happens. `None` comes where it may not happen now, and where the step is no event.
+    fn event(&mut self, step: Step) -> Option<EventAnswer> {
+        match step {
+            Step::Net(leg, who, verdict) => self.set(leg, who, verdict),
+            Step::Stray(index) => Some(self.stray(index)),
+            Step::Crash(proposer) => match self.player.crash_proposer(proposer) {
+                Some(()) => Some(EventAnswer::Ok),
+                None => None,
+            },
+            Step::Restart(proposer) => match self.player.restart_proposer(proposer) {
+                Some(restarted) => Some(vault_answer(restarted)),
+                None => None,
+            },
+            _ => None,
         }
     }
 
-    fn stray(&mut self, index: u64) -> EventAnswer {
-        if index >= self.player.late() as u64 {
-            return EventAnswer::Absent;
+    fn set(&mut self, leg: Leg, who: Option<u8>, verdict: Verdict) -> Option<EventAnswer> {
+        if verdict == Verdict::Hold {
+            return None;
         }
-        match self.player.stray(index as usize) {
+        let who = match who {
+            Some(number) => Some(AcceptorId::new(number)?),
+            None => None,
+        };
+        self.network.set(Some(leg), who, verdict);
+        Some(EventAnswer::Ok)
+    }
+
+    fn stray(&mut self, index: usize) -> EventAnswer {
+        match self.player.stray(index) {
             Some(Ok(_)) => EventAnswer::Ok,
             Some(Err(StrayFault::RecordFull)) => EventAnswer::RecordFull,
             Some(Err(StrayFault::NoMemory)) => EventAnswer::NoMemory,
@@ -285,32 +289,28 @@ impl<S: Shelf, V: Disk> Play<S, V> {
         let text = print_op(self.alloc, told)?;
         self.written.extend_from_slice(&text)
     }
-}
 
-/// What the line asks for.
-fn command_of(alloc: Global, line: &str) -> Option<Command> {
-    match read_command(alloc, line.as_bytes(), LAST_PROPOSER) {
-        Ok(command) => command,
-        Err(_) => None,
+    fn write_event(&mut self, answer: Option<EventAnswer>) -> Result<(), AllocError> {
+        match answer {
+            Some(answer) => {
+                let text = print_event(self.alloc, &answer)?;
+                self.written.extend_from_slice(&text)
+            }
+            None => self.write("not now"),
+        }
     }
 }
 
-/// The change of membership that is asked for.
-fn plan_of(command: &Command) -> Option<(PlanKind, AcceptorId)> {
-    match command {
-        Command::Join { id } => Some((PlanKind::Join, *id)),
-        Command::Leave { id } => Some((PlanKind::Leave, *id)),
-        _ => None,
-    }
-}
-
-/// What is answered to a restart of an acceptor.
-fn shelf_answer(restarted: Result<(), ShelfFault>) -> EventAnswer {
-    match restarted {
-        Ok(()) => EventAnswer::Ok,
-        Err(ShelfFault::DiskFault) => EventAnswer::Fault,
-        Err(ShelfFault::Foreign { at }) => EventAnswer::Foreign { at },
-        Err(ShelfFault::Full | ShelfFault::NoMemory) => EventAnswer::NoMemory,
+/// A program that always acts so.
+fn program_of(alloc: Global, act: Act) -> Result<Program, Fail> {
+    let mut clauses = Vec::new(alloc);
+    clauses.push(Clause {
+        guard: Guard::Always,
+        act,
+    })?;
+    match Program::new(clauses) {
+        Ok(program) => Ok(program),
+        Err(_) => Err(Fail::from("a program")),
     }
 }
 
