@@ -134,122 +134,128 @@ fn play(
     }
 }
 
+/// Rounds of two proposers, one between the phases of the other.
+const INTERLEAVED: [Row; 4] = [
+    // Another proposer runs a whole round between the two phases of a round.
+    Row {
+        steps: &[
+            BeginAdd(1, "a", 1),
+            Turns(1),
+            Get(2, "a"),
+            Propose(1),
+            Turns(1),
+            Count(1),
+        ],
+        lines: "1 get a\n",
+        want: "ok\n1: prepare 1 prepare 2 prepare 3 reply 1 reply 2 reply 3\n2: done empty at 1.2\nok\n1: accept 1 accept 2 accept 3 reply 1 reply 2 reply 3\n1: unsettled met 2.2\n1: done empty at 3.1\n",
+    },
+    // It only prepares.
+    Row {
+        steps: &[
+            BeginAdd(1, "a", 1),
+            Turns(1),
+            BeginAdd(2, "a", 2),
+            Turns(2),
+            Propose(1),
+            Turns(1),
+            Count(1),
+            Propose(2),
+            Turns(2),
+            Count(2),
+        ],
+        lines: "",
+        want: "ok\n1: prepare 1 prepare 2 prepare 3 reply 1 reply 2 reply 3\nok\n2: prepare 1 prepare 2 prepare 3 reply 1 reply 2 reply 3\nok\n1: accept 1 accept 2 accept 3 reply 1 reply 2 reply 3\n1: unsettled met 1.2\nok\n2: accept 1 accept 2 accept 3 reply 1 reply 2 reply 3\n2: done v0 num 2 at 1.2\n",
+    },
+    // It reads what one acceptor accepted, so the change that is unsettled stands.
+    Row {
+        steps: &[
+            Get(2, "b"),
+            BeginAdd(1, "a", 1),
+            Turns(1),
+            Propose(1),
+            Turn(1),
+            Add(2, "a", 2),
+            Turns(1),
+            Count(1),
+        ],
+        lines: "1 get a\n",
+        want: "2: done empty at 1.2\nok\n1: prepare 1 prepare 2 prepare 3 reply 1 reply 2 reply 3\nok\n1: accept 1\n2: done v1 num 3 at 3.2\n1: accept 2 accept 3 reply 1 reply 2 reply 3\n1: unsettled met 4.2\n1: done v1 num 3 at 5.1\n",
+    },
+    // It prepares below the promise that rides, and does not read what that acceptor accepted, so the change does not stand.
+    Row {
+        steps: &[
+            BeginAdd(1, "a", 1),
+            Turns(1),
+            Propose(1),
+            Turn(1),
+            Add(2, "a", 2),
+            Turns(1),
+            Count(1),
+        ],
+        lines: "1 get a\n",
+        want: "ok\n1: prepare 1 prepare 2 prepare 3 reply 1 reply 2 reply 3\nok\n1: accept 1\n2: done v0 num 2 at 1.2\n1: accept 2 accept 3 reply 1 reply 2 reply 3\n1: unsettled met 2.2\n1: done v0 num 2 at 3.1\n",
+    },
+];
+
 #[test]
 fn lets_rounds_interleave(rt: HostRuntime) -> Result<(), Fail> {
-    for row in [
-        // Another proposer runs a whole round between the two phases of a round.
-        Row {
-            steps: &[
-                BeginAdd(1, "a", 1),
-                Turns(1),
-                Get(2, "a"),
-                Propose(1),
-                Turns(1),
-                Count(1),
-            ],
-            lines: "1 get a\n",
-            want: "ok\n1: prepare 1 prepare 2 prepare 3 reply 1 reply 2 reply 3\n2: done empty at 1.2\nok\n1: accept 1 accept 2 accept 3 reply 1 reply 2 reply 3\n1: unsettled met 2.2\n1: done empty at 3.1\n",
-        },
-        // It only prepares.
-        Row {
-            steps: &[
-                BeginAdd(1, "a", 1),
-                Turns(1),
-                BeginAdd(2, "a", 2),
-                Turns(2),
-                Propose(1),
-                Turns(1),
-                Count(1),
-                Propose(2),
-                Turns(2),
-                Count(2),
-            ],
-            lines: "",
-            want: "ok\n1: prepare 1 prepare 2 prepare 3 reply 1 reply 2 reply 3\nok\n2: prepare 1 prepare 2 prepare 3 reply 1 reply 2 reply 3\nok\n1: accept 1 accept 2 accept 3 reply 1 reply 2 reply 3\n1: unsettled met 1.2\nok\n2: accept 1 accept 2 accept 3 reply 1 reply 2 reply 3\n2: done v0 num 2 at 1.2\n",
-        },
-        // It reads what one acceptor accepted, so the change that is unsettled stands.
-        Row {
-            steps: &[
-                Get(2, "b"),
-                BeginAdd(1, "a", 1),
-                Turns(1),
-                Propose(1),
-                Turn(1),
-                Add(2, "a", 2),
-                Turns(1),
-                Count(1),
-            ],
-            lines: "1 get a\n",
-            want: "2: done empty at 1.2\nok\n1: prepare 1 prepare 2 prepare 3 reply 1 reply 2 reply 3\nok\n1: accept 1\n2: done v1 num 3 at 3.2\n1: accept 2 accept 3 reply 1 reply 2 reply 3\n1: unsettled met 4.2\n1: done v1 num 3 at 5.1\n",
-        },
-        // It prepares below the promise that rides, and does not read what that acceptor accepted, so the change does not stand.
-        Row {
-            steps: &[
-                BeginAdd(1, "a", 1),
-                Turns(1),
-                Propose(1),
-                Turn(1),
-                Add(2, "a", 2),
-                Turns(1),
-                Count(1),
-            ],
-            lines: "1 get a\n",
-            want: "ok\n1: prepare 1 prepare 2 prepare 3 reply 1 reply 2 reply 3\nok\n1: accept 1\n2: done v0 num 2 at 1.2\n1: accept 2 accept 3 reply 1 reply 2 reply 3\n1: unsettled met 2.2\n1: done v0 num 2 at 3.1\n",
-        },
-    ] {
+    for row in INTERLEAVED {
         let written = play(rt.alloc(), 3, None, row.steps, row.lines)?;
         assert_eq!(rt; written.as_str(), row.want);
     }
     Ok(())
 }
 
+/// Era steps while rounds are open.
+const MOVED_ON: [Row; 2] = [
+    // An era step between the prepare phase and the proposal. The proposer goes on in the new era, and the other in the one before.
+    Row {
+        steps: &[
+            BeginAdd(1, "a", 1),
+            Turns(1),
+            Join(4),
+            Enter,
+            Enter,
+            Propose(1),
+            Closed(1),
+            BeginAdd(1, "a", 2),
+            Turns(1),
+            Propose(1),
+            Turns(1),
+            Count(1),
+            BeginAdd(2, "b", 1),
+            Turns(2),
+            Propose(2),
+            Turns(2),
+            Count(2),
+            Crash(2),
+            Enter,
+        ],
+        lines: "restart proposer 2\nop join 4\n1 get a\n",
+        want: "ok\n1: prepare 1 prepare 2 prepare 3 reply 1 reply 2 reply 3\nok\nentered 0\nentered 1\nnot now\n1: moved 1\nok\n1: prepare 1 prepare 2 prepare 3 reply 1 reply 2 reply 3\nok\n1: accept 1 accept 2 accept 3 accept 4 reply 1 reply 2 reply 3 reply 4\n1: done v0 num 2 at 2.1\nok\n2: prepare 1 prepare 2 prepare 3 reply 1 reply 2 reply 3\nok\n2: accept 1 accept 2 accept 3 reply 1 reply 2 reply 3\n2: done v0 num 1 at 1.2\nok\nop: proposer down 2\nok\nop: joined 4 era 2 rescanned 2\n1: done v0 num 2 at 4.1\n",
+    },
+    // The same between the proposal and the count. The late accepts of the era before meet another ballot.
+    Row {
+        steps: &[
+            BeginAdd(1, "a", 1),
+            Turns(1),
+            Propose(1),
+            Join(4),
+            Enter,
+            Enter,
+            Count(1),
+            Closed(1),
+            Crash(2),
+            Enter,
+        ],
+        lines: "restart proposer 2\nop join 4\nstray 0\nstray 0\nstray 0\n1 get a\nshow 1 a\nshow 4 a\n",
+        want: "ok\n1: prepare 1 prepare 2 prepare 3 reply 1 reply 2 reply 3\nok\nok\nentered 0\nentered 1\nnot now\n1: unsettled moved 1\nok\nop: proposer down 2\nok\nop: joined 4 era 2 rescanned 1\nok\nok\nok\n1: done empty at 3.1\n1 a: promise 4.1 accepted 3.1 era 2 empty\n4 a: promise 4.1 accepted 3.1 era 2 empty\n",
+    },
+];
+
 #[test]
 fn moves_open_rounds_on(rt: HostRuntime) -> Result<(), Fail> {
-    for row in [
-        // An era step between the prepare phase and the proposal. The proposer goes on in the new era, and the other in the one before.
-        Row {
-            steps: &[
-                BeginAdd(1, "a", 1),
-                Turns(1),
-                Join(4),
-                Enter,
-                Enter,
-                Propose(1),
-                Closed(1),
-                BeginAdd(1, "a", 2),
-                Turns(1),
-                Propose(1),
-                Turns(1),
-                Count(1),
-                BeginAdd(2, "b", 1),
-                Turns(2),
-                Propose(2),
-                Turns(2),
-                Count(2),
-                Crash(2),
-                Enter,
-            ],
-            lines: "restart proposer 2\nop join 4\n1 get a\n",
-            want: "ok\n1: prepare 1 prepare 2 prepare 3 reply 1 reply 2 reply 3\nok\nentered 0\nentered 1\nnot now\n1: moved 1\nok\n1: prepare 1 prepare 2 prepare 3 reply 1 reply 2 reply 3\nok\n1: accept 1 accept 2 accept 3 accept 4 reply 1 reply 2 reply 3 reply 4\n1: done v0 num 2 at 2.1\nok\n2: prepare 1 prepare 2 prepare 3 reply 1 reply 2 reply 3\nok\n2: accept 1 accept 2 accept 3 reply 1 reply 2 reply 3\n2: done v0 num 1 at 1.2\nok\nop: proposer down 2\nok\nop: joined 4 era 2 rescanned 2\n1: done v0 num 2 at 4.1\n",
-        },
-        // The same between the proposal and the count. The late accepts of the era before meet another ballot.
-        Row {
-            steps: &[
-                BeginAdd(1, "a", 1),
-                Turns(1),
-                Propose(1),
-                Join(4),
-                Enter,
-                Enter,
-                Count(1),
-                Closed(1),
-                Crash(2),
-                Enter,
-            ],
-            lines: "restart proposer 2\nop join 4\nstray 0\nstray 0\nstray 0\n1 get a\nshow 1 a\nshow 4 a\n",
-            want: "ok\n1: prepare 1 prepare 2 prepare 3 reply 1 reply 2 reply 3\nok\nok\nentered 0\nentered 1\nnot now\n1: unsettled moved 1\nok\nop: proposer down 2\nok\nop: joined 4 era 2 rescanned 1\nok\nok\nok\n1: done empty at 3.1\n1 a: promise 4.1 accepted 3.1 era 2 empty\n4 a: promise 4.1 accepted 3.1 era 2 empty\n",
-        },
-    ] {
+    for row in MOVED_ON {
         let written = play(rt.alloc(), 3, None, row.steps, row.lines)?;
         assert_eq!(rt; written.as_str(), row.want);
     }
@@ -349,88 +355,91 @@ fn rides_on_the_promise_of_the_round_before(rt: HostRuntime) -> Result<(), Fail>
     Ok(())
 }
 
+/// Frames that come twice or late, and those of rounds that are over.
+const LATE: [Row; 5] = [
+    // A promise that is told twice counts once.
+    Row {
+        steps: &[
+            Net(Leg::Prepare, Some(1), Verdict::Twice),
+            Net(Leg::Reply, Some(2), Verdict::Lose),
+            Net(Leg::Reply, Some(3), Verdict::Lose),
+            BeginAdd(1, "a", 5),
+            Turns(1),
+            Propose(1),
+        ],
+        lines: "",
+        want: "ok\nok\nok\nok\n1: prepare 1 prepare 1 prepare 2 prepare 3 reply 1 reply 1 reply 2 reply 3\n1: short 1 2\n",
+    },
+    // Late replies of the open phase count.
+    Row {
+        steps: &[
+            Net(Leg::Reply, None, Verdict::Late),
+            BeginAdd(1, "a", 5),
+            Turns(1),
+            Stray(2),
+            Stray(0),
+            Net(Leg::Reply, None, Verdict::Deliver),
+            Propose(1),
+            Turns(1),
+            Stray(0),
+            Count(1),
+        ],
+        lines: "",
+        want: "ok\nok\n1: prepare 1 prepare 2 prepare 3 reply 1 reply 2 reply 3\nok\nok\nok\nok\n1: accept 1 accept 2 accept 3 reply 1 reply 2 reply 3\nok\n1: done v0 num 5 at 1.1\n",
+    },
+    // Late replies of a closed round do not count for another.
+    Row {
+        steps: &[
+            Net(Leg::Reply, None, Verdict::Late),
+            BeginAdd(1, "a", 5),
+            Turns(1),
+            Propose(1),
+            Net(Leg::Prepare, None, Verdict::Lose),
+            BeginAdd(1, "a", 5),
+            Stray(0),
+            Stray(0),
+            Stray(0),
+            Stray(0),
+            Turns(1),
+            Propose(1),
+        ],
+        lines: "",
+        want: "ok\nok\n1: prepare 1 prepare 2 prepare 3 reply 1 reply 2 reply 3\n1: short 0 2\nok\nok\nok\nok\nok\nnone\n1: prepare 1 prepare 2 prepare 3\n1: short 0 2\n",
+    },
+    // A late request of a round that was done is answered, and the reply is dropped.
+    Row {
+        steps: &[
+            Net(Leg::Accept, Some(3), Verdict::Late),
+            BeginAdd(1, "a", 5),
+            Turns(1),
+            Propose(1),
+            Turns(1),
+            Count(1),
+            Net(Leg::Accept, Some(3), Verdict::Deliver),
+        ],
+        lines: "show 3 a\nstray 0\nstray 0\nstray 0\nshow 3 a\n",
+        want: "ok\nok\n1: prepare 1 prepare 2 prepare 3 reply 1 reply 2 reply 3\nok\n1: accept 1 accept 2 accept 3 reply 1 reply 2\n1: done v0 num 5 at 1.1\nok\n3 a: promise 1.1\nok\nok\nnone\n3 a: promise 2.1 accepted 1.1 era 0 v0 num 5\n",
+    },
+    // Late requests of a round that another overtook are refused.
+    Row {
+        steps: &[
+            Net(Leg::Accept, None, Verdict::Late),
+            BeginAdd(1, "a", 1),
+            Turns(1),
+            Propose(1),
+            Turns(1),
+            Count(1),
+            Net(Leg::Accept, None, Verdict::Deliver),
+            Add(2, "a", 2),
+        ],
+        lines: "stray 0\nstray 0\nstray 0\nstray 0\nstray 0\nstray 0\nstray 0\nshow 1 a\n1 get a\n",
+        want: "ok\nok\n1: prepare 1 prepare 2 prepare 3 reply 1 reply 2 reply 3\nok\n1: accept 1 accept 2 accept 3\n1: unsettled short 0 2\nok\n2: done v0 num 2 at 1.2\nok\nok\nok\nok\nok\nok\nnone\n1 a: promise 2.2 accepted 1.2 era 0 v0 num 2\n1: done v0 num 2 at 3.1\n",
+    },
+];
+
 #[test]
 fn bears_with_repeated_and_late_frames(rt: HostRuntime) -> Result<(), Fail> {
-    for row in [
-        // A promise that is told twice counts once.
-        Row {
-            steps: &[
-                Net(Leg::Prepare, Some(1), Verdict::Twice),
-                Net(Leg::Reply, Some(2), Verdict::Lose),
-                Net(Leg::Reply, Some(3), Verdict::Lose),
-                BeginAdd(1, "a", 5),
-                Turns(1),
-                Propose(1),
-            ],
-            lines: "",
-            want: "ok\nok\nok\nok\n1: prepare 1 prepare 1 prepare 2 prepare 3 reply 1 reply 1 reply 2 reply 3\n1: short 1 2\n",
-        },
-        // Late replies of the open phase count.
-        Row {
-            steps: &[
-                Net(Leg::Reply, None, Verdict::Late),
-                BeginAdd(1, "a", 5),
-                Turns(1),
-                Stray(2),
-                Stray(0),
-                Net(Leg::Reply, None, Verdict::Deliver),
-                Propose(1),
-                Turns(1),
-                Stray(0),
-                Count(1),
-            ],
-            lines: "",
-            want: "ok\nok\n1: prepare 1 prepare 2 prepare 3 reply 1 reply 2 reply 3\nok\nok\nok\nok\n1: accept 1 accept 2 accept 3 reply 1 reply 2 reply 3\nok\n1: done v0 num 5 at 1.1\n",
-        },
-        // Late replies of a closed round do not count for another.
-        Row {
-            steps: &[
-                Net(Leg::Reply, None, Verdict::Late),
-                BeginAdd(1, "a", 5),
-                Turns(1),
-                Propose(1),
-                Net(Leg::Prepare, None, Verdict::Lose),
-                BeginAdd(1, "a", 5),
-                Stray(0),
-                Stray(0),
-                Stray(0),
-                Stray(0),
-                Turns(1),
-                Propose(1),
-            ],
-            lines: "",
-            want: "ok\nok\n1: prepare 1 prepare 2 prepare 3 reply 1 reply 2 reply 3\n1: short 0 2\nok\nok\nok\nok\nok\nnone\n1: prepare 1 prepare 2 prepare 3\n1: short 0 2\n",
-        },
-        // A late request of a round that was done is answered, and the reply is dropped.
-        Row {
-            steps: &[
-                Net(Leg::Accept, Some(3), Verdict::Late),
-                BeginAdd(1, "a", 5),
-                Turns(1),
-                Propose(1),
-                Turns(1),
-                Count(1),
-                Net(Leg::Accept, Some(3), Verdict::Deliver),
-            ],
-            lines: "show 3 a\nstray 0\nstray 0\nstray 0\nshow 3 a\n",
-            want: "ok\nok\n1: prepare 1 prepare 2 prepare 3 reply 1 reply 2 reply 3\nok\n1: accept 1 accept 2 accept 3 reply 1 reply 2\n1: done v0 num 5 at 1.1\nok\n3 a: promise 1.1\nok\nok\nnone\n3 a: promise 2.1 accepted 1.1 era 0 v0 num 5\n",
-        },
-        // Late requests of a round that another overtook are refused.
-        Row {
-            steps: &[
-                Net(Leg::Accept, None, Verdict::Late),
-                BeginAdd(1, "a", 1),
-                Turns(1),
-                Propose(1),
-                Turns(1),
-                Count(1),
-                Net(Leg::Accept, None, Verdict::Deliver),
-                Add(2, "a", 2),
-            ],
-            lines: "stray 0\nstray 0\nstray 0\nstray 0\nstray 0\nstray 0\nstray 0\nshow 1 a\n1 get a\n",
-            want: "ok\nok\n1: prepare 1 prepare 2 prepare 3 reply 1 reply 2 reply 3\nok\n1: accept 1 accept 2 accept 3\n1: unsettled short 0 2\nok\n2: done v0 num 2 at 1.2\nok\nok\nok\nok\nok\nok\nnone\n1 a: promise 2.2 accepted 1.2 era 0 v0 num 2\n1: done v0 num 2 at 3.1\n",
-        },
-    ] {
+    for row in LATE {
         let written = play(rt.alloc(), 3, None, row.steps, row.lines)?;
         assert_eq!(rt; written.as_str(), row.want);
     }
