@@ -13,7 +13,7 @@ use Rattle.cas_slot.specs.declared.message.Reply.{Reply}
 use Rattle.cas_slot.specs.declared.message.Tell.{Tell}
 use Rattle.cas_round.specs.declared.verdict.RoundVerdict.{RoundVerdict}
 use Rattle.cas_round.specs.Replies.{is_prepare, is_accept, heard, mets_of, met_by, promisers_of, accepters_of}
-use Rattle.cas_round.specs.Round.{GreatestOf, IsPrepareAfter, IsAcceptAfter, IsPrepareVerdict, IsAcceptVerdict, IsRead, promised_in, is_promised, accepted_in, is_accepted}
+use Rattle.cas_round.specs.Round.{GreatestOf, IsPrepareAfter, IsAcceptAfter, IsPrepareVerdict, IsAcceptVerdict, IsRead, promised_in, read_in, is_promised, accepted_in, is_accepted}
 use Rattle.cas_round.specs.Tally.{greatest_met}
 use Rattle.cas_proposer.specs.declared.round.Round.{Round}
 use Rattle.cas_proposer.specs.declared.round.OpenPhase.{OpenPhase}
@@ -106,6 +106,11 @@ IsReadOf round read = (replies : List Reply) → IsPreparing replies round → I
 abbrev pub confirmed_in : OpenPhase → List ℕ
 confirmed_in (Prepare phase) = promised_in phase
 confirmed_in (Accept phase) = accepted_in phase
+
+-- what was read in the prepare phase so far
+abbrev pub latest_in : OpenPhase → Option Accepted
+latest_in (Prepare phase) = read_in phase
+latest_in (Accept phase) = None
 
 abbrev pub has_quorum : OpenPhase → Bool
 has_quorum (Prepare phase) = is_promised phase

@@ -1,6 +1,6 @@
 //! An open round.
-ghost use Rattle.std.specs.Prelude.{◌≡◌, ◌↔◌, ◌&&◌, not, true, [], None};
-ghost use Rattle.cas_proposer.specs.Round.{is_of, is_preparing, IsAbout, IsPreparing, IsAccepting, Hears, is_heard_at, met_after, TurnsToAccept, IsReadOf, IsVerdictOf, IsConfirmersOf, confirmed_in, has_quorum, rode, is_own, may_keep};
+ghost use Rattle.std.specs.Prelude.{◌≡◌, ◌↔◌, ◌&&◌, not, true, [], None, option_copied};
+ghost use Rattle.cas_proposer.specs.Round.{is_of, is_preparing, IsAbout, IsPreparing, IsAccepting, Hears, is_heard_at, met_after, TurnsToAccept, IsReadOf, IsVerdictOf, IsConfirmersOf, confirmed_in, latest_in, has_quorum, rode, is_own, may_keep};
 
 use cas_ballot::{Ballot, Members};
 use cas_cache::Ready;
@@ -102,6 +102,17 @@ impl Round {
         match mem::replace(&mut self.phase, OpenPhase::Accept(accept)) {
             OpenPhase::Prepare(prepare) => prepare.into_read(),
             OpenPhase::Accept(_) => unreachable!(),
+        }
+    }
+
+    /// What would be read, should the prepare phase end now. `None` comes in the accept phase, too.
+    pub fn latest(&self) -> Option<&Accepted>
+        ensures read { IsReadOf self.now (option_copied result) }
+        ensures shown { option_copied result ≡ latest_in self.now.phase }
+    {
+        match &self.phase {
+            OpenPhase::Prepare(phase) => phase.latest(),
+            OpenPhase::Accept(_) => None,
         }
     }
 

@@ -97,6 +97,10 @@ pub record IsAcceptAfter (era : Era) (ballot : Ballot) (replies : List Reply) (r
 abbrev pub promised_in : PrepareRound → List ℕ
 promised_in round = round.tally.confirmed
 
+-- what was read so far
+abbrev pub read_in : PrepareRound → Option Accepted
+read_in round = round.read
+
 abbrev pub is_promised : PrepareRound → Bool
 is_promised round = holds_prep round.era (promised_in round)
 

@@ -1,11 +1,11 @@
 //! The prepare phase and the accept phase of a round (Rystsov 2018, section 2.2).
 
-ghost use Rattle.std.specs.Prelude.{◌≡◌, ◌↔◌, true, false, List, [], ◌∷◌};
+ghost use Rattle.std.specs.Prelude.{◌≡◌, ◌↔◌, true, false, List, [], ◌∷◌, option_copied};
 ghost use Rattle.cas_quorum.specs.declared.era.Era.{Era as AnEra};
 ghost use Rattle.cas_ballot.specs.declared.ballot.Ballot.{Ballot as ABallot};
 ghost use Rattle.cas_slot.specs.declared.message.Reply.{Reply as AReply};
 ghost use Rattle.cas_round.specs.Replies.{is_prepare, is_accept, is_heard, promisers_of, accepters_of, is_promise, is_acceptance, accepted_by};
-ghost use Rattle.cas_round.specs.Round.{IsPrepareAfter, IsAcceptAfter, IsPrepareVerdict, IsAcceptVerdict, IsRead, latest_of, promised_in, is_promised, accepted_in, is_accepted};
+ghost use Rattle.cas_round.specs.Round.{IsPrepareAfter, IsAcceptAfter, IsPrepareVerdict, IsAcceptVerdict, IsRead, latest_of, promised_in, read_in, is_promised, accepted_in, is_accepted};
 
 use crate::tally::Tally;
 use crate::verdict::RoundVerdict;
@@ -75,6 +75,15 @@ impl PrepareRound {
         ensures shown { result ≡ promised_in self.now }
     {
         self.tally.confirmed
+    }
+
+    /// What would be read, should no other reply arrive, as [`PrepareRound::into_read`] tells it.
+    pub fn latest(&self) -> Option<&Accepted>
+        ensures read { (era : AnEra) (ballot : ABallot) (replies : List AReply) → IsPrepareAfter era ballot replies self.now
+            → IsRead ballot replies (option_copied result) }
+        ensures shown { option_copied result ≡ read_in self.now }
+    {
+        self.read.as_ref()
     }
 
     /// What was read: of all that the confirmations told as accepted, that of the greatest ballot. `None` where none of
