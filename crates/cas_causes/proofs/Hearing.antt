@@ -262,7 +262,8 @@ begin_collect_passes {S} {V} m old new id key other by = in_case by.begins
     in_case (collect.is_busy plan none up planned is) = same_desks old new id (ap (λ (w : View S V). w.desks) is)
     in_case (collect.is_full none up unplanned full is) = same_desks old new id (ap (λ (w : View S V). w.desks) is)
     in_case (collect.no_memory middle none up unplanned refuses is) = both_nothing old middle new id (no_begin_passes m old middle id 0 key other refuses) (passes_same middle new id (ap (λ (w : View S V). w.desks) is))
-    in_case (collect.begins middle unplanned begins is) = both_nothing old middle new id (begin_passes m old middle id 0 key keep_always other begins) (passes_same middle new id (ap (λ (w : View S V). w.desks) is))
+    in_case (collect.begins middle none unplanned begins is) = both_nothing old middle new id (begin_passes m old middle id 0 key keep_always other begins) (passes_same middle new id (ap (λ (w : View S V). w.desks) is))
+    in_case (collect.goes_on middle call of open_ begins is) = both_nothing old middle new id (begin_passes m old middle id 0 key keep_always other begins) (passes_same middle new id (ap (λ (w : View S V). w.desks) is))
 
 gather_round_passes : {S V : Type 0} (old new : View S V) (id : ℕ) → StepGatherRound old new → Something old new id
 gather_round_passes {S} {V} old new id by = in_case by.gathers

@@ -339,7 +339,8 @@ begin_collect_stays {S} {V} m old new id key other by = in_case by.begins
     in_case (collect.is_busy plan none up planned is) = stays_same old new id (ap (λ (w : View S V). w.flow) is) (ap (λ (w : View S V). w.callers) is)
     in_case (collect.is_full none up unplanned full is) = stays_same old new id (ap (λ (w : View S V). w.flow) is) (ap (λ (w : View S V). w.callers) is)
     in_case (collect.no_memory middle none up unplanned refuses is) = stays_both old middle new id (no_begin_stays m old middle id 0 key refuses) (stays_same middle new id (ap (λ (w : View S V). w.flow) is) (ap (λ (w : View S V). w.callers) is))
-    in_case (collect.begins middle unplanned begins is) = stays_both old middle new id (begin_stays m old middle id 0 key keep_always other begins) (stays_same middle new id (ap (λ (w : View S V). w.flow) is) (ap (λ (w : View S V). w.callers) is))
+    in_case (collect.begins middle none unplanned begins is) = stays_both old middle new id (begin_stays m old middle id 0 key keep_always other begins) (stays_same middle new id (ap (λ (w : View S V). w.flow) is) (ap (λ (w : View S V). w.callers) is))
+    in_case (collect.goes_on middle call of open_ begins is) = stays_both old middle new id (begin_stays m old middle id 0 key keep_always other begins) (stays_same middle new id (ap (λ (w : View S V). w.flow) is) (ap (λ (w : View S V). w.callers) is))
 
 gather_round_stays : {S V : Type 0} (old new : View S V) (id : ℕ) → StepGatherRound old new → Stays old new id
 gather_round_stays {S} {V} old new id by = in_case by.gathers

@@ -149,6 +149,10 @@ entered_by_all {S} {V} m view is none = by_number (era_at view 0).number refl
     by_number (suc n) same = inr (λ proposer known. subst (Stands (EraEntered proposer (era_at view 0).number)) (sym is.logged.agrees.marks)
         (entry_stands view.marks proposer (era_at view 0).number (entries.all (omega (arith, same)) proposer (omega (arith, known, is.logged.agrees.greatest)))))
 
+-- none is renewed of one whose round is due
+none_of : {S V : Type 0} (m : Meaning S V) (old : View S V) (is : IsFollowed m old) (at : CollectingAt old.council) → at.collection.course.step ≡ Round → at.collection.ages ≡ []
+none_of m old is at due = (known_of m old is at.collection at.is_collection).none_yet (ap is_round due)
+
 begins_collection : {S V : Type 0} (m : Meaning S V) (old : View S V) (key : List ℕ) (new : View S V) → m.shelves.tells → m.disks.tells → IsRemembered m old → Step m old (step.BeginCollect key) new → IsRemembered m new
 begins_collection {S} {V} m old key new shelves disks is by = by_case by.begins
   where
@@ -157,7 +161,7 @@ begins_collection {S} {V} m old key new shelves disks is by = by_case by.begins
     by_case (collect.is_busy plan none up planned view) = subst (IsRemembered m) (sym view) (told_remembered m old _ is)
     by_case (collect.is_full none up unplanned full view) = subst (IsRemembered m) (sym view) (told_remembered m old _ is)
     by_case (collect.no_memory middle none up unplanned refuses view) = subst (IsRemembered m) (sym view) (told_remembered m middle _ (plainly m old (step.RefuseBegin 0 key) middle shelves disks tt is refuses))
-    by_case (collect.begins middle unplanned begun view) =
+    by_case (collect.begins middle none unplanned begun view) =
         let then_ = plainly m old (step.Begin 0 key keep_always) middle shelves disks tt is begun in
         let same : frame_of middle ≡ frame_of old = begin_frame m old middle 0 key keep_always begun in
         let still : middle.council.plan ≡ None = ap (λ (f : Frame). f.council.plan) same ∙ unplanned in
@@ -168,10 +172,13 @@ begins_collection {S} {V} m old key new shelves disks is by = by_case by.begins
               (fresh_known then_.followed.cluster then_.followed.logged.global.log _ refl refl tt entered (λ tomb by_ request least same. absurd (cc same)));
           renewed = renewed_none m middle by.may.order None _ refl;
         })
-
--- none is renewed of one whose round is due
-none_of : {S V : Type 0} (m : Meaning S V) (old : View S V) (is : IsFollowed m old) (at : CollectingAt old.council) → at.collection.course.step ≡ Round → at.collection.ages ≡ []
-none_of m old is at due = (known_of m old is at.collection at.is_collection).none_yet (ap is_round due)
+    by_case (collect.goes_on middle call of open_ begun view) =
+        let then_ = plainly m old (step.Begin 0 key keep_always) middle shelves disks tt is begun in
+        let same_collection : middle.council.collection ≡ Some of.at.collection = ap (λ (f : Frame). f.council.collection) (begin_frame m old middle 0 key keep_always begun) ∙ of.at.is_collection in
+        subst (IsRemembered m) (sym view) (record {
+          followed = recollected m middle by.may.order None of.at.collection then_.followed (known_of m middle then_.followed of.at.collection same_collection);
+          renewed = renewed_none m middle by.may.order None of.at.collection (none_of m old is.followed of.at of.is_due);
+        })
 
 reads_held : {S V : Type 0} (m : Meaning S V) (old : View S V) (new : View S V) → m.disks.tells → IsRemembered m old → StepReadHeld m old new → IsRemembered m new
 reads_held {S} {V} m old new disks is by = subst (IsRemembered m) (sym by.view) (record {
@@ -294,15 +301,11 @@ untold cluster log all number call took tomb request least lawful orderly knows 
     call_true.open_yet (subst (λ (n : ℕ). IsEnded 0 n (marks_of log)) done.same_call (subst (λ (n : ℕ). IsEnded n p.call (marks_of log)) done.same_caller (subst (λ (q : Proposal). IsEnded q.caller q.call (marks_of log)) one.same ended.ended)))
 
 counts_collection : {S V : Type 0} (m : Meaning S V) (old : View S V) (new : View S V) → m.shelves.tells → m.disks.tells → IsRemembered m old → Step m old step.CountCollect new → IsRemembered m new
-counts_collection {S} {V} m old new shelves disks is by = subst (IsRemembered m) (sym by.view) (record {
-  followed = recollected m by.middle by.is.at.order None now then_.followed (fresh_known then_.followed.cluster log now by.is.is_due none
-      (tombstone_true then_.followed.cluster log all by.of_call.caller.number by.of_call.call by.is.at.collection.course.key by.is.at.collection.course.era.number by.took by.acknowledgment
-      history.lawful history.orderly history.knows call_true by.is_done acked (by.same_key ∙ sym by.is.same_key) by.same_era)
-      entered (λ tomb by_ request least same stands tells. untold then_.followed.cluster log all by.of_call.caller.number by.of_call.call by.took tomb request least history.lawful history.orderly history.knows call_true
-      (by.is_done ∙ ap (λ (b : Ballot). Some (answer.Done Empty by.took b)) (same_tomb same)) stands tells));
-  renewed = renewed_none m by.middle by.is.at.order None now none;
-})
+counts_collection {S} {V} m old new shelves disks is by = in_case by.counted
   where
+    at : CollectingAt old.council
+    at = by.is.at
+
     then_ : IsRemembered m by.middle
     then_ = plainly m old (step.Count 0) by.middle shelves disks tt is by.counts
 
@@ -315,26 +318,36 @@ counts_collection {S} {V} m old new shelves disks is by = subst (IsRemembered m)
     history : HasHistory then_.followed.cluster then_.followed.logged.global
     history = then_.followed.logged.history
 
-    now : CollectionView
-    now = record by.is.at.collection { tombstone = Acknowledged by.acknowledgment.ballot by.acknowledgment.by; reserved = 1 }
-
-    none : by.is.at.collection.ages ≡ []
-    none = none_of m old is.followed by.is.at by.is.is_due
+    none : at.collection.ages ≡ []
+    none = none_of m old is.followed at by.is.is_due
 
     call_true : IsCallTrue log all 0 by.of_call.caller.number by.of_call.call
     call_true = (then_.followed.logged.agrees.callers 0 by.of_call.caller by.of_call.at_caller).call by.of_call.call by.of_call.is_open
 
-    same_collection : by.middle.council.collection ≡ Some by.is.at.collection
-    same_collection = counted_collection m old by.middle {id = 0} by.counts ∙ by.is.at.is_collection
+    same_collection : by.middle.council.collection ≡ Some at.collection
+    same_collection = counted_collection m old by.middle {id = 0} by.counts ∙ at.is_collection
 
-    entered : (by.is.at.collection.course.era.number ≡ 0) ⊎ AllEntered then_.followed.cluster by.is.at.collection.course.era.number (marks_of log)
-    entered = (known_of m by.middle then_.followed by.is.at.collection same_collection).entered
+    entered : (at.collection.course.era.number ≡ 0) ⊎ AllEntered then_.followed.cluster at.collection.course.era.number (marks_of log)
+    entered = (known_of m by.middle then_.followed at.collection same_collection).entered
 
-    acked : Stands (Acked by.acknowledgment) (marks_of log)
-    acked = subst (Stands (Acked by.acknowledgment)) (sym (then_.followed.logged.agrees.marks ∙ ap (λ (l : List Mark). reverse l) by.acked ∙ reverse-append old.marks (Acked by.acknowledgment ∷ []))) (record { older = reverse old.marks; at = here })
+    so : (now : CollectionView) → by.now ≡ now → now.ages ≡ [] → IsCollectionTrue then_.followed.cluster log now → IsRemembered m new
+    so now same none_renewed known = subst (IsRemembered m) (sym (by.view ∙ ap (λ (c : CollectionView). collecting by.middle at.order None c) same)) (record {
+      followed = recollected m by.middle at.order None now then_.followed known;
+      renewed = renewed_none m by.middle at.order None now none_renewed;
+    })
 
-    same_tomb : {tomb : Ballot} {members : List ℕ} → Acknowledged by.acknowledgment.ballot by.acknowledgment.by ≡ Acknowledged tomb members → by.acknowledgment.ballot ≡ tomb
-    same_tomb same = cc same
+    in_case : collect.CountedAs old by.middle by.of_call.call at.collection by.now → IsRemembered m new
+    in_case (collect.acknowledges took acknowledgment done marks same_key same_era same) =
+        let acked : Stands (Acked acknowledgment) (marks_of log) =
+        subst (Stands (Acked acknowledgment)) (sym (then_.followed.logged.agrees.marks ∙ ap (λ (l : List Mark). reverse l) marks ∙ reverse-append old.marks (Acked acknowledgment ∷ []))) (record { older = reverse old.marks; at = here }) in
+        let same_tomb : (tomb : Ballot) (members : List ℕ) → Acknowledged acknowledgment.ballot acknowledgment.by ≡ Acknowledged tomb members → acknowledgment.ballot ≡ tomb = λ tomb members is_same. cc is_same in
+        so _ same none (fresh_known then_.followed.cluster log (record at.collection { tombstone = Acknowledged acknowledgment.ballot acknowledgment.by; reserved = 1 }) by.is.is_due none
+        (tombstone_true then_.followed.cluster log all by.of_call.caller.number by.of_call.call at.collection.course.key at.collection.course.era.number took acknowledgment
+        history.lawful history.orderly history.knows call_true done acked (same_key ∙ sym by.is.same_key) same_era)
+        entered (λ tomb by_ request least is_same stands tells. untold then_.followed.cluster log all by.of_call.caller.number by.of_call.call took tomb request least history.lawful history.orderly history.knows call_true
+        (done ∙ ap (λ (b : Ballot). Some (answer.Done Empty took b)) (same_tomb tomb by_ is_same)) stands tells))
+    in_case (collect.finds_held version body took ballot done same) =
+        so _ same none (fresh_known then_.followed.cluster log (record at.collection { tombstone = FoundHeld version }) by.is.is_due none tt entered (λ tomb by_ request least is_same stands tells. absurd (cc is_same)))
 
 -- ---- its call ends
 -- with another stage of its call all that is known stays

@@ -194,7 +194,8 @@ collect_course {S} {V} m old new key by = in_case by.begins
     in_case (collect.is_busy plan none up busy view) = ap course_of view
     in_case (collect.is_full none up unplanned full view) = ap course_of view
     in_case (collect.no_memory middle none up unplanned refuses view) = ap course_of view ∙ no_begin_course m old middle 0 key refuses
-    in_case (collect.begins middle unplanned begins view) = ap course_of view ∙ begin_course m old middle 0 key keep_always begins
+    in_case (collect.begins middle none unplanned begins view) = ap course_of view ∙ begin_course m old middle 0 key keep_always begins
+    in_case (collect.goes_on middle call of open_ begins view) = ap course_of view ∙ begin_course m old middle 0 key keep_always begins
 
 round_course : {S V : Type 0} (old new : View S V) → StepGatherRound old new → course_of new ≡ course_of old
 round_course {S} {V} old new by = in_case by.gathers

@@ -54,14 +54,19 @@ as_before council collection is = omega (arith, ap reserved_for_collection is)
 pub begin_collect_safe : {S V : Type 0} (m : Meaning S V) (old new : View S V) (key : List ℕ) → IsSound old → StepBeginCollect m (λ before after. StepBegin m before 0 key keep_always after) old key new → IsSound new
 begin_collect_safe {S} {V} m old new key was by = in_case by.begins
   where
+    still : (middle : View S V) → StepBegin m old 0 key keep_always middle → reserved_for_order middle.council.order ≡ 1
+    still middle begins = ap (λ (f : Frame). reserved_for_order f.council.order) (begin_frame m old middle 0 key keep_always begins) ∙ ap reserved_for_order by.may.is_open
+
     in_case : collect.BeginsCollection m (λ before after. StepBegin m before 0 key keep_always after) old key by.may.order by.desk by.caller new → IsSound new
     in_case (collect.is_down none down view) = subst IsSound (sym view) (told_view_safe old _ was)
     in_case (collect.is_busy plan none up busy view) = subst IsSound (sym view) (told_view_safe old _ was)
     in_case (collect.is_full none up unplanned full view) = subst IsSound (sym view) (told_view_safe old _ was)
     in_case (collect.no_memory middle none up unplanned refuses view) = subst IsSound (sym view) (told_view_safe middle _ (refuses_call_safe m old 0 key middle was refuses))
-    in_case (collect.begins middle unplanned begins view) = subst IsSound (sym view)
-        (collecting_safe middle by.may.order None (new_collection key (era_at old 0) old.greatest) (begin_safe m old 0 key keep_always middle was begins)
-        (ap (λ (f : Frame). reserved_for_order f.council.order) (begin_frame m old middle 0 key keep_always begins) ∙ ap reserved_for_order by.may.is_open) (omega arith))
+    in_case (collect.begins middle none unplanned begins view) = subst IsSound (sym view)
+        (collecting_safe middle by.may.order None (new_collection key (era_at old 0) old.greatest) (begin_safe m old 0 key keep_always middle was begins) (still middle begins) (omega arith))
+    in_case (collect.goes_on middle call is open_ begins view) = subst IsSound (sym view)
+        (collecting_safe middle by.may.order None is.at.collection (begin_safe m old 0 key keep_always middle was begins) (still middle begins)
+        (as_before middle.council is.at.collection (ap (λ (f : Frame). f.council.collection) (begin_frame m old middle 0 key keep_always begins) ∙ is.at.is_collection)))
 
 pub read_held_safe : {S V : Type 0} (m : Meaning S V) (old new : View S V) → IsSound old → StepReadHeld m old new → IsSound new
 read_held_safe {S} {V} m old new was by =
@@ -75,14 +80,29 @@ read_held_safe {S} {V} m old new was by =
         (fit_fewer by.round.key by.desk.cache by.now.cache (inr (ap (λ (d : DeskView V). d.cache) by.ends.desk))) refl (λ call is. absurd (cc is)) by.none_waits refl (λ p other. refl) (omega arith) (omega arith)
 
 pub count_collect_safe : {S V : Type 0} (m : Meaning S V) (old new : View S V) → IsSound old → StepCountCollect (λ before after. StepCount m before 0 after) old new → IsSound new
-count_collect_safe {S} {V} m old new was by =
-    subst IsSound (sym by.view) (with_room by.middle by.is.at.order None _ (counts_safe m old 0 by.middle was by.counts) (omega (
-      arith,
-      was.room,
-      (is_counted m old by.middle was by.counts (counted_more old by.middle _ by.acked)).room,
-      ap (λ (f : Frame). reserved_for_exchange f.council.exchange) (count_frame m old by.middle 0 by.counts),
-      ap reserved_for_order by.is.at.is_open,
-    )))
+count_collect_safe {S} {V} m old new was by = in_case by.counted
+  where
+    at : CollectingAt old.council
+    at = by.is.at
+
+    middle_safe : IsSound by.middle
+    middle_safe = counts_safe m old 0 by.middle was by.counts
+
+    same_order : reserved_for_order by.middle.council.order ≡ 1
+    same_order = ap (λ (f : Frame). reserved_for_order f.council.order) (count_frame m old by.middle 0 by.counts) ∙ ap reserved_for_order at.is_open
+
+    in_case : collect.CountedAs old by.middle by.of_call.call at.collection by.now → IsSound new
+    in_case (collect.acknowledges took acknowledgment done acked same_key same_era now) =
+        subst IsSound (sym (by.view ∙ ap (λ (c : CollectionView). collecting by.middle at.order None c) now)) (with_room by.middle at.order None _ middle_safe (omega (
+          arith,
+          was.room,
+          (is_counted m old by.middle was by.counts (counted_more old by.middle _ acked)).room,
+          ap (λ (f : Frame). reserved_for_exchange f.council.exchange) (count_frame m old by.middle 0 by.counts),
+          ap reserved_for_order at.is_open,
+        )))
+    in_case (collect.finds_held version body took ballot done now) =
+        subst IsSound (sym (by.view ∙ ap (λ (c : CollectionView). collecting by.middle at.order None c) now)) (collecting_safe by.middle at.order None _ middle_safe same_order
+        (as_before by.middle.council at.collection (ap (λ (f : Frame). f.council.collection) (count_frame m old by.middle 0 by.counts) ∙ at.is_collection)))
 
 pub end_collect_safe : {S V : Type 0} (m : Meaning S V) (old new : View S V) (told : Answer) → IsSound old → StepEndCollect (λ before after. StepEnd m before 0 told after) old told new → IsSound new
 end_collect_safe {S} {V} m old new told was by =

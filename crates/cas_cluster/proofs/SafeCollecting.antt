@@ -2,6 +2,7 @@
 use Rattle.std.proofs.Common.{◌≡◌, ℕ, zero, suc, Bool, true, false, List, [], ◌∷◌, Option, None, Some, refl, sym, ap, subst, ◌∙◌}
 use Rattle.std.specs.Prelude.{option_map, if◌then◌else◌, slice_set}
 use Rattle.cas_ballot.specs.declared.ballot.Ballot.{Ballot}
+use Rattle.cas_ballot.specs.Members.{union_of}
 use Rattle.cas_change.specs.declared.program.Clause.{Clause}
 use Rattle.cas_collect.specs.Order.{IsStepOf}
 use Rattle.cas_fate.specs.declared.fate.Verdict.{Verdict}
@@ -61,6 +62,7 @@ record HadExchange (council : Council) (now : ExchangeView) : Type 0 where
   pub is_open : council.exchange ≡ Some before
   pub question : now.question ≡ before.question
   pub tag : now.tag ≡ before.tag
+  pub members : now.members ≡ before.members
 
 -- a call that leaves the collection alone
 record LeavesAlone (old new : Frame) : Type 0 where
@@ -91,16 +93,19 @@ left_alone old new alone was = record {
   exchange = λ now is asks.
       let had = alone.exchange now is asks in
       let of = was.exchange had.before had.is_open (ap is_of_collection (sym had.question) ∙ asks) in
+      let safe = was.each of.collection of.is_collection in
+      let still = alone.order safe.order of.collection.course.key safe.is_open safe.is_for safe.none_planned in
       record {
         collection = of.collection;
         is_collection = alone.collection ∙ of.is_collection;
         asks = subst (IsQuestionOf of.collection) (sym had.question) of.asks;
         tag = had.tag ∙ of.tag;
+        members = had.members ∙ of.members ∙ ap (λ (e : Era). union_of e.prep e.acc) (sym still.era);
       };
 }
 
 same_exchange : (council : Council) (now : ExchangeView) → council.exchange ≡ Some now → HadExchange council now
-same_exchange council now is = record { before = now; is_open = is; question = refl; tag = refl }
+same_exchange council now is = record { before = now; is_open = is; question = refl; tag = refl; members = refl }
 
 -- ---- the open call is told something
 told_alone : (frame : Frame) (answer : OpAnswer) → LeavesAlone frame (record frame { council = telling frame.council answer })
@@ -226,6 +231,7 @@ broken_exchange old now is = by_exchange old.exchange refl is
       is_open = has;
       question = ap (λ (e : ExchangeView). e.question) (sym same);
       tag = ap (λ (e : ExchangeView). e.tag) (sym same);
+      members = ap (λ (e : ExchangeView). e.members) (sym same);
     }
 
 pub broken_collecting : {S V : Type 0} (old : View S V) → IsCollectingSafe old → IsCollectingSafe (broken_off_view old)
@@ -329,9 +335,9 @@ ask_collecting {S} {V} m old new question by was = in_case by.asks
     in_case (council.no_memory now tag up loses is) = same_collecting (told_view old _) new (ap frame_of is) (told_collecting old _ was)
 
 -- the open exchange goes on, and asks what it asked
-exchanged_collecting : {S V : Type 0} (old new : View S V) (exchange now : ExchangeView) → old.council.exchange ≡ Some exchange → now.question ≡ exchange.question → now.tag ≡ exchange.tag
+exchanged_collecting : {S V : Type 0} (old new : View S V) (exchange now : ExchangeView) → old.council.exchange ≡ Some exchange → now.question ≡ exchange.question → now.tag ≡ exchange.tag → now.members ≡ exchange.members
     → frame_of new ≡ record (frame_of old) { council = record old.council { exchange = Some now } } → IsCollectingSafe old → IsCollectingSafe new
-exchanged_collecting old new exchange now is_open question tag same was = subst IsCollectingBy (sym same) (left_alone (frame_of old) (record (frame_of old) { council = record old.council { exchange = Some now } }) (record {
+exchanged_collecting old new exchange now is_open question tag members same was = subst IsCollectingBy (sym same) (left_alone (frame_of old) (record (frame_of old) { council = record old.council { exchange = Some now } }) (record {
   collection = refl;
   greatest = refl;
   exchange = λ other is asks. let one = some_is is in record {
@@ -339,6 +345,7 @@ exchanged_collecting old new exchange now is_open question tag same was = subst 
     is_open = is_open;
     question = ap (λ (e : ExchangeView). e.question) (sym one) ∙ question;
     tag = ap (λ (e : ExchangeView). e.tag) (sym one) ∙ tag;
+    members = ap (λ (e : ExchangeView). e.members) (sym one) ∙ members;
   };
   order = λ order key is_open is_for none. record { order_now = order; is_open = is_open; asked = refl; none_planned = none; era = refl };
 }) was)
@@ -347,7 +354,7 @@ pub turn_collecting : {S V : Type 0} (m : Meaning S V) (old new : View S V) (v :
 turn_collecting {S} {V} m old new v by was = in_turn by.turn
   where
     harmed : (member : ℕ) → frame_of new ≡ record (frame_of old) { council = record old.council { exchange = Some (council.harmed_exchange by.at.exchange member) } } → IsCollectingSafe new
-    harmed member same = exchanged_collecting old new by.at.exchange (council.harmed_exchange by.at.exchange member) by.at.is_open refl refl same was
+    harmed member same = exchanged_collecting old new by.at.exchange (council.harmed_exchange by.at.exchange member) by.at.is_open refl refl refl same was
 
     in_turn : council.TurnsExchange m old v by.front by.at.exchange new → IsCollectingSafe new
     in_turn (council.held fall is) = same_collecting old new (ap frame_of is) was
@@ -356,7 +363,7 @@ turn_collecting {S} {V} m old new v by was = in_turn by.turn
     in_turn (council.finds_down request acceptor fall front_is there down is) = harmed request.to (ap frame_of is)
     in_turn (council.brings_down request acceptor now fall front_is there stops is) = harmed request.to (ap frame_of is)
     in_turn (council.arrives reply fall front_is to_it is) =
-        exchanged_collecting old new by.at.exchange (record by.at.exchange { told = council.hears reply by.at.exchange.told }) by.at.is_open refl refl (ap frame_of is) was
+        exchanged_collecting old new by.at.exchange (record by.at.exchange { told = council.hears reply by.at.exchange.told }) by.at.is_open refl refl refl (ap frame_of is) was
 
 -- a change of membership goes on, so no collection is under way
 planned_alone : (old new : Frame) (plan : PlanView) → old.council.plan ≡ Some plan → new.council.collection ≡ old.council.collection → new.greatest ≡ old.greatest

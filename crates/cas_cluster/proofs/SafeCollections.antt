@@ -3,6 +3,7 @@ use Rattle.std.proofs.Common.{◌≡◌, ◌<◌, ◌≤◌, ℕ, Bool, true, fa
 use Rattle.std.specs.Prelude.{◌+◌, nat_lt, length, if◌then◌else◌, slice_set}
 use Rattle.cas_ballot.specs.declared.ballot.Ballot.{Ballot}
 use Rattle.cas_ballot.specs.Ballot.{zero_ballot, FitsBallot}
+use Rattle.cas_ballot.specs.Members.{union_of}
 use Rattle.cas_collect.specs.Order.{IsStepOf, step_after}
 use Rattle.cas_collect.specs.declared.collect.CollectStep.{CollectStep}
 use Rattle.cas_collect.specs.declared.collect.CollectStep.TheVariants.{Round, Renew, Ages, Floor as FloorStep, Remove, End}
@@ -26,7 +27,7 @@ use Rattle.cas_cluster.specs.Step.{OpenRoundAt, StepBegin, StepCount, StepEnd}
 use Rattle.cas_cluster.specs.StepCalls as calls
 use Rattle.cas_cluster.specs.StepCalls.{over, CountsOrEnds}
 use Rattle.cas_cluster.specs.StepCollect as collect
-use Rattle.cas_cluster.specs.StepCollect.{keep_always, CollectingAt, stopped_by, IsQuestionOf, StepBeginCollect, StepReadHeld, StepCountCollect, StepEndCollect, StepGatherRound, StepRenew, StepAskCollect, StepGatherCollect, StepMakeFloor}
+use Rattle.cas_cluster.specs.StepCollect.{keep_always, CollectingAt, collecting, stopped_by, IsQuestionOf, StepBeginCollect, StepReadHeld, StepCountCollect, StepEndCollect, StepGatherRound, StepRenew, StepAskCollect, StepGatherCollect, StepMakeFloor}
 use Rattle.cas_cluster.specs.StepCouncil.{told_view, gathered, everyone, new_exchange}
 use Rattle.cas_cluster.specs.StepStops.{OpenCallAt}
 use Rattle.cas_cluster.specs.View.{Meaning, View, CallView, CallerView, IsAt, reserved_in, reserved_of, era_at}
@@ -76,7 +77,7 @@ renewed_still greatest (Renew proposer) is = absurd (cc is)
 renewed_still greatest FloorStep is = absurd (cc is)
 renewed_still greatest End is = absurd (cc is)
 
-before_floor : (greatest : ℕ) (step : CollectStep) → is_after_floor (step_after greatest step) ≡ false → is_after_floor step ≡ false
+pub before_floor : (greatest : ℕ) (step : CollectStep) → is_after_floor (step_after greatest step) ≡ false → is_after_floor step ≡ false
 before_floor greatest Round is = refl
 before_floor greatest (Renew proposer) is = refl
 before_floor greatest Ages is = refl
@@ -86,10 +87,11 @@ before_floor greatest End is = absurd (cc is)
 
 -- ---- the collection that is under way
 one_collecting : (council : Council) (era : Era) (greatest : ℕ) (collection : CollectionView) → council.collection ≡ Some collection → IsCollectionSafe council era greatest collection
-    → ((exchange : ExchangeView) → council.exchange ≡ Some exchange → is_of_collection exchange.question ≡ true → IsQuestionOf collection exchange.question × (exchange.tag ≡ tomb_of collection.tombstone)) → IsCollectingIn council era greatest
+    → ((exchange : ExchangeView) → council.exchange ≡ Some exchange → is_of_collection exchange.question ≡ true → IsQuestionOf collection exchange.question × (exchange.tag ≡ tomb_of collection.tombstone) × (exchange.members ≡ union_of era.prep era.acc))
+    → IsCollectingIn council era greatest
 one_collecting council era greatest collection is safe asks = record {
   each = λ other at_it. subst (IsCollectionSafe council era greatest) (some_is (sym is ∙ at_it)) safe;
-  exchange = λ exchange is_open of. let both = asks exchange is_open of in record { collection = collection; is_collection = is; asks = both.0; tag = both.1 };
+  exchange = λ exchange is_open of. let all = asks exchange is_open of in record { collection = collection; is_collection = is; asks = all.0; tag = all.1; members = all.2 };
 }
 
 -- no exchange asks for it at a step at which members are not asked
@@ -152,6 +154,17 @@ in_round_safe old next era greatest collection order calling tombstone reserved 
 zero_fits : FitsBallot zero_ballot
 zero_fits = record { counter = omega arith; proposer = omega arith }
 
+-- in its round its tombstone changes, or its call is over
+round_collecting : (council : Council) (era : Era) (greatest : ℕ) (at : CollectingAt council) (told : Option OpAnswer) (calling : Bool) (tombstone : Tombstone) (reserved : ℕ) → at.collection.calling ≡ true → FitsBallot (tomb_of tombstone)
+    → ((ballot : Ballot) (by : List ℕ) → tombstone ≡ Acknowledged ballot by → 0 < reserved) → IsCollectingIn council era greatest
+    → IsCollectingIn (record council { order = Some (record at.order { told = told }); collection = Some (in_round at.collection calling tombstone reserved) }) era greatest
+round_collecting council era greatest at told calling tombstone reserved in_call fits some was =
+    let of = was.each at.collection at.is_collection in
+    let next : Council = record council { order = Some (record at.order { told = told }); collection = Some (in_round at.collection calling tombstone reserved) } in
+    one_collecting next era greatest (in_round at.collection calling tombstone reserved) refl
+    (in_round_safe council next era greatest at.collection (record at.order { told = told }) calling tombstone reserved of in_call refl at.is_for of.none_planned fits some)
+    (λ exchange is_open asks. absurd (none_asks_at council era greatest at.collection was at.is_collection (ap asks_at (of.calling in_call)) exchange is_open asks))
+
 -- ---- its call
 pub begin_collecting : {S V : Type 0} (m : Meaning S V) (old new : View S V) (key : List ℕ) → StepBeginCollect m (λ before after. StepBegin m before 0 key keep_always after) old key new → IsCollectingSafe old → IsCollectingSafe new
 begin_collecting {S} {V} m old new key by was = in_case by.begins
@@ -165,10 +178,18 @@ begin_collecting {S} {V} m old new key by was = in_case by.begins
     order : OrderView
     order = record by.may.order { told = None }
 
-    AfterIn : Frame → Type 0
-    AfterIn f = IsCollectingIn (record f.council { order = Some order; collection = Some begun }) f.era f.greatest
+    AfterIn : CollectionView → Frame → Type 0
+    AfterIn collection f = IsCollectingIn (record f.council { order = Some order; collection = Some collection }) f.era f.greatest
 
-    after : old.council.plan ≡ None → AfterIn (frame_of old)
+    -- another round of the collection that is under way
+    again : (of : collect.IsCollecting old.council key) → AfterIn of.at.collection (frame_of old)
+    again of =
+        let safe = was.each of.at.collection of.at.is_collection in
+        subst (λ (o : OrderView). IsCollectingIn (record old.council { order = Some (record o { told = None }); collection = Some of.at.collection }) (era_at old 0) old.greatest) (some_is (sym of.at.is_open ∙ by.may.is_open))
+        (round_collecting old.council (era_at old 0) old.greatest of.at None of.at.collection.calling of.at.collection.tombstone of.at.collection.reserved of.calling safe.tomb
+        (λ ballot by_whom is. safe.reserved ballot by_whom is (ap is_after_floor of.is_due)) was)
+
+    after : old.council.plan ≡ None → AfterIn begun (frame_of old)
     after unplanned = one_collecting (record old.council { order = Some order; collection = Some begun }) (era_at old 0) old.greatest begun refl (record {
       order = order;
       is_open = refl;
@@ -189,18 +210,8 @@ begin_collecting {S} {V} m old new key by was = in_case by.begins
     in_case (collect.is_busy plan none up busy is) = told _ is
     in_case (collect.is_full none up unplanned full is) = told _ is
     in_case (collect.no_memory middle none up unplanned refuses is) = same_collecting (told_view middle _) new (ap frame_of is) (told_collecting middle _ (refuse_collecting m old middle 0 key refuses was))
-    in_case (collect.begins middle unplanned begins is) = subst IsCollectingBy (sym (ap frame_of is)) (subst AfterIn (sym (begin_frame m old middle 0 key keep_always begins)) (after unplanned))
-
--- in its round its tombstone changes, or its call is over
-round_collecting : (council : Council) (era : Era) (greatest : ℕ) (at : CollectingAt council) (told : Option OpAnswer) (calling : Bool) (tombstone : Tombstone) (reserved : ℕ) → at.collection.calling ≡ true → FitsBallot (tomb_of tombstone)
-    → ((ballot : Ballot) (by : List ℕ) → tombstone ≡ Acknowledged ballot by → 0 < reserved) → IsCollectingIn council era greatest
-    → IsCollectingIn (record council { order = Some (record at.order { told = told }); collection = Some (in_round at.collection calling tombstone reserved) }) era greatest
-round_collecting council era greatest at told calling tombstone reserved in_call fits some was =
-    let of = was.each at.collection at.is_collection in
-    let next : Council = record council { order = Some (record at.order { told = told }); collection = Some (in_round at.collection calling tombstone reserved) } in
-    one_collecting next era greatest (in_round at.collection calling tombstone reserved) refl
-    (in_round_safe council next era greatest at.collection (record at.order { told = told }) calling tombstone reserved of in_call refl at.is_for of.none_planned fits some)
-    (λ exchange is_open asks. absurd (none_asks_at council era greatest at.collection was at.is_collection (ap asks_at (of.calling in_call)) exchange is_open asks))
+    in_case (collect.begins middle none unplanned begins is) = subst IsCollectingBy (sym (ap frame_of is)) (subst (AfterIn begun) (sym (begin_frame m old middle 0 key keep_always begins)) (after unplanned))
+    in_case (collect.goes_on middle call of open_ begins is) = subst IsCollectingBy (sym (ap frame_of is)) (subst (AfterIn of.at.collection) (sym (begin_frame m old middle 0 key keep_always begins)) (again of))
 
 pub held_collecting : {S V : Type 0} (m : Meaning S V) (old new : View S V) → StepReadHeld m old new → IsCollectingSafe old → IsCollectingSafe new
 held_collecting {S} {V} m old new by was =
@@ -261,16 +272,23 @@ pub counted_more : {S V : Type 0} (old middle : View S V) (mark : Mark) → midd
 counted_more old middle mark is = omega (arith, ap (λ (l : List Mark). length l) is, length-append old.marks (mark ∷ []))
 
 pub count_collecting : {S V : Type 0} (m : Meaning S V) (old new : View S V) → IsSound old → StepCountCollect (λ before after. StepCount m before 0 after) old new → IsCollectingSafe old → IsCollectingSafe new
-count_collecting {S} {V} m old new sound by was =
-    subst IsCollectingBy (sym (ap frame_of by.view)) (subst AfterIn (sym (count_frame m old by.middle 0 by.counts))
-    (round_collecting old.council (era_at old 0) old.greatest by.is.at None by.is.at.collection.calling tombstone 1 by.is.calling
-    ((is_counted m old by.middle sound by.counts (counted_more old by.middle _ by.acked)).fits by.of_call Empty by.took by.acknowledgment.ballot by.is_done) (λ ballot by_whom is. omega arith) was))
+count_collecting {S} {V} m old new sound by was = in_case by.counted
   where
-    tombstone : Tombstone
-    tombstone = Acknowledged by.acknowledgment.ballot by.acknowledgment.by
+    at : CollectingAt old.council
+    at = by.is.at
 
-    AfterIn : Frame → Type 0
-    AfterIn f = IsCollectingIn (record f.council { order = Some (record by.is.at.order { told = None }); collection = Some (record by.is.at.collection { tombstone = tombstone; reserved = 1 }) }) f.era f.greatest
+    AfterIn : CollectionView → Frame → Type 0
+    AfterIn now f = IsCollectingIn (record f.council { order = Some (record at.order { told = None }); collection = Some now }) f.era f.greatest
+
+    so : (now : CollectionView) → by.now ≡ now → AfterIn now (frame_of old) → IsCollectingSafe new
+    so now is safe = subst IsCollectingBy (sym (ap frame_of (by.view ∙ ap (λ (c : CollectionView). collecting by.middle at.order None c) is))) (subst (AfterIn now) (sym (count_frame m old by.middle 0 by.counts)) safe)
+
+    in_case : collect.CountedAs old by.middle by.of_call.call at.collection by.now → IsCollectingSafe new
+    in_case (collect.acknowledges took acknowledgment done acked same_key same_era now) = so _ now
+        (round_collecting old.council (era_at old 0) old.greatest at None at.collection.calling (Acknowledged acknowledgment.ballot acknowledgment.by) 1 by.is.calling
+        ((is_counted m old by.middle sound by.counts (counted_more old by.middle _ acked)).fits by.of_call Empty took acknowledgment.ballot done) (λ ballot by_whom is. omega arith) was)
+    in_case (collect.finds_held version body took ballot done now) = so _ now
+        (round_collecting old.council (era_at old 0) old.greatest at None at.collection.calling (FoundHeld version) at.collection.reserved by.is.calling zero_fits (λ acked by_whom is. absurd (cc is)) was)
 
 -- its call ends
 pub still_collecting : {S V : Type 0} (m : Meaning S V) (old middle : View S V) (told : Answer) → StepEnd m old 0 told middle → middle.council.collection ≡ old.council.collection
@@ -381,7 +399,7 @@ ask_collect_collecting {S} {V} m old new by was = in_case by.asks
           tomb = of.tomb;
           acknowledged = of.acknowledged;
           reserved = of.reserved;
-        }) (λ other is kind. let same = some_is is in (subst (λ (e : ExchangeView). IsQuestionOf at.collection e.question) same asks, ap (λ (e : ExchangeView). e.tag) (sym same)))
+        }) (λ other is kind. let same = some_is is in (subst (λ (e : ExchangeView). IsQuestionOf at.collection e.question) same asks, ap (λ (e : ExchangeView). e.tag) (sym same), ap (λ (e : ExchangeView). e.members) (sym same)))
 
     in_case : collect.AsksCollect m old at by.desk new → IsCollectingSafe new
     in_case (collect.asks question flow up asks room aged sends view) = subst IsCollectingBy (sym (ap frame_of view)) (asked_for question asks)

@@ -3,7 +3,7 @@
 use Rattle.std.specs.Prelude.{◌≡◌, ℕ, suc, ◌+◌, ◌*◌, ◌<◌, ◌≤◌, Bool, true, false, List, [], ◌∷◌, length, is_some, Option, None, Some, Contains}
 use Rattle.cas_ballot.specs.declared.ballot.Ballot.{Ballot}
 use Rattle.cas_ballot.specs.Ballot.{FitsBallot}
-use Rattle.cas_ballot.specs.Members.{has_member, IsMemberSet}
+use Rattle.cas_ballot.specs.Members.{has_member, union_of, IsMemberSet}
 use Rattle.cas_cache.specs.declared.ready.Ready.{Ready}
 use Rattle.cas_flow.specs.Flow.{queue_at}
 use Rattle.cas_flow.specs.Message.{head_of}
@@ -169,21 +169,22 @@ pub record IsCollectionSafe (council : Council) (era : Era) (greatest : ℕ) (co
   pub acknowledged : (collection.course.step ≡ CollectRound → ⊥) → IsAcknowledgedByAll era collection.tombstone
   pub reserved : (ballot : Ballot) (by : List ℕ) → collection.tombstone ≡ Acknowledged ballot by → is_after_floor collection.course.step ≡ false → 0 < collection.reserved
 
--- an exchange that asks for a collection asks what its step is to ask, and bears the ballot of its tombstone
+-- an exchange that asks for a collection asks all members what its step is to ask, and bears the ballot of its tombstone
 abbrev pub is_of_collection : Question → Bool
 is_of_collection (NewAges key least) = true
 is_of_collection (Removal key) = true
 is_of_collection other = false
 
-pub record IsOfCollection (under_way : Option CollectionView) (exchange : ExchangeView) : Type 0 where
+pub record IsOfCollection (under_way : Option CollectionView) (era : Era) (exchange : ExchangeView) : Type 0 where
   pub collection : CollectionView
   pub is_collection : under_way ≡ Some collection
   pub asks : IsQuestionOf collection exchange.question
   pub tag : exchange.tag ≡ tomb_of collection.tombstone
+  pub members : exchange.members ≡ union_of era.prep era.acc
 
 pub record IsCollectingIn (council : Council) (era : Era) (greatest : ℕ) : Type 0 where
   pub each : (collection : CollectionView) → council.collection ≡ Some collection → IsCollectionSafe council era greatest collection
-  pub exchange : (exchange : ExchangeView) → council.exchange ≡ Some exchange → is_of_collection exchange.question ≡ true → IsOfCollection council.collection exchange
+  pub exchange : (exchange : ExchangeView) → council.exchange ≡ Some exchange → is_of_collection exchange.question ≡ true → IsOfCollection council.collection era exchange
 
 -- it is of the era in which proposer 0 works
 abbrev pub IsCollectingSafe : {S V : Type 0} → View S V → Type 0

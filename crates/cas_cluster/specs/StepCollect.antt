@@ -1,6 +1,6 @@
 -- What the steps of a collection do to a cluster: proposer 0 has a tombstone accepted by all, each proposer is renewed, all members are
 -- told the new ages, the tombstone becomes the floor of its key, and all members remove their slots.
-use Rattle.std.specs.Prelude.{◌≡◌, ℕ, suc, ◌+◌, ◌^◌, ◌<◌, ◌++◌, Bool, true, false, if◌then◌else◌, List, [], ◌∷◌, length, Option, None, Some}
+use Rattle.std.specs.Prelude.{◌≡◌, ℕ, suc, ◌^◌, ◌<◌, ◌++◌, Bool, true, false, List, [], ◌∷◌, length, Option, None, Some}
 use Rattle.cas_ballot.specs.declared.ballot.Ballot.{Ballot}
 use Rattle.cas_ballot.specs.Members.{members_where, has_member}
 use Rattle.cas_change.specs.declared.outcome.Took.{Took}
@@ -36,7 +36,7 @@ use Rattle.cas_cluster.specs.StepCalls.{Sends, IsFull, RefusesCall}
 use Rattle.cas_cluster.specs.StepCouncil.{with_council, told_view, gathered, everyone, questions_to, new_exchange, HasRoomToAsk, OpenExchangeAt}
 use Rattle.cas_cluster.specs.StepDesks.{EndsRound, Renews, FailsToRenew, FindsNoAge}
 use Rattle.cas_cluster.specs.StepStops.{OpenCallAt, closed_by, LeavesRound, GoesDown}
-use Rattle.cas_cluster.specs.View.{Meaning, View, CallerView, IsAt, era_at, with_desk, with_caller, with_marks}
+use Rattle.cas_cluster.specs.View.{Meaning, View, CallView, CallerView, IsAt, era_at, with_desk, with_caller, with_marks}
 
 -- ---- parts
 -- the program of a collection's call
@@ -77,14 +77,15 @@ pub record MayCollect {S V : Type 0} (old : View S V) (key : List ℕ) (desk : D
   pub at_desk : IsAt old.desks 0 desk
   pub at_caller : IsAt old.callers 0 caller
 
--- A round of it begins as any other; or it is refused before its call began.
+-- Its call begins as any other, or its call that is open goes on with another round; or it is refused before its call began.
 pub data BeginsCollection {S V : Type 0} (m : Meaning S V) (Begins : View S V → View S V → Type 0) (old : View S V) (key : List ℕ) (order : OrderView) (desk : DeskView V) (caller : CallerView) (new : View S V) : Type 0 where
   is_down : caller.call ≡ None → desk.down ≡ true → new ≡ told_view old (told.Stopped answer.Down) → BeginsCollection m Begins old key order desk caller new
   is_busy : (plan : PlanView) → caller.call ≡ None → desk.down ≡ false → old.council.plan ≡ Some plan → new ≡ told_view old (told.Busy (era_at old 0).number) → BeginsCollection m Begins old key order desk caller new
   is_full : caller.call ≡ None → desk.down ≡ false → old.council.plan ≡ None → IsFull old 0 → new ≡ told_view old (told.Stopped answer.RecordFull) → BeginsCollection m Begins old key order desk caller new
   no_memory : (middle : View S V) → caller.call ≡ None → desk.down ≡ false → old.council.plan ≡ None → RefusesCall m old 0 key middle
       → new ≡ told_view middle (told.Stopped (answer.NoMemory false)) → BeginsCollection m Begins old key order desk caller new
-  begins : (middle : View S V) → old.council.plan ≡ None → Begins old middle → new ≡ collecting middle order None (new_collection key (era_at old 0) old.greatest) → BeginsCollection m Begins old key order desk caller new
+  begins : (middle : View S V) → caller.call ≡ None → old.council.plan ≡ None → Begins old middle → new ≡ collecting middle order None (new_collection key (era_at old 0) old.greatest) → BeginsCollection m Begins old key order desk caller new
+  goes_on : (middle : View S V) (call : CallView) (is : IsCollecting old.council key) → caller.call ≡ Some call → Begins old middle → new ≡ collecting middle order None is.at.collection → BeginsCollection m Begins old key order desk caller new
 
 pub record StepBeginCollect {S V : Type 0} (m : Meaning S V) (Begins : View S V → View S V → Type 0) (old : View S V) (key : List ℕ) (new : View S V) : Type 0 where
   pub desk : DeskView V
@@ -113,19 +114,23 @@ pub record StepReadHeld {S V : Type 0} (m : Meaning S V) (old : View S V) (new :
   pub ends : EndsRound m.disks desk now round None
   pub view : new ≡ collecting (with_caller (with_desk old 0 now) 0 (record of_call.caller { call = None })) is.at.order None (record (called is.at.collection) { tombstone = FoundHeld version })
 
--- Its round is counted, and done with the empty state: those that accepted it are known.
+-- Its round is counted and done: with the empty state, and those that accepted it are known and a mark is reserved for the floor; or with
+-- a state that is held.
+pub data CountedAs {S V : Type 0} (old middle : View S V) (call : CallView) (collection : CollectionView) (now : CollectionView) : Type 0 where
+  acknowledges : (took : Took) (acknowledgment : Acknowledgment) → call.told ≡ Some (answer.Done Empty took acknowledgment.ballot) → middle.marks ≡ old.marks ++ Acked acknowledgment ∷ []
+      → acknowledgment.key ≡ call.key → acknowledgment.era ≡ collection.course.era.number
+      → now ≡ record collection { tombstone = Acknowledged acknowledgment.ballot acknowledgment.by; reserved = 1 } → CountedAs old middle call collection now
+  finds_held : (version : ℕ) (body : Body) (took : Took) (ballot : Ballot) → call.told ≡ Some (answer.Done (Held version body) took ballot) → now ≡ record collection { tombstone = FoundHeld version }
+      → CountedAs old middle call collection now
+
 pub record StepCountCollect {S V : Type 0} (Counts : View S V → View S V → Type 0) (old : View S V) (new : View S V) : Type 0 where
   pub middle : View S V
   pub counts : Counts old middle
   pub of_call : OpenCallAt middle 0
   pub is : IsCollecting old.council of_call.call.key
-  pub took : Took
-  pub acknowledgment : Acknowledgment
-  pub is_done : of_call.call.told ≡ Some (answer.Done Empty took acknowledgment.ballot)
-  pub acked : middle.marks ≡ old.marks ++ Acked acknowledgment ∷ []
-  pub same_key : acknowledgment.key ≡ of_call.call.key
-  pub same_era : acknowledgment.era ≡ is.at.collection.course.era.number
-  pub view : new ≡ collecting middle is.at.order None (record is.at.collection { tombstone = Acknowledged acknowledgment.ballot acknowledgment.by; reserved = 1 })
+  pub now : CollectionView
+  pub counted : CountedAs old middle of_call.call is.at.collection now
+  pub view : new ≡ collecting middle is.at.order None now
 
 -- Its call ends, and where that is not done the operator's is told why.
 pub record StepEndCollect {S V : Type 0} (Ends : View S V → View S V → Type 0) (old : View S V) (answer : Answer) (new : View S V) : Type 0 where
@@ -227,11 +232,15 @@ confirms (Removal key) (Some tell.Removed) = true
 confirms (Removal key) (Some tell.Kept) = true
 confirms question other = false
 
--- the acceptors that confirmed it
-abbrev pub confirmers_in : Question → List Answered → List ℕ
-confirmers_in question answers = members_where (λ acceptor. confirms question (told_by answers acceptor))
+-- the acceptors whose first reply says so
+abbrev pub those_telling : (Option Tell → Bool) → List Answered → List ℕ
+those_telling test answers = members_where (λ acceptor. test (told_by answers acceptor))
 
--- how many of them told just that
+-- those that confirmed it
+abbrev pub confirmers_in : Question → List Answered → List ℕ
+confirmers_in question answers = those_telling (confirms question) answers
+
+-- whether it was a removal, and whether the slot was kept
 abbrev pub is_removed : Option Tell → Bool
 is_removed (Some tell.Removed) = true
 is_removed other = false
@@ -240,15 +249,11 @@ abbrev pub is_kept : Option Tell → Bool
 is_kept (Some tell.Kept) = true
 is_kept other = false
 
-abbrev pub told_so_in : (Option Tell → Bool) → List Answered → ℕ
-told_so_in test [] = 0
-told_so_in test (one ∷ answers) = if test one.told then told_so_in test answers + 1 else told_so_in test answers
-
 -- Each member confirmed the question, and the next step is due; or one did not; or proposer 0 crashed within it.
 pub data GathersCollect {S V : Type 0} (old : View S V) (at : CollectingAt old.council) (exchange : ExchangeView) (new : View S V) : Type 0 where
   crashed : exchange.crashed ≡ true → new ≡ gathered old (told.Stopped answer.Crashed) → GathersCollect old at exchange new
   all : exchange.crashed ≡ false → ((acceptor : ℕ) → has_member exchange.members acceptor ≡ true → has_member (confirmers_in exchange.question exchange.told) acceptor ≡ true)
-      → new ≡ with_council old (record (collecting old at.order None (record (confirmed_step at.collection) { removed = told_so_in is_removed exchange.told; kept = told_so_in is_kept exchange.told })).council { exchange = None }) → GathersCollect old at exchange new
+      → new ≡ with_council old (record (collecting old at.order None (record (confirmed_step at.collection) { removed = length (those_telling is_removed exchange.told); kept = length (those_telling is_kept exchange.told) })).council { exchange = None }) → GathersCollect old at exchange new
   is_absent : (acceptor : ℕ) → exchange.crashed ≡ false → IsLeastWithout exchange.members (confirmers_in exchange.question exchange.told) acceptor → new ≡ gathered old (told.Absent acceptor) → GathersCollect old at exchange new
 
 pub record StepGatherCollect {S V : Type 0} (old : View S V) (new : View S V) : Type 0 where
