@@ -1,3 +1,4 @@
 pub mod Gathering
 pub mod Listed
+pub mod Renewed
 pub mod Sending

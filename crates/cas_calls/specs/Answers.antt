@@ -15,6 +15,10 @@ crash_answer proposed = if proposed then answer.Unsettled cause.Crashed else ans
 abbrev pub moved_answer : Bool → ℕ → Answer
 moved_answer proposed era = if proposed then answer.Unsettled (cause.Moved era) else answer.Moved era
 
+-- what a call is told whose proposer was renewed to that age while its round was open
+abbrev pub aged_answer : Bool → ℕ → Answer
+aged_answer proposed least = if proposed then answer.Unsettled (cause.Aged least) else answer.Aged least
+
 -- whether an answer to the operator holds no memory
 abbrev pub is_plain : OpAnswer → Bool
 is_plain (op.Collected key ballot removed kept) = false

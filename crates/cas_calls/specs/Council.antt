@@ -17,9 +17,10 @@ use Rattle.cas_cluster.specs.Council.{ListingView, ExchangeView, OrderView, Plan
 use Rattle.cas_cluster.specs.Listings.{ListsOn, counted, missing, why_short}
 use Rattle.cas_cluster.specs.Remaining.{LeavesLess, keys_left}
 use Rattle.cas_cluster.specs.StepCouncil.{listing_in, hears, harmed_exchange, harm_marks}
+use Rattle.cas_calls.specs.Answers.{is_plain}
 use Rattle.cas_calls.specs.declared.council.Council.{Council}
-use Rattle.cas_calls.specs.declared.council.Exchange.{Exchange}
-use Rattle.cas_calls.specs.declared.council.Exchange.TheVariants as what
+use Rattle.cas_calls.specs.declared.council.Query.{Query}
+use Rattle.cas_calls.specs.declared.council.Query.TheVariants as what
 use Rattle.cas_calls.specs.declared.council.Gathered.{Gathered}
 use Rattle.cas_calls.specs.declared.council.Gathered.TheVariants as gathered
 use Rattle.cas_calls.specs.declared.council.OpenExchange.{OpenExchange}
@@ -32,6 +33,8 @@ use Rattle.cas_calls.specs.declared.plan.OpenPlan.{OpenPlan}
 abbrev pub question_view : Question → cluster.Question
 question_view (asks.Probe key) = cluster.Probe key
 question_view (asks.NextKeys places) = cluster.NextKeys places
+question_view (asks.NewAges key least) = cluster.NewAges key least
+question_view (asks.Removal key) = cluster.Removal key
 
 abbrev pub order_view : Order → OrderView
 order_view order = record { asked = order.asked; told = order.told }
@@ -51,11 +54,11 @@ abbrev pub plan_view : OpenPlan → PlanView
 plan_view plan = record { asked = plan.asked; progress = plan.plan; entered = plan.entered; rescanned = plan.rescanned; listing = plan.listing }
 
 abbrev pub council_view : Council → cluster.Council
-council_view council = record { order = option_map order_view council.order; exchange = option_map exchange_view council.exchange; plan = option_map plan_view council.plan; used = council.used; collection = None }
+council_view council = record { order = option_map order_view council.order; exchange = option_map exchange_view council.exchange; plan = option_map plan_view council.plan; used = council.used; collection = council.collection }
 
 -- all proposers work in this era, whose members are these, and nothing is under way
 abbrev pub opening_council : Era → List ℕ → Council
-opening_council era members = record { eras = record { 0 = replicate 17 era }; order = None; exchange = None; plan = None; used = members }
+opening_council era members = record { eras = record { 0 = replicate 17 era }; order = None; exchange = None; plan = None; used = members; collection = None }
 
 -- ---- the keys that are to be proposed anew
 -- the first of a complete listing of the era that is to be settled
@@ -173,7 +176,7 @@ abbrev pub left_to_list : Option PlanView → ℕ
 left_to_list plan = left_in (listing_in plan)
 
 -- the listing that goes on, where the next keys are asked for
-abbrev pub goes_on_in : cluster.Council → Exchange → Option ListingView
+abbrev pub goes_on_in : cluster.Council → Query → Option ListingView
 goes_on_in council (what.Probe key) = None
 goes_on_in council what.List = listing_in council.plan
 
@@ -187,3 +190,8 @@ with_begun (Some listing) plan = record plan { listing = Some listing }
 abbrev pub concluded : Option OpAnswer → cluster.Council → cluster.Council
 concluded None council = record council { plan = None }
 concluded (Some told) council = council
+
+-- it may be told what ends it: an answer that holds no memory, or that the key of its collection is collected
+abbrev pub MayConclude : Option (List ℕ) → OpAnswer → Type 0
+MayConclude collected (op.Collected key ballot removed kept) = collected ≡ Some key
+MayConclude collected answer = is_plain answer ≡ true

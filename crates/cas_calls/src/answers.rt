@@ -3,7 +3,7 @@
 ghost use Rattle.std.specs.Prelude.{◌≡◌, true, false};
 ghost use Rattle.cas_cluster.specs.StepCalls.{refusal_by, cause_by};
 ghost use Rattle.cas_cluster.specs.Protocol.{is_done};
-ghost use Rattle.cas_calls.specs.Answers.{is_plain, crash_answer, moved_answer};
+ghost use Rattle.cas_calls.specs.Answers.{is_plain, aged_answer, crash_answer, moved_answer};
 
 use cas_record::{Answer, Cause, OpAnswer};
 use cas_round::RoundVerdict;
@@ -57,6 +57,19 @@ pub fn moved_answer(proposed: bool, era: u32) -> Answer
         }
     } else {
         Answer::Moved { era }
+    }
+}
+
+/// What a call is told whose proposer was renewed to this age while its round was open.
+pub fn aged_answer(proposed: bool, least: u64) -> Answer
+    ensures { result ≡ aged_answer proposed least }
+{
+    if proposed {
+        Answer::Unsettled {
+            why: Cause::Aged(least),
+        }
+    } else {
+        Answer::Aged { least }
     }
 }
 

@@ -189,6 +189,13 @@ impl Caller {
         }
     }
 
+    /// Its call is left without an answer, and what was reserved for it is free.
+    pub fn leave(&mut self)
+        ensures { self.new ≡ record self.old { call = None } }
+    {
+        self.call = None;
+    }
+
     /// Makes a mark that was reserved for its call.
     pub fn mark(&mut self, record: &mut Record, mark: Mark)
         requires open { IsSome self.old.call }

@@ -1,20 +1,22 @@
 //! What the operator has under way: the eras in which the proposers work, its call that is open, the exchange in which proposer 0 asks
 //! all members, and the change of membership.
 
-ghost use Rattle.std.specs.Prelude.{slice_set, ◌≤◌, ◌≡◌, ◌+◌, ◌<◌, ◌^◌, ◌++◌, Some, None, IsSome, IsSomeAnd, IfSome, IfOk, OnErr, length, map, position, sum_by, false, IsTrue, option_copied, option_map, unwrap_or, true};
+ghost use Rattle.std.specs.Prelude.{slice_set, ◌≤◌, ◌≡◌, ◌+◌, ◌<◌, ◌^◌, ◌++◌, Some, None, IsSome, IsSomeAnd, IfSome, IfOk, length, map, position, sum_by, false, IsTrue, option_copied, option_map, unwrap_or, true};
 ghost use Rattle.cas_ballot.specs.Members.{has_member};
 ghost use Rattle.cas_cluster.specs.Council.{ask_of, reserved_by, at_rest, telling, hushed, crashed_in};
+ghost use Rattle.std.specs.Option.{option_map_or};
+ghost use Rattle.cas_cluster.specs.Safe.{is_of_collection};
 ghost use Rattle.cas_cluster.specs.Course.{entering, next_era, era_shown};
 ghost use Rattle.cas_cluster.specs.View.{era_in};
 ghost use Rattle.cas_cluster.specs.StepCalls.{Rescans};
 ghost use Rattle.cas_cluster.specs.StepCouncil.{awaits, hears, harmed_exchange, harm_marks};
 ghost use Rattle.cas_cluster.specs.StepPlans.{plan_after};
-ghost use Rattle.cas_calls.specs.Answers.{is_plain};
 ghost use Rattle.cas_calls.specs.Call.{reserved_of};
-ghost use Rattle.cas_calls.specs.Council.{council_view, exchange_view, question_view, plan_view, opening_council, unanswered, heard_in, harmed_in, harms_in, IsDue, IsProbed, IsFound, IsOfKeys, IsListing, MayList, GathersAs, goes_on_in, with_begun, concluded};
+ghost use Rattle.cas_calls.specs.Council.{council_view, exchange_view, question_view, plan_view, opening_council, unanswered, heard_in, harmed_in, harms_in, IsDue, IsProbed, IsFound, IsOfKeys, IsListing, MayList, GathersAs, goes_on_in, with_begun, concluded, MayConclude};
 
 use crate::answers::{copy_of, copy_of_op, is_done};
 use crate::call::{Caller, reserved_by};
+use crate::collection::OpenCollection;
 use crate::eras::Eras;
 use crate::plan::OpenPlan;
 use cas_ballot::{AcceptorId, Ballot, Members};
@@ -22,7 +24,7 @@ use cas_change::Key;
 use cas_listing::{Listing, Places};
 use cas_quorum::Era;
 use cas_record::{Answer, Asked, Mark, OpAnswer, Probe, Probes, Record};
-use cas_slot::{Ask, Reply};
+use cas_slot::{Ages, Ask, Reply};
 use std::alloc::{AllocError, Global};
 
 /// The place of the queue in which the frames of an exchange wait.
@@ -31,9 +33,9 @@ pub const EXCHANGE_PLACE: u8 = 17;
 /// How many identities of acceptors there are.
 const IDENTITIES: u8 = 64;
 
-/// What proposer 0 asks all members.
+/// What proposer 0 asks all members beside a collection.
 #[derive(Debug, PartialEq, Eq, Drop)]
-pub enum Exchange {
+pub enum Query {
     /// What each keeps for the key.
     Probe(Key),
     /// The next keys of which each keeps a slot, for the listing of the era that is to be settled. Members whose listing has ended are not
@@ -50,6 +52,9 @@ pub enum Gathered {
     More,
     /// The listing is complete.
     Listed,
+    /// All confirmed what a collection asked: so many removed their slot or had none, and so many kept it for a later change. Both numbers
+    /// are 0 but for what was told of a removal.
+    All { removed: u32, kept: u32 },
 }
 
 impl Gathered {
@@ -81,6 +86,10 @@ pub enum Question {
     Probe(Key),
     /// The next keys behind these places.
     NextKeys(Places),
+    /// To answer no request of a proposer that is older than these ages, for the collection of the key.
+    NewAges { key: Key, least: Ages },
+    /// To remove the key's slot, where it keeps the tombstone of the tag's ballot.
+    Removal(Key),
 }
 
 /// An exchange with these members that has not been gathered yet.
@@ -111,6 +120,15 @@ pub struct Opened {
     pub begun: Option<Listing>,
 }
 
+/// A call of the operator that is over.
+#[derive(Drop)]
+pub struct EndedOrder {
+    /// What it was opened for, and what its last step told.
+    pub order: Order,
+    /// The key of the collection that was under way for it.
+    pub collected: Option<Key>,
+}
+
 /// All that the operator has under way.
 #[derive(Drop)]
 pub struct Council {
@@ -124,6 +142,8 @@ pub struct Council {
     pub plan: Option<OpenPlan>,
     /// Who was a member since the opening.
     pub used: Members,
+    /// The collection that is under way.
+    pub collection: Option<OpenCollection>,
 }
 
 impl Question {
@@ -137,6 +157,11 @@ impl Question {
                 key: key.copy()?,
             }),
             Question::NextKeys(places) => places.ask(tag, member),
+            Question::NewAges { least, .. } => Ok(Ask::Ages { tag, least: *least }),
+            Question::Removal(key) => Ok(Ask::Remove {
+                key: key.copy()?,
+                tomb: tag,
+            }),
         }
     }
 }
@@ -197,10 +222,11 @@ impl Council {
             exchange: None,
             plan: None,
             used: members,
+            collection: None,
         }
     }
 
-    /// How many marks are reserved for the open call and for the exchange.
+    /// How many marks are reserved for the open call, for the exchange and for the collection.
     pub fn reserved(&self) -> usize
         requires { reserved_by (council_view self.now) < 2 ^ 64 }
         ensures { result ≡ reserved_by (council_view self.now) }
@@ -209,9 +235,13 @@ impl Council {
             Some(exchange) => exchange.reserved,
             None => 0,
         };
+        let collection = match &self.collection {
+            Some(collection) => collection.reserved(),
+            None => 0,
+        };
         match &self.order {
-            Some(_) => exchange + 1,
-            None => exchange,
+            Some(_) => 1 + exchange + collection,
+            None => exchange + collection,
         }
     }
 
@@ -238,11 +268,12 @@ impl Council {
         }
     }
 
-    /// The open call is over, and so is an exchange that is open; a listing that is not complete is dropped. Answers the call: what was
-    /// asked, and what its last step told.
-    pub fn close(&mut self) -> Order
+    /// The open call is over, and so are an exchange that is open and a collection; a listing that is not complete is dropped. Answers the
+    /// call, and the key of the collection.
+    pub fn close(&mut self) -> EndedOrder
         requires { IsSome self.old.order }
-        ensures order { self.old.order ≡ Some result }
+        ensures order { self.old.order ≡ Some result.order }
+        ensures collected { result.collected ≡ option_map (λ c. c.course.key) self.old.collection }
         ensures closed { council_view self.new ≡ at_rest (council_view self.old) }
         ensures eras { self.new.eras ≡ self.old.eras }
     {
@@ -250,16 +281,25 @@ impl Council {
         if let Some(plan) = &mut self.plan {
             plan.drop_partial();
         }
+        let collected = match self.collection.take() {
+            Some(collection) => Some(collection.into_key()),
+            None => None,
+        };
         match self.order.take() {
-            Some(order) => order,
+            Some(order) => EndedOrder { order, collected },
             None => unreachable!(),
         }
     }
 
     /// What the operator's call is told in the end: what its last step told; or, where that told nothing, that the change of membership is
-    /// at its end, which is no longer under way then.
-    pub fn conclude(&mut self, told: Option<OpAnswer>, answer: &OpAnswer) -> OpAnswer
-        requires { told ≡ None → is_plain answer.now ≡ true }
+    /// at its end, which is no longer under way then, or that the key is collected.
+    pub fn conclude(
+        &mut self,
+        told: Option<OpAnswer>,
+        collected: Option<Key>,
+        answer: &OpAnswer,
+    ) -> OpAnswer
+        requires { told ≡ None → MayConclude collected answer.now }
         ensures answer { result ≡ unwrap_or told answer.now }
         ensures concluded { council_view self.new ≡ concluded told (council_view self.old) }
         ensures eras { self.new.eras ≡ self.old.eras }
@@ -268,13 +308,13 @@ impl Council {
             Some(told) => told,
             None => {
                 self.plan = None;
-                copy_of_op(answer)
+                concluding(collected, answer)
             }
         }
     }
 
     /// What the open call was told last is no longer so: its last step told nothing.
-    fn hush(&mut self)
+    pub fn hush(&mut self)
         ensures hushed { council_view self.new ≡ hushed (council_view self.old) }
         ensures eras { self.new.eras ≡ self.old.eras }
     {
@@ -329,11 +369,11 @@ impl Council {
     }
 
     /// The listing that goes on, where the next keys are asked for.
-    pub fn listing_for(&self, what: &Exchange) -> Option<&Listing>
+    pub fn listing_for(&self, what: &Query) -> Option<&Listing>
         ensures { option_copied result ≡ goes_on_in (council_view self.now) what.now }
     {
         match (what, &self.plan) {
-            (Exchange::List, Some(plan)) => plan.listing.as_ref(),
+            (Query::List, Some(plan)) => plan.listing.as_ref(),
             _ => None,
         }
     }
@@ -365,6 +405,19 @@ impl Council {
         }
         if let Some(plan) = &mut self.plan {
             plan.rescan();
+        }
+    }
+
+    /// Whether an exchange is open that asks for a collection.
+    pub fn asks_for_collection(&self) -> bool
+        ensures { result ≡ option_map_or (λ exchange. is_of_collection exchange.question) (council_view self.now).exchange false }
+    {
+        match &self.exchange {
+            Some(exchange) => matches!(
+                exchange.question,
+                Question::NewAges { .. } | Question::Removal(_)
+            ),
+            None => false,
         }
     }
 
@@ -426,6 +479,7 @@ impl Council {
                 Err(_) => Err(self.keep(exchange)),
             },
             Question::NextKeys(_) => self.gather_keys(exchange),
+            _ => unreachable!(),
         }
     }
 
@@ -465,6 +519,30 @@ impl Council {
         self.exchange = Some(exchange);
         self.tell(no_memory());
         no_memory()
+    }
+}
+
+/// An equal answer, with that key where it tells of a collection.
+fn concluding(collected: Option<Key>, answer: &OpAnswer) -> OpAnswer
+    requires { MayConclude collected answer.now }
+    ensures { result ≡ answer.now }
+{
+    match (answer, collected) {
+        (
+            OpAnswer::Collected {
+                ballot,
+                removed,
+                kept,
+                ..
+            },
+            Some(key),
+        ) => OpAnswer::Collected {
+            key,
+            ballot: *ballot,
+            removed: *removed,
+            kept: *kept,
+        },
+        _ => copy_of_op(answer),
     }
 }
 

@@ -10,4 +10,5 @@ mod place;
 mod places;
 
 pub use listing::Listing;
+pub use page::told_by;
 pub use places::Places;

@@ -22,8 +22,8 @@ pub(crate) struct NextKeys<'a> {
     pub more: bool,
 }
 
-/// What the member told.
-pub(crate) fn told_by(told: &[Probe], member: AcceptorId) -> Option<&Tell>
+/// What the member told, in its first probe of these. `None` comes where it told nothing, or none of them is its own.
+pub fn told_by(told: &[Probe], member: AcceptorId) -> Option<&Tell>
     ensures { option_copied result ≡ told_by told.now member }
 {
     for probe in told {
