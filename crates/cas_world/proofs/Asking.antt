@@ -30,8 +30,8 @@ use Rattle.cas_world.specs.Exchange.{MayAsk, Opens, FailsToAsk, asked_from, begi
 use Rattle.cas_world.specs.World.{view_of, IsWorld}
 use Rattle.cas_calls.specs.declared.call.Caller.{Caller}
 use Rattle.cas_calls.specs.declared.council.Council.{Council}
-use Rattle.cas_calls.specs.declared.council.Exchange.{Exchange}
-use Rattle.cas_calls.specs.declared.council.Exchange.TheVariants as what
+use Rattle.cas_calls.specs.declared.council.Query.{Query}
+use Rattle.cas_calls.specs.declared.council.Query.TheVariants as what
 use Rattle.cas_calls.specs.declared.council.Opened.{Opened}
 use Rattle.cas_world.proofs.Parts.{Remembers, set_same}
 use Rattle.cas_world.proofs.Stops.{copies_closed}
@@ -55,7 +55,7 @@ asked_first members set =
     (λ i. members_where (λ member. (ap (λ (b : Bool). has_member members member && not b) (none_ended members member) ∙ and_true (has_member members member)) i)) ∙ sym set.lists
 
 -- the members that a question goes to are those that the world asks
-pub asked_is : {S V : Type 0} (view : View S V) (asking : Exchange) → asked_from (everyone view) (goes_on_in view.council asking) ≡ asked_by view (question_in view asking)
+pub asked_is : {S V : Type 0} (view : View S V) (asking : Query) → asked_from (everyone view) (goes_on_in view.council asking) ≡ asked_by view (question_in view asking)
 asked_is view (what.Probe key) = refl
 asked_is {S} {V} view what.List = by_listing (listing_in view.council.plan)
   where
@@ -64,12 +64,12 @@ asked_is {S} {V} view what.List = by_listing (listing_in view.council.plan)
     by_listing (Some listing) = refl
 
 -- a listing goes on where the next keys are asked for
-goes_on_is : {S V : Type 0} (view : View S V) (asking : Exchange) → goes_on_in view.council asking ≡ listing_for view.council (question_in view asking)
+goes_on_is : {S V : Type 0} (view : View S V) (asking : Query) → goes_on_in view.council asking ≡ listing_for view.council (question_in view asking)
 goes_on_is view (what.Probe key) = refl
 goes_on_is view what.List = refl
 
 -- and one that begins is noted
-plan_begun : (members : List ℕ) (council : cluster.Council) (asking : Exchange) (tag : Ballot)
+plan_begun : (members : List ℕ) (council : cluster.Council) (asking : Query) (tag : Ballot)
     → option_map (with_begun (begins_with members (goes_on_in council asking) asking tag)) council.plan ≡ plan_asked (question_from members (goes_on_in council asking) asking) tag council.plan
 plan_begun members council (what.Probe key) tag = by_plan council.plan
   where
@@ -108,7 +108,7 @@ may_ask {S} {V} view question desk safe may at = record {
 }
 
 -- the tag of a listing is within its limits
-pub tag_fits : {S V : Type 0} (view : View S V) (asking : Exchange) → IsSafe view → IfSome (goes_on_in view.council asking) (λ listing. FitsBallot listing.tag)
+pub tag_fits : {S V : Type 0} (view : View S V) (asking : Query) → IsSafe view → IfSome (goes_on_in view.council asking) (λ listing. FitsBallot listing.tag)
 tag_fits view (what.Probe key) safe = tt
 tag_fits {S} {V} view what.List safe = by_plan view.council.plan refl
   where
@@ -121,7 +121,7 @@ tag_fits {S} {V} view what.List safe = by_plan view.council.plan refl
     by_plan (Some plan) is = by_listing plan plan.listing is refl
 
 -- ---- it opens
-pub asks : {S V : Type 0} (m : Meaning S V) (greatest : ℕ) (council council_now : Council) (acceptors : List (AcceptorView S)) (desks : List (DeskView V)) (desk now : DeskView V) (callers : List Caller) (flow flow_now : FlowView) (before after : Book) (asking : Exchange) (opened : Opened)
+pub asks : {S V : Type 0} (m : Meaning S V) (greatest : ℕ) (council council_now : Council) (acceptors : List (AcceptorView S)) (desks : List (DeskView V)) (desk now : DeskView V) (callers : List Caller) (flow flow_now : FlowView) (before after : Book) (asking : Query) (opened : Opened)
     → Opens m.disks desk now flow flow_now (everyone (view_of greatest council acceptors desks callers flow before)) (goes_on_in (council_view council) asking) asking opened
     → length before.marks + reserved_in_all (view_of greatest council acceptors desks callers flow before) + length (asked_from (everyone (view_of greatest council acceptors desks callers flow before)) (goes_on_in (council_view council) asking)) ≤ 1000000
     → after.marks ≡ before.marks → council_now.eras ≡ council.eras
@@ -164,7 +164,7 @@ idle_then {V} m desk now goes_on marks answer.Crashed idle fails = absurd fails
 idle_then {V} m desk now goes_on marks (answer.Unsettled why) idle fails = absurd fails
 
 -- or the open call is told why not
-pub asks_not : {S V : Type 0} (m : Meaning S V) (old new : View S V) (asking : Exchange) (desk now : DeskView V) (marks : ℕ) (refusal : Answer) → IsAt old.desks 0 desk
+pub asks_not : {S V : Type 0} (m : Meaning S V) (old new : View S V) (asking : Query) (desk now : DeskView V) (marks : ℕ) (refusal : Answer) → IsAt old.desks 0 desk
     → marks ≡ length old.marks + reserved_in_all old + length (asked_from (everyone old) (goes_on_in old.council asking))
     → FailsToAsk m.disks desk now (goes_on_in old.council asking) marks refusal → new ≡ told_view (with_desk old 0 now) (op.Stopped refusal) → AsksAll m old (question_in old asking) desk new
 asks_not {S} {V} m old new asking desk now marks answer.Down at count fails is =

@@ -47,7 +47,7 @@ pub record IsCounting {V : Type 0} (desks : List (DeskView V)) (callers : List C
   pub at_caller : IsAt callers id caller
   pub may : MayCount desk caller left
   pub accepting : is_preparing may.round.phase ≡ false
-  pub two : 2 ≤ may.call.reserved
+  pub three : 3 ≤ may.call.reserved
   pub up : desk.down ≡ true → desk.round ≡ None
 
 pub counting : {S V : Type 0} {m : Meaning S V} (greatest : ℕ) (council : Council) (acceptors : List (AcceptorView S)) (desks : List (DeskView V)) (callers : List Caller) (flow : FlowView) (book : Book) (now : View S V) (place id : ℕ) (desk : DeskView V) (caller : Caller)
@@ -91,12 +91,12 @@ counting {S} {V} {m} greatest council acceptors desks callers flow book now plac
         room = some_room (reserved_by (council_view council)) callers id caller found.0 book.room at_caller found.1 some world.room;
       };
       accepting = phase.phase;
-      two = omega (arith, reserves_one (era_in council.eras.0 id) (caller_view caller) (queue_at flow id) phase.round is (safe.sound.prep_sets id) (safe.sound.acc_sets id), ap (λ (c : CallView). c.reserved) same_call);
+      three = omega (arith, reserves_one (era_in council.eras.0 id) (caller_view caller) (queue_at flow id) phase.round is (safe.sound.prep_sets id) (safe.sound.acc_sets id), ap (λ (c : CallView). c.reserved) same_call);
       up = party.idle;
     }
 
 -- a desk with an open round is up
-up_with : (down : Bool) (round : Option Round) (one : Round) → (down ≡ true → round ≡ None) → round ≡ Some one → down ≡ false
+pub up_with : (down : Bool) (round : Option Round) (one : Round) → (down ≡ true → round ≡ None) → round ≡ Some one → down ≡ false
 up_with true round one idle is = absurd (cc (idle refl, is))
 up_with false round one idle is = refl
 

@@ -1,6 +1,6 @@
 -- What the operator's calls do to the whole.
 use Rattle.std.proofs.Common.{inl, inr, ◌≡◌, ◌≢◌, ◌≤◌, ◌<◌, ℕ, Bool, true, false, List, [], ◌∷◌, ◌++◌, Option, None, Some, Result, Ok, refl, sym, ap, subst, ◌∙◌, arith, append-nil}
-use Rattle.std.specs.Prelude.{◌+◌, ◌-◌, ◌==◌, ◌&&◌, if◌then◌else◌, option_map, unwrap_or, IfSome, IfOk, IfErr, IsSome, length, slice_get, sum_by}
+use Rattle.std.specs.Prelude.{◌⊎◌, ◌+◌, ◌-◌, ◌==◌, ◌&&◌, if◌then◌else◌, option_map, unwrap_or, IfSome, IfOk, IfErr, IsSome, length, slice_get, sum_by}
 use Rattle.cas_ballot.specs.Members.{has_member}
 use Rattle.cas_flow.specs.Message.{head_of}
 use Rattle.cas_flow.specs.Queue.{QueueView, fall_of, pushed}
@@ -21,8 +21,9 @@ use Rattle.cas_acceptor.specs.Acceptor.{AcceptorView}
 use Rattle.cas_flow.specs.Flow.{FlowView, queue_at, with_queue, taken, abandoned}
 use Rattle.cas_proposer.specs.Desk.{DeskView}
 use Rattle.cas_record.specs.Book.{Book}
+use Rattle.cas_cluster.specs.Collection.{CollectionView}
 use Rattle.cas_cluster.specs.Council as cluster
-use Rattle.cas_cluster.specs.Council.{ExchangeView, OrderView, PlanView, ListingView, MemberPlace, with_listing, stepped, silent_order, at_rest, exchange_place, reserved_by, reserved_for_order, reserved_for_exchange, broken_off, crashed_in, telling, told_so}
+use Rattle.cas_cluster.specs.Council.{ExchangeView, OrderView, PlanView, ListingView, MemberPlace, with_listing, without_partial, stepped, silent_order, at_rest, exchange_place, reserved_by, reserved_for_order, reserved_for_exchange, broken_off, crashed_in, telling, told_so}
 use Rattle.cas_cluster.specs.History.{IsRemembered}
 use Rattle.cas_cluster.specs.Safe.{IsSafe, IsExchangeSafe, IsAskingSafe, is_of_collection}
 use Rattle.cas_cluster.specs.Step as step
@@ -31,7 +32,7 @@ use Rattle.cas_cluster.specs.StepStops.{broken_off_view}
 use Rattle.cas_cluster.specs.StepCouncil as steps
 use Rattle.cas_cluster.specs.Listings.{why_short}
 use Rattle.cas_cluster.specs.Remaining.{keys_left}
-use Rattle.cas_cluster.specs.StepCouncil.{IsFinishedBy, finished, ListsFor, StepOrder, StepTell, StepGather, StepTurnExchange, Gathers, SaysTheSame, harmed_exchange, harm_marks, harms, hears, with_exchange, told_marks, told_view}
+use Rattle.cas_cluster.specs.StepCouncil.{IsCollectedBy, IsFinishedBy, finished, ListsFor, StepOrder, StepTell, StepGather, StepTurnExchange, Gathers, SaysTheSame, harmed_exchange, harm_marks, harms, hears, with_exchange, told_marks, told_view}
 use Rattle.cas_cluster.specs.StepFrames.{replied_flow, votes_marked}
 use Rattle.cas_cluster.specs.View.{Meaning, View, IsAt, era_in, reserved_in_all}
 use Rattle.cas_quorum.specs.declared.era.Era.{Era}
@@ -42,10 +43,11 @@ use Rattle.cas_cluster.proofs.Rescanning.{told_reserves}
 use Rattle.cas_cluster.proofs.SafeCouncil.{harm_fits, no_vote}
 use Rattle.cas_cluster.proofs.SafeSteps.{steps_are_safe, broken_safe as broken_off_safe, told_safe as told_view_safe}
 use Rattle.cas_calls.specs.Call.{reserved_of}
-use Rattle.cas_calls.specs.Council.{council_view, exchange_view, order_view, harmed_in, harms_in, harms_of, heard_by, heard_in, IsOfKeys, IsListing, MayList, concluded, left_in, left_to_list, listed_if, GathersAs, crashed, probed, lists, is_short, no_memory}
+use Rattle.cas_calls.specs.Council.{council_view, exchange_view, order_view, harmed_in, harms_in, harms_of, heard_by, heard_in, IsOfKeys, IsListing, MayConclude, MayList, concluded, left_in, left_to_list, listed_if, GathersAs, crashed, probed, lists, is_short, no_memory}
 use Rattle.cas_calls.specs.Answers.{is_plain}
 use Rattle.cas_world.specs.Exchange.{WasToldOrder, HasGathered, IsAsked}
-use Rattle.cas_world.specs.Plans.{HasFinished, MayTell}
+use Rattle.cas_world.specs.Plans as endings
+use Rattle.cas_world.specs.Plans.{HasCollectedAll, HasFinished, MayTell}
 use Rattle.cas_world.specs.Exchange as asked
 use Rattle.cas_world.specs.World.{view_of, IsWorld}
 use Rattle.cas_calls.specs.declared.call.Caller.{Caller}
@@ -158,18 +160,38 @@ over_in council now answer same was =
       finished = subst (λ (c : cluster.Council). IsFinishedBy c (order_view of.0) answer) (sym same) (subst (λ (o : OrderView). IsFinishedBy now.council o answer) (sym of.2) was.finished);
     }
 
--- either of both
+-- it was told nothing, and its collection is at its end
+pub record IsCollectedIn (council : Council) (answer : OpAnswer) : Type 0 where
+  pub order : Order
+  pub is_open : council.order ≡ Some order
+  pub untold : order.told ≡ None
+  pub collected : IsCollectedBy (council_view council) (order_view order) answer
+
+pub collected_in : {S V : Type 0} (council : Council) (now : View S V) (answer : OpAnswer) → council_view council ≡ now.council → HasCollectedAll now answer → IsCollectedIn council answer
+collected_in council now answer same was =
+    let of = order_in council.order was.order (ap (λ (c : cluster.Council). c.order) same ∙ was.is_open) in
+    record {
+      order = of.0;
+      is_open = of.1;
+      untold = ap (λ (o : OrderView). o.told) of.2 ∙ was.untold;
+      collected = subst (λ (c : cluster.Council). IsCollectedBy c (order_view of.0) answer) (sym same) (subst (λ (o : OrderView). IsCollectedBy now.council o answer) (sym of.2) was.collected);
+    }
+
+-- one of them
 pub data MayTellIn (council : Council) (answer : OpAnswer) : Type 0 where
   told_last : IsToldIn council answer → MayTellIn council answer
   is_over : IsOverIn council answer → MayTellIn council answer
+  is_collected : IsCollectedIn council answer → MayTellIn council answer
 
 pub may_tell : {S V : Type 0} (council : Council) (now : View S V) (answer : OpAnswer) → council_view council ≡ now.council → MayTell now answer → MayTellIn council answer
-may_tell council now answer same (inl was) = told_last (told_in council now answer same was)
-may_tell council now answer same (inr was) = is_over (over_in council now answer same was)
+may_tell council now answer same (endings.was_told was) = told_last (told_in council now answer same was)
+may_tell council now answer same (endings.has_finished was) = is_over (over_in council now answer same was)
+may_tell council now answer same (endings.has_collected was) = is_collected (collected_in council now answer same was)
 
 pub order_there : (council : Council) (answer : OpAnswer) → MayTellIn council answer → (order : Order) × (council.order ≡ Some order)
 order_there council answer (told_last was) = (was.order, was.is_open)
 order_there council answer (is_over was) = (was.order, was.is_open)
+order_there council answer (is_collected was) = (was.order, was.is_open)
 
 pub may_close : (council : Council) (answer : OpAnswer) → MayTellIn council answer → IsSome council.order
 may_close council answer may = let there = order_there council answer may in subst (λ (o : Option Order). IsSome o) (sym there.1) refl
@@ -181,18 +203,34 @@ plain_end (to_do.Leave id) era rescanned answer is = ap is_plain is
 plain_end (to_do.Collect key) era rescanned answer is = absurd is
 plain_end (to_do.Probe key) era rescanned answer is = absurd is
 
--- where the call was told nothing, its change is at its end
-pub over_there : (council : Council) (answer : OpAnswer) (order : Order) → MayTellIn council answer → council.order ≡ Some order → order.told ≡ None → IsOverIn council answer
+-- where the call was told nothing, its change is at its end, or its collection is
+pub over_there : (council : Council) (answer : OpAnswer) (order : Order) → MayTellIn council answer → council.order ≡ Some order → order.told ≡ None → IsOverIn council answer ⊎ IsCollectedIn council answer
 over_there council answer order (told_last was) is none =
     absurd (cc (ap (λ (o : Order). o.told) (some_is (sym was.is_open ∙ is)), was.was_said, none))
-over_there council answer order (is_over was) is none = was
+over_there council answer order (is_over was) is none = inl was
+over_there council answer order (is_collected was) is none = inr was
 
-pub plain_there : (council : Council) (answer : OpAnswer) → IsOverIn council answer → is_plain answer ≡ true
-plain_there council answer was = plain_end was.order.asked was.finished.plan.progress.era.number was.finished.plan.rescanned answer was.finished.tells
+plain_concludes : (collected : Option (List ℕ)) (answer : OpAnswer) → is_plain answer ≡ true → MayConclude collected answer
+plain_concludes collected (op.Collected key ballot removed kept) is = absurd (cc is)
+plain_concludes collected (op.Joined id era rescanned) is = is
+plain_concludes collected (op.Left id era rescanned) is = is
+plain_concludes collected (op.Refused fault) is = is
+plain_concludes collected (op.Busy era) is = is
+plain_concludes collected (op.NotEmpty version) is = is
+plain_concludes collected (op.Absent acceptor) is = is
+plain_concludes collected (op.ProposerDown proposer) is = is
+plain_concludes collected (op.Probed key found) is = is
+plain_concludes collected (op.Stopped answer) is = is
+
+pub plain_there : (council : Council) (answer : OpAnswer) (collected : Option (List ℕ)) → collected ≡ option_map (λ (c : CollectionView). c.course.key) (council_view council).collection → IsOverIn council answer ⊎ IsCollectedIn council answer → MayConclude collected answer
+plain_there council answer collected keys (inl was) = plain_concludes collected answer (plain_end was.order.asked was.finished.plan.progress.era.number was.finished.plan.rescanned answer was.finished.tells)
+plain_there council answer collected keys (inr was) =
+    subst (MayConclude collected) (sym was.collected.tells) (keys ∙ ap (option_map (λ (c : CollectionView). c.course.key)) was.collected.is_collection)
 
 pub told_there : (council : Council) (answer : OpAnswer) (order : Order) (said : OpAnswer) → MayTellIn council answer → council.order ≡ Some order → order.told ≡ Some said → IsToldIn council answer
 told_there council answer order said (told_last was) is some = was
 told_there council answer order said (is_over was) is some = absurd (cc (ap (λ (o : Order). o.told) (some_is (sym was.is_open ∙ is)), was.untold, some))
+told_there council answer order said (is_collected was) is some = absurd (cc (ap (λ (o : Order). o.told) (some_is (sym was.is_open ∙ is)), was.untold, some))
 
 -- the mark that it leaves is the same
 same_marks : (asked : Asked) (said answer : OpAnswer) → SaysTheSame said answer → told_marks asked said ≡ told_marks asked answer
@@ -244,15 +282,33 @@ finishes greatest council now acceptors desks callers flow flow_now before after
       marks = (marks ∙ ap (λ (o : Order). before.marks ++ told_marks o.asked answer) one) i;
     })
 
+-- or its collection is over, beside which no change of membership is under way
+collects : {S V : Type 0} (greatest : ℕ) (council now : Council) (acceptors : List (AcceptorView S)) (desks : List (DeskView V)) (callers : List Caller) (flow flow_now : FlowView) (before after : Book) (answer : OpAnswer) (was : IsCollectedIn council answer) (order : Order)
+    → IsSafe (view_of greatest council acceptors desks callers flow before) → council.order ≡ Some order → flow_now ≡ abandoned flow exchange_place → council_view now ≡ record (at_rest (council_view council)) { plan = None } → now.eras ≡ council.eras
+    → after.marks ≡ before.marks ++ told_marks order.asked answer → StepTell (view_of greatest council acceptors desks callers flow before) answer (view_of greatest now acceptors desks callers flow_now after)
+collects greatest council now acceptors desks callers flow flow_now before after answer was order safe is flows closed eras marks =
+    let one : order ≡ was.order = some_is (sym is ∙ was.is_open) in
+    let none : (council_view council).plan ≡ None = (safe.collection.each was.collected.collection was.collected.is_collection).none_planned in
+    steps.collects (order_view was.order) (ap (option_map order_view) was.is_open) was.collected
+    (λ i. record (view_of greatest council acceptors desks callers flow before) {
+      eras = (eras i).0;
+      council = (closed ∙ ap (λ (o : Option PlanView). record (at_rest (council_view council)) { plan = option_map without_partial o }) (sym none)) i;
+      flow = flows i;
+      marks = (marks ∙ ap (λ (o : Order). before.marks ++ told_marks o.asked answer) one) i;
+    })
+
 -- it ends, either way
 pub told_step : {S V : Type 0} (greatest : ℕ) (council now : Council) (acceptors : List (AcceptorView S)) (desks : List (DeskView V)) (callers : List Caller) (flow flow_now : FlowView) (before after : Book) (answer : OpAnswer) (may : MayTellIn council answer) (order : Order)
-    → council.order ≡ Some order → flow_now ≡ abandoned flow exchange_place → council_view now ≡ concluded order.told (at_rest (council_view council)) → now.eras ≡ council.eras → after.marks ≡ before.marks ++ told_marks order.asked (unwrap_or order.told answer)
+    → IsSafe (view_of greatest council acceptors desks callers flow before) → council.order ≡ Some order → flow_now ≡ abandoned flow exchange_place → council_view now ≡ concluded order.told (at_rest (council_view council)) → now.eras ≡ council.eras → after.marks ≡ before.marks ++ told_marks order.asked (unwrap_or order.told answer)
     → StepTell (view_of greatest council acceptors desks callers flow before) answer (view_of greatest now acceptors desks callers flow_now after)
-told_step {S} {V} greatest council now acceptors desks callers flow flow_now before after answer may order is flows closed eras marks = by_told order.told refl closed marks
+told_step {S} {V} greatest council now acceptors desks callers flow flow_now before after answer may order safe is flows closed eras marks = by_told order.told refl closed marks
   where
     by_told : (o : Option OpAnswer) → order.told ≡ o → council_view now ≡ concluded o (at_rest (council_view council)) → after.marks ≡ before.marks ++ told_marks order.asked (unwrap_or o answer)
         → StepTell (view_of greatest council acceptors desks callers flow before) answer (view_of greatest now acceptors desks callers flow_now after)
-    by_told None none seen made = finishes greatest council now acceptors desks callers flow flow_now before after answer (over_there council answer order may is none) order is flows seen eras made
+    by_told None none seen made = elim (over_there council answer order may is none) [
+      | inl was ↦ finishes greatest council now acceptors desks callers flow flow_now before after answer was order is flows seen eras made
+      | inr was ↦ collects greatest council now acceptors desks callers flow flow_now before after answer was order safe is flows seen eras made
+    ]
     by_told (Some said) some seen made = tells greatest council now acceptors desks callers flow flow_now before after answer (told_there council answer order said may is some) order said is some flows seen eras made
 
 -- nothing is reserved for it any more
@@ -286,16 +342,12 @@ lists_for view exchange safe is_open is_keys of =
 abbrev lists_at : {S V : Type 0} (view : View S V) (exchange : ExchangeView) (of : IsListing view.council.plan) → (exchange.question ≡ cluster.NextKeys of.listing.places) × (exchange.tag ≡ of.listing.tag) → ListsFor view exchange
 lists_at view exchange of there = record { plan = of.plan; is_plan = of.is_plan; settles = of.settles; listing = of.listing; is_listing = of.is_listing; question = there.0; tag = there.1 }
 
--- where no collection is under way, none asks for one
-none_collects : {S V : Type 0} (view : View S V) (exchange : ExchangeView) → IsSafe view → view.council.collection ≡ None → view.council.exchange ≡ Some exchange → is_of_collection exchange.question ≡ true → ⊥
-none_collects view exchange safe none is_open asks = let of = safe.collection.exchange exchange is_open asks in cc (none, of.is_collection)
-
--- what is asked may be listed
-pub may_list : {S V : Type 0} (view : View S V) (exchange : ExchangeView) (question : cluster.Question) → IsSafe view → view.council.collection ≡ None → view.council.exchange ≡ Some exchange → exchange.question ≡ question → MayList question view.council.plan
-may_list view exchange (cluster.Probe key) safe none is_open is = tt
-may_list view exchange (cluster.NewAges key least) safe none is_open is = absurd (none_collects view exchange safe none is_open (ap is_of_collection is))
-may_list view exchange (cluster.Removal key) safe none is_open is = absurd (none_collects view exchange safe none is_open (ap is_of_collection is))
-may_list view exchange (cluster.NextKeys places) safe none is_open is =
+-- what is asked beside a collection may be listed
+pub may_list : {S V : Type 0} (view : View S V) (exchange : ExchangeView) (question : cluster.Question) → IsSafe view → is_of_collection exchange.question ≡ false → view.council.exchange ≡ Some exchange → exchange.question ≡ question → MayList question view.council.plan
+may_list view exchange (cluster.Probe key) safe beside is_open is = tt
+may_list view exchange (cluster.NewAges key least) safe beside is_open is = absurd (cc (beside, ap is_of_collection is))
+may_list view exchange (cluster.Removal key) safe beside is_open is = absurd (cc (beside, ap is_of_collection is))
+may_list view exchange (cluster.NextKeys places) safe beside is_open is =
     let lists = safe.sound.council.1 exchange places is_open is in
     record { plan = lists.plan; is_plan = lists.is_plan; settles = (safe.sound.council.0 lists.plan lists.listing lists.is_plan lists.is_listing).settles; listing = lists.listing; is_listing = lists.is_listing }
 

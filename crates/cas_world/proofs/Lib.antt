@@ -2,9 +2,11 @@ pub mod Asking
 pub mod Beginning
 pub mod Begins
 pub mod Callers
+pub mod Collects
 pub mod Counts
 pub mod Ends
 pub mod Exchanges
+pub mod Gathers
 pub mod Lists
 pub mod Moving
 pub mod Openings
@@ -12,6 +14,7 @@ pub mod Parts
 pub mod Planning
 pub mod Proposes
 pub mod Readers
+pub mod Renewing
 pub mod Reserving
 pub mod Serving
 pub mod Settling

@@ -145,16 +145,16 @@ left_reserves DeskTurns told id place callers desk now caller caller_now flow fl
     )
 
 -- the desk changed so
-turned : {V : Type 0} (DeskTurns : DeskView V → DeskView V → Type 0) (closed : OpenCall → OpenCall) (id : ℕ) (desk now : DeskView V) (caller caller_now : Caller) (flow flow_now : FlowView) → Leaves DeskTurns closed id desk now caller caller_now flow flow_now → DeskTurns desk now
+pub turned : {V : Type 0} (DeskTurns : DeskView V → DeskView V → Type 0) (closed : OpenCall → OpenCall) (id : ℕ) (desk now : DeskView V) (caller caller_now : Caller) (flow flow_now : FlowView) → Leaves DeskTurns closed id desk now caller caller_now flow flow_now → DeskTurns desk now
 turned DeskTurns closed id desk now caller caller_now flow flow_now (moving.idle none turns stays flows) = turns
 turned DeskTurns closed id desk now caller caller_now flow flow_now (moving.closes round call is is_open turns by flows) = turns
 
 -- ---- the whole
-crash_reserves : (id : ℕ) (council : cluster.Council) → reserved_by (crash_at id council) ≡ reserved_by council
+pub crash_reserves : (id : ℕ) (council : cluster.Council) → reserved_by (crash_at id council) ≡ reserved_by council
 crash_reserves zero council = ap (λ (n : ℕ). reserved_for_order council.order + n + reserved_for_collection council.collection) (broken_reserved council.exchange)
 crash_reserves (suc id) council = refl
 
-crash_order : (id : ℕ) (council : cluster.Council) → (crash_at id council).order ≡ council.order
+pub crash_order : (id : ℕ) (council : cluster.Council) → (crash_at id council).order ≡ council.order
 crash_order zero council = refl
 crash_order (suc id) council = refl
 
@@ -169,7 +169,7 @@ asked_after greatest plan next = by_test (plan.entered == greatest)
 moved_same : (number : ℕ) (call : OpenCall) → call_view (closed_with (λ proposed. moved_answer proposed number) call) ≡ closed_by (answer.Moved number) (cause.Moved number) (call_view call)
 moved_same number call = refl
 
-crashed_same : (call : OpenCall) → call_view (closed_with crash_answer call) ≡ closed_by_crash (call_view call)
+pub crashed_same : (call : OpenCall) → call_view (closed_with crash_answer call) ≡ closed_by_crash (call_view call)
 crashed_same call = refl
 
 module _ {S V : Type 0} (m : Meaning S V) (greatest : ℕ) (council council_now : Council) (acceptors : List (AcceptorView S)) (desks : List (DeskView V)) (callers : List Caller) (flow then_ flow_now : FlowView) (before middle after : Book) (id : ℕ) (desk now : DeskView V) (caller caller_now : Caller) (plan : PlanView) (next : Era)

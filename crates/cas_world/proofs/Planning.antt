@@ -13,6 +13,7 @@ use Rattle.cas_record.specs.declared.mark.Mark.TheVariants as mark
 use Rattle.cas_record.specs.declared.operator.Asked.{Asked}
 use Rattle.cas_record.specs.declared.operator.OpAnswer.{OpAnswer}
 use Rattle.cas_record.specs.declared.operator.OpAnswer.TheVariants as op
+use Rattle.cas_cluster.specs.Collection.{CollectionView}
 use Rattle.cas_cluster.specs.Council.{ListingView, OrderView, PlanView, silent_order, told_so}
 use Rattle.cas_cluster.specs.Course as course
 use Rattle.cas_cluster.specs.Course.{IsMoving, IsSettled, IsStart, IsWhole, WorksIn, base_of, course_of, entering, entries_in, next_era}
@@ -88,9 +89,23 @@ welcomed m old middle id (step.was_up acceptor at up same) = plans.is_up id acce
 welcomed m old middle id (step.starts acceptor now at by is) = plans.starts id acceptor now refl at by is
 welcomed m old middle id (step.fails acceptor now at by is) = plans.fails id acceptor now refl at by is
 
-pub opens_plan : {S V : Type 0} (m : Meaning S V) (old new : View S V) (asked : Asked) (desk : DeskView V) → MayOpenPlan old asked → old.council.collection ≡ None → IsAt old.desks 0 desk → OpensPlan m old asked desk new → StepOpenPlan m old new
-opens_plan m old new asked desk may none at by =
-    record { order = may.order; is_open = may.is_open; none_collected = none; desk = desk; at_desk = at; opens = subst (λ (a : Asked). OpensPlan m old a desk new) (sym may.is_for) by }
+-- beside a call for that no collection is under way
+pub none_collected : {S V : Type 0} (view : View S V) (kind : PlanKind) (id : ℕ) → IsSafe view → MayOpenPlan view (asked_to kind id) → view.council.collection ≡ None
+none_collected {S} {V} view kind id safe may = by_option view.council.collection refl
+  where
+    other : (kind : PlanKind) (key : List ℕ) → to_do.Collect key ≡ asked_to kind id → ⊥
+    other Join key is = cc is
+    other Leave key is = cc is
+
+    by_option : (o : Option CollectionView) → view.council.collection ≡ o → view.council.collection ≡ None
+    by_option None is = is
+    by_option (Some c) is =
+        let of = safe.collection.each c is in
+        absurd (other kind c.course.key (sym of.is_for ∙ ap (λ (o : OrderView). o.asked) (some_is (sym of.is_open ∙ may.is_open)) ∙ may.is_for))
+
+pub opens_plan : {S V : Type 0} (m : Meaning S V) (old new : View S V) (kind : PlanKind) (id : ℕ) (desk : DeskView V) → IsSafe old → MayOpenPlan old (asked_to kind id) → IsAt old.desks 0 desk → OpensPlan m old (asked_to kind id) desk new → StepOpenPlan m old new
+opens_plan m old new kind id desk safe may at by =
+    record { order = may.order; is_open = may.is_open; none_collected = none_collected old kind id safe may; desk = desk; at_desk = at; opens = subst (λ (a : Asked). OpensPlan m old a desk new) (sym may.is_for) by }
 
 -- an era's number is at most that of the marks
 pub few_entries : (marks : List Mark) → length (entries_in marks) ≤ length marks

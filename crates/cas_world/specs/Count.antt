@@ -2,7 +2,7 @@
 use Rattle.std.specs.Prelude.{◌≡◌, ◌+◌, ◌<◌, ℕ, List, [], ◌∷◌, ◌++◌, Some}
 use Rattle.cas_change.specs.declared.outcome.Outcome.{Outcome}
 use Rattle.cas_proposer.specs.Desk.{DeskView}
-use Rattle.cas_proposer.specs.Round.{IsConfirmersOf}
+use Rattle.cas_proposer.specs.Round.{IsConfirmersOf, confirmed_in}
 use Rattle.cas_proposer.specs.declared.round.Round.{Round}
 use Rattle.cas_record.specs.Book.{Book}
 use Rattle.cas_record.specs.declared.answer.Answer.{Answer}
@@ -37,6 +37,7 @@ pub record MayCount {V : Type 0} (desk : DeskView V) (caller : Caller) (left : �
 pub record Counts {V : Type 0} (m : DiskMeaning V) (old new : DeskView V) (round : Round) (caller now : Caller) (call : OpenCall) (outcome : Outcome) (book after : Book) (told : Answer) : Type 0 where
   pub by : List ℕ
   pub confirmers : IsConfirmersOf round by
+  pub shown : by ≡ confirmed_in round.phase
   pub ends : EndsRound m old new round (offered_by round round.ride outcome.state by)
   pub told_is : told ≡ answer.Done outcome.state outcome.took round.ballot
   pub caller_is : now ≡ record caller { call = Some (over call told) }

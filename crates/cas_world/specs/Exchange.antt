@@ -15,19 +15,27 @@ use Rattle.cas_record.specs.declared.answer.Answer.TheVariants as answer
 use Rattle.cas_record.specs.declared.operator.OpAnswer.{OpAnswer}
 use Rattle.cas_record.specs.declared.operator.OpAnswer.TheVariants as op
 use Rattle.cas_record.specs.declared.operator.Probes.{Probes}
-use Rattle.cas_cluster.specs.Council.{MemberPlace, ListingView, PlanView, place_in, has_ended, with_listing, Question, Probe, NextKeys, ExchangeView, OrderView, exchange_place}
-use Rattle.cas_cluster.specs.Step.{Event, Turn, RefuseTurn, TurnExchange, RefuseTurnExchange}
+use Rattle.cas_collect.specs.declared.collect.CollectStep.{CollectStep}
+use Rattle.cas_collect.specs.declared.collect.CollectStep.TheVariants as collect
+use Rattle.cas_cluster.specs.Collection.{CollectionView, confirmed_step}
+use Rattle.cas_cluster.specs.Council as cluster
+use Rattle.cas_cluster.specs.Council.{hushed, MemberPlace, ListingView, PlanView, place_in, has_ended, with_listing, Question, Probe, NextKeys, ExchangeView, OrderView, exchange_place}
+use Rattle.cas_cluster.specs.Safe.{is_of_collection}
+use Rattle.cas_cluster.specs.Step.{Event, Turn, RefuseTurn, TurnExchange, RefuseTurnExchange, AskAll, AskCollect, Gather, GatherCollect, GatherRound}
 use Rattle.cas_cluster.specs.StepCalls.{Sends, most_marks}
 use Rattle.cas_cluster.specs.StepCouncil.{everyone, places_from, begun_listing, IsForQuestion, SaysTheSame, TagsAll, WhereDrawn, questions_to, new_exchange}
 use Rattle.cas_cluster.specs.StepDesks.{HasKept, FailsToDraw, LosesMemory}
 use Rattle.cas_cluster.specs.View.{DiskMeaning, View}
 use Rattle.cas_world.specs.Beginning.{HasNoCall}
+use Rattle.cas_calls.specs.Collecting.{is_sought}
 use Rattle.cas_calls.specs.Council.{exchange_view, goes_on_in, listed_if, listed_with}
-use Rattle.cas_calls.specs.declared.council.Exchange.{Exchange}
-use Rattle.cas_calls.specs.declared.council.Exchange.TheVariants as what
+use Rattle.cas_calls.specs.declared.council.Query.{Query}
+use Rattle.cas_calls.specs.declared.council.Query.TheVariants as what
 use Rattle.cas_calls.specs.declared.council.Gathered.{Gathered}
 use Rattle.cas_calls.specs.declared.council.Gathered.TheVariants as gathered
 use Rattle.cas_calls.specs.declared.council.Opened.{Opened}
+use Rattle.cas_world.specs.declared.exchange.Exchange.{Exchange}
+use Rattle.cas_world.specs.declared.exchange.Exchange.TheVariants as this
 
 -- ---- which frames have their turn
 -- while an exchange is open, its frames are those of proposer 0
@@ -54,11 +62,11 @@ pub record WasToldOrder {S V : Type 0} (view : View S V) (answer : OpAnswer) : T
   pub same : SaysTheSame said answer
 
 -- what is asked of these members: a listing goes on from its places, and begins where each of them has come nowhere yet
-abbrev pub question_from : List ℕ → Option ListingView → Exchange → Question
+abbrev pub question_from : List ℕ → Option ListingView → Query → Question
 question_from members goes_on (what.Probe key) = Probe key
 question_from members goes_on what.List = NextKeys (places_from members goes_on)
 
-abbrev pub question_in : {S V : Type 0} → View S V → Exchange → Question
+abbrev pub question_in : {S V : Type 0} → View S V → Query → Question
 question_in view what = question_from (everyone view) (goes_on_in view.council what) what
 
 -- those that are asked: in a listing that goes on, those whose listing has not ended
@@ -67,7 +75,7 @@ asked_from members None = members
 asked_from members (Some listing) = members_where (λ member. has_member members member && not (has_ended (place_in listing.places member)))
 
 -- the listing that begins
-abbrev pub begins_with : List ℕ → Option ListingView → Exchange → Ballot → Option ListingView
+abbrev pub begins_with : List ℕ → Option ListingView → Query → Ballot → Option ListingView
 begins_with members None what.List tag = Some (begun_listing (places_from members None) tag None)
 begins_with members goes_on other tag = None
 
@@ -79,21 +87,80 @@ pub record MayAsk {S V : Type 0} (view : View S V) (question : Question) : Type 
   pub none_open : view.council.exchange ≡ None
   pub idle : HasNoCall view 0
 
--- it is open, and so is an exchange of which no frame waits
-pub record MayGather {S V : Type 0} (view : View S V) : Type 0 where
+-- that step of the collection is due, no exchange is open, and caller 0 has no open call
+pub record MayAskCollected {S V : Type 0} (view : View S V) (step : CollectStep) : Type 0 where
+  pub collection : CollectionView
+  pub is_collection : view.council.collection ≡ Some collection
+  pub is_due : collection.course.step ≡ step
+  pub none_open : view.council.exchange ≡ None
+  pub idle : HasNoCall view 0
+
+abbrev pub MayAskThis : {S V : Type 0} → View S V → Exchange → Type 0
+MayAskThis view this.Ages = MayAskCollected view collect.Ages
+MayAskThis view this.Remove = MayAskCollected view collect.Remove
+MayAskThis view this.List = MayAsk view (question_in view what.List)
+MayAskThis view (this.Probe key) = MayAsk view (question_in view (what.Probe key))
+
+-- which step of the store that is
+abbrev pub asking_of : {S V : Type 0} → View S V → Exchange → Event
+asking_of view this.Ages = AskCollect
+asking_of view this.Remove = AskCollect
+asking_of view this.List = AskAll (question_in view what.List)
+asking_of view (this.Probe key) = AskAll (question_in view (what.Probe key))
+
+-- the operator's call is open, and so is a probe or a listing of which no frame waits
+pub record MayGatherMembers {S V : Type 0} (view : View S V) : Type 0 where
   pub order : OrderView
   pub is_order : view.council.order ≡ Some order
   pub exchange : ExchangeView
   pub is_open : view.council.exchange ≡ Some exchange
+  pub beside : is_of_collection exchange.question ≡ false
   pub none_waits : (queue_at view.flow exchange_place).messages ≡ []
 
+-- an exchange of the collection is open, of which no frame waits
+pub record MayGatherCollected {S V : Type 0} (view : View S V) : Type 0 where
+  pub exchange : ExchangeView
+  pub is_open : view.council.exchange ≡ Some exchange
+  pub asks : is_of_collection exchange.question ≡ true
+  pub none_waits : (queue_at view.flow exchange_place).messages ≡ []
+
+-- the round of the collection is due, its call is over, and it is known what became of it
+pub record MayGatherRound {S V : Type 0} (view : View S V) : Type 0 where
+  pub collection : CollectionView
+  pub is_collection : view.council.collection ≡ Some collection
+  pub is_due : collection.course.step ≡ collect.Round
+  pub over : collection.calling ≡ false
+  pub known : is_sought collection.tombstone ≡ false
+  pub none_open : view.council.exchange ≡ None
+  pub idle : HasNoCall view 0
+
+pub data MayGather {S V : Type 0} (view : View S V) : Type 0 where
+  members : MayGatherMembers view → MayGather view
+  collected : MayGatherCollected view → MayGather view
+  its_round : MayGatherRound view → MayGather view
+
+-- which step of the store that is
+abbrev pub gathering_by : Option ExchangeView → Event
+gathering_by None = GatherRound
+gathering_by (Some exchange) = if is_of_collection exchange.question then GatherCollect else Gather
+
+abbrev pub gathering_of : {S V : Type 0} → View S V → Event
+gathering_of view = gathering_by view.council.exchange
+
 -- ---- what they answer
--- the call may tell what was found, with its key; or a listing went on, and is complete or not
+-- the collection goes on with its next step, and the operator's call is told nothing
+abbrev pub collected_on : cluster.Council → CollectionView → cluster.Council
+collected_on council next = record (hushed council) { exchange = None; collection = Some next }
+
+-- the call may tell what was found, with its key; or a listing went on, and is complete or not; or a collection went on
 pub data HasGathered {S V : Type 0} (old : View S V) (result : Gathered) (new : View S V) : Type 0 where
   probed : (exchange : ExchangeView) (key : List ℕ) (found : Probes) → old.council.exchange ≡ Some exchange → exchange.question ≡ Probe key → result ≡ gathered.Probed found → found.probes.items ≡ exchange.told
       → WasToldOrder new (op.Probed key found) → HasGathered old result new
   lists : (exchange : ExchangeView) (places : List MemberPlace) (plan : PlanView) (listing : ListingView) → old.council.exchange ≡ Some exchange → exchange.question ≡ NextKeys places
       → old.council.plan ≡ Some plan → result ≡ listed_if listing.complete → new.council ≡ listed_with old.council (with_listing plan listing) → HasGathered old result new
+  acknowledged : (collection : CollectionView) → old.council.exchange ≡ None → old.council.collection ≡ Some collection → result ≡ gathered.All 0 0 → new.council ≡ collected_on old.council (confirmed_step collection) → HasGathered old result new
+  confirmed : (exchange : ExchangeView) (collection : CollectionView) (removed kept : ℕ) → old.council.exchange ≡ Some exchange → is_of_collection exchange.question ≡ true → old.council.collection ≡ Some collection → result ≡ gathered.All removed kept
+      → new.council ≡ collected_on old.council (record (confirmed_step collection) { removed = removed; kept = kept }) → HasGathered old result new
 
 -- the request stands in front of the exchange's frames
 abbrev pub IsAsked : {S V : Type 0} → View S V → Request → Type 0
@@ -101,7 +168,7 @@ IsAsked view request = slice_get (queue_at view.flow exchange_place).messages 0 
 
 -- ---- an exchange that opens
 -- it has a tag, and each of those that are to be asked is
-pub record Opens {V : Type 0} (m : DiskMeaning V) (old new : DeskView V) (before after : FlowView) (members : List ℕ) (goes_on : Option ListingView) (what : Exchange) (opened : Opened) : Type 0 where
+pub record Opens {V : Type 0} (m : DiskMeaning V) (old new : DeskView V) (before after : FlowView) (members : List ℕ) (goes_on : Option ListingView) (what : Query) (opened : Opened) : Type 0 where
   pub up : old.down ≡ false
   pub tag : Ballot
   pub tagged : TagsAll m goes_on old new tag

@@ -1,4 +1,5 @@
 pub mod Beginning
+pub mod Collect
 pub mod Count
 pub mod Exchange
 pub mod Moving

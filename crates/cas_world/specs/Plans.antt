@@ -1,5 +1,5 @@
 -- Changes of membership, as a world's calls begin them and lead proposers on.
-use Rattle.std.specs.Prelude.{◌≡◌, ◌⊎◌, ⊤, ℕ, false, List, [], Option, None, Some, Result, option_map}
+use Rattle.std.specs.Prelude.{◌≡◌, ⊤, ℕ, false, List, [], Option, None, Some, Result, option_map}
 use Rattle.cas_members.specs.declared.plan.PlanStep.{PlanStep}
 use Rattle.cas_members.specs.Plan.{next_of, join_of, leave_of}
 use Rattle.cas_members.specs.Steps.{Progress}
@@ -11,7 +11,7 @@ use Rattle.cas_record.specs.declared.operator.OpAnswer.{OpAnswer}
 use Rattle.cas_record.specs.declared.operator.OpAnswer.TheVariants as op
 use Rattle.cas_cluster.specs.Council.{ListingView, OrderView, PlanView}
 use Rattle.cas_cluster.specs.Course.{next_era}
-use Rattle.cas_cluster.specs.StepCouncil.{IsFinishedBy}
+use Rattle.cas_cluster.specs.StepCouncil.{IsCollectedBy, IsFinishedBy}
 use Rattle.cas_cluster.specs.View.{View, era_at}
 use Rattle.cas_world.specs.Exchange.{WasToldOrder}
 use Rattle.cas_world.specs.declared.plans.PlanKind.{PlanKind}
@@ -91,9 +91,18 @@ pub record HasFinished {S V : Type 0} (view : View S V) (answer : OpAnswer) : Ty
   pub untold : order.told ≡ None
   pub finished : IsFinishedBy view.council order answer
 
--- the operator's call may be told this: what its last step told, or that its change is at its end
-abbrev pub MayTell : {S V : Type 0} → View S V → OpAnswer → Type 0
-MayTell view answer = WasToldOrder view answer ⊎ HasFinished view answer
+-- the call was told nothing since, and its collection is at its end, as this answer tells
+pub record HasCollectedAll {S V : Type 0} (view : View S V) (answer : OpAnswer) : Type 0 where
+  pub order : OrderView
+  pub is_open : view.council.order ≡ Some order
+  pub untold : order.told ≡ None
+  pub collected : IsCollectedBy view.council order answer
+
+-- the operator's call may be told this: what its last step told, or that its change or its collection is at its end
+pub data MayTell {S V : Type 0} (view : View S V) (answer : OpAnswer) : Type 0 where
+  was_told : WasToldOrder view answer → MayTell view answer
+  has_finished : HasFinished view answer → MayTell view answer
+  has_collected : HasCollectedAll view answer → MayTell view answer
 
 -- it tells that a change is at its end
 abbrev pub IsEnd : OpAnswer → Type 0

@@ -164,7 +164,7 @@ fn settle(
 }
 
 /// How many marks a round reserves.
-fn round_marks(era: &Era) -> usize
+pub(crate) fn round_marks(era: &Era) -> usize
     ensures value { result ≡ round_marks era.now }
     ensures few { result ≤ 264 }
 {

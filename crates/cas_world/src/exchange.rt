@@ -13,7 +13,7 @@ ghost use Rattle.cas_ballot.specs.Ballot.{FitsBallot};
 ghost use Rattle.cas_cluster.specs.StepCalls.{Sends};
 ghost use Rattle.cas_cluster.specs.StepCouncil.{new_exchange, questions_to, told_marks, HasTag};
 ghost use Rattle.cas_calls.specs.Council.{exchange_view, question_view, left_to_list};
-ghost use Rattle.cas_world.specs.Exchange.{MayAsk, MayGather, HasGathered, WasToldOrder, IsAsked, Opens, FailsToAsk, FailsToTag, question_in, question_from, asked_from, begins_with};
+ghost use Rattle.cas_world.specs.Exchange.{MayAsk, MayAskThis, MayGather, MayGatherMembers, HasGathered, asking_of, gathering_of, WasToldOrder, IsAsked, Opens, FailsToAsk, FailsToTag, question_in, question_from, asked_from, begins_with};
 ghost use Rattle.cas_world.specs.Plans.{MayTell};
 ghost use Rattle.cas_calls.specs.Proposing.{disks};
 
@@ -23,10 +23,11 @@ use crate::world::World;
 use cas_ballot::{Ballot, Members};
 use cas_calls::answers::copy_of;
 use cas_calls::council::{
-    EXCHANGE_PLACE, Exchange, Gathered, OpenExchange, Opened, Order, Question, no_memory,
+    EXCHANGE_PLACE, EndedOrder, Gathered, OpenExchange, Opened, Order, Query, Question, no_memory,
     reserved_in_all, unanswered,
 };
 use cas_calls::send::send_questions;
+use cas_change::Key;
 use cas_disk::Disk;
 use cas_fate::Verdict;
 use cas_flow::{Fall, Flow, Message};
@@ -36,6 +37,20 @@ use cas_record::{Answer, Asked, MOST_MARKS, Mark, OpAnswer, Record};
 use cas_slot::{Request, Shelf};
 use cas_vault::VaultError;
 use std::alloc::{AllocError, Global};
+
+/// What proposer 0 asks all members.
+#[derive(Debug, PartialEq, Eq, Drop)]
+pub enum Exchange {
+    /// For a collection, to answer nothing that a proposer asked before it was renewed.
+    Ages,
+    /// For a collection, to remove their slot of its key.
+    Remove,
+    /// The next keys of which each keeps a slot, for the listing of the era that is to be settled. Members whose listing has ended are not
+    /// asked.
+    List,
+    /// What each keeps for the key.
+    Probe(Key),
+}
 
 impl<S: Shelf, V: Disk> World<S, V> {
     /// Opens a call of the operator, and reserves its mark.
@@ -63,30 +78,50 @@ impl<S: Shelf, V: Disk> World<S, V> {
     }
 
     /// Ends the operator's call: with the answer that its last step told; or, where that told nothing and the change of membership that
-    /// was asked for is at its end, with [`OpAnswer::Joined`] or [`OpAnswer::Left`], and the change is no longer under way then. It is
-    /// marked, but for what a probe found, and handed back. An exchange that is open is over, and its frames join the late ones; a
-    /// listing that is not complete is dropped. It takes no memory.
+    /// was asked for is at its end, with [`OpAnswer::Joined`] or [`OpAnswer::Left`], and the change is no longer under way then; or, where the
+    /// collection that was asked for is at its end, with [`OpAnswer::Collected`]. It is marked, but for what a probe found, and handed back.
+    /// An exchange that is open is over, and its frames join the late ones; so is a collection, and a listing that is not complete is
+    /// dropped. It takes no memory.
     pub fn tell(&mut self, answer: OpAnswer) -> OpAnswer
         requires { MayTell self.old answer }
         ensures same { result ≡ answer }
         ensures step { Step (meaning S.contents S.tells S.may_leave S.fault_count V.tells V.may_leave V.fault_count) self.old (Tell answer) self.new }
     {
         self.flow.abandon(EXCHANGE_PLACE);
-        let Order { asked, told } = self.council.close();
-        let told = self.council.conclude(told, &answer);
+        let EndedOrder {
+            order: Order { asked, told },
+            collected,
+        } = self.council.close();
+        let told = self.council.conclude(told, collected, &answer);
         mark_told(&mut self.record, asked, told);
         answer
     }
 
     /// Proposer 0, whose caller has no open call, asks this, for which the operator's call was opened: of all members what they keep for
-    /// a key, or of those whose listing has not ended their next keys. A tag is drawn, but that a listing goes on with the one that it
-    /// began with. The marks of the harms are reserved.
+    /// a key, or of those whose listing has not ended their next keys; or the step of the collection that is due asks all members. A tag is
+    /// drawn, but that a listing goes on with the one that it began with, and that a collection's is the ballot of its tombstone. The marks
+    /// of the harms are reserved.
     ///
     /// The refusals, each of which the call is told, come in this order: [`Answer::Down`] exactly where proposer 0 is down;
     /// [`Answer::RecordFull`] exactly where the marks that are made, all that are reserved and one for each member that is asked would be
     /// more than a record holds; [`Answer::NoMemory`], after which the tag may be drawn, [`Answer::Spent`], and [`Answer::VaultFault`],
     /// after which proposer 0 is down.
     pub fn ask_all(&mut self, what: Exchange) -> Result<(), OpAnswer>
+        requires { MayAskThis self.old what }
+        ensures step { Step (meaning S.contents S.tells S.may_leave S.fault_count V.tells V.may_leave V.fault_count) self.old (asking_of self.old what) self.new }
+        ensures ok { OnOk result (IsSome self.new.council.exchange) }
+        ensures none { OnErr result (self.new.council.exchange ≡ None) }
+        ensures err { IfErr result (WasToldOrder self.new) }
+    {
+        match what {
+            Exchange::Ages | Exchange::Remove => self.ask_collect(),
+            Exchange::List => self.ask_members(Query::List),
+            Exchange::Probe(key) => self.ask_members(Query::Probe(key)),
+        }
+    }
+
+    /// Proposer 0 asks this of all members, or of those whose listing has not ended.
+    fn ask_members(&mut self, what: Query) -> Result<(), OpAnswer>
         requires { MayAsk self.old (question_in self.old what) }
         ensures step { Step (meaning S.contents S.tells S.may_leave S.fault_count V.tells V.may_leave V.fault_count) self.old (AskAll (question_in self.old what)) self.new }
         ensures ok { OnOk result (IsSome self.new.council.exchange) }
@@ -119,13 +154,34 @@ impl<S: Shelf, V: Disk> World<S, V> {
         }
     }
 
-    /// Ends the exchange that is open, and tells what came of it. Where proposer 0 crashed within it the operator's call is told
-    /// [`Answer::Crashed`], before all else. A listing goes on by the next keys that members told; where those whose listing has ended and
-    /// those whose next keys arrived are no prepare quorum or no accept quorum, the call is told [`Answer::Aged`] with the greatest age
-    /// that a member told, or else [`Answer::Short`] with how many of the quorum that is missing they are. After [`Answer::NoMemory`] the
-    /// exchange stays open.
+    /// Ends the exchange that is open, or the round of a collection, whose call is over, and tells what came of it.
+    ///
+    /// Where proposer 0 crashed within an exchange the operator's call is told [`Answer::Crashed`], before all else. A listing goes on by
+    /// the next keys that members told; where those whose listing has ended and those whose next keys arrived are no prepare quorum or no
+    /// accept quorum, the call is told [`Answer::Aged`] with the greatest age that a member told, or else [`Answer::Short`] with how many of
+    /// the quorum that is missing they are. After [`Answer::NoMemory`] such an exchange stays open.
+    ///
+    /// A collection goes on where all who accept acknowledged its tombstone, and where all members confirmed what they were asked; otherwise
+    /// the call is told [`OpAnswer::Absent`] of the least that did not. Where the round read a held state it is told [`OpAnswer::NotEmpty`].
     pub fn gather(&mut self) -> Result<Gathered, OpAnswer>
         requires { MayGather self.old }
+        ensures step { Step (meaning S.contents S.tells S.may_leave S.fault_count V.tells V.may_leave V.fault_count) self.old (gathering_of self.old) self.new }
+        ensures ok { IfOk result (λ found. HasGathered self.old found self.new) }
+        ensures less { result ≡ Ok Gathered.More → left_to_list self.new.council.plan < left_to_list self.old.council.plan }
+        ensures err { IfErr result (WasToldOrder self.new) }
+    {
+        if self.council.exchange.is_none() {
+            return self.gather_round();
+        }
+        if self.council.asks_for_collection() {
+            return self.gather_collection();
+        }
+        self.gather_members()
+    }
+
+    /// The exchange that is open is a probe or a listing, and is over.
+    fn gather_members(&mut self) -> Result<Gathered, OpAnswer>
+        requires may { MayGatherMembers self.old }
         ensures step { Step (meaning S.contents S.tells S.may_leave S.fault_count V.tells V.may_leave V.fault_count) self.old Gather self.new }
         ensures ok { IfOk result (λ found. HasGathered self.old found self.new) }
         ensures less { result ≡ Ok Gathered.More → left_to_list self.new.council.plan < left_to_list self.old.council.plan }
@@ -250,7 +306,7 @@ fn open_exchange<V: Disk>(
     reserved: usize,
     everyone: Members,
     goes_on: Option<&Listing>,
-    what: Exchange,
+    what: Query,
 ) -> Result<Opened, Answer>
     requires idle { desk.old.round ≡ None }
     requires proposer { desk.old.id ≤ 16 }
@@ -307,7 +363,7 @@ fn ask_members(
     tag: Ballot,
     everyone: Members,
     goes_on: Option<&Listing>,
-    what: Exchange,
+    what: Query,
 ) -> Result<Opened, AllocError>
     requires queue { exchange_place < length flow.old.own }
     requires tag { FitsBallot tag }
@@ -319,19 +375,35 @@ fn ask_members(
     let members = members_asked(everyone, goes_on);
     let begun = begin_listing(alloc, tag, &everyone, goes_on, &what)?;
     let question = question_for(alloc, &everyone, goes_on, what)?;
+    let exchange = ask_each(alloc, flow, age, tag, members, question)?;
+    Ok(Opened { exchange, begun })
+}
+
+/// Asks each of these members this, with the tag: all of them or, after an `Err`, none.
+pub(crate) fn ask_each(
+    alloc: Global,
+    flow: &mut Flow,
+    age: u64,
+    tag: Ballot,
+    members: Members,
+    question: Question,
+) -> Result<OpenExchange, AllocError>
+    requires queue { exchange_place < length flow.old.own }
+    requires tag { FitsBallot tag }
+    ensures exchange { IfOk result (λ exchange. exchange_view exchange ≡ new_exchange (question_view question) tag members) }
+    ensures sent { OnOk result (Sends flow.old exchange_place (questions_to age tag (question_view question) members) flow.new) }
+    ensures not_sent { OnErr result (flow.new ≡ flow.old) }
+{
     let told = unanswered(alloc, &members)?;
     send_questions(alloc, flow, &members, age, tag, &question)?;
-    Ok(Opened {
-        exchange: OpenExchange {
-            question,
-            tag,
-            members,
-            told,
-            harmed: Members::new(),
-            reserved: members.count() as usize,
-            crashed: false,
-        },
-        begun,
+    Ok(OpenExchange {
+        question,
+        tag,
+        members,
+        told,
+        harmed: Members::new(),
+        reserved: members.count() as usize,
+        crashed: false,
     })
 }
 
@@ -340,14 +412,14 @@ fn question_for(
     alloc: Global,
     everyone: &Members,
     goes_on: Option<&Listing>,
-    what: Exchange,
+    what: Query,
 ) -> Result<Question, AllocError>
     ensures { IfOk result (λ question. question_view question ≡ question_from everyone.now (option_copied goes_on.entry) what) }
 {
     match (what, goes_on) {
-        (Exchange::Probe(key), _) => Ok(Question::Probe(key)),
-        (Exchange::List, Some(listing)) => Ok(Question::NextKeys(listing.places().copy()?)),
-        (Exchange::List, None) => Ok(Question::NextKeys(Places::first(alloc, everyone)?)),
+        (Query::Probe(key), _) => Ok(Question::Probe(key)),
+        (Query::List, Some(listing)) => Ok(Question::NextKeys(listing.places().copy()?)),
+        (Query::List, None) => Ok(Question::NextKeys(Places::first(alloc, everyone)?)),
     }
 }
 
@@ -357,12 +429,12 @@ fn begin_listing(
     tag: Ballot,
     everyone: &Members,
     goes_on: Option<&Listing>,
-    what: &Exchange,
+    what: &Query,
 ) -> Result<Option<Listing>, AllocError>
     ensures { IfOk result (λ begun. begun ≡ begins_with everyone.now (option_copied goes_on.entry) what.now tag) }
 {
     match (what, goes_on) {
-        (Exchange::List, None) => {
+        (Query::List, None) => {
             let places = Places::first(alloc, everyone)?;
             Ok(Some(Listing::begin(alloc, tag, places)))
         }

@@ -4,6 +4,8 @@
 #![tactic(auto)]
 
 mod begin;
+mod collect;
+mod collecting;
 mod end;
 mod exchange;
 mod fault;
@@ -12,12 +14,15 @@ mod parties;
 mod plans;
 mod propose;
 mod proposing;
+mod renewal;
 mod serve;
 mod stray;
 mod turn;
 mod world;
 
-pub use cas_calls::council::{Exchange, Gathered};
+pub use cas_calls::council::Gathered;
+pub use collect::Reading;
+pub use exchange::Exchange;
 pub use fault::{OpenFault, StrayFault};
 pub use plans::PlanKind;
 pub use world::{Config, World};

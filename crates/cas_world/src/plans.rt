@@ -238,7 +238,7 @@ impl<S: Shelf, V: Disk> World<S, V> {
     }
 
     /// The operator's call is told that its step is refused, by an answer that holds no memory.
-    fn refuse(&mut self, refusal: OpAnswer) -> OpAnswer
+    pub(crate) fn refuse(&mut self, refusal: OpAnswer) -> OpAnswer
         requires { is_plain refusal ≡ true }
         ensures answer { result ≡ refusal }
         ensures told { self.new ≡ told_view self.old refusal }
@@ -287,14 +287,14 @@ fn move_on<V: Disk>(
 }
 
 /// Whether the desk has an open round.
-fn has_round<V: Disk>(desk: &Desk<V>) -> bool
+pub(crate) fn has_round<V: Disk>(desk: &Desk<V>) -> bool
     ensures { result ≡ is_some desk.now.round }
 {
     desk.round().is_some()
 }
 
 /// The proposer's frames join the late ones, and where a round of it is closed, its caller is told so.
-fn leave(caller: &mut Caller, flow: &mut Flow, proposer: u8, closes: bool, told: Answer)
+pub(crate) fn leave(caller: &mut Caller, flow: &mut Flow, proposer: u8, closes: bool, told: Answer)
     requires proposer { proposer ≤ 16 }
     requires open { closes ≡ true → IsSome caller.old.call }
     ensures flow { flow.new ≡ abandoned flow.old proposer }

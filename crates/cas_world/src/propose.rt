@@ -204,7 +204,11 @@ fn accepted_or_empty(read: Option<Accepted>) -> (Ballot, State)
 }
 
 /// Marks that a quorum accepted, and answers that the change is done. The promise that rode along may be kept.
-fn acknowledge<V: Disk>(desk: &mut Desk<V>, caller: &mut Caller, record: &mut Record) -> Answer
+pub(crate) fn acknowledge<V: Disk>(
+    desk: &mut Desk<V>,
+    caller: &mut Caller,
+    record: &mut Record,
+) -> Answer
     requires { MayCount desk.old caller.old «record».old.room }
     ensures { (round : Round) → desk.old.round ≡ Some round → (call : OpenCall) → caller.old.call ≡ Some call → (outcome : Outcome) → call.proposed ≡ Some outcome
         → Counts (record { tells = V.tells; may_leave = V.may_leave; faults = V.fault_count }) desk.old desk.new round caller.old caller.new call outcome «record».old «record».new result }

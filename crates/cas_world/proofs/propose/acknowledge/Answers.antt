@@ -68,6 +68,7 @@ counts : (g : Over) (c : goal.After-done g) → Counts (record { tells = g.V.Dis
 counts g c = record {
   by = c.confirmers-by.result;
   confirmers = c.confirmers-by.ensures.confirmers c.requires.round c.requires.is_round;
+  shown = c.confirmers-by.ensures.shown c.requires.round c.requires.is_round;
   ends = ends g c;
   told_is = told_is g c c.take_copies-copies.result.copies.answer (ap (λ (x : Copies). x.answer) (copies_are g c) ∙ c.requires.answer);
   caller_is = caller_is g c ∙ ap (λ (a : Answer). record c.args.caller.now { call = Some (over c.requires.call a) })

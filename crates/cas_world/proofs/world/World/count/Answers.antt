@@ -63,7 +63,7 @@ invariant_of-self g c = record {
   safe = steps_are_safe _ _ (step.Count c.args.proposer) _ c.self.invariant.safe (acknowledges g c);
   remembered = remembered_then _ (step.Count c.args.proposer) (acknowledges g c) c.self.invariant.remembered;
   room = room_over (reserved_by (council_view c.self.inside.council)) c.self.inside.callers.items c.from-place.result c.index_mut-caller.result.now c.acknowledge.new.caller (found g c).may.call c.acknowledge.result c.self.inside.record.room c.acknowledge.new.record.room 1
-      (subst (λ (i : ℕ). IsAt c.self.inside.callers.items i c.index_mut-caller.result.now) (sym c.from-place.ensures) (found g c).at_caller) (found g c).may.is_open (counts g c).caller_is (found g c).two (counts g c).room c.self.invariant.room;
+      (subst (λ (i : ℕ). IsAt c.self.inside.callers.items i c.index_mut-caller.result.now) (sym c.from-place.ensures) (found g c).at_caller) (found g c).may.is_open (counts g c).caller_is (omega (arith, (found g c).three)) (counts g c).room c.self.invariant.room;
   copies = copies_idle c.self.inside.desks.items c.self.inside.callers.items c.from-place.result c.acknowledge.new.desk c.acknowledge.new.caller (ap (λ (d : DeskView _). d.round) (counts g c).ends.desk) c.self.invariant.copies;
 }
 
@@ -108,7 +108,7 @@ invariant_of-self-in-Some g c = record {
   safe = steps_are_safe _ _ (step.Count c.args.proposer) _ c.self.invariant.safe (falls_short g c);
   remembered = remembered_then _ (step.Count c.args.proposer) (falls_short g c) c.self.invariant.remembered;
   room = room_over (reserved_by (council_view c.self.inside.council)) c.self.inside.callers.items c.from-place.result c.index_mut-caller.result.now c.end_round.new.self (found_short g c).may.call (answer.Unsettled c.in-Some.why) c.self.inside.record.room c.self.inside.record.room 0
-      (subst (λ (i : ℕ). IsAt c.self.inside.callers.items i c.index_mut-caller.result.now) (sym c.from-place.ensures) (found_short g c).at_caller) (found_short g c).may.is_open (caller_is g c) (omega (arith, (found_short g c).two)) (omega arith) c.self.invariant.room;
+      (subst (λ (i : ℕ). IsAt c.self.inside.callers.items i c.index_mut-caller.result.now) (sym c.from-place.ensures) (found_short g c).at_caller) (found_short g c).may.is_open (caller_is g c) (omega (arith, (found_short g c).three)) (omega arith) c.self.invariant.room;
   copies = copies_idle c.self.inside.desks.items c.self.inside.callers.items c.from-place.result c.end.new.self c.end_round.new.self (ap (λ (d : DeskView _). d.round) (ends g c).desk) c.self.invariant.copies;
 }
 

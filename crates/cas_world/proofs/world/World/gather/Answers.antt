@@ -1,61 +1,30 @@
-use Rattle.std.proofs.Common.{◌≡◌, ◌<◌, Some, refl, ap, subst, ◌∙◌, arith}
-use Rattle.std.specs.Prelude.{IfOk}
-use Rattle.cas_cluster.specs.Council.{exchange_place}
-use Rattle.cas_cluster.specs.Step as step
-use Rattle.cas_cluster.specs.StepCouncil.{StepGather}
-use Rattle.cas_flow.specs.Flow.{queue_at}
-use Rattle.cas_cluster.specs.View.{View, era_in, meaning}
-use Rattle.cas_cluster.proofs.SafeSteps.{steps_are_safe}
-use Rattle.cas_calls.specs.Council.{council_view, GathersAs, MayList, left_to_list}
-use Rattle.cas_world.specs.Exchange.{HasGathered}
-use Rattle.cas_world.specs.World.{view_of}
-use Rattle.cas_world.proofs.Exchanges.{council_world, gathers_so, gathered_reserves, gathered_ok, gathered_less, gathered_err, open_code, in_code, in_world, may_list}
-use Rattle.cas_world.proofs.Parts.{seen_from, remembered_then}
-use Rattle.cas_world.proofs.world.World.gather.Given.{Over}
+use Rattle.std.proofs.Common.{◌≡◌, None, Option, false, sym, ap, subst, ◌∙◌}
+use Rattle.std.specs.Option.{option_map_or}
+use Rattle.std.specs.Prelude.{is_some, option_map}
+use Rattle.cas_cluster.specs.Council.{ExchangeView}
+use Rattle.cas_cluster.specs.Safe.{is_of_collection}
+use Rattle.cas_cluster.specs.Step.{Step}
+use Rattle.cas_cluster.specs.View.{View, meaning}
+use Rattle.cas_calls.specs.Council.{exchange_view}
+use Rattle.cas_world.specs.Exchange.{gathering_by}
+use Rattle.cas_world.proofs.Gathers.{must_be_round, must_be_collected, must_be_members, some_seen}
+use Rattle.cas_world.proofs.Planning.{none_there}
 use Rattle.cas_world.proofs.world.World.gather.Goals as goal
-use Rattle.cas_world.proofs.world.World.gather.Goals.{After-gather}
 
-pub gather-requires-clause-open : goal.gather-requires-clause-open
-gather-requires-clause-open g c = open_code c.self.inside.council.exchange c.requires.exchange (ap (λ (v : View g.row.S.Denot g.row.V.Denot). v.council.exchange) c.self.view_is ∙ c.requires.is_open)
+pub gather_round-requires : goal.gather_round-requires
+gather_round-requires g c = must_be_round c.args.self.now (sym (ap (λ (v : (View g.row.S.Denot g.row.V.Denot)). v.council.exchange) c.self.view_is) ∙ ap (option_map exchange_view) (none_there c.self.inside.council.exchange c.if-is_none.ensures)) c.requires
 
-pub gather-requires-clause-lists : goal.gather-requires-clause-lists
-gather-requires-clause-lists g c =
-    let is_open = ap (λ (v : View g.row.S.Denot g.row.V.Denot). v.council.exchange) c.self.view_is ∙ c.requires.is_open in
-    in_code (λ e. MayList e.question (council_view c.self.inside.council).plan) c.self.inside.council.exchange c.requires.exchange is_open
-    (may_list (view_of c.self.inside.config.proposers c.self.inside.council c.self.inside.acceptors.items c.self.inside.desks.items c.self.inside.callers.items c.self.inside.flow c.self.inside.record) c.requires.exchange c.requires.exchange.question c.self.invariant.safe refl is_open refl)
+pub returns-then-is_none-clause-step : goal.returns-then-is_none-clause-step
+returns-then-is_none-clause-step g c =
+    let none : c.args.self.now.council.exchange ≡ None = sym (ap (λ (v : (View g.row.S.Denot g.row.V.Denot)). v.council.exchange) c.self.view_is) ∙ ap (option_map exchange_view) (none_there c.self.inside.council.exchange c.if-is_none.ensures) in
+    subst (λ (o : Option ExchangeView). Step (meaning g.S.Shelf.contents g.S.Shelf.tells g.S.Shelf.may_leave g.S.Shelf.fault_count g.V.Disk.tells g.V.Disk.may_leave g.V.Disk.fault_count) c.args.self.now (gathering_by o) c.gather_round.new.self) (sym none) c.gather_round.ensures.step
 
--- the exchange in the world
-exchange_is : (g : Over) (c : After-gather g) → (council_view c.self.inside.council).exchange ≡ Some c.requires.exchange
-exchange_is g c = ap (λ (v : View g.row.S.Denot g.row.V.Denot). v.council.exchange) c.self.view_is ∙ c.requires.is_open
+pub gather_collection-requires : goal.gather_collection-requires
+gather_collection-requires g c =
+    must_be_collected c.args.self.now (sym (ap (λ (v : (View g.row.S.Denot g.row.V.Denot)). option_map_or (λ e. is_of_collection e.question) v.council.exchange false) c.self.view_is) ∙ sym c.asks_for_collection.ensures ∙ c.if-asks_for_collection.true) c.requires
 
-gathers : (g : Over) (c : After-gather g) → GathersAs (era_in c.self.inside.council.eras.0 0) c.requires.exchange (council_view c.self.inside.council) c.gather.result (council_view c.gather.new.self)
-gathers g c = in_world c.self.inside.council.exchange c.requires.exchange (λ e. GathersAs (era_in c.self.inside.council.eras.0 0) e (council_view c.self.inside.council) c.gather.result (council_view c.gather.new.self)) (exchange_is g c) c.gather.ensures.gathers
-
-step_so : (g : Over) (c : After-gather g) → StepGather (view_of c.self.inside.config.proposers c.self.inside.council c.self.inside.acceptors.items c.self.inside.desks.items c.self.inside.callers.items c.self.inside.flow c.self.inside.record) (view_of c.self.inside.config.proposers c.gather.new.self c.self.inside.acceptors.items c.self.inside.desks.items c.self.inside.callers.items c.self.inside.flow c.self.inside.record)
-step_so g c = record {
-  at = record { exchange = c.requires.exchange; is_open = exchange_is g c };
-  none_waits = ap (λ (v : View g.row.S.Denot g.row.V.Denot). (queue_at v.flow exchange_place).messages) c.self.view_is ∙ c.requires.none_waits;
-  gathers = gathers_so c.self.inside.config.proposers c.self.inside.council c.gather.new.self c.self.inside.acceptors.items c.self.inside.desks.items c.self.inside.callers.items c.self.inside.flow c.self.inside.record c.requires.exchange c.gather.result c.self.invariant.safe (exchange_is g c) (gathers g c) c.gather.ensures.eras;
+pub gather_members-requires : goal.gather_members-requires
+gather_members-requires g c = record {
+  may = must_be_members c.args.self.now (sym (ap (λ (v : (View g.row.S.Denot g.row.V.Denot)). is_some v.council.exchange) c.self.view_is) ∙ some_seen c.self.inside.council.exchange c.if-is_none.ensures)
+      (sym (ap (λ (v : (View g.row.S.Denot g.row.V.Denot)). option_map_or (λ e. is_of_collection e.question) v.council.exchange false) c.self.view_is) ∙ sym c.asks_for_collection.ensures ∙ c.if-asks_for_collection.false) c.requires;
 }
-
-pub invariant_of-self : goal.invariant_of-self
-invariant_of-self g c =
-    council_world (view_of c.self.inside.config.proposers c.self.inside.council c.self.inside.acceptors.items c.self.inside.desks.items c.self.inside.callers.items c.self.inside.flow c.self.inside.record) _ c.self.inside.callers.items c.self.inside.record.room c.self.inside.record.room c.self.invariant refl
-    (steps_are_safe (meaning g.S.Shelf.contents g.S.Shelf.tells g.S.Shelf.may_leave g.S.Shelf.fault_count g.V.Disk.tells g.V.Disk.may_leave g.V.Disk.fault_count) _ step.Gather _ c.self.invariant.safe (step_so g c)) (remembered_then (meaning g.S.Shelf.contents g.S.Shelf.tells g.S.Shelf.may_leave g.S.Shelf.fault_count g.V.Disk.tells g.V.Disk.may_leave g.V.Disk.fault_count) step.Gather (step_so g c) c.self.invariant.remembered)
-    (omega (arith, c.self.invariant.room, gathered_reserves (era_in c.self.inside.council.eras.0 0) c.requires.exchange (council_view c.self.inside.council) (council_view c.gather.new.self) c.gather.result (exchange_is g c) (gathers g c)))
-
-pub returns-clause-step : goal.returns-clause-step
-returns-clause-step g c = seen_from (meaning g.S.Shelf.contents g.S.Shelf.tells g.S.Shelf.may_leave g.S.Shelf.fault_count g.V.Disk.tells g.V.Disk.may_leave g.V.Disk.fault_count) step.Gather _ c.self.view_is (step_so g c)
-
-pub returns-clause-ok : goal.returns-clause-ok
-returns-clause-ok g c =
-    subst (λ (v : View g.row.S.Denot g.row.V.Denot). IfOk c.gather.result (λ found. HasGathered v found (view_of c.self.inside.config.proposers c.gather.new.self c.self.inside.acceptors.items c.self.inside.desks.items c.self.inside.callers.items c.self.inside.flow c.self.inside.record))) c.self.view_is
-    (gathered_ok (era_in c.self.inside.council.eras.0 0) (view_of c.self.inside.config.proposers c.self.inside.council c.self.inside.acceptors.items c.self.inside.desks.items c.self.inside.callers.items c.self.inside.flow c.self.inside.record) (view_of c.self.inside.config.proposers c.gather.new.self c.self.inside.acceptors.items c.self.inside.desks.items c.self.inside.callers.items c.self.inside.flow c.self.inside.record) c.requires.order c.requires.exchange c.gather.result (ap (λ (v : View g.row.S.Denot g.row.V.Denot). v.council.order) c.self.view_is ∙ c.requires.is_order) (exchange_is g c) (gathers g c))
-
-pub returns-clause-less : goal.returns-clause-less
-returns-clause-less g c more =
-    subst (λ (v : View g.row.S.Denot g.row.V.Denot). left_to_list (council_view c.gather.new.self).plan < left_to_list v.council.plan) c.self.view_is
-    (gathered_less (era_in c.self.inside.council.eras.0 0) c.requires.exchange (council_view c.self.inside.council) (council_view c.gather.new.self) c.gather.result (gathers g c) more)
-
-pub returns-clause-err : goal.returns-clause-err
-returns-clause-err g c = gathered_err (era_in c.self.inside.council.eras.0 0) (view_of c.self.inside.config.proposers c.self.inside.council c.self.inside.acceptors.items c.self.inside.desks.items c.self.inside.callers.items c.self.inside.flow c.self.inside.record) (view_of c.self.inside.config.proposers c.gather.new.self c.self.inside.acceptors.items c.self.inside.desks.items c.self.inside.callers.items c.self.inside.flow c.self.inside.record) c.requires.order c.requires.exchange c.gather.result (ap (λ (v : View g.row.S.Denot g.row.V.Denot). v.council.order) c.self.view_is ∙ c.requires.is_order) (gathers g c)

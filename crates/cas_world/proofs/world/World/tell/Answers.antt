@@ -21,8 +21,8 @@ close-asked-requires g c = may_close c.self.inside.council c.args.answer (may_te
 
 pub conclude-told-requires : goal.conclude-told-requires
 conclude-told-requires g c none =
-    plain_there c.self.inside.council c.args.answer
-    (over_there c.self.inside.council c.args.answer c.close-asked.result (may_tell c.self.inside.council c.args.self.now c.args.answer (ap (λ (v : View g.row.S.Denot g.row.V.Denot). v.council) c.self.view_is) c.requires) c.close-asked.ensures.order none)
+    plain_there c.self.inside.council c.args.answer c.close-asked.result.collected c.close-asked.ensures.collected
+    (over_there c.self.inside.council c.args.answer c.close-asked.result.order (may_tell c.self.inside.council c.args.self.now c.args.answer (ap (λ (v : View g.row.S.Denot g.row.V.Denot). v.council) c.self.view_is) c.requires) c.close-asked.ensures.order none)
 
 pub mark_told-requires : goal.mark_told-requires
 mark_told-requires g c = omega (arith, c.self.invariant.room, ap (λ (o : Option Order). reserved_for_order (option_map order_view o)) c.close-asked.ensures.order)
@@ -32,9 +32,9 @@ step_so : (g : Over) (c : After-mark_told g) → Step (meaning g.S.Shelf.content
     (view_of c.self.inside.config.proposers c.conclude-told.new.self c.self.inside.acceptors.items c.self.inside.desks.items c.self.inside.callers.items c.abandon.new.self c.mark_told.new.record)
 step_so g c =
     told_step c.self.inside.config.proposers c.self.inside.council c.conclude-told.new.self c.self.inside.acceptors.items c.self.inside.desks.items c.self.inside.callers.items c.self.inside.flow c.abandon.new.self c.self.inside.record c.mark_told.new.record c.args.answer
-    (may_tell c.self.inside.council c.args.self.now c.args.answer (ap (λ (v : View g.row.S.Denot g.row.V.Denot). v.council) c.self.view_is) c.requires) c.close-asked.result c.close-asked.ensures.order c.abandon.ensures
-    (c.conclude-told.ensures.concluded ∙ ap (concluded c.close-asked.result.told) c.close-asked.ensures.closed) (c.conclude-told.ensures.eras ∙ c.close-asked.ensures.eras)
-    (c.mark_told.ensures.marks ∙ ap (λ (a : OpAnswer). c.self.inside.record.marks ++ told_marks c.close-asked.result.asked a) c.conclude-told.ensures.answer)
+    (may_tell c.self.inside.council c.args.self.now c.args.answer (ap (λ (v : View g.row.S.Denot g.row.V.Denot). v.council) c.self.view_is) c.requires) c.close-asked.result.order c.self.invariant.safe c.close-asked.ensures.order c.abandon.ensures
+    (c.conclude-told.ensures.concluded ∙ ap (concluded c.close-asked.result.order.told) c.close-asked.ensures.closed) (c.conclude-told.ensures.eras ∙ c.close-asked.ensures.eras)
+    (c.mark_told.ensures.marks ∙ ap (λ (a : OpAnswer). c.self.inside.record.marks ++ told_marks c.close-asked.result.order.asked a) c.conclude-told.ensures.answer)
 
 pub invariant_of-self : goal.invariant_of-self
 invariant_of-self g c =
@@ -44,8 +44,8 @@ invariant_of-self g c =
       arith,
       c.self.invariant.room,
       c.mark_told.ensures.room,
-      ap reserved_by (c.conclude-told.ensures.concluded ∙ ap (concluded c.close-asked.result.told) c.close-asked.ensures.closed),
-      concluded_reserves c.close-asked.result.told (council_view c.self.inside.council),
+      ap reserved_by (c.conclude-told.ensures.concluded ∙ ap (concluded c.close-asked.result.order.told) c.close-asked.ensures.closed),
+      concluded_reserves c.close-asked.result.order.told (council_view c.self.inside.council),
       ap (λ (o : Option Order). reserved_for_order (option_map order_view o)) c.close-asked.ensures.order,
     ))
 

@@ -22,9 +22,9 @@ use Rattle.cas_world.proofs.Asking.{idle_first, may_ask, tag_fits, asks, asks_no
 use Rattle.cas_world.proofs.Exchanges.{reserved_fits}
 use Rattle.cas_world.proofs.Parts.{at_place, remembered_then}
 use Rattle.cas_world.proofs.Reserving.{sum_seen}
-use Rattle.cas_world.proofs.world.World.ask_all.Given.{Over}
-use Rattle.cas_world.proofs.world.World.ask_all.Goals as goal
-use Rattle.cas_world.proofs.world.World.ask_all.Goals.{After-begin_exchange, After-tell}
+use Rattle.cas_world.proofs.world.World.ask_members.Given.{Over}
+use Rattle.cas_world.proofs.world.World.ask_members.Goals as goal
+use Rattle.cas_world.proofs.world.World.ask_members.Goals.{After-begin_exchange, After-tell}
 
 pub reserved_in_all-reserved-requires : goal.reserved_in_all-reserved-requires
 reserved_in_all-reserved-requires g c = omega (arith, reserved_fits c.self.inside.config.proposers c.self.inside.council c.self.inside.acceptors.items c.self.inside.desks.items c.self.inside.callers.items c.self.inside.flow c.self.inside.record c.self.invariant.safe, ap (sum_by reserved_of) c.deref.ensures.value)
