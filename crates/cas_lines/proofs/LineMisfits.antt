@@ -20,7 +20,7 @@ use Rattle.cas_change_text.proofs.Stopping.{IsReader, IsWhole, read_as, after, o
 use Rattle.cas_fate.specs.declared.fate.Verdict.TheVariants as verdicts
 use Rattle.cas_lines.specs.declared.reading.TheConstants.{LONGEST_LINE}
 use Rattle.cas_lines.specs.declared.command.Command.{Command}
-use Rattle.cas_lines.specs.declared.command.Command.TheVariants.{Get, Set, Num, Init, Add, Cas, CasNum, Del, DelVersion, Do, Join, Leave, Probe, Net, CrashAcceptor, RestartAcceptor, CrashProposer, RestartProposer, HaltPrepared, HaltProposed, Stray, Show}
+use Rattle.cas_lines.specs.declared.command.Command.TheVariants.{Get, Set, Num, Init, Add, Cas, CasNum, Del, DelVersion, Do, Join, Leave, Collect, Probe, Net, CrashAcceptor, RestartAcceptor, CrashProposer, RestartProposer, HaltPrepared, HaltProposed, Stray, Show}
 use Rattle.cas_lines.specs.declared.changes.ChangeName.{ChangeName}
 use Rattle.cas_lines.specs.declared.changes.ChangeName.TheVariants as names
 use Rattle.cas_lines.specs.declared.events.EventName.{EventName}
@@ -126,6 +126,7 @@ op_of_name-whole : (most : ℕ) (name : OpName) → IsWhole (λ m. op_of_name na
 unfolding op_of_name
 op_of_name-whole most ops.Join = made_whole (to_end acceptor_at) most (λ id. Join id) (whole_to_end acceptor_at most acceptor_reader)
 op_of_name-whole most ops.Leave = made_whole (to_end acceptor_at) most (λ id. Leave id) (whole_to_end acceptor_at most acceptor_reader)
+op_of_name-whole most ops.Collect = made_whole (to_end key_at) most (λ key. Collect key) (whole_to_end key_at most key_reader)
 op_of_name-whole most ops.Probe = made_whole (to_end key_at) most (λ key. Probe key) (whole_to_end key_at most key_reader)
 
 op_whole : (most : ℕ) → IsWhole (λ m. op_at) most
@@ -252,6 +253,7 @@ unlimited_of proposers words (Del caller key) is = is
 unlimited_of proposers words (DelVersion caller key version) is = is
 unlimited_of proposers words (Join id) is = is
 unlimited_of proposers words (Leave id) is = is
+unlimited_of proposers words (Collect key) is = is
 unlimited_of proposers words (Probe key) is = is
 unlimited_of proposers words (Net leg who verdict) is = is
 unlimited_of proposers words (CrashAcceptor id) is = is

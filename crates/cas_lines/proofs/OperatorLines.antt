@@ -7,7 +7,7 @@ use Rattle.cas_change_text.specs.Words.{Word, WordsLeft}
 use Rattle.cas_change_text.proofs.BothWays.{bind_ok, named, from}
 use Rattle.cas_change_text.proofs.Misfits.{said}
 use Rattle.cas_lines.specs.declared.command.Command.{Command}
-use Rattle.cas_lines.specs.declared.command.Command.TheVariants.{Join, Leave, Probe}
+use Rattle.cas_lines.specs.declared.command.Command.TheVariants.{Join, Leave, Collect, Probe}
 use Rattle.cas_lines.specs.declared.operator.OpName.{OpName}
 use Rattle.cas_lines.specs.declared.operator.OpName.TheVariants as ops
 use Rattle.cas_lines.specs.Command.{IsAcceptor, IsCommand}
@@ -19,6 +19,7 @@ use Rattle.cas_lines.proofs.EventLines.{one_found, last_one_found, said_found, l
 abbrev pub op_word : OpName → Word
 op_word ops.Join = codes "join"
 op_word ops.Leave = codes "leave"
+op_word ops.Collect = codes "collect"
 op_word ops.Probe = codes "probe"
 
 op_named : (word : Word) (name : OpName) → op_name word ≡ Some name → word ≡ op_word name
@@ -26,9 +27,12 @@ op_named word name e = elim (named word (codes "join") ops.Join name _ e) [
   | inl p ↦ p.0 ∙ ap op_word p.1
   | inr e1 ↦ elim (named word (codes "leave") ops.Leave name _ e1) [
     | inl p ↦ p.0 ∙ ap op_word p.1
-    | inr e2 ↦ elim (named word (codes "probe") ops.Probe name None e2) [
+    | inr e2 ↦ elim (named word (codes "collect") ops.Collect name _ e2) [
       | inl p ↦ p.0 ∙ ap op_word p.1
-      | inr e3 ↦ absurd cc
+      | inr e3 ↦ elim (named word (codes "probe") ops.Probe name None e3) [
+        | inl p ↦ p.0 ∙ ap op_word p.1
+        | inr e4 ↦ absurd cc
+      ]
     ]
   ]
 ]
@@ -40,8 +44,16 @@ op_name_found left name after e =
     let is : w.0 ≡ op_word name = op_named w.0 name (said_found op_name why.UnknownWord left.at w.0 name w.2) in
     w.1 ∙ ap (λ (word : Word). word ∷ after.words) is
 
+-- the last word is the key that was read
+last_key : (left : WordsLeft) (key : List ℕ) → ended (key_at left) ≡ Ok key → (left.words ≡ key ∷ []) × IsKey key
+unfolding key_at
+last_key left key e =
+    let word = last_one_found key_in left key e in
+    let is = key_in-found left.at word.0 key word.2 in
+    (word.1 ∙ ap (λ (w : Word). w ∷ []) is.0, is.1)
+
 op_of_name-found : (proposers : ℕ) (name : OpName) (left : WordsLeft) (command : Command) → op_of_name name left ≡ Ok command → IsCommand proposers (codes "op" ∷ op_word name ∷ left.words) command
-unfolding op_of_name key_at
+unfolding op_of_name
 op_of_name-found proposers ops.Join left command e =
     let a = bind_ok (ended (acceptor_at left)) _ command e in
     let last = last_acceptor left a.0 a.1 in
@@ -52,14 +64,16 @@ op_of_name-found proposers ops.Leave left command e =
     let last = last_acceptor left a.0 a.1 in
     let same : Leave a.0 ≡ command = cc (a.2) in
     subst (IsCommand proposers (codes "op" ∷ codes "leave" ∷ left.words)) same (last_parts (codes "op") (codes "leave") left.words (codes "leave" ∷ left.words) last.0 (IsAcceptor a.0) refl last.1 last.2)
+op_of_name-found proposers ops.Collect left command e =
+    let k = bind_ok (ended (key_at left)) _ command e in
+    let last = last_key left k.0 k.1 in
+    let same : Collect k.0 ≡ command = cc (k.2) in
+    subst (IsCommand proposers (codes "op" ∷ codes "collect" ∷ left.words)) same (ap (λ (ws : List Word). codes "op" ∷ codes "collect" ∷ ws) last.0, last.1)
 op_of_name-found proposers ops.Probe left command e =
     let k = bind_ok (ended (key_at left)) _ command e in
-    let word = last_one_found key_in left k.0 k.1 in
-    let key = key_in-found left.at word.0 k.0 word.2 in
+    let last = last_key left k.0 k.1 in
     let same : Probe k.0 ≡ command = cc (k.2) in
-    let split : codes "op" ∷ codes "probe" ∷ left.words ≡ codes "op" ∷ codes "probe" ∷ k.0 ∷ [] =
-    ap (λ (ws : List Word). codes "op" ∷ codes "probe" ∷ ws) word.1 ∙ ap (λ (w : Word). codes "op" ∷ codes "probe" ∷ w ∷ []) key.0 in
-    subst (IsCommand proposers (codes "op" ∷ codes "probe" ∷ left.words)) same (split, key.1)
+    subst (IsCommand proposers (codes "op" ∷ codes "probe" ∷ left.words)) same (ap (λ (ws : List Word). codes "op" ∷ codes "probe" ∷ ws) last.0, last.1)
 
 pub op_found : (proposers : ℕ) (left : WordsLeft) (command : Command) → op_at left ≡ Ok command → IsCommand proposers (codes "op" ∷ left.words) command
 unfolding op_at
@@ -75,6 +89,10 @@ join_again at id word is = rw (last_acceptor-again (at + 1) word id is) refl
 pub leave_again : (at : ℕ) (id : ℕ) (word : Word) → IsAcceptor id word → op_at (from at (codes "leave" ∷ word ∷ [])) ≡ Ok (Leave id)
 unfolding op_at op_name_at op_of_name
 leave_again at id word is = rw (last_acceptor-again (at + 1) word id is) refl
+
+pub collect_again : (at : ℕ) (key : List ℕ) → IsKey key → op_at (from at (codes "collect" ∷ key ∷ [])) ≡ Ok (Collect key)
+unfolding op_at op_name_at op_of_name key_at
+collect_again at key names_key = rw (key_in-again (at + 1) key names_key) refl
 
 pub probe_again : (at : ℕ) (key : List ℕ) → IsKey key → op_at (from at (codes "probe" ∷ key ∷ [])) ≡ Ok (Probe key)
 unfolding op_at op_name_at op_of_name key_at

@@ -15,7 +15,7 @@ use Rattle.cas_fate.specs.declared.fate.Verdict.{Verdict}
 use Rattle.cas_fate.specs.declared.fate.Verdict.TheVariants as verdicts
 use Rattle.cas_lines.specs.declared.reading.TheConstants.{LONGEST_LINE}
 use Rattle.cas_lines.specs.declared.command.Command.{Command}
-use Rattle.cas_lines.specs.declared.command.Command.TheVariants.{Get, Set, Num, Init, Add, Cas, CasNum, Del, DelVersion, Do, Join, Leave, Probe, Net, CrashAcceptor, RestartAcceptor, CrashProposer, RestartProposer, HaltPrepared, HaltProposed, Stray, Show}
+use Rattle.cas_lines.specs.declared.command.Command.TheVariants.{Get, Set, Num, Init, Add, Cas, CasNum, Del, DelVersion, Do, Join, Leave, Collect, Probe, Net, CrashAcceptor, RestartAcceptor, CrashProposer, RestartProposer, HaltPrepared, HaltProposed, Stray, Show}
 
 -- ---- the grammar
 
@@ -94,6 +94,7 @@ IsCommand proposers words (DelVersion caller key version) = IsFormWith proposers
 IsCommand proposers words (Do caller key program) = (rest : List Word) × IsForm proposers words caller (codes "do") key rest × IsProgram rest program
 IsCommand proposers words (Join id) = HasLast words (codes "op" ∷ codes "join" ∷ []) (IsAcceptor id)
 IsCommand proposers words (Leave id) = HasLast words (codes "op" ∷ codes "leave" ∷ []) (IsAcceptor id)
+IsCommand proposers words (Collect key) = (words ≡ codes "op" ∷ codes "collect" ∷ key ∷ []) × IsKey key
 IsCommand proposers words (Probe key) = (words ≡ codes "op" ∷ codes "probe" ∷ key ∷ []) × IsKey key
 IsCommand proposers words (Net leg who verdict) =
     (first second third : Word) × (words ≡ codes "net" ∷ first ∷ second ∷ third ∷ []) × IsLeg leg first × IsWho who second × IsVerdict verdict third

@@ -20,7 +20,7 @@ use Rattle.cas_fate.specs.declared.fate.Verdict.TheVariants as verdicts
 use Rattle.cas_lines.specs.Command.{is_remark}
 use Rattle.cas_lines.specs.declared.reading.TheConstants.{LONGEST_LINE}
 use Rattle.cas_lines.specs.declared.command.Command.{Command}
-use Rattle.cas_lines.specs.declared.command.Command.TheVariants.{Get, Set, Num, Init, Add, Cas, CasNum, Del, DelVersion, Do, Join, Leave, Probe, Net, CrashAcceptor, RestartAcceptor, CrashProposer, RestartProposer, HaltPrepared, HaltProposed, Stray, Show}
+use Rattle.cas_lines.specs.declared.command.Command.TheVariants.{Get, Set, Num, Init, Add, Cas, CasNum, Del, DelVersion, Do, Join, Leave, Collect, Probe, Net, CrashAcceptor, RestartAcceptor, CrashProposer, RestartProposer, HaltPrepared, HaltProposed, Stray, Show}
 use Rattle.cas_lines.specs.declared.changes.ChangeName.{ChangeName}
 use Rattle.cas_lines.specs.declared.changes.ChangeName.TheVariants as names
 use Rattle.cas_lines.specs.declared.events.EventName.{EventName}
@@ -127,7 +127,8 @@ acceptor_at left = do
 abbrev pub op_name : Word → Option OpName
 op_name word = if bytes_eq word (codes "join") then Some ops.Join
     else (if bytes_eq word (codes "leave") then Some ops.Leave
-    else (if bytes_eq word (codes "probe") then Some ops.Probe else None))
+    else (if bytes_eq word (codes "collect") then Some ops.Collect
+    else (if bytes_eq word (codes "probe") then Some ops.Probe else None)))
 
 unfoldable pub op_name_at : WordsLeft → Read OpName
 op_name_at left = do
@@ -139,6 +140,7 @@ op_name_at left = do
 unfoldable pub op_of_name : OpName → WordsLeft → Result Command TextRefusal
 op_of_name ops.Join left = ended (acceptor_at left) >>= λ id. Ok (Join id)
 op_of_name ops.Leave left = ended (acceptor_at left) >>= λ id. Ok (Leave id)
+op_of_name ops.Collect left = ended (key_at left) >>= λ key. Ok (Collect key)
 op_of_name ops.Probe left = ended (key_at left) >>= λ key. Ok (Probe key)
 
 -- a name, and what follows it

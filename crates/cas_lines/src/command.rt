@@ -84,6 +84,10 @@ pub enum Command {
     Leave {
         id: AcceptorId,
     },
+    /// `op collect`: removes what is kept for a key whose register is empty.
+    Collect {
+        key: Key,
+    },
     /// `op probe`: tells what each member keeps for a key.
     Probe {
         key: Key,

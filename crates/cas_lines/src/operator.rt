@@ -18,6 +18,8 @@ pub enum OpName {
     Join,
     /// That a member is one no longer.
     Leave,
+    /// That what is kept for a key is removed.
+    Collect,
     /// What each member keeps for a key.
     Probe,
 }
@@ -30,6 +32,8 @@ fn op_name(word: &[u8]) -> Option<OpName>
         Some(OpName::Join)
     } else if says(word, "leave") {
         Some(OpName::Leave)
+    } else if says(word, "collect") {
+        Some(OpName::Collect)
     } else if says(word, "probe") {
         Some(OpName::Probe)
     } else {
@@ -72,6 +76,10 @@ fn op_of_name(alloc: Global, name: OpName, words: &mut Words<'_>) -> Result<Comm
         OpName::Leave => {
             let id = last_acceptor(words)?;
             Ok(Command::Leave { id })
+        }
+        OpName::Collect => {
+            let key = last_key(alloc, words)?;
+            Ok(Command::Collect { key })
         }
         OpName::Probe => {
             let key = last_key(alloc, words)?;
