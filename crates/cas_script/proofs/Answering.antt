@@ -5,7 +5,7 @@ use Rattle.cas_lines.specs.Command.{IsLine, Asked, change_of}
 use Rattle.cas_lines.specs.declared.answer.EventAnswer.{EventAnswer}
 use Rattle.cas_lines.specs.declared.answer.Shown.{Shown}
 use Rattle.cas_lines.specs.declared.command.Command.{Command}
-use Rattle.cas_lines.specs.declared.command.Command.TheVariants.{Probe, Show}
+use Rattle.cas_lines.specs.declared.command.Command.TheVariants.{Probe, Collect, Show}
 use Rattle.cas_record.specs.declared.answer.Answer.{Answer}
 use Rattle.cas_record.specs.declared.operator.Asked as operator
 use Rattle.cas_record.specs.declared.operator.OpAnswer.{OpAnswer}
@@ -14,11 +14,12 @@ use Rattle.cas_cluster.specs.View.{Meaning, View}
 use Rattle.cas_change.specs.declared.program.Clause.{Clause}
 use Rattle.cas_world.specs.Beginning.{HasNoCall}
 use Rattle.cas_script.specs.Changes.{IsChange}
+use Rattle.cas_script.specs.Collections.{IsCollection}
 use Rattle.cas_script.specs.Conditions.{Rule}
 use Rattle.cas_script.specs.Events.{IsShown}
 use Rattle.cas_script.specs.Membership.{ChangesMembers}
 use Rattle.cas_script.specs.Network.{IsNetwork}
-use Rattle.cas_script.specs.Script.{State, LineAnswer, Changed, Happened, Shows, Operated, RunsProbe, probes, RunsMembership, changes_members, membership_of, RunsChange, RunsEvent, IsAnswered, changes, happens, shows, text_of, IsIn, AnswersLine, RanOrNot, ran, Runs, nowhere}
+use Rattle.cas_script.specs.Script.{State, LineAnswer, Changed, Happened, Shows, Operated, RunsProbe, probes, RunsCollection, collects, RunsMembership, changes_members, membership_of, RunsChange, RunsEvent, IsAnswered, changes, happens, shows, text_of, IsIn, AnswersLine, RanOrNot, ran, Runs, nowhere}
 use Rattle.cas_script.specs.Stage.{Stage, IsStage}
 use Rattle.cas_script.specs.declared.halt.Halt.{Halt}
 use Rattle.cas_script.specs.declared.network.Network.{Network}
@@ -58,9 +59,35 @@ pub probes_run : {S V : Type 0} (m : Meaning S V) (tries : ℕ) (old stage : Sta
     → (runs : Runs (RunsProbe m state key answer) stage) → IsAnswered m tries state line (Operated answer) runs.new
 probes_run m tries old stage state line command key answer at is says runs = probes key (subst (λ (c : Command). IsLine state.world.greatest line (Some c)) says (line_of old state line (Some command) at is)) runs.has
 
+pub collects_run : {S V : Type 0} (m : Meaning S V) (tries : ℕ) (old stage : Stage S V) (state : State S V) (line : List ℕ) (command : Command) (key : List ℕ) (answer : OpAnswer) → IsIn old state → IsLine old.world.greatest line (Some command) → command ≡ Collect key
+    → (runs : Runs (RunsCollection m tries state key answer) stage) → IsAnswered m tries state line (Operated answer) runs.new
+collects_run m tries old stage state line command key answer at is says runs = collects key (subst (λ (c : Command). IsLine state.world.greatest line (Some c)) says (line_of old state line (Some command) at is)) runs.has
+
 pub members_run : {S V : Type 0} (m : Meaning S V) (tries : ℕ) (old stage : Stage S V) (state : State S V) (line : List ℕ) (command : Command) (asked : operator.Asked) (answer : OpAnswer) → IsIn old state → IsLine old.world.greatest line (Some command) → membership_of command ≡ Some asked
     → (runs : Runs (RunsMembership m tries state asked answer) stage) → IsAnswered m tries state line (Operated answer) runs.new
 members_run m tries old stage state line command asked answer at is asks runs = changes_members command asked (line_of old state line (Some command) at is) asks runs.has
+
+-- ---- a collection
+pub collection_runs : {S V : Type 0} (m : Meaning S V) (world now : View S V) (network next : Network) (halts : List Halt) (tries : ℕ) (seen : Stage S V) (state : State S V) (key : List ℕ) (after : Halt) (answer : OpAnswer)
+    → stage_of world network halts tries ≡ seen → IsIn seen state → 0 < length halts
+    → (IsNetwork network state.rules → IsNetwork next state.rules) → (IsNetwork network state.rules → IsCollection m tries state.rules key (slice_index_or halts 0 nowhere) world answer after now)
+    → Runs (RunsCollection m tries state key answer) (stage_of now next (slice_set halts 0 after) tries)
+collection_runs {S} {V} m world now network next halts tries seen state key after answer is at low still runs = record {
+  new = record state { world = now; halts = slice_set state.halts 0 after };
+  is_in = record {
+    world = refl;
+    network = still (network_is world network halts tries seen state is at);
+    halts = ap (λ (l : List Halt). slice_set l 0 after) (halts_are world network halts tries seen state is at);
+  };
+  has = record {
+    halt = slice_index_or halts 0 nowhere;
+    at_halt = halt_at halts state.halts 0 0 refl low (halts_are world network halts tries seen state is at);
+    after = after;
+    collects = subst (λ (w : View S V). IsCollection m tries state.rules key (slice_index_or halts 0 nowhere) w answer after now) (world_is world network halts tries seen state is at) (runs (network_is world network halts tries seen state is at));
+    rules = refl;
+    halts = refl;
+  };
+}
 
 -- ---- a change of membership
 pub membership_runs : {S V : Type 0} (m : Meaning S V) (world now : View S V) (network next : Network) (halts : List Halt) (tries : ℕ) (seen : Stage S V) (state : State S V) (asked : operator.Asked) (after : Halt) (answer : OpAnswer)

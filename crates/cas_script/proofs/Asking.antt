@@ -17,28 +17,35 @@ use Rattle.cas_record.specs.declared.operator.Asked.TheVariants as asked
 use Rattle.cas_record.specs.declared.operator.OpAnswer.{OpAnswer}
 use Rattle.cas_record.specs.declared.operator.OpAnswer.TheVariants as op
 use Rattle.cas_record.specs.declared.operator.Probes.{Probes}
-use Rattle.cas_calls.specs.Council.{IsProbed, first_of, first_where, due_in, left_to_list, listed_if, listed_with}
-use Rattle.cas_calls.specs.declared.council.Exchange.{Exchange}
-use Rattle.cas_calls.specs.declared.council.Exchange.TheVariants as what
+use Rattle.cas_calls.specs.Council.{IsProbed, first_of, first_where, due_in, left_to_list, listed_if}
+use Rattle.cas_calls.specs.declared.council.Query.TheVariants as query
 use Rattle.cas_calls.specs.declared.council.Gathered.{Gathered}
 use Rattle.cas_calls.specs.declared.council.Gathered.TheVariants as gathered
-use Rattle.cas_cluster.specs.Council.{Council, Question, Probe, NextKeys, NewAges, Removal, MemberPlace, ListingView, OrderView, PlanView, ExchangeView, IsAtRest, exchange_place, silent_order, stepped, told_so, with_listing}
+use Rattle.cas_cluster.specs.Council.{Council, Question, Probe, NextKeys, MemberPlace, ListingView, OrderView, PlanView, ExchangeView, IsAtRest, exchange_place, silent_order, stepped, told_so, with_listing}
+use Rattle.cas_cluster.specs.Collection.{CollectionView, tomb_of}
 use Rattle.cas_cluster.specs.Remaining.{keys_left}
+use Rattle.cas_cluster.specs.Safe.{is_of_collection}
 use Rattle.cas_cluster.specs.Step as step
-use Rattle.cas_cluster.specs.Step.{Step}
+use Rattle.cas_cluster.specs.Step.{Event, Step}
+use Rattle.cas_cluster.specs.StepCollect as collects
+use Rattle.cas_cluster.specs.StepCollect.{StepAskCollect, AsksCollect, IsQuestionOf, StepGatherCollect, GathersCollect}
 use Rattle.cas_cluster.specs.StepCouncil as council
 use Rattle.cas_cluster.specs.StepCouncil.{StepOrder, StepTell, StepAskAll, AsksAll, StepTurnExchange, TurnsExchange, StepRefuseTurnExchange, StepGather, Gathers, everyone, places_from, listing_in, plan_asked, listing_begun, begun_listing}
 use Rattle.cas_cluster.specs.StepFrames as frames
 use Rattle.cas_cluster.specs.View.{Meaning, View, CallerView}
 use Rattle.cas_cluster.proofs.Places.{some_is}
 use Rattle.cas_world.specs.Beginning.{HasNoCall}
-use Rattle.cas_world.specs.Exchange.{asks_as, place_of, turn_of, refusal_of, MayAsk, MayGather, WasToldOrder, HasGathered, probed, lists, question_in}
+use Rattle.cas_world.specs.Exchange as world
+use Rattle.cas_world.specs.Exchange.{asks_as, place_of, turn_of, refusal_of, MayAsk, MayAskThis, MayGather, gathering_by, gathering_of, asking_of, WasToldOrder, HasGathered, probed, lists, acknowledged, confirmed, question_in}
+use Rattle.cas_world.specs.declared.exchange.Exchange.{Exchange}
+use Rattle.cas_world.specs.declared.exchange.Exchange.TheVariants as what
 use Rattle.cas_world.specs.Plans.{IsUnderWay, IsPartial, step_of}
 use Rattle.cas_script.specs.Conditions.{Rule, verdict_of}
-use Rattle.cas_script.specs.Exchanges.{AskTurned, one_more, HasListed, CameOf, IsAsking, KeepsCalls, KeepsOrder, listing_left}
+use Rattle.cas_script.specs.Exchanges.{AskTurned, one_more, HasListed, HasConfirmed, CameOf, IsAsking, KeepsCalls, KeepsOrder, answers_of, listing_left}
 use Rattle.cas_script.specs.Membership.{TakesStep, left_of, steps_left}
 use Rattle.cas_script.specs.Orders.{IsFree, KeepsIdle}
 use Rattle.cas_script.specs.Playing.{turns_left}
+use Rattle.cas_base.proofs.Bools.{true_or_false}
 use Rattle.cas_script.proofs.Rescanning.{with_asked, settles_by, Settles}
 use Rattle.cas_script.proofs.Turns.{front_of, not_held, fewer_taken, fewer_answered}
 
@@ -83,6 +90,21 @@ ask_keeps {S} {V} m old new question by = by_case by.asks
     by_case (council.fails now up fault is) = by_view old _ new is refl refl
     by_case (council.no_memory now tag up loss is) = by_view old _ new is refl refl
 
+collect_ask_keeps : {S V : Type 0} (m : Meaning S V) (old new : View S V) → StepAskCollect m old new → KeepsCalls old new
+collect_ask_keeps {S} {V} m old new by = by_case by.asks
+  where
+    by_case : AsksCollect m old by.may.at by.desk new → KeepsCalls old new
+    by_case (collects.asks question flow up due room aged sends is) = by_view old _ new is refl refl
+    by_case (collects.is_down down is) = by_view old _ new is refl refl
+    by_case (collects.is_full question up due full is) = by_view old _ new is refl refl
+    by_case (collects.no_memory up is) = by_view old _ new is refl refl
+
+pub asking_keeps : {S V : Type 0} (m : Meaning S V) (old new : View S V) (exchange : Exchange) → Step m old (asking_of old exchange) new → KeepsCalls old new
+asking_keeps m old new what.Ages by = collect_ask_keeps m old new by
+asking_keeps m old new what.Remove by = collect_ask_keeps m old new by
+asking_keeps m old new what.List by = ask_keeps m old new _ by
+asking_keeps m old new (what.Probe key) by = ask_keeps m old new _ by
+
 pub ask_turn_keeps : {S V : Type 0} (m : Meaning S V) (old new : View S V) (verdict : Verdict) → StepTurnExchange m old verdict new → KeepsCalls old new
 ask_turn_keeps {S} {V} m old new verdict by = by_case by.turn
   where
@@ -112,6 +134,20 @@ gather_keeps {S} {V} old new by = by_case by.gathers
     by_case (council.is_short of short up few is) = by_view old _ new is refl refl
     by_case (council.no_memory up is) = by_view old _ new is refl refl
 
+collect_gather_keeps : {S V : Type 0} (old new : View S V) → StepGatherCollect old new → KeepsCalls old new
+collect_gather_keeps {S} {V} old new by = by_case by.gathers
+  where
+    by_case : GathersCollect old by.at by.of_exchange.exchange new → KeepsCalls old new
+    by_case (collects.crashed down is) = by_view old _ new is refl refl
+    by_case (collects.all up confirms is) = by_view old _ new is refl refl
+    by_case (collects.is_absent acceptor up least is) = by_view old _ new is refl refl
+
+pub answers_keep : {S V : Type 0} (m : Meaning S V) (old new : View S V) (exchange : Exchange) → Step m old (answers_of exchange) new → KeepsCalls old new
+answers_keep m old new what.Ages by = collect_gather_keeps old new by
+answers_keep m old new what.Remove by = collect_gather_keeps old new by
+answers_keep m old new what.List by = gather_keeps old new by
+answers_keep m old new (what.Probe key) by = gather_keeps old new by
+
 -- ---- the exchange
 -- the operator's call is open, and no exchange yet
 pub may_ask : {S V : Type 0} (old new : View S V) (key : List ℕ) → IsAtRest old.council → HasNoCall old 0 → StepOrder old (asked.Probe key) new → MayAsk new (Probe key)
@@ -135,6 +171,7 @@ pub record HasAsked {S V : Type 0} (old : View S V) (question : Question) (new :
   pub same : exchange.question ≡ question
   pub tag : Ballot
   pub plan : new.council.plan ≡ plan_asked question tag old.council.plan
+  pub collection : new.council.collection ≡ old.council.collection
 
 pub has_asked : {S V : Type 0} (m : Meaning S V) (old new : View S V) (question : Question) → StepAskAll m old question new → IsSome new.council.exchange → HasAsked old question new
 has_asked {S} {V} m old new question by some = by_case by.asks
@@ -152,12 +189,66 @@ has_asked {S} {V} m old new question by some = by_case by.asks
       same = refl;
       tag = tag;
       plan = ap (λ (w : View S V). w.council.plan) is;
+      collection = ap (λ (w : View S V). w.council.collection) is;
     }
     by_case (council.is_down down is) = not_open (ap (λ (w : View S V). w.council.exchange) is ∙ by.may.none_open)
     by_case (council.is_full up full is) = not_open (ap (λ (w : View S V). w.council.exchange) is ∙ by.may.none_open)
     by_case (council.is_spent now up spent kept is_now is) = not_open (ap (λ (w : View S V). w.council.exchange) is ∙ by.may.none_open)
     by_case (council.fails now up fault is) = not_open (ap (λ (w : View S V). w.council.exchange) is ∙ by.may.none_open)
     by_case (council.no_memory now tag up loss is) = not_open (ap (λ (w : View S V). w.council.exchange) is ∙ by.may.none_open)
+
+-- what a collection asks is of it, and leaves the change of membership
+asks_of_it : {collection : CollectionView} {question : Question} → IsQuestionOf collection question → is_of_collection question ≡ true
+asks_of_it (collects.tells_ages due is) = ap is_of_collection is
+asks_of_it (collects.removes due is) = ap is_of_collection is
+
+plan_stays : {collection : CollectionView} {question : Question} (tag : Ballot) (plan : Option PlanView) → IsQuestionOf collection question → plan ≡ plan_asked question tag plan
+plan_stays tag plan (collects.tells_ages due is) = sym (ap (λ (q : Question). plan_asked q tag plan) is)
+plan_stays tag plan (collects.removes due is) = sym (ap (λ (q : Question). plan_asked q tag plan) is)
+
+-- the question of the exchange that opens
+abbrev pub AsksFor : {S V : Type 0} → View S V → Exchange → Question → Type 0
+AsksFor view what.Ages question = is_of_collection question ≡ true
+AsksFor view what.Remove question = is_of_collection question ≡ true
+AsksFor view what.List question = question ≡ question_in view query.List
+AsksFor view (what.Probe key) question = question ≡ Probe key
+
+pub record HasAskedThis {S V : Type 0} (old : View S V) (exchange : Exchange) (new : View S V) : Type 0 where
+  pub question : Question
+  pub asks : AsksFor old exchange question
+  pub asked : HasAsked old question new
+
+has_asked_of_it : {S V : Type 0} (m : Meaning S V) (old new : View S V) → StepAskCollect m old new → IsSome new.council.exchange → (question : Question) × (is_of_collection question ≡ true) × HasAsked old question new
+has_asked_of_it {S} {V} m old new by some = by_case by.asks
+  where
+    not_open : new.council.exchange ≡ None → (question : Question) × (is_of_collection question ≡ true) × HasAsked old question new
+    not_open none = absurd (cc (subst (λ (o : Option ExchangeView). IsSome o) none some))
+
+    by_case : AsksCollect m old by.may.at by.desk new → (question : Question) × (is_of_collection question ≡ true) × HasAsked old question new
+    by_case (collects.asks question flow up due room aged sends is) = (
+      question,
+      asks_of_it due,
+      record {
+        order = by.may.at.order;
+        was_open = by.may.at.is_open;
+        is_order = ap (λ (w : View S V). w.council.order) is ∙ by.may.at.is_open;
+        exchange = council.new_exchange question (tomb_of by.may.at.collection.tombstone) (everyone old);
+        is_open = ap (λ (w : View S V). w.council.exchange) is;
+        same = refl;
+        tag = tomb_of by.may.at.collection.tombstone;
+        plan = ap (λ (w : View S V). w.council.plan) is ∙ plan_stays (tomb_of by.may.at.collection.tombstone) old.council.plan due;
+        collection = ap (λ (w : View S V). w.council.collection) is;
+      },
+    )
+    by_case (collects.is_down down is) = not_open (ap (λ (w : View S V). w.council.exchange) is ∙ by.may.none_asked)
+    by_case (collects.is_full question up due full is) = not_open (ap (λ (w : View S V). w.council.exchange) is ∙ by.may.none_asked)
+    by_case (collects.no_memory up is) = not_open (ap (λ (w : View S V). w.council.exchange) is ∙ by.may.none_asked)
+
+pub has_asked_this : {S V : Type 0} (m : Meaning S V) (old new : View S V) (exchange : Exchange) → Step m old (asking_of old exchange) new → IsSome new.council.exchange → HasAskedThis old exchange new
+has_asked_this m old new what.Ages by some = let it = has_asked_of_it m old new by some in record { question = it.0; asks = it.1; asked = it.2 }
+has_asked_this m old new what.Remove by some = let it = has_asked_of_it m old new by some in record { question = it.0; asks = it.1; asked = it.2 }
+has_asked_this m old new what.List by some = record { question = question_in old query.List; asks = refl; asked = has_asked m old new _ by some }
+has_asked_this m old new (what.Probe key) by some = record { question = Probe key; asks = refl; asked = has_asked m old new _ by some }
 
 pub is_asking : {S V : Type 0} (old new : View S V) (question : Question) → HasAsked old question new → IsAsking new question
 is_asking old new question has = record { order = has.order; is_order = has.is_order; exchange = has.exchange; is_open = has.is_open; same = has.same }
@@ -197,29 +288,46 @@ told_none {S} {V} m old new question was by = record {
 }
 
 -- the operator's call stays within its turns
-order_by : {S V : Type 0} (old changed new : View S V) → new ≡ changed → changed.council.order ≡ old.council.order → changed.council.plan ≡ old.council.plan → KeepsOrder old new
-order_by {S} {V} old changed new is order plan = record { order = ap (λ (w : View S V). w.council.order) is ∙ order; plan = ap (λ (w : View S V). w.council.plan) is ∙ plan }
+order_by : {S V : Type 0} (old changed new : View S V) → new ≡ changed → changed.council.order ≡ old.council.order → changed.council.plan ≡ old.council.plan → changed.council.collection ≡ old.council.collection → KeepsOrder old new
+order_by {S} {V} old changed new is order plan collection = record { order = ap (λ (w : View S V). w.council.order) is ∙ order; plan = ap (λ (w : View S V). w.council.plan) is ∙ plan; collection = ap (λ (w : View S V). w.council.collection) is ∙ collection }
 
 pub same_order : {S V : Type 0} (old : View S V) → KeepsOrder old old
-same_order old = record { order = refl; plan = refl }
+same_order old = record { order = refl; plan = refl; collection = refl }
 
 pub both_orders : {S V : Type 0} (old mid new : View S V) → KeepsOrder old mid → KeepsOrder mid new → KeepsOrder old new
-both_orders old mid new before after = record { order = after.order ∙ before.order; plan = after.plan ∙ before.plan }
+both_orders old mid new before after = record { order = after.order ∙ before.order; plan = after.plan ∙ before.plan; collection = after.collection ∙ before.collection }
 
 pub turn_order : {S V : Type 0} (m : Meaning S V) (old new : View S V) (verdict : Verdict) → StepTurnExchange m old verdict new → KeepsOrder old new
 turn_order {S} {V} m old new verdict by = by_case by.turn
   where
     by_case : TurnsExchange m old verdict by.front by.at.exchange new → KeepsOrder old new
-    by_case (council.held fall is) = order_by old old new is refl refl
-    by_case (council.gone fall is) = order_by old _ new is refl refl
-    by_case (council.answers request acceptor now reply fall front at table is) = order_by old _ new is refl refl
-    by_case (council.finds_down request acceptor fall front at down is) = order_by old _ new is refl refl
-    by_case (council.brings_down request acceptor now fall front at stops is) = order_by old _ new is refl refl
-    by_case (council.arrives reply fall front to_it is) = order_by old _ new is refl refl
+    by_case (council.held fall is) = order_by old old new is refl refl refl
+    by_case (council.gone fall is) = order_by old _ new is refl refl refl
+    by_case (council.answers request acceptor now reply fall front at table is) = order_by old _ new is refl refl refl
+    by_case (council.finds_down request acceptor fall front at down is) = order_by old _ new is refl refl refl
+    by_case (council.brings_down request acceptor now fall front at stops is) = order_by old _ new is refl refl refl
+    by_case (council.arrives reply fall front to_it is) = order_by old _ new is refl refl refl
 
 -- it is gathered
 pub may_gather : {S V : Type 0} (view : View S V) (question : Question) → IsAsking view question → (queue_at view.flow exchange_place).messages ≡ [] → MayGather view
-may_gather view question is none = record { order = is.order; is_order = is.is_order; exchange = is.exchange; is_open = is.is_open; none_waits = none }
+may_gather view question is none = elim (true_or_false (is_of_collection is.exchange.question)) [
+  | inl of_it ↦ world.collected (record { exchange = is.exchange; is_open = is.is_open; asks = of_it; none_waits = none })
+  | inr beside ↦ world.members (record { order = is.order; is_order = is.is_order; exchange = is.exchange; is_open = is.is_open; beside = beside; none_waits = none })
+]
+
+-- by the step that is for its question
+abbrev gathers_at : Bool → Event
+gathers_at of_it = if of_it then step.GatherCollect else step.Gather
+
+step_for : {S V : Type 0} (old : View S V) (exchange : Exchange) (question : Question) → AsksFor old exchange question → gathers_at (is_of_collection question) ≡ answers_of exchange
+step_for old what.Ages question asks = ap gathers_at asks
+step_for old what.Remove question asks = ap gathers_at asks
+step_for old what.List question asks = ap (λ (q : Question). gathers_at (is_of_collection q)) asks
+step_for old (what.Probe key) question asks = ap (λ (q : Question). gathers_at (is_of_collection q)) asks
+
+pub gathered_so : {S V : Type 0} (m : Meaning S V) (old turned new : View S V) (exchange : Exchange) (question : Question) → AsksFor old exchange question → IsAsking turned question → Step m turned (gathering_of turned) new → Step m turned (answers_of exchange) new
+gathered_so m old turned new exchange question asks is by =
+    subst (λ (e : Event). Step m turned e new) (ap gathering_by is.is_open ∙ ap (λ (q : Question). gathers_at (is_of_collection q)) is.same ∙ step_for old exchange question asks) by
 
 -- the open exchange asks this
 asks_this : {S V : Type 0} (view : View S V) (question other : Question) (exchange : ExchangeView) → IsAsking view question → view.council.exchange ≡ Some exchange → exchange.question ≡ other → question ≡ other
@@ -229,15 +337,38 @@ asks_this view question other exchange was is_open is = sym was.same ∙ ap (λ 
 begun_as : {S V : Type 0} (old asked turned : View S V) (places : List MemberPlace) (has : HasAsked old (NextKeys places) asked) → KeepsOrder asked turned → (plan now : PlanView) → old.council.plan ≡ Some plan → turned.council.plan ≡ Some now → now ≡ listing_begun places has.tag plan
 begun_as old asked turned places has keeps plan now was is = some_is (sym is ∙ keeps.plan ∙ has.plan ∙ ap (option_map (listing_begun places has.tag)) was)
 
-pub came_of : {S V : Type 0} (old asked turned new : View S V) (question : Question) (result : Gathered) → MayAsk old question → HasAsked old question asked → KeepsOrder asked turned → IsAsking turned question → HasGathered turned result new → CameOf question old result new
-came_of {S} {V} old asked turned new (Probe key) result may has keeps was (probed exchange other kept is_open question is_probed has_found told) =
-    let key_is : key ≡ other = cc (asks_this turned (Probe key) (Probe other) exchange was is_open question) in
-    subst (λ (g : Gathered). CameOf (Probe key) old g new) (sym is_probed) (subst (λ (k : List ℕ). WasToldOrder new (op.Probed k kept)) (sym key_is) told)
-came_of old asked turned new (Probe key) result may has keeps was (lists exchange places plan listing is_open question is_plan is next) = absurd (cc (asks_this turned (Probe key) (NextKeys places) exchange was is_open question))
-came_of old asked turned new (NewAges key least) result may has keeps was by = absurd may.is_for
-came_of old asked turned new (Removal key) result may has keeps was by = absurd may.is_for
-came_of old asked turned new (NextKeys places) result may has keeps was (probed exchange key kept is_open question is_probed has_found told) = absurd (cc (asks_this turned (NextKeys places) (Probe key) exchange was is_open question))
-came_of {S} {V} old asked turned new (NextKeys places) result may has keeps was (lists exchange other plan listing is_open question is_plan is next) =
+-- an exchange of a collection went on with it
+confirmed_so : {S V : Type 0} (old asked turned new : View S V) (question : Question) (result : Gathered) → is_of_collection question ≡ true → HasAsked old question asked → KeepsOrder asked turned → IsAsking turned question → HasGathered turned result new → HasConfirmed old result new
+confirmed_so old asked turned new question result of_it has keeps was (probed exchange key kept is_open is is_probed has_found told) = absurd (cc (of_it, ap is_of_collection (asks_this turned question (Probe key) exchange was is_open is)))
+confirmed_so old asked turned new question result of_it has keeps was (lists exchange places plan listing is_open is is_plan came next) = absurd (cc (of_it, ap is_of_collection (asks_this turned question (NextKeys places) exchange was is_open is)))
+confirmed_so old asked turned new question result of_it has keeps was (acknowledged collection none is_collection came next) = absurd (cc (sym none ∙ was.is_open))
+confirmed_so {S} {V} old asked turned new question result of_it has keeps was (confirmed exchange collection removed kept is_open asks is_collection came next) = record {
+  order = has.order;
+  was_open = has.was_open;
+  goes_on = ap (λ (c : Council). c.order) next ∙ ap (option_map silent_order) (keeps.order ∙ has.is_order);
+  over = ap (λ (c : Council). c.exchange) next;
+  collection = collection;
+  was_collection = sym has.collection ∙ sym keeps.collection ∙ is_collection;
+  removed = removed;
+  kept = kept;
+  is_collection = ap (λ (c : Council). c.collection) next;
+  came = came;
+}
+
+-- a probe found what the call may tell
+found_so : {S V : Type 0} (old turned new : View S V) (key : List ℕ) (question : Question) (result : Gathered) → question ≡ Probe key → IsAsking turned question → HasGathered turned result new → CameOf (what.Probe key) old result new
+found_so {S} {V} old turned new key question result asks was (probed exchange other kept is_open is is_probed has_found told) =
+    let key_is : key ≡ other = cc (sym asks ∙ asks_this turned question (Probe other) exchange was is_open is) in
+    subst (λ (g : Gathered). CameOf (what.Probe key) old g new) (sym is_probed) (subst (λ (k : List ℕ). WasToldOrder new (op.Probed k kept)) (sym key_is) told)
+found_so old turned new key question result asks was (lists exchange places plan listing is_open is is_plan came next) = absurd (cc (sym asks ∙ asks_this turned question (NextKeys places) exchange was is_open is))
+found_so old turned new key question result asks was (acknowledged collection none is_collection came next) = absurd (cc (sym none ∙ was.is_open))
+found_so old turned new key question result asks was (confirmed exchange collection removed kept is_open of_it is_collection came next) =
+    absurd (cc (of_it, ap is_of_collection (asks_this turned question exchange.question exchange was is_open refl), ap is_of_collection asks))
+
+-- a listing went on
+listed_so : {S V : Type 0} (old asked turned new : View S V) (places : List MemberPlace) (result : Gathered) → MayAsk old (NextKeys places) → HasAsked old (NextKeys places) asked → KeepsOrder asked turned → IsAsking turned (NextKeys places) → HasGathered turned result new → HasListed old result new
+listed_so old asked turned new places result may has keeps was (probed exchange key kept is_open is is_probed has_found told) = absurd (cc (asks_this turned (NextKeys places) (Probe key) exchange was is_open is))
+listed_so {S} {V} old asked turned new places result may has keeps was (lists exchange other plan listing is_open is is_plan came next) =
     let due = may.is_for.1 in
     let begun : plan ≡ listing_begun places has.tag due.plan = begun_as old asked turned places has keeps due.plan plan due.is_plan is_plan in
     record {
@@ -249,17 +380,28 @@ came_of {S} {V} old asked turned new (NextKeys places) result may has keeps was 
       was_plan = due.is_plan;
       listing = listing;
       is_plan = ap (λ (c : Council). c.plan) next ∙ ap (λ (p : PlanView). Some (with_listing p listing)) begun;
-      came = is;
+      came = came;
     }
+listed_so old asked turned new places result may has keeps was (acknowledged collection none is_collection came next) = absurd (cc (sym none ∙ was.is_open))
+listed_so old asked turned new places result may has keeps was (confirmed exchange collection removed kept is_open of_it is_collection came next) =
+    absurd (cc (of_it, ap is_of_collection (asks_this turned (NextKeys places) exchange.question exchange was is_open refl)))
+
+pub came_of : {S V : Type 0} (old asked turned new : View S V) (exchange : Exchange) (result : Gathered) → MayAskThis old exchange → (has : HasAskedThis old exchange asked) → KeepsOrder asked turned → IsAsking turned has.question → HasGathered turned result new → CameOf exchange old result new
+came_of old asked turned new what.Ages result may has keeps was by = confirmed_so old asked turned new has.question result has.asks has.asked keeps was by
+came_of old asked turned new what.Remove result may has keeps was by = confirmed_so old asked turned new has.question result has.asks has.asked keeps was by
+came_of {S} {V} old asked turned new what.List result may has keeps was by =
+    listed_so old asked turned new _ result may (subst (λ (q : Question). HasAsked old q asked) has.asks has.asked) keeps (subst (IsAsking turned) has.asks was) by
+came_of old asked turned new (what.Probe key) result may has keeps was by = found_so old turned new key has.question result has.asks was by
 
 -- what was found for a key that was probed
-pub was_probed : {S V : Type 0} (old new : View S V) (key : List ℕ) (result : Gathered) → CameOf (Probe key) old result new → IsProbed result
+pub was_probed : {S V : Type 0} (old new : View S V) (key : List ℕ) (result : Gathered) → CameOf (what.Probe key) old result new → IsProbed result
 was_probed old new key (gathered.Probed found) came = tt
 was_probed old new key gathered.More came = absurd came
 was_probed old new key gathered.Listed came = absurd came
+was_probed old new key (gathered.All removed kept) came = absurd came
 
-pub told_found : {S V : Type 0} (old new : View S V) (key : List ℕ) (result : Gathered) (found : Probes) → CameOf (Probe key) old result new → result ≡ gathered.Probed found → WasToldOrder new (op.Probed key found)
-told_found old new key result found came is = subst (λ (g : Gathered). CameOf (Probe key) old g new) is came
+pub told_found : {S V : Type 0} (old new : View S V) (key : List ℕ) (result : Gathered) (found : Probes) → CameOf (what.Probe key) old result new → result ≡ gathered.Probed found → WasToldOrder new (op.Probed key found)
+told_found old new key result found came is = subst (λ (g : Gathered). CameOf (what.Probe key) old g new) is came
 
 -- what goes on is not complete
 not_complete : (complete : Bool) → gathered.More ≡ listed_if complete → complete ≡ false
@@ -272,12 +414,9 @@ left_begun places tag members None is = ap keys_left is
 left_begun places tag members (Some listing) is = refl
 
 -- where it goes on and is not complete, less is left
-pub less_left : {S V : Type 0} (old asked turned new : View S V) (question : Question) (result : Gathered) → MayAsk old question → HasAsked old question asked → KeepsOrder asked turned → CameOf question old result new → result ≡ gathered.More
+less_listed : {S V : Type 0} (old asked turned new : View S V) (places : List MemberPlace) (result : Gathered) → MayAsk old (NextKeys places) → HasAsked old (NextKeys places) asked → KeepsOrder asked turned → HasListed old result new → result ≡ gathered.More
     → left_to_list new.council.plan < left_to_list turned.council.plan → listing_left new < listing_left old
-less_left old asked turned new (Probe key) result may has keeps came more less = absurd (subst (λ (g : Gathered). CameOf (Probe key) old g new) more came)
-less_left old asked turned new (NewAges key least) result may has keeps came more less = absurd came
-less_left old asked turned new (Removal key) result may has keeps came more less = absurd came
-less_left {S} {V} old asked turned new (NextKeys places) result may has keeps came more less =
+less_listed {S} {V} old asked turned new places result may has keeps came more less =
     let due = may.is_for.1 in
     let plan_then : turned.council.plan ≡ Some (listing_begun places has.tag due.plan) = keeps.plan ∙ has.plan ∙ ap (option_map (listing_begun places has.tag)) due.is_plan in
     let before : left_to_list turned.council.plan ≡ keys_left (places_from (everyone old) due.plan.listing) = ap left_to_list plan_then ∙ left_begun places has.tag (everyone old) due.plan.listing due.goes_on in
@@ -288,6 +427,14 @@ less_left {S} {V} old asked turned new (NextKeys places) result may has keeps ca
     let at_new : listing_left new ≡ keys_left came.listing.places = ap (λ (p : Option PlanView). keys_left (places_from (everyone new) (listing_in p))) plan_now in
     let after : left_to_list new.council.plan ≡ keys_left came.listing.places = ap left_to_list plan_now in
     omega (arith, less, before, at_old, at_new, after)
+
+pub less_left : {S V : Type 0} (old asked turned new : View S V) (exchange : Exchange) (result : Gathered) → MayAskThis old exchange → HasAskedThis old exchange asked → KeepsOrder asked turned → CameOf exchange old result new → result ≡ gathered.More
+    → left_to_list new.council.plan < left_to_list turned.council.plan → listing_left new < listing_left old
+less_left old asked turned new (what.Probe key) result may has keeps came more less = absurd (subst (λ (g : Gathered). CameOf (what.Probe key) old g new) more came)
+less_left old asked turned new what.Ages result may has keeps came more less = absurd (cc (sym more ∙ came.came))
+less_left old asked turned new what.Remove result may has keeps came more less = absurd (cc (sym more ∙ came.came))
+less_left old asked turned new what.List result may has keeps came more less =
+    less_listed old asked turned new _ result may (subst (λ (q : Question). HasAsked old q asked) has.asks has.asked) keeps came more less
 
 -- the call is over
 pub quiet_after : {S V : Type 0} (old new : View S V) (told : OpAnswer) → StepTell old told new → IsAtRest new.council
@@ -328,7 +475,7 @@ ask_turned_more m rules old mid new front leg peer verdict shown is says before 
 
 -- ---- a listing
 -- what the operator's call asks for is under way, and its era is to be settled
-pub may_list : {S V : Type 0} (view : View S V) (asked : Asked) → IsUnderWay view asked → IsFree view → step_of view.council.plan ≡ Some Settle → IsPartial view.council.plan → MayAsk view (question_in view what.List)
+pub may_list : {S V : Type 0} (view : View S V) (asked : Asked) → IsUnderWay view asked → IsFree view → step_of view.council.plan ≡ Some Settle → IsPartial view.council.plan → MayAsk view (question_in view query.List)
 may_list view asked was free settles partial = record {
   order = was.order;
   is_open = was.is_open;
@@ -416,8 +563,16 @@ not_probed {A = A} old new found came = by_complete came.listing.complete came.c
     by_complete true is = absurd (cc is)
     by_complete false is = absurd (cc is)
 
+not_all : {S V A : Type 0} (old new : View S V) (removed kept : ℕ) → HasListed old (gathered.All removed kept) new → A
+not_all {A = A} old new removed kept came = by_complete came.listing.complete came.came
+  where
+    by_complete : (c : Bool) → gathered.All removed kept ≡ listed_if c → A
+    by_complete true is = absurd (cc is)
+    by_complete false is = absurd (cc is)
+
 -- what does not go on is complete
 pub is_whole : {S V : Type 0} (old new : View S V) (result : Gathered) → HasListed old result new → (result ≡ gathered.More → ⊥) → HasListed old gathered.Listed new
 is_whole old new (gathered.Probed found) came other = not_probed old new found came
 is_whole old new gathered.More came other = absurd (other refl)
 is_whole old new gathered.Listed came other = came
+is_whole old new (gathered.All removed kept) came other = not_all old new removed kept came

@@ -1,6 +1,5 @@
 -- How the steps of a change of membership lead on from one to the next.
 use Rattle.std.proofs.Common.{◌≡◌, ◌≤◌, ℕ, true, Some, ◌∙◌, inl, inr, arith}
-use Rattle.std.specs.Prelude.{◌⊎◌, IsSome}
 use Rattle.cas_calls.specs.Council.{due_in}
 use Rattle.cas_calls.specs.declared.council.Gathered.{Gathered}
 use Rattle.cas_cluster.specs.Protocol.{is_done}

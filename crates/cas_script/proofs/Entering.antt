@@ -1,5 +1,5 @@
 -- How a change of membership is opened, and what an era that is entered does to the world.
-use Rattle.std.proofs.Common.{◌≡◌, ◌+◌, ◌-◌, ◌*◌, ◌<◌, ◌≤◌, ℕ, zero, suc, nat_eq, Bool, true, false, List, [], ◌∷◌, Option, None, Some, length, slice_get, slice_set, refl, sym, ap, subst, ◌∙◌, inl, inr, arith, eqb-true}
+use Rattle.std.proofs.Common.{◌≡◌, ◌+◌, ◌-◌, ◌*◌, ◌<◌, ◌≤◌, ℕ, suc, nat_eq, Bool, true, false, List, [], ◌∷◌, Option, None, Some, length, slice_get, refl, sym, ap, subst, ◌∙◌, inl, inr, arith, eqb-true}
 use Rattle.std.specs.Prelude.{◌⊎◌, ◌==◌, IsSome, option_map, if◌then◌else◌}
 use Rattle.std.proofs.lemmas.Bool.{eqb-false}
 use Rattle.std.proofs.Math.Nat.{mul-le-mul_left}
@@ -11,7 +11,6 @@ use Rattle.cas_proposer.specs.Desk.{DeskView}
 use Rattle.cas_quorum.specs.declared.era.Era.{Era}
 use Rattle.cas_record.specs.declared.operator.Asked.{Asked}
 use Rattle.cas_record.specs.declared.operator.OpAnswer.{OpAnswer}
-use Rattle.cas_record.specs.declared.operator.OpAnswer.TheVariants as op
 use Rattle.cas_cluster.specs.Council.{Council, OrderView, PlanView, IsAtRest, told_so}
 use Rattle.cas_cluster.specs.Course.{entering, next_era, entered_by}
 use Rattle.cas_cluster.specs.StepCouncil.{StepOrder, StepRefuseKey, told_view}
@@ -22,13 +21,12 @@ use Rattle.cas_cluster.specs.StepStops.{LeavesRound, GoesDown}
 use Rattle.cas_cluster.specs.View.{Meaning, View, CallView, CallerView, IsAt}
 use Rattle.cas_cluster.proofs.Places.{at_one, some_is}
 use Rattle.cas_world.specs.Beginning.{HasNoCall}
-use Rattle.cas_world.specs.Exchange.{WasToldOrder}
 use Rattle.cas_world.specs.Plans.{IsFor, IsUnderWay, MayOpenPlan, MayEnter, entrant_of, step_of}
 use Rattle.cas_script.specs.Exchanges.{KeepsCalls}
 use Rattle.cas_script.specs.Membership as membership
 use Rattle.cas_script.specs.Membership.{HasAdvanced, left_of, steps_left}
 use Rattle.cas_script.specs.Conditions.{Rule}
-use Rattle.cas_script.specs.Orders.{GoesOn, IsFree, IsOrdered, KeepsIdle}
+use Rattle.cas_script.specs.Orders.{IsFree, IsOrdered, KeepsIdle}
 use Rattle.cas_script.specs.declared.halt.Halt.{Halt}
 use Rattle.cas_script.proofs.Keeping.{get_other}
 
@@ -124,11 +122,11 @@ some_due view era enters = by_plan view.council.plan enters
 
 -- ---- what the callers of open rounds lose
 -- no call is opened
-record LeavesIdle {S V : Type 0} (old new : View S V) : Type 0 where
-  keeps : KeepsIdle old new
-  council : new.council ≡ old.council
+pub record LeavesIdle {S V : Type 0} (old new : View S V) : Type 0 where
+  pub keeps : KeepsIdle old new
+  pub council : new.council ≡ old.council
 
-leaves_idle : {S V : Type 0} {D : DeskView V → DeskView V → Type 0} {closed : CallView → CallView} (old new : View S V) (id : ℕ) → LeavesRound D closed old id new → LeavesIdle old new
+pub leaves_idle : {S V : Type 0} {D : DeskView V → DeskView V → Type 0} {closed : CallView → CallView} (old new : View S V) (id : ℕ) → LeavesRound D closed old id new → LeavesIdle old new
 leaves_idle {S} {V} old new id (stops.idle desk now at none_open turns is) = record {
   keeps = record {
     greatest = ap (λ (w : View S V). w.greatest) is;
@@ -147,13 +145,13 @@ leaves_idle {S} {V} {D} {closed} old new id (stops.closes desk now round of_call
       | inr other ↦ record { caller = was.caller; at_caller = ap (λ (w : View S V). slice_get w.callers p) is ∙ get_other old.callers id _ p (eqb-false p id other) ∙ was.at_caller; none_open = was.none_open }
     ]
 
-told_idle : {S V : Type 0} (old middle new : View S V) (told : OpAnswer) → KeepsIdle old middle → new ≡ told_view middle told → KeepsIdle old new
+pub told_idle : {S V : Type 0} (old middle new : View S V) (told : OpAnswer) → KeepsIdle old middle → new ≡ told_view middle told → KeepsIdle old new
 told_idle {S} {V} old middle new told before is = record {
   greatest = ap (λ (w : View S V). w.greatest) is ∙ before.greatest;
   idle = λ p was. let mid = before.idle p was in record { caller = mid.caller; at_caller = ap (λ (w : View S V). slice_get w.callers p) is ∙ mid.at_caller; none_open = mid.none_open };
 }
 
-down_idle : {S V : Type 0} {D : DeskView V → DeskView V → Type 0} (old new : View S V) (id : ℕ) → GoesDown D old id new → KeepsIdle old new
+pub down_idle : {S V : Type 0} {D : DeskView V → DeskView V → Type 0} (old new : View S V) (id : ℕ) → GoesDown D old id new → KeepsIdle old new
 down_idle old new id (stops.of_client client leaves) = (leaves_idle old new id leaves).keeps
 down_idle {S} {V} old new id (stops.of_operator middle operator leaves is) =
     let before = (leaves_idle old middle id leaves).keeps in

@@ -21,7 +21,7 @@ use Rattle.cas_cluster.specs.View.{Meaning, View, CallerView}
 use Rattle.cas_cluster.proofs.Places.{at_one}
 use Rattle.cas_world.specs.Beginning.{HasNoCall}
 use Rattle.cas_script.specs.Changes as changes
-use Rattle.cas_script.specs.Changes.{Turned, AllTurned, FailsToTurn, EndsPrepare, IsAccepted, IsRound, AreRounds, IsChange}
+use Rattle.cas_script.specs.Changes.{Turned, AllTurned, FailsToTurn, EndsPrepareBy, IsAcceptedBy, IsCutOff, IsCutShort, IsRoundBy, AreRoundsBy, AreRounds, IsChange}
 use Rattle.cas_script.specs.Conditions.{Rule}
 use Rattle.cas_script.specs.Events as events
 use Rattle.cas_script.specs.Events.{CrashesAcceptor, RestartsAcceptor, RestartsProposer, StraysIn}
@@ -150,7 +150,7 @@ count_keeps {S} {V} m old new id by = in_phase by.at_round.of_call by.at_round.d
     in_phase at desk round (calls.counts now by outcome quorum confirmers proposed ends is) = sets old new id _ (ap (λ (w : View S V). w.greatest) is) (ap (λ (w : View S V). w.callers) is) (ap (λ (w : View S V). w.council) is)
     in_phase at desk round (calls.ends now verdict why verdict_is cause ends is) = sets old new id _ (ap (λ (w : View S V). w.greatest) is) (ap (λ (w : View S V). w.callers) is) (ap (λ (w : View S V). w.council) is)
 
-end_leaves : {S V : Type 0} (m : Meaning S V) (old new : View S V) (id : ℕ) (told : Answer) → StepEnd m old id told new → LeavesOthers old new id
+pub end_leaves : {S V : Type 0} (m : Meaning S V) (old new : View S V) (id : ℕ) (told : Answer) → StepEnd m old id told new → LeavesOthers old new id
 end_leaves {S} {V} m old new id told by = record {
   greatest = ap (λ (w : View S V). w.greatest) by.ends.view;
   others = λ p other. ap (λ (w : View S V). slice_get w.callers p) by.ends.view ∙ get_other old.callers id _ p other;
@@ -177,33 +177,75 @@ crash_keeps m old new id (stops.of_client client crashes) = desk_crash_keeps m o
 crash_keeps m old new id (stops.of_operator middle operator crashes is) = both old middle new id (desk_crash_keeps m old middle id crashes) (breaks_off middle new id is)
 
 -- ---- a change
-turned_keeps : {S V : Type 0} (m : Meaning S V) (rules : List Rule) (id : ℕ) (old new : View S V) → Turned m rules id old new → KeepsOthers old new id
-turned_keeps m rules id old new changes.none = same old id
-turned_keeps m rules id old new (changes.one_more {mid = mid} frame before at by) = both old mid new id (turned_keeps m rules id old mid before) (turn_keeps m mid new id _ by)
+-- what each turn of a proposer's frames and a crash of it do to a world
+pub record HoldsThrough {S V : Type 0} (m : Meaning S V) (id : ℕ) (Holds : View S V → View S V → Type 0) : Type 0 where
+  pub stays : (old : View S V) → Holds old old
+  pub joins : (old mid new : View S V) → Holds old mid → Holds mid new → Holds old new
+  pub turn : (old new : View S V) (verdict : Verdict) → StepTurn m old id verdict new → Holds old new
+  pub refuse : (old new : View S V) → StepRefuseTurn m old id new → Holds old new
+  pub crash : (old new : View S V) → StepCrashProposer m old id new → Holds old new
 
-fails_keeps : {S V : Type 0} (m : Meaning S V) (rules : List Rule) (id : ℕ) (old new : View S V) → FailsToTurn m rules id old new → KeepsOthers old new id
-fails_keeps m rules id old new by = both old by.mid new id (turned_keeps m rules id old by.mid by.turned) (refuse_keeps m by.mid new id by.fails)
+module _ {S V : Type 0} {m : Meaning S V} {id : ℕ} {Holds : View S V → View S V → Type 0} (through : HoldsThrough m id Holds) (rules : List Rule) where
+  pub turned_holds : (old new : View S V) → Turned m rules id old new → Holds old new
+  turned_holds old new changes.none = through.stays old
+  turned_holds old new (changes.one_more {mid = mid} frame before at by) = through.joins old mid new (turned_holds old mid before) (through.turn mid new _ by)
 
-prepare_keeps : {S V : Type 0} (m : Meaning S V) (rules : List Rule) (id : ℕ) (halt : Halt) (old new : View S V) → EndsPrepare m rules id halt old new → KeepsOthers old new id
-prepare_keeps m rules id halt old new by = both old by.turned new id (turned_keeps m rules id old by.turned by.turns.turned) (propose_keeps m by.turned new id by.proposes)
+  pub fails_hold : (old new : View S V) → FailsToTurn m rules id old new → Holds old new
+  fails_hold old new by = through.joins old by.mid new (turned_holds old by.mid by.turned) (through.refuse by.mid new by.fails)
 
-accepted_keeps : {S V : Type 0} (m : Meaning S V) (rules : List Rule) (id : ℕ) (halt after : Halt) (old new : View S V) → IsAccepted m rules id halt old after new → KeepsOthers old new id
-accepted_keeps m rules id halt after old new (changes.halts accepting due by) = crash_keeps m old new id by
-accepted_keeps m rules id halt after old new (changes.no_memory not_due by) = fails_keeps m rules id old new by
-accepted_keeps m rules id halt after old new (changes.counts {turned = turned} not_due turns by) = both old turned new id (turned_keeps m rules id old turned turns.turned) (count_keeps m turned new id by)
+  pub cut_off_holds : (halt after : Halt) (old new : View S V) → IsCutOff m rules id halt old after new → Holds old new
+  cut_off_holds halt after old new (changes.no_memory by) = fails_hold old new by
+  cut_off_holds halt after old new (changes.halts {turned = turned} turns strikes by) = through.joins old turned new (turned_holds old turned turns.turned) (through.crash turned new by)
 
-round_keeps : {S V : Type 0} (m : Meaning S V) (rules : List Rule) (id : ℕ) (halt after : Halt) (old new : View S V) → IsRound m rules id halt old after new → KeepsOthers old new id
-round_keeps m rules id halt after old new changes.none_begun = same old id
-round_keeps m rules id halt after old new (changes.by_promise accepted) = accepted_keeps m rules id halt after old new accepted
-round_keeps m rules id halt after old new (changes.no_memory by) = fails_keeps m rules id old new by
-round_keeps m rules id halt after old new (changes.halts {turned = turned} turns strikes by) = both old turned new id (turned_keeps m rules id old turned turns.turned) (crash_keeps m turned new id by)
-round_keeps m rules id halt after old new (changes.ends_short by) = prepare_keeps m rules id halt old new by
-round_keeps m rules id halt after old new (changes.proposes {proposed = proposed} by accepted) = both old proposed new id (prepare_keeps m rules id halt old proposed by) (accepted_keeps m rules id halt after proposed new accepted)
+  pub cut_short_holds : (halt after : Halt) (old new : View S V) → IsCutShort m rules id halt old after new → Holds old new
+  cut_short_holds halt after old new (changes.halts accepting due by) = through.crash old new by
+  cut_short_holds halt after old new (changes.no_memory not_due by) = fails_hold old new by
+
+-- and what its calls do
+pub record HoldsInRounds {S V : Type 0} (m : Meaning S V) (id : ℕ) (Holds Begins Ends Counts : View S V → View S V → Type 0) : Type 0 where
+  pub through : HoldsThrough m id Holds
+  pub begins : (old new : View S V) → Begins old new → Holds old new
+  pub ends : (old new : View S V) → Ends old new → Holds old new
+  pub counts : (old new : View S V) → Counts old new → Holds old new
+
+module _ {S V : Type 0} {m : Meaning S V} {id : ℕ} {Holds Begins Ends Counts : View S V → View S V → Type 0} (holds : HoldsInRounds m id Holds Begins Ends Counts) (rules : List Rule) where
+  prepare_holds : (halt : Halt) (old new : View S V) → EndsPrepareBy Ends m rules id halt old new → Holds old new
+  prepare_holds halt old new by = holds.through.joins old by.turned new (turned_holds holds.through rules old by.turned by.turns.turned) (holds.ends by.turned new by.proposes)
+
+  accepted_holds : (halt after : Halt) (old new : View S V) → IsAcceptedBy Counts m rules id halt old after new → Holds old new
+  accepted_holds halt after old new (changes.cut_short by) = cut_short_holds holds.through rules halt after old new by
+  accepted_holds halt after old new (changes.counts {turned = turned} not_due turns by) = holds.through.joins old turned new (turned_holds holds.through rules old turned turns.turned) (holds.counts turned new by)
+
+  round_holds : (halt after : Halt) (old new : View S V) → IsRoundBy Ends Counts m rules id halt old after new → Holds old new
+  round_holds halt after old new changes.none_begun = holds.through.stays old
+  round_holds halt after old new (changes.by_promise accepted) = accepted_holds halt after old new accepted
+  round_holds halt after old new (changes.cut_off by) = cut_off_holds holds.through rules halt after old new by
+  round_holds halt after old new (changes.ends_short by) = prepare_holds halt old new by
+  round_holds halt after old new (changes.proposes {proposed = proposed} by accepted) = holds.through.joins old proposed new (prepare_holds halt old proposed by) (accepted_holds halt after proposed new accepted)
+
+  pub rounds_hold : (tries : ℕ) (halt after : Halt) (old new : View S V) → AreRoundsBy Begins Ends Counts m rules id tries halt old after new → Holds old new
+  rounds_hold tries halt after old new (changes.last by ends) = round_holds halt after old new by
+  rounds_hold tries halt after old new (changes.another {mid = mid} {met = met} {begun = begun} many by is_met begins more) =
+      holds.through.joins old met new (round_holds halt mid old met by) (holds.through.joins met begun new (holds.begins met begun begins) (rounds_hold _ mid after begun new more))
+
+-- the others keep their calls
+pub others_through : {S V : Type 0} (m : Meaning S V) (id : ℕ) → HoldsThrough m id (λ old new. KeepsOthers old new id)
+others_through m id = record {
+  stays = λ old. same old id;
+  joins = λ old mid new. both old mid new id;
+  turn = λ old new verdict. turn_keeps m old new id verdict;
+  refuse = λ old new. refuse_keeps m old new id;
+  crash = λ old new. crash_keeps m old new id;
+}
 
 pub rounds_keep : {S V : Type 0} (m : Meaning S V) (rules : List Rule) (id : ℕ) (key : List ℕ) (program : List Clause) (tries : ℕ) (halt after : Halt) (old new : View S V) → AreRounds m rules id key program tries halt old after new → KeepsOthers old new id
-rounds_keep m rules id key program tries halt after old new (changes.last by ends) = round_keeps m rules id halt after old new by
-rounds_keep m rules id key program tries halt after old new (changes.another {mid = mid} {met = met} {begun = begun} many by is_met begins more) =
-    both old met new id (round_keeps m rules id halt mid old met by) (both met begun new id (begin_keeps m met begun id key program begins) (rounds_keep m rules id key program _ mid after begun new more))
+rounds_keep {S} {V} m rules id key program tries halt after old new by =
+    rounds_hold {Holds = λ before next. KeepsOthers before next id} (record {
+      through = others_through m id;
+      begins = λ before next begins. begin_keeps m before next id key program begins;
+      ends = λ before next ends. propose_keeps m before next id ends;
+      counts = λ before next counts. count_keeps m before next id counts;
+    }) rules tries halt after old new by
 
 pub change_leaves : {S V : Type 0} (m : Meaning S V) (tries : ℕ) (rules : List Rule) (id : ℕ) (key : List ℕ) (program : List Clause) (halt after : Halt) (old new : View S V) (answer : Answer) → IsChange m tries rules id key program halt old answer after new → LeavesOthers old new id
 change_leaves m tries rules id key program halt after old new answer (changes.refused is by) = no_begin_leaves m old new id key by

@@ -1,6 +1,8 @@
 pub mod Answering
 pub mod Asking
+pub mod Burying
 pub mod Carrying
+pub mod Collecting
 pub mod Entering
 pub mod Happenings
 pub mod Keeping

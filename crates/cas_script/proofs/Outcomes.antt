@@ -34,3 +34,12 @@ on_ok_then (Err x) p then_q = tt
 pub if_err_by : {T E A : Type 0} {P : A → E → Type 0} {I : A → Type 0} {Q : E → Type 0} (r : Result T E) → ((e : E) → ((a : A) → I a → P a e) → Q e) → ((a : A) → I a → IfErr r (P a)) → IfErr r Q
 if_err_by (Ok x) f p = tt
 if_err_by (Err e) f p = f e p
+
+-- where it is known which result it is
+pub on_ok_is : {T E P : Type 0} (r : Result T E) (x : T) → r ≡ Ok x → OnOk r P → P
+on_ok_is (Ok y) x is p = p
+on_ok_is (Err e) x is p = absurd (cc is)
+
+pub if_none_of : {T P : Type 0} (o : Option T) → P → IfNone o P
+if_none_of None p = p
+if_none_of (Some x) p = tt

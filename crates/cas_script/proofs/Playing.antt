@@ -17,6 +17,7 @@ use Rattle.cas_record.proofs.Eras.{le_or_lt}
 use Rattle.cas_round.specs.declared.verdict.RoundVerdict.{RoundVerdict}
 use Rattle.cas_round.specs.declared.verdict.RoundVerdict.TheVariants as verdict
 use Rattle.cas_cluster.specs.Council.{Council}
+use Rattle.cas_cluster.specs.Protocol.{is_done}
 use Rattle.cas_cluster.specs.Step.{StepBegin, StepTurn, StepRefuseTurn, StepPropose, StepCount, StepEnd}
 use Rattle.cas_cluster.specs.StepStops.{CrashesDesk, StepCrashProposer, of_client, of_operator, idle, closes, closed_by_crash, OpenCallAt}
 use Rattle.cas_cluster.specs.StepCalls as calls
@@ -49,7 +50,7 @@ for_on old new id asked was_call was caller call next at is_open callers key pro
     }
 
 -- the call that is asked for is the one that is open
-same_call : {S V : Type 0} (old : View S V) (id : ℕ) (asked : Asked) (was_call : CallView) → IsFor old id asked was_call → (at : OpenCallAt old id) → at.call ≡ was_call
+pub same_call : {S V : Type 0} (old : View S V) (id : ℕ) (asked : Asked) (was_call : CallView) → IsFor old id asked was_call → (at : OpenCallAt old id) → at.call ≡ was_call
 same_call old id asked was_call was at = some_is (sym at.is_open ∙ ap (λ (c : CallerView). c.call) (at_one old.callers id at.at_caller was.at_caller) ∙ was.is_call)
 
 -- what a call that is open is told
@@ -276,7 +277,7 @@ no_begin_idle {S} {V} m old new id key (calls.loses caller desk now ballot counc
 
 -- ---- what is told
 -- what the caller was told is what its call says
-told_in : {S V : Type 0} (view : View S V) (id number : ℕ) (told : Answer) → WasTold view id number told → (caller : CallerView) (call : CallView) → IsAt view.callers id caller → caller.call ≡ Some call → call.told ≡ Some told
+pub told_in : {S V : Type 0} (view : View S V) (id number : ℕ) (told : Answer) → WasTold view id number told → (caller : CallerView) (call : CallView) → IsAt view.callers id caller → caller.call ≡ Some call → call.told ≡ Some told
 told_in view id number told was caller call at is_call =
     let one : was.caller ≡ caller = at_one view.callers id was.at_caller at in
     ap (λ (c : CallView). c.told) (some_is (sym is_call ∙ ap (λ (c : CallerView). c.call) (sym one) ∙ was.is_open)) ∙ was.told
@@ -363,11 +364,16 @@ crashed_not_met : (proposed : Bool) (met : Ballot) → (if proposed then answer.
 crashed_not_met true met is = absurd (cc is)
 crashed_not_met false met is = absurd (cc is)
 
+crashed_not_done : (proposed : Bool) → is_done (if proposed then answer.Unsettled cause.Crashed else answer.Crashed) ≡ false
+crashed_not_done true = refl
+crashed_not_done false = refl
+
 -- what the caller of the round is told, as its closing shows
 pub record IsCrashed {S V : Type 0} (view : View S V) (id : ℕ) (asked : Asked) (closed : Option Answer) : Type 0 where
   pub told : Answer
   pub is : closed ≡ Some told
   pub over : IsOver view id asked told
+  pub not_done : is_done told ≡ false
 
 crash_of : {S V : Type 0} (m : Meaning S V) (old middle new : View S V) (id : ℕ) (asked : Asked) (proposed : Bool) (closed : Option Answer) → IsPlaying old id asked proposed → CrashesDesk m old id middle → new.callers ≡ middle.callers → new.council.exchange ≡ None
     → ((caller : CallerView) → IsAt new.callers id caller → closed ≡ closed_in caller.call) → IsCrashed new id asked closed
@@ -380,6 +386,7 @@ crash_of {S} {V} m old middle new id asked proposed closed was (closes desk now 
       told = told;
       is = says is.caller is.at_caller ∙ ap closed_in is.is_call ∙ closed_told (is_some at.call.proposed);
       over = record { call = closed_by_crash at.call; is_for = is; was_told = told_on new id asked (closed_by_crash at.call) told is refl; quiet = quiet; again = λ met conflict. absurd (crashed_not_met (is_some at.call.proposed) met conflict) };
+      not_done = crashed_not_done (is_some at.call.proposed);
     }
 
 pub crash_over : {S V : Type 0} (m : Meaning S V) (old new : View S V) (id : ℕ) (asked : Asked) (proposed : Bool) (closed : Option Answer) → IsPlaying old id asked proposed → StepCrashProposer m old id new → ((caller : CallerView) → IsAt new.callers id caller → closed ≡ closed_in caller.call)

@@ -1,5 +1,5 @@
 -- What a key that is proposed anew does to the change of membership that is under way, and a listing that is complete.
-use Rattle.std.proofs.Common.{◌≡◌, ◌<◌, ◌≤◌, ◌-◌, ℕ, suc, Bool, true, false, List, [], ◌∷◌, Option, None, Some, length, drop, slice_get, refl, sym, ap, subst, ◌∙◌, inl, inr, arith, length-drop}
+use Rattle.std.proofs.Common.{◌≡◌, ◌<◌, ◌≤◌, ℕ, Bool, true, false, List, [], ◌∷◌, Option, None, Some, length, drop, slice_get, refl, sym, ap, subst, ◌∙◌, inl, inr, arith, length-drop}
 use Rattle.std.specs.Prelude.{◌⊎◌, ◌&&◌, ◌==◌, IsSome, option_map, if◌then◌else◌}
 use Rattle.cas_members.specs.declared.plan.PlanStep.{PlanStep}
 use Rattle.cas_members.specs.declared.plan.PlanStep.TheVariants.{Settle, Enter, Finished}
@@ -17,7 +17,7 @@ use Rattle.cas_cluster.specs.StepCouncil.{listing_in}
 use Rattle.cas_cluster.specs.View.{View}
 use Rattle.cas_cluster.proofs.Places.{some_is}
 use Rattle.cas_world.specs.Exchange.{WasToldOrder}
-use Rattle.cas_world.specs.Plans.{IsFor, IsUnderWay, IsPartial, step_of}
+use Rattle.cas_world.specs.Plans.{IsUnderWay}
 use Rattle.cas_script.specs.Membership.{TakesStep, left_of, steps_left, listed_in, keys_listed}
 use Rattle.cas_script.specs.Orders.{GoesOn}
 

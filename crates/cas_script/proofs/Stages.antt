@@ -2,7 +2,7 @@
 use Rattle.std.proofs.Common.{◌≡◌, ◌<◌, ℕ, zero, suc, true, List, [], ◌∷◌, length, None, Some, slice_get, slice_set, slice_index_or, refl, sym, ap, subst, ◌∙◌, arith}
 use Rattle.cas_lines.specs.Command.{change_of}
 use Rattle.cas_lines.specs.declared.command.Command.{Command}
-use Rattle.cas_lines.specs.declared.command.Command.TheVariants.{Join, Leave, Probe, Get, Set, Num, Init, Add, Cas, CasNum, Del, DelVersion, Do, Net, CrashAcceptor, RestartAcceptor, CrashProposer, RestartProposer, HaltPrepared, HaltProposed, Stray, Show}
+use Rattle.cas_lines.specs.declared.command.Command.TheVariants.{Join, Leave, Probe, Collect, Get, Set, Num, Init, Add, Cas, CasNum, Del, DelVersion, Do, Net, CrashAcceptor, RestartAcceptor, CrashProposer, RestartProposer, HaltPrepared, HaltProposed, Stray, Show}
 use Rattle.cas_cluster.specs.View.{View, IsAt}
 use Rattle.cas_script.specs.Conditions.{Rule}
 use Rattle.cas_script.specs.Network.{IsNetwork}
@@ -73,27 +73,28 @@ in_halts world network halts tries seen state index place next P is at same has 
 }
 
 -- ---- event lines
--- a line that asks for no change, no probe and no change of membership, and shows nothing, is an event
-pub event_of : (command : Command) → change_of command ≡ None → ((id : ℕ) (key : List ℕ) → command ≡ Show id key → ⊥) → ((key : List ℕ) → command ≡ Probe key → ⊥) → membership_of command ≡ None → is_event command ≡ true
-event_of (Get caller key) none not_show not_probe no_member = absurd (cc none)
-event_of (Set caller key text) none not_show not_probe no_member = absurd (cc none)
-event_of (Num caller key number) none not_show not_probe no_member = absurd (cc none)
-event_of (Init caller key number) none not_show not_probe no_member = absurd (cc none)
-event_of (Add caller key number) none not_show not_probe no_member = absurd (cc none)
-event_of (Cas caller key version text) none not_show not_probe no_member = absurd (cc none)
-event_of (CasNum caller key version number) none not_show not_probe no_member = absurd (cc none)
-event_of (Del caller key) none not_show not_probe no_member = absurd (cc none)
-event_of (DelVersion caller key version) none not_show not_probe no_member = absurd (cc none)
-event_of (Do caller key program) none not_show not_probe no_member = absurd (cc none)
-event_of (Net leg who verdict) none not_show not_probe no_member = refl
-event_of (CrashAcceptor id) none not_show not_probe no_member = refl
-event_of (RestartAcceptor id) none not_show not_probe no_member = refl
-event_of (CrashProposer proposer) none not_show not_probe no_member = refl
-event_of (RestartProposer proposer) none not_show not_probe no_member = refl
-event_of (HaltPrepared proposer) none not_show not_probe no_member = refl
-event_of (HaltProposed proposer) none not_show not_probe no_member = refl
-event_of (Stray index) none not_show not_probe no_member = refl
-event_of (Show id key) none not_show not_probe no_member = absurd (not_show id key refl)
-event_of (Probe key) none not_show not_probe no_member = absurd (not_probe key refl)
-event_of (Join id) none not_show not_probe no_member = absurd (cc no_member)
-event_of (Leave id) none not_show not_probe no_member = absurd (cc no_member)
+-- a line that asks for no change, no probe, no collection and no change of membership, and shows nothing, is an event
+pub event_of : (command : Command) → change_of command ≡ None → ((id : ℕ) (key : List ℕ) → command ≡ Show id key → ⊥) → ((key : List ℕ) → command ≡ Probe key → ⊥) → ((key : List ℕ) → command ≡ Collect key → ⊥) → membership_of command ≡ None → is_event command ≡ true
+event_of (Get caller key) none not_show not_probe not_collect no_member = absurd (cc none)
+event_of (Set caller key text) none not_show not_probe not_collect no_member = absurd (cc none)
+event_of (Num caller key number) none not_show not_probe not_collect no_member = absurd (cc none)
+event_of (Init caller key number) none not_show not_probe not_collect no_member = absurd (cc none)
+event_of (Add caller key number) none not_show not_probe not_collect no_member = absurd (cc none)
+event_of (Cas caller key version text) none not_show not_probe not_collect no_member = absurd (cc none)
+event_of (CasNum caller key version number) none not_show not_probe not_collect no_member = absurd (cc none)
+event_of (Del caller key) none not_show not_probe not_collect no_member = absurd (cc none)
+event_of (DelVersion caller key version) none not_show not_probe not_collect no_member = absurd (cc none)
+event_of (Do caller key program) none not_show not_probe not_collect no_member = absurd (cc none)
+event_of (Net leg who verdict) none not_show not_probe not_collect no_member = refl
+event_of (CrashAcceptor id) none not_show not_probe not_collect no_member = refl
+event_of (RestartAcceptor id) none not_show not_probe not_collect no_member = refl
+event_of (CrashProposer proposer) none not_show not_probe not_collect no_member = refl
+event_of (RestartProposer proposer) none not_show not_probe not_collect no_member = refl
+event_of (HaltPrepared proposer) none not_show not_probe not_collect no_member = refl
+event_of (HaltProposed proposer) none not_show not_probe not_collect no_member = refl
+event_of (Stray index) none not_show not_probe not_collect no_member = refl
+event_of (Show id key) none not_show not_probe not_collect no_member = absurd (not_show id key refl)
+event_of (Probe key) none not_show not_probe not_collect no_member = absurd (not_probe key refl)
+event_of (Collect key) none not_show not_probe not_collect no_member = absurd (not_collect key refl)
+event_of (Join id) none not_show not_probe not_collect no_member = absurd (cc no_member)
+event_of (Leave id) none not_show not_probe not_collect no_member = absurd (cc no_member)

@@ -45,12 +45,17 @@ pub record HasQuorum {S V : Type 0} (view : View S V) (id : ℕ) : Type 0 where
 abbrev pub Strikes : {S V : Type 0} → Halt → View S V → ℕ → Type 0
 Strikes halt view id = (halt.after_prepare ≡ true) × HasQuorum view id
 
--- all turns were made, no halt struck, and the phase was ended: it proposed, or its caller was told why not
-pub record EndsPrepare {S V : Type 0} (m : Meaning S V) (rules : List Rule) (id : ℕ) (halt : Halt) (old new : View S V) : Type 0 where
+-- all turns were made, no halt struck, and the phase was ended so: it proposed, or its caller was told why not
+pub record EndsPrepareBy {S V : Type 0} (Ends : View S V → View S V → Type 0) (m : Meaning S V) (rules : List Rule) (id : ℕ) (halt : Halt) (old new : View S V) : Type 0 where
   pub turned : View S V
   pub turns : AllTurned m rules id old turned
   pub goes_on : Strikes halt turned id → ⊥
-  pub proposes : Step m turned (Propose id) new
+  pub proposes : Ends turned new
+
+-- it is cut off before that: a turn finds no memory, or the proposer halts
+pub data IsCutOff {S V : Type 0} (m : Meaning S V) (rules : List Rule) (id : ℕ) (halt : Halt) (old : View S V) : Halt → View S V → Type 0 where
+  no_memory : {new : View S V} → FailsToTurn m rules id old new → IsCutOff m rules id halt old halt new
+  halts : {turned new : View S V} → AllTurned m rules id old turned → Strikes halt turned id → Step m turned (CrashProposer id) new → IsCutOff m rules id halt old (record halt { after_prepare = false }) new
 
 -- ---- the accept phase
 pub record IsAccepting {S V : Type 0} (view : View S V) (id : ℕ) : Type 0 where
@@ -60,23 +65,26 @@ pub record IsAccepting {S V : Type 0} (view : View S V) (id : ℕ) : Type 0 wher
   pub is_round : desk.round ≡ Some round
   pub accepting : is_preparing round.phase ≡ false
 
--- Right after the proposal the proposer halts, if it is to, and its frames join the late ones; otherwise all turns are made and what was
--- accepted is counted, but where a turn finds no memory.
-pub data IsAccepted {S V : Type 0} (m : Meaning S V) (rules : List Rule) (id : ℕ) (halt : Halt) (old : View S V) : Halt → View S V → Type 0 where
-  halts : {new : View S V} → IsAccepting old id → halt.after_propose ≡ true → Step m old (CrashProposer id) new → IsAccepted m rules id halt old (record halt { after_propose = false }) new
-  no_memory : {new : View S V} → halt.after_propose ≡ false → FailsToTurn m rules id old new → IsAccepted m rules id halt old halt new
-  counts : {turned new : View S V} → halt.after_propose ≡ false → AllTurned m rules id old turned → Step m turned (Count id) new → IsAccepted m rules id halt old halt new
+-- it is cut off before it is counted: right after the proposal the proposer halts, if it is to, and its frames join the late ones; or a turn
+-- finds no memory
+pub data IsCutShort {S V : Type 0} (m : Meaning S V) (rules : List Rule) (id : ℕ) (halt : Halt) (old : View S V) : Halt → View S V → Type 0 where
+  halts : {new : View S V} → IsAccepting old id → halt.after_propose ≡ true → Step m old (CrashProposer id) new → IsCutShort m rules id halt old (record halt { after_propose = false }) new
+  no_memory : {new : View S V} → halt.after_propose ≡ false → FailsToTurn m rules id old new → IsCutShort m rules id halt old halt new
+
+-- so it is, or all turns are made and what was accepted is counted
+pub data IsAcceptedBy {S V : Type 0} (Counts : View S V → View S V → Type 0) (m : Meaning S V) (rules : List Rule) (id : ℕ) (halt : Halt) (old : View S V) : Halt → View S V → Type 0 where
+  cut_short : {after : Halt} {new : View S V} → IsCutShort m rules id halt old after new → IsAcceptedBy Counts m rules id halt old after new
+  counts : {turned new : View S V} → halt.after_propose ≡ false → AllTurned m rules id old turned → Counts turned new → IsAcceptedBy Counts m rules id halt old halt new
 
 -- ---- a round
 -- the round that was begun, up to what its caller was told. A call that was told as it began why it has no round has none.
-pub data IsRound {S V : Type 0} (m : Meaning S V) (rules : List Rule) (id : ℕ) (halt : Halt) (old : View S V) : Halt → View S V → Type 0 where
-  none_begun : IsRound m rules id halt old halt old
+pub data IsRoundBy {S V : Type 0} (Ends Counts : View S V → View S V → Type 0) (m : Meaning S V) (rules : List Rule) (id : ℕ) (halt : Halt) (old : View S V) : Halt → View S V → Type 0 where
+  none_begun : IsRoundBy Ends Counts m rules id halt old halt old
   -- it began by a promise, and proposed as it began
-  by_promise : {after : Halt} {new : View S V} → IsAccepted m rules id halt old after new → IsRound m rules id halt old after new
-  no_memory : {new : View S V} → FailsToTurn m rules id old new → IsRound m rules id halt old halt new
-  halts : {turned new : View S V} → AllTurned m rules id old turned → Strikes halt turned id → Step m turned (CrashProposer id) new → IsRound m rules id halt old (record halt { after_prepare = false }) new
-  ends_short : {new : View S V} → EndsPrepare m rules id halt old new → IsRound m rules id halt old halt new
-  proposes : {after : Halt} {proposed new : View S V} → EndsPrepare m rules id halt old proposed → IsAccepted m rules id halt proposed after new → IsRound m rules id halt old after new
+  by_promise : {after : Halt} {new : View S V} → IsAcceptedBy Counts m rules id halt old after new → IsRoundBy Ends Counts m rules id halt old after new
+  cut_off : {after : Halt} {new : View S V} → IsCutOff m rules id halt old after new → IsRoundBy Ends Counts m rules id halt old after new
+  ends_short : {new : View S V} → EndsPrepareBy Ends m rules id halt old new → IsRoundBy Ends Counts m rules id halt old halt new
+  proposes : {after : Halt} {proposed new : View S V} → EndsPrepareBy Ends m rules id halt old proposed → IsAcceptedBy Counts m rules id halt proposed after new → IsRoundBy Ends Counts m rules id halt old after new
 
 -- the caller's open call was told of a conflict
 pub record IsMet {S V : Type 0} (view : View S V) (id : ℕ) : Type 0 where
@@ -84,10 +92,29 @@ pub record IsMet {S V : Type 0} (view : View S V) (id : ℕ) : Type 0 where
   pub met : WasMet of_call.call.told
 
 -- so many rounds at most: another one is begun exactly where the last one ended with a conflict and tries are left
-pub data AreRounds {S V : Type 0} (m : Meaning S V) (rules : List Rule) (id : ℕ) (key : List ℕ) (program : List Clause) : ℕ → Halt → View S V → Halt → View S V → Type 0 where
-  last : {tries : ℕ} {halt after : Halt} {old new : View S V} → IsRound m rules id halt old after new → (IsMet new id → tries ≡ 1) → AreRounds m rules id key program tries halt old after new
-  another : {tries : ℕ} {halt mid after : Halt} {old met begun new : View S V} → 1 < tries → IsRound m rules id halt old mid met → IsMet met id → Step m met (Begin id key program) begun
-      → AreRounds m rules id key program (tries - 1) mid begun after new → AreRounds m rules id key program tries halt old after new
+pub data AreRoundsBy {S V : Type 0} (Begins Ends Counts : View S V → View S V → Type 0) (m : Meaning S V) (rules : List Rule) (id : ℕ) : ℕ → Halt → View S V → Halt → View S V → Type 0 where
+  last : {tries : ℕ} {halt after : Halt} {old new : View S V} → IsRoundBy Ends Counts m rules id halt old after new → (IsMet new id → tries ≡ 1) → AreRoundsBy Begins Ends Counts m rules id tries halt old after new
+  another : {tries : ℕ} {halt mid after : Halt} {old met begun new : View S V} → 1 < tries → IsRoundBy Ends Counts m rules id halt old mid met → IsMet met id → Begins met begun
+      → AreRoundsBy Begins Ends Counts m rules id (tries - 1) mid begun after new → AreRoundsBy Begins Ends Counts m rules id tries halt old after new
+
+-- ---- the rounds of a change
+abbrev pub ProposesAt : {S V : Type 0} → Meaning S V → ℕ → View S V → View S V → Type 0
+ProposesAt m id old new = Step m old (Propose id) new
+
+abbrev pub CountsAt : {S V : Type 0} → Meaning S V → ℕ → View S V → View S V → Type 0
+CountsAt m id old new = Step m old (Count id) new
+
+abbrev pub EndsPrepare : {S V : Type 0} → Meaning S V → List Rule → ℕ → Halt → View S V → View S V → Type 0
+EndsPrepare m rules id = EndsPrepareBy (ProposesAt m id) m rules id
+
+abbrev pub IsAccepted : {S V : Type 0} → Meaning S V → List Rule → ℕ → Halt → View S V → Halt → View S V → Type 0
+IsAccepted m rules id = IsAcceptedBy (CountsAt m id) m rules id
+
+abbrev pub IsRound : {S V : Type 0} → Meaning S V → List Rule → ℕ → Halt → View S V → Halt → View S V → Type 0
+IsRound m rules id = IsRoundBy (ProposesAt m id) (CountsAt m id) m rules id
+
+abbrev pub AreRounds : {S V : Type 0} → Meaning S V → List Rule → ℕ → List ℕ → List Clause → ℕ → Halt → View S V → Halt → View S V → Type 0
+AreRounds m rules id key program = AreRoundsBy (λ before after. Step m before (Begin id key program) after) (ProposesAt m id) (CountsAt m id) m rules id
 
 -- ---- a change
 -- the answers of a call that is not begun: the record is full, exactly where the marks of a round do not fit beside those that are made

@@ -6,12 +6,15 @@ use Rattle.cas_record.specs.declared.operator.OpAnswer.TheVariants as op
 use Rattle.cas_calls.specs.Council.{listed_if}
 use Rattle.cas_calls.specs.declared.council.Gathered.{Gathered}
 use Rattle.cas_calls.specs.declared.council.Gathered.TheVariants as came
-use Rattle.cas_cluster.specs.Council.{Question, Probe, NextKeys, ExchangeView, ListingView, OrderView, PlanView, exchange_place, silent_order, with_listing}
+use Rattle.cas_cluster.specs.Collection.{CollectionView, confirmed_step}
+use Rattle.cas_cluster.specs.Council.{Question, ExchangeView, ListingView, OrderView, PlanView, exchange_place, silent_order, with_listing}
 use Rattle.cas_cluster.specs.Remaining.{keys_left}
-use Rattle.cas_cluster.specs.Step.{Step, AskAll, TurnExchange, RefuseTurnExchange, Gather}
+use Rattle.cas_cluster.specs.Step.{Event, Step, TurnExchange, RefuseTurnExchange, Gather, GatherCollect}
 use Rattle.cas_cluster.specs.StepCouncil.{everyone, listing_in, places_from}
 use Rattle.cas_cluster.specs.View.{Meaning, View, IsAt}
 use Rattle.cas_world.specs.Exchange.{WasToldOrder}
+use Rattle.cas_world.specs.declared.exchange.Exchange.{Exchange}
+use Rattle.cas_world.specs.declared.exchange.Exchange.TheVariants as what
 use Rattle.cas_script.specs.Conditions.{Rule, verdict_on}
 
 -- ---- turns
@@ -32,11 +35,19 @@ pub record FailsToAsk {S V : Type 0} (m : Meaning S V) (rules : List Rule) (old 
   pub fails : Step m mid RefuseTurnExchange new
 
 -- ---- the whole
--- The members are asked this, and what they told is gathered; or none is asked, or a turn finds no memory.
-pub data AsksMembers {S V : Type 0} (m : Meaning S V) (rules : List Rule) (question : Question) (old : View S V) : View S V → Type 0 where
-  not_asked : {new : View S V} → Step m old (AskAll question) new → new.council.exchange ≡ None → AsksMembers m rules question old new
-  no_memory : {asked new : View S V} → Step m old (AskAll question) asked → FailsToAsk m rules asked new → AsksMembers m rules question old new
-  gathered : {asked turned new : View S V} → Step m old (AskAll question) asked → AllAskTurned m rules asked turned → Step m turned Gather new → AsksMembers m rules question old new
+-- The members are asked, and what they told is gathered; or none is asked, or a turn finds no memory. The two events are those by which
+-- the question is asked and its answers are gathered.
+pub data AsksMembers {S V : Type 0} (m : Meaning S V) (rules : List Rule) (asks gathers : Event) (old : View S V) : View S V → Type 0 where
+  not_asked : {new : View S V} → Step m old asks new → new.council.exchange ≡ None → AsksMembers m rules asks gathers old new
+  no_memory : {asked new : View S V} → Step m old asks asked → FailsToAsk m rules asked new → AsksMembers m rules asks gathers old new
+  gathered : {asked turned new : View S V} → Step m old asks asked → AllAskTurned m rules asked turned → Step m turned gathers new → AsksMembers m rules asks gathers old new
+
+-- the step of the store by which its answers are gathered
+abbrev pub answers_of : Exchange → Event
+answers_of what.Ages = GatherCollect
+answers_of what.Remove = GatherCollect
+answers_of what.List = Gather
+answers_of (what.Probe key) = Gather
 
 -- ---- what came of it
 -- the listing of the change of membership that is under way went on to another, and the operator's call goes on
@@ -51,12 +62,26 @@ pub record HasListed {S V : Type 0} (old : View S V) (gathered : Gathered) (new 
   pub is_plan : new.council.plan ≡ Some (with_listing plan listing)
   pub came : gathered ≡ listed_if listing.complete
 
--- what each keeps for the key, as the operator's call may tell; or the next keys
-abbrev pub CameOf : {S V : Type 0} → Question → View S V → Gathered → View S V → Type 0
-CameOf (Probe key) old (came.Probed found) new = WasToldOrder new (op.Probed key found)
-CameOf (Probe key) old other new = ⊥
-CameOf (NextKeys places) old result new = HasListed old result new
-CameOf other old result new = ⊥
+-- the step of the collection that was due is confirmed by all, and the operator's call goes on
+pub record HasConfirmed {S V : Type 0} (old : View S V) (gathered : Gathered) (new : View S V) : Type 0 where
+  pub order : OrderView
+  pub was_open : old.council.order ≡ Some order
+  pub goes_on : new.council.order ≡ Some (silent_order order)
+  pub over : new.council.exchange ≡ None
+  pub collection : CollectionView
+  pub was_collection : old.council.collection ≡ Some collection
+  pub removed : ℕ
+  pub kept : ℕ
+  pub is_collection : new.council.collection ≡ Some (record (confirmed_step collection) { removed = removed; kept = kept })
+  pub came : gathered ≡ came.All removed kept
+
+-- what each keeps for the key, as the operator's call may tell; or the next keys; or that a collection goes on
+abbrev pub CameOf : {S V : Type 0} → Exchange → View S V → Gathered → View S V → Type 0
+CameOf (what.Probe key) old (came.Probed found) new = WasToldOrder new (op.Probed key found)
+CameOf (what.Probe key) old other new = ⊥
+CameOf what.List old result new = HasListed old result new
+CameOf what.Ages old result new = HasConfirmed old result new
+CameOf what.Remove old result new = HasConfirmed old result new
 
 -- how much is left to be listed
 abbrev pub listing_left : {S V : Type 0} → View S V → ℕ
@@ -71,10 +96,11 @@ pub record IsAsking {S V : Type 0} (view : View S V) (question : Question) : Typ
   pub is_open : view.council.exchange ≡ Some exchange
   pub same : exchange.question ≡ question
 
--- the operator's call stays, and its change of membership
+-- the operator's call stays, and its change of membership or its collection
 pub record KeepsOrder {S V : Type 0} (old new : View S V) : Type 0 where
   pub order : new.council.order ≡ old.council.order
   pub plan : new.council.plan ≡ old.council.plan
+  pub collection : new.council.collection ≡ old.council.collection
 
 -- the calls of the callers stay
 pub record KeepsCalls {S V : Type 0} (old new : View S V) : Type 0 where

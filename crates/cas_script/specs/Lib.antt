@@ -1,4 +1,6 @@
 pub mod Changes
+pub mod Collecting
+pub mod Collections
 pub mod Conditions
 pub mod Events
 pub mod Exchanges

@@ -8,7 +8,7 @@ use Rattle.cas_record.specs.declared.operator.Asked.{Asked}
 use Rattle.cas_record.specs.declared.operator.OpAnswer.{OpAnswer}
 use Rattle.cas_record.specs.declared.operator.OpAnswer.TheVariants as op
 use Rattle.cas_cluster.specs.Council.{NextKeys, ListingView, MemberPlace, PlanView}
-use Rattle.cas_cluster.specs.Step.{Step, Order, RefuseOrder, RefuseKey, Tell, OpenPlan, EnterEra}
+use Rattle.cas_cluster.specs.Step.{Step, Order, RefuseOrder, RefuseKey, Tell, AskAll, Gather, OpenPlan, EnterEra}
 use Rattle.cas_cluster.specs.StepCouncil.{listing_in}
 use Rattle.cas_cluster.specs.View.{Meaning, View}
 use Rattle.cas_lines.specs.Command.{one}
@@ -25,7 +25,7 @@ use Rattle.cas_script.specs.declared.halt.Halt.{Halt}
 -- key of that is proposed anew, by a call of caller 0 that leaves its state as it is, unless no memory is found for the key; an era is
 -- entered by one proposer after another.
 pub data Advances {S V : Type 0} (m : Meaning S V) (tries : ℕ) (rules : List Rule) (halt : Halt) (old : View S V) : Halt → View S V → Type 0 where
-  lists : {new : View S V} (places : List MemberPlace) → step_of old.council.plan ≡ Some Settle → due_in old.council.plan ≡ None → AsksMembers m rules (NextKeys places) old new → Advances m tries rules halt old halt new
+  lists : {new : View S V} (places : List MemberPlace) → step_of old.council.plan ≡ Some Settle → due_in old.council.plan ≡ None → AsksMembers m rules (AskAll (NextKeys places)) Gather old new → Advances m tries rules halt old halt new
   rescans : {new : View S V} {after : Halt} (key : List ℕ) (answer : Answer) → due_in old.council.plan ≡ Some key → IsChange m tries rules 0 key (one Always Keep) halt old answer after new → Advances m tries rules halt old after new
   no_memory : {new : View S V} → Step m old RefuseKey new → Advances m tries rules halt old halt new
   enters : {new : View S V} (proposer : ℕ) → entrant_of old.council.plan ≡ Some proposer → Step m old (EnterEra proposer) new → Advances m tries rules halt old halt new

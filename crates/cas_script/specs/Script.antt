@@ -8,7 +8,7 @@ use Rattle.cas_lines.specs.declared.answer.EventAnswer.{EventAnswer}
 use Rattle.cas_lines.specs.declared.answer.EventAnswer.TheVariants as event
 use Rattle.cas_lines.specs.declared.answer.Shown.{Shown}
 use Rattle.cas_lines.specs.declared.command.Command.{Command}
-use Rattle.cas_lines.specs.declared.command.Command.TheVariants.{Join, Leave, Probe, Net, CrashAcceptor, RestartAcceptor, CrashProposer, RestartProposer, HaltPrepared, HaltProposed, Stray, Show}
+use Rattle.cas_lines.specs.declared.command.Command.TheVariants.{Join, Leave, Probe, Collect, Net, CrashAcceptor, RestartAcceptor, CrashProposer, RestartProposer, HaltPrepared, HaltProposed, Stray, Show}
 use Rattle.cas_record.specs.declared.answer.Answer.{Answer}
 use Rattle.cas_record.specs.declared.operator.Asked as operator
 use Rattle.cas_record.specs.declared.operator.Asked.TheVariants.{Join as ToJoin, Leave as ToLeave}
@@ -17,6 +17,7 @@ use Rattle.cas_cluster.specs.Step as step
 use Rattle.cas_cluster.specs.Step.{Step}
 use Rattle.cas_cluster.specs.View.{Meaning, View, IsAt}
 use Rattle.cas_script.specs.Changes.{IsChange}
+use Rattle.cas_script.specs.Collections.{IsCollection}
 use Rattle.cas_script.specs.Conditions.{Rule}
 use Rattle.cas_script.specs.Events.{CrashesAcceptor, RestartsAcceptor, RestartsProposer, StraysIn, IsShown}
 use Rattle.cas_script.specs.Membership.{ChangesMembers}
@@ -92,6 +93,15 @@ pub record RunsMembership {S V : Type 0} (m : Meaning S V) (tries : ℕ) (old : 
   pub rules : new.rules ≡ old.rules
   pub halts : new.halts ≡ slice_set old.halts 0 after
 
+-- a line that asks for a collection runs it, and the halts of proposer 0 may be used up
+pub record RunsCollection {S V : Type 0} (m : Meaning S V) (tries : ℕ) (old : State S V) (key : List ℕ) (answer : OpAnswer) (new : State S V) : Type 0 where
+  pub halt : Halt
+  pub at_halt : IsAt old.halts 0 halt
+  pub after : Halt
+  pub collects : IsCollection m tries old.rules key halt old.world answer after new.world
+  pub rules : new.rules ≡ old.rules
+  pub halts : new.halts ≡ slice_set old.halts 0 after
+
 -- the line is run as its words say, by a script of so many tries
 pub data IsAnswered {S V : Type 0} (m : Meaning S V) (tries : ℕ) (old : State S V) (line : List ℕ) : LineAnswer → State S V → Type 0 where
   changes : {answer : Answer} {new : State S V} (command : Command) (asked : Asked) → IsLine old.world.greatest line (Some command) → change_of command ≡ Some asked → RunsChange m tries old asked answer new
@@ -99,6 +109,7 @@ pub data IsAnswered {S V : Type 0} (m : Meaning S V) (tries : ℕ) (old : State 
   happens : {answer : EventAnswer} {new : State S V} (command : Command) → IsLine old.world.greatest line (Some command) → RunsEvent m old command answer new → IsAnswered m tries old line (Happened answer) new
   shows : {shown : Shown} (id : ℕ) (key : List ℕ) → IsLine old.world.greatest line (Some (Show id key)) → IsShown m old.world id key shown → IsAnswered m tries old line (Shows id key shown) old
   probes : {answer : OpAnswer} {new : State S V} (key : List ℕ) → IsLine old.world.greatest line (Some (Probe key)) → RunsProbe m old key answer new → IsAnswered m tries old line (Operated answer) new
+  collects : {answer : OpAnswer} {new : State S V} (key : List ℕ) → IsLine old.world.greatest line (Some (Collect key)) → RunsCollection m tries old key answer new → IsAnswered m tries old line (Operated answer) new
   changes_members : {answer : OpAnswer} {new : State S V} (command : Command) (asked : operator.Asked) → IsLine old.world.greatest line (Some command) → membership_of command ≡ Some asked → RunsMembership m tries old asked answer new
       → IsAnswered m tries old line (Operated answer) new
   -- a line that is refused changes nothing

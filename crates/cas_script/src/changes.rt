@@ -1,12 +1,13 @@
 //! One change, from its call to its answer.
 
 ghost use Rattle.std.specs.Prelude.{◌≡◌, ◌≤◌, ◌↔◌, Bool, true, false, None, Some, List, IsTrue, IfErr, OnOk, OnErr};
+ghost use Rattle.cas_cluster.specs.Protocol.{is_done};
 ghost use Rattle.cas_cluster.specs.Step.{Step, CrashProposer};
 ghost use Rattle.cas_cluster.specs.StepCalls.{Rescans};
 ghost use Rattle.cas_cluster.specs.View.{meaning};
 ghost use Rattle.cas_record.specs.declared.answer.Answer.TheVariants as answer;
 ghost use Rattle.cas_world.specs.Beginning.{is_refusal, HasNoCall};
-ghost use Rattle.cas_script.specs.Changes.{AllTurned, FailsToTurn, EndsPrepare, IsAccepted, IsRound, AreRounds, IsChange, HasQuorum};
+ghost use Rattle.cas_script.specs.Changes.{AllTurned, FailsToTurn, EndsPrepare, IsAccepted, IsCutOff, IsCutShort, IsRound, AreRounds, IsChange, HasQuorum, Strikes};
 ghost use Rattle.cas_script.specs.Conditions.{Rule};
 ghost use Rattle.cas_script.specs.Network.{IsNetwork};
 ghost use Rattle.cas_script.specs.Playing.{Asked, HasBegun, IsPlaying, IsOver, is_conflict};
@@ -96,7 +97,7 @@ fn rounds<S: Shelf, V: Disk>(
 }
 
 /// Whether it tells of a conflict.
-fn is_conflict(answer: &Answer) -> bool
+pub(crate) fn is_conflict(answer: &Answer) -> bool
     ensures { result ≡ is_conflict answer.now }
 {
     matches!(answer, Answer::Conflict { .. })
@@ -144,6 +145,32 @@ fn prepare<S: Shelf, V: Disk>(
     ensures network { (rules : List Rule) → IsNetwork network.old rules → IsNetwork network.new rules }
     ensures greatest { world.new.greatest ≡ world.old.greatest }
 {
+    prepare_turns(world, network, halt, proposer)?;
+    world.propose(proposer)
+}
+
+/// Makes all turns of the prepare phase of the proposer's round. An `Err` is what its caller was told: where no memory was found, or where
+/// the proposer halted at the end of a phase that has a quorum.
+pub(crate) fn prepare_turns<S: Shelf, V: Disk>(
+    world: &mut World<S, V>,
+    network: &mut Network,
+    halt: &mut Halt,
+    proposer: u8,
+) -> Result<(), Answer>
+    requires known { proposer ≤ world.old.greatest }
+    requires open { (asked : Asked) × IsPlaying world.old proposer asked false }
+    requires network { (rules : List Rule) × IsNetwork network.old rules }
+    ensures turned { (rules : List Rule) → IsNetwork network.old rules → OnOk result (AllTurned (meaning S.contents S.tells S.may_leave S.fault_count V.tells V.may_leave V.fault_count) rules proposer world.old world.new) }
+    ensures goes_on { OnOk result (Strikes halt.old world.new proposer → ⊥) }
+    ensures same_halt { OnOk result (halt.new ≡ halt.old) }
+    ensures plays { (asked : Asked) → IsPlaying world.old proposer asked false → OnOk result (IsPlaying world.new proposer asked false) }
+    ensures cut_off { (rules : List Rule) → IsNetwork network.old rules → OnErr result (IsCutOff (meaning S.contents S.tells S.may_leave S.fault_count V.tells V.may_leave V.fault_count) rules proposer halt.old world.old halt.new world.new) }
+    ensures over { (asked : Asked) → IsPlaying world.old proposer asked false → IfErr result (IsOver world.new proposer asked) }
+    ensures not_done { IfErr result (λ told. is_done told ≡ false) }
+    ensures network { (rules : List Rule) → IsNetwork network.old rules → IsNetwork network.new rules }
+    ensures council { world.new.council ≡ world.old.council }
+    ensures greatest { world.new.greatest ≡ world.old.greatest }
+{
     if all_turns(world, network, proposer).is_err() {
         return Err(Answer::NoMemory { proposed: false });
     }
@@ -151,7 +178,7 @@ fn prepare<S: Shelf, V: Disk>(
         halt.after_prepare = false;
         return Err(crash(world, proposer));
     }
-    world.propose(proposer)
+    Ok(())
 }
 
 /// Runs the accept phase of the proposer's round, and gives what its caller is told.
@@ -169,14 +196,42 @@ fn accept<S: Shelf, V: Disk>(
     ensures network { (rules : List Rule) → IsNetwork network.old rules → IsNetwork network.new rules }
     ensures greatest { world.new.greatest ≡ world.old.greatest }
 {
+    match accept_turns(world, network, halt, proposer) {
+        Ok(()) => world.count(proposer),
+        Err(told) => told,
+    }
+}
+
+/// Makes all turns of the accept phase of the proposer's round. An `Err` is what its caller was told: where the proposer halted right after
+/// its proposal, or where no memory was found.
+pub(crate) fn accept_turns<S: Shelf, V: Disk>(
+    world: &mut World<S, V>,
+    network: &mut Network,
+    halt: &mut Halt,
+    proposer: u8,
+) -> Result<(), Answer>
+    requires known { proposer ≤ world.old.greatest }
+    requires open { (asked : Asked) × IsPlaying world.old proposer asked true }
+    requires network { (rules : List Rule) × IsNetwork network.old rules }
+    ensures turned { (rules : List Rule) → IsNetwork network.old rules → OnOk result (AllTurned (meaning S.contents S.tells S.may_leave S.fault_count V.tells V.may_leave V.fault_count) rules proposer world.old world.new) }
+    ensures goes_on { OnOk result (halt.old.after_propose ≡ false) }
+    ensures same_halt { OnOk result (halt.new ≡ halt.old) }
+    ensures plays { (asked : Asked) → IsPlaying world.old proposer asked true → OnOk result (IsPlaying world.new proposer asked true) }
+    ensures cut_short { (rules : List Rule) → IsNetwork network.old rules → OnErr result (IsCutShort (meaning S.contents S.tells S.may_leave S.fault_count V.tells V.may_leave V.fault_count) rules proposer halt.old world.old halt.new world.new) }
+    ensures over { (asked : Asked) → IsPlaying world.old proposer asked true → IfErr result (IsOver world.new proposer asked) }
+    ensures not_done { IfErr result (λ told. is_done told ≡ false) }
+    ensures network { (rules : List Rule) → IsNetwork network.old rules → IsNetwork network.new rules }
+    ensures council { world.new.council ≡ world.old.council }
+    ensures greatest { world.new.greatest ≡ world.old.greatest }
+{
     if halt.after_propose {
         halt.after_propose = false;
-        return crash(world, proposer);
+        return Err(crash(world, proposer));
     }
     if all_turns(world, network, proposer).is_err() {
-        return Answer::NoMemory { proposed: true };
+        return Err(Answer::NoMemory { proposed: true });
     }
-    world.count(proposer)
+    Ok(())
 }
 
 /// Makes turns until no frame of the proposer waits. What becomes of each frame the network says.
@@ -224,6 +279,7 @@ fn crash<S: Shelf, V: Disk>(world: &mut World<S, V>, proposer: u8) -> Answer
     requires open { (asked : Asked) × (proposed : Bool) × IsPlaying world.old proposer asked proposed }
     ensures step { Step (meaning S.contents S.tells S.may_leave S.fault_count V.tells V.may_leave V.fault_count) world.old (CrashProposer proposer) world.new }
     ensures over { (asked : Asked) (proposed : Bool) → IsPlaying world.old proposer asked proposed → IsOver world.new proposer asked result }
+    ensures not_done { is_done result ≡ false }
     ensures greatest { world.new.greatest ≡ world.old.greatest }
 {
     world.crash_proposer(proposer);

@@ -5,9 +5,9 @@ ghost use Rattle.cas_cluster.specs.Council.{Question};
 ghost use Rattle.cas_cluster.specs.View.{meaning};
 ghost use Rattle.cas_record.specs.declared.answer.Answer.TheVariants as answer;
 ghost use Rattle.cas_record.specs.declared.operator.OpAnswer.TheVariants as op;
-ghost use Rattle.cas_world.specs.Exchange.{MayAsk, WasToldOrder, question_in};
+ghost use Rattle.cas_world.specs.Exchange.{MayAskThis, WasToldOrder, asking_of};
 ghost use Rattle.cas_script.specs.Conditions.{Rule};
-ghost use Rattle.cas_script.specs.Exchanges.{AllAskTurned, FailsToAsk, AsksMembers, CameOf, IsAsking, KeepsCalls, KeepsOrder, listing_left};
+ghost use Rattle.cas_script.specs.Exchanges.{AllAskTurned, FailsToAsk, AsksMembers, CameOf, IsAsking, KeepsCalls, KeepsOrder, answers_of, listing_left};
 ghost use Rattle.cas_script.specs.Network.{IsNetwork};
 
 use crate::network::Network;
@@ -24,10 +24,10 @@ pub(crate) fn exchange<S: Shelf, V: Disk>(
     network: &mut Network,
     what: Exchange,
 ) -> Result<Gathered, OpAnswer>
-    requires may { MayAsk world.old (question_in world.old what) }
+    requires may { MayAskThis world.old what }
     requires network { (rules : List Rule) × IsNetwork network.old rules }
-    ensures asks { (rules : List Rule) → IsNetwork network.old rules → AsksMembers (meaning S.contents S.tells S.may_leave S.fault_count V.tells V.may_leave V.fault_count) rules (question_in world.old what) world.old world.new }
-    ensures gathered { IfOk result (λ gathered. CameOf (question_in world.old what) world.old gathered world.new) }
+    ensures asks { (rules : List Rule) → IsNetwork network.old rules → AsksMembers (meaning S.contents S.tells S.may_leave S.fault_count V.tells V.may_leave V.fault_count) rules (asking_of world.old what) (answers_of what) world.old world.new }
+    ensures gathered { IfOk result (λ gathered. CameOf what world.old gathered world.new) }
     ensures less { result ≡ Ok Gathered.More → listing_left world.new < listing_left world.old }
     ensures told { IfErr result (WasToldOrder world.new) }
     ensures network { (rules : List Rule) → IsNetwork network.old rules → IsNetwork network.new rules }

@@ -5,6 +5,7 @@
 #![tactic(auto)]
 
 mod changes;
+mod collect;
 mod events;
 mod exchange;
 mod halt;

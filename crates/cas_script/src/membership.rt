@@ -61,7 +61,7 @@ pub fn change_members<S: Shelf, V: Disk>(
 }
 
 /// The program that leaves each state as it is.
-fn always_keep(alloc: Global) -> Result<Program, AllocError>
+pub(crate) fn always_keep(alloc: Global) -> Result<Program, AllocError>
     ensures { IfOk result (λ program. program ≡ one Guard.Always Act.Keep) }
 {
     let mut clauses = Vec::with_capacity(alloc, 1)?;

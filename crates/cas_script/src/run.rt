@@ -8,9 +8,10 @@ ghost use Rattle.cas_lines.specs.Command.{IsLine, IsKnown, Asked, change_of};
 ghost use Rattle.cas_lines.specs.declared.command.Command.{Command as ACommand};
 ghost use Rattle.cas_world.specs.Plans.{asked_to};
 ghost use Rattle.cas_script.specs.Stage.{AllIdle};
-ghost use Rattle.cas_script.specs.Script.{State, IsIn, AnswersLine, RanOrNot, RunsChange, RunsEvent, RunsProbe, RunsMembership, Runs, is_event, opening_state};
+ghost use Rattle.cas_script.specs.Script.{State, IsIn, AnswersLine, RanOrNot, RunsChange, RunsEvent, RunsProbe, RunsCollection, RunsMembership, Runs, is_event, opening_state};
 
 use crate::changes::change;
+use crate::collect::collect;
 use crate::events::{crash_acceptor, restart_acceptor, restart_proposer, show, stray};
 use crate::halt::Halt;
 use crate::membership::change_members;
@@ -85,6 +86,10 @@ impl<S: Shelf, V: Disk> Script<S, V> {
             let answer = self.run_probe(key)?;
             return print_op(alloc, &answer);
         }
+        if let Command::Collect { key } = command {
+            let answer = self.run_collection(alloc, key)?;
+            return print_op(alloc, &answer);
+        }
         if let Command::Join { id } = command {
             let answer = self.run_membership(alloc, PlanKind::Join, *id)?;
             return print_op(alloc, &answer);
@@ -151,6 +156,22 @@ impl<S: Shelf, V: Disk> Script<S, V> {
             self.tries,
             kind,
             id,
+        )
+    }
+
+    /// Runs a collection, and gives what the operator is told. After an `Err` it was not run.
+    fn run_collection(&mut self, alloc: Global, key: &Key) -> Result<OpAnswer, AllocError>
+        ensures runs { (state : State _ _) → IsIn self.old state → IfOk result (λ answer. Runs (λ new. RunsCollection (meaning S.contents S.tells S.may_leave S.fault_count V.tells V.may_leave V.fault_count) self.old.tries state key.now answer new) self.new) }
+        ensures err { OnErr result (self.new ≡ self.old) }
+        ensures tries { self.new.tries ≡ self.old.tries }
+    {
+        collect(
+            alloc,
+            &mut self.world,
+            &mut self.network,
+            &mut self.halts[0],
+            self.tries,
+            key,
         )
     }
 

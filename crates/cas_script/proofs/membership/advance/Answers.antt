@@ -2,8 +2,7 @@ use Rattle.std.proofs.Common.{Some, sym, ap, ◌∙◌, arith}
 use Rattle.cas_members.specs.declared.plan.PlanStep.{PlanStep}
 use Rattle.cas_world.specs.Plans.{step_of}
 use Rattle.cas_script.specs.Membership.{none}
-use Rattle.cas_script.proofs.Asking.{both_idle}
-use Rattle.cas_script.proofs.Carrying.{GoesFrom, same_goes, then_goes}
+use Rattle.cas_script.proofs.Carrying.{same_goes, then_goes}
 use Rattle.cas_script.proofs.Entering.{some_due, advances_on}
 use Rattle.cas_script.proofs.membership.advance.Goals as goal
 

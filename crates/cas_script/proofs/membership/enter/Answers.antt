@@ -3,7 +3,7 @@ use Rattle.cas_record.specs.declared.operator.Asked.{Asked}
 use Rattle.cas_world.specs.Plans.{IsUnderWay}
 use Rattle.cas_script.specs.Membership.{enters, none, one_more}
 use Rattle.cas_script.proofs.Asking.{both_idle}
-use Rattle.cas_script.proofs.Carrying.{GoesFrom, same_goes, then_goes, goes_on_from, enter_goes}
+use Rattle.cas_script.proofs.Carrying.{same_goes, then_goes, goes_on_from, enter_goes}
 use Rattle.cas_script.proofs.Entering.{Enters, may_enter, enter_idle, enters_so}
 use Rattle.cas_script.proofs.membership.enter.Given.{Over}
 use Rattle.cas_script.proofs.membership.enter.Goals as goal

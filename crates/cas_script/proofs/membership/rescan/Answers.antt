@@ -1,15 +1,11 @@
-use Rattle.std.proofs.Common.{◌≡◌, ◌<◌, true, false, Option, Some, refl, inr, sym, ap, subst, ◌∙◌}
+use Rattle.std.proofs.Common.{◌≡◌, ◌<◌, Option, Some, refl, inr, sym, ap, subst, ◌∙◌}
 use Rattle.std.specs.Prelude.{IsSome}
 use Rattle.cas_calls.specs.Council.{due_in}
-use Rattle.cas_change.specs.declared.program.Clause.{Clause}
 use Rattle.cas_cluster.specs.Council.{OrderView}
 use Rattle.cas_cluster.specs.Protocol.{is_done}
 use Rattle.cas_cluster.specs.View.{View, meaning}
-use Rattle.cas_record.specs.declared.answer.Answer.{Answer}
-use Rattle.cas_record.specs.declared.operator.Asked.{Asked}
 use Rattle.cas_world.specs.Plans.{IsUnderWay}
 use Rattle.cas_script.specs.Changes.{IsChange}
-use Rattle.cas_script.specs.Conditions.{Rule}
 use Rattle.cas_script.specs.Membership.{HasAdvanced, none, one_more, rescans, no_memory, keys_listed}
 use Rattle.cas_script.specs.Network.{IsNetwork}
 use Rattle.cas_script.specs.Orders.{KeepsIdle}

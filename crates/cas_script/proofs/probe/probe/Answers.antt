@@ -6,9 +6,11 @@ use Rattle.cas_record.specs.declared.operator.Asked.TheVariants as asked
 use Rattle.cas_record.specs.declared.operator.OpAnswer.{OpAnswer}
 use Rattle.cas_record.specs.declared.operator.OpAnswer.TheVariants as op
 use Rattle.cas_cluster.specs.Council.{Probe}
+use Rattle.cas_cluster.specs.Step.{AskAll, Gather}
 use Rattle.cas_cluster.specs.StepCouncil.{StepOrder}
 use Rattle.cas_cluster.specs.View.{meaning}
 use Rattle.cas_world.specs.Exchange.{MayAsk, WasToldOrder}
+use Rattle.cas_world.specs.Plans.{was_told}
 use Rattle.cas_script.specs.Exchanges.{AsksMembers}
 use Rattle.cas_script.specs.Orders.{IsNotOrdered, full, no_memory}
 use Rattle.cas_script.specs.Probes.{IsProbe, refused, told}
@@ -26,15 +28,15 @@ into_probes-requires g c = was_probed c.order.new.self c.exchange.new.world c.in
 
 pub tell-requires : goal.tell-requires
 tell-requires g c = elim c.match-exchange.branch [
-  | in-Ok-exchange w ↦ inl (subst (WasToldOrder c.exchange.new.world) (sym w.answer-is) (subst (λ (k : List ℕ). WasToldOrder c.exchange.new.world (op.Probed k w.into_probes.result)) (c.in_ok-copy-2.ensures ∙ sym c.in_ok-told.ensures)
+  | in-Ok-exchange w ↦ was_told (subst (WasToldOrder c.exchange.new.world) (sym w.answer-is) (subst (λ (k : List ℕ). WasToldOrder c.exchange.new.world (op.Probed k w.into_probes.result)) (c.in_ok-copy-2.ensures ∙ sym c.in_ok-told.ensures)
       (told_found c.order.new.self c.exchange.new.world c.in_ok-copy-2.field-0 w.in-Ok-exchange.gathered w.into_probes.result w.in-Ok-exchange.ensures.gathered w.into_probes.ensures)))
-  | in-Err-exchange w ↦ inl (subst (WasToldOrder c.exchange.new.world) (sym w.answer-is) w.in-Err-exchange.ensures.told)
+  | in-Err-exchange w ↦ was_told (subst (WasToldOrder c.exchange.new.world) (sym w.answer-is) w.in-Err-exchange.ensures.told)
 ]
 
 pub returns-in-Ok-clause-probe : goal.returns-in-Ok-clause-probe
 returns-in-Ok-clause-probe g c rules is =
     subst (λ (a : OpAnswer). IsProbe (meaning {S = g.row.S.Denot} g.S.Shelf.contents g.S.Shelf.tells g.S.Shelf.may_leave g.S.Shelf.fault_count g.V.Disk.tells g.V.Disk.may_leave g.V.Disk.fault_count) rules c.args.key.now c.args.world.now a c.tell.new.self) (sym c.tell.ensures.same)
-    (told (subst (λ (k : List ℕ). StepOrder c.args.world.now (asked.Probe k) c.order.new.self) c.in_ok-copy.ensures c.in-Ok.ensures.ok) (subst (λ (k : List ℕ). AsksMembers (meaning {S = g.row.S.Denot} g.S.Shelf.contents g.S.Shelf.tells g.S.Shelf.may_leave g.S.Shelf.fault_count g.V.Disk.tells g.V.Disk.may_leave g.V.Disk.fault_count) rules (Probe k) c.order.new.self c.exchange.new.world) c.in_ok-copy-2.ensures (c.exchange.ensures.asks rules is)) c.tell.ensures.step)
+    (told (subst (λ (k : List ℕ). StepOrder c.args.world.now (asked.Probe k) c.order.new.self) c.in_ok-copy.ensures c.in-Ok.ensures.ok) (subst (λ (k : List ℕ). AsksMembers (meaning {S = g.row.S.Denot} g.S.Shelf.contents g.S.Shelf.tells g.S.Shelf.may_leave g.S.Shelf.fault_count g.V.Disk.tells g.V.Disk.may_leave g.V.Disk.fault_count) rules (AskAll (Probe k)) Gather c.order.new.self c.exchange.new.world) c.in_ok-copy-2.ensures (c.exchange.ensures.asks rules is)) c.tell.ensures.step)
 
 pub returns-clause-probe : goal.returns-clause-probe
 returns-clause-probe g c rules is = refused (why c.in-Err.ensures.cause) c.in-Err.ensures.err

@@ -4,7 +4,7 @@ use Rattle.cas_cluster.specs.View.{meaning}
 use Rattle.cas_lines.specs.Command.{change_of}
 use Rattle.cas_script.specs.Script.{Changed, Happened, Shows, Operated, membership_of}
 use Rattle.cas_script.specs.Stage.{Stage}
-use Rattle.cas_script.proofs.Answering.{with_text, without_text, changes_run, happens_run, shows_run, probes_run, members_run}
+use Rattle.cas_script.proofs.Answering.{with_text, without_text, changes_run, happens_run, shows_run, probes_run, collects_run, members_run}
 use Rattle.cas_script.proofs.script.Script.answer_command.Given.{Over}
 use Rattle.cas_script.proofs.script.Script.answer_command.Goals as goal
 use Rattle.cas_script.proofs.script.Script.answer_command.Goals.{After-drop-asked}
@@ -18,28 +18,28 @@ returns-in-Show-clause-answers g c state line number at is =
 pub returns-in-Join : goal.returns-in-Join
 returns-in-Join g c = record {
   answers = λ state line number at is.
-      let runs = c.in_ok-answer-2.ensures.runs state at in
-      with_text (meaning {S = g.row.S.Denot} g.S.Shelf.contents g.S.Shelf.tells g.S.Shelf.may_leave g.S.Shelf.fault_count g.V.Disk.tells g.V.Disk.may_leave g.V.Disk.fault_count) c.args.self.now.tries number state line c.run_membership.new.self vec_items c.print_op-in-Join.result (Operated c.in_ok-answer-2.answer) runs.new runs.is_in
-      (members_run (meaning {S = g.row.S.Denot} g.S.Shelf.contents g.S.Shelf.tells g.S.Shelf.may_leave g.S.Shelf.fault_count g.V.Disk.tells g.V.Disk.may_leave g.V.Disk.fault_count) c.args.self.now.tries c.args.self.now c.run_membership.new.self state line c.args.command.now _ c.in_ok-answer-2.answer at is (ap membership_of c.in-Join.is) runs)
+      let runs = c.in_ok-answer-3.ensures.runs state at in
+      with_text (meaning {S = g.row.S.Denot} g.S.Shelf.contents g.S.Shelf.tells g.S.Shelf.may_leave g.S.Shelf.fault_count g.V.Disk.tells g.V.Disk.may_leave g.V.Disk.fault_count) c.args.self.now.tries number state line c.run_membership.new.self vec_items c.print_op-in-Join.result (Operated c.in_ok-answer-3.answer) runs.new runs.is_in
+      (members_run (meaning {S = g.row.S.Denot} g.S.Shelf.contents g.S.Shelf.tells g.S.Shelf.may_leave g.S.Shelf.fault_count g.V.Disk.tells g.V.Disk.may_leave g.V.Disk.fault_count) c.args.self.now.tries c.args.self.now c.run_membership.new.self state line c.args.command.now _ c.in_ok-answer-3.answer at is (ap membership_of c.in-Join.is) runs)
       c.print_op-in-Join.ensures;
   err = λ state line at is.
-      let runs = c.in_ok-answer-2.ensures.runs state at in
-      without_text (meaning {S = g.row.S.Denot} g.S.Shelf.contents g.S.Shelf.tells g.S.Shelf.may_leave g.S.Shelf.fault_count g.V.Disk.tells g.V.Disk.may_leave g.V.Disk.fault_count) c.args.self.now.tries state line c.run_membership.new.self c.print_op-in-Join.result (Operated c.in_ok-answer-2.answer) runs.new runs.is_in
-      (members_run (meaning {S = g.row.S.Denot} g.S.Shelf.contents g.S.Shelf.tells g.S.Shelf.may_leave g.S.Shelf.fault_count g.V.Disk.tells g.V.Disk.may_leave g.V.Disk.fault_count) c.args.self.now.tries c.args.self.now c.run_membership.new.self state line c.args.command.now _ c.in_ok-answer-2.answer at is (ap membership_of c.in-Join.is) runs);
+      let runs = c.in_ok-answer-3.ensures.runs state at in
+      without_text (meaning {S = g.row.S.Denot} g.S.Shelf.contents g.S.Shelf.tells g.S.Shelf.may_leave g.S.Shelf.fault_count g.V.Disk.tells g.V.Disk.may_leave g.V.Disk.fault_count) c.args.self.now.tries state line c.run_membership.new.self c.print_op-in-Join.result (Operated c.in_ok-answer-3.answer) runs.new runs.is_in
+      (members_run (meaning {S = g.row.S.Denot} g.S.Shelf.contents g.S.Shelf.tells g.S.Shelf.may_leave g.S.Shelf.fault_count g.V.Disk.tells g.V.Disk.may_leave g.V.Disk.fault_count) c.args.self.now.tries c.args.self.now c.run_membership.new.self state line c.args.command.now _ c.in_ok-answer-3.answer at is (ap membership_of c.in-Join.is) runs);
   tries = c.run_membership.ensures.tries;
 }
 
 pub returns-in-Leave : goal.returns-in-Leave
 returns-in-Leave g c = record {
   answers = λ state line number at is.
-      let runs = c.in_ok-answer-3.ensures.runs state at in
-      with_text (meaning {S = g.row.S.Denot} g.S.Shelf.contents g.S.Shelf.tells g.S.Shelf.may_leave g.S.Shelf.fault_count g.V.Disk.tells g.V.Disk.may_leave g.V.Disk.fault_count) c.args.self.now.tries number state line c.run_membership-in-Leave.new.self vec_items c.print_op-in-Leave.result (Operated c.in_ok-answer-3.answer) runs.new runs.is_in
-      (members_run (meaning {S = g.row.S.Denot} g.S.Shelf.contents g.S.Shelf.tells g.S.Shelf.may_leave g.S.Shelf.fault_count g.V.Disk.tells g.V.Disk.may_leave g.V.Disk.fault_count) c.args.self.now.tries c.args.self.now c.run_membership-in-Leave.new.self state line c.args.command.now _ c.in_ok-answer-3.answer at is (ap membership_of c.in-Leave.is) runs)
+      let runs = c.in_ok-answer-4.ensures.runs state at in
+      with_text (meaning {S = g.row.S.Denot} g.S.Shelf.contents g.S.Shelf.tells g.S.Shelf.may_leave g.S.Shelf.fault_count g.V.Disk.tells g.V.Disk.may_leave g.V.Disk.fault_count) c.args.self.now.tries number state line c.run_membership-in-Leave.new.self vec_items c.print_op-in-Leave.result (Operated c.in_ok-answer-4.answer) runs.new runs.is_in
+      (members_run (meaning {S = g.row.S.Denot} g.S.Shelf.contents g.S.Shelf.tells g.S.Shelf.may_leave g.S.Shelf.fault_count g.V.Disk.tells g.V.Disk.may_leave g.V.Disk.fault_count) c.args.self.now.tries c.args.self.now c.run_membership-in-Leave.new.self state line c.args.command.now _ c.in_ok-answer-4.answer at is (ap membership_of c.in-Leave.is) runs)
       c.print_op-in-Leave.ensures;
   err = λ state line at is.
-      let runs = c.in_ok-answer-3.ensures.runs state at in
-      without_text (meaning {S = g.row.S.Denot} g.S.Shelf.contents g.S.Shelf.tells g.S.Shelf.may_leave g.S.Shelf.fault_count g.V.Disk.tells g.V.Disk.may_leave g.V.Disk.fault_count) c.args.self.now.tries state line c.run_membership-in-Leave.new.self c.print_op-in-Leave.result (Operated c.in_ok-answer-3.answer) runs.new runs.is_in
-      (members_run (meaning {S = g.row.S.Denot} g.S.Shelf.contents g.S.Shelf.tells g.S.Shelf.may_leave g.S.Shelf.fault_count g.V.Disk.tells g.V.Disk.may_leave g.V.Disk.fault_count) c.args.self.now.tries c.args.self.now c.run_membership-in-Leave.new.self state line c.args.command.now _ c.in_ok-answer-3.answer at is (ap membership_of c.in-Leave.is) runs);
+      let runs = c.in_ok-answer-4.ensures.runs state at in
+      without_text (meaning {S = g.row.S.Denot} g.S.Shelf.contents g.S.Shelf.tells g.S.Shelf.may_leave g.S.Shelf.fault_count g.V.Disk.tells g.V.Disk.may_leave g.V.Disk.fault_count) c.args.self.now.tries state line c.run_membership-in-Leave.new.self c.print_op-in-Leave.result (Operated c.in_ok-answer-4.answer) runs.new runs.is_in
+      (members_run (meaning {S = g.row.S.Denot} g.S.Shelf.contents g.S.Shelf.tells g.S.Shelf.may_leave g.S.Shelf.fault_count g.V.Disk.tells g.V.Disk.may_leave g.V.Disk.fault_count) c.args.self.now.tries c.args.self.now c.run_membership-in-Leave.new.self state line c.args.command.now _ c.in_ok-answer-4.answer at is (ap membership_of c.in-Leave.is) runs);
   tries = c.run_membership-in-Leave.ensures.tries;
 }
 
@@ -86,4 +86,18 @@ returns-in-Probe g c = record {
       without_text (meaning {S = g.row.S.Denot} g.S.Shelf.contents g.S.Shelf.tells g.S.Shelf.may_leave g.S.Shelf.fault_count g.V.Disk.tells g.V.Disk.may_leave g.V.Disk.fault_count) c.args.self.now.tries state line c.run_probe.new.self c.print_op.result (Operated c.in_ok-answer.answer) runs.new runs.is_in
       (probes_run (meaning {S = g.row.S.Denot} g.S.Shelf.contents g.S.Shelf.tells g.S.Shelf.may_leave g.S.Shelf.fault_count g.V.Disk.tells g.V.Disk.may_leave g.V.Disk.fault_count) c.args.self.now.tries c.args.self.now c.run_probe.new.self state line c.args.command.now c.in-Probe.key c.in_ok-answer.answer at is c.in-Probe.is runs);
   tries = c.run_probe.ensures.tries;
+}
+
+pub returns-in-Collect : goal.returns-in-Collect
+returns-in-Collect g c = record {
+  answers = λ state line number at is.
+      let runs = c.in_ok-answer-2.ensures.runs state at in
+      with_text (meaning {S = g.row.S.Denot} g.S.Shelf.contents g.S.Shelf.tells g.S.Shelf.may_leave g.S.Shelf.fault_count g.V.Disk.tells g.V.Disk.may_leave g.V.Disk.fault_count) c.args.self.now.tries number state line c.run_collection.new.self vec_items c.print_op-in-Collect.result (Operated c.in_ok-answer-2.answer) runs.new runs.is_in
+      (collects_run (meaning {S = g.row.S.Denot} g.S.Shelf.contents g.S.Shelf.tells g.S.Shelf.may_leave g.S.Shelf.fault_count g.V.Disk.tells g.V.Disk.may_leave g.V.Disk.fault_count) c.args.self.now.tries c.args.self.now c.run_collection.new.self state line c.args.command.now c.in-Collect.key c.in_ok-answer-2.answer at is c.in-Collect.is runs)
+      c.print_op-in-Collect.ensures;
+  err = λ state line at is.
+      let runs = c.in_ok-answer-2.ensures.runs state at in
+      without_text (meaning {S = g.row.S.Denot} g.S.Shelf.contents g.S.Shelf.tells g.S.Shelf.may_leave g.S.Shelf.fault_count g.V.Disk.tells g.V.Disk.may_leave g.V.Disk.fault_count) c.args.self.now.tries state line c.run_collection.new.self c.print_op-in-Collect.result (Operated c.in_ok-answer-2.answer) runs.new runs.is_in
+      (collects_run (meaning {S = g.row.S.Denot} g.S.Shelf.contents g.S.Shelf.tells g.S.Shelf.may_leave g.S.Shelf.fault_count g.V.Disk.tells g.V.Disk.may_leave g.V.Disk.fault_count) c.args.self.now.tries c.args.self.now c.run_collection.new.self state line c.args.command.now c.in-Collect.key c.in_ok-answer-2.answer at is c.in-Collect.is runs);
+  tries = c.run_collection.ensures.tries;
 }
