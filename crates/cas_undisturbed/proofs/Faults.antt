@@ -239,15 +239,15 @@ abbrev KeptOn : {S V : Type 0} → Meaning S V → View S V → View S V → ℕ
 KeptOn m old new id after = Kept m old new id × (after ≡ nowhere)
 
 accepted_kept : {S V : Type 0} (m : Meaning S V) (rules : List Rule) (id : ℕ) (halt after : Halt) (old new : View S V) → halt ≡ nowhere → IsAccepted m rules id halt old after new → KeptOn m old new id after
-accepted_kept m rules id halt after old new on (script.halts accepting due crashes) = absurd (not_both halt.after_propose due (ap (λ (h : Halt). h.after_propose) on))
-accepted_kept m rules id halt after old new on (script.no_memory due fails) = (fails_kept m rules id old new fails, on)
+accepted_kept m rules id halt after old new on (script.cut_short (script.halts accepting due crashes)) = absurd (not_both halt.after_propose due (ap (λ (h : Halt). h.after_propose) on))
+accepted_kept m rules id halt after old new on (script.cut_short (script.no_memory due fails)) = (fails_kept m rules id old new fails, on)
 accepted_kept m rules id halt after old new on (script.counts {turned = turned} due turns by) = (kept_both m old turned new id (turned_kept m rules id old turned turns.turned) (count_kept m turned new id by), on)
 
 round_kept : {S V : Type 0} (m : Meaning S V) (rules : List Rule) (id : ℕ) (halt after : Halt) (old new : View S V) → halt ≡ nowhere → IsRound m rules id halt old after new → KeptOn m old new id after
 round_kept m rules id halt after old new on script.none_begun = (kept_same m old old id refl refl, on)
 round_kept m rules id halt after old new on (script.by_promise accepted) = accepted_kept m rules id halt after old new on accepted
-round_kept m rules id halt after old new on (script.no_memory fails) = (fails_kept m rules id old new fails, on)
-round_kept m rules id halt after old new on (script.halts turns strikes crashes) = absurd (not_both halt.after_prepare strikes.0 (ap (λ (h : Halt). h.after_prepare) on))
+round_kept m rules id halt after old new on (script.cut_off (script.no_memory fails)) = (fails_kept m rules id old new fails, on)
+round_kept m rules id halt after old new on (script.cut_off (script.halts turns strikes crashes)) = absurd (not_both halt.after_prepare strikes.0 (ap (λ (h : Halt). h.after_prepare) on))
 round_kept m rules id halt after old new on (script.ends_short ends) = (ends_kept m rules id halt old new ends, on)
 round_kept m rules id halt after old new on (script.proposes {proposed = proposed} ends accepted) =
     let last = accepted_kept m rules id halt after proposed new on accepted in

@@ -33,8 +33,8 @@ stands_well m era ballot id view (over shows well) = well
 round_ends : {S V : Type 0} (m : Meaning S V) (era : Era) (ballot : Ballot) (rules : List Rule) (id : ℕ) (after : Halt) (view new : View S V) → Grounds era rules → Begun m era ballot id view → IsRound m rules id nowhere view after new → StillUp era new → EndsWell ballot new id
 round_ends m era ballot rules id after view new grounds begun script.none_begun up = stands_well m era ballot id view begun
 round_ends m era ballot rules id after view new grounds begun (script.by_promise by) up = accepted m era ballot rules id after view new grounds begun by up
-round_ends m era ballot rules id after view new grounds begun (script.no_memory fails) up = fails_told m rules ballot id view new fails
-round_ends m era ballot rules id after view new grounds begun (script.halts turns strikes crashes) up = absurd (cc strikes.0)
+round_ends m era ballot rules id after view new grounds begun (script.cut_off (script.no_memory fails)) up = fails_told m rules ballot id view new fails
+round_ends m era ballot rules id after view new grounds begun (script.cut_off (script.halts turns strikes crashes)) up = absurd (cc strikes.0)
 round_ends m era ballot rules id after view new grounds begun (script.ends_short ends) up = stands_well m era ballot id new (prepare_ended m era ballot rules id nowhere view new grounds begun ends up)
 round_ends m era ballot rules id after view new grounds begun (script.proposes {proposed = proposed} ends by) up =
     accepted m era ballot rules id after proposed new grounds (prepare_ended m era ballot rules id nowhere view proposed grounds begun ends (up_before era proposed new (accepted_keeps m rules id nowhere after proposed new by) up)) by up

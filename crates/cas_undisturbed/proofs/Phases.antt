@@ -187,6 +187,6 @@ counted m era ballot rules id view mid new grounds (prepares round age afresh er
 counted m era ballot rules id view mid new grounds (over shows well) turned by up = absurd (cc (counts_in m mid new id None (turned_shows m rules id None view mid turned shows) by))
 
 pub accepted : {S V : Type 0} (m : Meaning S V) (era : Era) (ballot : Ballot) (rules : List Rule) (id : ℕ) (after : Halt) (view new : View S V) → Grounds era rules → Begun m era ballot id view → IsAccepted m rules id nowhere view after new → StillUp era new → EndsWell ballot new id
-accepted m era ballot rules id after view new grounds begun (script.halts accepting due crashes) up = absurd (cc due)
-accepted m era ballot rules id after view new grounds begun (script.no_memory due fails) up = fails_told m rules ballot id view new fails
+accepted m era ballot rules id after view new grounds begun (script.cut_short (script.halts accepting due crashes)) up = absurd (cc due)
+accepted m era ballot rules id after view new grounds begun (script.cut_short (script.no_memory due fails)) up = fails_told m rules ballot id view new fails
 accepted m era ballot rules id after view new grounds begun (script.counts {turned = turned} due turns by) up = counted m era ballot rules id view turned new grounds begun turns.turned by up

@@ -137,15 +137,15 @@ ends_keeps : {S V : Type 0} (m : Meaning S V) (rules : List Rule) (id : ℕ) (ha
 ends_keeps m rules id halt old new by = keeps_both old by.turned new (turned_keeps m rules id old by.turned by.turns.turned) (propose_keeps m by.turned new id by.proposes)
 
 pub accepted_keeps : {S V : Type 0} (m : Meaning S V) (rules : List Rule) (id : ℕ) (halt after : Halt) (old new : View S V) → IsAccepted m rules id halt old after new → KeepsDown old new
-accepted_keeps m rules id halt after old new (script.halts accepting due crashes) = crash_keeps m old new id crashes
-accepted_keeps m rules id halt after old new (script.no_memory due fails) = fails_keeps m rules id old new fails
+accepted_keeps m rules id halt after old new (script.cut_short (script.halts accepting due crashes)) = crash_keeps m old new id crashes
+accepted_keeps m rules id halt after old new (script.cut_short (script.no_memory due fails)) = fails_keeps m rules id old new fails
 accepted_keeps m rules id halt after old new (script.counts {turned = turned} due turns by) = keeps_both old turned new (turned_keeps m rules id old turned turns.turned) (count_keeps m turned new id by)
 
 round_keeps : {S V : Type 0} (m : Meaning S V) (rules : List Rule) (id : ℕ) (halt after : Halt) (old new : View S V) → IsRound m rules id halt old after new → KeepsDown old new
 round_keeps m rules id halt after old new script.none_begun = λ a acceptor at down. (acceptor, at, down)
 round_keeps m rules id halt after old new (script.by_promise accepted) = accepted_keeps m rules id halt after old new accepted
-round_keeps m rules id halt after old new (script.no_memory fails) = fails_keeps m rules id old new fails
-round_keeps m rules id halt after old new (script.halts {turned = turned} turns strikes crashes) = keeps_both old turned new (turned_keeps m rules id old turned turns.turned) (crash_keeps m turned new id crashes)
+round_keeps m rules id halt after old new (script.cut_off (script.no_memory fails)) = fails_keeps m rules id old new fails
+round_keeps m rules id halt after old new (script.cut_off (script.halts {turned = turned} turns strikes crashes)) = keeps_both old turned new (turned_keeps m rules id old turned turns.turned) (crash_keeps m turned new id crashes)
 round_keeps m rules id halt after old new (script.ends_short ends) = ends_keeps m rules id halt old new ends
 round_keeps m rules id halt after old new (script.proposes {proposed = proposed} ends accepted) = keeps_both old proposed new (ends_keeps m rules id halt old proposed ends) (accepted_keeps m rules id halt after proposed new accepted)
 

@@ -10,7 +10,9 @@ use Rattle.cas_cluster.specs.Step.{Event, Step}
 use Rattle.cas_cluster.specs.View.{Meaning, View}
 use Rattle.cas_cluster.proofs.SafeSteps.{steps_are_safe}
 use Rattle.cas_script.specs.Changes as changes
-use Rattle.cas_script.specs.Changes.{Turned, FailsToTurn, EndsPrepare, IsAccepted, IsRound, AreRounds, IsChange}
+use Rattle.cas_script.specs.Changes.{Turned, FailsToTurn, EndsPrepareBy, IsAcceptedBy, IsRoundBy, AreRounds, AreRoundsBy, IsChange}
+use Rattle.cas_script.specs.Collections as collections
+use Rattle.cas_script.specs.Collections.{EndsReading, EndsVoting, HasRounds, HasTaken, IsCalled, IsCollection, TakesStep}
 use Rattle.cas_script.specs.Conditions.{Rule, verdict_on}
 use Rattle.cas_script.specs.Events as events
 use Rattle.cas_script.specs.Events.{CrashesAcceptor, RestartsAcceptor, RestartsProposer, StraysIn}
@@ -20,7 +22,7 @@ use Rattle.cas_lines.specs.Command.{one}
 use Rattle.cas_record.specs.declared.operator.Asked.{Asked}
 use Rattle.cas_record.specs.declared.operator.Asked.TheVariants as asked
 use Rattle.cas_record.specs.declared.operator.OpAnswer.{OpAnswer}
-use Rattle.cas_cluster.specs.Council.{Question, Probe, NextKeys}
+use Rattle.cas_cluster.specs.Council.{Probe, NextKeys}
 use Rattle.cas_script.specs.Exchanges as exchanges
 use Rattle.cas_script.specs.Exchanges.{AskTurned, AsksMembers}
 use Rattle.cas_script.specs.Membership as membership
@@ -54,26 +56,31 @@ turned_stays m rules id old new (changes.one_more {mid = mid} frame before at by
 fails_stays : {S V : Type 0} (m : Meaning S V) (rules : List Rule) (id : ℕ) (old new : View S V) → FailsToTurn m rules id old new → Stays old new
 fails_stays m rules id old new by = both old by.mid new (turned_stays m rules id old by.mid by.turned) (by_step m by.mid new (step.RefuseTurn id) by.fails)
 
-prepare_stays : {S V : Type 0} (m : Meaning S V) (rules : List Rule) (id : ℕ) (halt : Halt) (old new : View S V) → EndsPrepare m rules id halt old new → Stays old new
-prepare_stays m rules id halt old new by = both old by.turned new (turned_stays m rules id old by.turned by.turns.turned) (by_step m by.turned new (step.Propose id) by.proposes)
+module _ {S V : Type 0} (m : Meaning S V) (rules : List Rule) (id : ℕ) {Begins Ends Counts : View S V → View S V → Type 0} (begin_stays : (old new : View S V) → Begins old new → Stays old new) (end_stays : (old new : View S V) → Ends old new → Stays old new) (count_stays : (old new : View S V) → Counts old new → Stays old new) where
+  prepare_stays : (halt : Halt) (old new : View S V) → EndsPrepareBy Ends m rules id halt old new → Stays old new
+  prepare_stays halt old new by = both old by.turned new (turned_stays m rules id old by.turned by.turns.turned) (end_stays by.turned new by.proposes)
 
-accepted_stays : {S V : Type 0} (m : Meaning S V) (rules : List Rule) (id : ℕ) (halt after : Halt) (old new : View S V) → IsAccepted m rules id halt old after new → Stays old new
-accepted_stays m rules id halt after old new (changes.halts accepting due by) = by_step m old new (step.CrashProposer id) by
-accepted_stays m rules id halt after old new (changes.no_memory not_due by) = fails_stays m rules id old new by
-accepted_stays m rules id halt after old new (changes.counts {turned = turned} not_due turns by) = both old turned new (turned_stays m rules id old turned turns.turned) (by_step m turned new (step.Count id) by)
+  accepted_stays : (halt after : Halt) (old new : View S V) → IsAcceptedBy Counts m rules id halt old after new → Stays old new
+  accepted_stays halt after old new (changes.cut_short (changes.halts accepting due by)) = by_step m old new (step.CrashProposer id) by
+  accepted_stays halt after old new (changes.cut_short (changes.no_memory not_due by)) = fails_stays m rules id old new by
+  accepted_stays halt after old new (changes.counts {turned = turned} not_due turns by) = both old turned new (turned_stays m rules id old turned turns.turned) (count_stays turned new by)
 
-round_stays : {S V : Type 0} (m : Meaning S V) (rules : List Rule) (id : ℕ) (halt after : Halt) (old new : View S V) → IsRound m rules id halt old after new → Stays old new
-round_stays m rules id halt after old new changes.none_begun = same old
-round_stays m rules id halt after old new (changes.by_promise accepted) = accepted_stays m rules id halt after old new accepted
-round_stays m rules id halt after old new (changes.no_memory by) = fails_stays m rules id old new by
-round_stays m rules id halt after old new (changes.halts {turned = turned} turns strikes by) = both old turned new (turned_stays m rules id old turned turns.turned) (by_step m turned new (step.CrashProposer id) by)
-round_stays m rules id halt after old new (changes.ends_short by) = prepare_stays m rules id halt old new by
-round_stays m rules id halt after old new (changes.proposes {proposed = proposed} by accepted) = both old proposed new (prepare_stays m rules id halt old proposed by) (accepted_stays m rules id halt after proposed new accepted)
+  round_stays : (halt after : Halt) (old new : View S V) → IsRoundBy Ends Counts m rules id halt old after new → Stays old new
+  round_stays halt after old new changes.none_begun = same old
+  round_stays halt after old new (changes.by_promise accepted) = accepted_stays halt after old new accepted
+  round_stays halt after old new (changes.cut_off (changes.no_memory by)) = fails_stays m rules id old new by
+  round_stays halt after old new (changes.cut_off (changes.halts {turned = turned} turns strikes by)) = both old turned new (turned_stays m rules id old turned turns.turned) (by_step m turned new (step.CrashProposer id) by)
+  round_stays halt after old new (changes.ends_short by) = prepare_stays halt old new by
+  round_stays halt after old new (changes.proposes {proposed = proposed} by accepted) = both old proposed new (prepare_stays halt old proposed by) (accepted_stays halt after proposed new accepted)
+
+  rounds_stay_by : (tries : ℕ) (halt after : Halt) (old new : View S V) → AreRoundsBy Begins Ends Counts m rules id tries halt old after new → Stays old new
+  rounds_stay_by tries halt after old new (changes.last by ends) = round_stays halt after old new by
+  rounds_stay_by tries halt after old new (changes.another {mid = mid} {met = met} {begun = begun} many by is_met begins more) =
+      both old met new (round_stays halt mid old met by) (both met begun new (begin_stays met begun begins) (rounds_stay_by _ mid after begun new more))
 
 rounds_stay : {S V : Type 0} (m : Meaning S V) (rules : List Rule) (id : ℕ) (key : List ℕ) (program : List Clause) (tries : ℕ) (halt after : Halt) (old new : View S V) → AreRounds m rules id key program tries halt old after new → Stays old new
-rounds_stay m rules id key program tries halt after old new (changes.last by ends) = round_stays m rules id halt after old new by
-rounds_stay m rules id key program tries halt after old new (changes.another {mid = mid} {met = met} {begun = begun} many by is_met begins more) =
-    both old met new (round_stays m rules id halt mid old met by) (both met begun new (by_step m met begun (step.Begin id key program) begins) (rounds_stay m rules id key program _ mid after begun new more))
+rounds_stay m rules id key program tries halt after old new by =
+    rounds_stay_by m rules id (λ before next begins. by_step m before next (step.Begin id key program) begins) (λ before next ends. by_step m before next (step.Propose id) ends) (λ before next counts. by_step m before next (step.Count id) counts) tries halt after old new by
 
 change_stays : {S V : Type 0} (m : Meaning S V) (tries : ℕ) (rules : List Rule) (id : ℕ) (key : List ℕ) (program : List Clause) (halt after : Halt) (old new : View S V) (answer : Answer) → IsChange m tries rules id key program halt old answer after new → Stays old new
 change_stays m tries rules id key program halt after old new answer (changes.refused is by) = by_step m old new (step.RefuseBegin id key) by
@@ -117,22 +124,22 @@ ask_turned_stays : {S V : Type 0} (m : Meaning S V) (rules : List Rule) (old new
 ask_turned_stays m rules old new exchanges.none = same old
 ask_turned_stays m rules old new (exchanges.one_more {mid = mid} frame before at by) = both old mid new (ask_turned_stays m rules old mid before) (by_step m mid new (step.TurnExchange (verdict_on rules frame)) by)
 
-asks_stays : {S V : Type 0} (m : Meaning S V) (rules : List Rule) (question : Question) (old new : View S V) → AsksMembers m rules question old new → Stays old new
-asks_stays m rules question old new (exchanges.not_asked by none) = by_step m old new (step.AskAll question) by
-asks_stays m rules question old new (exchanges.no_memory {asked = asked} by fails) =
-    both old asked new (by_step m old asked (step.AskAll question) by) (both asked fails.mid new (ask_turned_stays m rules asked fails.mid fails.turned) (by_step m fails.mid new step.RefuseTurnExchange fails.fails))
-asks_stays m rules question old new (exchanges.gathered {asked = asked} {turned = turned} by turns gathers) =
-    both old asked new (by_step m old asked (step.AskAll question) by) (both asked turned new (ask_turned_stays m rules asked turned turns.turned) (by_step m turned new step.Gather gathers))
+asks_stays : {S V : Type 0} (m : Meaning S V) (rules : List Rule) (asks gathers : Event) (old new : View S V) → AsksMembers m rules asks gathers old new → Stays old new
+asks_stays m rules asks gathers old new (exchanges.not_asked by none) = by_step m old new asks by
+asks_stays m rules asks gathers old new (exchanges.no_memory {asked = asked} by fails) =
+    both old asked new (by_step m old asked asks by) (both asked fails.mid new (ask_turned_stays m rules asked fails.mid fails.turned) (by_step m fails.mid new step.RefuseTurnExchange fails.fails))
+asks_stays m rules asks gathers old new (exchanges.gathered {asked = asked} {turned = turned} by turns gather) =
+    both old asked new (by_step m old asked asks by) (both asked turned new (ask_turned_stays m rules asked turned turns.turned) (by_step m turned new gathers gather))
 
 -- ---- a probe
 probe_stays : {S V : Type 0} (m : Meaning S V) (rules : List Rule) (key : List ℕ) (old new : View S V) (answer : OpAnswer) → IsProbe m rules key old answer new → Stays old new
 probe_stays m rules key old new answer (probes.refused why by) = by_step m old new step.RefuseOrder by
 probe_stays m rules key old new answer (probes.told {ordered = ordered} {asked_all = asked_all} by asks tells) =
-    both old ordered new (by_step m old ordered (step.Order (asked.Probe key)) by) (both ordered asked_all new (asks_stays m rules (Probe key) ordered asked_all asks) (by_step m asked_all new (step.Tell answer) tells))
+    both old ordered new (by_step m old ordered (step.Order (asked.Probe key)) by) (both ordered asked_all new (asks_stays m rules (step.AskAll (Probe key)) step.Gather ordered asked_all asks) (by_step m asked_all new (step.Tell answer) tells))
 
 -- ---- a change of membership
 advance_stays : {S V : Type 0} (m : Meaning S V) (tries : ℕ) (rules : List Rule) (halt after : Halt) (old new : View S V) → Advances m tries rules halt old after new → Stays old new
-advance_stays m tries rules halt after old new (membership.lists places settles none asks) = asks_stays m rules (NextKeys places) old new asks
+advance_stays m tries rules halt after old new (membership.lists places settles none asks) = asks_stays m rules (step.AskAll (NextKeys places)) step.Gather old new asks
 advance_stays m tries rules halt after old new (membership.rescans key answer due change) = change_stays m tries rules 0 key (one Always Keep) halt after old new answer change
 advance_stays m tries rules halt after old new (membership.no_memory by) = by_step m old new step.RefuseKey by
 advance_stays m tries rules halt after old new (membership.enters proposer due by) = by_step m old new (step.EnterEra proposer) by
@@ -151,6 +158,43 @@ members_stay m tries rules asked halt after old new answer (membership.told {ord
     both old ordered new (by_step m old ordered (step.Order asked) by)
     (both ordered carried.taken_up new (taken_up_stays m asked ordered carried.taken_up carried.takes_up) (both carried.taken_up over new (advanced_stays m tries rules halt carried.taken_up after over carried.advances) (by_step m over new (step.Tell answer) tells)))
 
+-- ---- a collection
+reading_stays : {S V : Type 0} (m : Meaning S V) (old new : View S V) → EndsReading m old new → Stays old new
+reading_stays m old new (collections.reads_held version found by) = by_step m old new step.ReadHeld by
+reading_stays m old new (collections.proposes none by) = by_step m old new (step.Propose 0) by
+
+voting_stays : {S V : Type 0} (m : Meaning S V) (old new : View S V) → EndsVoting m old new → Stays old new
+voting_stays m old new (collections.acknowledges by) = by_step m old new step.CountCollect by
+voting_stays m old new (collections.leaves_open by told) = by_step m old new (step.Count 0) by
+
+called_stays : {S V : Type 0} (m : Meaning S V) (tries : ℕ) (rules : List Rule) (key : List ℕ) (halt after : Halt) (old new : View S V) → IsCalled m tries rules key halt old after new → Stays old new
+called_stays {S} {V} m tries rules key halt after old new by = by_end by
+  where
+    has_rounds : (last : View S V) (ends : Halt) → HasRounds m tries rules key halt old ends last → Stays old last
+    has_rounds last ends has =
+        both old has.begun last (by_step m old has.begun (step.BeginCollect key) has.begins)
+        (rounds_stay_by m rules 0 (λ before next begins. by_step m before next (step.BeginCollect key) begins) (reading_stays m) (voting_stays m) tries halt ends has.begun last has.rounds)
+
+    by_end : IsCalled m tries rules key halt old after new → Stays old new
+    by_end (collections.over has none) = has_rounds new after has
+    by_end (collections.ended {told = told} answer has ends) = both old told new (has_rounds told after has) (by_step m told new (step.EndCollect answer) ends)
+
+takes_stays : {S V : Type 0} (m : Meaning S V) (rules : List Rule) (old new : View S V) → TakesStep m rules old new → Stays old new
+takes_stays m rules old new (collections.gathers by) = by_step m old new step.GatherRound by
+takes_stays m rules old new (collections.renews proposer by) = by_step m old new (step.Renew proposer) by
+takes_stays m rules old new (collections.asks by) = asks_stays m rules step.AskCollect step.GatherCollect old new by
+takes_stays m rules old new (collections.marks by) = by_step m old new step.MakeFloor by
+
+taken_stays : {S V : Type 0} (m : Meaning S V) (rules : List Rule) (old new : View S V) → HasTaken m rules old new → Stays old new
+taken_stays m rules old new collections.none = same old
+taken_stays m rules old new (collections.one_more {mid = mid} before on by) = both old mid new (taken_stays m rules old mid before) (takes_stays m rules mid new by)
+
+collection_stays : {S V : Type 0} (m : Meaning S V) (tries : ℕ) (rules : List Rule) (key : List ℕ) (halt after : Halt) (old new : View S V) (answer : OpAnswer) → IsCollection m tries rules key halt old answer after new → Stays old new
+collection_stays m tries rules key halt after old new answer (collections.refused why by) = by_step m old new step.RefuseOrder by
+collection_stays m tries rules key halt after old new answer (collections.told {ordered = ordered} {over = over} by carried tells) =
+    both old ordered new (by_step m old ordered (step.Order (asked.Collect key)) by)
+    (both ordered carried.called new (called_stays m tries rules key halt after ordered carried.called carried.calls) (both carried.called over new (taken_stays m rules carried.called over carried.takes) (by_step m over new (step.Tell answer) tells)))
+
 -- ---- a line
 pub line_stays : {S V : Type 0} (m : Meaning S V) (tries : ℕ) (old new : State S V) (line : List ℕ) (answer : LineAnswer) → IsAnswered m tries old line answer new → Stays old.world new.world
 line_stays m tries old new line answer (script.changes {answer = told} command asked is_line asks runs) =
@@ -158,6 +202,7 @@ line_stays m tries old new line answer (script.changes {answer = told} command a
 line_stays m tries old new line answer (script.happens {answer = told} command is_line runs) = event_stays m old new command told runs
 line_stays m tries old new line answer (script.shows id key is_line shown) = same old.world
 line_stays m tries old new line answer (script.probes {answer = told} key is_line runs) = probe_stays m old.rules key old.world new.world told runs.probe
+line_stays m tries old new line answer (script.collects {answer = told} key is_line runs) = collection_stays m tries old.rules key runs.halt runs.after old.world new.world told runs.collects
 line_stays m tries old new line answer (script.changes_members {answer = told} command asked is_line asks runs) =
     members_stay m tries old.rules asked runs.halt runs.after old.world new.world told runs.changes
 line_stays m tries old new line answer (script.refused why word is_line) = same old.world
