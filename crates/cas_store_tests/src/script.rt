@@ -31,6 +31,12 @@ const TWO_TRIES: Size = Size {
     tries: 2,
 };
 
+const EIGHT_TRIES: Size = Size {
+    acceptors: 5,
+    proposers: 2,
+    tries: 8,
+};
+
 /// Empty shelves in memory.
 fn shelves(alloc: Global) -> Result<Vec<MapShelf>, AllocError>
     ensures { IfOk result (λ shelves. vec_len shelves ≡ 64) }
@@ -180,8 +186,8 @@ fn changes_members(rt: HostRuntime) -> Result<(), Fail> {
         ),
         (
             ONE_TRY,
-            "net list * lose\nop join 4\nop join 5\nnet list * deliver\nop join 4\n",
-            "ok\nop: short 0 2\nop: busy 1\nok\nop: joined 4 era 2 rescanned 0\n",
+            "net list * lose\nop join 4\nop join 5\nop collect a\nnet list * deliver\nop join 4\n",
+            "ok\nop: short 0 2\nop: busy 1\nop: busy 1\nok\nop: joined 4 era 2 rescanned 0\n",
         ),
         (
             TWO_TRIES,
@@ -202,6 +208,65 @@ fn changes_members(rt: HostRuntime) -> Result<(), Fail> {
         let mut script = opened(alloc, size)?;
         let written = play(alloc, &mut script, input.as_bytes())?;
         assert_eq!(rt; written.as_slice(), output.as_bytes(), "{input}");
+    }
+    Ok(())
+}
+
+#[test]
+fn collects_keys(rt: HostRuntime) -> Result<(), Fail> {
+    let alloc = rt.alloc();
+    for (size, input, output) in [
+        (
+            TWO_TRIES,
+            "1 set a x\n1 del a\nop collect a\n1 add a 9\n",
+            "1: done v0 text x at 1.1\n1: done empty at 2.1\nop: collected a at 4.0 removed 3 kept 0\n1: done v0 num 9 at 5.1\n",
+        ),
+        (
+            TWO_TRIES,
+            "net accept 3 late\n1 set a x\nnet accept 3 deliver\n1 del a\nop collect a\nstray 0\nshow 3 a\n2 get a\ncrash proposer 2\nrestart proposer 2\n2 get a\n",
+            "ok\n1: done v0 text x at 1.1\nok\n1: done empty at 2.1\nop: collected a at 4.0 removed 3 kept 0\nok\n3 a: none\n2: done empty at 5.2\nok\nok\n2: done empty at 105.2\n",
+        ),
+        (
+            TWO_TRIES,
+            "1 set a x\nop collect a\n1 get a\n1 get a\n",
+            "1: done v0 text x at 1.1\nop: not empty v0\n1: unsettled met 3.0\n1: done v0 text x at 4.1\n",
+        ),
+        (
+            TWO_TRIES,
+            "1 set a x\n1 del a\ncrash acceptor 3\nop collect a\nshow 1 a\nshow 3 a\n",
+            "1: done v0 text x at 1.1\n1: done empty at 2.1\nok\nop: absent 3\n1 a: promise 0.0 accepted 4.0 era 0 empty\n3 a: down\n",
+        ),
+        (
+            TWO_TRIES,
+            "1 set a x\n1 del a\nnet remove 3 late\nop collect a\n1 add a 9\nstray 0\nshow 3 a\n",
+            "1: done v0 text x at 1.1\n1: done empty at 2.1\nok\nop: absent 3\n1: done v0 num 9 at 5.1\nok\n3 a: promise 6.1 accepted 5.1 era 0 v0 num 9\n",
+        ),
+        (
+            EIGHT_TRIES,
+            "1 init visits 0\n1 add visits 1\n2 set motd hello%20all\ncrash acceptor 5\n1 add visits 1\n2 cas motd 0 closed\nrestart acceptor 5\n1 set tmp x\n1 del tmp\nop collect tmp\n1 add visits 1\n2 get motd\n",
+            "1: done v0 num 0 at 1.1\n1: done v1 num 1 at 2.1\n2: done v0 text hello%20all at 1.2\nok\n1: done v2 num 2 at 3.1\n2: done v1 text closed at 2.2\nok\n1: done v0 text x at 5.1\n1: done empty at 6.1\nop: collected tmp at 8.0 removed 5 kept 0\n1: done v3 num 3 at 4.1\n2: done v1 text closed at 3.2\n",
+        ),
+    ] {
+        let mut script = opened(alloc, size)?;
+        let written = play(alloc, &mut script, input.as_bytes())?;
+        assert_eq!(rt; written.as_slice(), output.as_bytes(), "{input}");
+    }
+    Ok(())
+}
+
+/// A key that is set, deleted and collected ten times: each time its slots are given back, and it begins anew.
+#[test]
+fn collects_a_key_again_and_again(rt: HostRuntime) -> Result<(), Fail> {
+    let alloc = rt.alloc();
+    let mut script = opened(alloc, EIGHT_TRIES)?;
+    for _time in 0..10u32 {
+        let written = play(
+            alloc,
+            &mut script,
+            b"1 set a x\n1 del a\nop collect a\nshow 1 a\n",
+        )?;
+        let text = written.as_slice();
+        assert_eq!(rt; text.ends_with(b" removed 5 kept 0\n1 a: none\n"), true);
     }
     Ok(())
 }
