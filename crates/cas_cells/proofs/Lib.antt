@@ -3,6 +3,7 @@ mod Frames
 mod Growing
 mod Leaving
 pub mod Lengths
+pub mod Places
 mod Placing
 mod Recovering
 mod Rows

@@ -1,6 +1,6 @@
 -- What the crates above may cite: cells in use survive a crash, and a disk stands for one row of cells.
-use Rattle.std.proofs.Common.{◌≡◌, ℕ, Option, List, map, sym, ◌∙◌, subst}
-use Rattle.cas_cells.specs.Format.{StandsFor}
+use Rattle.std.proofs.Common.{◌≡◌, ℕ, Option, Some, None, List, [], ◌∷◌, map, refl, sym, ap, ◌∙◌, subst}
+use Rattle.cas_cells.specs.Format.{StandsFor, narrow_on, narrow_in, payload_at}
 use Rattle.cas_cells.specs.Held.{payload_held}
 use Rattle.cas_cells.specs.Cells.{Stands, cells_of}
 use Rattle.cas_cells.specs.declared.cells.Cells.{Cells}
@@ -14,3 +14,15 @@ crash_leaves tells seen may_leave cells is t c left =
 -- a disk stands for one row
 pub same_row : (cells cells' : List (Option (List ℕ))) (disk : List ℕ) → StandsFor cells disk → StandsFor cells' disk → cells ≡ cells'
 same_row cells cells' disk one two = sym one.same ∙ two.same
+
+-- a disk that stands for a row tells as many narrow cells as it
+pub narrow_told_by : (cells : List (Option (List ℕ))) (disk : List ℕ) → StandsFor cells disk → narrow_on disk ≡ narrow_in cells
+narrow_told_by cells disk stands = first (payload_at 0 disk 0) _ ∙ ap narrow_in stands.same
+  where
+    first : (o : Option (List ℕ)) (rest : List (Option (List ℕ))) → narrow_in (o ∷ []) ≡ narrow_in (o ∷ rest)
+    first None rest = refl
+    first (Some head) rest = refl
+
+-- what cells in use show of it stands on their disk
+pub narrow_seen : {D : Type 0} (tells : Type 0) (seen : D → List ℕ) (may_leave : D → List ℕ → Type 0) (cells : Cells D) → Stands tells seen may_leave cells → tells → narrow_on (seen cells.disk) ≡ narrow_in (cells_of cells)
+narrow_seen tells seen may_leave cells is t = narrow_told_by (cells_of cells) (seen cells.disk) (stands_now tells seen may_leave cells is t)

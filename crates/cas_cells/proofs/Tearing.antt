@@ -3,9 +3,10 @@ use Rattle.std.proofs.Common.{◌≡◌, ◌≢◌, ⊎_elim, ℕ, ◌+◌, ◌-
 use Rattle.std.proofs.lemmas.List.{take_at, drop_at, drop-drop, drop-take, take-take, take-append-le, length-take-le, get_or-take, get_or-drop}
 use Rattle.std.proofs.lemmas.Bool.{cases_lt}
 use Rattle.cas_disk.specs.Disk.{Holds, Torn}
-use Rattle.cas_cells.specs.Format.{frame_at}
+use Rattle.cas_cells.specs.Format.{frame_at, frame_place, frame_size, cell_place, half_size}
 use Rattle.cas_cells.specs.Torn.{GateTorn, TailTorn, SameBelow}
 use Rattle.cas_cells.specs.Held.{IsShut}
+use Rattle.cas_cells.proofs.Places.{sized, place_below, place_second, size_second}
 
 -- what a write does as a whole it may do in part
 pub holds_torn : (old new bytes : List ℕ) (at : ℕ) → at ≤ length old → Holds old at bytes new → Torn at (length bytes) old new
@@ -50,60 +51,10 @@ above old c at n p torn over =
     ∙ drop-drop (p - (at + n)) (at + n) old
     ∙ ap (λ (k : ℕ). drop k old) split
 
--- the frames below a torn range stay
-pub frames_below : (old c : List ℕ) (at n j : ℕ) → Torn at n old c → 512 * j + 512 ≤ at → frame_at c j ≡ frame_at old j
-frames_below old c at n j torn under = below old c at n (512 * j) 512 torn under
-
--- the other frames stay
-pub other_frames : (old c : List ℕ) (k at n j : ℕ) → Torn at n old c → 512 * k ≤ at → at + n ≤ 512 * k + 512 → j ≢ k → frame_at c j ≡ frame_at old j
-other_frames old c k at n j torn low high apart = ⊎_elim
-    (λ (less : j < k). frames_below old c at n j torn (omega arith))
-    (λ (not_less : k ≤ j). ap (λ (l : List ℕ). take 512 l) (above old c at n (512 * j) torn (omega arith)))
-    (cases_lt j k)
-
-pub frame_length : (disk : List ℕ) (k : ℕ) → 512 * k + 512 ≤ length disk → length (frame_at disk k) ≡ 512
-frame_length disk k within = omega (arith, length-take 512 (drop (512 * k) disk), length-drop (512 * k) disk)
-
--- a whole frame lies within the disk
-pub frame_within : (disk : List ℕ) (k : ℕ) → length (frame_at disk k) ≡ 512 → 512 * k + 512 ≤ length disk
-frame_within disk k whole = omega (arith, length-take 512 (drop (512 * k) disk), length-drop (512 * k) disk)
-
-pub gate_of : (disk : List ℕ) (k : ℕ) → get_or (frame_at disk k) 0 0 ≡ get_or disk (512 * k) 0
-gate_of disk k =
-    let none : 512 * k + 0 ≡ 512 * k = omega arith in
-    get_or-take 512 (drop (512 * k) disk) 0 0 (omega arith) ∙ get_or-drop (512 * k) disk 0 0 ∙ ap (λ (p : ℕ). get_or disk p 0) none
-
-tail_at : (disk : List ℕ) (k : ℕ) → drop 1 (frame_at disk k) ≡ take 511 (drop (512 * k + 1) disk)
-tail_at disk k = drop-take 1 511 (drop (512 * k) disk) ∙ ap (λ (l : List ℕ). take 511 l) (drop-drop 1 (512 * k) disk)
-
 -- a frame is its gate and its tail
-pub gate_tail : (f : List ℕ) → length f ≡ 512 → f ≡ get_or f 0 0 ∷ drop 1 f
+pub gate_tail : (f : List ℕ) → 0 < length f → f ≡ get_or f 0 0 ∷ drop 1 f
 gate_tail [] long = absurd (omega arith)
 gate_tail (g ∷ f) long = refl
-
-pub gate_torn : (k : ℕ) (old c : List ℕ) → length (frame_at old k) ≡ 512 → Torn (512 * k) 1 old c → GateTorn k old c
-gate_torn k old c whole torn =
-    let within : 512 * k + 512 ≤ length old = frame_within old k whole in
-    record {
-      others = λ j apart. other_frames old c k (512 * k) 1 j torn (omega arith) (omega arith) apart;
-      tail = tail_at c k ∙ ap (λ (l : List ℕ). take 511 l) torn.after ∙ sym (tail_at old k);
-      size = frame_length c k (omega (arith, torn.no_shorter, within));
-    }
-
-pub tail_torn : (k : ℕ) (old c : List ℕ) → length (frame_at old k) ≡ 512 → Torn (512 * k + 1) 511 old c → TailTorn k old c
-tail_torn k old c whole torn =
-    let within : 512 * k + 512 ≤ length old = frame_within old k whole in
-    let before : 512 * k < 512 * k + 1 = omega arith in
-    record {
-      others = λ j apart. other_frames old c k (512 * k + 1) 511 j torn (omega arith) (omega arith) apart;
-      gate =
-          gate_of c k
-          ∙ sym (get_or-take (512 * k + 1) c (512 * k) 0 before)
-          ∙ ap (λ (l : List ℕ). get_or l (512 * k) 0) torn.before
-          ∙ get_or-take (512 * k + 1) old (512 * k) 0 before
-          ∙ sym (gate_of old k);
-      size = frame_length c k (omega (arith, torn.no_shorter, within));
-    }
 
 head_at : (disk : List ℕ) (p x : ℕ) → take 1 (drop p disk) ≡ x ∷ [] → get_or disk p 0 ≡ x
 head_at disk p x is =
@@ -111,38 +62,105 @@ head_at disk p x is =
     sym (get_or-take 1 (drop p disk) 0 0 (omega arith) ∙ get_or-drop p disk 0 0 ∙ ap (λ (q : ℕ). get_or disk q 0) none)
     ∙ ap (λ (l : List ℕ). get_or l 0 0) is
 
--- a gate was written
-pub gate_held : (k g : ℕ) (old new : List ℕ) → length (frame_at old k) ≡ 512 → Holds old (512 * k) (g ∷ []) new → frame_at new k ≡ g ∷ drop 1 (frame_at old k)
-gate_held k g old new whole holds =
-    let within : 512 * k ≤ length old = omega (arith, frame_within old k whole) in
-    let torn = gate_torn k old new whole (holds_torn old new (g ∷ []) (512 * k) within holds) in
-    let gate : get_or (frame_at new k) 0 0 ≡ g = gate_of new k ∙ head_at new (512 * k) g (held_bytes old new (g ∷ []) (512 * k) within holds) in
-    gate_tail (frame_at new k) torn.size ∙ (λ i. gate i ∷ torn.tail i)
+module _ (narrow : ℕ) where
+  -- the frames below a torn range stay
+  pub frames_below : (old c : List ℕ) (at n j : ℕ) → Torn at n old c → frame_place narrow j + frame_size narrow j ≤ at → frame_at narrow c j ≡ frame_at narrow old j
+  frames_below old c at n j torn under = below old c at n (frame_place narrow j) (frame_size narrow j) torn under
 
--- a tail was written
-pub tail_held : (k : ℕ) (tail old new : List ℕ) → length (frame_at old k) ≡ 512 → length tail ≡ 511 → Holds old (512 * k + 1) tail new → drop 1 (frame_at new k) ≡ tail
-tail_held k tail old new whole long holds =
-    let within : 512 * k + 1 ≤ length old = omega (arith, frame_within old k whole) in
-    tail_at new k ∙ ap (λ (n : ℕ). take n (drop (512 * k + 1) new)) (sym long) ∙ held_bytes old new tail (512 * k + 1) within holds
+  -- the other frames stay
+  pub other_frames : (old c : List ℕ) (k at n j : ℕ) → Torn at n old c → frame_place narrow k ≤ at → at + n ≤ frame_place narrow k + frame_size narrow k → j ≢ k → frame_at narrow c j ≡ frame_at narrow old j
+  other_frames old c k at n j torn low high apart = ⊎_elim
+      (λ (less : j < k). frames_below old c at n j torn (let before = place_below narrow j k less in omega (arith, before, low)))
+      (λ (not_less : k ≤ j).
+      let more : k < j = omega (arith, not_less, apart) in
+      let behind = place_below narrow k j more in
+      ap (λ (l : List ℕ). take (frame_size narrow j) l) (above old c at n (frame_place narrow j) torn (omega (arith, behind, high))))
+      (cases_lt j k)
 
--- the frames below a cell stay while the cell is written
-pub same_below : (i n : ℕ) (old c : List ℕ) → Torn (1024 * i) n old c → SameBelow (2 * i) old c
-same_below i n old c torn j less = frames_below old c (1024 * i) n j torn (omega arith)
+  pub frame_length : (disk : List ℕ) (k : ℕ) → frame_place narrow k + frame_size narrow k ≤ length disk → length (frame_at narrow disk k) ≡ frame_size narrow k
+  frame_length disk k within = omega (arith, length-take (frame_size narrow k) (drop (frame_place narrow k) disk), length-drop (frame_place narrow k) disk)
 
--- zeros were written over a cell
-pub blank_held : (i : ℕ) (old new z : List ℕ) → length z ≡ 1024 → ((o : ℕ) → o < 1024 → get_or z o 0 ≡ 0) → 1024 * i ≤ length old → Holds old (1024 * i) z new → IsShut (frame_at new (2 * i)) × IsShut (frame_at new (2 * i + 1))
-blank_held i old new z size zero within holds = (shut_at (2 * i) 0 (omega arith) (omega arith), shut_at (2 * i + 1) 512 (omega arith) (omega arith))
-  where
-    zeros : take 1024 (drop (1024 * i) new) ≡ z
-    zeros = ap (λ (n : ℕ). take n (drop (1024 * i) new)) (sym size) ∙ held_bytes old new z (1024 * i) within holds
+  -- a whole frame lies within the disk
+  pub frame_within : (disk : List ℕ) (k : ℕ) → length (frame_at narrow disk k) ≡ frame_size narrow k → frame_place narrow k + frame_size narrow k ≤ length disk
+  frame_within disk k whole = omega (arith, length-take (frame_size narrow k) (drop (frame_place narrow k) disk), length-drop (frame_place narrow k) disk, (sized narrow k).least)
 
-    long : 1024 * i + 1024 ≤ length new
-    long = omega (arith, ap length zeros, length-take 1024 (drop (1024 * i) new), length-drop (1024 * i) new, size)
+  pub gate_of : (disk : List ℕ) (k : ℕ) → get_or (frame_at narrow disk k) 0 0 ≡ get_or disk (frame_place narrow k) 0
+  gate_of disk k =
+      let none : frame_place narrow k + 0 ≡ frame_place narrow k = omega arith in
+      get_or-take (frame_size narrow k) (drop (frame_place narrow k) disk) 0 0 (omega (arith, (sized narrow k).least)) ∙ get_or-drop (frame_place narrow k) disk 0 0 ∙ ap (λ (p : ℕ). get_or disk p 0) none
 
-    shut_at : (k o : ℕ) → 512 * k ≡ 1024 * i + o → o + 512 ≤ 1024 → IsShut (frame_at new k)
-    shut_at k o place inside =
-        let less : o < 1024 = omega arith in
-        let gate : get_or (frame_at new k) 0 0 ≡ 0 =
-        gate_of new k ∙ ap (λ (p : ℕ). get_or new p 0) place ∙ sym (get_or-drop (1024 * i) new o 0) ∙ sym (get_or-take 1024 (drop (1024 * i) new) o 0 less)
-        ∙ ap (λ (l : List ℕ). get_or l o 0) zeros ∙ zero o less in
-        record { size = frame_length new k (omega (arith, long, place)); closed = λ one. let zero_one : 0 ≡ 1 = sym gate ∙ one in absurd (omega arith) }
+  tail_at : (disk : List ℕ) (k n : ℕ) → n + 1 ≡ frame_size narrow k → drop 1 (frame_at narrow disk k) ≡ take n (drop (frame_place narrow k + 1) disk)
+  tail_at disk k n is =
+      let all : 1 + n ≡ frame_size narrow k = omega (arith, is) in
+      ap (λ (m : ℕ). drop 1 (take m (drop (frame_place narrow k) disk))) (sym all)
+      ∙ drop-take 1 n (drop (frame_place narrow k) disk) ∙ ap (λ (l : List ℕ). take n l) (drop-drop 1 (frame_place narrow k) disk)
+
+  behind_gate : (k : ℕ) → (frame_size narrow k - 1) + 1 ≡ frame_size narrow k
+  behind_gate k = omega (arith, (sized narrow k).least)
+
+  pub gate_torn : (k : ℕ) (old c : List ℕ) → length (frame_at narrow old k) ≡ frame_size narrow k → Torn (frame_place narrow k) 1 old c → GateTorn narrow k old c
+  gate_torn k old c whole torn =
+      let within : frame_place narrow k + frame_size narrow k ≤ length old = frame_within old k whole in
+      let least = (sized narrow k).least in
+      let n : ℕ = frame_size narrow k - 1 in
+      record {
+        others = λ j apart. other_frames old c k (frame_place narrow k) 1 j torn (omega arith) (omega (arith, least)) apart;
+        tail = tail_at c k n (behind_gate k) ∙ ap (λ (l : List ℕ). take n l) torn.after ∙ sym (tail_at old k n (behind_gate k));
+        size = frame_length c k (omega (arith, torn.no_shorter, within));
+      }
+
+  pub tail_torn : (k : ℕ) (old c : List ℕ) → length (frame_at narrow old k) ≡ frame_size narrow k → (n : ℕ) → n + 1 ≡ frame_size narrow k → Torn (frame_place narrow k + 1) n old c → TailTorn narrow k old c
+  tail_torn k old c whole n rest torn =
+      let within : frame_place narrow k + frame_size narrow k ≤ length old = frame_within old k whole in
+      let before : frame_place narrow k < frame_place narrow k + 1 = omega arith in
+      record {
+        others = λ j apart. other_frames old c k (frame_place narrow k + 1) n j torn (omega arith) (omega (arith, rest)) apart;
+        gate =
+            gate_of c k
+            ∙ sym (get_or-take (frame_place narrow k + 1) c (frame_place narrow k) 0 before)
+            ∙ ap (λ (l : List ℕ). get_or l (frame_place narrow k) 0) torn.before
+            ∙ get_or-take (frame_place narrow k + 1) old (frame_place narrow k) 0 before
+            ∙ sym (gate_of old k);
+        size = frame_length c k (omega (arith, torn.no_shorter, within));
+      }
+
+  -- a gate was written
+  pub gate_held : (k g : ℕ) (old new : List ℕ) → length (frame_at narrow old k) ≡ frame_size narrow k → Holds old (frame_place narrow k) (g ∷ []) new → frame_at narrow new k ≡ g ∷ drop 1 (frame_at narrow old k)
+  gate_held k g old new whole holds =
+      let within : frame_place narrow k ≤ length old = omega (arith, frame_within old k whole) in
+      let torn = gate_torn k old new whole (holds_torn old new (g ∷ []) (frame_place narrow k) within holds) in
+      let gate : get_or (frame_at narrow new k) 0 0 ≡ g = gate_of new k ∙ head_at new (frame_place narrow k) g (held_bytes old new (g ∷ []) (frame_place narrow k) within holds) in
+      gate_tail (frame_at narrow new k) (omega (arith, torn.size, (sized narrow k).least)) ∙ (λ i. gate i ∷ torn.tail i)
+
+  -- a tail was written
+  pub tail_held : (k : ℕ) (tail old new : List ℕ) → length (frame_at narrow old k) ≡ frame_size narrow k → length tail + 1 ≡ frame_size narrow k → Holds old (frame_place narrow k + 1) tail new → drop 1 (frame_at narrow new k) ≡ tail
+  tail_held k tail old new whole long holds =
+      let within : frame_place narrow k + 1 ≤ length old = omega (arith, frame_within old k whole, (sized narrow k).least) in
+      tail_at new k (length tail) long ∙ held_bytes old new tail (frame_place narrow k + 1) within holds
+
+  -- the frames below a cell stay while the cell is written
+  pub same_below : (i n : ℕ) (old c : List ℕ) → Torn (cell_place narrow i) n old c → SameBelow narrow (2 * i) old c
+  same_below i n old c torn j less = frames_below old c (cell_place narrow i) n j torn (place_below narrow j (2 * i) less)
+
+  -- zeros were written over a cell
+  pub blank_held : (i : ℕ) (old new z : List ℕ) → length z ≡ 2 * half_size narrow i → ((o : ℕ) → o < length z → get_or z o 0 ≡ 0) → cell_place narrow i ≤ length old → Holds old (cell_place narrow i) z new
+      → IsShut (half_size narrow i) (frame_at narrow new (2 * i)) × IsShut (half_size narrow i) (frame_at narrow new (2 * i + 1))
+  blank_held i old new z size zero within holds =
+      (shut_at (2 * i) 0 (omega arith) refl (omega (arith, least)), shut_at (2 * i + 1) (half_size narrow i) (place_second narrow i) (size_second narrow i) (omega (arith, least)))
+    where
+      least : 512 ≤ half_size narrow i
+      least = (sized narrow (2 * i)).least
+
+      zeros : take (length z) (drop (cell_place narrow i) new) ≡ z
+      zeros = held_bytes old new z (cell_place narrow i) within holds
+
+      long : cell_place narrow i + 2 * half_size narrow i ≤ length new
+      long = omega (arith, ap length zeros, length-take (length z) (drop (cell_place narrow i) new), length-drop (cell_place narrow i) new, size, least)
+
+      shut_at : (k o : ℕ) → frame_place narrow k ≡ cell_place narrow i + o → frame_size narrow k ≡ half_size narrow i → o + half_size narrow i ≤ 2 * half_size narrow i → IsShut (half_size narrow i) (frame_at narrow new k)
+      shut_at k o place same inside =
+          let less : o < length z = omega (arith, inside, size, least) in
+          let gate : get_or (frame_at narrow new k) 0 0 ≡ 0 =
+          gate_of new k ∙ ap (λ (p : ℕ). get_or new p 0) place ∙ sym (get_or-drop (cell_place narrow i) new o 0) ∙ sym (get_or-take (length z) (drop (cell_place narrow i) new) o 0 less)
+          ∙ ap (λ (l : List ℕ). get_or l o 0) zeros ∙ zero o less in
+          record { whole = frame_length new k (omega (arith, long, place, same, inside)) ∙ same; closed = λ one. let zero_one : 0 ≡ 1 = sym gate ∙ one in absurd (omega arith) }

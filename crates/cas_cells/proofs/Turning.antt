@@ -10,125 +10,127 @@ use Rattle.cas_cells.specs.Held.{on, tail_of, IsFrame, IsShut, IsOlder, IsBlank,
 use Rattle.cas_cells.specs.declared.cell.Side.{Side}
 use Rattle.cas_cells.specs.declared.cell.Side.TheVariants.{First, Second}
 use Rattle.cas_cells.specs.declared.cell.Cell.{Cell}
-use Rattle.cas_cells.proofs.Frames.{frame_size}
+use Rattle.cas_cells.proofs.Places.{IsSize}
+use Rattle.cas_cells.proofs.Frames.{frame_whole}
 use Rattle.cas_cells.proofs.Sound.{IsSound, sound}
 use Rattle.cas_cells.proofs.Tearing.{gate_tail}
 
-pub weaken : (o : Option (List ℕ)) (P Q : Type 0) (F : List ℕ → Type 0) → (P → Q) → MatchOption o P F → MatchOption o Q F
-weaken None P Q F f here = f here
-weaken (Some p) P Q F f here = here
+module _ (size : ℕ) (fit : IsSize size) where
+  pub weaken : (o : Option (List ℕ)) (P Q : Type 0) (F : List ℕ → Type 0) → (P → Q) → MatchOption o P F → MatchOption o Q F
+  weaken None P Q F f here = f here
+  weaken (Some p) P Q F f here = here
 
--- a cell in memory whose frames stand on the disk is sound
-pub held_sound : (cell : Cell) (current spare : List ℕ) → FramesHeld cell current spare → IsSound (payload_held cell) (on cell.side current spare) (on cell.side spare current)
-held_sound cell current spare held =
-    sound cell.side (payload_held cell) cell.number cell.spare_open current spare
-    (weaken (payload_held cell) (IsBlank cell × IsShut current) ((cell.spare_open ≡ false) × IsShut current) (λ p. IsFrame cell.number p current) (λ blank. (blank.0.spare, blank.1)) held.in_current)
-    held.in_spare
+  -- a cell in memory whose frames stand on the disk is sound
+  pub held_sound : (cell : Cell) (current spare : List ℕ) → FramesHeld size cell current spare → IsSound size (payload_held cell) (on cell.side current spare) (on cell.side spare current)
+  held_sound cell current spare held =
+      sound size fit cell.side (payload_held cell) cell.number cell.spare_open current spare
+      (weaken (payload_held cell) (IsBlank cell × IsShut size current) ((cell.spare_open ≡ false) × IsShut size current) (λ p. IsFrame size cell.number p current) (λ blank. (blank.0.spare, blank.1)) held.in_current)
+      held.in_spare
 
--- a cell in memory whose frames stand on the disk but for the spare, which is closed
-pub held_shut : (cell : Cell) (current spare spare' : List ℕ) → FramesHeld cell current spare → IsShut spare' → IsSound (payload_held cell) (on cell.side current spare') (on cell.side spare' current)
-held_shut cell current spare spare' held shut =
-    sound cell.side (payload_held cell) cell.number false current spare'
-    (weaken (payload_held cell) (IsBlank cell × IsShut current) ((false ≡ false) × IsShut current) (λ p. IsFrame cell.number p current) (λ blank. (refl, blank.1)) held.in_current)
-    shut
+  -- a cell in memory whose frames stand on the disk but for the spare, which is closed
+  pub held_shut : (cell : Cell) (current spare spare' : List ℕ) → FramesHeld size cell current spare → IsShut size spare' → IsSound size (payload_held cell) (on cell.side current spare') (on cell.side spare' current)
+  held_shut cell current spare spare' held shut =
+      sound size fit cell.side (payload_held cell) cell.number false current spare'
+      (weaken (payload_held cell) (IsBlank cell × IsShut size current) ((false ≡ false) × IsShut size current) (λ p. IsFrame size cell.number p current) (λ blank. (refl, blank.1)) held.in_current)
+      shut
 
-pub shut_frame : (f : List ℕ) → length f ≡ 512 → get_or f 0 0 ≢ 1 → IsShut f
-shut_frame f long closed = record { size = long; closed = closed }
+  pub shut_frame : (f : List ℕ) → length f ≡ size → get_or f 0 0 ≢ 1 → IsShut size f
+  shut_frame f long closed = record { whole = long; closed = closed }
 
-in_shut : (o : Bool) (n : ℕ) (spare : List ℕ) → o ≡ false → MatchBool o (IsOlder n spare) (IsShut spare) → IsShut spare
-in_shut true n spare is held = absurd (cc)
-in_shut false n spare is held = held
+  in_shut : (o : Bool) (n : ℕ) (spare : List ℕ) → o ≡ false → MatchBool o (IsOlder size n spare) (IsShut size spare) → IsShut size spare
+  in_shut true n spare is held = absurd (cc)
+  in_shut false n spare is held = held
 
-in_older : (o : Bool) (n : ℕ) (spare : List ℕ) → o ≡ true → MatchBool o (IsOlder n spare) (IsShut spare) → IsOlder n spare
-in_older true n spare is held = held
-in_older false n spare is held = absurd (cc)
+  in_older : (o : Bool) (n : ℕ) (spare : List ℕ) → o ≡ true → MatchBool o (IsOlder size n spare) (IsShut size spare) → IsOlder size n spare
+  in_older true n spare is held = held
+  in_older false n spare is held = absurd (cc)
 
--- the spare of a cell is whole
-pub spare_size : (cell : Cell) (current spare : List ℕ) → FramesHeld cell current spare → length spare ≡ 512
-spare_size cell current spare held = go cell.spare_open refl
-  where
-    go : (o : Bool) → cell.spare_open ≡ o → length spare ≡ 512
-    go false is = (in_shut cell.spare_open cell.number spare is held.in_spare).size
-    go true is = let older = in_older cell.spare_open cell.number spare is held.in_spare in frame_size older.0 older.1 spare older.3
+  -- the spare of a cell is whole
+  pub spare_size : (cell : Cell) (current spare : List ℕ) → FramesHeld size cell current spare → length spare ≡ size
+  spare_size cell current spare held = go cell.spare_open refl
+    where
+      go : (o : Bool) → cell.spare_open ≡ o → length spare ≡ size
+      go false is = (in_shut cell.spare_open cell.number spare is held.in_spare).whole
+      go true is = let older = in_older cell.spare_open cell.number spare is held.in_spare in frame_whole size fit older.0 older.1 spare older.3
 
--- while an open spare is closed, its gate may hold anything
-pub while_closing : (cell : Cell) (current spare spare' : List ℕ) → FramesHeld cell current spare → cell.spare_open ≡ true → drop 1 spare' ≡ drop 1 spare → length spare' ≡ 512
-    → IsSound (payload_held cell) (on cell.side current spare') (on cell.side spare' current)
-while_closing cell current spare spare' held opened tail long = elim (cases_eq (get_or spare' 0 0) 1) [
-  | inl gate ↦
-      let older = in_older cell.spare_open cell.number spare opened held.in_spare in
-      let same : spare' ≡ spare =
-      gate_tail spare' long ∙ (λ i. gate i ∷ tail i) ∙ ap (λ (l : List ℕ). 1 ∷ drop 1 l) older.3.bytes ∙ sym older.3.bytes in
-      subst (λ (f : List ℕ). IsSound (payload_held cell) (on cell.side current f) (on cell.side f current)) (sym same) (held_sound cell current spare held)
-  | inr shut ↦ held_shut cell current spare spare' held (shut_frame spare' long shut)
-]
+  -- while an open spare is closed, its gate may hold anything
+  pub while_closing : (cell : Cell) (current spare spare' : List ℕ) → FramesHeld size cell current spare → cell.spare_open ≡ true → drop 1 spare' ≡ drop 1 spare → length spare' ≡ size
+      → IsSound size (payload_held cell) (on cell.side current spare') (on cell.side spare' current)
+  while_closing cell current spare spare' held opened tail long = elim (cases_eq (get_or spare' 0 0) 1) [
+    | inl gate ↦
+        let older = in_older cell.spare_open cell.number spare opened held.in_spare in
+        let same : spare' ≡ spare =
+        gate_tail spare' (omega (arith, long, fit.least)) ∙ (λ i. gate i ∷ tail i) ∙ ap (λ (l : List ℕ). 1 ∷ drop 1 l) older.3.bytes ∙ sym older.3.bytes in
+        subst (λ (f : List ℕ). IsSound size (payload_held cell) (on cell.side current f) (on cell.side f current)) (sym same) (held_sound cell current spare held)
+    | inr shut ↦ held_shut cell current spare spare' held (shut_frame spare' long shut)
+  ]
 
--- while a closed spare is written, it stays closed
-pub while_writing : (cell : Cell) (current spare spare' : List ℕ) → FramesHeld cell current spare → cell.spare_open ≡ false → get_or spare' 0 0 ≡ get_or spare 0 0 → length spare' ≡ 512 → IsShut spare'
-while_writing cell current spare spare' held closed gate long =
-    let shut = in_shut cell.spare_open cell.number spare closed held.in_spare in
-    shut_frame spare' long (λ opened. shut.closed (sym gate ∙ opened))
+  -- while a closed spare is written, it stays closed
+  pub while_writing : (cell : Cell) (current spare spare' : List ℕ) → FramesHeld size cell current spare → cell.spare_open ≡ false → get_or spare' 0 0 ≡ get_or spare 0 0 → length spare' ≡ size → IsShut size spare'
+  while_writing cell current spare spare' held closed gate long =
+      let shut = in_shut cell.spare_open cell.number spare closed held.in_spare in
+      shut_frame spare' long (λ opened. shut.closed (sym gate ∙ opened))
 
--- with another closed spare the cell in memory still says what stands there
-pub held_with : (cell : Cell) (current spare spare' : List ℕ) → FramesHeld cell current spare → cell.spare_open ≡ false → IsShut spare' → FramesHeld cell current spare'
-held_with cell current spare spare' held closed shut = record {
-  in_current = held.in_current;
-  in_spare = subst (λ (o : Bool). MatchBool o (IsOlder cell.number spare') (IsShut spare')) (sym closed) shut;
-}
+  -- with another closed spare the cell in memory still says what stands there
+  pub held_with : (cell : Cell) (current spare spare' : List ℕ) → FramesHeld size cell current spare → cell.spare_open ≡ false → IsShut size spare' → FramesHeld size cell current spare'
+  held_with cell current spare spare' held closed shut = record {
+    in_current = held.in_current;
+    in_spare = subst (λ (o : Bool). MatchBool o (IsOlder size cell.number spare') (IsShut size spare')) (sym closed) shut;
+  }
 
-next_small : (n : ℕ) → n < 3 → next n < 3
-next_small n small = grind (arith, nat_tests)
+  next_small : (n : ℕ) → n < 3 → next n < 3
+  next_small n small = grind (arith, nat_tests)
 
--- the new frame is open
-staged : (cell : Cell) (p spare' : List ℕ) → IsPayload p → drop 1 spare' ≡ tail_of (next cell.number) p → length spare' ≡ 512 → get_or spare' 0 0 ≡ 1 → IsFrame (next cell.number) p spare'
-staged cell p spare' fits tail long gate = record {
-  bytes = gate_tail spare' long ∙ (λ i. gate i ∷ tail i);
-  small = next_small cell.number cell.small;
-  fits = fits;
-}
+  -- the new frame is open
+  staged : (cell : Cell) (p spare' : List ℕ) → IsPayload size p → drop 1 spare' ≡ tail_of size (next cell.number) p → length spare' ≡ size → get_or spare' 0 0 ≡ 1 → IsFrame size (next cell.number) p spare'
+  staged cell p spare' fits tail long gate = record {
+    bytes = gate_tail spare' (omega (arith, long, fit.least)) ∙ (λ i. gate i ∷ tail i);
+    small = next_small cell.number cell.small;
+    fits = fits;
+  }
 
-older_or_shut : (cell : Cell) (pay : Option (List ℕ)) (n : ℕ) (current : List ℕ) → pay ≡ payload_held cell → MatchOption (payload_held cell) (IsBlank cell × IsShut current) (λ q. IsFrame cell.number q current) → next cell.number ≡ n → MatchBool (is_some pay) (IsOlder n current) (IsShut current)
-older_or_shut cell None n current is held follows =
-    (subst (λ (o : Option (List ℕ)). MatchOption o (IsBlank cell × IsShut current) (λ q. IsFrame cell.number q current)) (sym is) held).1
-older_or_shut cell (Some q) n current is held follows =
-    (cell.number, q, follows, subst (λ (o : Option (List ℕ)). MatchOption o (IsBlank cell × IsShut current) (λ q. IsFrame cell.number q current)) (sym is) held)
+  older_or_shut : (cell : Cell) (pay : Option (List ℕ)) (n : ℕ) (current : List ℕ) → pay ≡ payload_held cell → MatchOption (payload_held cell) (IsBlank cell × IsShut size current) (λ q. IsFrame size cell.number q current) → next cell.number ≡ n → MatchBool (is_some pay) (IsOlder size n current) (IsShut size current)
+  older_or_shut cell None n current is held follows =
+      (subst (λ (o : Option (List ℕ)). MatchOption o (IsBlank cell × IsShut size current) (λ q. IsFrame size cell.number q current)) (sym is) held).1
+  older_or_shut cell (Some q) n current is held follows =
+      (cell.number, q, follows, subst (λ (o : Option (List ℕ)). MatchOption o (IsBlank cell × IsShut size current) (λ q. IsFrame size cell.number q current)) (sym is) held)
 
-turned : (side : Side) (pay : Option (List ℕ)) (f g : List ℕ) → IsSound pay (on (other side) g f) (on (other side) f g) → IsSound pay (on side f g) (on side g f)
-turned First pay f g is = is
-turned Second pay f g is = is
+  turned : (side : Side) (pay : Option (List ℕ)) (f g : List ℕ) → IsSound size pay (on (other side) g f) (on (other side) f g) → IsSound size pay (on side f g) (on side g f)
+  turned First pay f g is = is
+  turned Second pay f g is = is
 
--- while a spare that holds a payload is opened, the cell has its old payload or that one
-pub while_opening : (cell : Cell) (p current spare spare' : List ℕ) → FramesHeld cell current spare → IsPayload p → drop 1 spare ≡ tail_of (next cell.number) p → drop 1 spare' ≡ drop 1 spare → length spare' ≡ 512
-    → IsSound (payload_held cell) (on cell.side current spare') (on cell.side spare' current) ⊎ IsSound (Some p) (on cell.side current spare') (on cell.side spare' current)
-while_opening cell p current spare spare' held fits holds tail long = elim (cases_eq (get_or spare' 0 0) 1) [
-  | inl gate ↦
-      let frame = staged cell p spare' fits (tail ∙ holds) long gate in
-      inr (turned cell.side (Some p) current spare' (sound (other cell.side) (Some p) (next cell.number) (is_some (payload_held cell)) spare' current frame (older_or_shut cell (payload_held cell) (next cell.number) current refl held.in_current refl)))
-  | inr shut ↦ inl (held_shut cell current spare spare' held (shut_frame spare' long shut))
-]
+  -- while a spare that holds a payload is opened, the cell has its old payload or that one
+  pub while_opening : (cell : Cell) (p current spare spare' : List ℕ) → FramesHeld size cell current spare → IsPayload size p → drop 1 spare ≡ tail_of size (next cell.number) p → drop 1 spare' ≡ drop 1 spare → length spare' ≡ size
+      → IsSound size (payload_held cell) (on cell.side current spare') (on cell.side spare' current) ⊎ IsSound size (Some p) (on cell.side current spare') (on cell.side spare' current)
+  while_opening cell p current spare spare' held fits holds tail long = elim (cases_eq (get_or spare' 0 0) 1) [
+    | inl gate ↦
+        let frame = staged cell p spare' fits (tail ∙ holds) long gate in
+        inr (turned cell.side (Some p) current spare' (sound size fit (other cell.side) (Some p) (next cell.number) (is_some (payload_held cell)) spare' current frame (older_or_shut cell (payload_held cell) (next cell.number) current refl held.in_current refl)))
+    | inr shut ↦ inl (held_shut cell current spare spare' held (shut_frame spare' long shut))
+  ]
 
-map_some : (o : Option (Vec ℕ Global)) → is_some (option_map (λ (v : Vec ℕ Global). v.items) o) ≡ is_some o
-map_some None = refl
-map_some (Some v) = refl
+  map_some : (o : Option (Vec ℕ Global)) → is_some (option_map (λ (v : Vec ℕ Global). v.items) o) ≡ is_some o
+  map_some None = refl
+  map_some (Some v) = refl
 
-is_some_map : (cell : Cell) → is_some (payload_held cell) ≡ is_some cell.payload
-is_some_map cell = map_some cell.payload
+  is_some_map : (cell : Cell) → is_some (payload_held cell) ≡ is_some cell.payload
+  is_some_map cell = map_some cell.payload
 
--- once it is open, the cell in memory says so
-pub opened_held : (cell cell' : Cell) (p current spare spare' : List ℕ) → FramesHeld cell current spare → IsPayload p → drop 1 spare ≡ tail_of (next cell.number) p → spare' ≡ 1 ∷ drop 1 spare → length spare ≡ 512 → Opens p cell cell' → FramesHeld cell' spare' current
-opened_held cell cell' p current spare spare' held fits holds is long opens =
-    let frame : IsFrame (next cell.number) p spare' = record { bytes = is ∙ ap (λ (l : List ℕ). 1 ∷ l) holds; small = next_small cell.number cell.small; fits = fits } in
-    record {
-      in_current = subst (λ (o : Option (List ℕ)). MatchOption o (IsBlank cell' × IsShut spare') (λ q. IsFrame cell'.number q spare')) (sym opens.held) (subst (λ (n : ℕ). IsFrame n p spare') (sym opens.number) frame);
-      in_spare = subst (λ (o : Bool). MatchBool o (IsOlder cell'.number current) (IsShut current)) (is_some_map cell ∙ sym opens.spare) (older_or_shut cell (payload_held cell) cell'.number current refl held.in_current (sym opens.number));
-    }
+  -- once it is open, the cell in memory says so
+  pub opened_held : (cell cell' : Cell) (p current spare spare' : List ℕ) → FramesHeld size cell current spare → IsPayload size p → drop 1 spare ≡ tail_of size (next cell.number) p → spare' ≡ 1 ∷ drop 1 spare → length spare ≡ size → Opens p cell cell' → FramesHeld size cell' spare' current
+  opened_held cell cell' p current spare spare' held fits holds is long opens =
+      let frame : IsFrame size (next cell.number) p spare' = record { bytes = is ∙ ap (λ (l : List ℕ). 1 ∷ l) holds; small = next_small cell.number cell.small; fits = fits } in
+      record {
+        in_current = subst (λ (o : Option (List ℕ)). MatchOption o (IsBlank cell' × IsShut size spare') (λ q. IsFrame size cell'.number q spare')) (sym opens.held) (subst (λ (n : ℕ). IsFrame size n p spare') (sym opens.number) frame);
+        in_spare = subst (λ (o : Bool). MatchBool o (IsOlder size cell'.number current) (IsShut size current)) (is_some_map cell ∙ sym opens.spare) (older_or_shut cell (payload_held cell) cell'.number current refl held.in_current (sym opens.number));
+      }
 
--- once it is closed, the cell in memory says so
-pub closed_held : (cell cell' : Cell) (current spare spare' : List ℕ) → FramesHeld cell current spare → IsShut spare' → cell.spare_open ≡ true → Shuts cell cell' → FramesHeld cell' current spare'
-closed_held cell cell' current spare spare' held shut opened closes = record {
-  in_current =
-      subst (λ (o : Option (List ℕ)). MatchOption o (IsBlank cell' × IsShut current) (λ p. IsFrame cell'.number p current)) (sym closes.held)
-      (subst (λ (n : ℕ). MatchOption (payload_held cell) (IsBlank cell' × IsShut current) (λ p. IsFrame n p current)) (sym closes.number)
-      (weaken (payload_held cell) (IsBlank cell × IsShut current) (IsBlank cell' × IsShut current) (λ p. IsFrame cell.number p current) (λ blank. absurd (cc (blank.0.spare, opened))) held.in_current));
-  in_spare = subst (λ (o : Bool). MatchBool o (IsOlder cell'.number spare') (IsShut spare')) (sym closes.spare) shut;
-}
+  -- once it is closed, the cell in memory says so
+  pub closed_held : (cell cell' : Cell) (current spare spare' : List ℕ) → FramesHeld size cell current spare → IsShut size spare' → cell.spare_open ≡ true → Shuts cell cell' → FramesHeld size cell' current spare'
+  closed_held cell cell' current spare spare' held shut opened closes = record {
+    in_current =
+        subst (λ (o : Option (List ℕ)). MatchOption o (IsBlank cell' × IsShut size current) (λ p. IsFrame size cell'.number p current)) (sym closes.held)
+        (subst (λ (n : ℕ). MatchOption (payload_held cell) (IsBlank cell' × IsShut size current) (λ p. IsFrame size n p current)) (sym closes.number)
+        (weaken (payload_held cell) (IsBlank cell × IsShut size current) (IsBlank cell' × IsShut size current) (λ p. IsFrame size cell.number p current) (λ blank. absurd (cc (blank.0.spare, opened))) held.in_current));
+    in_spare = subst (λ (o : Bool). MatchBool o (IsOlder size cell'.number spare') (IsShut size spare')) (sym closes.spare) shut;
+  }

@@ -1,7 +1,7 @@
 -- What a row of cells in memory shows, and what of it stands on its disk.
 use Rattle.std.specs.Prelude.{◌≡◌, ℕ, true, false, List, map, slice_get, Option, Some, None, MatchOption}
 use Rattle.cas_disk.specs.Disk.{Only}
-use Rattle.cas_cells.specs.Format.{IsPayload, count_in, count_told}
+use Rattle.cas_cells.specs.Format.{FitsCell, IsPayload, TellsSame, head_in, narrow_in}
 use Rattle.cas_cells.specs.UnderWay.{change_held, staged_in}
 use Rattle.cas_cells.specs.Held.{payload_held, HoldsTail, OnDisk, IsRow}
 use Rattle.cas_cells.specs.declared.cell.Cell.{Cell}
@@ -26,25 +26,27 @@ change_of cells = change_held cells.change
 abbrev pub staged_of : {D : Type 0} → Cells D → List ℕ
 staged_of cells = staged_in (change_of cells)
 
--- what was written fits a cell, and tells for cell 0 the count that there is
+-- what was written fits its cell, and tells for cell 0 the cells that there are
 abbrev pub Agrees : Option (ℕ × Option (List ℕ)) → List (Option (List ℕ)) → Type 0
 Agrees None cells = Unit {0}
-Agrees (Some change) cells = MatchOption change.1 (Unit {0}) (λ p. IsPayload p × ((change.0 ≡ 0) → count_told p ≡ count_in cells))
+Agrees (Some change) cells = MatchOption change.1 (Unit {0}) (λ p. FitsCell cells change.0 p × ((change.0 ≡ 0) → TellsSame p cells))
 
 -- the payload stands in the spare, if it was kept there
-abbrev pub IsStaged : List ℕ → ℕ → Cell → Step → Type 0
-IsStaged disk i cell Closed = Unit {0}
-IsStaged disk i cell (Written staged) = staged.kept ≡ true → HoldsTail disk i cell staged.payload.items
+abbrev pub IsStaged : ℕ → List ℕ → ℕ → Cell → Step → Type 0
+IsStaged narrow disk i cell Closed = Unit {0}
+IsStaged narrow disk i cell (Written staged) = staged.kept ≡ true → HoldsTail narrow disk i cell staged.payload.items
 
 -- the spare of the cell under change is closed, and what was written stands in it
-abbrev pub IsUnderWay : List ℕ → List Cell → Option Change → Type 0
-IsUnderWay disk cells None = Unit {0}
-IsUnderWay disk cells (Some change) = (cell : Cell) → slice_get cells change.cell ≡ Some cell → (cell.spare_open ≡ false) × IsStaged disk change.cell cell change.step
+abbrev pub IsUnderWay : ℕ → List ℕ → List Cell → Option Change → Type 0
+IsUnderWay narrow disk cells None = Unit {0}
+IsUnderWay narrow disk cells (Some change) = (cell : Cell) → slice_get cells change.cell ≡ Some cell → (cell.spare_open ≡ false) × IsStaged narrow disk change.cell cell change.step
 
 -- the cells are in use: cell 0 tells how many there are, and where the disk tells its content, what the cells show stands on it
 pub record Stands {D : Type 0} (tells : Type 0) (seen : D → List ℕ) (may_leave : D → List ℕ → Type 0) (cells : Cells D) : Type 0 where
   pub row : IsRow (cells_of cells)
+  pub narrow : cells.narrow ≡ narrow_in (cells_of cells)
+  pub head : IsPayload 512 (head_in (cells_of cells))
   pub agrees : Agrees (change_of cells) (cells_of cells)
-  pub on_disk : tells → OnDisk (seen cells.disk) cells.cells.items
-  pub under_way : tells → IsUnderWay (seen cells.disk) cells.cells.items cells.change
+  pub on_disk : tells → OnDisk cells.narrow (seen cells.disk) cells.cells.items
+  pub under_way : tells → IsUnderWay cells.narrow (seen cells.disk) cells.cells.items cells.change
   pub durable : tells → Only (seen cells.disk) (may_leave cells.disk)

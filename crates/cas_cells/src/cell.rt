@@ -18,5 +18,5 @@ pub struct Cell {
     pub number: u8,
     pub spare_open: bool,
     ghost small: { number < 3 },
-    ghost fits: { ForSome payload (λ v. (1 ≤ length v.items) × (length v.items ≤ 508)) },
+    ghost fits: { ForSome payload (λ v. (1 ≤ length v.items) × (length v.items ≤ 4604)) },
 }

@@ -3,7 +3,7 @@ ghost use Rattle.std.specs.Prelude.{◌≡◌, ◌≢◌, ◌<◌, ◌≤◌, �
 ghost use Rattle.std.specs.Option.{option_copied};
 ghost use Rattle.cas_disk.specs.Disk.{ContinuesOnly, Only, Keeps, Elapses};
 ghost use Rattle.cas_cells.specs.Fault.{HasCellCause, IsFaultOfDisk};
-ghost use Rattle.cas_cells.specs.Format.{count_in, count_told, is_head, head_in, with_count, grown, foreign_at, payload_place, IsPayload, StandsFor, IsBeforeOrAfter};
+ghost use Rattle.cas_cells.specs.Format.{narrow_in, narrow_told, wide_in, wide_told, count_in, count_told, is_head, head_in, with_count, grown, foreign_at, cell_place, payload_place, IsPayload, FitsCell, TellsSame, StandsFor, IsBeforeOrAfter};
 ghost use Rattle.cas_cells.specs.Length.{NotLonger};
 ghost use Rattle.cas_cells.specs.Reading.{OnlyRead};
 ghost use Rattle.cas_cells.specs.Held.{payload_held, IsBlank};
@@ -18,8 +18,10 @@ use crate::{CellFault, frame};
 use cas_disk::Disk;
 use std::alloc::{AllocError, Global};
 
-/// A row of cells on a disk, each of which is blank or holds a payload of 1 to 508 bytes, and the change of a cell that is under
-/// way.
+/// A row of cells on a disk, each of which is blank or holds a payload, and the change of a cell that is under way.
+///
+/// Cell 0 is narrow: its payload has 1 to 508 bytes. Behind it stand the narrow cells and then the wide ones that a head in cell 0
+/// tells; a payload of a wide cell has 1 to 4,604 bytes. A head of the old form, which begins with 2, tells narrow cells alone.
 ///
 /// A cell is changed in three steps, `close_spare`, `write_spare` and `open_spare`. Until the third a crash leaves the old
 /// payload, within it the old or the new, and after its `Ok` the new. The cells are formatted or recovered before they are used,
@@ -31,6 +33,7 @@ use std::alloc::{AllocError, Global};
 pub struct Cells<D: Disk> {
     disk: D,
     alloc: Global,
+    narrow: u32,
     cells: Vec<Cell>,
     change: Option<Change>,
 }
@@ -47,6 +50,7 @@ impl<D: Disk> Cells<D> {
         Cells {
             disk,
             alloc,
+            narrow: 0,
             cells: Vec::new(alloc),
             change: None,
         }
@@ -67,21 +71,55 @@ impl<D: Disk> Cells<D> {
     pub fn payload_place(&self, cell: u32) -> Option<u64>
         requires stands { Stands D.tells D.seen D.may_leave self.now }
         requires within { cell ≤ count_in (cells_of self.now) }
-        ensures place { D.tells → result ≡ payload_place (D.seen (disk_of self.now)) cell }
-        ensures small { IfSome result (λ place. place ≤ 1024 * cell + 516) }
+        ensures place { D.tells → result ≡ payload_place (narrow_in (cells_of self.now)) (D.seen (disk_of self.now)) cell }
+        ensures small { IfSome result (λ place. place ≤ 9216 * (cell + 1)) }
     {
         let held = &self.cells[cell as usize];
         if held.payload.is_none() {
             return None;
         }
-        Some(1024 * u64::from(cell) + steps::payload_place(held.side))
+        let start = frame::frame_place(self.narrow, 2 * u64::from(cell));
+        let size = frame::half_size(self.narrow, cell);
+        Some(start + steps::payload_place(size, held.side))
+    }
+
+    /// Where a cell begins on the disk.
+    pub fn place(&self, cell: u32) -> u64
+        requires stands { Stands D.tells D.seen D.may_leave self.now }
+        requires within { cell ≤ count_in (cells_of self.now) }
+        ensures place { result ≡ cell_place (narrow_in (cells_of self.now)) cell }
+        ensures small { result ≤ 9216 * cell }
+    {
+        frame::frame_place(self.narrow, 2 * u64::from(cell))
     }
 
     /// How many cells stand after cell 0: as many as a head in cell 0 tells, and none under any other payload.
     pub fn count(&self) -> u32
         ensures { result ≡ count_in (cells_of self.now) }
     {
-        count_of(&self.cells)
+        self.narrow_count() + self.wide_count()
+    }
+
+    /// How many of the cells after cell 0 are narrow. They stand before the wide ones.
+    pub fn narrow_count(&self) -> u32
+        ensures count { result ≡ narrow_in (cells_of self.now) }
+        ensures small { result ≤ 4096 }
+    {
+        match self.head() {
+            Some(head) => frame::narrow_told(head),
+            None => 0,
+        }
+    }
+
+    /// How many of the cells after cell 0 are wide.
+    pub fn wide_count(&self) -> u32
+        ensures count { result ≡ wide_in (cells_of self.now) }
+        ensures small { result ≤ 4096 }
+    {
+        match self.head() {
+            Some(head) => frame::wide_told(head),
+            None => 0,
+        }
     }
 
     /// Begins a change of a cell anew: closes the spare of the cell. Where it is closed already nothing is written. After
@@ -99,7 +137,7 @@ impl<D: Disk> Cells<D> {
         ensures cause { IsFaultOfDisk result (D.fault_count (disk_of self.old)) (D.fault_count (disk_of self.new)) }
     {
         let held = &mut self.cells[cell as usize];
-        steps::shut_spare(&mut self.disk, held, cell)?;
+        steps::shut_spare(&mut self.disk, held, self.narrow, cell)?;
         self.change = Some(Change {
             cell,
             step: Step::Closed,
@@ -107,14 +145,14 @@ impl<D: Disk> Cells<D> {
         Ok(())
     }
 
-    /// Writes a payload of 1 to 508 bytes into the closed spare of the cell under change. One for cell 0 tells the same count. After
-    /// `NoMemory` all that is seen is as before.
+    /// Writes a payload into the closed spare of the cell under change: of 1 to 508 bytes where the cell is narrow, and of 1 to 4,604
+    /// where it is wide. One for cell 0 tells the same numbers of cells. After `NoMemory` all that is seen is as before.
     pub fn write_spare(&mut self, cell: u32, payload: &[u8]) -> Result<(), CellFault>
         requires stands { Stands D.tells D.seen D.may_leave self.old }
         requires within { cell ≤ count_in (cells_of self.old) }
         requires closed { change_of self.old ≡ Some (cell, None) }
-        requires fits { IsPayload payload.now }
-        requires same_count { (cell ≡ 0) → count_told payload.now ≡ count_in (cells_of self.old) }
+        requires fits { FitsCell (cells_of self.old) cell payload.now }
+        requires same_count { (cell ≡ 0) → TellsSame payload.now (cells_of self.old) }
         ensures written { OnOk result (change_of self.new ≡ Some (cell, Some payload.now)) }
         ensures same { OnErr result (change_of self.new ≡ change_of self.old) }
         ensures cells { cells_of self.new ≡ cells_of self.old }
@@ -125,9 +163,10 @@ impl<D: Disk> Cells<D> {
         ensures cause { IsFaultOfDisk result (D.fault_count (disk_of self.old)) (D.fault_count (disk_of self.new)) }
     {
         let held = &self.cells[cell as usize];
-        let tail = frame::tail_of(self.alloc, frame::next(held.number), payload)?;
+        let size = frame::half_size(self.narrow, cell);
+        let tail = frame::tail_of(self.alloc, size, frame::next(held.number), payload)?;
         let payload = payload.to_vec(self.alloc)?;
-        steps::write_spare(&mut self.disk, held, cell, &tail)?;
+        steps::write_spare(&mut self.disk, held, self.narrow, cell, &tail)?;
         let step = Step::Written(Staged {
             payload,
             kept: true,
@@ -158,6 +197,7 @@ impl<D: Disk> Cells<D> {
             &mut self.disk,
             self.alloc,
             held,
+            self.narrow,
             cell,
             &staged.payload,
             &mut staged.kept,
@@ -171,12 +211,12 @@ impl<D: Disk> Cells<D> {
         Ok(())
     }
 
-    /// Appends a blank cell and raises the count that the head in cell 0 tells by one. No change is then under way. After `NoMemory`
-    /// all that is seen is as before.
+    /// Appends a blank wide cell and raises the number of wide cells that the head in cell 0 tells by one. No change is then under way.
+    /// After `NoMemory` all that is seen is as before.
     pub fn grow(&mut self) -> Result<(), CellFault>
         requires stands { Stands D.tells D.seen D.may_leave self.old }
         requires head { IsTrue (is_head (head_in (cells_of self.old))) }
-        requires room { count_in (cells_of self.old) < 4096 }
+        requires room { wide_in (cells_of self.old) < 4096 }
         ensures grown { OnOk result (cells_of self.new ≡ grown (cells_of self.old)) }
         ensures done { OnOk result (change_of self.new ≡ None) }
         ensures same { OnErr result (change_of self.new ≡ change_of self.old) }
@@ -184,15 +224,16 @@ impl<D: Disk> Cells<D> {
         ensures stands { OnOk result (Stands D.tells D.seen D.may_leave self.new) }
         ensures after_no_memory { IsErrOf result CellFault.NoMemory → Stands D.tells D.seen D.may_leave self.new }
         ensures any_moment { D.tells → ContinuesOnly D.moment D.left_since (disk_of self.old) (disk_of self.new) (IsBeforeOrAfter (cells_of self.old) (grown (cells_of self.old))) }
-        ensures length { D.tells → NotLonger D.moment D.left_since D.may_leave (disk_of self.old) (disk_of self.new) (1024 * (count_in (cells_of self.old) + 2)) }
+        ensures length { D.tells → NotLonger D.moment D.left_since D.may_leave (disk_of self.old) (disk_of self.new) (1024 * (narrow_in (cells_of self.old) + 1) + 9216 * (wide_in (cells_of self.old) + 1)) }
         ensures cause { IsFaultOfDisk result (D.fault_count (disk_of self.old)) (D.fault_count (disk_of self.new)) }
     {
-        let count = count_of(&self.cells) + 1;
-        let head = head_with(self.alloc, &self.cells, count)?;
+        let behind = self.count() + 1;
+        let head = self.head_with(self.wide_count() + 1)?;
         self.cells.reserve(1)?;
-        write_blank(&mut self.disk, count)?;
+        write_blank(&mut self.disk, self.narrow, behind)?;
         write_over(&mut self.change, 0);
-        steps::change_cell(&mut self.disk, self.alloc, &mut self.cells[0], 0, head)?;
+        let first = &mut self.cells[0];
+        steps::change_cell(&mut self.disk, self.alloc, first, self.narrow, 0, head)?;
         push_blank(&mut self.cells);
         self.change = None;
         Ok(())
@@ -213,7 +254,8 @@ impl<D: Disk> Cells<D> {
         ensures length { D.tells → NotLonger D.moment D.left_since D.may_leave (disk_of self.old) (disk_of self.new) 0 }
         ensures cause { HasCellCause result (D.fault_count (disk_of self.old)) (D.fault_count (disk_of self.new)) }
     {
-        let cells = read_row(&mut self.disk, self.alloc)?;
+        let (narrow, cells) = read_row(&mut self.disk, self.alloc)?;
+        self.narrow = narrow;
         self.cells = cells;
         self.change = None;
         Ok(())
@@ -222,7 +264,7 @@ impl<D: Disk> Cells<D> {
     /// Makes cell 0 the only cell, with this payload of 1 to 508 bytes; one that is a head tells no cells. No change is then under
     /// way. After an `Err` what is seen is as before, but the disk may no longer hold it: format or recover again.
     pub fn format(&mut self, payload: &[u8]) -> Result<(), CellFault>
-        requires fits { IsPayload payload.now }
+        requires fits { IsPayload 512 payload.now }
         requires no_cells { count_told payload.now ≡ 0 }
         ensures formatted { OnOk result (cells_of self.new ≡ Some payload.now ∷ []) }
         ensures done { OnOk result (change_of self.new ≡ None) }
@@ -235,9 +277,10 @@ impl<D: Disk> Cells<D> {
         let payload = payload.to_vec(self.alloc)?;
         let mut cells = Vec::with_capacity(self.alloc, 1)?;
         let mut cell = blank();
-        write_blank(&mut self.disk, 0)?;
-        steps::change_cell(&mut self.disk, self.alloc, &mut cell, 0, payload)?;
+        write_blank(&mut self.disk, 0, 0)?;
+        steps::change_cell(&mut self.disk, self.alloc, &mut cell, 0, 0, payload)?;
         push_cell(&mut cells, cell);
+        self.narrow = 0;
         self.cells = cells;
         self.change = None;
         Ok(())
@@ -268,6 +311,30 @@ impl<D: Disk> Cells<D> {
         self.disk.forget_past();
     }
 
+    // The payload of cell 0, if there is one.
+    fn head(&self) -> Option<&[u8]>
+        ensures none { option_copied result ≡ None → (narrow_in (cells_of self.now) ≡ 0) × (wide_in (cells_of self.now) ≡ 0) × (head_in (cells_of self.now) ≡ []) }
+        ensures some { (head : List ℕ) → option_copied result ≡ Some head → (narrow_in (cells_of self.now) ≡ narrow_told head) × (wide_in (cells_of self.now) ≡ wide_told head) × (head_in (cells_of self.now) ≡ head) }
+    {
+        let first = self.cells.first()?;
+        let payload = first.payload.as_ref()?;
+        Some(payload.as_slice())
+    }
+
+    // The head in cell 0, telling this number of wide cells.
+    fn head_with(&self, count: u32) -> Result<Vec<u8>, AllocError>
+        requires head { IsTrue (is_head (head_in (cells_of self.now))) }
+        requires fits { IsPayload 512 (head_in (cells_of self.now)) }
+        requires small { count ≤ 4096 }
+        ensures head { IfOk result (λ head. head.items ≡ with_count (head_in (cells_of self.now)) count) }
+        ensures fits { IfOk result (λ head. IsPayload 512 head.items) }
+    {
+        match self.head() {
+            Some(head) => frame::with_count(self.alloc, head, count),
+            None => unreachable!(),
+        }
+    }
+
     /// How often the disk has failed.
     pub fn faults(&self) -> u64
         ensures { result ≡ D.fault_count (disk_of self.now) }
@@ -280,39 +347,6 @@ impl<D: Disk> Cells<D> {
         ensures { result ≡ disk_of self }
     {
         self.disk
-    }
-}
-
-/// How many cells stand after cell 0.
-fn count_of(cells: &[Cell]) -> u32
-    ensures { result ≡ count_in (map payload_held cells.now) }
-{
-    match cells.first() {
-        Some(
-            Cell {
-                payload: Some(payload),
-                ..
-            },
-        ) => frame::count_told(payload),
-        _ => 0,
-    }
-}
-
-/// The head in cell 0, telling this count.
-fn head_with(alloc: Global, cells: &[Cell], count: u32) -> Result<Vec<u8>, AllocError>
-    requires head { IsTrue (is_head (head_in (map payload_held cells.now))) }
-    requires small { count ≤ 4096 }
-    ensures head { IfOk result (λ head. head.items ≡ with_count (head_in (map payload_held cells.now)) count) }
-    ensures fits { IfOk result (λ head. IsPayload head.items) }
-{
-    match cells.first() {
-        Some(
-            Cell {
-                payload: Some(payload),
-                ..
-            },
-        ) => frame::with_count(alloc, payload, count),
-        _ => unreachable!(),
     }
 }
 

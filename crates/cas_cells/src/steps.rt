@@ -1,20 +1,21 @@
 //! The three steps of a change of one cell, on the disk and in memory.
-ghost use Rattle.std.specs.Prelude.{◌≡◌, ◌<◌, ◌≤◌, true, false, length, drop, OnOk, OnErr, IsErrOf, is_some, Some, None};
+ghost use Rattle.std.specs.Prelude.{◌≡◌, ◌<◌, ◌≤◌, ◌+◌, ◌^◌, true, false, length, drop, OnOk, OnErr, IsErrOf, is_some, Some, None};
 ghost use Rattle.cas_disk.specs.Disk.{Only, Keeps, ContinuesOnly, HasCause};
 ghost use Rattle.cas_disk.specs.declared.disk.DiskFault.TheVariants.{NoMemory};
-ghost use Rattle.cas_cells.specs.Format.{frame_at, next, IsPayload};
+ghost use Rattle.cas_cells.specs.Format.{frame_at, half_size, next, IsPayload};
 ghost use Rattle.cas_cells.specs.Torn.{Others};
 ghost use Rattle.cas_cells.specs.Held.{frame_of, place_on, other, payload_held, IsBlank, CellHeld, HoldsTail, Shuts, Opens, Leaves, MayOpen, Still};
 
 use crate::cell::{Cell, Side};
-use crate::frame::{next, tail_of};
+use crate::frame::{half_size, next, tail_of};
 use crate::settled::{write_gate, write_tail};
 use cas_disk::{Disk, DiskFault};
 use std::alloc::Global;
 
 /// The number of the spare frame of a cell.
 pub fn spare_frame(cell: &Cell, index: u32) -> u64
-    ensures { result ≡ frame_of index (other cell.now.side) }
+    ensures frame { result ≡ frame_of index (other cell.now.side) }
+    ensures small { result < 2 ^ 34 }
 {
     match cell.side {
         Side::First => 2 * u64::from(index) + 1,
@@ -23,35 +24,40 @@ pub fn spare_frame(cell: &Cell, index: u32) -> u64
 }
 
 /// Where the payload of a frame on this side begins in its cell.
-pub fn payload_place(side: Side) -> u64
-    ensures { result ≡ place_on side }
+pub fn payload_place(size: usize, side: Side) -> u64
+    requires { size ≤ 4608 }
+    ensures { result ≡ place_on size side }
 {
     match side {
         Side::First => 4,
-        Side::Second => 516,
+        Side::Second => size as u64 + 4,
     }
 }
 
 /// Closes the spare of a cell where it is open. Where it is closed nothing is written: a closed gate that is written again could
 /// open over torn bytes.
-pub fn shut_spare<D: Disk>(disk: &mut D, cell: &mut Cell, index: u32) -> Result<(), DiskFault>
-    requires small { index ≤ 4097 }
-    requires held { D.tells → CellHeld (D.seen disk.old) index cell.old }
+pub fn shut_spare<D: Disk>(
+    disk: &mut D,
+    cell: &mut Cell,
+    narrow: u32,
+    index: u32,
+) -> Result<(), DiskFault>
+    requires held { D.tells → CellHeld narrow (D.seen disk.old) index cell.old }
     requires durable { D.tells → Only (D.seen disk.old) (D.may_leave disk.old) }
     ensures shut { OnOk result (Shuts cell.old cell.new) }
     ensures same { OnErr result (cell.new ≡ cell.old) }
-    ensures held { D.tells → OnOk result (CellHeld (D.seen disk.new) index cell.new) }
-    ensures others { D.tells → OnOk result (Others (frame_of index (other cell.old.side)) (D.seen disk.old) (D.seen disk.new)) }
-    ensures tail { D.tells → OnOk result (drop 1 (frame_at (D.seen disk.new) (frame_of index (other cell.old.side))) ≡ drop 1 (frame_at (D.seen disk.old) (frame_of index (other cell.old.side)))) }
+    ensures held { D.tells → OnOk result (CellHeld narrow (D.seen disk.new) index cell.new) }
+    ensures others { D.tells → OnOk result (Others narrow (frame_of index (other cell.old.side)) (D.seen disk.old) (D.seen disk.new)) }
+    ensures tail { D.tells → OnOk result (drop 1 (frame_at narrow (D.seen disk.new) (frame_of index (other cell.old.side))) ≡ drop 1 (frame_at narrow (D.seen disk.old) (frame_of index (other cell.old.side)))) }
     ensures durable { D.tells → OnOk result (Only (D.seen disk.new) (D.may_leave disk.new)) }
-    ensures any_moment { D.tells → ContinuesOnly D.moment D.left_since disk.old disk.new (Leaves (frame_of index (other cell.old.side)) (D.seen disk.old) index (payload_held cell.old)) }
+    ensures any_moment { D.tells → ContinuesOnly D.moment D.left_since disk.old disk.new (Leaves narrow (frame_of index (other cell.old.side)) (D.seen disk.old) index (payload_held cell.old)) }
     ensures unchanged { D.tells → IsErrOf result NoMemory → Keeps (D.seen disk.old) (D.seen disk.new) (D.may_leave disk.old) (D.may_leave disk.new) }
     ensures cause { HasCause result (D.fault_count disk.old) (D.fault_count disk.new) }
 {
     if !cell.spare_open {
         return Ok(());
     }
-    write_gate(disk, spare_frame(cell, index), 0)?;
+    write_gate(disk, narrow, spare_frame(cell, index), 0)?;
     cell.spare_open = false;
     Ok(())
 }
@@ -60,23 +66,23 @@ pub fn shut_spare<D: Disk>(disk: &mut D, cell: &mut Cell, index: u32) -> Result<
 pub fn write_spare<D: Disk>(
     disk: &mut D,
     cell: &Cell,
+    narrow: u32,
     index: u32,
     tail: &[u8],
 ) -> Result<(), DiskFault>
-    requires small { index ≤ 4097 }
-    requires size { length tail.now ≡ 511 }
-    requires held { D.tells → CellHeld (D.seen disk.old) index cell.now }
+    requires size { length tail.now + 1 ≡ half_size narrow index }
+    requires held { D.tells → CellHeld narrow (D.seen disk.old) index cell.now }
     requires shut { D.tells → cell.now.spare_open ≡ false }
     requires durable { D.tells → Only (D.seen disk.old) (D.may_leave disk.old) }
-    ensures held { D.tells → OnOk result (CellHeld (D.seen disk.new) index cell.now) }
-    ensures others { D.tells → OnOk result (Others (frame_of index (other cell.now.side)) (D.seen disk.old) (D.seen disk.new)) }
-    ensures tail { D.tells → OnOk result (drop 1 (frame_at (D.seen disk.new) (frame_of index (other cell.now.side))) ≡ tail.now) }
+    ensures held { D.tells → OnOk result (CellHeld narrow (D.seen disk.new) index cell.now) }
+    ensures others { D.tells → OnOk result (Others narrow (frame_of index (other cell.now.side)) (D.seen disk.old) (D.seen disk.new)) }
+    ensures tail { D.tells → OnOk result (drop 1 (frame_at narrow (D.seen disk.new) (frame_of index (other cell.now.side))) ≡ tail.now) }
     ensures durable { D.tells → OnOk result (Only (D.seen disk.new) (D.may_leave disk.new)) }
-    ensures any_moment { D.tells → ContinuesOnly D.moment D.left_since disk.old disk.new (Leaves (frame_of index (other cell.now.side)) (D.seen disk.old) index (payload_held cell.now)) }
+    ensures any_moment { D.tells → ContinuesOnly D.moment D.left_since disk.old disk.new (Leaves narrow (frame_of index (other cell.now.side)) (D.seen disk.old) index (payload_held cell.now)) }
     ensures unchanged { D.tells → IsErrOf result NoMemory → Keeps (D.seen disk.old) (D.seen disk.new) (D.may_leave disk.old) (D.may_leave disk.new) }
     ensures cause { HasCause result (D.fault_count disk.old) (D.fault_count disk.new) }
 {
-    write_tail(disk, spare_frame(cell, index), tail)
+    write_tail(disk, narrow, spare_frame(cell, index), tail)
 }
 
 /// Writes a payload into the closed spare of a cell again, where it was not kept there.
@@ -84,21 +90,21 @@ pub fn keep_staged<D: Disk>(
     disk: &mut D,
     alloc: Global,
     cell: &Cell,
+    narrow: u32,
     index: u32,
     payload: &[u8],
     kept: &mut bool,
 ) -> Result<(), DiskFault>
-    requires small { index ≤ 4097 }
-    requires fits { IsPayload payload.now }
-    requires held { D.tells → CellHeld (D.seen disk.old) index cell.now }
+    requires fits { IsPayload (half_size narrow index) payload.now }
+    requires held { D.tells → CellHeld narrow (D.seen disk.old) index cell.now }
     requires shut { D.tells → cell.now.spare_open ≡ false }
-    requires staged { D.tells → kept.old ≡ true → HoldsTail (D.seen disk.old) index cell.now payload.now }
+    requires staged { D.tells → kept.old ≡ true → HoldsTail narrow (D.seen disk.old) index cell.now payload.now }
     requires durable { D.tells → Only (D.seen disk.old) (D.may_leave disk.old) }
-    ensures held { D.tells → OnOk result (CellHeld (D.seen disk.new) index cell.now) }
-    ensures others { D.tells → OnOk result (Others (frame_of index (other cell.now.side)) (D.seen disk.old) (D.seen disk.new)) }
-    ensures staged { D.tells → OnOk result (HoldsTail (D.seen disk.new) index cell.now payload.now) }
+    ensures held { D.tells → OnOk result (CellHeld narrow (D.seen disk.new) index cell.now) }
+    ensures others { D.tells → OnOk result (Others narrow (frame_of index (other cell.now.side)) (D.seen disk.old) (D.seen disk.new)) }
+    ensures staged { D.tells → OnOk result (HoldsTail narrow (D.seen disk.new) index cell.now payload.now) }
     ensures durable { D.tells → OnOk result (Only (D.seen disk.new) (D.may_leave disk.new)) }
-    ensures any_moment { D.tells → ContinuesOnly D.moment D.left_since disk.old disk.new (Leaves (frame_of index (other cell.now.side)) (D.seen disk.old) index (payload_held cell.now)) }
+    ensures any_moment { D.tells → ContinuesOnly D.moment D.left_since disk.old disk.new (Leaves narrow (frame_of index (other cell.now.side)) (D.seen disk.old) index (payload_held cell.now)) }
     ensures unchanged { D.tells → IsErrOf result NoMemory → Keeps (D.seen disk.old) (D.seen disk.new) (D.may_leave disk.old) (D.may_leave disk.new) }
     ensures kept { OnErr result (kept.new ≡ kept.old) }
     ensures cause { HasCause result (D.fault_count disk.old) (D.fault_count disk.new) }
@@ -106,8 +112,8 @@ pub fn keep_staged<D: Disk>(
     if *kept {
         return Ok(());
     }
-    let tail = tail_of(alloc, next(cell.number), payload)?;
-    write_spare(disk, cell, index, &tail)?;
+    let tail = tail_of(alloc, half_size(narrow, index), next(cell.number), payload)?;
+    write_spare(disk, cell, narrow, index, &tail)?;
     *kept = true;
     Ok(())
 }
@@ -117,26 +123,26 @@ pub fn open_spare<D: Disk>(
     disk: &mut D,
     alloc: Global,
     cell: &Cell,
+    narrow: u32,
     index: u32,
     payload: &[u8],
     kept: &mut bool,
 ) -> Result<(), DiskFault>
-    requires small { index ≤ 4097 }
-    requires fits { IsPayload payload.now }
-    requires held { D.tells → CellHeld (D.seen disk.old) index cell.now }
+    requires fits { IsPayload (half_size narrow index) payload.now }
+    requires held { D.tells → CellHeld narrow (D.seen disk.old) index cell.now }
     requires shut { D.tells → cell.now.spare_open ≡ false }
-    requires staged { D.tells → kept.old ≡ true → HoldsTail (D.seen disk.old) index cell.now payload.now }
+    requires staged { D.tells → kept.old ≡ true → HoldsTail narrow (D.seen disk.old) index cell.now payload.now }
     requires durable { D.tells → Only (D.seen disk.old) (D.may_leave disk.old) }
-    ensures opened { D.tells → OnOk result ((after : Cell) → Opens payload.now cell.now after → CellHeld (D.seen disk.new) index after) }
-    ensures others { D.tells → OnOk result (Others (frame_of index (other cell.now.side)) (D.seen disk.old) (D.seen disk.new)) }
+    ensures opened { D.tells → OnOk result ((after : Cell) → Opens payload.now cell.now after → CellHeld narrow (D.seen disk.new) index after) }
+    ensures others { D.tells → OnOk result (Others narrow (frame_of index (other cell.now.side)) (D.seen disk.old) (D.seen disk.new)) }
     ensures durable { D.tells → OnOk result (Only (D.seen disk.new) (D.may_leave disk.new)) }
-    ensures any_moment { D.tells → ContinuesOnly D.moment D.left_since disk.old disk.new (MayOpen (frame_of index (other cell.now.side)) (D.seen disk.old) index (payload_held cell.now) payload.now) }
-    ensures still { D.tells → IsErrOf result NoMemory → Still (D.seen disk.old) (D.seen disk.new) (D.may_leave disk.new) index cell.now cell.now }
-    ensures staged { D.tells → IsErrOf result NoMemory → kept.new ≡ true → HoldsTail (D.seen disk.new) index cell.now payload.now }
+    ensures any_moment { D.tells → ContinuesOnly D.moment D.left_since disk.old disk.new (MayOpen narrow (frame_of index (other cell.now.side)) (D.seen disk.old) index (payload_held cell.now) payload.now) }
+    ensures still { D.tells → IsErrOf result NoMemory → Still narrow (D.seen disk.old) (D.seen disk.new) (D.may_leave disk.new) index cell.now cell.now }
+    ensures staged { D.tells → IsErrOf result NoMemory → kept.new ≡ true → HoldsTail narrow (D.seen disk.new) index cell.now payload.now }
     ensures cause { HasCause result (D.fault_count disk.old) (D.fault_count disk.new) }
 {
-    keep_staged(disk, alloc, cell, index, payload, kept)?;
-    write_gate(disk, spare_frame(cell, index), 1)
+    keep_staged(disk, alloc, cell, narrow, index, payload, kept)?;
+    write_gate(disk, narrow, spare_frame(cell, index), 1)
 }
 
 /// Changes a cell by the three steps. After `NoMemory` it holds its old payload.
@@ -144,34 +150,34 @@ pub fn change_cell<D: Disk>(
     disk: &mut D,
     alloc: Global,
     cell: &mut Cell,
+    narrow: u32,
     index: u32,
     payload: Vec<u8>,
 ) -> Result<(), DiskFault>
-    requires small { index ≤ 4097 }
-    requires fits { IsPayload payload.items }
-    requires held { D.tells → CellHeld (D.seen disk.old) index cell.old }
+    requires fits { IsPayload (half_size narrow index) payload.items }
+    requires held { D.tells → CellHeld narrow (D.seen disk.old) index cell.old }
     requires durable { D.tells → Only (D.seen disk.old) (D.may_leave disk.old) }
     ensures changed { OnOk result (payload_held cell.new ≡ Some payload.items) }
-    ensures held { D.tells → OnOk result (CellHeld (D.seen disk.new) index cell.new) }
-    ensures others { D.tells → OnOk result (Others (frame_of index (other cell.old.side)) (D.seen disk.old) (D.seen disk.new)) }
+    ensures held { D.tells → OnOk result (CellHeld narrow (D.seen disk.new) index cell.new) }
+    ensures others { D.tells → OnOk result (Others narrow (frame_of index (other cell.old.side)) (D.seen disk.old) (D.seen disk.new)) }
     ensures durable { D.tells → OnOk result (Only (D.seen disk.new) (D.may_leave disk.new)) }
-    ensures any_moment { D.tells → ContinuesOnly D.moment D.left_since disk.old disk.new (MayOpen (frame_of index (other cell.old.side)) (D.seen disk.old) index (payload_held cell.old) payload.items) }
+    ensures any_moment { D.tells → ContinuesOnly D.moment D.left_since disk.old disk.new (MayOpen narrow (frame_of index (other cell.old.side)) (D.seen disk.old) index (payload_held cell.old) payload.items) }
     ensures same { OnErr result (payload_held cell.new ≡ payload_held cell.old) }
     ensures shut { OnErr result (cell.old.spare_open ≡ false → cell.new.spare_open ≡ false) }
-    ensures still { D.tells → IsErrOf result NoMemory → Still (D.seen disk.old) (D.seen disk.new) (D.may_leave disk.new) index cell.old cell.new }
+    ensures still { D.tells → IsErrOf result NoMemory → Still narrow (D.seen disk.old) (D.seen disk.new) (D.may_leave disk.new) index cell.old cell.new }
     ensures cause { HasCause result (D.fault_count disk.old) (D.fault_count disk.new) }
 {
-    let tail = tail_of(alloc, next(cell.number), &payload)?;
-    shut_spare(disk, cell, index)?;
-    write_spare(disk, cell, index, &tail)?;
-    write_gate(disk, spare_frame(cell, index), 1)?;
+    let tail = tail_of(alloc, half_size(narrow, index), next(cell.number), &payload)?;
+    shut_spare(disk, cell, narrow, index)?;
+    write_spare(disk, cell, narrow, index, &tail)?;
+    write_gate(disk, narrow, spare_frame(cell, index), 1)?;
     turn(cell, payload);
     Ok(())
 }
 
 /// Makes the spare of a cell current, with this payload.
 pub fn turn(cell: &mut Cell, payload: Vec<u8>)
-    requires { IsPayload payload.items }
+    requires { IsPayload 4608 payload.items }
     ensures { Opens payload.items cell.old cell.new }
 {
     let spare_open = cell.payload.is_some();

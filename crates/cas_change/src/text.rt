@@ -9,7 +9,7 @@ use std::alloc::{AllocError, Global};
 use std::marker::Model;
 
 /// How many bytes a text has at most.
-pub const LONGEST_TEXT: usize = 200;
+pub const LONGEST_TEXT: usize = 4_000;
 
 /// Why bytes are no text, or became none.
 #[derive(Clone, Copy, Debug, PartialEq, Eq)]
@@ -31,7 +31,7 @@ impl From<AllocError> for TextFault {
     }
 }
 
-/// A text: at most 200 bytes, whichever they are. It need not be UTF-8, and it may be empty.
+/// A text: at most 4,000 bytes, whichever they are. It need not be UTF-8, and it may be empty.
 ///
 /// Contracts see a text as its bytes.
 #[derive(Debug, Drop)]
@@ -53,7 +53,7 @@ impl Model for Text {
 impl Text {
     /// The text with these bytes.
     ///
-    /// [`TextFault::TooLong`] comes exactly for more than 200 bytes, and [`TextFault::NoMemory`] may come for fewer.
+    /// [`TextFault::TooLong`] comes exactly for more than 4,000 bytes, and [`TextFault::NoMemory`] may come for fewer.
     pub fn read(alloc: Global, bytes: &[u8]) -> Result<Text, TextFault>
         ensures text { IfOk result (λ text. (text ≡ bytes.now) × IsText bytes.now) }
         ensures too_long { IsErrOf result TextFault.TooLong ↔ (LONGEST_TEXT < length bytes.now) }

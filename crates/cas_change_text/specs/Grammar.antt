@@ -19,7 +19,7 @@ use Rattle.cas_change_text.specs.Words.{Word}
 abbrev pub IsPair : List Word → Word → (Word → Type 0) → Type 0
 IsPair words name P = (word : Word) × (words ≡ name ∷ word ∷ []) × P word
 
--- the word spells this text, which has at most 200 bytes
+-- the word spells this text, which has at most 4,000 bytes
 abbrev pub IsTextWord : List ℕ → Word → Type 0
 IsTextWord bytes word = Spells word bytes × IsText bytes
 

@@ -12,7 +12,7 @@ use Rattle.cas_change.specs.declared.state.Body.TheVariants.{Number, Text}
 use Rattle.cas_change.specs.declared.state.State.{State}
 use Rattle.cas_change.specs.declared.state.State.TheVariants.{Empty, Held}
 
--- at most 200 bytes
+-- at most 4,000 bytes
 abbrev pub TextFits : List ℕ → Type 0
 TextFits bytes = IsText bytes × All (λ byte. byte < 256) bytes
 

@@ -1,7 +1,7 @@
 -- How many cells the memory counts after a cell was freed or taken, and after a key was added or removed.
 use Rattle.std.specs.Prelude.{not, is_some, if◌then◌else◌}
 use Rattle.std.specs.Result.{is_ok, OnOk, IfOk}
-use Rattle.std.proofs.Common.{◌≡◌, ℕ, ◌+◌, Bool, true, false, Option, Some, None, Result, Ok, Err, sym, ap, ◌∙◌, arith}
+use Rattle.std.proofs.Common.{◌≡◌, ℕ, zero, suc, ◌+◌, ◌<◌, Bool, true, false, Option, Some, None, Result, Ok, Err, refl, sym, ap, ◌∙◌, arith}
 
 -- one more, if it is new
 pub one_more : (old new : ℕ) (was new_one : Bool) → was ≡ false → new_one ≡ not was → new ≡ old + (if new_one then 1 else 0) → new ≡ old + 1
@@ -32,3 +32,8 @@ on_ok (Err e) P is p = absurd cc
 pub index_more : {X E : Type 0} (r : Result (Option X) E) (old new : ℕ) (was : Option X) → true ≡ is_ok r → IfOk r (λ x. x ≡ was) → was ≡ None → IfOk r (λ x. new ≡ old + (if is_some x then 0 else 1)) → new ≡ old + 1
 index_more (Ok x) old new was is told none count = one_key_more old new x (told ∙ none) count
 index_more (Err e) old new was is told none count = absurd cc
+
+-- none, if some would be a contradiction
+pub none_of : (n : ℕ) → (0 < n → false ≡ true) → n ≡ 0
+none_of zero f = refl
+none_of (suc n) f = absurd (let both : false ≡ true = f (omega arith) in cc)

@@ -1,11 +1,13 @@
 -- What a cell spells, and that it is read as it was written.
-use Rattle.std.specs.Prelude.{IfSome, ◌-◌, nat_eq, if◌then◌else◌, ◌<◌, ◌≤◌}
+use Rattle.std.specs.Prelude.{IfSome, ◌+◌, ◌-◌, nat_eq, if◌then◌else◌, ◌<◌, ◌≤◌}
 use Rattle.std.proofs.Common.{◌≡◌, ℕ, zero, suc, Bool, true, false, List, [], ◌∷◌, ◌++◌, length, take, drop, Option, Some, None, Result, Ok, Err, refl, sym, ap, ◌∙◌, arith}
 use Rattle.std.specs.Int.{w16, w32, to_be_bytes}
-use Rattle.std.proofs.lemmas.Bool.{eq-eqb}
+use Rattle.std.proofs.lemmas.Bool.{eq-eqb, eqb-true}
 use Rattle.std.proofs.Math.Dec.{eqb-suc-zero}
 use Rattle.std.proofs.lemmas.List.{append-nil, take_all, length-append, length-drop}
+use Rattle.cas_base.proofs.Bytes.{IsBytes}
 use Rattle.cas_ballot.specs.declared.ballot.Ballot.{Ballot}
+use Rattle.cas_cells.specs.Format.{IsPayload}
 use Rattle.cas_change.specs.Key.{IsKey}
 use Rattle.cas_change.specs.declared.state.State.{State}
 use Rattle.cas_change.specs.declared.state.State.TheVariants.{Empty, Held}
@@ -14,7 +16,7 @@ use Rattle.cas_slot.specs.declared.slot.Accepted.{Accepted}
 use Rattle.cas_slot.specs.declared.slot.Slot.{Slot}
 use Rattle.cas_wire.specs.Reading.{Reading, ◌>>=◌, key_at, ballot_at, accepted_at, optional_at}
 use Rattle.cas_wire.specs.Spelling.{key_spelling, ballot_spelling, state_spelling, accepted_spelling, optional_spelling, FitsState, FitsAccepted}
-use Rattle.cas_wire.proofs.Formats.{pair_format, made_format}
+use Rattle.cas_wire.proofs.Formats.{IsFormat, pair_format, made_format, optional_format}
 use Rattle.cas_wire.proofs.PartFormats.{key_format, ballot_format, accepted_or_none_format}
 use Rattle.cas_disk_shelf.specs.Cell.{Entry, entry_spelling, cell_spelling, FitsSlot, entry_of, entry_at, whole, entry_in}
 
@@ -54,25 +56,58 @@ length-ballot : (ballot : Ballot) → length (ballot_spelling ballot) ≡ 9
 unfolding ballot_spelling
 length-ballot ballot = refl
 
-length-state : (state : State) → FitsState state → length (state_spelling state) ≤ 211
+length-state : (state : State) → FitsState state → length (state_spelling state) ≤ 4011
 unfolding state_spelling
 length-state Empty fits = omega arith
 length-state (Held version (Number n)) fits = omega arith
 length-state (Held version (Text text)) fits = omega (arith, fits.1, length-append (to_be_bytes w16 (length text)) text)
 
-length-accepted : (accepted : Accepted) → FitsAccepted accepted → length (accepted_spelling accepted) ≤ 224
+length-accepted : (accepted : Accepted) → FitsAccepted accepted → length (accepted_spelling accepted) ≤ 4024
 unfolding accepted_spelling
 length-accepted accepted fits =
     omega (arith, length-state accepted.state fits.state, length-ballot accepted.ballot, length-append (ballot_spelling accepted.ballot) (to_be_bytes w32 accepted.era ++ state_spelling accepted.state), length-append (to_be_bytes w32 accepted.era) (state_spelling accepted.state))
 
-length-optional : (accepted : Option Accepted) → IfSome accepted FitsAccepted → length (optional_spelling accepted_spelling accepted) ≤ 225
+length-optional : (accepted : Option Accepted) → IfSome accepted FitsAccepted → length (optional_spelling accepted_spelling accepted) ≤ 4025
 length-optional None fits = omega arith
 length-optional (Some accepted) fits = omega (arith, length-accepted accepted fits)
 
-pub length-slot : (key : List ℕ) (slot : Slot) → IsKey key → FitsSlot slot → length (cell_spelling (Some (key, slot))) ≤ 300
+pub length-slot : (key : List ℕ) (slot : Slot) → IsKey key → FitsSlot slot → length (cell_spelling (Some (key, slot))) ≤ 4100
 length-slot key slot is fits =
     let accepted : List ℕ = optional_spelling accepted_spelling slot.accepted in
     omega (arith, length-key key is, length-ballot slot.promise, length-optional slot.accepted fits.accepted, length-append (key_spelling key) (ballot_spelling slot.promise ++ accepted), length-append (ballot_spelling slot.promise) accepted)
+
+-- ---- what is read is spelled so
+
+entry_format : IsFormat entry_spelling FitsEntry entry_at
+unfolding entry_parts
+entry_format =
+    let format = made_format entry_of entry_parts (λ p fits. refl) (λ entry. refl) (pair_format key_format (pair_format ballot_format accepted_or_none_format)) in
+    record {
+      takes = λ bytes x fits e. let t = format.takes bytes x fits e in (t.0, (t.1.0, record { promise = t.1.1.0; accepted = t.1.1.1 }));
+      again = λ entry rest fits. format.again entry rest (fits.0, (fits.1.promise, fits.1.accepted));
+      within = λ bytes left fits e. format.within bytes left fits e;
+    }
+
+whole_told : (bytes : List ℕ) (r : Reading (Option Entry)) (entry : Option Entry) → whole bytes r ≡ Ok entry → (rest : List ℕ) × (r ≡ Ok (entry, rest)) × (length rest ≡ 0)
+whole_told bytes (Ok x) entry e = by_rest (nat_eq (length x.1) 0) refl e
+  where
+    by_rest : (b : Bool) → nat_eq (length x.1) 0 ≡ b → (if b then Ok x.0 else refused (length bytes - length x.1)) ≡ Ok entry → (rest : List ℕ) × (◌≡◌ {A = Reading (Option Entry)} (Ok x) (Ok (entry, rest))) × (length rest ≡ 0)
+    by_rest true none e' =
+        let same : x.0 ≡ entry = cc in
+        (x.1, (λ t. Ok (same t, x.1)), eqb-true (length x.1) 0 none)
+    by_rest false some e' = absurd cc
+whole_told bytes (Err left) entry e = absurd cc
+
+-- a payload from which a slot was read fits a wide cell
+pub slot_payload_read : (bytes key : List ℕ) (slot : Slot) → IsBytes bytes → entry_in bytes ≡ Ok (Some (key, slot)) → IsPayload 4608 bytes
+unfolding entry_in
+slot_payload_read bytes key slot fits e =
+    let told = whole_told bytes (optional_at entry_at bytes) (Some (key, slot)) e in
+    let taken = (optional_format entry_format).takes bytes (Some (key, slot), told.0) fits told.1 in
+    let spelled : List ℕ = cell_spelling (Some (key, slot)) in
+    let long : length bytes ≡ length spelled + length told.0 = ap length taken.0.parts ∙ length-append spelled told.0 in
+    let some : 1 ≤ length spelled = omega arith in
+    record { not_empty = omega (arith, long, some); fits = omega (arith, long, told.2, length-slot key slot taken.1.0 taken.1.1) }
 
 -- ---- reading part by part
 

@@ -1,5 +1,5 @@
 -- What a fault of the cells says of a shelf's.
-use Rattle.std.specs.Result.{IsErrAnd}
+use Rattle.std.specs.Result.{IsErrAnd, IfOk}
 use Rattle.std.proofs.Common.{◌≡◌, ℕ, Result, Ok, Err, refl, sym, ap, ◌∙◌}
 use Rattle.cas_slot.specs.declared.fault.ShelfFault.{ShelfFault}
 use Rattle.cas_slot.specs.declared.fault.ShelfFault.TheVariants as shelf
@@ -34,3 +34,18 @@ module _ {T U : Type 0} (e : CellFault) (f : ShelfFault) (told : f ≡ fault_of 
 pub told_err : {T : Type 0} (r : Result T ShelfFault) (e f : ShelfFault) → IsErrAnd r (λ x. x ≡ e) → r ≡ Err f → e ≡ f
 told_err (Ok x) e f given is = absurd cc
 told_err (Err x) e f given is = sym given ∙ (let same : x ≡ f = cc in same)
+
+-- an `Err` that is passed on
+pub err_again : {T E : Type 0} (r : Result T E) (e : E) → IsErrAnd r (λ x. x ≡ e) → r ≡ Err e
+err_again (Ok x) e given = absurd given
+err_again {T} {E} (Err x) e given = ap (λ (y : E). Err y) given
+
+-- what is so of the value of each `Ok`
+pub each_ok : {T E : Type 0} (r : Result T E) (P : T → Type 0) → ((x : T) → r ≡ Ok x → P x) → IfOk r P
+each_ok (Ok x) P each = each x refl
+each_ok (Err e) P each = tt
+
+-- what follows of the value of an `Ok`
+pub also_ok : {T E : Type 0} (r : Result T E) (P Q : T → Type 0) → ((x : T) → P x → Q x) → IfOk r P → IfOk r Q
+also_ok (Ok x) P Q so p = so x p
+also_ok (Err e) P Q so p = tt

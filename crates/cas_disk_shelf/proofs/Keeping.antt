@@ -17,21 +17,22 @@ use Rattle.cas_slot.specs.Slots.{slot_count}
 use Rattle.cas_slot.proofs.LimitLemmas.{put_fits, removal_fits}
 use Rattle.cas_wire.specs.Spelling.{FitsAccepted}
 use Rattle.cas_disk.specs.Disk.{ContinuesOnly as DiskContinuesOnly}
-use Rattle.cas_cells.specs.Format.{count_in, count_told, with_count, grown, IsBeforeOrAfter}
+use Rattle.cas_cells.specs.Format.{count_in, narrow_in, wide_in, grown, TellsSame, IsBeforeOrAfter}
 use Rattle.cas_cells.specs.Held.{IsRow}
 use Rattle.cas_cells.specs.Cells as cells
+use Rattle.cas_disk_shelf.specs.Image.{moved, removed}
+use Rattle.cas_disk_shelf.specs.KeyLaws.{by_key, freed_other, moved_other, moved_own, taken_other, taken_own}
 use Rattle.cas_disk_shelf.specs.declared.memory.Memory.{Memory}
 use Rattle.cas_disk_shelf.specs.declared.shelf.DiskShelf.{DiskShelf}
 use Rattle.cas_disk_shelf.specs.Head.{head_spelling, FitsHead}
-use Rattle.cas_disk_shelf.specs.HeadLaws.{count-told, other-count}
 use Rattle.cas_disk_shelf.specs.Cell.{cell_spelling, FitsSlot}
-use Rattle.cas_disk_shelf.specs.Memory.{cell_of, is_free, AreOf, IsMemoryOf, moved, removed, freed, taken}
+use Rattle.cas_disk_shelf.specs.Memory.{cell_of, is_free, head_for, AreOf, IsMemoryOf, freed, taken}
 use Rattle.cas_disk_shelf.specs.Shelf.{disk_of, contents_of, ContinuesOnly, IsUp}
-use Rattle.cas_disk_shelf.specs.ShelfLaws.{by_key, spelled, up_spells}
+use Rattle.cas_disk_shelf.specs.ShelfLaws.{spelled, up_spells}
 use Rattle.cas_disk_shelf.proofs.Leaving.{reads_only, at_rest}
-use Rattle.cas_disk_shelf.proofs.Changing.{count_behind, grow_are}
-use Rattle.cas_disk_shelf.proofs.Stepping.{moved_own, moved_other, taken_own, taken_other, freed_other, not_free}
-use Rattle.cas_disk_shelf.proofs.Using.{memory_of, same_memory, rewritten, added, dropped, raised, own_within, free_within, row_behind, row_first, row_grown, old_or_new}
+use Rattle.cas_disk_shelf.proofs.Changing.{wide_behind, grown_told, grow_are}
+use Rattle.cas_disk_shelf.proofs.Stepping.{not_free}
+use Rattle.cas_disk_shelf.proofs.Using.{memory_of, same_memory, rewritten, added, dropped, raised, own_within, free_within, row_behind, row_first, row_grown, tells_same, old_or_new}
 
 not_true : (b : Bool) → (b ≡ true → ⊥) → b ≡ false
 not_true true f = absurd (f refl)
@@ -46,25 +47,25 @@ module _ (cells : List (Option (List ℕ))) (old new : Memory) (is : IsMemoryOf 
       (λ same. ap (cell_of old) (sym same) ∙ own ∙ sym (moved_own (cell_of old) key i q same))
       (λ other. sym (moved_other (cell_of old) key i q other)) in
       let frees : (j : ℕ) → is_free new j ≡ taken (is_free old) i j = λ j. ap (λ s. is_free (record old { free = s }) j) free ∙ elim (cases_eq i j) [
-        | inl same ↦ not_true (is_free old j) (λ e. not_free old.held (cell_of old) (is_free old) cells is.shown.in_step key i own (ap (is_free old) same ∙ e)) ∙ sym (taken_own (is_free old) i j same)
+        | inl same ↦ not_true (is_free old j) (λ e. not_free (narrow_in cells) old.held (cell_of old) (is_free old) cells is.shown.in_step key i own (ap (is_free old) same ∙ e)) ∙ sym (taken_own (is_free old) i j same)
         | inr other ↦ sym (taken_other (is_free old) i j other)
       ] in
       memory_of (set cells i (Some payload)) (with_kept old.held key slot) (moved (cell_of old) key i) (taken (is_free old) i) new
       (rewritten cells old.held (cell_of old) (is_free old) is.shown row key slot payload i named fits spells own) held keys frees
       (record {
-        cells = (λ t. index_map_len (index t) + btree_set_len (free t)) ∙ is.counted.cells ∙ sym (count_behind cells i (Some payload) within.0);
+        cells = (λ t. index_map_len (index t) + btree_set_len (free t)) ∙ is.counted.cells ∙ sym (wide_behind cells i (Some payload) within.0);
         keys = count ∙ is.counted.keys ∙ ap (λ m. index_map_len m) (sym index);
       })
 
-  pub added_memory : (key : List ℕ) (slot : Slot) (payload : List ℕ) (i : ℕ) → IsKey key → FitsSlot slot → payload ≡ cell_spelling (Some (key, slot)) → cell_of old key ≡ None → is_free old i ≡ true → new.held ≡ with_kept old.held key slot
+  pub added_memory : (key : List ℕ) (slot : Slot) (payload : List ℕ) (i : ℕ) → IsKey key → FitsSlot slot → payload ≡ cell_spelling (Some (key, slot)) → cell_of old key ≡ None → is_free old i ≡ true → slot_count old.held.slots < 4096 → new.held ≡ with_kept old.held key slot
       → ((q : List ℕ) → cell_of new q ≡ moved (cell_of old) key i q) → ((j : ℕ) → is_free new j ≡ taken (is_free old) i j) → index_map_len new.index ≡ index_map_len old.index + 1 → btree_set_len new.free + 1 ≡ btree_set_len old.free → slot_count new.held.slots ≡ slot_count old.held.slots + 1
       → IsMemoryOf (set cells i (Some payload)) new
-  added_memory key slot payload i named fits spells none free held keys frees index_len free_len count =
+  added_memory key slot payload i named fits spells none free room held keys frees index_len free_len count =
       let within = free_within cells old.held (cell_of old) (is_free old) is.shown.in_step row i free in
       memory_of (set cells i (Some payload)) (with_kept old.held key slot) (moved (cell_of old) key i) (taken (is_free old) i) new
-      (added cells old.held (cell_of old) (is_free old) is.shown row key slot payload i named fits spells none free) held keys frees
+      (added cells old.held (cell_of old) (is_free old) is.shown row key slot payload i named fits spells none free room) held keys frees
       (record {
-        cells = omega (arith, index_len, free_len, is.counted.cells, count_behind cells i (Some payload) within.0);
+        cells = omega (arith, index_len, free_len, is.counted.cells, wide_behind cells i (Some payload) within.0);
         keys = omega (arith, count, index_len, is.counted.keys);
       })
 
@@ -76,11 +77,11 @@ module _ (cells : List (Option (List ℕ))) (old new : Memory) (is : IsMemoryOf 
       memory_of (set cells i (Some payload)) (without_kept old.held key) (removed (cell_of old) key) (freed (is_free old) i) new
       (dropped cells old.held (cell_of old) (is_free old) is.shown row key payload i spells own) held keys frees
       (record {
-        cells = omega (arith, index_len, free_len, is.counted.cells, count_behind cells i (Some payload) within.0);
+        cells = omega (arith, index_len, free_len, is.counted.cells, wide_behind cells i (Some payload) within.0);
         keys = omega (arith, count, index_len, is.counted.keys);
       })
 
-  pub raised_memory : (ages : Ages) (payload : List ℕ) → FitsHead (record { count = count_in cells; ages = ages }) → payload ≡ head_spelling (record { count = count_in cells; ages = ages }) → count_in (set cells 0 (Some payload)) ≡ count_in cells → new.held ≡ record old.held { ages = ages } → new.index ≡ old.index → new.free ≡ old.free → IsMemoryOf (set cells 0 (Some payload)) new
+  pub raised_memory : (ages : Ages) (payload : List ℕ) → FitsHead (head_for cells ages) → payload ≡ head_spelling (head_for cells ages) → wide_in (set cells 0 (Some payload)) ≡ wide_in cells → new.held ≡ record old.held { ages = ages } → new.index ≡ old.index → new.free ≡ old.free → IsMemoryOf (set cells 0 (Some payload)) new
   raised_memory ages payload fits spells told held index free =
       memory_of (set cells 0 (Some payload)) (record old.held { ages = ages }) (cell_of old) (is_free old) new
       (raised cells old.held (cell_of old) (is_free old) is.shown row ages payload fits spells) held
@@ -90,7 +91,7 @@ module _ (cells : List (Option (List ℕ))) (old new : Memory) (is : IsMemoryOf 
         keys = ap (λ (c : Contents). slot_count c.slots) held ∙ is.counted.keys ∙ ap (λ m. index_map_len m) (sym index);
       })
 
-  pub grown_memory : count_in cells < 4096 → count_in (grown cells) ≡ count_in cells + 1 → new.held ≡ old.held → new.index ≡ old.index → ((j : ℕ) → is_free new j ≡ freed (is_free old) (1 + count_in cells) j) → btree_set_len new.free ≡ btree_set_len old.free + 1 → IsMemoryOf (grown cells) new
+  pub grown_memory : wide_in cells < 4096 → wide_in (grown cells) ≡ wide_in cells + 1 → new.held ≡ old.held → new.index ≡ old.index → ((j : ℕ) → is_free new j ≡ freed (is_free old) (1 + count_in cells) j) → btree_set_len new.free ≡ btree_set_len old.free + 1 → IsMemoryOf (grown cells) new
   grown_memory room more held index frees free_len =
       memory_of (grown cells) old.held (cell_of old) (freed (is_free old) (1 + count_in cells)) new
       (grow_are cells old.held (cell_of old) (is_free old) is.shown row room) held
@@ -100,20 +101,19 @@ module _ (cells : List (Option (List ℕ))) (old new : Memory) (is : IsMemoryOf 
         keys = ap (λ (c : Contents). slot_count c.slots) held ∙ is.counted.keys ∙ ap (λ m. index_map_len m) (sym index);
       })
 
--- a grown row tells one cell more
-pub more_cells : (cells : List (Option (List ℕ))) (contents : Contents) (f : List ℕ → Option ℕ) (g : ℕ → Bool) → AreOf cells contents f g → IsRow cells → count_in cells < 4096 → count_in (grown cells) ≡ count_in cells + 1
-more_cells [] contents f g are row room = absurd row
-more_cells (None ∷ cells) contents f g are row room = absurd row
-more_cells (Some head ∷ cells) contents f g are row room =
-    let n : ℕ = count_told head in
-    ap (λ (l : List ℕ). count_told (with_count l (n + 1))) are.head
-    ∙ ap count_told (other-count n (n + 1) contents.ages (omega (arith, room)))
-    ∙ count-told (record { count = n + 1; ages = contents.ages }) (record { count = omega (arith, room); long = are.fits.long; small = are.fits.small })
+-- a grown row tells one wide cell more
+pub more_cells : (cells : List (Option (List ℕ))) (contents : Contents) (f : List ℕ → Option ℕ) (g : ℕ → Bool) → AreOf cells contents f g → IsRow cells → wide_in cells < 4096 → wide_in (grown cells) ≡ wide_in cells + 1
+more_cells cells contents f g are row room = (grown_told cells contents f g are row room).1
+
+pub grown_stays_row : (cells : List (Option (List ℕ))) (contents : Contents) (f : List ℕ → Option ℕ) (g : ℕ → Bool) → AreOf cells contents f g → IsRow cells → wide_in cells < 4096 → IsRow (grown cells)
+grown_stays_row cells contents f g are row room =
+    let told = grown_told cells contents f g are row room in
+    row_grown cells (let more : count_in (grown cells) ≡ count_in cells + 1 = omega (arith, told.0, told.1) in more) row
 
 -- another head that tells as many cells
-pub same_cells : (cells : List (Option (List ℕ))) (head : List ℕ) → count_told head ≡ count_in cells → IsRow cells → count_in (set cells 0 (Some head)) ≡ count_in cells
-same_cells [] head told row = absurd row
-same_cells (c ∷ cells) head told row = told
+pub same_wide : (cells : List (Option (List ℕ))) (head : List ℕ) → TellsSame head cells → IsRow cells → wide_in (set cells 0 (Some head)) ≡ wide_in cells
+same_wide [] head told row = absurd row
+same_wide (c ∷ cells) head told row = told.wide
 
 module _ {D : Type 0} (tells : Type 0) (seen : D → List ℕ) (may_leave : D → List ℕ → Type 0) (moment : D → ℕ) (left_since : D → ℕ → List ℕ → Type 0) (old : DiskShelf D) (new : D) (up : IsUp tells seen may_leave old) where
   abbrev row_before : List (Option (List ℕ))
@@ -126,12 +126,12 @@ module _ {D : Type 0} (tells : Type 0) (seen : D → List ℕ) (may_leave : D �
       old_or_new tells seen may_leave moment left_since old new (set row_before i (Some payload)) (with_kept (contents_of old) key slot) _ _ up (row_behind row_before i (Some payload) within.0 up.row.row)
       (rewritten row_before (contents_of old) _ _ up.memory.shown up.row.row key slot payload i named fits spells own) run
 
-  pub add_moment : (key : List ℕ) (slot : Slot) (payload : List ℕ) (i : ℕ) → IsKey key → FitsSlot slot → payload ≡ cell_spelling (Some (key, slot)) → cell_of old.memory key ≡ None → is_free old.memory i ≡ true → DiskContinuesOnly moment left_since (disk_of old) new (IsBeforeOrAfter row_before (set row_before i (Some payload)))
+  pub add_moment : (key : List ℕ) (slot : Slot) (payload : List ℕ) (i : ℕ) → IsKey key → FitsSlot slot → payload ≡ cell_spelling (Some (key, slot)) → cell_of old.memory key ≡ None → is_free old.memory i ≡ true → slot_count (contents_of old).slots < 4096 → DiskContinuesOnly moment left_since (disk_of old) new (IsBeforeOrAfter row_before (set row_before i (Some payload)))
       → ContinuesOnly moment left_since (disk_of old) new (IsOldOrNew (contents_of old) (with_kept (contents_of old) key slot))
-  add_moment key slot payload i named fits spells none free run =
+  add_moment key slot payload i named fits spells none free room run =
       let within = free_within row_before (contents_of old) _ _ up.memory.shown.in_step up.row.row i free in
       old_or_new tells seen may_leave moment left_since old new (set row_before i (Some payload)) (with_kept (contents_of old) key slot) _ _ up (row_behind row_before i (Some payload) within.0 up.row.row)
-      (added row_before (contents_of old) _ _ up.memory.shown up.row.row key slot payload i named fits spells none free) run
+      (added row_before (contents_of old) _ _ up.memory.shown up.row.row key slot payload i named fits spells none free room) run
 
   pub drop_moment : (key payload : List ℕ) (i : ℕ) → payload ≡ cell_spelling None → cell_of old.memory key ≡ Some i → DiskContinuesOnly moment left_since (disk_of old) new (IsBeforeOrAfter row_before (set row_before i (Some payload)))
       → ContinuesOnly moment left_since (disk_of old) new (IsOldOrNew (contents_of old) (without_kept (contents_of old) key))
@@ -140,19 +140,18 @@ module _ {D : Type 0} (tells : Type 0) (seen : D → List ℕ) (may_leave : D �
       old_or_new tells seen may_leave moment left_since old new (set row_before i (Some payload)) (without_kept (contents_of old) key) _ _ up (row_behind row_before i (Some payload) within.0 up.row.row)
       (dropped row_before (contents_of old) _ _ up.memory.shown up.row.row key payload i spells own) run
 
-  pub raise_moment : (ages : Ages) (payload : List ℕ) → FitsHead (record { count = count_in row_before; ages = ages }) → payload ≡ head_spelling (record { count = count_in row_before; ages = ages }) → DiskContinuesOnly moment left_since (disk_of old) new (IsBeforeOrAfter row_before (set row_before 0 (Some payload)))
+  pub raise_moment : (ages : Ages) (payload : List ℕ) → FitsHead (head_for row_before ages) → payload ≡ head_spelling (head_for row_before ages) → DiskContinuesOnly moment left_since (disk_of old) new (IsBeforeOrAfter row_before (set row_before 0 (Some payload)))
       → ContinuesOnly moment left_since (disk_of old) new (IsOldOrNew (contents_of old) (record (contents_of old) { ages = ages }))
   raise_moment ages payload fits spells run =
-      let told : count_told payload ≡ count_in row_before = ap count_told spells ∙ count-told _ fits in
-      old_or_new tells seen may_leave moment left_since old new (set row_before 0 (Some payload)) (record (contents_of old) { ages = ages }) _ _ up (row_first row_before payload told up.row.row)
+      old_or_new tells seen may_leave moment left_since old new (set row_before 0 (Some payload)) (record (contents_of old) { ages = ages }) _ _ up (row_first row_before payload (tells_same row_before ages payload fits spells) up.row.row)
       (raised row_before (contents_of old) _ _ up.memory.shown up.row.row ages payload fits spells) run
 
-  pub grow_moment : count_in row_before < 4096 → DiskContinuesOnly moment left_since (disk_of old) new (IsBeforeOrAfter row_before (grown row_before)) → ContinuesOnly moment left_since (disk_of old) new (λ left. left ≡ Ok (contents_of old))
+  pub grow_moment : wide_in row_before < 4096 → DiskContinuesOnly moment left_since (disk_of old) new (IsBeforeOrAfter row_before (grown row_before)) → ContinuesOnly moment left_since (disk_of old) new (λ left. left ≡ Ok (contents_of old))
   grow_moment room run =
       reads_only moment left_since (disk_of old) new (IsBeforeOrAfter row_before (grown row_before)) (λ left. left ≡ Ok (contents_of old))
       (λ c either. ⊎_elim
       (λ before. spelled row_before (contents_of old) _ _ c up.row.row up.memory.shown before)
-      (λ grew. spelled (grown row_before) (contents_of old) _ _ c (row_grown row_before (more_cells row_before (contents_of old) _ _ up.memory.shown up.row.row room) up.row.row) (grow_are row_before (contents_of old) _ _ up.memory.shown up.row.row room) grew)
+      (λ grew. spelled (grown row_before) (contents_of old) _ _ c (grown_stays_row row_before (contents_of old) _ _ up.memory.shown up.row.row room) (grow_are row_before (contents_of old) _ _ up.memory.shown up.row.row room) grew)
       either)
       run
 
@@ -184,12 +183,12 @@ module _ {D : Type 0} (tells : Type 0) (seen : D → List ℕ) (may_leave : D �
     fits = subst AllBallotsFit (sym held) (put_fits old.memory.held key slot up.fits (ballots_fit slot fits));
   }
 
-  pub added_up : (key : List ℕ) (slot : Slot) (payload : List ℕ) (i : ℕ) → IsKey key → FitsSlot slot → payload ≡ cell_spelling (Some (key, slot)) → cell_of old.memory key ≡ None → is_free old.memory i ≡ true → cells.Stands tells seen may_leave new.cells → cells.cells_of new.cells ≡ set row_of i (Some payload) → new.memory.held ≡ with_kept old.memory.held key slot
+  pub added_up : (key : List ℕ) (slot : Slot) (payload : List ℕ) (i : ℕ) → IsKey key → FitsSlot slot → payload ≡ cell_spelling (Some (key, slot)) → cell_of old.memory key ≡ None → is_free old.memory i ≡ true → slot_count (contents_of old).slots < 4096 → cells.Stands tells seen may_leave new.cells → cells.cells_of new.cells ≡ set row_of i (Some payload) → new.memory.held ≡ with_kept old.memory.held key slot
       → ((q : List ℕ) → cell_of new.memory q ≡ moved (cell_of old.memory) key i q) → ((j : ℕ) → is_free new.memory j ≡ taken (is_free old.memory) i j) → index_map_len new.memory.index ≡ index_map_len old.memory.index + 1 → btree_set_len new.memory.free + 1 ≡ btree_set_len old.memory.free → slot_count new.memory.held.slots ≡ slot_count old.memory.held.slots + 1
       → IsUp tells seen may_leave new
-  added_up key slot payload i named fits spells none is_unused stands changed held keys frees index_len free_len count = record {
+  added_up key slot payload i named fits spells none is_unused room stands changed held keys frees index_len free_len count = record {
     row = stands;
-    memory = subst (λ (l : List (Option (List ℕ))). IsMemoryOf l new.memory) (sym changed) (added_memory row_of old.memory new.memory up.memory up.row.row key slot payload i named fits spells none is_unused held keys frees index_len free_len count);
+    memory = subst (λ (l : List (Option (List ℕ))). IsMemoryOf l new.memory) (sym changed) (added_memory row_of old.memory new.memory up.memory up.row.row key slot payload i named fits spells none is_unused room held keys frees index_len free_len count);
     fits = subst AllBallotsFit (sym held) (put_fits old.memory.held key slot up.fits (ballots_fit slot fits));
   }
 
@@ -202,16 +201,16 @@ module _ {D : Type 0} (tells : Type 0) (seen : D → List ℕ) (may_leave : D �
     fits = subst AllBallotsFit (sym held) (removal_fits old.memory.held key up.fits);
   }
 
-  pub raised_up : (ages : Ages) (payload : List ℕ) → FitsHead (record { count = count_in row_of; ages = ages }) → payload ≡ head_spelling (record { count = count_in row_of; ages = ages }) → cells.Stands tells seen may_leave new.cells → cells.cells_of new.cells ≡ set row_of 0 (Some payload) → new.memory.held ≡ record old.memory.held { ages = ages } → new.memory.index ≡ old.memory.index → new.memory.free ≡ old.memory.free
+  pub raised_up : (ages : Ages) (payload : List ℕ) → FitsHead (head_for row_of ages) → payload ≡ head_spelling (head_for row_of ages) → cells.Stands tells seen may_leave new.cells → cells.cells_of new.cells ≡ set row_of 0 (Some payload) → new.memory.held ≡ record old.memory.held { ages = ages } → new.memory.index ≡ old.memory.index → new.memory.free ≡ old.memory.free
       → IsUp tells seen may_leave new
   raised_up ages payload fits spells stands changed held index free = record {
     row = stands;
     memory = subst (λ (l : List (Option (List ℕ))). IsMemoryOf l new.memory) (sym changed)
-        (raised_memory row_of old.memory new.memory up.memory up.row.row ages payload fits spells (same_cells row_of payload (ap count_told spells ∙ count-told _ fits) up.row.row) held index free);
+        (raised_memory row_of old.memory new.memory up.memory up.row.row ages payload fits spells (same_wide row_of payload (tells_same row_of ages payload fits spells) up.row.row) held index free);
     fits = subst AllBallotsFit (sym held) (λ key. up.fits key);
   }
 
-  pub grown_up : count_in row_of < 4096 → cells.Stands tells seen may_leave new.cells → cells.cells_of new.cells ≡ grown row_of → new.memory.held ≡ old.memory.held → new.memory.index ≡ old.memory.index → ((j : ℕ) → is_free new.memory j ≡ freed (is_free old.memory) (1 + count_in row_of) j) → btree_set_len new.memory.free ≡ btree_set_len old.memory.free + 1
+  pub grown_up : wide_in row_of < 4096 → cells.Stands tells seen may_leave new.cells → cells.cells_of new.cells ≡ grown row_of → new.memory.held ≡ old.memory.held → new.memory.index ≡ old.memory.index → ((j : ℕ) → is_free new.memory j ≡ freed (is_free old.memory) (1 + count_in row_of) j) → btree_set_len new.memory.free ≡ btree_set_len old.memory.free + 1
       → IsUp tells seen may_leave new
   grown_up room stands changed held index frees free_len = record {
     row = stands;
@@ -246,7 +245,7 @@ taken_back g i unused j = elim (cases_eq i j) [
 
 -- a cell of a key is not free
 pub own_not_free : (contents : Contents) (f : List ℕ → Option ℕ) (g : ℕ → Bool) (cells : List (Option (List ℕ))) → AreOf cells contents f g → (key : List ℕ) (i : ℕ) → f key ≡ Some i → g i ≡ false
-own_not_free contents f g cells are key i own = not_true (g i) (λ e. not_free contents f g cells are.in_step key i own e)
+own_not_free contents f g cells are key i own = not_true (g i) (λ e. not_free (narrow_in cells) contents f g cells are.in_step key i own e)
 
 -- nor is one behind the last
 pub past_not_free : (contents : Contents) (f : List ℕ → Option ℕ) (g : ℕ → Bool) (cells : List (Option (List ℕ))) → AreOf cells contents f g → IsRow cells → (i : ℕ) → count_in cells < i → g i ≡ false

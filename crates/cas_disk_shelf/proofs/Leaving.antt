@@ -1,12 +1,12 @@
 -- What a run of a shelf's calls leaves, by what the run of its disk's calls leaves.
-use Rattle.std.proofs.Common.{◌≡◌, inl, ℕ, List, Ok, sym, subst}
+use Rattle.std.proofs.Common.{◌≡◌, inl, ℕ, List, Ok, refl, sym, ap, subst, ◌∙◌}
 use Rattle.cas_slot.specs.Contents.{Contents}
 use Rattle.cas_slot.specs.Shelf.{Left, LeavesOnly, IsOldOrNew}
-use Rattle.cas_disk.specs.Disk.{LeavesOnly as DiskLeavesOnly, ContinuesOnly as DiskContinuesOnly}
+use Rattle.cas_disk.specs.Disk.{Only, Elapses, LeavesOnly as DiskLeavesOnly, ContinuesOnly as DiskContinuesOnly}
 use Rattle.cas_disk.proofs.Moments as disk
 use Rattle.cas_disk_shelf.specs.declared.shelf.DiskShelf.{DiskShelf}
 use Rattle.cas_disk_shelf.specs.Image.{left_on}
-use Rattle.cas_disk_shelf.specs.Shelf.{disk_of, moment_of, LeftSince, ContinuesOnly}
+use Rattle.cas_disk_shelf.specs.Shelf.{disk_of, moment_of, MayLeave, LeftSince, ContinuesOnly}
 
 module _ {D : Type 0} (moment : D → ℕ) (left_since : D → ℕ → List ℕ → Type 0) where
   -- what is so of each image is so of what it is to a shelf
@@ -34,3 +34,17 @@ module _ {D : Type 0} (moment : D → ℕ) (left_since : D → ℕ → List ℕ 
   pub then_changed : (old mid new : D) (before after : Contents) → ContinuesOnly moment left_since old mid (λ left. left ≡ Ok before) → ContinuesOnly moment left_since mid new (IsOldOrNew before after) → ContinuesOnly moment left_since old new (IsOldOrNew before after)
   then_changed old mid new before after first second =
       disk.then_on moment left_since old mid new (λ c. IsOldOrNew before after (left_on c)) (unchanged old mid before after first) second
+
+  -- a crash, a read of what it left, and then changes that leave the contents which were read
+  pub taken_up : (may_leave : D → List ℕ → Type 0) (old new : DiskShelf D) (began mid read : D) (seen : List ℕ) (held : Contents) → moment began ≡ moment (disk_of old) → ((c : List ℕ) → may_leave began c → may_leave (disk_of old) c) → ((c : List ℕ) → left_since began (moment began) c → may_leave began c)
+      → Elapses (moment began) (moment mid) (left_since began) (left_since mid) (may_leave mid) → may_leave began seen → Only seen (may_leave mid) → DiskContinuesOnly moment left_since mid read (λ c. c ≡ seen) → left_on seen ≡ Ok held
+      → ContinuesOnly moment left_since read (disk_of new) (λ left. left ≡ Ok held) → LeavesOnly (moment_of moment) (LeftSince left_since) old new (MayLeave may_leave old)
+  taken_up may_leave old new began mid read seen held same outcomes now time image settled first recovered second =
+      let P : List ℕ → Type 0 = λ c. MayLeave may_leave old (left_on c) in
+      let here : (c : List ℕ) → c ≡ seen → P c = λ c is. (seen, outcomes seen image, ap left_on is) in
+      from_there old new began (MayLeave may_leave old) same
+      (disk.then_on moment left_since began read (disk_of new) P
+      (disk.then_on moment left_since began mid read P
+      (disk.goes_on moment left_since began began mid P (may_leave mid) (disk.started moment left_since began P (λ c left. (c, outcomes c (now c left), refl))) time (λ c left. here c (settled c left)))
+      (disk.weaker moment left_since mid read (λ c. c ≡ seen) P here first))
+      (disk.weaker moment left_since read (disk_of new) (λ c. left_on c ≡ Ok held) P (λ c is. (seen, outcomes seen image, is ∙ sym recovered)) second))

@@ -7,6 +7,7 @@ mod Leaving
 mod Lengths
 mod Lists
 mod Loading
+mod Narrow
 mod Opening
 mod Stepping
 mod Using

@@ -3,8 +3,10 @@ pub mod FaultOf
 pub mod Head
 pub mod HeadLaws
 pub mod Image
+pub mod KeyLaws
 pub mod Length
 pub mod Loading
 pub mod Memory
 pub mod Shelf
 pub mod ShelfLaws
+pub mod ShowLaws

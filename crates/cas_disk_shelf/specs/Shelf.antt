@@ -5,6 +5,7 @@ use Rattle.cas_slot.specs.Limits.{AllBallotsFit}
 use Rattle.cas_slot.specs.Shelf.{Left}
 use Rattle.cas_disk.specs.Disk as disk
 use Rattle.cas_cells.specs.Cells as cells
+use Rattle.cas_cells.specs.Format.{narrow_in}
 use Rattle.cas_disk_shelf.specs.declared.shelf.DiskShelf.{DiskShelf}
 use Rattle.cas_disk_shelf.specs.Image.{left_on}
 use Rattle.cas_disk_shelf.specs.Memory.{IsMemoryOf}
@@ -12,6 +13,10 @@ use Rattle.cas_disk_shelf.specs.Memory.{IsMemoryOf}
 -- the disk of a shelf
 abbrev pub disk_of : {D : Type 0} → DiskShelf D → D
 disk_of shelf = cells.disk_of shelf.cells
+
+-- how many narrow cells the head of its cells tells
+abbrev pub narrow_of : {D : Type 0} → DiskShelf D → ℕ
+narrow_of shelf = narrow_in (cells.cells_of shelf.cells)
 
 -- its slots and its least ages
 abbrev pub contents_of : {D : Type 0} → DiskShelf D → Contents

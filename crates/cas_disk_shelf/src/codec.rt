@@ -6,7 +6,7 @@ ghost use Rattle.cas_ballot.specs.Ballot.{FitsBallot};
 ghost use Rattle.cas_wire.specs.Reading.{rise_at};
 ghost use Rattle.cas_change.specs.Key.{IsKey};
 ghost use Rattle.cas_slot.specs.Limits.{SlotBallotsFit};
-ghost use Rattle.cas_disk_shelf.specs.Head.{head_spelling, head_of, IsSpelledHead, unlike_at, numbers_spelling, number_from, ages_in};
+ghost use Rattle.cas_disk_shelf.specs.Head.{head_spelling, head_of, new_head_of, old_head_of, is_old, count_at, ages_end, IsSpelledHead, unlike_at, numbers_spelling, number_from, ages_in};
 ghost use Rattle.cas_disk_shelf.specs.Cell.{cell_spelling, FitsSlot, IsFound, FoundBallotsFit, IsReadSoFar};
 
 use byteorder::{BigEndian, ByteOrder};
@@ -18,11 +18,14 @@ use cas_wire::parts::{
 };
 use std::alloc::{AllocError, Global};
 
-/// How many bytes a head has.
-const HEAD_LENGTH: usize = 149;
+/// How each head begins: its kind and the name of the format.
+const FRONT: [u8; 9] = *b"\x04CASREG02";
 
-/// How each head begins: its kind, and the name of the format.
-const FRONT: [u8; 9] = *b"\x02CASREG01";
+/// How each head of the old form begins.
+const OLD_FRONT: [u8; 9] = *b"\x02CASREG01";
+
+/// How many bytes the ages have.
+const AGES_LENGTH: usize = 8 * PROPOSERS;
 
 /// The payload of a cell that holds no slot.
 pub const FREE: [u8; 1] = [0];
@@ -30,7 +33,9 @@ pub const FREE: [u8; 1] = [0];
 /// What a head tells.
 #[derive(Clone, Copy, Debug, PartialEq, Eq)]
 pub struct Head {
-    /// How many cells stand behind it. At most 4,096.
+    /// How many narrow cells stand behind it. At most 4,096.
+    pub narrow: u32,
+    /// How many wide cells stand behind those. At most 4,096.
     pub count: u32,
     /// The least ages.
     pub ages: Ages,
@@ -54,11 +59,20 @@ pub fn spell_head(alloc: Global, head: &Head) -> Result<Vec<u8>, AllocError>
     ensures small { OnOk result ((i : ℕ) → slice_index head.now.ages.0 i < 2 ^ 64) }
 {
     let mut bytes = FRONT.to_vec(alloc)?;
-    let mut count = [0; 4];
-    BigEndian::write_u32(&mut count, head.count);
-    bytes.extend_from_slice(&count)?;
+    push_count(&mut bytes, head.narrow)?;
+    push_count(&mut bytes, head.count)?;
     push_numbers(&mut bytes, &head.ages.0)?;
     Ok(bytes)
+}
+
+/// Appends a number of cells, in four bytes.
+fn push_count(out: &mut Vec<u8>, count: u32) -> Result<(), AllocError>
+    ensures { OnOk result (out.new.items ≡ out.old.items ++ to_be_bytes w32 count) }
+{
+    let mut bytes = [0; 4];
+    BigEndian::write_u32(&mut bytes, count);
+    out.extend_from_slice(&bytes)?;
+    Ok(())
 }
 
 /// Appends numbers, eight bytes each.
@@ -75,25 +89,89 @@ fn push_numbers(out: &mut Vec<u8>, numbers: &[u64]) -> Result<(), AllocError>
     push_numbers(out, rest)
 }
 
-/// The head that these bytes spell. `Err` tells the place of the first byte that no head has there, or the length of bytes that
-/// end too early.
+/// The head that these bytes spell, of either form; one of the old form tells no wide cells. `Err` tells the place of the first
+/// byte that no head has there, or the length of bytes that end too early.
 pub fn read_head(bytes: &[u8]) -> Result<Head, usize>
     ensures read { result ≡ head_of bytes.now }
     ensures within { IfErr result (λ at. at ≤ length bytes.now) }
     ensures spelled { IfOk result (IsSpelledHead bytes.now) }
 {
+    if is_old(bytes) {
+        read_old_head(bytes)
+    } else {
+        read_new_head(bytes)
+    }
+}
+
+/// Whether bytes begin as a head of the old form does.
+pub fn is_old(bytes: &[u8]) -> bool
+    ensures { result ≡ is_old bytes.now }
+{
+    match bytes.first() {
+        Some(kind) => *kind == 2,
+        None => false,
+    }
+}
+
+/// The head of the new form that these bytes spell, as `read_head` tells it.
+fn read_new_head(bytes: &[u8]) -> Result<Head, usize>
+    ensures read { result ≡ new_head_of bytes.now }
+    ensures within { IfErr result (λ at. at ≤ length bytes.now) }
+{
     if let Some(at) = unlike_at(&FRONT, bytes) {
         return Err(at);
     }
-    if let Some(at) = rise_at(&[0, 0, 16, 0], &bytes[9..]) {
-        return Err(9 + at);
+    let narrow = count_at(bytes, 9)?;
+    if bytes.len() < 13 {
+        return Err(bytes.len());
     }
-    if bytes.len() != HEAD_LENGTH {
-        return Err(bytes.len().min(HEAD_LENGTH));
+    let count = count_at(bytes, 13)?;
+    read_end(bytes, 17, narrow, count)
+}
+
+/// The head of the old form that these bytes spell, as `read_head` tells it.
+fn read_old_head(bytes: &[u8]) -> Result<Head, usize>
+    ensures read { result ≡ old_head_of bytes.now }
+    ensures within { IfErr result (λ at. at ≤ length bytes.now) }
+{
+    if let Some(at) = unlike_at(&OLD_FRONT, bytes) {
+        return Err(at);
+    }
+    let narrow = count_at(bytes, 9)?;
+    read_end(bytes, 13, narrow, 0)
+}
+
+/// The number of cells in four bytes from there on; of fewer bytes it is 0. `Err` tells the place of the first byte that raises it
+/// above 4,096.
+fn count_at(bytes: &[u8], at: usize) -> Result<u32, usize>
+    requires { at ≤ length bytes.now }
+    ensures read { result ≡ count_at at bytes.now }
+    ensures within { IfErr result (λ risen. risen ≤ length bytes.now) }
+{
+    let bytes = &bytes[at..];
+    if let Some(risen) = rise_at(&[0, 0, 16, 0], bytes) {
+        return Err(at + risen);
+    }
+    if bytes.len() < 4 {
+        return Ok(0);
+    }
+    Ok(u32::from_be_bytes([bytes[0], bytes[1], bytes[2], bytes[3]]))
+}
+
+/// The head of so many cells whose ages are the bytes from there to the end.
+fn read_end(bytes: &[u8], at: usize, narrow: u32, count: u32) -> Result<Head, usize>
+    requires { at ≤ 17 }
+    ensures read { result ≡ ages_end at narrow count bytes.now }
+    ensures within { IfErr result (λ end. end ≤ length bytes.now) }
+{
+    let end = at + AGES_LENGTH;
+    if bytes.len() != end {
+        return Err(bytes.len().min(end));
     }
     Ok(Head {
-        count: u32::from_be_bytes([bytes[9], bytes[10], bytes[11], bytes[12]]),
-        ages: ages_in(&bytes[13..]),
+        narrow,
+        count,
+        ages: ages_in(&bytes[at..]),
     })
 }
 
@@ -146,7 +224,7 @@ pub fn spell_slot(alloc: Global, key: &Key, slot: &Slot) -> Result<Vec<u8>, Allo
     ensures fits { OnOk result (FitsSlot slot.now) }
     ensures key { IsKey key.now }
 {
-    let mut bytes = Vec::with_capacity(alloc, key.bytes().len() + 236)?;
+    let mut bytes = Vec::with_capacity(alloc, key.bytes().len() + 4036)?;
     bytes.push(1)?;
     push_key(&mut bytes, key)?;
     push_ballot(&mut bytes, slot.promise)?;

@@ -53,6 +53,13 @@ impl Held {
         }
     }
 
+    /// Whether the key has a slot.
+    pub fn has(&self, key: &Key) -> bool
+        ensures { result ≡ is_some (kept_at self.now key.now) }
+    {
+        self.slots.contains_key(key)
+    }
+
     /// The least ages.
     pub fn ages(&self) -> Ages
         ensures { result ≡ self.now.ages }

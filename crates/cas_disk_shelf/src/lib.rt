@@ -7,6 +7,7 @@
 mod codec;
 mod held;
 mod memory;
+mod moving;
 mod shelf;
 mod steps;
 

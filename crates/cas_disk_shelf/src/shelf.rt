@@ -1,20 +1,21 @@
 //! A shelf on a disk.
 ghost use Rattle.std.specs.Prelude.{◌≡◌, ◌≤◌, ◌<◌, ◌+◌, ◌*◌, ◌↔◌, ℕ, List, Ok, Err, Some, None, true, OnOk, OnErr, IsErrOf, IfOk};
 ghost use Rattle.cas_slot.specs.Contents.{nothing, kept_at, with_kept, without_kept, with_raised};
-ghost use Rattle.cas_slot.specs.Limits.{SlotBallotsFit};
+ghost use Rattle.cas_slot.specs.Limits.{SlotBallotsFit, AllBallotsFit};
 ghost use Rattle.cas_slot.specs.Shelf.{IsOldOrNew, LeavesOnly, IsSettled, HasShelfCause, IsNeitherFullNorForeign};
 ghost use Rattle.cas_slot.specs.Slots.{IsFullFor, slot_count};
 ghost use Rattle.cas_disk.specs.Disk.{Only, ContinuesOnly as DiskContinuesOnly};
-ghost use Rattle.cas_cells.specs.Cells.{cells_of};
-ghost use Rattle.cas_cells.specs.Format.{count_in};
+ghost use Rattle.cas_cells.specs.Cells.{cells_of, Stands};
+ghost use Rattle.cas_cells.specs.Format.{wide_in};
 ghost use Rattle.cas_cells.specs.Length.{AllWithin, NotLonger};
 ghost use Rattle.cas_disk_shelf.specs.Image.{left_on};
-ghost use Rattle.cas_disk_shelf.specs.Length.{IsShort, StaysShort};
-ghost use Rattle.cas_disk_shelf.specs.Memory.{cell_of, is_free};
+ghost use Rattle.cas_disk_shelf.specs.Length.{HoldsAtMost, IsShort, StaysShort};
+ghost use Rattle.cas_disk_shelf.specs.Memory.{cell_of, is_free, IsReadFrom};
 
 use crate::codec::{FREE, Head, spell_head, spell_slot};
-use crate::memory::{Memory, load};
-use crate::steps::{change, fault_of};
+use crate::memory::{Loaded, Memory, load};
+use crate::moving::move_slots;
+use crate::steps::{change, fault_of, renew};
 use cas_cells::Cells;
 use cas_change::Key;
 use cas_disk::Disk;
@@ -26,8 +27,14 @@ use std::alloc::{AllocError, Global};
 /// Each slot has a cell of its own. Beside the disk the slots are in memory too, with an index from their keys to their cells and
 /// the cells that hold none.
 ///
-/// The disk is never longer than it was when the shelf took it, or than `1024 * (2 + s)` bytes, `s` being the greatest number of
-/// slots that the shelf ever had at once: `over` begins that, and each call keeps it, whatever it answers.
+/// A disk of the old form has narrow cells behind the head. `reopen` makes a head of the old form one of the new, and then moves the
+/// slot of each narrow cell, in rising order, to a wide cell behind them, and frees the narrow one. So a crash may leave a key in one
+/// narrow and one wide cell, with equal payloads; `reopen` then frees the narrow one. Where else two cells hold one key, it answers
+/// `Foreign` with the first byte of the later one.
+///
+/// The disk is never longer than it was when the shelf took it, or than `1024 * (1 + old) + 9216 * (1 + s)` bytes, `old` being the
+/// greatest number of narrow cells that its head told, and `s` the greatest number of slots that the shelf, or its disk, ever held at
+/// once: `over` begins that, and each call keeps it, whatever it answers.
 ///
 /// Each change and each reopening tells the disk to forget what was before it: what a clause says of any moment holds of the moments
 /// since its call began.
@@ -39,13 +46,13 @@ pub struct DiskShelf<D: Disk> {
 }
 
 impl<D: Disk> DiskShelf<D> {
-    ghost use Rattle.cas_disk_shelf.specs.Shelf.{disk_of, contents_of, IsUp, MayLeave, ContinuesOnly};
+    ghost use Rattle.cas_disk_shelf.specs.Shelf.{disk_of, contents_of, narrow_of, IsUp, MayLeave, ContinuesOnly};
 
     /// A shelf on this disk. It touches nothing, and is started or reopened before it is changed.
     pub fn over(alloc: Global, disk: D) -> DiskShelf<D>
         ensures disk { disk_of result ≡ disk }
         ensures contents { contents_of result ≡ nothing }
-        ensures length { (taken : ℕ) → AllWithin taken (D.may_leave disk) → IsShort D.may_leave taken 0 result }
+        ensures length { (taken most : ℕ) → AllWithin taken (D.may_leave disk) → HoldsAtMost D.may_leave most result → IsShort D.may_leave taken 0 most result }
     {
         DiskShelf {
             alloc,
@@ -77,7 +84,7 @@ impl<D: Disk> DiskShelf<D> {
         ensures untouched_when_full { D.tells → IsErrOf result ShelfFault.Full → ContinuesOnly D.moment D.left_since (disk_of self.old) (disk_of self.new) (λ left. left ≡ Ok (contents_of self.old)) }
         ensures not_foreign { (at : ℕ) → IsErrOf result (ShelfFault.Foreign at) → ⊥ }
         ensures any_moment { D.tells → ContinuesOnly D.moment D.left_since (disk_of self.old) (disk_of self.new) (IsOldOrNew (contents_of self.old) (with_kept (contents_of self.old) key.now slot)) }
-        ensures length { D.tells → NotLonger D.moment D.left_since D.may_leave (disk_of self.old) (disk_of self.new) (1024 * (slot_count (contents_of self.old).slots + 2)) }
+        ensures length { D.tells → NotLonger D.moment D.left_since D.may_leave (disk_of self.old) (disk_of self.new) (1024 * (1 + narrow_of self.old) + 9216 * (slot_count (contents_of self.old).slots + 1)) }
         ensures cause { HasShelfCause result (D.fault_count (disk_of self.old)) (D.fault_count (disk_of self.new)) }
     {
         match self.memory.cell_of(key) {
@@ -124,7 +131,7 @@ impl<D: Disk> DiskShelf<D> {
         ensures up { OnOk result (IsUp D.tells D.seen D.may_leave self.new) }
         ensures up_still { IsErrOf result ShelfFault.NoMemory → IsUp D.tells D.seen D.may_leave self.new }
         ensures any_moment { D.tells → ContinuesOnly D.moment D.left_since (disk_of self.old) (disk_of self.new) (IsOldOrNew (contents_of self.old) (with_kept (contents_of self.old) key.now slot)) }
-        ensures length { D.tells → NotLonger D.moment D.left_since D.may_leave (disk_of self.old) (disk_of self.new) (1024 * (slot_count (contents_of self.old).slots + 2)) }
+        ensures length { D.tells → NotLonger D.moment D.left_since D.may_leave (disk_of self.old) (disk_of self.new) (1024 * (1 + narrow_of self.old) + 9216 * (slot_count (contents_of self.old).slots + 1)) }
         ensures other { IsNeitherFullNorForeign result }
         ensures cause { HasShelfCause result (D.fault_count (disk_of self.old)) (D.fault_count (disk_of self.new)) }
     {
@@ -136,6 +143,7 @@ impl<D: Disk> DiskShelf<D> {
     fn add_at(&mut self, cell: u32, key: &Key, slot: Slot) -> Result<(), ShelfFault>
         requires up { IsUp D.tells D.seen D.may_leave self.old }
         requires new { cell_of self.old.memory key.now ≡ None }
+        requires room { slot_count (contents_of self.old).slots < 4096 }
         requires free { is_free self.old.memory cell ≡ true }
         requires fits { SlotBallotsFit slot }
         ensures ok { OnOk result (contents_of self.new ≡ with_kept (contents_of self.old) key.now slot) }
@@ -172,7 +180,7 @@ impl<D: Disk> DiskShelf<D> {
         ensures up { OnOk result (IsUp D.tells D.seen D.may_leave self.new) }
         ensures up_still { IsErrOf result ShelfFault.NoMemory → IsUp D.tells D.seen D.may_leave self.new }
         ensures any_moment { D.tells → ContinuesOnly D.moment D.left_since (disk_of self.old) (disk_of self.new) (λ left. left ≡ Ok (contents_of self.old)) }
-        ensures length { D.tells → NotLonger D.moment D.left_since D.may_leave (disk_of self.old) (disk_of self.new) (1024 * (slot_count (contents_of self.old).slots + 2)) }
+        ensures length { D.tells → NotLonger D.moment D.left_since D.may_leave (disk_of self.old) (disk_of self.new) (1024 * (1 + narrow_of self.old) + 9216 * (slot_count (contents_of self.old).slots + 1)) }
         ensures other { IsNeitherFullNorForeign result }
         ensures cause { HasShelfCause result (D.fault_count (disk_of self.old)) (D.fault_count (disk_of self.new)) }
     {
@@ -185,14 +193,14 @@ impl<D: Disk> DiskShelf<D> {
     // Grows the disk by a cell, and answers its number.
     fn grow(&mut self) -> Result<u32, ShelfFault>
         requires up { IsUp D.tells D.seen D.may_leave self.old }
-        requires room { count_in (cells_of self.old.cells) < 4096 }
+        requires room { wide_in (cells_of self.old.cells) < 4096 }
         ensures contents { contents_of self.new ≡ contents_of self.old }
         ensures index { self.new.memory.index ≡ self.old.memory.index }
         ensures free { IfOk result (λ cell. is_free self.new.memory cell ≡ true) }
         ensures up { OnOk result (IsUp D.tells D.seen D.may_leave self.new) }
         ensures up_still { IsErrOf result ShelfFault.NoMemory → IsUp D.tells D.seen D.may_leave self.new }
         ensures any_moment { D.tells → ContinuesOnly D.moment D.left_since (disk_of self.old) (disk_of self.new) (λ left. left ≡ Ok (contents_of self.old)) }
-        ensures length { D.tells → NotLonger D.moment D.left_since D.may_leave (disk_of self.old) (disk_of self.new) (1024 * (count_in (cells_of self.old.cells) + 2)) }
+        ensures length { D.tells → NotLonger D.moment D.left_since D.may_leave (disk_of self.old) (disk_of self.new) (1024 * (1 + narrow_of self.old) + 9216 * (wide_in (cells_of self.old.cells) + 1)) }
         ensures other { IsNeitherFullNorForeign result }
         ensures cause { HasShelfCause result (D.fault_count (disk_of self.old)) (D.fault_count (disk_of self.new)) }
     {
@@ -259,7 +267,8 @@ impl<D: Disk> DiskShelf<D> {
         ensures cause { HasShelfCause result (D.fault_count (disk_of self.old)) (D.fault_count (disk_of self.new)) }
     {
         let head = Head {
-            count: self.cells.count(),
+            narrow: self.cells.narrow_count(),
+            count: self.cells.wide_count(),
             ages,
         };
         let payload = spell_head(self.alloc, &head)?;
@@ -268,13 +277,15 @@ impl<D: Disk> DiskShelf<D> {
         Ok(())
     }
 
-    // Recovers the cells of a disk that was crashed, and reads the memory from them.
-    fn recover(&mut self) -> Result<(), ShelfFault>
+    // Recovers the cells of a disk that was crashed, and loads what they hold.
+    fn recover(&mut self) -> Result<Loaded, ShelfFault>
         requires { D.tells → Only (D.seen (disk_of self.old)) (D.may_leave (disk_of self.old)) }
-        ensures recovered { D.tells → OnOk result (left_on (D.seen (disk_of self.old)) ≡ Ok (contents_of self.new)) }
-        ensures err { OnErr result (contents_of self.new ≡ contents_of self.old) }
+        ensures recovered { D.tells → IfOk result (λ loaded. left_on (D.seen (disk_of self.old)) ≡ Ok loaded.memory.held) }
+        ensures memory { self.new.memory ≡ self.old.memory }
         ensures foreign { D.tells → (at : ℕ) → IsErrOf result (ShelfFault.Foreign at) → left_on (D.seen (disk_of self.old)) ≡ Err at }
-        ensures up { OnOk result (IsUp D.tells D.seen D.may_leave self.new) }
+        ensures stands { OnOk result (Stands D.tells D.seen D.may_leave self.new.cells) }
+        ensures read { IfOk result (IsReadFrom (cells_of self.new.cells)) }
+        ensures fits { IfOk result (λ loaded. AllBallotsFit loaded.memory.held) }
         ensures any_moment { D.tells → DiskContinuesOnly D.moment D.left_since (disk_of self.old) (disk_of self.new) (λ c. c ≡ D.seen (disk_of self.old)) }
         ensures not_full { IsErrOf result ShelfFault.Full → ⊥ }
         ensures cause { HasShelfCause result (D.fault_count (disk_of self.old)) (D.fault_count (disk_of self.new)) }
@@ -282,8 +293,7 @@ impl<D: Disk> DiskShelf<D> {
         if let Err(fault) = self.cells.recover() {
             return Err(fault_of(fault));
         }
-        self.memory = load(self.alloc, &self.cells)?;
-        Ok(())
+        load(self.alloc, &self.cells)
     }
 }
 
@@ -323,6 +333,7 @@ impl<D: Disk> Shelf for DiskShelf<D> {
     {
         self.cells.crash();
         let head = Head {
+            narrow: 0,
             count: 0,
             ages: Ages::ZERO,
         };
@@ -346,7 +357,11 @@ impl<D: Disk> Shelf for DiskShelf<D> {
     {
         self.cells.forget_past();
         self.cells.crash();
-        self.recover()
+        let mut loaded = self.recover()?;
+        renew(self.alloc, &mut self.cells, &loaded)?;
+        move_slots(self.alloc, &mut self.cells, &mut loaded)?;
+        self.memory = loaded.memory;
+        Ok(())
     }
 
     fn crash(&mut self)

@@ -7,6 +7,7 @@ use Rattle.cas_slot.specs.declared.message.Reply.{Reply as AReply}
 use Rattle.cas_wire.specs.Frame.{IsRequest, IsReply}
 use Rattle.cas_wire.specs.FrameReading.{whole_of, request_at, reply_at}
 use Rattle.cas_wire.specs.Reading.{Reading}
+use Rattle.cas_wire.specs.declared.frame.TheConstants.{LONGEST_FRAME}
 use Rattle.cas_flow.specs.declared.frame.Head.{Head}
 use Rattle.cas_flow.specs.declared.frame.Head.TheVariants.{Blank, Asked, Told}
 use Rattle.cas_flow.specs.declared.message.Message.{Message}
@@ -36,6 +37,6 @@ Bears bytes head (Some (Reply reply)) = IsReply bytes reply × (head_of (Reply r
 
 -- a blank frame has no byte and room for the longest; another bears the message of its head
 abbrev pub IsFrame : Head → List ℕ → ℕ → Type 0
-IsFrame Blank bytes capacity = (bytes ≡ []) × (512 ≤ capacity)
+IsFrame Blank bytes capacity = (bytes ≡ []) × (LONGEST_FRAME ≤ capacity)
 IsFrame (Asked leg to) bytes capacity = Bears bytes (leg, to) (asked (request_at bytes))
 IsFrame (Told from) bytes capacity = Bears bytes (leg.Reply, from) (told (reply_at bytes))

@@ -1,5 +1,5 @@
 ghost use Rattle.std.specs.Prelude.{◌≡◌, ◌<◌, ◌↔◌, length, IsTrue};
-ghost use Rattle.cas_ballot.specs.Members.{union_of};
+ghost use Rattle.cas_ballot.specs.Members.{IsMemberSet, union_of};
 ghost use Rattle.cas_quorum.specs.Quorum.{has_quorum, SizesMeet};
 ghost use Rattle.cas_quorum.specs.Era.{majority_era, holds_prep, holds_acc, IsSized, Meet};
 
@@ -28,6 +28,7 @@ impl Era {
     /// of n is n / 2 + 1, so where there is no member there is no quorum.
     pub fn majority(number: u32, members: Members) -> Era
         ensures value { result ≡ majority_era number members }
+        ensures set { IsMemberSet members }
         ensures meets { Meet result result }
         ensures sized { 0 < length members → IsSized result }
     {

@@ -66,11 +66,6 @@ same_at : (slots : Slots) (key : List ℕ) (slot : Slot) (q : List ℕ) (b : Boo
 same_at slots key slot q true e at = sym at ∙ ap (slot_at slots) (sym (map.slice_cmp-IsAntisymmetric map.nat_cmp-IsAntisymmetric q key (tied (slice_cmp nat_cmp q key) e)))
 same_at slots key slot q false e at = refl
 
--- to put a slot in its own place changes nothing
-pub with_slot-same : (slots : Slots) (key : List ℕ) (slot : Slot) → slot_at slots key ≡ Some slot → with_slot slots key slot ≡ slots
-with_slot-same slots key slot at = map.same_map nat_list_cmp_total (map.slice_cmp-IsAntisymmetric map.nat_cmp-IsAntisymmetric) _ _ (λ q.
-    slot_at-with_slot slots key slot q ∙ same_at slots key slot q _ refl at)
-
 -- entries that answer every look-up as after a removal are the map after it
 pub drop-slots : (key : List ℕ) (old new : List (List ℕ × Slot))
     → ((q : List ℕ) → lookup (is_at (slice_cmp nat_cmp q)) new ≡ cond (is_at (slice_cmp nat_cmp key) q) None (lookup (is_at (slice_cmp nat_cmp q)) old))
@@ -113,8 +108,3 @@ slot_at-without_slot_other slots key q differs = slot_at-without_slot slots key 
 none_at : (slots : Slots) (key q : List ℕ) (b : Bool) → eq_by_cmp (slice_cmp nat_cmp) q key ≡ b → slot_at slots key ≡ None → cond b None (slot_at slots q) ≡ slot_at slots q
 none_at slots key q true e at = sym at ∙ ap (slot_at slots) (sym (same_key q key e))
 none_at slots key q false e at = refl
-
--- to remove what is not there changes nothing
-pub without_slot-same : (slots : Slots) (key : List ℕ) → slot_at slots key ≡ None → without_slot slots key ≡ slots
-without_slot-same slots key at = map.same_map nat_list_cmp_total (map.slice_cmp-IsAntisymmetric map.nat_cmp-IsAntisymmetric) _ _ (λ q.
-    slot_at-without_slot slots key q ∙ none_at slots key q _ refl at)

@@ -2,7 +2,7 @@
 //! beside a row lets its disk go.
 
 ghost use Rattle.std.specs.Prelude.{◌≡◌, OnOk};
-ghost use Rattle.cas_cells.specs.Format.{IsPayload, count_in, count_told};
+ghost use Rattle.cas_cells.specs.Format.{IsPayload, TellsSame};
 ghost use Rattle.cas_cells.specs.Cells.{cells_of, Stands};
 
 use crate::bytes::{set, stand_at};
@@ -14,7 +14,7 @@ use std::process::Abort;
 use std::test::Fail;
 
 // A head that tells no cells.
-const HEAD: [u8; 13] = [2, 67, 65, 83, 82, 69, 71, 48, 49, 0, 0, 0, 0];
+const HEAD: [u8; 17] = [4, 67, 65, 83, 82, 69, 71, 48, 50, 0, 0, 0, 0, 0, 0, 0, 0];
 
 const IMAGES: [Image; 4] = [Image::Old, Image::New, Image::Noise(1), Image::Noise(2)];
 
@@ -29,11 +29,11 @@ fn over(
     Ok(Cells::over(alloc, disk))
 }
 
-// Changes a cell by the three steps.
+// Changes cell 0 by the three steps.
 fn change<D: Disk>(cells: &mut Cells<D>, payload: &[u8]) -> Result<(), CellFault>
     requires stands { Stands D.tells D.seen D.may_leave cells.old }
-    requires fits { IsPayload payload.now }
-    requires same_count { count_told payload.now ≡ count_in (cells_of cells.old) }
+    requires fits { IsPayload 512 payload.now }
+    requires same_count { TellsSame payload.now (cells_of cells.old) }
 {
     cells.close_spare(0)?;
     cells.write_spare(0, payload)?;
@@ -85,10 +85,10 @@ fn a_formatted_disk_and_a_change_have_their_bytes(rt: HostRuntime) -> Result<(),
     let bytes = changed_once(&rt, rt.alloc())?;
     assert_eq!(rt; bytes.len(), 1024);
     let rows: [(usize, &[u8]); 4] = [
-        (0, &[1, 0, 0, 13, 2, 67]),
-        (17, &[0]),
+        (0, &[1, 0, 0, 17, 4, 67]),
+        (21, &[0]),
         (512, &[1, 1]),
-        (515, &[13, 2]),
+        (515, &[17, 4]),
     ];
     for (place, want) in rows {
         assert!(rt; stand_at(&bytes, place, want), "at {place}");
@@ -96,8 +96,8 @@ fn a_formatted_disk_and_a_change_have_their_bytes(rt: HostRuntime) -> Result<(),
     Ok(())
 }
 
-// A head that tells one cell.
-const GROWN: [u8; 13] = [2, 67, 65, 83, 82, 69, 71, 48, 49, 0, 0, 0, 1];
+// A head that tells one wide cell.
+const GROWN: [u8; 17] = [4, 67, 65, 83, 82, 69, 71, 48, 50, 0, 0, 0, 0, 0, 0, 0, 1];
 
 // Formats a row, has it grow, and changes the cell that came.
 fn grow<D: Disk>(cells: &mut Cells<D>) -> Result<bool, CellFault> {
@@ -117,6 +117,7 @@ fn grow<D: Disk>(cells: &mut Cells<D>) -> Result<bool, CellFault> {
 fn a_row_grows(rt: HostRuntime) -> Result<(), Fail> {
     let mut cells = over(rt.alloc(), &[], &[], Image::Old)?;
     assert!(rt; grow(&mut cells)?);
+    assert_eq!(rt; bytes_of(rt.alloc(), cells)?.len(), 10_240);
     Ok(())
 }
 
@@ -130,7 +131,7 @@ fn told_over(alloc: Global, bytes: &[u8]) -> Result<Result<(), CellFault>, Fail>
 fn a_wrong_byte_is_foreign_at_its_place(rt: HostRuntime) -> Result<(), Fail> {
     let alloc = rt.alloc();
     // What is changed of the bytes, how many are left, and the place that is told.
-    let rows: [(&[(usize, u8)], usize, Option<u64>); 16] = [
+    let rows: [(&[(usize, u8)], usize, Option<u64>); 19] = [
         // numbers
         (&[(1, 3)], 1024, Some(1)),
         (&[(513, 3)], 1024, Some(513)),
@@ -141,7 +142,7 @@ fn a_wrong_byte_is_foreign_at_its_place(rt: HostRuntime) -> Result<(), Fail> {
         (&[(2, 1), (3, 253)], 1024, Some(3)),
         (&[(514, 255)], 1024, Some(514)),
         // closing zeros
-        (&[(17, 1)], 1024, Some(17)),
+        (&[(21, 1)], 1024, Some(21)),
         (&[(1023, 1)], 1024, Some(1023)),
         // a disk that is too short
         (&[], 0, Some(0)),
@@ -151,7 +152,11 @@ fn a_wrong_byte_is_foreign_at_its_place(rt: HostRuntime) -> Result<(), Fail> {
         // a blank cell 0
         (&[(0, 0), (512, 0)], 1024, Some(0)),
         // cells that are told and not there
+        (&[(532, 1)], 1024, Some(1024)),
         (&[(528, 1)], 1024, Some(1024)),
+        // a head of the old form tells narrow cells alone
+        (&[(516, 2), (528, 1)], 1024, Some(1024)),
+        (&[(516, 2), (532, 1)], 1024, None),
         // nothing is changed
         (&[], 1024, None),
     ];

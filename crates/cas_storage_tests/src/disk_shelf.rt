@@ -1,13 +1,13 @@
 //! Shelves on a disk in memory. What makes a shelf hands on the bytes of its disk, since each early return beside a shelf lets all its
 //! tables go.
 
-ghost use Rattle.std.specs.Prelude.{◌≤◌, OnOk};
+ghost use Rattle.std.specs.Prelude.{◌≤◌, IfOk, OnOk};
 ghost use Rattle.cas_ballot.specs.Ballot.{FitsBallot};
 ghost use Rattle.cas_slot.specs.Limits.{SlotBallotsFit};
 
 use crate::bytes::{clear_from, set, stand_at};
 use cas_ballot::Ballot;
-use cas_change::{Body, Key, State};
+use cas_change::{Body, Key, State, Text};
 use cas_disk::{FileDisk, Image, MemoryDisk, Trouble};
 use cas_disk_shelf::DiskShelf;
 use cas_slot::{Accepted, Ages, MapShelf, Shelf, ShelfFault, Slot};
@@ -15,9 +15,9 @@ use std::alloc::{AllocError, Global};
 use std::process::Abort;
 use std::test::Fail;
 
-const IMAGES: [Image; 4] = [Image::Old, Image::New, Image::Noise(1), Image::Noise(7)];
+pub const IMAGES: [Image; 4] = [Image::Old, Image::New, Image::Noise(1), Image::Noise(7)];
 
-fn over(
+pub fn over(
     alloc: Global,
     bytes: &[u8],
     troubles: &[(u64, Trouble)],
@@ -44,7 +44,7 @@ const fn ballot(counter: u32, proposer: u8) -> Ballot
 }
 
 // A slot that accepted -5 at version 3, in era 7.
-fn slot_at(counter: u32) -> Slot
+pub fn slot_at(counter: u32) -> Slot
     ensures { SlotBallotsFit result }
 {
     Slot {
@@ -61,7 +61,7 @@ fn slot_at(counter: u32) -> Slot
 }
 
 // Reopens a shelf, and does so again where the disk failed in that.
-fn reopened<S: Shelf>(shelf: &mut S) -> Result<(), ShelfFault>
+pub fn reopened<S: Shelf>(shelf: &mut S) -> Result<(), ShelfFault>
     ensures { OnOk result (S.is_up shelf.new) }
 {
     match shelf.reopen() {
@@ -82,7 +82,7 @@ fn fill<S: Shelf>(alloc: Global, shelf: &mut S, count: u32) -> Result<(), Fail>
 }
 
 // The bytes of a shelf's disk.
-fn bytes_of(alloc: Global, shelf: DiskShelf<MemoryDisk>) -> Result<Vec<u8>, AllocError> {
+pub fn bytes_of(alloc: Global, shelf: DiskShelf<MemoryDisk>) -> Result<Vec<u8>, AllocError> {
     let disk = shelf.into_disk();
     disk.bytes().to_vec(alloc)
 }
@@ -158,7 +158,7 @@ fn live(
     Ok(bytes)
 }
 
-// The slot is in the first frame of cell 1, behind four bytes of the frame's own, of which the last is its length, and then, in the
+// The slot is in the first frame of cell 1, behind four bytes of the frame's own, of which the last two are its length, and then, in the
 // second frame, a cell that holds no slot.
 const PAYLOADS: [(Life, usize, &[u8]); 3] = [
     (
@@ -169,8 +169,8 @@ const PAYLOADS: [(Life, usize, &[u8]); 3] = [
             1, 0, 0, 0, 0, 0, 0, 0, 3, 255, 255, 255, 255, 255, 255, 255, 251,
         ],
     ),
-    (Life::Drops, 1539, &[1, 0]),
-    (Life::FindsNone, 1539, &[1, 0]),
+    (Life::Drops, 5635, &[1, 0]),
+    (Life::FindsNone, 5635, &[1, 0]),
 ];
 
 #[test]
@@ -185,27 +185,29 @@ const HEADS: [(Life, usize, &[u8]); 3] = [
     (
         Life::Raises,
         515,
-        &[149, 2, 67, 65, 83, 82, 69, 71, 48, 49, 0, 0, 16, 0],
+        &[
+            153, 4, 67, 65, 83, 82, 69, 71, 48, 50, 0, 0, 0, 0, 0, 0, 1, 0,
+        ],
     ),
-    (Life::FindsRaised, 662, &[0, 1, 2]),
-    (Life::FindsRaised, 515, &[149]),
+    (Life::FindsRaised, 666, &[0, 1, 2]),
+    (Life::FindsRaised, 515, &[153]),
 ];
 
 #[test]
 fn a_head_has_its_bytes(rt: HostRuntime) -> Result<(), Fail> {
     let alloc = rt.alloc();
-    // A new shelf with as many blank cells as there may be.
+    // A new shelf with 256 blank cells.
     let mut bytes = filled(alloc, 0)?;
-    if let Some(byte) = bytes.get_mut(4 + 11) {
-        *byte = 16;
+    if let Some(byte) = bytes.get_mut(4 + 15) {
+        *byte = 1;
     }
-    for _cell in 0..4096 {
-        bytes.extend_from_slice(&[0; 1024])?;
+    for _cell in 0..256 {
+        bytes.extend_from_slice(&[0; 9_216])?;
     }
     let bytes = live(&rt, alloc, bytes, &HEADS)?;
     // Each of the cells is looked for.
-    let short = bytes.get(..4096 * 1024).unwrap_or(&[]);
-    let at = 4096 * 1024;
+    let short = bytes.get(..1024 + 9_216 * 255).unwrap_or(&[]);
+    let at = 1024 + 9_216 * 255;
     assert_eq!(rt; told_over(alloc, short)?, Err(ShelfFault::Foreign { at }));
     Ok(())
 }
@@ -260,15 +262,18 @@ fn tell(rt: &impl Abort, alloc: Global, rows: &[(u32, Patch, Option<u64>)]) -> R
 }
 
 // A frame of no byte is told by its length.
-const PATCHED_PAYLOADS: [(u32, Patch, Option<u64>); 17] = [
-    (0, Patch::Head(0, 3, 149), Some(4)),
-    (0, Patch::Head(8, 50, 149), Some(12)),
-    (0, Patch::Head(9, 1, 149), Some(13)),
-    (0, Patch::Head(11, 17, 149), Some(15)),
-    (0, Patch::Head(0, 2, 150), Some(153)),
-    (0, Patch::Head(0, 2, 148), Some(152)),
-    (0, Patch::Head(0, 2, 12), Some(16)),
-    (0, Patch::Head(0, 2, 0), Some(3)),
+const PATCHED_PAYLOADS: [(u32, Patch, Option<u64>); 20] = [
+    (0, Patch::Head(0, 3, 153), Some(4)),
+    (0, Patch::Head(8, 51, 153), Some(12)),
+    (0, Patch::Head(9, 1, 153), Some(13)),
+    (0, Patch::Head(11, 17, 153), Some(15)),
+    (0, Patch::Head(13, 1, 153), Some(17)),
+    (0, Patch::Head(15, 17, 153), Some(19)),
+    (0, Patch::Head(0, 4, 154), Some(157)),
+    (0, Patch::Head(0, 4, 152), Some(156)),
+    (0, Patch::Head(0, 4, 16), Some(20)),
+    (0, Patch::Head(0, 4, 12), Some(16)),
+    (0, Patch::Head(0, 4, 0), Some(3)),
     (1, Patch::Cell(&[]), Some(1027)),
     (1, Patch::Cell(&[2]), Some(1028)),
     (1, Patch::Cell(&[0, 0]), Some(1029)),
@@ -298,16 +303,16 @@ const PATCHED_BYTES: [(u32, Patch, Option<u64>); 13] = [
     (2, Patch::Byte(1, 3), Some(1)),
     (2, Patch::Byte(2, 9), Some(2)),
     (2, Patch::Byte(4, 1), Some(4)),
-    (2, Patch::Byte(12, 50), Some(12)),
-    (2, Patch::Byte(16, 3), Some(3072)),
+    (2, Patch::Byte(12, 51), Some(12)),
+    (2, Patch::Byte(20, 3), Some(19_456)),
     (2, Patch::Byte(1025, 3), Some(1025)),
     (2, Patch::Byte(1028, 2), Some(1028)),
     (2, Patch::Byte(1028, 0), Some(1029)),
     (2, Patch::Byte(1029, 3), Some(1032)),
     (2, Patch::Byte(1030, 32), Some(1030)),
-    (2, Patch::Byte(2048, 0), None),
+    (2, Patch::Byte(10_240, 0), None),
     // the second key becomes the first
-    (2, Patch::Byte(2055, 48), Some(2048)),
+    (2, Patch::Byte(10_247, 48), Some(10_240)),
     // what comes first in the order: frames, and then payloads
     (2, Patch::Byte(1030, 32), Some(1030)),
 ];
@@ -337,8 +342,47 @@ fn a_disk_stays_short(rt: HostRuntime) -> Result<(), Fail> {
         turn_over(alloc, &mut shelf, rounds)?;
         let faults = shelf.faults();
         let length = shelf.into_disk().bytes().len();
-        assert_eq!(rt; (faults, length), (0, 5120));
+        assert_eq!(rt; (faults, length), (0, 37_888));
     }
+    Ok(())
+}
+
+#[test]
+fn a_fresh_shelf_after_one_put_has_a_wide_cell(rt: HostRuntime) -> Result<(), Fail> {
+    assert_eq!(rt; filled(rt.alloc(), 1)?.len(), 10_240);
+    Ok(())
+}
+
+// A slot that accepted a text of 4,000 bytes.
+fn long_slot(alloc: Global) -> Result<Slot, Fail>
+    ensures { IfOk result SlotBallotsFit }
+{
+    Ok(Slot {
+        promise: ballot(2, 1),
+        accepted: Some(Accepted {
+            ballot: ballot(1, 16),
+            era: 7,
+            state: State::Held {
+                version: 3,
+                body: Body::Text(Text::read(alloc, &[b't'; 4_000])?),
+            },
+        }),
+    })
+}
+
+// Puts a long text on a shelf and reopens it. Whether it is there.
+fn keeps_a_long_text<S: Shelf>(alloc: Global, shelf: &mut S) -> Result<bool, Fail> {
+    let key = key(alloc, 0)?;
+    shelf.start()?;
+    shelf.put(&key, long_slot(alloc)?)?;
+    reopened(shelf)?;
+    Ok(shelf.get(&key)? == Some(long_slot(alloc)?))
+}
+
+#[test]
+fn a_long_text_is_kept(rt: HostRuntime) -> Result<(), Fail> {
+    let mut shelf = over(rt.alloc(), &[], &[], Image::Old)?;
+    assert!(rt; keeps_a_long_text(rt.alloc(), &mut shelf)?);
     Ok(())
 }
 

@@ -13,4 +13,6 @@ mod disk;
 #[cfg(test)]
 mod disk_shelf;
 #[cfg(test)]
+mod old_shelf;
+#[cfg(test)]
 mod vault;

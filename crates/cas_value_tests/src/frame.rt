@@ -15,21 +15,21 @@ use std::test::Fail;
 
 // Prepare `a` at 1.1, to acceptor 2, from proposer 1, at age 0.
 const PREPARE: [u8; 23] = [
-    1, 1, 2, 1, 0, 0, 0, 0, 0, 0, 0, 0, 1, 0x61, 0, 0, 0, 0, 0, 0, 0, 1, 1,
+    2, 1, 2, 1, 0, 0, 0, 0, 0, 0, 0, 0, 1, 0x61, 0, 0, 0, 0, 0, 0, 0, 1, 1,
 ];
 
 // Accept `a` at 1.1 in era 0, riding 2.1: the number 5 at version 0. The ends are the same.
 const ACCEPT: [u8; 54] = [
-    1, 2, 2, 1, 0, 0, 0, 0, 0, 0, 0, 0, 1, 0x61, 0, 0, 0, 0, 0, 0, 0, 1, 1, 0, 0, 0, 0, 1, 0, 0, 0,
+    2, 2, 2, 1, 0, 0, 0, 0, 0, 0, 0, 0, 1, 0x61, 0, 0, 0, 0, 0, 0, 0, 1, 1, 0, 0, 0, 0, 1, 0, 0, 0,
     0, 0, 0, 0, 2, 1, 1, 0, 0, 0, 0, 0, 0, 0, 0, 0, 0, 0, 0, 0, 0, 0, 5,
 ];
 
 // Promised with nothing accepted, from acceptor 2 to proposer 1, with the tag 1.1.
-const PROMISED: [u8; 15] = [1, 0x81, 2, 1, 1, 0, 0, 0, 0, 0, 0, 0, 1, 1, 0];
+const PROMISED: [u8; 15] = [2, 0x81, 2, 1, 1, 0, 0, 0, 0, 0, 0, 0, 1, 1, 0];
 
 // Met 3.1 in the prepare phase, from acceptor 3 to proposer 2, with the tag 1.2.
 const MET: [u8; 23] = [
-    1, 0x83, 3, 2, 1, 0, 0, 0, 0, 0, 0, 0, 1, 2, 0, 0, 0, 0, 0, 0, 0, 3, 1,
+    2, 0x83, 3, 2, 1, 0, 0, 0, 0, 0, 0, 0, 1, 2, 0, 0, 0, 0, 0, 0, 0, 3, 1,
 ];
 
 const FIRST: Ballot = Ballot {
@@ -215,7 +215,7 @@ fn has_ranges(
 
 const OF_A_REQUEST: [(usize, u8, bool); 33] = [
     (0, 0, false),
-    (0, 2, false),
+    (0, 1, false),
     (1, 0, false),
     (1, 1, false),
     (1, 7, false),
@@ -255,7 +255,7 @@ fn each_part_of_a_request_has_its_range(rt: HostRuntime) -> Result<(), Fail> {
 }
 
 const OF_A_REPLY: [(usize, u8, bool); 21] = [
-    (0, 2, false),
+    (0, 1, false),
     (1, 0x01, false),
     (1, 0x80, false),
     (1, 0x81, false),
@@ -285,7 +285,7 @@ fn each_part_of_a_reply_has_its_range(rt: HostRuntime) -> Result<(), Fail> {
 
 // Whether a reply of this kind to that kind of request, with these parts behind its head, is a frame.
 fn is_reply(alloc: Global, kind: u8, phase: u8, parts: &[u8]) -> Result<bool, AllocError> {
-    let head = [1, kind, 2, 1, phase, 0, 0, 0, 0, 0, 0, 0, 1, 1];
+    let head = [2, kind, 2, 1, phase, 0, 0, 0, 0, 0, 0, 0, 1, 1];
     is_frame_of(alloc, Sort::Reply, &head, parts)
 }
 
@@ -361,7 +361,7 @@ const ASKS: [(u8, &[u8], bool); 8] = [
 fn each_kind_of_request_has_its_parts(rt: HostRuntime) -> Result<(), Fail> {
     for (kind, parts, fits) in ASKS {
         let head = [
-            1, kind, 0, 0, 0, 0, 0, 0, 0, 0, 0, 0, 0, 0, 0, 0, 0, 0, 0, 1, 1,
+            2, kind, 0, 0, 0, 0, 0, 0, 0, 0, 0, 0, 0, 0, 0, 0, 0, 0, 0, 1, 1,
         ];
         let found = is_frame_of(rt.alloc(), Sort::Request, &head, parts)?;
         assert_eq!(rt; found, fits, "{kind} with {parts:?}");

@@ -97,10 +97,10 @@ fn asks_for(alloc: Global, escapes: u32, letters: u32) -> Result<Vec<u8>, AllocE
 #[test]
 fn limits_texts(rt: HostRuntime) -> Result<(), Fail> {
     for (escapes, letters, want) in [
-        (0, 200, None),
-        (200, 0, None),
-        (0, 201, Some((Why::TooLong, 1))),
-        (101, 100, Some((Why::TooLong, 1))),
+        (0, 4_000, None),
+        (4_000, 0, None),
+        (0, 4_001, Some((Why::TooLong, 1))),
+        (2_001, 2_000, Some((Why::TooLong, 1))),
     ] {
         let text = asks_for(rt.alloc(), escapes, letters)?;
         let found = refusal_of(rt.alloc(), &text);

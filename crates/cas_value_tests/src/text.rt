@@ -15,8 +15,8 @@ const TEXTS: [(&[u8], bool); 5] = [
     (b"", true),
     (b"hello all", true),
     (b"\x00 \n\xFF", true),
-    (&[b't'; 200], true),
-    (&[b't'; 201], false),
+    (&[b't'; 4_000], true),
+    (&[b't'; 4_001], false),
 ];
 
 #[test]

@@ -6,7 +6,7 @@ use Rattle.std.proofs.lemmas.Bool.{ltb-true}
 use Rattle.std.proofs.lemmas.List.{nil_from_length}
 use Rattle.cas_base.proofs.Bools.{some_is}
 use Rattle.cas_disk.specs.Disk.{Only, LeavesOnly}
-use Rattle.cas_cells.specs.Format.{StandsFor, head_in, count_told, cells_on, payload_at, payload_place, place_of, payload_in, frame_at, is_open}
+use Rattle.cas_cells.specs.Format.{StandsFor, head_in, count_told, cells_on, payload_at, payload_place, place_of, payload_in, frame_at, cell_place, half_size, is_open}
 use Rattle.cas_cells.specs.Held.{IsRow}
 use Rattle.cas_cells.specs.Cells as cells
 use Rattle.cas_cells.specs.declared.cells.Cells.{Cells}
@@ -115,27 +115,27 @@ pub row_read : (row : List (Option (List ℕ))) (payload : List ℕ) (kept : Kep
 row_read row payload kept is held spells = only_cell row kept is (sym (head_is row payload is held) ∙ spells.bytes_are)
 
 -- and a disk of that row has it in its cell 0
-pub payload_there : (row : List (Option (List ℕ))) (payload disk : List ℕ) → IsRow row → payload ≡ head_in row → cells_on disk ≡ row → payload_at disk 0 ≡ Some payload
+pub payload_there : (row : List (Option (List ℕ))) (payload disk : List ℕ) → IsRow row → payload ≡ head_in row → cells_on disk ≡ row → payload_at 0 disk 0 ≡ Some payload
 payload_there row payload disk is held same =
-    some_is (payload_at disk 0) (Some payload) (ap (λ (l : List (Option (List ℕ))). slice_get l 0) same ∙ row_head row is ∙ (λ t. Some (Some (sym held t))))
+    some_is (payload_at 0 disk 0) (Some payload) (ap (λ (l : List (Option (List ℕ))). slice_get l 0) same ∙ row_head row is ∙ (λ t. Some (Some (sym held t))))
 
 -- where a payload begins, by which frame holds it
-abbrev place_by : Bool → Bool → Option ℕ
-place_by second first = cond second (Some 516) (cond first (Some 4) None)
+abbrev place_by : ℕ → Bool → Bool → Option ℕ
+place_by size second first = cond second (Some (size + 4)) (cond first (Some 4) None)
 
 -- a payload begins somewhere
-placed_there : (second first : Bool) (p q payload : List ℕ) → cond second (Some q) (cond first (Some p) None) ≡ Some payload → place_by second first ≡ Some (unwrap_or (place_by second first) 0)
-placed_there true first p q payload is = refl
-placed_there false true p q payload is = refl
-placed_there false false p q payload is = absurd (cc)
+placed_there : (size : ℕ) (second first : Bool) (p q payload : List ℕ) → cond second (Some q) (cond first (Some p) None) ≡ Some payload → place_by size second first ≡ Some (unwrap_or (place_by size second first) 0)
+placed_there size true first p q payload is = refl
+placed_there size false true p q payload is = refl
+placed_there size false false p q payload is = absurd (cc)
 
 mapped_there : (o : Option ℕ) (n : ℕ) → o ≡ Some (unwrap_or o 0) → option_map (λ place. n + place) o ≡ Some (unwrap_or (option_map (λ place. n + place) o) 0)
 mapped_there None n is = absurd (cc)
 mapped_there (Some place) n is = refl
 
-pub place_there : (disk payload : List ℕ) → payload_at disk 0 ≡ Some payload → payload_place disk 0 ≡ Some (unwrap_or (payload_place disk 0) 0)
+pub place_there : (disk payload : List ℕ) → payload_at 0 disk 0 ≡ Some payload → payload_place 0 disk 0 ≡ Some (unwrap_or (payload_place 0 disk 0) 0)
 place_there disk payload is =
-    mapped_there (place_of (frame_at disk 0) (frame_at disk 1)) 0 (placed_there _ (is_open (frame_at disk 0)) (payload_in (frame_at disk 0)) (payload_in (frame_at disk 1)) payload is)
+    mapped_there (place_of (half_size 0 0) (frame_at 0 disk 0) (frame_at 0 disk 1)) (cell_place 0 0) (placed_there (half_size 0 0) _ (is_open (frame_at 0 disk 0)) (payload_in (frame_at 0 disk 0)) (payload_in (frame_at 0 disk 1)) payload is)
 
 -- what a vault was past, it is past over an image of its disk, if its counter is not below the bound there
 pub past_image : {D : Type 0} (may_leave : D → List ℕ → Type 0) (old new : Vault D) (seen : List ℕ) (n : ℕ) → may_leave (disk_of old) seen → Only seen (may_leave (disk_of new)) → ((kept : Kept) → KeptOn kept seen → n ≤ old.counter → n ≤ kept.bound → n ≤ new.counter) → IsPast may_leave n old → IsPast may_leave n new
@@ -145,3 +145,7 @@ past_image may_leave old new seen n image only counter past =
       counter = counter there.0 there.1 past.counter there.2;
       images = λ c left. (there.0, subst (λ (l : List ℕ). KeptOn there.0 l) (sym (only c left)) there.1, there.2);
     }
+
+-- a disk that stands for a row of a record alone keeps it
+pub row_keeps : (row : List (Option (List ℕ))) (kept : Kept) (disk : List ℕ) → IsKept kept → row ≡ Some (spelling kept) ∷ [] → StandsFor row disk → KeptOn kept disk
+row_keeps row kept disk fits is stands = record { fits = fits; row = subst (λ (l : List (Option (List ℕ))). StandsFor l disk) is stands }

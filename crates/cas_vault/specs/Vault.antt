@@ -61,4 +61,4 @@ kept_in_era number kept = record kept { era = number }
 -- a sound row, one that no record has in the payload of cell 0.
 abbrev pub IsForeignAt : List ℕ → ℕ → Type 0
 IsForeignAt disk at = (foreign_at disk ≡ Some at)
-    ⊎ ((place : ℕ) × (payload : List ℕ) × (wrong : ℕ) × (foreign_at disk ≡ None) × (payload_at disk 0 ≡ Some payload) × (payload_place disk 0 ≡ Some place) × IsFirstWrong payload wrong × (at ≡ place + wrong))
+    ⊎ ((place : ℕ) × (payload : List ℕ) × (wrong : ℕ) × (foreign_at disk ≡ None) × (payload_at 0 disk 0 ≡ Some payload) × (payload_place 0 disk 0 ≡ Some place) × IsFirstWrong payload wrong × (at ≡ place + wrong))

@@ -11,5 +11,6 @@ pub mod PartStops
 pub mod Puts
 pub mod ReplyFormats
 pub mod RequestFormats
+pub mod Rooms
 pub mod Stops
 pub mod Taking

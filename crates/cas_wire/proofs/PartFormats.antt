@@ -115,7 +115,7 @@ pub counter_format : IsFormat (to_be_bytes w64) (λ n. n ≤ 2 ^ 48) counter_at
 unfolding counter_at
 counter_format = limited_format w64 (2 ^ 64) (2 ^ 48) most_counter counter_limit
 
-pub length_limit : IsLimit w16 (2 ^ 16) 200 most_length
+pub length_limit : IsLimit w16 (2 ^ 16) 4000 most_length
 length_limit = record {
   wide = wide16;
   below = lit< tt;
@@ -127,8 +127,8 @@ length_limit = record {
   spelled_fits = IsBytes-high_first 2;
 }
 
-pub length_format : IsFormat (to_be_bytes w16) (λ n. n ≤ 200) (limited_at w16 most_length)
-length_format = limited_format w16 (2 ^ 16) 200 most_length length_limit
+pub length_format : IsFormat (to_be_bytes w16) (λ n. n ≤ 4000) (limited_at w16 most_length)
+length_format = limited_format w16 (2 ^ 16) 4000 most_length length_limit
 
 -- ---- ballots
 

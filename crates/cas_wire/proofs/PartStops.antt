@@ -184,10 +184,10 @@ ballot_stops =
 abbrev zeros : ℕ → List ℕ
 zeros n = replicate n 0
 
-length_at_stops : Stops (to_be_bytes w16) (λ n. n ≤ 200) (limited_at w16 most_length)
-length_at_stops = limited_stops w16 (2 ^ 16) 200 most_length length_limit
+length_at_stops : Stops (to_be_bytes w16) (λ n. n ≤ 4000) (limited_at w16 most_length)
+length_at_stops = limited_stops w16 (2 ^ 16) 4000 most_length length_limit
 
-text_of_length : (n : ℕ) → n ≤ 200 → IsText (zeros n) × (length (zeros n) ≡ n)
+text_of_length : (n : ℕ) → n ≤ 4000 → IsText (zeros n) × (length (zeros n) ≡ n)
 text_of_length n few = let fill = length-replicate {A = ℕ} n 0 in (omega (arith, fill, few), fill)
 
 text_stops : Stops (λ text. to_be_bytes w16 (length text) ++ text) IsText text_at
@@ -201,7 +201,7 @@ text_stops bytes left fits e = elim (bind_err (limited_at w16 most_length bytes)
       let t = length_format.takes bytes n.0 fits n.1 in
       let s = some_short n.0.0 n.0.1 left n.2 in
       let count : length (n.0.1 ++ zeros (n.0.0 - length n.0.1)) ≡ n.0.0 = omega (arith, s.0, length-append n.0.1 (zeros (n.0.0 - length n.0.1)), length-replicate {A = ℕ} (n.0.0 - length n.0.1) 0) in
-      let most : n.0.0 ≤ 200 = t.1 in
+      let most : n.0.0 ≤ 4000 = t.1 in
       stops_second {B = List ℕ} {C = List ℕ} {t = λ (text : List ℕ). text} {G = λ text. IsText text × (length text ≡ n.0.0)} {w = λ (text : List ℕ). to_be_bytes w16 (length text) ++ text} {W = IsText} length_format
       bytes n.0.0 n.0.1 left t.1 t.0.parts
       (ended (λ (text : List ℕ). text) (λ text. IsText text × (length text ≡ n.0.0)) n.0.1 left s.1 (n.0.1 ++ zeros (n.0.0 - length n.0.1)) (zeros (n.0.0 - length n.0.1)) (omega (arith, count, most), count) refl)

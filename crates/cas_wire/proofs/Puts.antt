@@ -1,5 +1,5 @@
 -- Writing values one after another, as a loop does.
-use Rattle.std.proofs.Common.{◌≡◌, ℕ, ◌+◌, ◌*◌, ◌<◌, List, [], ◌∷◌, ◌++◌, length, get_or, take, sym, ap, subst, ◌∙◌, append_assoc, arith}
+use Rattle.std.proofs.Common.{◌≡◌, ℕ, ◌+◌, ◌*◌, ◌<◌, ◌≤◌, List, [], ◌∷◌, ◌++◌, length, get_or, take, sym, ap, subst, ◌∙◌, append_assoc, arith}
 use Rattle.std.specs.Global.{Vec}
 use Rattle.std.specs.List.{flat_map, AllByRecursion}
 use Rattle.std.proofs.lemmas.List.{take_more, flat_map_more}
@@ -41,5 +41,9 @@ pub four_put : (a b c d e : Vec ℕ) (w x y z : ℕ) → Puts a b (w ∷ []) 1 �
 four_put a b c d e w x y z p q r s =
     Puts-then a d e (w ∷ x ∷ y ∷ []) (z ∷ []) 3 1 (Puts-then a c d (w ∷ x ∷ []) (y ∷ []) 2 1 (Puts-then a b c (w ∷ []) (x ∷ []) 1 1 p q) r) s
 
-pub Puts-as : (a b : Vec ℕ) (s t : List ℕ) (m : ℕ) → Puts a b s m → s ≡ t → Puts a b t m
-Puts-as a b s t m p e = subst (λ (text : List ℕ). Puts a b text m) e p
+pub Puts-as : (a b : Vec ℕ) (s t : List ℕ) (m n : ℕ) → Puts a b s m → s ≡ t → m ≤ n → Puts a b t n
+Puts-as a b s t m n p e few = record {
+  items = p.items ∙ ap (λ (text : List ℕ). a.items ++ text) e;
+  len = let k = p.len in omega arith;
+  capacity = p.capacity;
+}

@@ -204,15 +204,15 @@ record FitsHead (head : ReplyHead) : Type 0 where
   got : is_head head ≡ true
 
 head_parts : ReplyHead → ℕ × (TellKind × (ℕ × (ℕ × (Phase × Ballot))))
-head_parts head = (1, (head.kind, (head.from, (head.to, (head.phase, head.tag)))))
+head_parts head = (2, (head.kind, (head.from, (head.to, (head.phase, head.tag)))))
 
 abbrev head_spelling : ReplyHead → List ℕ
-head_spelling head = 1 ∷ kind_byte head.kind ∷ head.from ∷ head.to ∷ phase_byte head.phase ∷ ballot_spelling head.tag
+head_spelling head = 2 ∷ kind_byte head.kind ∷ head.from ∷ head.to ∷ phase_byte head.phase ∷ ballot_spelling head.tag
 
 head_format : IsFormat head_spelling FitsHead reply_head_at
 unfolding reply_head_at head_parts
 head_format =
-    let format = where_format is_head (made_format reply_head_of head_parts (λ p fits. ap (λ (n : ℕ). (n, p.1)) (sym (eqb-true p.0 1 fits.0.0))) (λ head. refl)
+    let format = where_format is_head (made_format reply_head_of head_parts (λ p fits. ap (λ (n : ℕ). (n, p.1)) (sym (eqb-true p.0 2 fits.0.0))) (λ head. refl)
     (pair_format (byte_format is_format) (pair_format kind_format (pair_format (byte_format is_acceptor) (pair_format (byte_format is_proposer) (pair_format phase_format ballot_format)))))) in
     record {
       takes = λ bytes x fits e. let t = format.takes bytes x fits e in (t.0, record { from = leb-true x.0.from 63 t.1.0.1.1.0.0; to = leb-true x.0.to 16 t.1.0.1.1.1.0.0; tag = t.1.0.1.1.1.1.1; got = t.1.1 });

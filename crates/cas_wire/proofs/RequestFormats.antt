@@ -102,15 +102,15 @@ record FitsHead (head : RequestHead) : Type 0 where
   age : head.age < 2 ^ 64
 
 head_parts : RequestHead → ℕ × (Phase × (ℕ × (ℕ × ℕ)))
-head_parts head = (1, (head.phase, (head.to, (head.from, head.age))))
+head_parts head = (2, (head.phase, (head.to, (head.from, head.age))))
 
 abbrev head_spelling : RequestHead → List ℕ
-head_spelling head = 1 ∷ phase_byte head.phase ∷ head.to ∷ head.from ∷ to_be_bytes w64 head.age
+head_spelling head = 2 ∷ phase_byte head.phase ∷ head.to ∷ head.from ∷ to_be_bytes w64 head.age
 
 head_format : IsFormat head_spelling FitsHead request_head_at
 unfolding request_head_at head_parts
 head_format =
-    let format = made_format request_head_of head_parts (λ p fits. ap (λ (n : ℕ). (n, p.1)) (sym (eqb-true p.0 1 fits.0.0))) (λ head. refl)
+    let format = made_format request_head_of head_parts (λ p fits. ap (λ (n : ℕ). (n, p.1)) (sym (eqb-true p.0 2 fits.0.0))) (λ head. refl)
     (pair_format (byte_format is_format) (pair_format phase_format (pair_format (byte_format is_acceptor) (pair_format (byte_format is_proposer) (number_format w64 (2 ^ 64) wide64))))) in
     record {
       takes = λ bytes x fits e. let t = format.takes bytes x fits e in (t.0, record { to = leb-true x.0.to 63 t.1.1.1.0.0; from = leb-true x.0.from 16 t.1.1.1.1.0.0; age = t.1.1.1.1.1 });

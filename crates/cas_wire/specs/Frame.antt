@@ -1,4 +1,4 @@
--- The grammar of frames, format 1: the one spelling of each request and each reply, and what has one.
+-- The grammar of frames, format 2: the one spelling of each request and each reply, and what has one.
 use Rattle.std.specs.Prelude.{◌≡◌, ℕ, ◌^◌, ◌<◌, ◌≤◌, Bool, IsTrue, List, [], ◌∷◌, ◌++◌, length, Option, IfSome}
 use Rattle.std.specs.Int.{w32, w64, to_be_bytes}
 use Rattle.std.specs.List.{flat_map, AllByRecursion}
@@ -31,7 +31,7 @@ ask_spelling (Probe tag key) = ballot_spelling tag ++ key_spelling key
 -- the format, the kind, the acceptor, the proposer, and the age in eight bytes
 unfoldable pub request_spelling : Request → List ℕ
 request_spelling request =
-    (1 ∷ phase_byte (phase_of request.ask) ∷ request.to ∷ request.from ∷ to_be_bytes w64 request.age) ++ ask_spelling request.ask
+    (2 ∷ phase_byte (phase_of request.ask) ∷ request.to ∷ request.from ∷ to_be_bytes w64 request.age) ++ ask_spelling request.ask
 
 abbrev pub FitsAsk : Ask → Type 0
 FitsAsk (Prepare key ballot) = IsKey key × FitsBallot ballot
@@ -74,7 +74,7 @@ tell_spelling (tell.Probed promise accepted) = ballot_spelling promise ++ option
 -- the format, the kind, the acceptor, the proposer, the kind of the request, and its ballot
 unfoldable pub reply_spelling : Reply → List ℕ
 reply_spelling reply =
-    (1 ∷ kind_byte (kind_of reply.tell) ∷ reply.from ∷ reply.to ∷ phase_byte reply.phase ∷ ballot_spelling reply.tag) ++ tell_spelling reply.tell
+    (2 ∷ kind_byte (kind_of reply.tell) ∷ reply.from ∷ reply.to ∷ phase_byte reply.phase ∷ ballot_spelling reply.tag) ++ tell_spelling reply.tell
 
 -- at most four keys that rise above the one gone on after, and four where more follow
 pub record FitsListing (after : Option (List ℕ)) (keys : List (List ℕ)) (more : Bool) : Type 0 where

@@ -48,7 +48,7 @@ whole_of a [] = Some a
 whole_of a (b ∷ rest) = None
 
 abbrev pub is_format : ℕ → Bool
-is_format n = nat_eq n 1
+is_format n = nat_eq n 2
 
 abbrev pub is_acceptor : ℕ → Bool
 is_acceptor n = nat_le n 63

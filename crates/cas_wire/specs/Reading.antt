@@ -82,9 +82,9 @@ ballot_of parts = record { counter = parts.0; proposer = parts.1 }
 unfoldable pub ballot_at : List ℕ → Reading Ballot
 ballot_at = made_at ballot_of (pair_at counter_at (byte_where is_proposer))
 
--- 200, in two bytes
+-- 4,000, in two bytes
 abbrev pub most_length : List ℕ
-most_length = 0 ∷ 200 ∷ []
+most_length = 15 ∷ 160 ∷ []
 
 unfoldable pub text_at : List ℕ → Reading (List ℕ)
 text_at bytes = stopped_at (rise_at most_length bytes) bytes (number_at w16 bytes) >>= λ n. some_at n.0 n.1

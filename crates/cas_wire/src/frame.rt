@@ -12,10 +12,10 @@ use cas_ballot::AcceptorId;
 use cas_slot::Phase;
 
 /// The format of all frames.
-pub(crate) const FORMAT: u8 = 1;
+pub(crate) const FORMAT: u8 = 2;
 
 /// No frame has more bytes.
-pub const LONGEST_FRAME: usize = 512;
+pub const LONGEST_FRAME: usize = 4_608;
 
 pub(crate) fn format_at(bytes: &[u8]) -> Result<(u8, &[u8]), ReadError>
     ensures { Gives (λ x. (x.0, x.1.now)) result (byte_where is_format bytes.now) }

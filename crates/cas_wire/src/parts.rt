@@ -54,7 +54,7 @@ pub fn push_accepted(out: &mut Vec<u8>, accepted: Option<&Accepted>) -> Result<(
     ensures fits { OnOk result (IfSome (option_copied accepted.entry) FitsAccepted) }
     ensures err { OnErr result (out.new.items ≡ out.old.items) }
 {
-    out.reserve(225)?;
+    out.reserve(31 + writing::accepted_room(accepted))?;
     writing::put_accepted_or_none(out, accepted);
     Ok(())
 }

@@ -200,7 +200,7 @@ fn first_bad_byte(bytes: &[u8]) -> Option<usize>
 fn text_at(alloc: Global, bytes: &[u8]) -> Result<(Text, &[u8]), ReadError>
     ensures { Gives (λ x. (x.0, x.1.now)) result (text_at bytes.now) }
 {
-    if let Some(i) = rise_at(&[0, 200], bytes) {
+    if let Some(i) = rise_at(&[15, 160], bytes) {
         return wrong(bytes.len() - i);
     }
     let (len, rest) = u16_at(bytes)?;

@@ -245,11 +245,11 @@ fn put_listing(out: &mut Vec<u8>, after: Option<&Key>, keys: &[Key], more: bool)
     writing::put_byte(out, u8::from(more));
 }
 
-#[tactic(auto, unfolding(crate::specs::Frame::tell_spelling))]
+#[tactic(auto, using(crate::proofs::Rooms::accepted_small), unfolding(crate::specs::Frame::tell_spelling))]
 fn put_tell(out: &mut Vec<u8>, tell: &Tell)
-    requires room { vec_len out.old + 328 ≤ vec_capacity out.old }
+    requires room { vec_len out.old + 4040 ≤ vec_capacity out.old }
     requires tell { TellFits tell.now }
-    ensures spelling { Puts out.old out.new (tell_spelling tell.now) 328 }
+    ensures spelling { Puts out.old out.new (tell_spelling tell.now) 4040 }
     ensures fits { FitsTell tell.now }
 {
     match tell {
@@ -269,9 +269,9 @@ fn put_tell(out: &mut Vec<u8>, tell: &Tell)
 
 #[tactic(auto, unfolding(crate::specs::Frame::reply_spelling))]
 fn put_reply(out: &mut Vec<u8>, reply: &Reply)
-    requires room { vec_len out.old + 342 ≤ vec_capacity out.old }
+    requires room { vec_len out.old + 4054 ≤ vec_capacity out.old }
     requires told { CanBeTold reply.now }
-    ensures spelling { Puts out.old out.new (reply_spelling reply.now) 342 }
+    ensures spelling { Puts out.old out.new (reply_spelling reply.now) 4054 }
     ensures fits { FitsReply reply.now }
 {
     writing::put_byte(out, FORMAT);

@@ -7,6 +7,7 @@ ghost use Rattle.cas_wire.specs.Frame.{IsRequest, CanBeAsked, FitsAsk, FitsReque
 ghost use Rattle.cas_wire.specs.FrameReading.{named_at, accept_at, ages_at, ask_at, request_head_at, request_at};
 ghost use Rattle.cas_wire.specs.Kinds.{phases};
 ghost use Rattle.cas_wire.specs.Part.{Gives};
+ghost use Rattle.cas_wire.specs.Room.{ask_room};
 ghost use Rattle.cas_wire.specs.Writing.{Puts};
 
 use crate::frame::{FORMAT, LONGEST_FRAME, acceptor_at, format_at, phase_at, whole};
@@ -143,11 +144,26 @@ pub fn decode_request(alloc: Global, bytes: &[u8]) -> Result<Option<Request>, Al
     }
 }
 
+/// How much room the text of a question takes.
+fn ask_room(ask: &Ask) -> usize
+    ensures room { result ≡ ask_room ask.now }
+    ensures small { result ≤ 4000 }
+{
+    match ask {
+        Ask::Accept { state, .. } => writing::state_room(state),
+        Ask::Prepare { .. }
+        | Ask::Ages { .. }
+        | Ask::Remove { .. }
+        | Ask::List { .. }
+        | Ask::Probe { .. } => 0,
+    }
+}
+
 #[tactic(auto, unfolding(crate::specs::Frame::ask_spelling))]
 fn put_ask(out: &mut Vec<u8>, ask: &Ask)
-    requires room { vec_len out.old + 299 ≤ vec_capacity out.old }
+    requires room { vec_len out.old + (145 + ask_room ask.now) ≤ vec_capacity out.old }
     requires ballots { AskBallotsFit ask.now }
-    ensures spelling { Puts out.old out.new (ask_spelling ask.now) 299 }
+    ensures spelling { Puts out.old out.new (ask_spelling ask.now) (145 + ask_room ask.now) }
     ensures fits { FitsAsk ask.now }
 {
     match ask {
@@ -189,9 +205,9 @@ fn put_ask(out: &mut Vec<u8>, ask: &Ask)
 
 #[tactic(auto, unfolding(crate::specs::Frame::request_spelling))]
 fn put_request(out: &mut Vec<u8>, request: &Request)
-    requires room { vec_len out.old + 311 ≤ vec_capacity out.old }
+    requires room { vec_len out.old + (157 + ask_room request.now.ask) ≤ vec_capacity out.old }
     requires ask { CanBeAsked request.now }
-    ensures spelling { Puts out.old out.new (request_spelling request.now) 311 }
+    ensures spelling { Puts out.old out.new (request_spelling request.now) (157 + ask_room request.now.ask) }
     ensures fits { FitsRequest request.now }
 {
     writing::put_byte(out, FORMAT);
@@ -209,7 +225,7 @@ pub fn encode_request(alloc: Global, request: &Request) -> Result<Vec<u8>, Alloc
     ensures short { IfOk result (λ frame. length frame.items ≤ LONGEST_FRAME) }
     ensures alone { IfOk result (λ frame. (more : List ℕ) (other : Request) → IsRequest (frame.items ++ more) other → (more ≡ []) × (other ≡ request.now)) }
 {
-    let mut frame = Vec::with_capacity(alloc, LONGEST_FRAME)?;
+    let mut frame = Vec::with_capacity(alloc, 157 + ask_room(&request.ask))?;
     put_request(&mut frame, request);
     Ok(frame)
 }

@@ -6,6 +6,7 @@ ghost use Rattle.std.specs.Int.{w16, w32, w64, to_be_bytes, cast_unsigned};
 ghost use Rattle.std.specs.Option.{option_copied};
 ghost use Rattle.cas_ballot.specs.Ballot.{FitsBallot};
 ghost use Rattle.cas_change.specs.Key.{IsKey};
+ghost use Rattle.cas_wire.specs.Room.{body_room, state_room, accepted_room};
 ghost use Rattle.cas_wire.specs.Spelling.{FitsBody, FitsState, FitsAccepted, key_spelling, ballot_spelling, body_kind, body_spelling, state_spelling, accepted_spelling, optional_spelling};
 ghost use Rattle.cas_wire.specs.Writing.{Puts};
 
@@ -27,7 +28,7 @@ pub(crate) fn put_byte(out: &mut Vec<u8>, byte: u8)
     requires { vec_len out.old + 1 ≤ vec_capacity out.old }
     ensures { Puts out.old out.new (byte ∷ []) 1 }
 {
-    put(out, &[byte]);
+    out.push_reserved(byte);
 }
 
 pub(crate) fn put_u16(out: &mut Vec<u8>, number: u16)
@@ -96,9 +97,42 @@ const fn kind_of(body: &Body) -> u8
     }
 }
 
+/// How much room the text of a body takes.
+fn body_room(body: &Body) -> usize
+    ensures room { result ≡ body_room body.now }
+    ensures small { result ≤ 4000 }
+{
+    match body {
+        Body::Number(_) => 0,
+        Body::Text(text) => text.bytes().len(),
+    }
+}
+
+/// How much room the text of a state takes.
+pub(crate) fn state_room(state: &State) -> usize
+    ensures room { result ≡ state_room state.now }
+    ensures small { result ≤ 4000 }
+{
+    match state {
+        State::Empty => 0,
+        State::Held { body, .. } => body_room(body),
+    }
+}
+
+/// How much room the text of what was accepted takes, if anything was.
+pub(crate) fn accepted_room(accepted: Option<&Accepted>) -> usize
+    ensures room { result ≡ accepted_room (option_copied accepted.entry) }
+    ensures small { result ≤ 4000 }
+{
+    match accepted {
+        Some(accepted) => state_room(&accepted.state),
+        None => 0,
+    }
+}
+
 fn put_body(out: &mut Vec<u8>, body: &Body)
-    requires { vec_len out.old + 202 ≤ vec_capacity out.old }
-    ensures spelling { Puts out.old out.new (body_spelling body.now) 202 }
+    requires { vec_len out.old + (8 + body_room body.now) ≤ vec_capacity out.old }
+    ensures spelling { Puts out.old out.new (body_spelling body.now) (8 + body_room body.now) }
     ensures fits { FitsBody body.now }
 {
     match body {
@@ -113,8 +147,8 @@ fn put_body(out: &mut Vec<u8>, body: &Body)
 
 #[tactic(auto, using(crate::proofs::Fitting::held_fits), unfolding(crate::specs::Spelling::state_spelling))]
 pub(crate) fn put_state(out: &mut Vec<u8>, state: &State)
-    requires { vec_len out.old + 211 ≤ vec_capacity out.old }
-    ensures spelling { Puts out.old out.new (state_spelling state.now) 211 }
+    requires { vec_len out.old + (17 + state_room state.now) ≤ vec_capacity out.old }
+    ensures spelling { Puts out.old out.new (state_spelling state.now) (17 + state_room state.now) }
     ensures fits { FitsState state.now }
 {
     match state {
@@ -129,8 +163,8 @@ pub(crate) fn put_state(out: &mut Vec<u8>, state: &State)
 
 #[tactic(auto, unfolding(crate::specs::Spelling::accepted_spelling))]
 pub(crate) fn put_accepted(out: &mut Vec<u8>, accepted: &Accepted)
-    requires { vec_len out.old + 224 ≤ vec_capacity out.old }
-    ensures spelling { Puts out.old out.new (accepted_spelling accepted.now) 224 }
+    requires { vec_len out.old + (30 + state_room accepted.now.state) ≤ vec_capacity out.old }
+    ensures spelling { Puts out.old out.new (accepted_spelling accepted.now) (30 + state_room accepted.now.state) }
     ensures fits { FitsBallot accepted.now.ballot → FitsAccepted accepted.now }
 {
     put_ballot(out, accepted.ballot);
@@ -139,8 +173,8 @@ pub(crate) fn put_accepted(out: &mut Vec<u8>, accepted: &Accepted)
 }
 
 pub(crate) fn put_accepted_or_none(out: &mut Vec<u8>, accepted: Option<&Accepted>)
-    requires { vec_len out.old + 225 ≤ vec_capacity out.old }
-    ensures spelling { Puts out.old out.new (optional_spelling accepted_spelling (option_copied accepted.entry)) 225 }
+    requires { vec_len out.old + (31 + accepted_room (option_copied accepted)) ≤ vec_capacity out.old }
+    ensures spelling { Puts out.old out.new (optional_spelling accepted_spelling (option_copied accepted.entry)) (31 + accepted_room (option_copied accepted.entry)) }
     ensures fits { IfSome (option_copied accepted.entry) (λ a. FitsBallot a.ballot → FitsAccepted a) }
 {
     match accepted {

@@ -1,4 +1,5 @@
-use Rattle.std.proofs.Common.{◌≡◌, Some, Err, false, refl, sym, ◌∙◌, ap, subst}
+use Rattle.std.proofs.Common.{◌≡◌, Some, Err, Option, List, ℕ, false, refl, sym, ◌∙◌, ap, subst}
+use Rattle.cas_cells.specs.Format.{narrow_in, head_in, IsPayload}
 use Rattle.cas_cells.specs.Held.{other}
 use Rattle.std.proofs.Math.ListN.{set}
 use Rattle.cas_disk.specs.declared.disk.DiskFault.{DiskFault}
@@ -34,7 +35,7 @@ returns-in_err-shut_spare-clause-after_no_memory g c no_memory =
     let cell = c.index_mut-held.result.now in
     let is = at_index cells c.args.cell cell s.row c.requires.within c.index_mut-held.ensures.value in
     let fault = told_no_memory c.from_residual.result c.in_err-shut_spare.field-0.0 c.from_residual.ensures.1 no_memory in
-    stands_kept g.D.Disk.tells g.D.Disk.seen g.D.Disk.may_leave c.args.self.now _ s (ap (λ (m : Cell). set cells c.args.cell m) c.in_err-shut_spare.ensures.same ∙ set_own cells c.args.cell cell is) refl
+    stands_kept g.D.Disk.tells g.D.Disk.seen g.D.Disk.may_leave c.args.self.now _ s (ap (λ (m : Cell). set cells c.args.cell m) c.in_err-shut_spare.ensures.same ∙ set_own cells c.args.cell cell is) refl refl
     (λ tells. c.shut_spare.ensures.unchanged tells (c.in_err-shut_spare.was ∙ ap (λ (e : DiskFault). Err e) fault))
 
 pub returns-clause-stands : goal.returns-clause-stands
@@ -47,8 +48,10 @@ returns-clause-stands g c =
     let is = at_index cells c.args.cell cell s.row c.requires.within c.index_mut-held.ensures.value in
     record {
       row = rw (view_same cells c.args.cell cell cell' is c.in_ok-shut_spare.ensures.shut.held) s.row;
+      narrow = s.narrow ∙ ap narrow_in (sym (view_same cells c.args.cell cell cell' is c.in_ok-shut_spare.ensures.shut.held));
+      head = subst (λ (v : List (Option (List ℕ))). IsPayload 512 (head_in v)) (sym (view_same cells c.args.cell cell cell' is c.in_ok-shut_spare.ensures.shut.held)) s.head;
       agrees = tt;
-      on_disk = λ tells. disk_set cells _ new c.args.cell (other cell.side) cell' (s.on_disk tells) (c.in_ok-shut_spare.ensures.others tells) (within_row cells c.args.cell s.row c.requires.within) (c.in_ok-shut_spare.ensures.held tells);
+      on_disk = λ tells. disk_set c.args.self.now.narrow cells _ new c.args.cell (other cell.side) cell' (s.on_disk tells) (c.in_ok-shut_spare.ensures.others tells) (within_row cells c.args.cell s.row c.requires.within) (c.in_ok-shut_spare.ensures.held tells);
       under_way = λ tells cell'' is''.
           let both : Some cell' ≡ Some cell'' = sym (get_set_same cells c.args.cell cell' (within_row cells c.args.cell s.row c.requires.within)) ∙ is'' in
           let same : cell' ≡ cell'' = cc in (subst (λ (m : Cell). m.spare_open ≡ false) same c.in_ok-shut_spare.ensures.shut.spare, tt);

@@ -2,16 +2,18 @@ use Rattle.std.proofs.Common.{◌≡◌, inl, ◌+◌, ◌*◌, ◌<◌, ◌≤�
 use Rattle.std.proofs.Math.ListN.{set, length-set}
 use Rattle.std.proofs.lemmas.List.{map-append}
 use Rattle.cas_disk.specs.declared.disk.DiskFault.{DiskFault}
-use Rattle.cas_cells.specs.Format.{frame_at, count_in, head_in, with_count, grown, IsBeforeOrAfter}
+use Rattle.cas_cells.specs.Format.{frame_at, cell_place, half_size, IsPayload, narrow_in, wide_in, head_in, with_count, grown, IsBeforeOrAfter}
 use Rattle.cas_cells.specs.UnderWay.{change_held}
 use Rattle.cas_cells.specs.Held.{IsShut, IsRow, OnDisk, CellHeld, payload_held, frame_of, other}
 use Rattle.cas_cells.specs.Cells.{cells_of, Agrees, IsUnderWay}
 use Rattle.cas_cells.specs.declared.cell.Cell.{Cell}
 use Rattle.cas_cells.proofs.Counting.{number_behind}
+use Rattle.cas_cells.proofs.Places.{first_size}
 use Rattle.cas_cells.proofs.Rows.{disk_set, map_set, frame_of_apart}
+use Rattle.cas_cells.proofs.Lengths.{within_more}
 use Rattle.cas_cells.proofs.Using.{told_no_memory, view_same, stands_kept, blank_stands}
-use Rattle.cas_cells.proofs.Growing.{room_behind, on_below, disk_push, grown_is, grown_row, blank_behind, frame_below, still_under_way}
-use Rattle.cas_cells.proofs.Stepping.{reads, rests, blanking_stands, growth_stands, growth_length}
+use Rattle.cas_cells.proofs.Growing.{room_behind, on_below, disk_push, grown_is, grown_row, grown_narrow, grown_head, blank_behind, frame_below, still_under_way}
+use Rattle.cas_cells.proofs.Stepping.{row_end, reads, rests, blanking_stands, growth_stands, growth_length}
 use Rattle.cas_cells.proofs.cells.Cells.grow.Goals as goal
 
 pub returns-in_err-head-clause-any_moment : goal.returns-in_err-head-clause-any_moment
@@ -22,34 +24,37 @@ returns-in_err-reserve-clause-any_moment g c tells = rests c.requires.stands tel
 
 pub returns-in_err-reserve-clause-after_no_memory : goal.returns-in_err-reserve-clause-after_no_memory
 returns-in_err-reserve-clause-after_no_memory g c no_memory =
-    stands_kept g.D.Disk.tells g.D.Disk.seen g.D.Disk.may_leave c.args.self.now _ c.requires.stands c.reserve.ensures.items refl
+    stands_kept g.D.Disk.tells g.D.Disk.seen g.D.Disk.may_leave c.args.self.now _ c.requires.stands c.reserve.ensures.items refl refl
     (λ tells. record { content = refl; outcomes = λ image left. left })
 
-pub write_blank-requires-clause-room : goal.write_blank-requires-clause-room
-write_blank-requires-clause-room g c tells =
-    let s = c.requires.stands in
-    let cells = c.args.self.now.cells.items in
-    let view = map payload_held cells in
-    let old = g.D.Disk.seen c.args.self.now.disk in
-    let count_is : c.count_of-count.result ≡ count_in view = c.count_of-count.ensures ∙ ap (λ (l : List Cell). count_in (map payload_held l)) c.deref.ensures.value in
-    subst (λ (n : ℕ). 1024 * (n + 1) ≤ length old) (sym count_is) (room_behind old cells (s.on_disk tells) s.row)
+pub write_blank-requires : goal.write_blank-requires
+write_blank-requires g c = record {
+  room = λ tells.
+      let s = c.requires.stands in
+      let cells = c.args.self.now.cells.items in
+      let old = g.D.Disk.seen c.args.self.now.disk in
+      subst (λ (n : ℕ). cell_place c.args.self.now.narrow (n + 1) ≤ length old) (sym c.count-behind.ensures) (room_behind c.args.self.now.narrow old cells (s.on_disk tells) s.row);
+}
+
+pub change_cell-requires-clause-fits : goal.change_cell-requires-clause-fits
+change_cell-requires-clause-fits g c = subst (λ (n : ℕ). IsPayload n c.in_ok-head.head.items) (sym (first_size c.args.self.now.narrow)) c.in_ok-head.ensures.fits
 
 pub returns-in_err-write_blank-clause-after_no_memory : goal.returns-in_err-write_blank-clause-after_no_memory
 returns-in_err-write_blank-clause-after_no_memory g c no_memory =
     let fault = told_no_memory c.from_residual-in_err-write_blank.result c.in_err-write_blank.field-0.0 c.from_residual-in_err-write_blank.ensures.1 no_memory in
-    stands_kept g.D.Disk.tells g.D.Disk.seen g.D.Disk.may_leave c.args.self.now _ c.requires.stands c.reserve.ensures.items refl
+    stands_kept g.D.Disk.tells g.D.Disk.seen g.D.Disk.may_leave c.args.self.now _ c.requires.stands c.reserve.ensures.items refl refl
     (λ tells. c.write_blank.ensures.unchanged tells (c.in_err-write_blank.was ∙ ap (λ (e : DiskFault). Err e) fault))
 
 pub returns-in_err-write_blank-clause-any_moment : goal.returns-in_err-write_blank-clause-any_moment
 returns-in_err-write_blank-clause-any_moment g c tells =
     let s = c.requires.stands in
-    let behind : c.count_of-count.result + 1 ≡ length c.args.self.now.cells.items = number_behind c.args.self.now.cells.items _ _ c.requires.stands.row c.count_of-count.ensures c.deref.ensures.value in
-    blanking_stands s tells c.count_of-count.result behind (c.write_blank.ensures.any_moment tells (s.durable tells))
+    let behind : c.count-behind.result + 1 ≡ length c.args.self.now.cells.items = omega (arith, c.count-behind.ensures, number_behind c.args.self.now.cells.items c.requires.stands.row) in
+    blanking_stands s tells c.count-behind.result behind (c.write_blank.ensures.any_moment tells (s.durable tells))
 
 pub change_cell-requires-clause-held : goal.change_cell-requires-clause-held
 change_cell-requires-clause-held g c tells =
-    let read = reads c.requires.stands.row c.count_of-count.ensures c.deref.ensures.value c.in_ok-head.ensures.head c.deref-2.ensures.value c.reserve.ensures.items c.index_mut.ensures.value in
-    on_below c.args.self.now.cells.items _ _ (c.count_of-count.result + 1) (omega (arith, read.behind)) (c.requires.stands.on_disk tells) (c.in_ok-write_blank.ensures.below tells) 0 c.index_mut.result.now read.first
+    let read = reads c.requires.stands.row c.count-behind.ensures c.wide_count.ensures.count c.in_ok-head.ensures.head c.reserve.ensures.items c.index_mut-first.ensures.value in
+    on_below c.args.self.now.narrow c.args.self.now.cells.items _ _ (c.count-behind.result + 1) (omega (arith, read.behind)) (c.requires.stands.on_disk tells) (c.in_ok-write_blank.ensures.below tells) 0 c.index_mut-first.result.now read.first
 
 pub returns-in_err-change_cell-clause-after_no_memory : goal.returns-in_err-change_cell-clause-after_no_memory
 returns-in_err-change_cell-clause-after_no_memory g c no_memory =
@@ -57,9 +62,9 @@ returns-in_err-change_cell-clause-after_no_memory g c no_memory =
     let cells = c.args.self.now.cells.items in
     let view = map payload_held cells in
     let old = g.D.Disk.seen c.args.self.now.disk in
-    let read = reads c.requires.stands.row c.count_of-count.ensures c.deref.ensures.value c.in_ok-head.ensures.head c.deref-2.ensures.value c.reserve.ensures.items c.index_mut.ensures.value in
+    let read = reads c.requires.stands.row c.count-behind.ensures c.wide_count.ensures.count c.in_ok-head.ensures.head c.reserve.ensures.items c.index_mut-first.ensures.value in
     let mid = g.D.Disk.seen c.write_blank.new.disk in
-    let cell = c.index_mut.result.now in
+    let cell = c.index_mut-first.result.now in
     let new = g.D.Disk.seen c.change_cell.new.disk in
     let m1 = c.change_cell.new.cell in
     let fault = told_no_memory c.from_residual-in_err-change_cell.result c.in_err-change_cell.field-0.0 c.from_residual-in_err-change_cell.ensures.1 no_memory in
@@ -69,31 +74,33 @@ returns-in_err-change_cell-clause-after_no_memory g c no_memory =
     let within : 0 < length cells = omega (arith, read.behind) in
     record {
       row = subst (λ (l : List Cell). IsRow (map payload_held (set l 0 m1))) items (subst IsRow (sym view_is) s.row);
+      narrow = s.narrow ∙ ap narrow_in (sym view_is) ∙ ap (λ (l : List Cell). narrow_in (map payload_held (set l 0 m1))) items;
+      head = subst (λ (l : List Cell). IsPayload 512 (head_in (map payload_held (set l 0 m1)))) items (subst (λ (v : List (Option (List ℕ))). IsPayload 512 (head_in v)) (sym view_is) s.head);
       agrees = subst (λ (l : List Cell). Agrees (change_held c.write_over.new.change) (map payload_held (set l 0 m1))) items
           (subst (λ (v : List (Option (List ℕ))). Agrees (change_held c.write_over.new.change) v) (sym view_is)
           (subst (λ (h : Option (ℕ × Option (List ℕ))). Agrees h view) (sym c.write_over.ensures.held) s.agrees));
       on_disk = λ tells.
           let still = c.change_cell.ensures.still tells answer in
-          let on_mid = on_below cells old mid (c.count_of-count.result + 1) (omega (arith, read.behind)) (s.on_disk tells) (c.in_ok-write_blank.ensures.below tells) in
-          subst (λ (l : List Cell). OnDisk new (set l 0 m1)) items (disk_set cells mid new 0 (other cell.side) m1 on_mid still.others within still.held);
+          let on_mid = on_below c.args.self.now.narrow cells old mid (c.count-behind.result + 1) (omega (arith, read.behind)) (s.on_disk tells) (c.in_ok-write_blank.ensures.below tells) in
+          subst (λ (l : List Cell). OnDisk c.args.self.now.narrow new (set l 0 m1)) items (disk_set c.args.self.now.narrow cells mid new 0 (other cell.side) m1 on_mid still.others within still.held);
       under_way = λ tells.
           let still = c.change_cell.ensures.still tells answer in
-          subst (λ (l : List Cell). IsUnderWay new (set l 0 m1) c.write_over.new.change) items
-          (still_under_way old new cells cell m1 c.args.self.now.change c.write_over.new.change (s.under_way tells) c.write_over.ensures.over c.write_over.ensures.others c.write_over.ensures.held read.first c.in_err-change_cell.ensures.shut
-          (λ j side less apart. still.others (frame_of j side) (frame_of_apart 0 j (other cell.side) side apart) ∙ c.in_ok-write_blank.ensures.below tells (frame_of j side) (frame_below j (c.count_of-count.result + 1) side (omega (arith, less, read.behind)))));
+          subst (λ (l : List Cell). IsUnderWay c.args.self.now.narrow new (set l 0 m1) c.write_over.new.change) items
+          (still_under_way c.args.self.now.narrow old new cells cell m1 c.args.self.now.change c.write_over.new.change (s.under_way tells) c.write_over.ensures.over c.write_over.ensures.others c.write_over.ensures.held read.first c.in_err-change_cell.ensures.shut
+          (λ j side less apart. still.others (frame_of j side) (frame_of_apart 0 j (other cell.side) side apart) ∙ c.in_ok-write_blank.ensures.below tells (frame_of j side) (frame_below j (c.count-behind.result + 1) side (omega (arith, less, read.behind)))));
       durable = λ tells. (c.change_cell.ensures.still tells answer).durable;
     }
 
 pub returns-in_err-change_cell-clause-any_moment : goal.returns-in_err-change_cell-clause-any_moment
 returns-in_err-change_cell-clause-any_moment g c tells =
     let s = c.requires.stands in
-    let read = reads c.requires.stands.row c.count_of-count.ensures c.deref.ensures.value c.in_ok-head.ensures.head c.deref-2.ensures.value c.reserve.ensures.items c.index_mut.ensures.value in
+    let read = reads c.requires.stands.row c.count-behind.ensures c.wide_count.ensures.count c.in_ok-head.ensures.head c.reserve.ensures.items c.index_mut-first.ensures.value in
     growth_stands s tells read (c.change_cell.ensures.any_moment tells) (c.in_ok-write_blank.ensures.below tells) c.requires.head c.requires.room (c.in_ok-write_blank.ensures.blank tells) (c.write_blank.ensures.any_moment tells (s.durable tells))
 
 pub returns-clause-any_moment : goal.returns-clause-any_moment
 returns-clause-any_moment g c tells =
     let s = c.requires.stands in
-    let read = reads c.requires.stands.row c.count_of-count.ensures c.deref.ensures.value c.in_ok-head.ensures.head c.deref-2.ensures.value c.reserve.ensures.items c.index_mut.ensures.value in
+    let read = reads c.requires.stands.row c.count-behind.ensures c.wide_count.ensures.count c.in_ok-head.ensures.head c.reserve.ensures.items c.index_mut-first.ensures.value in
     growth_stands s tells read (c.change_cell.ensures.any_moment tells) (c.in_ok-write_blank.ensures.below tells) c.requires.head c.requires.room (c.in_ok-write_blank.ensures.blank tells) (c.write_blank.ensures.any_moment tells (s.durable tells))
 
 pub returns-clause-stands : goal.returns-clause-stands
@@ -102,10 +109,10 @@ returns-clause-stands g c =
     let cells = c.args.self.now.cells.items in
     let view = map payload_held cells in
     let old = g.D.Disk.seen c.args.self.now.disk in
-    let read = reads c.requires.stands.row c.count_of-count.ensures c.deref.ensures.value c.in_ok-head.ensures.head c.deref-2.ensures.value c.reserve.ensures.items c.index_mut.ensures.value in
+    let read = reads c.requires.stands.row c.count-behind.ensures c.wide_count.ensures.count c.in_ok-head.ensures.head c.reserve.ensures.items c.index_mut-first.ensures.value in
     let mid = g.D.Disk.seen c.write_blank.new.disk in
-    let cell = c.index_mut.result.now in
-    let head = with_count (head_in view) (count_in view + 1) in
+    let cell = c.index_mut-first.result.now in
+    let head = with_count (head_in view) (wide_in view + 1) in
     let new = g.D.Disk.seen c.change_cell.new.disk in
     let m1 = c.change_cell.new.cell in
     let items = c.reserve.ensures.items in
@@ -121,16 +128,18 @@ returns-clause-stands g c =
     ∙ sym (grown_is view s.row) in
     record {
       row = subst (λ (l : List Cell). IsRow (map payload_held l)) (sym cells_is) (subst IsRow (sym view_is) (grown_row view s.row c.requires.head c.requires.room));
+      narrow = s.narrow ∙ sym (grown_narrow view c.requires.head c.requires.room) ∙ ap narrow_in (sym view_is) ∙ ap (λ (l : List Cell). narrow_in (map payload_held l)) (sym cells_is);
+      head = subst (λ (l : List Cell). IsPayload 512 (head_in (map payload_held l))) (sym cells_is) (subst (λ (v : List (Option (List ℕ))). IsPayload 512 (head_in v)) (sym view_is) (grown_head view s.row c.requires.head s.head));
       agrees = tt;
       on_disk = λ tells.
-          let on_mid = on_below cells old mid (c.count_of-count.result + 1) (omega (arith, read.behind)) (s.on_disk tells) (c.in_ok-write_blank.ensures.below tells) in
-          let blanks = subst (λ (n : ℕ). IsShut (frame_at mid (2 * n)) × IsShut (frame_at mid (2 * n + 1))) read.behind (c.in_ok-write_blank.ensures.blank tells) in
+          let on_mid = on_below c.args.self.now.narrow cells old mid (c.count-behind.result + 1) (omega (arith, read.behind)) (s.on_disk tells) (c.in_ok-write_blank.ensures.below tells) in
+          let blanks = subst (λ (n : ℕ). IsShut (half_size c.args.self.now.narrow n) (frame_at c.args.self.now.narrow mid (2 * n)) × IsShut (half_size c.args.self.now.narrow n) (frame_at c.args.self.now.narrow mid (2 * n + 1))) read.behind (c.in_ok-write_blank.ensures.blank tells) in
           let others = c.in_ok-change_cell.ensures.others tells in
-          let still_blank = blank_behind cells mid new (other cell.side) within others blanks in
-          let held_blank = blank_stands new (length cells) blank pushed.2 pushed.3 still_blank.0 still_blank.1 in
-          subst (λ (l : List Cell). OnDisk new l) (sym cells_is)
-          (disk_push (set cells 0 m1) new blank (disk_set cells mid new 0 (other cell.side) m1 on_mid others within (c.in_ok-change_cell.ensures.held tells))
-          (subst (λ (n : ℕ). CellHeld new n blank) (sym (length-set cells 0 m1)) held_blank));
+          let still_blank = blank_behind c.args.self.now.narrow cells mid new (other cell.side) within others blanks in
+          let held_blank = blank_stands c.args.self.now.narrow new (length cells) blank pushed.2 pushed.3 still_blank.0 still_blank.1 in
+          subst (λ (l : List Cell). OnDisk c.args.self.now.narrow new l) (sym cells_is)
+          (disk_push c.args.self.now.narrow (set cells 0 m1) new blank (disk_set c.args.self.now.narrow cells mid new 0 (other cell.side) m1 on_mid others within (c.in_ok-change_cell.ensures.held tells))
+          (subst (λ (n : ℕ). CellHeld c.args.self.now.narrow new n blank) (sym (length-set cells 0 m1)) held_blank));
       under_way = λ tells. tt;
       durable = λ tells. c.in_ok-change_cell.ensures.durable tells;
     }
@@ -138,13 +147,18 @@ returns-clause-stands g c =
 pub returns-in_err-change_cell-clause-length : goal.returns-in_err-change_cell-clause-length
 returns-in_err-change_cell-clause-length g c tells =
     let mid = c.write_blank.new.disk in
-    let read = reads c.requires.stands.row c.count_of-count.ensures c.deref.ensures.value c.in_ok-head.ensures.head c.deref-2.ensures.value c.reserve.ensures.items c.index_mut.ensures.value in
+    let read = reads c.requires.stands.row c.count-behind.ensures c.wide_count.ensures.count c.in_ok-head.ensures.head c.reserve.ensures.items c.index_mut-first.ensures.value in
     growth_length c.requires.stands tells read (c.change_cell.ensures.any_moment tells) (c.in_ok-write_blank.ensures.below tells) (λ image later left. g.met.D.Disk.counts_now mid (g.D.Disk.moment c.args.self.now.disk) image tells later left)
     (g.met.D.Disk.seen_may_stay mid tells) (c.write_blank.ensures.length tells)
 
 pub returns-clause-length : goal.returns-clause-length
 returns-clause-length g c tells =
     let mid = c.write_blank.new.disk in
-    let read = reads c.requires.stands.row c.count_of-count.ensures c.deref.ensures.value c.in_ok-head.ensures.head c.deref-2.ensures.value c.reserve.ensures.items c.index_mut.ensures.value in
+    let read = reads c.requires.stands.row c.count-behind.ensures c.wide_count.ensures.count c.in_ok-head.ensures.head c.reserve.ensures.items c.index_mut-first.ensures.value in
     growth_length c.requires.stands tells read (c.change_cell.ensures.any_moment tells) (c.in_ok-write_blank.ensures.below tells) (λ image later left. g.met.D.Disk.counts_now mid (g.D.Disk.moment c.args.self.now.disk) image tells later left)
     (g.met.D.Disk.seen_may_stay mid tells) (c.write_blank.ensures.length tells)
+
+pub returns-in_err-write_blank-clause-length : goal.returns-in_err-write_blank-clause-length
+returns-in_err-write_blank-clause-length g c tells =
+    let s = c.requires.stands in
+    within_more g.D.Disk.moment g.D.Disk.left_since g.D.Disk.may_leave c.args.self.now.disk c.write_blank.new.disk _ _ (omega (arith, row_end c.args.self.now.narrow c.count-behind.result (cells_of c.args.self.now) s.narrow c.count-behind.ensures)) (c.write_blank.ensures.length tells)

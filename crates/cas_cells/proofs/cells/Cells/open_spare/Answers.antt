@@ -2,14 +2,16 @@ use Rattle.std.proofs.Common.{◌≡◌, ◌<◌, Some, Err, Option, false, true
 use Rattle.std.proofs.Math.ListN.{set}
 use Rattle.cas_disk.specs.declared.disk.DiskFault.{DiskFault}
 use Rattle.cas_disk.specs.declared.disk.DiskFault.TheVariants.{NoMemory as NoMemoryOfDisk}
+use Rattle.cas_cells.specs.Format.{IsPayload, half_size, narrow_in, head_in}
 use Rattle.cas_cells.specs.UnderWay.{change_held, staged_in}
 use Rattle.cas_cells.specs.Held.{HoldsTail, Opens, IsRow, payload_held, other}
 use Rattle.cas_cells.specs.Cells.{staged_of, Agrees, IsUnderWay}
 use Rattle.cas_cells.specs.declared.cell.Cell.{Cell}
 use Rattle.cas_cells.specs.declared.change.Change.{Change}
 use Rattle.cas_cells.specs.declared.fault.CellFault.TheVariants.{NoMemory}
+use Rattle.cas_cells.proofs.Places.{payload_within}
 use Rattle.cas_cells.proofs.Rows.{disk_set, disk_kept, map_set}
-use Rattle.cas_cells.proofs.Using.{no_memory_of_disk, within_row, at_index, row_changed, same_cell}
+use Rattle.cas_cells.proofs.Using.{no_memory_of_disk, within_row, at_index, row_changed, narrow_changed, head_changed, same_cell}
 use Rattle.cas_cells.proofs.Stepping.{opening_stands, opening_length}
 use Rattle.cas_cells.proofs.cells.Cells.open_spare.Goals as goal
 
@@ -24,7 +26,7 @@ open_spare-answer-requires-clause-shut g c tells =
     let s = c.requires.stands in
     let cells = c.args.self.now.cells.items in
     let is = at_index cells c.args.cell c.index-held.result.now s.row c.requires.within c.index-held.ensures in
-    let way = subst (λ (ch : Option Change). IsUnderWay (g.D.Disk.seen c.args.self.now.disk) cells ch) c.take_staged-staged.ensures.taken (s.under_way tells) in
+    let way = subst (λ (ch : Option Change). IsUnderWay c.args.self.now.narrow (g.D.Disk.seen c.args.self.now.disk) cells ch) c.take_staged-staged.ensures.taken (s.under_way tells) in
     (way c.index-held.result.now is).0
 
 pub open_spare-answer-requires-clause-staged : goal.open_spare-answer-requires-clause-staged
@@ -34,8 +36,8 @@ open_spare-answer-requires-clause-staged g c tells kept =
     let old = g.D.Disk.seen c.args.self.now.disk in
     let cell = c.index-held.result.now in
     let is = at_index cells c.args.cell cell s.row c.requires.within c.index-held.ensures in
-    let way = subst (λ (ch : Option Change). IsUnderWay old cells ch) c.take_staged-staged.ensures.taken (s.under_way tells) in
-    subst (λ (l : List ℕ). HoldsTail old c.args.cell cell l) (sym c.deref.ensures.value) ((way cell is).1 kept)
+    let way = subst (λ (ch : Option Change). IsUnderWay c.args.self.now.narrow old cells ch) c.take_staged-staged.ensures.taken (s.under_way tells) in
+    subst (λ (l : List ℕ). HoldsTail c.args.self.now.narrow old c.args.cell cell l) (sym c.deref.ensures.value) ((way cell is).1 kept)
 
 pub returns-in-Err-clause-after_no_memory : goal.returns-in-Err-clause-after_no_memory
 returns-in-Err-clause-after_no_memory g c no_memory =
@@ -51,15 +53,17 @@ returns-in-Err-clause-after_no_memory g c no_memory =
     let agrees = subst (λ (ch : Option Change). Agrees (change_held ch) (map payload_held cells)) c.take_staged-staged.ensures.taken s.agrees in
     record {
       row = s.row;
+      narrow = s.narrow;
+      head = s.head;
       agrees = agrees;
-      on_disk = λ tells. let still = c.open_spare-answer.ensures.still tells answer in disk_kept cells old new c.args.cell (other cell.side) cell (s.on_disk tells) still.others is still.held;
+      on_disk = λ tells. let still = c.open_spare-answer.ensures.still tells answer in disk_kept c.args.self.now.narrow cells old new c.args.cell (other cell.side) cell (s.on_disk tells) still.others is still.held;
       under_way = λ tells cell'' is''.
-          let same : cell ≡ cell'' = same_cell cells c.args.cell cell cell'' is is'' in
-          let way = subst (λ (ch : Option Change). IsUnderWay old cells ch) c.take_staged-staged.ensures.taken (s.under_way tells) in
+          let same : cell ≡ cell'' = same_cell c.args.self.now.narrow cells c.args.cell cell cell'' is is'' in
+          let way = subst (λ (ch : Option Change). IsUnderWay c.args.self.now.narrow old cells ch) c.take_staged-staged.ensures.taken (s.under_way tells) in
           let shut : cell.spare_open ≡ false = (way cell is).0 in
-          let staged : (c.open_spare-answer.new.kept ≡ true) → HoldsTail new c.args.cell cell c.take_staged-staged.result.payload.items =
-          λ (kept : c.open_spare-answer.new.kept ≡ true). subst (λ (l : List ℕ). HoldsTail new c.args.cell cell l) c.deref.ensures.value (c.open_spare-answer.ensures.staged tells answer kept) in
-          subst (λ (m : Cell). (m.spare_open ≡ false) × (c.open_spare-answer.new.kept ≡ true → HoldsTail new c.args.cell m c.take_staged-staged.result.payload.items)) same (shut, staged);
+          let staged : (c.open_spare-answer.new.kept ≡ true) → HoldsTail c.args.self.now.narrow new c.args.cell cell c.take_staged-staged.result.payload.items =
+          λ (kept : c.open_spare-answer.new.kept ≡ true). subst (λ (l : List ℕ). HoldsTail c.args.self.now.narrow new c.args.cell cell l) c.deref.ensures.value (c.open_spare-answer.ensures.staged tells answer kept) in
+          subst (λ (m : Cell). (m.spare_open ≡ false) × (c.open_spare-answer.new.kept ≡ true → HoldsTail c.args.self.now.narrow new c.args.cell m c.take_staged-staged.result.payload.items)) same (shut, staged);
       durable = λ tells. (c.open_spare-answer.ensures.still tells answer).durable;
     }
 
@@ -91,7 +95,7 @@ returns-clause-stands g c =
     let is = at_index cells i cell s.row c.requires.within c.index-held.ensures in
     let within : i < length cells = within_row cells i s.row c.requires.within in
     let is_mut = at_index cells i c.index_mut.result.now s.row c.requires.within c.index_mut.ensures.value in
-    let same : c.index_mut.result.now ≡ cell = same_cell cells i c.index_mut.result.now cell is_mut is in
+    let same : c.index_mut.result.now ≡ cell = same_cell c.args.self.now.narrow cells i c.index_mut.result.now cell is_mut is in
     let agrees = subst (λ (ch : Option Change). Agrees (change_held ch) view) c.take_staged-staged.ensures.taken s.agrees in
     let view_is : map payload_held (set cells i c.turn.new.cell) ≡ set view i (Some p) =
     map_set payload_held cells i c.turn.new.cell ∙ ap (λ (o : Option (List ℕ)). set view i o) c.turn.ensures.held in
@@ -99,9 +103,11 @@ returns-clause-stands g c =
     subst (λ (m : Cell). Opens c.deref.result.now m c.turn.new.cell) same (subst (λ (l : List ℕ). Opens l c.index_mut.result.now c.turn.new.cell) (sym c.deref.ensures.value) c.turn.ensures) in
     record {
       row = subst IsRow (sym view_is) (row_changed view i p s.row agrees.1);
+      narrow = s.narrow ∙ sym (narrow_changed view i p s.row agrees.1) ∙ ap narrow_in (sym view_is);
+      head = subst (λ (v : List (Option (List ℕ))). IsPayload 512 (head_in v)) (sym view_is) (head_changed c.args.self.now.narrow view i p s.row (subst (λ (n : ℕ). IsPayload (half_size n i) p) (sym s.narrow) agrees.0) s.head);
       agrees = subst (λ (ch : Option Change). Agrees (change_held ch) (map payload_held (set cells i c.turn.new.cell))) (sym c.take_staged-staged.ensures.gone) tt;
-      on_disk = λ tells. disk_set cells old new i (other cell.side) c.turn.new.cell (s.on_disk tells) (c.in_default.ensures.others tells) within (c.in_default.ensures.opened tells c.turn.new.cell opens);
-      under_way = λ tells. subst (λ (ch : Option Change). IsUnderWay new (set cells i c.turn.new.cell) ch) (sym c.take_staged-staged.ensures.gone) tt;
+      on_disk = λ tells. disk_set c.args.self.now.narrow cells old new i (other cell.side) c.turn.new.cell (s.on_disk tells) (c.in_default.ensures.others tells) within (c.in_default.ensures.opened tells c.turn.new.cell opens);
+      under_way = λ tells. subst (λ (ch : Option Change). IsUnderWay c.args.self.now.narrow new (set cells i c.turn.new.cell) ch) (sym c.take_staged-staged.ensures.gone) tt;
       durable = λ tells. c.in_default.ensures.durable tells;
     }
 
@@ -110,3 +116,15 @@ returns-in-Err-clause-length g c tells = opening_length c.requires.stands tells 
 
 pub returns-clause-length : goal.returns-clause-length
 returns-clause-length g c tells = opening_length c.requires.stands tells c.args.cell c.index-held.result.now c.deref.result.now c.requires.within c.index-held.ensures (g.met.D.Disk.seen_may_stay c.args.self.now.disk tells) (c.open_spare-answer.ensures.any_moment tells)
+
+pub open_spare-answer-requires-clause-fits : goal.open_spare-answer-requires-clause-fits
+open_spare-answer-requires-clause-fits g c =
+    let s = c.requires.stands in
+    let agrees = subst (λ (ch : Option Change). Agrees (change_held ch) (map payload_held c.args.self.now.cells.items)) c.take_staged-staged.ensures.taken s.agrees in
+    subst (λ (l : List ℕ). IsPayload (half_size c.args.self.now.narrow c.args.cell) l) (sym c.deref.ensures.value) (subst (λ (n : ℕ). IsPayload (half_size n c.args.cell) c.take_staged-staged.result.payload.items) (sym s.narrow) agrees.0)
+
+pub turn-requires : goal.turn-requires
+turn-requires g c =
+    let s = c.requires.stands in
+    let agrees = subst (λ (ch : Option Change). Agrees (change_held ch) (map payload_held c.args.self.now.cells.items)) c.take_staged-staged.ensures.taken s.agrees in
+    payload_within _ c.args.cell c.take_staged-staged.result.payload.items agrees.0

@@ -2,7 +2,7 @@ use Rattle.std.proofs.Common.{ℕ, ◌+◌, ◌*◌, subst, arith}
 use Rattle.cas_slot.specs.Contents.{Contents, with_kept}
 use Rattle.cas_slot.specs.Shelf.{IsOldOrNew}
 use Rattle.cas_slot.specs.Slots.{slot_count}
-use Rattle.cas_disk_shelf.specs.Shelf.{disk_of, contents_of, ContinuesOnly}
+use Rattle.cas_disk_shelf.specs.Shelf.{disk_of, contents_of, narrow_of, ContinuesOnly}
 use Rattle.cas_disk_shelf.proofs.Leaving.{unchanged, then_changed}
 use Rattle.cas_cells.proofs.Lengths.{within_more, then_no_longer}
 use Rattle.cas_disk_shelf.proofs.shelf.DiskShelf.add.Goals as goal
@@ -24,7 +24,7 @@ pub returns-clause-length : goal.returns-clause-length
 returns-clause-length g c tells =
     let mid = disk_of c.unused_cell.new.self in
     let new = disk_of c.add_at.new.self in
-    let bytes : ℕ = 1024 * (slot_count (contents_of c.args.self.now).slots + 2) in
+    let bytes : ℕ = 1024 * (1 + narrow_of c.args.self.now) + 9216 * (slot_count (contents_of c.args.self.now).slots + 1) in
     then_no_longer g.D.Disk.moment g.D.Disk.left_since g.D.Disk.may_leave (disk_of c.args.self.now) mid new bytes
     (λ image later left. g.met.D.Disk.counts_now mid _ image tells later left) (c.unused_cell.ensures.length tells)
     (within_more g.D.Disk.moment g.D.Disk.left_since g.D.Disk.may_leave mid new 0 bytes (omega arith) (c.add_at.ensures.length tells))

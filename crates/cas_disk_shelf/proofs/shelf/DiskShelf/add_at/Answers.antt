@@ -1,13 +1,14 @@
 use Rattle.std.specs.Prelude.{nat_eq}
 use Rattle.std.specs.Cmp.Lexicographic.{pointwise}
 use Rattle.std.specs.Map.{lookup}
-use Rattle.std.proofs.Common.{◌≡◌, ℕ, ◌+◌, List, length, Option, Some, cond, refl, ap, ◌∙◌}
+use Rattle.std.proofs.Common.{◌≡◌, ℕ, ◌+◌, List, length, Option, Some, cond, refl, ap, ◌∙◌, arith}
 use Rattle.cas_slot.specs.Contents.{Contents, kept_at, with_kept, without_kept}
 use Rattle.cas_cells.specs.Cells.{cells_of}
-use Rattle.cas_disk_shelf.specs.Memory.{cell_of, moved}
+use Rattle.cas_disk_shelf.specs.Image.{moved}
+use Rattle.cas_disk_shelf.specs.Memory.{cell_of}
 use Rattle.cas_disk_shelf.specs.Shelf.{contents_of}
 use Rattle.cas_disk_shelf.proofs.Counting.{one_less, one_key_more, index_more, on_ok}
-use Rattle.cas_disk_shelf.proofs.Using.{slot_payload, free_within, put_back}
+use Rattle.cas_disk_shelf.proofs.Using.{fits_behind, slot_payload, free_within, put_back}
 use Rattle.cas_disk_shelf.proofs.Keeping.{still_old, add_moment, added_up, same_up}
 use Rattle.cas_disk_shelf.proofs.shelf.DiskShelf.add_at.Goals as goal
 
@@ -37,7 +38,16 @@ change-requires-clause-within g c =
     (free_within (cells_of c.args.self.now.cells) _ _ _ up.memory.shown.in_step up.row.row c.args.cell c.requires.free).1
 
 pub change-requires-clause-fits : goal.change-requires-clause-fits
-change-requires-clause-fits g c = slot_payload c.args.key.now c.args.slot _ c.spell_slot.ensures.key c.in_ok-payload.ensures.fits (c.deref.ensures.value ∙ c.in_ok-payload.ensures.spelled)
+change-requires-clause-fits g c =
+    let up = c.requires.up in
+    let within = free_within (cells_of c.args.self.now.cells) _ _ _ up.memory.shown.in_step up.row.row c.args.cell c.requires.free in
+    fits_behind (cells_of c.args.self.now.cells) c.args.cell _ within.2 (slot_payload c.args.key.now c.args.slot _ c.spell_slot.ensures.key c.in_ok-payload.ensures.fits (c.deref.ensures.value ∙ c.in_ok-payload.ensures.spelled))
+
+pub change-requires-clause-same_count : goal.change-requires-clause-same_count
+change-requires-clause-same_count g c first =
+    let up = c.requires.up in
+    let within = free_within (cells_of c.args.self.now.cells) _ _ _ up.memory.shown.in_step up.row.row c.args.cell c.requires.free in
+    absurd (omega (arith, within.0, first))
 
 pub returns-in-Err-clause-err : goal.returns-in-Err-clause-err
 returns-in-Err-clause-err g c =
@@ -57,12 +67,12 @@ returns-in-Err-clause-up_still g c no_memory =
 pub returns-in-Err-clause-any_moment : goal.returns-in-Err-clause-any_moment
 returns-in-Err-clause-any_moment g c tells =
     add_moment g.D.Disk.tells g.D.Disk.seen g.D.Disk.may_leave g.D.Disk.moment g.D.Disk.left_since _ _ c.requires.up
-    c.args.key.now c.args.slot _ c.args.cell c.spell_slot.ensures.key c.in_ok-payload.ensures.fits (c.deref.ensures.value ∙ c.in_ok-payload.ensures.spelled) c.requires.new c.requires.free (c.change.ensures.any_moment tells)
+    c.args.key.now c.args.slot _ c.args.cell c.spell_slot.ensures.key c.in_ok-payload.ensures.fits (c.deref.ensures.value ∙ c.in_ok-payload.ensures.spelled) c.requires.new c.requires.free c.requires.room (c.change.ensures.any_moment tells)
 
 pub returns-clause-any_moment : goal.returns-clause-any_moment
 returns-clause-any_moment g c tells =
     add_moment g.D.Disk.tells g.D.Disk.seen g.D.Disk.may_leave g.D.Disk.moment g.D.Disk.left_since _ _ c.requires.up
-    c.args.key.now c.args.slot _ c.args.cell c.spell_slot.ensures.key c.in_ok-payload.ensures.fits (c.deref.ensures.value ∙ c.in_ok-payload.ensures.spelled) c.requires.new c.requires.free (c.change.ensures.any_moment tells)
+    c.args.key.now c.args.slot _ c.args.cell c.spell_slot.ensures.key c.in_ok-payload.ensures.fits (c.deref.ensures.value ∙ c.in_ok-payload.ensures.spelled) c.requires.new c.requires.free c.requires.room (c.change.ensures.any_moment tells)
 
 pub returns-clause-up : goal.returns-clause-up
 returns-clause-up g c =
@@ -76,7 +86,7 @@ returns-clause-up g c =
     let updates = on_ok c.insert-2.result _ c.if-prove.ensures.value c.insert-2.ensures.updates in
     let index_len = index_more c.insert-2.result _ _ _ c.if-prove.ensures.value c.insert-2.ensures.old (reserved c.in_ok-own.own ∙ ap (cell_of old) own ∙ c.requires.new) c.insert-2.ensures.len in
     added_up g.D.Disk.tells g.D.Disk.seen g.D.Disk.may_leave _ _ up
-    c.args.key.now c.args.slot _ c.args.cell c.spell_slot.ensures.key c.in_ok-payload.ensures.fits (c.deref.ensures.value ∙ c.in_ok-payload.ensures.spelled) c.requires.new c.requires.free c.in_default.ensures.stands c.in_default.ensures.changed
+    c.args.key.now c.args.slot _ c.args.cell c.spell_slot.ensures.key c.in_ok-payload.ensures.fits (c.deref.ensures.value ∙ c.in_ok-payload.ensures.spelled) c.requires.new c.requires.free c.requires.room c.in_default.ensures.stands c.in_default.ensures.changed
     (c.in_ok-insert.ensures.ok ∙ ap (λ (k : List ℕ). with_kept old.held k c.args.slot) copy)
     (λ q. updates.0 q ∙ ap (λ (o : Option ℕ). cond (pointwise nat_eq c.in_ok-own.own q) (Some c.args.cell) o) (reserved q) ∙ ap (λ (k : List ℕ). moved (cell_of old) k c.args.cell q) own)
     (λ j. c.remove-2.ensures.updates.0 j)

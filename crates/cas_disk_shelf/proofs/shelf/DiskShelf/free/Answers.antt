@@ -5,7 +5,7 @@ use Rattle.cas_slot.specs.Slots.{slot_count}
 use Rattle.cas_cells.specs.Cells.{cells_of}
 use Rattle.cas_disk_shelf.specs.Memory.{cell_of, is_free}
 use Rattle.cas_disk_shelf.proofs.Counting.{one_more, one_less, one_key_less}
-use Rattle.cas_disk_shelf.proofs.Using.{own_within, count_less}
+use Rattle.cas_disk_shelf.proofs.Using.{fits_behind, own_within, count_less}
 use Rattle.cas_disk_shelf.proofs.Keeping.{still_old, drop_moment, dropped_up, same_up, own_not_free, taken_back}
 use Rattle.cas_disk_shelf.proofs.shelf.DiskShelf.free.Goals as goal
 
@@ -49,3 +49,15 @@ returns-clause-up g c =
     (λ q. c.swap_remove.ensures.updates.0 q) (λ j. c.in_ok-insert.ensures.updates.0 j)
     (one_key_less _ _ c.swap_remove.result c.args.cell (c.swap_remove.ensures.value ∙ own) c.swap_remove.ensures.len) more
     (ap (λ (x : Contents). slot_count x.slots + 1) c.remove-2.ensures ∙ count_less old.held.slots c.args.key.now there.0 there.2)
+
+pub change-requires-clause-fits : goal.change-requires-clause-fits
+change-requires-clause-fits g c =
+    let up = c.requires.up in
+    let within = own_within (cells_of c.args.self.now.cells) _ _ _ up.memory.shown.in_step up.row.row c.args.key.now c.args.cell c.requires.own in
+    fits_behind (cells_of c.args.self.now.cells) c.args.cell _ within.2 (record { not_empty = omega arith; fits = omega arith })
+
+pub change-requires-clause-same_count : goal.change-requires-clause-same_count
+change-requires-clause-same_count g c first =
+    let up = c.requires.up in
+    let within = own_within (cells_of c.args.self.now.cells) _ _ _ up.memory.shown.in_step up.row.row c.args.key.now c.args.cell c.requires.own in
+    absurd (omega (arith, within.0, first))

@@ -6,6 +6,9 @@ use Rattle.cas_disk_shelf.specs.Memory.{cell_of, is_free, freed}
 use Rattle.cas_disk_shelf.proofs.Counting.{one_more, one_less}
 use Rattle.cas_disk_shelf.proofs.Faults.{told_no_memory}
 use Rattle.cas_disk_shelf.proofs.Keeping.{still, grow_moment, grown_up, same_up, past_not_free, taken_back}
+use Rattle.cas_cells.proofs.Lengths.{within_more}
+use Rattle.cas_disk_shelf.specs.Shelf.{disk_of}
+use Rattle.cas_disk_shelf.proofs.Using.{head_here}
 use Rattle.cas_disk_shelf.proofs.shelf.DiskShelf.grow.Goals as goal
 
 pub returns-in_err-insert-clause-any_moment : goal.returns-in_err-insert-clause-any_moment
@@ -45,3 +48,21 @@ returns-clause-up g c =
     let more = one_more _ _ (is_free c.args.self.now.memory (c.count.result + 1)) c.in_ok-insert.field-0 unused c.in_ok-insert.ensures.added c.in_ok-insert.ensures.len in
     grown_up g.D.Disk.tells g.D.Disk.seen g.D.Disk.may_leave _ _ up c.requires.room c.in_default.ensures.stands c.in_default.ensures.grown refl refl
     (λ j. c.in_ok-insert.ensures.updates.0 j ∙ ap (λ (n : ℕ). freed (is_free old) n j) last) more
+
+pub grow-requires-clause-head : goal.grow-requires-clause-head
+grow-requires-clause-head g c =
+    let up = c.requires.up in
+    head_here (cells_of c.args.self.now.cells) _ _ _ up.memory.shown
+
+pub grow-requires-clause-room : goal.grow-requires-clause-room
+grow-requires-clause-room g c =
+    let room = c.requires.room in
+    room
+
+pub returns-in-Err-clause-length : goal.returns-in-Err-clause-length
+returns-in-Err-clause-length g c tells =
+    within_more g.D.Disk.moment g.D.Disk.left_since g.D.Disk.may_leave (disk_of c.args.self.now) _ _ _ (omega arith) (c.grow.ensures.length tells)
+
+pub returns-clause-length : goal.returns-clause-length
+returns-clause-length g c tells =
+    within_more g.D.Disk.moment g.D.Disk.left_since g.D.Disk.may_leave (disk_of c.args.self.now) _ _ _ (omega arith) (c.grow.ensures.length tells)

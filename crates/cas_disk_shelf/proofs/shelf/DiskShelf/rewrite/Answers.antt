@@ -1,11 +1,11 @@
 use Rattle.std.specs.Prelude.{is_some, if◌then◌else◌}
-use Rattle.std.proofs.Common.{◌≡◌, ℕ, ◌+◌, List, refl, ap, ◌∙◌}
+use Rattle.std.proofs.Common.{◌≡◌, ℕ, ◌+◌, List, refl, ap, ◌∙◌, arith}
 use Rattle.cas_slot.specs.Contents.{kept_at, with_kept}
 use Rattle.cas_slot.specs.Slots.{slot_count}
 use Rattle.cas_disk_shelf.specs.Shelf.{contents_of}
 use Rattle.cas_disk_shelf.proofs.Counting.{as_many, on_ok}
 use Rattle.cas_cells.specs.Cells.{cells_of}
-use Rattle.cas_disk_shelf.proofs.Using.{slot_payload, own_within}
+use Rattle.cas_disk_shelf.proofs.Using.{fits_behind, slot_payload, own_within}
 use Rattle.cas_disk_shelf.proofs.Keeping.{still_old, put_moment, rewritten_up}
 use Rattle.cas_disk_shelf.proofs.shelf.DiskShelf.rewrite.Goals as goal
 
@@ -23,7 +23,16 @@ change-requires-clause-within g c =
     (own_within (cells_of c.args.self.now.cells) _ _ _ up.memory.shown.in_step up.row.row c.args.key.now c.args.cell c.requires.own).1
 
 pub change-requires-clause-fits : goal.change-requires-clause-fits
-change-requires-clause-fits g c = slot_payload c.args.key.now c.args.slot _ c.spell_slot.ensures.key c.in_ok-payload.ensures.fits (c.deref.ensures.value ∙ c.in_ok-payload.ensures.spelled)
+change-requires-clause-fits g c =
+    let up = c.requires.up in
+    let within = own_within (cells_of c.args.self.now.cells) _ _ _ up.memory.shown.in_step up.row.row c.args.key.now c.args.cell c.requires.own in
+    fits_behind (cells_of c.args.self.now.cells) c.args.cell _ within.2 (slot_payload c.args.key.now c.args.slot _ c.spell_slot.ensures.key c.in_ok-payload.ensures.fits (c.deref.ensures.value ∙ c.in_ok-payload.ensures.spelled))
+
+pub change-requires-clause-same_count : goal.change-requires-clause-same_count
+change-requires-clause-same_count g c first =
+    let up = c.requires.up in
+    let within = own_within (cells_of c.args.self.now.cells) _ _ _ up.memory.shown.in_step up.row.row c.args.key.now c.args.cell c.requires.own in
+    absurd (omega (arith, within.0, first))
 
 pub returns-in_err-change-clause-any_moment : goal.returns-in_err-change-clause-any_moment
 returns-in_err-change-clause-any_moment g c tells =

@@ -2,7 +2,8 @@ use Rattle.std.proofs.Common.{◌≡◌, inr, Some, ◌∷◌, [], Option, ℕ, 
 use Rattle.std.specs.Prelude.{unwrap_or}
 use Rattle.cas_disk.proofs.Moments.{reread}
 use Rattle.cas_cells.specs.Cells.{cells_of, disk_of}
-use Rattle.cas_cells.specs.Format.{StandsFor}
+use Rattle.cas_cells.specs.Format.{StandsFor, narrow_in}
+use Rattle.cas_cells.proofs.Places.{place_first}
 use Rattle.cas_vault.specs.Codec.{spelling}
 use Rattle.cas_vault.proofs.Keeping.{in_use, row_read, head_is, payload_there, place_there, past_image, same_kept}
 use Rattle.cas_vault.specs.Vault.{KeptOn}
@@ -40,7 +41,7 @@ returns-in-Err-clause-foreign g c tells at is =
     let stands = subst (λ (l : List ℕ). StandsFor row l) (sym (c.recover.ensures.read tells).content) (c.in_ok-recover.ensures.recovered tells) in
     let is_row = c.in_ok-recover.ensures.stands.row in
     let there = payload_there row payload disk is_row (head_is row payload is_row c.in-Some.ensures.held) stands.same in
-    let place = place_there disk payload there ∙ ap Some (sym (c.unwrap_or-place.ensures ∙ ap (λ (o : Option ℕ). unwrap_or o 0) (c.payload_place.ensures.place tells))) in
+    let place = place_there disk payload there ∙ ap Some (sym (c.unwrap_or-place.ensures ∙ ap (λ (o : Option ℕ). unwrap_or o 0) (c.payload_place.ensures.place tells ∙ place_first (narrow_in row) 0 disk))) in
     inr (c.unwrap_or-place.result, payload, c.in-Err.wrong, stands.sound, there, place, c.in-Err.ensures.wrong, (let sum : at ≡ c.unwrap_or-place.result + c.in-Err.wrong = cc in sum))
 
 pub returns-in-Ok-clause-past : goal.returns-in-Ok-clause-past
@@ -51,3 +52,9 @@ returns-in-Ok-clause-past g c tells n past =
     let here : KeptOn c.in-Ok.kept mid = record { fits = c.in-Ok.ensures.found.fits; row = subst (λ row. StandsFor row mid) held (c.in_ok-recover.ensures.recovered tells) } in
     past_image g.V.Disk.may_leave c.args.self.now _ mid n ((c.forget_past.ensures.kept tells).outcomes mid (c.crash.ensures.image tells)) (λ image left. read.durable image left ∙ read.content)
     (λ kept there was bound. omega (arith, bound, ap (λ (k : Kept). k.bound) (same_kept kept c.in-Ok.kept mid there here))) past
+
+pub returns-in-Err-clause-past : goal.returns-in-Err-clause-past
+returns-in-Err-clause-past g c tells n past =
+    let mid = g.V.Disk.seen (disk_of c.crash.new.self) in
+    let read = c.recover.ensures.read tells in
+    past_image g.V.Disk.may_leave c.args.self.now _ mid n ((c.forget_past.ensures.kept tells).outcomes mid (c.crash.ensures.image tells)) (λ image left. read.durable image left ∙ read.content) (λ kept there was bound. was) past
