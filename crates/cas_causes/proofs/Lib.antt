@@ -1,3 +1,4 @@
+pub mod Collects
 pub mod Coming
 pub mod Ends
 pub mod Hearing

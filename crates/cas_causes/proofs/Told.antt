@@ -172,7 +172,7 @@ prepares_by {S} {V} m old new id told by was = in_phase by.at_round.of_call by.a
 
 -- ---- the accept phase
 -- an open phase with a quorum has that verdict
-has_quorum_verdict : (round : Round) → has_quorum round.phase ≡ true → IsVerdictOf round verdict.Quorum
+pub has_quorum_verdict : (round : Round) → has_quorum round.phase ≡ true → IsVerdictOf round verdict.Quorum
 has_quorum_verdict round quorum = record {
   prepare = λ replies is. quorum_prepared round replies quorum is;
   accept = λ prepared replies is. quorum_accepted round prepared replies quorum is;

@@ -13,7 +13,7 @@ use Rattle.cas_proposer.specs.declared.round.OpenPhase.{OpenPhase}
 use Rattle.cas_proposer.specs.declared.round.OpenPhase.TheVariants.{Prepare, Accept}
 use Rattle.cas_proposer.specs.declared.round.Round.{Round}
 use Rattle.cas_quorum.specs.declared.era.Era.{Era}
-use Rattle.cas_quorum.specs.Era.{holds_acc}
+use Rattle.cas_quorum.specs.Era.{holds_prep, holds_acc}
 use Rattle.cas_quorum.specs.Quorum.{has_quorum}
 use Rattle.cas_record.specs.declared.answer.Answer.{Answer}
 use Rattle.cas_record.specs.declared.answer.Answer.TheVariants as answer
@@ -45,7 +45,7 @@ use Rattle.cas_cluster.proofs.SafeParts.{idle_at, desk_low}
 use Rattle.cas_cluster.proofs.SafeSteps.{steps_are_safe}
 use Rattle.cas_causes.specs.Causes.{IsTold}
 use Rattle.cas_causes.specs.Rounds.{RoundSteps, none, one_more, PreparesWith}
-use Rattle.cas_causes.specs.Undisturbed.{AreUndisturbed, HasProposed, AcceptsAfresh, ProposesUndisturbed, proposes, vault_fails, no_memory, BeginsToAsk, RoundsBeginToAsk, UndisturbedPreparesPropose, UndisturbedAcceptsAreDone, UndisturbedRoundsAreDone}
+use Rattle.cas_causes.specs.Undisturbed.{AreUndisturbed, HasProposed, PreparesAfresh, AcceptsAfresh, ProposesUndisturbed, proposes, vault_fails, no_memory, BeginsToAsk, RoundsBeginToAsk, UndisturbedPreparesPropose, UndisturbedAcceptsAreDone, UndisturbedRoundsAreDone}
 use Rattle.cas_causes.proofs.Coming.{IsKind, prepare_kind, accept_kind, Confirms, Coming, step_comes, quorum_more}
 use Rattle.cas_causes.proofs.Ends.{told_by, desk_by, ridden, prepare_steps}
 use Rattle.cas_causes.proofs.Queues.{KeepsProposed, Stays, OwnTurn, stays_or_turn, turn_proposed}
@@ -315,13 +315,13 @@ told_one view id a b is other =
     let same : is.call ≡ other.call = some_is (sym is.is_open ∙ ap (λ (c : CallerView). c.call) (at_one view.callers id is.at_caller other.at_caller) ∙ other.is_open) in
     sym is.told_is ∙ ap (λ (c : CallView). c.told) same ∙ other.told_is
 
-pub rounds_are_done : {S V : Type 0} (m : Meaning S V) → UndisturbedRoundsAreDone m
-rounds_are_done {S} {V} m old first_ mid turned last new id key program promising accepting promised accepted round to_prepare to_accept safe prep acc begins prepares undisturbed_before proposes_it told undisturbed_after counts =
-    goes_on (prepares_propose m first_ mid turned id promising promised round to_prepare safe_first ((begin_to_ask m old first_ id key program safe begins).prepares round prepares) prep undisturbed_before proposes_it)
+-- a round that has begun to ask in its prepare phase
+pub done_after : {S V : Type 0} (m : Meaning S V) (first_ mid turned last new : View S V) (id : ℕ) (promising accepting : List ℕ) (promised accepted : List Reply) (round : Round) (to_prepare : RoundSteps m id first_ promised mid) (to_accept : RoundSteps m id turned accepted last)
+    → IsSafe first_ → holds_prep round.era promising ≡ true → holds_acc round.era accepting ≡ true → PreparesAfresh first_ id round → AreUndisturbed m id promising first_ mid promised to_prepare → step.Step m mid (step.Propose id) turned → IsTold turned id None
+    → AreUndisturbed m id accepting turned last accepted to_accept → step.Step m last (step.Count id) new → (outcome : Outcome) × HasProposed turned.callers id outcome × IsTold new id (Some (answer.Done outcome.state outcome.took round.ballot))
+done_after {S} {V} m first_ mid turned last new id promising accepting promised accepted round to_prepare to_accept safe_first prep acc afresh_first undisturbed_before proposes_it told undisturbed_after counts =
+    goes_on (prepares_propose m first_ mid turned id promising promised round to_prepare safe_first afresh_first prep undisturbed_before proposes_it)
   where
-    safe_first : IsSafe first_
-    safe_first = steps_are_safe m old (step.Begin id key program) first_ safe begins
-
     safe_turned : IsSafe turned
     safe_turned = steps_are_safe m mid (step.Propose id) turned (safe_along m id first_ mid promised to_prepare safe_first) proposes_it
 
@@ -334,3 +334,8 @@ rounds_are_done {S} {V} m old first_ mid turned last new id key program promisin
     )
     goes_on (vault_fails faulted fault_told) = absurd (cc (told_one turned id None (Some answer.VaultFault) told fault_told))
     goes_on (no_memory loss_told) = absurd (cc (told_one turned id None (Some (answer.NoMemory false)) told loss_told))
+
+pub rounds_are_done : {S V : Type 0} (m : Meaning S V) → UndisturbedRoundsAreDone m
+rounds_are_done m old first_ mid turned last new id key program promising accepting promised accepted round to_prepare to_accept safe prep acc begins prepares undisturbed_before proposes_it told undisturbed_after counts =
+    done_after m first_ mid turned last new id promising accepting promised accepted round to_prepare to_accept (steps_are_safe m old (step.Begin id key program) first_ safe begins) prep acc
+    ((begin_to_ask m old first_ id key program safe begins).prepares round prepares) undisturbed_before proposes_it told undisturbed_after counts

@@ -1,4 +1,5 @@
 pub mod Causes
+pub mod Collects
 pub mod Rounds
 pub mod Told
 pub mod Undisturbed

@@ -5,6 +5,7 @@
 
 ghost use Rattle.cas_cluster.specs.View.{meaning};
 ghost use Rattle.cas_causes.specs.Causes.{StepsPassOrBring, RoundsBeginAfresh, PreparesEndByReplies, AcceptsEndByReplies};
+ghost use Rattle.cas_causes.specs.Collects.{CollectionsHaveCauses, CollectionsBeginToAsk, UndisturbedCollectionsAreDone};
 ghost use Rattle.cas_causes.specs.Told.{AnswersHaveCauses, WhatIsMetIsAbove};
 ghost use Rattle.cas_causes.specs.Undisturbed.{RoundsBeginToAsk, UndisturbedPreparesPropose, UndisturbedAcceptsAreDone, UndisturbedRoundsAreDone};
 
@@ -69,4 +70,21 @@ pub fn undisturbed_accepts_are_done<S: Shelf, V: Disk>()
 /// proposed: its count tells nothing else.
 pub fn undisturbed_rounds_are_done<S: Shelf, V: Disk>()
     ensures { UndisturbedRoundsAreDone (meaning S.contents S.tells S.may_leave S.fault_count V.tells V.may_leave V.fault_count) }
+{}
+
+/// What is told of a collection's own round has its cause, as with a change: its call or its round does not begin, or its round is counted;
+/// and a held state is found only by a quorum of promises.
+pub fn collections_have_causes<S: Shelf, V: Disk>()
+    ensures { CollectionsHaveCauses (meaning S.contents S.tells S.may_leave S.fault_count V.tells V.may_leave V.fault_count) }
+{}
+
+/// A collection's round that begins asks each member of its phase, and no other frame waits at proposer 0.
+pub fn collections_begin_to_ask<S: Shelf, V: Disk>()
+    ensures { CollectionsBeginToAsk (meaning S.contents S.tells S.may_leave S.fault_count V.tells V.may_leave V.fault_count) }
+{}
+
+/// A collection's round that begins to prepare, proposes and is counted, and that is undisturbed with a quorum in each phase, is done with
+/// what it proposed: its count tells nothing else. One that reads a held state proposes nothing.
+pub fn undisturbed_collections_are_done<S: Shelf, V: Disk>()
+    ensures { UndisturbedCollectionsAreDone (meaning S.contents S.tells S.may_leave S.fault_count V.tells V.may_leave V.fault_count) }
 {}

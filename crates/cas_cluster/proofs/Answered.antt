@@ -2,10 +2,10 @@
 use Rattle.std.proofs.Common.{◌≡◌, ℕ, ◌≤◌, Bool, true, false, List, [], ◌∷◌, ◌++◌, Option, Some, None, refl, sym, ap, subst, ◌∙◌, inl, inr, arith}
 use Rattle.std.specs.Prelude.{cond, IsSomeAnd, is_some, unwrap_or}
 use Rattle.std.specs.Ordering.{is_eq}
-use Rattle.cas_base.proofs.Bools.{false_of_not}
+use Rattle.cas_base.proofs.Bools.{false_of_not, not_both}
 use Rattle.cas_ballot.specs.declared.ballot.Ballot.{Ballot}
-use Rattle.cas_ballot.specs.Ballot.{zero_ballot, BallotAtMost}
-use Rattle.cas_ballot.proofs.BallotLemmas.{cmp_refl, at_most_refl, at_most_of_less, at_most_trans, at_most_greater_right}
+use Rattle.cas_ballot.specs.Ballot.{zero_ballot, BallotAtMost, BallotLess}
+use Rattle.cas_ballot.proofs.BallotLemmas.{cmp_refl, less_irreflexive, at_most_refl, at_most_of_less, at_most_trans, at_most_greater_right}
 use Rattle.cas_change.specs.declared.state.State.{State}
 use Rattle.cas_change.specs.declared.state.State.TheVariants.{Empty}
 use Rattle.cas_slot.specs.declared.message.Ask.{Ask}
@@ -24,16 +24,16 @@ use Rattle.cas_slot.proofs.SlotsLemmas.{slot_at-with_slot_same, slot_at-without_
 use Rattle.cas_slot.specs.Table.{Handles, Answers, IsAnswered, IsTombstone, seen_at, accepted_at, promised_at}
 use Rattle.cas_record.specs.declared.mark.Mark.{Mark}
 use Rattle.cas_record.specs.declared.mark.Mark.TheVariants.{Voted}
-use Rattle.cas_record.proofs.LogLemmas.{stands_in_log, not_zero}
+use Rattle.cas_record.proofs.LogLemmas.{stands_in_log, not_zero, ProposedAt, proposed_at, not_opened}
 use Rattle.cas_record.proofs.Slots.{took_tells}
 use Rattle.cas_record.specs.Happening.{Happening, Marked, Asked, Promised, Took, Dropped, marks_of}
 use Rattle.cas_record.specs.Lawful.{Cluster, Lawful, SlotTold, slot_told}
-use Rattle.cas_record.specs.Chain.{chain_of}
+use Rattle.cas_record.specs.Chain.{has_opening, chain_of}
 use Rattle.cas_record.specs.Replay.{replay_from, opening_state}
 use Rattle.cas_record.specs.Orderly.{WasAsked, IsTold, IsTombstoneTold}
 use Rattle.cas_record.specs.Places.{Stands, here, past}
 use Rattle.cas_record.proofs.Tests.{ballot_same}
-use Rattle.cas_cluster.specs.Acceptors.{told_of, Tells, IsMadeState, IsAcceptedState, IsAskState, IsEmptyAt, deeds_of, votes_of, done_log, answered_log}
+use Rattle.cas_cluster.specs.Acceptors.{told_of, Tells, IsMadeState, IsOpeningState, IsAcceptedState, IsAskState, IsEmptyAt, deeds_of, votes_of, done_log, answered_log}
 use Rattle.cas_cluster.specs.Laws.{GoesOn}
 use Rattle.cas_cluster.proofs.Pages.{absent_unlisted}
 use Rattle.cas_cluster.proofs.Deeds.{own_age, promises, tells_again, tells_promise, takes, raises, drops}
@@ -145,17 +145,24 @@ made_not_zero cluster log lawful made zero =
     let place = stands_in_log log made.stands in
     not_zero cluster lawful place.at (made.same_ballot ∙ zero)
 
+-- nor is the ballot of a state that was accepted
+pub accepted_not_zero : (cluster : Cluster) (log : List Happening) {key : List ℕ} (accepted : Accepted) → Lawful cluster log → IsAcceptedState (marks_of log) key (Some accepted) → accepted.ballot ≡ zero_ballot → ⊥
+accepted_not_zero cluster log accepted lawful (inl made) zero = made_not_zero cluster log lawful made zero
+accepted_not_zero cluster log accepted lawful (inr opening) zero = less_irreflexive (subst (BallotLess zero_ballot) zero opening.some)
+
 -- the marks go on by a vote, and no state changes
 state_voted : (marks : List Mark) (vote : Mark) (key : List ℕ) (accepted : Option Accepted) (id : ℕ) (k : List ℕ) (b : Ballot) → vote ≡ Voted id k b → IsAcceptedState marks key accepted → IsAcceptedState (vote ∷ marks) key accepted
 state_voted marks vote key None id k b is h = tt
-state_voted marks vote key (Some a) id k b is h = subst (λ (m : Mark). IsMadeState (m ∷ marks) key a.ballot a.era a.state) (sym is) (record {
+state_voted marks vote key (Some a) id k b is (inl h) = inl (subst (λ (m : Mark). IsMadeState (m ∷ marks) key a.ballot a.era a.state) (sym is) (record {
   proposal = h.proposal;
   stands = record { older = h.stands.older; at = past h.stands.at };
   same_key = h.same_key;
   same_ballot = h.same_ballot;
   same_era = h.same_era;
   state_is = h.state_is;
-})
+}))
+state_voted marks vote key (Some a) id k b is (inr h) =
+    inr (subst (λ (m : Mark). IsOpeningState (m ∷ marks) key a.ballot a.era a.state) (sym is) (record { opens = h.opens; some = h.some; same_era = h.same_era; state_is = h.state_is }))
 
 votes : (cluster : Cluster) {log : List Happening} (id : ℕ) (kept : Contents) (key : List ℕ) (ballot : Ballot) → GoesOn cluster log id kept → accepted_ballot (accepted_at kept key) ≡ ballot → (ballot ≡ zero_ballot → ⊥)
     → GoesOn cluster (Marked (Voted id key ballot) ∷ log) id kept
@@ -217,7 +224,11 @@ not_tombstone cluster {log} id old key tomb on empty other held =
   where
     at_tomb : (a : Option Accepted) → accepted_ballot a ≡ tomb → IsAcceptedState (marks_of log) key a → IsSomeAnd a (λ x. (x.ballot ≡ tomb) × (x.state ≡ Empty))
     at_tomb None zero made = made_not_zero cluster log on.lawful empty.1 (sym zero)
-    at_tomb (Some x) same made =
+    at_tomb (Some x) same (inr opening) =
+        let m = empty.1 in
+        let proposed : ProposedAt key tomb log = proposed_at log (record { proposal = m.proposal; stands = m.stands; same_key = m.same_key; same_ballot = m.same_ballot }) in
+        absurd (not_both (has_opening key tomb (marks_of log)) (subst (λ b. has_opening key b (marks_of log) ≡ true) same opening.opens) (not_opened cluster on.lawful proposed))
+    at_tomb (Some x) same (inl made) =
         (same, made.state_is ∙ ap (λ (b : Ballot). replay_from (opening_state key (marks_of log)) (chain_of key b (marks_of log))) same ∙ sym empty.1.state_is)
 
 -- what the acceptor answers is so in the log with what it did and its vote

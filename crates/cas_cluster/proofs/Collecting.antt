@@ -47,7 +47,7 @@ use Rattle.cas_cluster.proofs.Places.{some_is, own_set, contains_none, contains_
 use Rattle.cas_cluster.proofs.Remembering.{same_course, plainly, told_remembered, revaulted}
 use Rattle.std.proofs.lemmas.List.{reverse-append}
 use Rattle.cas_change.specs.declared.outcome.Took.{Took}
-use Rattle.cas_record.specs.Orderly.{Orderly, age_told, IsRoundAsk, MayAsk, MayDraw, took_it, IsTold, MayReply}
+use Rattle.cas_record.specs.Orderly.{Orderly, age_told, IsRoundAsk, MayAsk, MayDraw, took_it, IsAgedOut, IsTold, MayReply}
 use Rattle.cas_record.specs.declared.mark.Proposal.{Proposal}
 use Rattle.cas_record.proofs.PlaceLemmas.{stands_at, stands_deeper, stands_part, newest_or}
 use Rattle.cas_slot.specs.declared.ages.Ages.{Ages as LeastAges}
@@ -104,7 +104,7 @@ recollected m old order told collection is known =
     is.course is.in_eras
 
 -- what is known of the one that is under way
-known_of : {S V : Type 0} (m : Meaning S V) (old : View S V) (is : IsFollowed m old) (collection : CollectionView) → old.council.collection ≡ Some collection → IsCollectionTrue is.cluster is.logged.global.log collection
+pub known_of : {S V : Type 0} (m : Meaning S V) (old : View S V) (is : IsFollowed m old) (collection : CollectionView) → old.council.collection ≡ Some collection → IsCollectionTrue is.cluster is.logged.global.log collection
 known_of m old is collection is_some = subst (IsCollectingTrue is.cluster is.logged.global.log) is_some is.logged.agrees.council.3
 
 -- as many are renewed as before, of the same collection
@@ -642,10 +642,28 @@ none_later {S} {V} m view is c of number acceptor far member =
     let none = on.none_beyond number (omega (arith, far, ap (λ (e : Era). e.number) of.same_era)) in
     cc (sym (ap (λ (l : List ℕ). has_member l acceptor) none.members) ∙ member)
 
+-- who asks in a round is known
+asker_known : (cluster : Cluster) (log : List Happening) (request : Request) → Orderly cluster log → Stands (Asked request) log → IsRoundAsk request.ask → request.from ≤ cluster.greatest
+asker_known cluster log request orderly stands round =
+    let may : MayAsk cluster stands.older request request.ask = reason cluster orderly stands.at in
+    let ask_for = round_asked cluster stands.older request request.ask round may in
+    let drawn = ask_for.drawn in
+    let draw : MayDraw cluster drawn.older _ _ _ = reason cluster (orderly_older cluster orderly stands.at) drawn.at in
+    subst (λ (n : ℕ). n ≤ cluster.greatest) ask_for.own draw.known
+
+-- what was asked of a member for the key at or below the tombstone is too old for it, once all were told the new ages
+aged_by_ages : {S V : Type 0} (m : Meaning S V) (view : View S V) (is : IsFollowed m view) (c : CollectionView) → IsRenewedBy view c → is_after_ages c.course.step ≡ true → IsCollectionTrue is.cluster is.logged.global.log c
+    → (acceptor : ℕ) → has_member (is.cluster.members c.course.era.number) acceptor ≡ true → IsAgedOut is.logged.global.log acceptor c.course.key (tomb_of c.tombstone)
+aged_by_ages m view is c of past known acceptor member = record {
+  aged = λ request stands to round same low.
+      let age = age_of view c of request.from (omega (arith, asker_known is.cluster is.logged.global.log request is.logged.history.orderly stands round, is.logged.agrees.greatest)) in
+      omega (arith, known.older request.from age.0 request age.1 stands refl round same low, known.told past acceptor request.from age.0 member age.1);
+}
+
 -- all members of its era, and of later ones, are clear of the tombstone
-clear_of_tomb : {S V : Type 0} (m : Meaning S V) (view : View S V) (is : IsFollowed m view) (c : CollectionView) → (of : IsRenewedBy view c) → is_round c.course.step ≡ false → IsCollectionTrue is.cluster is.logged.global.log c
+clear_of_tomb : {S V : Type 0} (m : Meaning S V) (view : View S V) (is : IsFollowed m view) (c : CollectionView) → (of : IsRenewedBy view c) → is_round c.course.step ≡ false → is_after_ages c.course.step ≡ true → IsCollectionTrue is.cluster is.logged.global.log c
     → IsFloorClear is.cluster is.logged.global.log c.course.key (tomb_of c.tombstone)
-clear_of_tomb m view is c of past known = record {
+clear_of_tomb m view is c of past told known = record {
   era = c.course.era.number;
   all_in = known.entered;
   clear = λ number acceptor low member. elim (le_or_lt number c.course.era.number) [
@@ -653,6 +671,12 @@ clear_of_tomb m view is c of past known = record {
         let same : number ≡ c.course.era.number = omega (arith, few, low) in
         let took = known.taken past acceptor (subst (λ (n : ℕ). has_member (is.cluster.members n) acceptor ≡ true) same member) in
         took_it took.0 took.1
+    | inr far ↦ absurd (none_later m view is c of number acceptor far member)
+  ];
+  aged = λ number acceptor low member. elim (le_or_lt number c.course.era.number) [
+    | inl few ↦
+        let same : number ≡ c.course.era.number = omega (arith, few, low) in
+        aged_by_ages m view is c of told known acceptor (subst (λ (n : ℕ). has_member (is.cluster.members n) acceptor ≡ true) same member)
     | inr far ↦ absurd (none_later m view is c of number acceptor far member)
   ];
 }
@@ -706,7 +730,7 @@ makes_floor {S} {V} m old new is by = subst (IsRemembered m) (sym (by.view ∙ a
     history = happens is.followed.cluster whole.meets global whole.history (MakesFloor key tomb (record {
       made = subst (λ (b : Ballot). IsEmptyAt (marks_of global.log) key b) (sym same_tomb) (c.course.era.number, sought.made);
       acked = subst (λ (b : Ballot). IsAcked key b (marks_of global.log)) (sym same_tomb) sought.acked;
-      clear = clear_of_tomb m old is.followed c by.is_renewed (ap is_round by.is_due) known;
+      clear = clear_of_tomb m old is.followed c by.is_renewed (ap is_round by.is_due) (ap is_after_ages by.is_due) known;
     }))
 
     still : IsCollectionTrue is.followed.cluster (h ∷ global.log) c
@@ -731,7 +755,7 @@ makes_floor {S} {V} m old new is by = subst (IsRemembered m) (sym (by.view ∙ a
       older = still.older;
       told_alone = λ t members request least same stands tells. (refl, (still.told_alone t members request least same stands tells).1);
       told = λ past. still.told (ap is_after_ages by.is_due);
-      floor = λ past. record { state = Empty; stands = record { older = marks_of global.log; at = here } };
+      floor = λ past. record { older = marks_of global.log; at = here };
     }
 
     no_entry : entries_in (old.marks ++ Floor key tomb Empty ∷ []) ≡ entries_in old.marks
@@ -753,15 +777,6 @@ asked_now f (to ∷ tos) log {request} stands = elim (newest_or stands) [
 
 age_asked : (f : ℕ → Request) (tos : List ℕ) (log : List Happening) (acceptor proposer : ℕ) → age_told (asked_log f tos log) acceptor proposer ≡ age_told log acceptor proposer
 age_asked f tos log acceptor proposer = asked_all f (λ l. age_told l acceptor proposer ≡ age_told log acceptor proposer) (λ to l same. same) tos log refl
-
--- who asks in a round is known
-asker_known : (cluster : Cluster) (log : List Happening) (request : Request) → Orderly cluster log → Stands (Asked request) log → IsRoundAsk request.ask → request.from ≤ cluster.greatest
-asker_known cluster log request orderly stands round =
-    let may : MayAsk cluster stands.older request request.ask = reason cluster orderly stands.at in
-    let ask_for = round_asked cluster stands.older request request.ask round may in
-    let drawn = ask_for.drawn in
-    let draw : MayDraw cluster drawn.older _ _ _ = reason cluster (orderly_older cluster orderly stands.at) drawn.at in
-    subst (λ (n : ℕ). n ≤ cluster.greatest) ask_for.own draw.known
 
 -- what a collection asks is of its key, and of no round
 question_key : (c : CollectionView) (question : Question) → IsQuestionOf c question → tag_key question ≡ c.course.key
@@ -834,18 +849,14 @@ asks_collection {S} {V} m old new disks is by = by_case by.asks
         let member : has_member (is.followed.cluster.members c.course.era.number) to ≡ true = subst (λ (e : Era). has_member (is.followed.cluster.members e.number) to ≡ true) (sym by.may.is_renewed.same_era) within.0 in
         subst (λ (q : Question). IsAskable is.followed.cluster (asked_global global (question_to age tomb question) rest) (question_to age tomb q to)) (sym same) (record {
           may = (
-            subst (HasFloor c.course.key tomb) (sym (asked_marks (question_to age tomb question) rest global.log)) (known.floor (ap is_after_floor due)),
+            record { state = Empty; stands = subst (Stands (Floor c.course.key tomb Empty)) (sym (asked_marks (question_to age tomb question) rest global.log)) (known.floor (ap is_after_floor due)) },
+            subst (IsAcked c.course.key tomb) (sym (asked_marks (question_to age tomb question) rest global.log)) (subst (λ (b : Ballot). IsAcked c.course.key b (marks_of global.log)) (sym same_tomb) sought.acked),
             record {
               aged = λ request stands to_it round same_key low. elim (asked_now (question_to age tomb question) rest global.log stands) [
                 | inl now ↦ absurd (question_no_round c question tomb now.0 (collect.removes due same) (subst (λ (r : Request). IsRoundAsk r.ask) now.1 round))
                 | inr before ↦
-                    let of = age_of old c by.may.is_renewed request.from (omega (arith, asker_known is.followed.cluster global.log request whole.history.orderly before round, is.followed.logged.agrees.greatest)) in
-                    omega (
-                      arith,
-                      known.older request.from of.0 request of.1 before refl round same_key low,
-                      known.told (ap is_after_ages due) to request.from of.0 member of.1,
-                      age_asked (question_to age tomb question) rest global.log to request.from,
-                    )
+                    let aged_out = aged_by_ages m old is.followed c by.may.is_renewed (ap is_after_ages due) known to member in
+                    omega (arith, aged_out.aged request before to_it round same_key low, age_asked (question_to age tomb question) rest global.log to request.from)
               ];
             },
           );
@@ -927,7 +938,7 @@ asks_collection {S} {V} m old new disks is by = by_case by.asks
             | inr already ↦ known.told_alone t members request least same already tells
           ];
           told = λ past acceptor p a member at. subst (λ (n : ℕ). a ≤ n) (sym (age_asked f tos global.log acceptor p)) (known.told past acceptor p a member at);
-          floor = λ past. subst (HasFloor c.course.key tomb) (sym (asked_marks f tos global.log)) (known.floor past);
+          floor = λ past. subst (Stands (Floor c.course.key tomb Empty)) (sym (asked_marks f tos global.log)) (known.floor past);
         }
 
     by_case : AsksCollect m old by.may.at by.desk new → IsRemembered m new

@@ -19,7 +19,7 @@ use Rattle.cas_slot.specs.Table.{seen_at, accepted_at, promised_at}
 use Rattle.cas_slot.proofs.AgeLemmas.{least_age-raised}
 use Rattle.cas_record.specs.Happening.{Happening, Promised, Took, Dropped, Raised, marks_of}
 use Rattle.cas_record.specs.Lawful.{Cluster, SlotTold, slot_told, promised_slot, MayPromise}
-use Rattle.cas_record.specs.Legal.{HasProposal, HasFloor}
+use Rattle.cas_record.specs.Legal.{HasProposal, HasFloor, IsAcked}
 use Rattle.cas_record.specs.Orderly.{Orderly, WasAsked, IsRoundAsk, MayAsk, IsAgedOut, age_told}
 use Rattle.cas_record.proofs.LogLemmas.{part_of}
 use Rattle.cas_record.proofs.Orders.{reason, above_dropped}
@@ -95,11 +95,11 @@ takes cluster {log} request old key ballot era rides state is on was low made =
             (subst (λ (s : SlotTold). BallotAtMost s.promise ballot) (sym told) (low_promise slot ballot low))
             (subst (λ (s : SlotTold). BallotAtMost s.accepted ballot) (sym told) (low_accepted slot ballot low)),
       );
-      orderly = (on.orderly, record { request = request; was_asked = was; era = era; rides = rides; state = state; is = is; ride_is = refl });
+      orderly = (on.orderly, inl (record { request = request; was_asked = was; era = era; rides = rides; state = state; is = is; ride_is = refl }));
       tells = record {
         slots = slots_put old new_slot (take_changes log request.to key ballot (unwrap_or rides zero_ballot)) refl on.tells.slots;
         ages = on.tells.ages;
-        states = states_put old key new_slot (IsAcceptedState (marks_of log)) made on.tells.states;
+        states = states_put old key new_slot (IsAcceptedState (marks_of log)) (inl made) on.tells.states;
       };
     }
 
@@ -125,7 +125,7 @@ pub drops : (cluster : Cluster) {log : List Happening} (request : Request) (old 
 drops cluster {log} request old key tomb is on was holds promise =
     let told : slot_told log request.to key ≡ told_of (kept_at old key) = on.tells.slots key in
     let may_ask : MayAsk cluster was.asked.older request request.ask = reason cluster on.orderly was.asked.at in
-    let remove : HasFloor key tomb (marks_of was.asked.older) × IsAgedOut was.asked.older request.to key tomb = subst (MayAsk cluster was.asked.older request) is may_ask in
+    let remove : HasFloor key tomb (marks_of was.asked.older) × IsAcked key tomb (marks_of was.asked.older) × IsAgedOut was.asked.older request.to key tomb = subst (MayAsk cluster was.asked.older request) is may_ask in
     record {
       lawful = (
         on.lawful,

@@ -6,7 +6,8 @@ use Rattle.std.specs.FinMap as map
 use Rattle.std.specs.Ordering.{nat_cmp}
 use Rattle.cas_base.proofs.Bools.{if_true, if_false, true_or_false, not_both}
 use Rattle.cas_ballot.specs.declared.ballot.Ballot.{Ballot}
-use Rattle.cas_ballot.specs.Ballot.{BallotLess}
+use Rattle.cas_ballot.specs.Ballot.{BallotAtMost, BallotLess}
+use Rattle.cas_ballot.proofs.BallotLemmas.{less_not_at_most, at_most_of_less}
 use Rattle.cas_cache.specs.declared.ready.Ready.{Ready}
 use Rattle.cas_change.specs.declared.program.Clause.{Clause}
 use Rattle.cas_change.specs.declared.state.State.{State}
@@ -30,16 +31,18 @@ use Rattle.cas_record.specs.declared.mark.Mark.{Mark}
 use Rattle.cas_record.specs.declared.mark.Mark.TheVariants.{Begun, Proposed, Acked, Floor, Ended}
 use Rattle.cas_record.specs.declared.mark.Proposal.{Proposal}
 use Rattle.cas_record.specs.Chain.{chain_of, link_of}
-use Rattle.cas_record.specs.Happening.{Happening, Marked, Asked, Entered, Drew, Replied, marks_of}
-use Rattle.cas_record.specs.Lawful.{Cluster, ClusterMeets, Lawful, May, MayPropose, MayLeave, MayAnswer}
+use Rattle.cas_record.specs.Happening.{Happening, Marked, Asked, Took, Entered, Drew, Replied, marks_of}
+use Rattle.cas_record.specs.Laws.{IsOpened}
+use Rattle.cas_record.specs.Lawful.{Cluster, ClusterMeets, Lawful, AreFirst, May, MayPropose, MayLeave, MayAnswer}
 use Rattle.cas_record.specs.Legal.{HasFloor}
-use Rattle.cas_record.specs.Orderly.{Orderly, HasReason, IsRoundAsk, MayAsk, MayAskFor, IsClear, took_it, never_asked}
-use Rattle.cas_record.specs.Places.{Stands, here, past}
+use Rattle.cas_record.specs.Orderly.{Orderly, HasReason, IsRoundAsk, MayAsk, MayAskFor, MayTakeFirst, IsAgedOut, IsClear, took_it, never_asked}
+use Rattle.cas_record.specs.Places.{At, Stands, here, past}
 use Rattle.cas_record.specs.Replay.{replay_from, opening_state}
 use Rattle.cas_record.proofs.Listings.{stones_of_listing}
-use Rattle.cas_record.proofs.Orders.{round_asked}
-use Rattle.cas_record.proofs.LogLemmas.{part_of}
-use Rattle.cas_record.proofs.PlaceLemmas.{newest_or, none_at_nil, stands_part}
+use Rattle.cas_record.proofs.Orders.{age_later, round_asked}
+use Rattle.cas_record.proofs.LogLemmas.{part_of, in_log, mark_stands, proposed_at, acked_at, acked_proposed}
+use Rattle.cas_record.proofs.Openings.{first_at, first_taken, has_opening_deeper, never_proposed, opening_stone}
+use Rattle.cas_record.proofs.PlaceLemmas.{newest_or, none_at_nil, stands_at, stands_part}
 use Rattle.cas_record.proofs.Tests.{nat_same, nat_is}
 use Rattle.cas_record.proofs.LawLemmas.{lawful_is_legal}
 use Rattle.cas_cluster.specs.Acceptors.{told_of, IsAcceptedState, Tells, IsMadeState, IsEmptyAt, IsAskState, IsElsewhere, deeds_of, votes_of, done_log, answered_log}
@@ -101,25 +104,56 @@ floor_now h log key floor has = elim (mark_now h log has.stands) [
   | inr before ↦ inr (record { state = has.state; stands = before })
 ]
 
+-- what opened the history of a key did
+opened_grows : {cluster : Cluster} (h : Happening) (log : List Happening) {key : List ℕ} {floor : Ballot} → IsOpened cluster log key floor → IsOpened cluster (h ∷ log) key floor
+opened_grows h log was = record {
+  opening = has_opening_deeper was.opening here;
+  some = was.some;
+  by = was.by;
+  prepares = was.prepares;
+  accepts = was.accepts;
+  took = λ acceptor member. let took = was.took acceptor member in record { older = took.older; at = past took.at };
+}
+
 -- who is clear of a floor stays so, as what is asked is above it
-clear_stays : (h : Happening) (log : List Happening) {acceptor : ℕ} {key : List ℕ} {floor : Ballot}
-    → ((request : Request) → Asked request ≡ h → IsRoundAsk request.ask → key_of request.ask ≡ key → BallotLess floor (tag_of request.ask)) → IsClear log acceptor key floor → IsClear (h ∷ log) acceptor key floor
-clear_stays h log above (took_it ride took) = took_it ride (record { older = took.older; at = past took.at })
-clear_stays h log above (never_asked never) = never_asked (λ request stands to round same. elim (newest_or stands) [
-  | inl now ↦ above request now round same
-  | inr before ↦ never request before to round same
-])
+clear_stays : (cluster : Cluster) (h : Happening) (log : List Happening) {acceptor : ℕ} {key : List ℕ} {floor : Ballot} → HasReason cluster log h
+    → ((ballot ride : Ballot) → MayTakeFirst cluster log acceptor key ballot ride → BallotAtMost floor ballot) → ((request : Request) → Asked request ≡ h → IsRoundAsk request.ask → key_of request.ask ≡ key → BallotLess floor (tag_of request.ask)) → IsClear log acceptor key floor → IsClear (h ∷ log) acceptor key floor
+clear_stays cluster h log why first above (took_it ride took) = took_it ride (record { older = took.older; at = past took.at })
+clear_stays cluster h log {floor = floor} why first above (never_asked never none_taken) =
+    never_asked (λ request stands to round same. elim (newest_or stands) [
+      | inl now ↦ above request now round same
+      | inr before ↦ never request before to round same
+    ]) (λ ballot ride took. elim (newest_or took) [
+      | inl now ↦ elim (subst (HasReason cluster log) (sym now) why) [
+        | inl by ↦ at_most_of_less (subst (λ (a : Ask). BallotLess floor (tag_of a)) by.is (never by.request by.was_asked.asked by.was_asked.to (subst IsRoundAsk (sym by.is) tt) (ap key_of by.is)))
+        | inr may ↦ first ballot ride may
+      ]
+      | inr before ↦ none_taken ballot ride before
+    ])
+
+-- what was asked at or below it stays too old
+aged_stays : (h : Happening) (log : List Happening) {acceptor : ℕ} {key : List ℕ} {floor : Ballot}
+    → ((request : Request) → Asked request ≡ h → IsRoundAsk request.ask → key_of request.ask ≡ key → BallotLess floor (tag_of request.ask)) → IsAgedOut log acceptor key floor → IsAgedOut (h ∷ log) acceptor key floor
+aged_stays h log {acceptor} above was = record {
+  aged = λ request stands to round same low. elim (newest_or stands) [
+    | inl now ↦ absurd (less_not_at_most (above request now round same) low)
+    | inr before ↦
+        let newest : At h log (h ∷ log) = here in
+        omega (arith, was.aged request before to round same low, age_later (h ∷ log) acceptor request.from newest)
+  ];
+}
 
 -- and so do the members of the eras that the floor is for
-floor_clear_stays : (cluster : Cluster) (h : Happening) (log : List Happening) {key : List ℕ} {floor : Ballot}
-    → ((request : Request) → Asked request ≡ h → IsRoundAsk request.ask → key_of request.ask ≡ key → BallotLess floor (tag_of request.ask)) → IsFloorClear cluster log key floor → IsFloorClear cluster (h ∷ log) key floor
-floor_clear_stays cluster h log above was = record {
+floor_clear_stays : (cluster : Cluster) (h : Happening) (log : List Happening) {key : List ℕ} {floor : Ballot} → HasReason cluster log h
+    → ((acceptor : ℕ) (ballot ride : Ballot) → MayTakeFirst cluster log acceptor key ballot ride → BallotAtMost floor ballot) → ((request : Request) → Asked request ≡ h → IsRoundAsk request.ask → key_of request.ask ≡ key → BallotLess floor (tag_of request.ask)) → IsFloorClear cluster log key floor → IsFloorClear cluster (h ∷ log) key floor
+floor_clear_stays cluster h log why first above was = record {
   era = was.era;
   all_in = elim was.all_in [
     | inl first ↦ inl first
     | inr all ↦ inr (λ proposer known. stands_part (all proposer known) (part_of {log = h ∷ log} here))
   ];
-  clear = λ number acceptor late member. clear_stays h log above (was.clear number acceptor late member);
+  clear = λ number acceptor late member. clear_stays cluster h log why (first acceptor) above (was.clear number acceptor late member);
+  aged = λ number acceptor late member. aged_stays h log above (was.aged number acceptor late member);
 }
 
 not_asked : {request : Request} {key : List ℕ} {floor : Ballot} {state : State} → Asked request ≡ Marked (Floor key floor state) → ⊥
@@ -157,15 +191,18 @@ knows_more cluster h log all lawful orderly good knows = record {
     is_made = made_grows cluster h log lawful was.is_made;
   };
   floors = λ key floor has. elim (floor_now h log key floor has) [
-    | inl now ↦ let empty = (new_floor key floor now).0 in (empty.0, made_grows cluster h log lawful empty.1)
-    | inr before ↦ let empty = knows.floors key floor before in (empty.0, made_grows cluster h log lawful empty.1)
+    | inl now ↦ let empty = (new_floor key floor now).0 in inl (empty.0, made_grows cluster h log lawful empty.1)
+    | inr before ↦ elim (knows.floors key floor before) [ inl empty ↦ inl (empty.0, made_grows cluster h log lawful empty.1) | inr first ↦ inr (opened_grows h log first) ]
   ];
   clear = λ key floor has. elim (floor_now h log key floor has) [
-    | inl now ↦ floor_clear_stays cluster h log (λ request asked round same. absurd (not_asked (asked ∙ sym now.1))) (new_floor key floor now).1
-    | inr before ↦ floor_clear_stays cluster h log (above_floor cluster h log orderly before) (knows.clear key floor before)
+    | inl now ↦ floor_clear_stays cluster h log orderly.1 (λ acceptor ballot ride may. absurd (not_first (new_floor key floor now).0.1 may.first)) (λ request asked round same. absurd (not_asked (asked ∙ sym now.1))) (new_floor key floor now).1
+    | inr before ↦ floor_clear_stays cluster h log orderly.1 (λ acceptor ballot ride may. first_taken cluster lawful.0 before may) (above_floor cluster h log orderly before) (knows.clear key floor before)
   ];
 }
   where
+    not_first : {key : List ℕ} {floor : Ballot} {era : ℕ} → IsMadeState (marks_of log) key floor era Empty → AreFirst log → ⊥
+    not_first made first = first_at log first (in_log log made.stands.at).at
+
     new_ask : (request : Request) → Asked request ≡ h → IsAskState (marks_of log) request.ask × ((request.from ≤ 16) × (request.to < 64)) × IsEndedAsk (marks_of log) request.ask
     new_ask request now = subst (IsGood cluster log) (sym now) good
 
@@ -205,7 +242,10 @@ has_made {cluster} {global} {key} {ballot} {era} {state} history has =
 -- ---- requests
 ask_state : (cluster : Cluster) (global : GlobalState) (request : Request) (question : Ask) → HasHistory cluster global → MayAsk cluster global.log request question → IsMadeAsk global.made question → IsAskState (marks_of global.log) question
 ask_state cluster global request (ask.Accept key ballot era ride state) history may made = has_made history made
-ask_state cluster global request (ask.Remove key tomb) history may made = history.knows.floors key tomb may.0
+ask_state cluster global request (ask.Remove key tomb) history may made = elim (history.knows.floors key tomb may.0) [
+  | inl empty ↦ empty
+  | inr floor ↦ absurd (never_proposed cluster history.lawful floor.opening (acked_proposed cluster history.lawful (acked_at global.log may.1)))
+]
 ask_state cluster global request question history may made = tt
 
 -- ---- answers
@@ -312,12 +352,12 @@ proposes cluster global p program state history begun drawn may is_read =
       is_made = known.makes cluster global.log p program state (outcome_of program state) history.lawful may begun is_read refl;
     }
 
-prepared : (cluster : Cluster) (global : GlobalState) (p : Proposal) (program : List Clause) (read : Option Accepted) → HasHistory cluster global → Stands (Begun p.caller p.call p.key program) (marks_of global.log) → IsPrepared cluster global.log p read
+prepared : (cluster : Cluster) → ClusterMeets cluster → (global : GlobalState) (p : Proposal) (program : List Clause) (read : Option Accepted) → HasHistory cluster global → Stands (Begun p.caller p.call p.key program) (marks_of global.log) → IsPrepared cluster global.log p read
     → HasHistory cluster (record { log = Marked (Proposed p) ∷ global.log; kept = global.kept; made = record { proposal = p; outcome = outcome_of program (state_read read) } ∷ global.made })
-prepared cluster global p program read history begun is =
-    let clear : AreFloorsClear global.log p.key p.ballot p.prepared_by =
+prepared cluster meets global p program read history begun is =
+    let clear : AreFloorsClear cluster global.log p.key p.ballot p.prepared_by =
     clear_of_floors cluster global.log p is.replies history.lawful history.orderly is.round (all_true is.replies history is.replied) is.by (history.knows.floors p.key) (history.knows.clear p.key) in
-    let may = propose cluster global.log p is.replies read history.lawful history.orderly is.round (all_true is.replies history is.replied) is.by is.quorum is.is_read is.same_read clear in
+    let may = propose cluster meets global.log p is.replies read history.lawful history.orderly is.round (all_true is.replies history is.replied) is.by is.quorum is.is_read is.same_read clear in
     proposes cluster global p program (state_read read) history begun is.round.drawn may.0 may.1
 
 prepared_by_ride : (cluster : Cluster) (global : GlobalState) (p : Proposal) (program : List Clause) (ready : Ready) → HasHistory cluster global → Stands (Begun p.caller p.call p.key program) (marks_of global.log) → IsPreparedByRide cluster global p ready
@@ -329,8 +369,9 @@ prepared_by_ride cluster global p program ready history begun is =
     proposes cluster global p program ready.state history begun is.round.drawn may.0 may.1
 
 -- ---- eras
-leaves : (cluster : Cluster) → ClusterMeets cluster → (log : List Happening) (proposer left : ℕ) → Lawful cluster log → IsLeaving cluster log proposer left → MayLeave cluster log proposer left
-leaves cluster meets log proposer left lawful is = record {
+leaves : (cluster : Cluster) → ClusterMeets cluster → (log : List Happening) (proposer left : ℕ) → Lawful cluster log → Orderly cluster log
+    → ((key : List ℕ) (floor : Ballot) → HasFloor key floor (marks_of log) → IsEmptyAt (marks_of log) key floor ⊎ IsOpened cluster log key floor) → IsLeaving cluster log proposer left → MayLeave cluster log proposer left
+leaves cluster meets log proposer left lawful orderly floors is = record {
   known = is.known;
   once = is.once;
   all_in = λ some. elim is.listed [
@@ -340,6 +381,15 @@ leaves cluster meets log proposer left lawful is = record {
   stones = λ {p} stands early. elim is.listed [
     | inl none ↦ absurd (omega (arith, early, none))
     | inr listed ↦ stones_of_listing cluster meets lawful listed.all_in listed.quorum listed.shown stands early
+  ];
+  openings = λ {key} {floor} opening some. elim is.listed [
+    | inl none ↦ absurd (omega (arith, some, none))
+    | inr listed ↦ elim (floors key floor (record { state = opening.state; stands = mark_stands (stands_at opening.at) })) [
+      | inl empty ↦
+          let made = empty.1 in
+          absurd (never_proposed cluster lawful opening (proposed_at log (record { proposal = made.proposal; stands = made.stands; same_key = made.same_key; same_ballot = made.same_ballot })))
+      | inr first ↦ opening_stone cluster meets lawful orderly some listed.all_in listed.quorum listed.shown first
+    ]
   ];
 }
 
@@ -355,7 +405,7 @@ keeps cluster meets global history (Asks request askable) =
     goes_on cluster global (Asked request) history tt askable.may (λ id. tt) (ask_state cluster global request request.ask history askable.may askable.made, (askable.from, askable.to), askable.ended)
 keeps cluster meets global history (Answers request reply new asked answered) = answers_on cluster global request reply new history asked answered
 keeps cluster meets global history (StopsWithin request tell new asked row) = stops_within cluster global request tell new history asked row
-keeps cluster meets global history (Proposes p program read begun is) = prepared cluster global p program read history begun is
+keeps cluster meets global history (Proposes p program read begun is) = prepared cluster meets global p program read history begun is
 keeps cluster meets global history (ProposesByRide p program ready begun is) = prepared_by_ride cluster global p program ready history begun is
 keeps cluster meets global history (Counts a is) =
     goes_on cluster global (Marked (Acked a)) history (count cluster global.log a is.replies history.lawful history.orderly is.proposed (all_true is.replies history is.replied) is.by is.quorum) tt (λ id. tt) tt
@@ -371,12 +421,12 @@ keeps cluster meets global history (TellsOperator asked told) = goes_on cluster 
 keeps cluster meets global history (MakesFloor key tomb may) =
     goes_on cluster global (Marked (Floor key tomb Empty)) history (inr (record { is_empty = refl; acked = may.acked })) tt (λ id. tt) (may.made, may.clear)
 keeps cluster meets global history (Enters proposer left leaving) =
-    goes_on cluster global (Entered proposer (suc left)) history (record { left = left; next = refl; may_leave = leaves cluster meets global.log proposer left history.lawful leaving }) tt (λ id. tt) tt
+    goes_on cluster global (Entered proposer (suc left)) history (record { left = left; next = refl; may_leave = leaves cluster meets global.log proposer left history.lawful history.orderly history.knows.floors leaving }) tt (λ id. tt) tt
 keeps cluster meets global history (MarksEra proposer era may) = goes_on cluster global _ history may tt (λ id. tt) tt
 
 -- ---- runs
 -- nothing is kept at first
-none_kept : (key : List ℕ) → kept_at nothing key ≡ None
+pub none_kept : (key : List ℕ) → kept_at nothing key ≡ None
 none_kept key = map.get-empty (slice_cmp nat_cmp) key
 
 pub opens : (cluster : Cluster) → HasHistory cluster (record { log = []; kept = λ id. nothing; made = [] })

@@ -1,7 +1,7 @@
 -- What stays so when the log goes on.
-use Rattle.std.proofs.Common.{◌≡◌, ℕ, true, not, List, ◌∷◌, Option, Some, None, refl, sym, ap, ◌∙◌, inl, inr}
+use Rattle.std.proofs.Common.{◌≡◌, ℕ, true, not, List, ◌∷◌, Option, Some, None, refl, sym, ap, subst, ◌∙◌, inl, inr}
 use Rattle.std.specs.Prelude.{◌&&◌}
-use Rattle.cas_base.proofs.Bools.{if_false, right_false, not_of_true, true_or_false}
+use Rattle.cas_base.proofs.Bools.{and_left, and_right, or_right, if_false, right_false, false_of_not, not_of_true, not_tells, not_both, true_or_false}
 use Rattle.cas_ballot.specs.declared.ballot.Ballot.{Ballot}
 use Rattle.cas_change.specs.declared.state.State.{State}
 use Rattle.cas_slot.specs.declared.slot.Accepted.{Accepted}
@@ -13,15 +13,17 @@ use Rattle.cas_record.specs.declared.entry.Entry.{Entry}
 use Rattle.cas_record.specs.declared.mark.Proposal.{Proposal}
 use Rattle.cas_record.specs.declared.mark.Mark.{Mark}
 use Rattle.cas_record.specs.declared.mark.Mark.TheVariants.{Proposed, Floor}
-use Rattle.cas_record.specs.Chain.{is_key, has_calls, chain_of}
+use Rattle.cas_record.specs.Chain.{is_key, has_calls, opens_at, has_opening, chain_of}
 use Rattle.cas_record.specs.Replay.{replay_from, opening_state}
 use Rattle.cas_record.specs.Happening.{Happening, Marked, marks_of}
 use Rattle.cas_record.specs.Lawful.{Cluster, Lawful}
-use Rattle.cas_record.specs.Places.{At, here, past}
+use Rattle.cas_record.specs.Places.{At, Stands, here, past}
 use Rattle.cas_record.proofs.ChainLemmas.{no_calls}
-use Rattle.cas_record.proofs.LogLemmas.{proposal_placed, ProposedAt, proposed_at, at_proposal, proposal_law, chain_whole, part_of}
-use Rattle.cas_record.proofs.PlaceLemmas.{stands_part}
-use Rattle.cas_cluster.specs.Acceptors.{IsMadeState, IsAcceptedState, IsAskState, IsTellState}
+use Rattle.cas_record.proofs.LogLemmas.{mark_stands, proposal_placed, ProposedAt, proposed_at, acked_at, acked_proposed, at_proposal, proposal_law, chain_whole, part_of}
+use Rattle.cas_record.proofs.Openings.{opening_in_log}
+use Rattle.cas_record.proofs.PlaceLemmas.{stands_at, stands_part}
+use Rattle.cas_record.proofs.Tests.{key_same}
+use Rattle.cas_cluster.specs.Acceptors.{IsMadeState, IsOpeningState, IsAcceptedState, IsAskState, IsTellState}
 
 -- once a call was begun, the state with which a history starts stays
 opening_stays : (key : List ℕ) (mark : Mark) (older : List Mark) → has_calls older ≡ true → opening_state key (mark ∷ older) ≡ opening_state key older
@@ -68,10 +70,35 @@ made_grows cluster (Marked mark) log {key} {ballot} lawful s =
     }
 made_grows cluster other log lawful s = s
 
+-- the state with which a history opened stays
+opening_state_stays : (cluster : Cluster) (mark : Mark) (log : List Happening) (key : List ℕ) (ballot : Ballot) → Lawful cluster (Marked mark ∷ log) → has_opening key ballot (marks_of log) ≡ true
+    → opening_state key (mark ∷ marks_of log) ≡ opening_state key (marks_of log)
+opening_state_stays cluster (Floor k floor state) log key ballot lawful opens =
+    if_false (is_key k key && not (has_calls (marks_of log))) state (opening_state key (marks_of log)) (false_of_not _ no_other)
+  where
+    no_other : (is_key k key && not (has_calls (marks_of log))) ≡ true → ⊥
+    no_other e = elim lawful.1 [
+      | inl first ↦
+          let o = opening_in_log cluster log lawful.0 opens in
+          first.first (subst (λ x. Stands (Floor x ballot o.state) (marks_of log)) (sym (key_same (and_left (is_key k key) _ e))) (mark_stands (stands_at o.at)))
+      | inr tombstone ↦ not_both (has_calls (marks_of log)) (calls_begun cluster log lawful.0 (acked_proposed cluster lawful.0 (acked_at log tombstone.acked))) (not_tells _ (and_right (is_key k key) _ e))
+    ]
+opening_state_stays cluster mark log key ballot lawful opens = refl
+
+opening_grows : (cluster : Cluster) (h : Happening) (log : List Happening) {key : List ℕ} {ballot : Ballot} {era : ℕ} {state : State} → Lawful cluster (h ∷ log)
+    → IsOpeningState (marks_of log) key ballot era state → IsOpeningState (marks_of (h ∷ log)) key ballot era state
+opening_grows cluster (Marked mark) log {key} {ballot} lawful s = record {
+  opens = or_right (opens_at key ballot mark (marks_of log)) (has_opening key ballot (marks_of log)) s.opens;
+  some = s.some;
+  same_era = s.same_era;
+  state_is = s.state_is ∙ sym (opening_state_stays cluster mark log key ballot lawful s.opens);
+}
+opening_grows cluster other log lawful s = s
+
 pub accepted_grows : (cluster : Cluster) (h : Happening) (log : List Happening) (key : List ℕ) (accepted : Option Accepted) → Lawful cluster (h ∷ log)
     → IsAcceptedState (marks_of log) key accepted → IsAcceptedState (marks_of (h ∷ log)) key accepted
 accepted_grows cluster h log key None lawful s = tt
-accepted_grows cluster h log key (Some accepted) lawful s = made_grows cluster h log lawful s
+accepted_grows cluster h log key (Some accepted) lawful s = elim s [ inl made ↦ inl (made_grows cluster h log lawful made) | inr opening ↦ inr (opening_grows cluster h log lawful opening) ]
 
 pub ask_grows : (cluster : Cluster) (h : Happening) (log : List Happening) (question : Ask) → Lawful cluster (h ∷ log) → IsAskState (marks_of log) question → IsAskState (marks_of (h ∷ log)) question
 ask_grows cluster h log (ask.Accept key ballot era ride state) lawful s = made_grows cluster h log lawful s

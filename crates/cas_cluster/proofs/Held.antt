@@ -16,10 +16,11 @@ use Rattle.cas_record.specs.Happening.{Happening, Took, Dropped, marks_of}
 use Rattle.cas_record.specs.Lawful.{Cluster, ClusterMeets, Lawful, MayDrop}
 use Rattle.cas_record.specs.Orderly.{Orderly, IsAboveFloors}
 use Rattle.cas_record.specs.Places.{Stands, IsPrefix}
-use Rattle.cas_record.proofs.Agreement.{Seam, by_ack, agree_whole, took_of_acked}
+use Rattle.cas_record.proofs.Agreement.{Seam, by_ack, never_below_opening, agree_whole, took_of_acked}
 use Rattle.cas_record.proofs.ChainLemmas.{chain_zero, top_cases}
 use Rattle.cas_record.proofs.Eras.{seam_of}
 use Rattle.cas_record.proofs.LogLemmas.{law, stands_in_log, ack_law, AckedAt, acked_at, proposed_at, part_of}
+use Rattle.cas_record.proofs.Openings.{opening_in_log}
 use Rattle.cas_record.proofs.PlaceLemmas.{stands_deeper, stands_part, prefix_same}
 use Rattle.cas_cluster.specs.Acceptors.{Tells, IsAcceptedState, IsLeft}
 use Rattle.cas_cluster.specs.Held.{Holds}
@@ -46,7 +47,8 @@ begins cluster log key ballot lawful seam acked accepted made low = elim (at_mos
     by_state : (accepted : Option Accepted) → IsAcceptedState (marks_of log) key accepted → BallotLess ballot (accepted_ballot accepted)
         → IsPrefix (chain_of key ballot (marks_of log)) (chain_of key (accepted_ballot accepted) (marks_of log))
     by_state None made less = absurd (none_below_zero less)
-    by_state (Some a) made less =
+    by_state (Some a) (inr opening) less = absurd (never_below_opening cluster lawful (by_ack acked) (opening_in_log cluster log lawful opening.opens) less)
+    by_state (Some a) (inl made) less =
         agree_whole cluster lawful seam (by_ack acked) (proposed_at log (record { proposal = made.proposal; stands = made.stands; same_key = made.same_key; same_ballot = made.same_ballot })) less
 
 -- each of those that took it holds it, whatever a crash leaves

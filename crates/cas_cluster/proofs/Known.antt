@@ -22,13 +22,14 @@ use Rattle.cas_record.specs.declared.mark.Mark.TheVariants.{Proposed, Voted, Flo
 use Rattle.cas_record.specs.Chain.{chain_of, link_of, program_of}
 use Rattle.cas_record.specs.Happening.{Happening, Marked, Asked, Took, marks_of}
 use Rattle.cas_record.specs.Lawful.{Cluster, Lawful, MayVote}
-use Rattle.cas_record.specs.Legal.{HasFloor}
-use Rattle.cas_record.specs.Orderly.{Orderly, MayTakeBy, took_it}
+use Rattle.cas_record.specs.Legal.{HasProposal, HasFloor}
+use Rattle.cas_record.specs.Orderly.{Orderly, took_it}
 use Rattle.cas_record.specs.Places.{Stands, here, past}
 use Rattle.cas_record.specs.Replay.{replay_from, opening_state}
 use Rattle.cas_record.proofs.CallLemmas.{program_of_begun}
 use Rattle.cas_record.proofs.LegalLemmas.{counted}
-use Rattle.cas_record.proofs.LogLemmas.{law, stands_in_log, chain_whole, link_begins}
+use Rattle.cas_record.proofs.LogLemmas.{law, stands_in_log, proposed_at, chain_whole, link_begins}
+use Rattle.cas_record.proofs.Openings.{has_opening_deeper, never_proposed}
 use Rattle.cas_record.proofs.Orders.{reason}
 use Rattle.cas_record.proofs.PlaceLemmas.{stands_deeper, newest_or}
 use Rattle.cas_record.proofs.Replays.{replay_of_proposal}
@@ -125,16 +126,19 @@ makes cluster log p program state outcome lawful may begun state_is outcome_is =
 
 -- ---- a promise that rides along
 -- what an acceptor voted for it took, with the ride that all were asked for
-took_ride : (cluster : Cluster) {log : List Happening} (acceptor : ℕ) (key : List ℕ) (ballot ride : Ballot) → Lawful cluster log → Orderly cluster log → Stands (Voted acceptor key ballot) (marks_of log)
+took_ride : (cluster : Cluster) {log : List Happening} (acceptor : ℕ) (key : List ℕ) (ballot ride : Ballot) → Lawful cluster log → Orderly cluster log → HasProposal key ballot (marks_of log) → Stands (Voted acceptor key ballot) (marks_of log)
     → ((request : Request) (era : ℕ) (asked : Option Ballot) (state : State) → Stands (Asked request) log → request.ask ≡ ask.Accept key ballot era asked state → asked ≡ Some ride)
     → Stands (Took acceptor key ballot ride) log
-took_ride cluster {log} acceptor key ballot ride lawful orderly voted rides =
+took_ride cluster {log} acceptor key ballot ride lawful orderly proposed voted rides =
     let place = stands_in_log log voted in
     let vote : MayVote place.older acceptor key ballot = law cluster lawful place.at in
     let taken : Stands (Took acceptor key ballot vote.ride) log = stands_deeper vote.taken place.at in
-    let by : MayTakeBy taken.older acceptor key ballot vote.ride = reason cluster orderly taken.at in
-    let same : by.rides ≡ Some ride = rides by.request by.era by.rides by.state (stands_deeper by.was_asked.asked taken.at) by.is in
-    subst (λ r. Stands (Took acceptor key ballot r) log) (by.ride_is ∙ ap (λ (o : Option Ballot). unwrap_or o zero_ballot) same) taken
+    elim (reason cluster orderly taken.at) [
+      | inl by ↦
+          let same : by.rides ≡ Some ride = rides by.request by.era by.rides by.state (stands_deeper by.was_asked.asked taken.at) by.is in
+          subst (λ r. Stands (Took acceptor key ballot r) log) (by.ride_is ∙ ap (λ (o : Option Ballot). unwrap_or o zero_ballot) same) taken
+      | inr first ↦ absurd (never_proposed cluster lawful (has_opening_deeper first.opening taken.at) (proposed_at log proposed))
+    ]
 
 pub rides_along : PromisesRideLawfully
 rides_along cluster log key era ready replies lawful orderly drawn made true_ by quorum above all floors = record {
@@ -142,7 +146,7 @@ rides_along cluster log key era ready replies lawful orderly drawn made true_ by
   took = λ acceptor member.
       let who = voter replies ready.read acceptor (sym (ap (λ ids. has_member ids acceptor) by) ∙ member) in
       let vote = vote_heard cluster key ready.read era who.reply orderly drawn (true_ who.reply (contains who.reply replies who.stands)) who.is_heard who.tells in
-      took_ride cluster acceptor key ready.read ready.ballot lawful orderly (subst (λ x. Stands (Voted x key ready.read) (marks_of log)) who.from vote) all.rides;
+      took_ride cluster acceptor key ready.read ready.ballot lawful orderly (record { proposal = made.proposal; stands = made.stands; same_key = made.same_key; same_ballot = made.same_ballot }) (subst (λ x. Stands (Voted x key ready.read) (marks_of log)) who.from vote) all.rides;
   above = above;
   made_in = era;
   state = made;

@@ -6,6 +6,7 @@ pub mod Asks
 pub mod Beginnings
 pub mod Caches
 pub mod CallSteps
+pub mod CollectLaws
 pub mod Collecting
 pub mod CouncilSteps
 pub mod CountSteps
@@ -15,6 +16,7 @@ pub mod Deeds
 pub mod Draws
 pub mod EndSteps
 pub mod Events
+pub mod FirstLogs
 pub mod Flooring
 pub mod FrameSteps
 pub mod Growing

@@ -424,7 +424,7 @@ collection_still cluster h log (Some collection) lawful asks was = record {
     | inr before ↦ was.told_alone tomb by request least is before tells
   ];
   told = λ after acceptor proposer age member at. omega (arith, was.told after acceptor proposer age member at, age_later (h ∷ log) acceptor proposer here);
-  floor = λ after. let has = was.floor after in record { state = has.state; stands = mark_later h log has.stands };
+  floor = λ after. mark_later h log (was.floor after);
 }
 
 -- what is known of what the operator has under way stays

@@ -5,7 +5,7 @@ use Rattle.cas_base.proofs.Bools.{and_left, and_right, both_true, or_left, or_ri
 use Rattle.cas_ballot.specs.declared.ballot.Ballot.{Ballot}
 use Rattle.cas_ballot.specs.Ballot.{zero_ballot, BallotAtMost, BallotLess}
 use Rattle.cas_ballot.specs.Members.{has_member}
-use Rattle.cas_ballot.proofs.BallotLemmas.{zero_at_most, at_most_antisym, at_most_or_less}
+use Rattle.cas_ballot.proofs.BallotLemmas.{zero_at_most, at_most_antisym, at_most_trans, at_most_or_less, at_most_greater_right, less_irreflexive}
 use Rattle.cas_ballot.proofs.MemberLemmas.{members_where_tells, has-members_where}
 use Rattle.cas_change.specs.declared.state.State.{State}
 use Rattle.cas_change.specs.declared.state.State.TheVariants.{Empty}
@@ -18,29 +18,30 @@ use Rattle.cas_round.specs.Replies.{is_prepare, is_accept, is_heard, heard, is_p
 use Rattle.cas_round.specs.Round.{GreatestOf, AcceptedAtMost, IsRead}
 use Rattle.cas_round.proofs.Lists.{Has, has, contains, filter_has, has_filter, has_map, map_has, any_has, has_any}
 use Rattle.cas_record.specs.declared.mark.Mark.{Mark}
-use Rattle.cas_record.specs.declared.mark.Mark.TheVariants.{Voted, Floor}
+use Rattle.cas_record.specs.declared.mark.Mark.TheVariants.{Proposed, Voted, Floor}
 use Rattle.cas_record.specs.declared.mark.Proposal.{Proposal}
 use Rattle.cas_record.specs.declared.entry.Entry.{Entry}
-use Rattle.cas_record.specs.Chain.{is_key, chain_of, link_of, has_calls, has_opening, opens_at}
+use Rattle.cas_record.specs.Chain.{is_key, floor_below, chain_of, link_of, has_calls}
 use Rattle.cas_record.specs.Replay.{replay_from, opening_state}
-use Rattle.cas_record.specs.Happening.{Happening, Promised, Entered, Drew, marks_of}
-use Rattle.cas_record.specs.Lawful.{Cluster, Lawful, IsIn, AllEntered, IsMade, Granted, MayPropose}
+use Rattle.cas_record.specs.Happening.{Happening, Marked, Promised, Entered, Drew, marks_of}
+use Rattle.cas_record.specs.Laws.{IsOpened}
+use Rattle.cas_record.specs.Lawful.{Cluster, ClusterMeets, Lawful, IsIn, AllEntered, IsMade, Granted, MayPropose}
 use Rattle.cas_record.specs.Legal.{HasProposal, HasFloor}
-use Rattle.cas_record.specs.Orderly.{Orderly, MayDraw, WasRead, nothing_read, read_from}
+use Rattle.cas_record.specs.Orderly.{Orderly, IsAboveFloors, MayDraw, WasRead, nothing_read, read_from}
 use Rattle.cas_record.specs.Places.{Stands, At, here, past}
-use Rattle.cas_record.proofs.ChainLemmas.{chain_zero, OpensAt}
-use Rattle.cas_record.proofs.LogLemmas.{ProposedAt, proposed_at, not_opened}
+use Rattle.cas_record.proofs.ChainLemmas.{at_most_floor_below, chain_zero, chain-opened, OpensAt, opening_tells}
 use Rattle.cas_record.proofs.Eras.{le_or_lt, entered_of_mark, entered_by}
 use Rattle.cas_record.proofs.Grants.{granted_promise}
 use Rattle.cas_record.proofs.LinkLemmas.{link_read}
+use Rattle.cas_record.proofs.Openings.{opening_read}
 use Rattle.cas_record.proofs.Orders.{reason}
-use Rattle.cas_record.proofs.PlaceLemmas.{stands_deeper}
+use Rattle.cas_record.proofs.PlaceLemmas.{stands_deeper, stands_at}
 use Rattle.cas_record.proofs.Tests.{nat_same, nat_is, key_same, key_refl, ballot_is}
 use Rattle.cas_cluster.specs.Acceptors.{IsAcceptedState, IsEmptyAt}
 use Rattle.cas_cluster.specs.Laws.{IsStateRead, ProposersProposeLawfully, ProposersCountLawfully}
 use Rattle.cas_cluster.specs.Proposers.{AreRepliesTrue, IsOpenRound, AreFloorsClear, state_read}
 use Rattle.cas_cluster.specs.Protocol.{IsFloorClear}
-use Rattle.cas_cluster.proofs.Answered.{made_not_zero}
+use Rattle.cas_cluster.proofs.Answered.{made_not_zero, accepted_not_zero}
 use Rattle.cas_cluster.proofs.Proposing.{promise_told, acceptance_told, HasPromised, member_heard, promise_heard, vote_heard}
 
 -- ---- who promised
@@ -119,17 +120,15 @@ granted cluster {log} p replies read orderly drawn true_ is_read read_is accepto
 
 -- what was read is below the ballot, and zero or a proposal of the key
 read_below : (cluster : Cluster) {log : List Happening} (p : Proposal) (replies : List Reply) (read : Option Accepted) → Orderly cluster log → Stands (Drew p.ballot p.key p.era) log → AreRepliesTrue log replies
-    → (HasProposal p.key p.ballot (marks_of log) → ⊥) → IsRead p.ballot replies read → BallotLess (accepted_ballot read) p.ballot
-read_below cluster {log} p replies None orderly drawn true_ fresh is_read = let may : MayDraw cluster drawn.older p.ballot p.key p.era = reason cluster orderly drawn.at in may.some
-read_below cluster {log} p replies (Some a) orderly drawn true_ fresh is_read =
+    → (HasProposal p.key p.ballot (marks_of log) → ⊥) → IsAboveFloors (marks_of log) p.key p.ballot → IsRead p.ballot replies read → BallotLess (accepted_ballot read) p.ballot
+read_below cluster {log} p replies None orderly drawn true_ fresh above is_read = let may : MayDraw cluster drawn.older p.ballot p.key p.era = reason cluster orderly drawn.at in may.some
+read_below cluster {log} p replies (Some a) orderly drawn true_ fresh above is_read =
     let told = promise_is cluster p replies a orderly drawn true_ (reader replies p.ballot a is_read.stands) in
     elim (at_most_or_less p.ballot a.ballot) [
-      | inl low ↦ absurd (fresh (record {
-        proposal = told.state.proposal;
-        stands = told.state.stands;
-        same_key = told.state.same_key;
-        same_ballot = told.state.same_ballot ∙ at_most_antisym told.low low;
-      }))
+      | inl low ↦ elim told.state [
+        | inl made ↦ absurd (fresh (record { proposal = made.proposal; stands = made.stands; same_key = made.same_key; same_ballot = made.same_ballot ∙ at_most_antisym told.low low }))
+        | inr opening ↦ let o = opening_tells p.key a.ballot (marks_of log) opening.opens in above.above (stands_at o.at)
+      ]
       | inr less ↦ less
     ]
 
@@ -140,7 +139,8 @@ read_made cluster p replies (Some a) orderly drawn true_ is_read = (promise_is c
 
 read_stands : (log : List Happening) (key : List ℕ) (read : Option Accepted) → IsAcceptedState (marks_of log) key read → (accepted_ballot read ≡ zero_ballot) ⊎ IsMade key (accepted_ballot read) (marks_of log)
 read_stands log key None made = inl refl
-read_stands log key (Some a) made = inr (inl (record { proposal = made.proposal; stands = made.stands; same_key = made.same_key; same_ballot = made.same_ballot }))
+read_stands log key (Some a) (inl made) = inr (inl (record { proposal = made.proposal; stands = made.stands; same_key = made.same_key; same_ballot = made.same_ballot }))
+read_stands log key (Some a) (inr opening) = let o = opening_tells key a.ballot (marks_of log) opening.opens in inr (inr (record { state = o.state; stands = stands_at o.at }))
 
 pub in_still : {log : List Happening} {older : List Happening} {happening : Happening} {proposer era : ℕ} → IsIn older proposer era → At happening older log → IsIn log proposer era
 in_still is_in at = elim is_in [ inl first ↦ inl first | inr entered ↦ inr (stands_deeper entered at) ]
@@ -162,7 +162,7 @@ may_propose cluster log p replies read lawful orderly round true_ by quorum is_r
     let made = read_made cluster p replies read orderly round.drawn true_ is_read in
     record {
       first = record { begun = round.begun; once = round.once; open_yet = round.open_yet; fresh = round.fresh };
-      above_read = subst (λ b. BallotLess b p.ballot) (sym read_is) (read_below cluster p replies read orderly round.drawn true_ round.fresh is_read);
+      above_read = subst (λ b. BallotLess b p.ballot) (sym read_is) (read_below cluster p replies read orderly round.drawn true_ round.fresh round.above_floors is_read);
       read_stands = subst (λ b. (b ≡ zero_ballot) ⊎ IsMade p.key b (marks_of log)) (sym read_is) (read_stands log p.key read made);
       above_floors = round.above_floors.above;
       quorum = quorum;
@@ -175,12 +175,6 @@ may_propose cluster log p replies read lawful orderly round true_ by quorum is_r
 -- ---- the state from which a proposal goes on
 opens_later : {key : List ℕ} {ballot : Ballot} {mark : Mark} {marks : List Mark} → OpensAt key ballot marks → OpensAt key ballot (mark ∷ marks)
 opens_later o = record { state = o.state; older = o.older; at = past o.at; none = o.none }
-
-opens_has : {key : List ℕ} {ballot : Ballot} {state : State} {older marks : List Mark} → At (Floor key ballot state) older marks → has_calls older ≡ false → has_opening key ballot marks ≡ true
-opens_has {key} {ballot} {state} {older} here none =
-    or_left (opens_at key ballot (Floor key ballot state) older) (has_opening key ballot older)
-    (both_true _ _ (key_refl key) (both_true _ _ (ballot_is {a = ballot} refl) (not_of_false (has_calls older) none)))
-opens_has {key} {ballot} (past {y = mark} {rest = rest} at) none = or_right (opens_at key ballot mark rest) (has_opening key ballot rest) (opens_has at none)
 
 -- with no opening floor a history opens with the empty state
 opens_empty : (key : List ℕ) (marks : List Mark) → ((floor : Ballot) → OpensAt key floor marks → ⊥) → opening_state key marks ≡ Empty
@@ -196,33 +190,44 @@ opens_empty key (Floor k floor state ∷ older) none =
     ∙ opens_empty key older (λ f o. none f (opens_later o))
 opens_empty key (mark ∷ older) none = opens_empty key older (λ f o. none f (opens_later o))
 
--- a floor at which a state was proposed opens no history
-none_opens : (cluster : Cluster) (log : List Happening) (key : List ℕ) → Lawful cluster log → ((floor : Ballot) → HasFloor key floor (marks_of log) → IsEmptyAt (marks_of log) key floor)
-    → (floor : Ballot) → OpensAt key floor (marks_of log) → ⊥
-none_opens cluster log key lawful empty floor o =
-    let made = (empty floor (record { state = o.state; stands = record { older = o.older; at = o.at } })).1 in
-    let proposed : ProposedAt key floor log = proposed_at log (record { proposal = made.proposal; stands = made.stands; same_key = made.same_key; same_ballot = made.same_ballot }) in
-    not_both (has_opening key floor (marks_of log)) (opens_has o.at o.none) (not_opened cluster lawful proposed)
+-- a floor is not zero
+floor_not_zero : (cluster : Cluster) (log : List Happening) {key : List ℕ} {floor : Ballot} → Lawful cluster log → IsEmptyAt (marks_of log) key floor ⊎ IsOpened cluster log key floor → floor ≡ zero_ballot → ⊥
+floor_not_zero cluster log lawful (inl empty) zero = made_not_zero cluster log lawful empty.1 zero
+floor_not_zero cluster log lawful (inr opened) zero = less_irreflexive (subst (BallotLess zero_ballot) zero opened.some)
 
-state_is_read : (cluster : Cluster) (log : List Happening) (p : Proposal) (replies : List Reply) (read : Option Accepted) → Lawful cluster log → Orderly cluster log → IsOpenRound log p.caller p.call p.key p.ballot p.era
-    → AreRepliesTrue log replies → p.prepared_by ≡ promisers_of p.ballot replies → IsRead p.ballot replies read → p.read ≡ accepted_ballot read → AreFloorsClear log p.key p.ballot p.prepared_by → IsStateRead log p read
-state_is_read cluster log p replies read lawful orderly round true_ by is_read read_is floors =
+-- where a proposal goes on from nothing the key has no floor
+none_opens : (cluster : Cluster) (log : List Happening) (p : Proposal) → Lawful cluster log → IsAboveFloors (marks_of log) p.key p.ballot → ((floor : Ballot) → HasFloor p.key floor (marks_of log) → IsEmptyAt (marks_of log) p.key floor ⊎ IsOpened cluster log p.key floor)
+    → link_of (marks_of log) p ≡ zero_ballot → (floor : Ballot) → OpensAt p.key floor (marks_of log) → ⊥
+none_opens cluster log p lawful above each link floor o =
+    let stands : Stands (Floor p.key floor o.state) (marks_of log) = stands_at o.at in
+    let low = at_most_trans (at_most_floor_below o.at (above.above stands)) (at_most_greater_right p.read (floor_below p.key p.ballot (marks_of log))) in
+    floor_not_zero cluster log lawful (each floor (record { state = o.state; stands = stands })) (at_most_antisym (subst (BallotAtMost floor) link low) (zero_at_most floor))
+
+state_is_read : (cluster : Cluster) → ClusterMeets cluster → (log : List Happening) (p : Proposal) (replies : List Reply) (read : Option Accepted) → Lawful cluster log → Orderly cluster log → IsOpenRound log p.caller p.call p.key p.ballot p.era
+    → AreRepliesTrue log replies → p.prepared_by ≡ promisers_of p.ballot replies → IsRead p.ballot replies read → p.read ≡ accepted_ballot read → AreFloorsClear cluster log p.key p.ballot p.prepared_by → MayPropose cluster log p → IsStateRead log p read
+state_is_read cluster meets log p replies read lawful orderly round true_ by is_read read_is floors may =
     elim (link_read cluster {log = log} {p = p} lawful orderly (was_read cluster p replies read orderly round.drawn true_ by is_read read_is) (λ acceptor floor member there low. floors.clear acceptor floor member there low)) [
       | inl link ↦ at_read read (read_made cluster p replies read orderly round.drawn true_ is_read) (link ∙ read_is)
-      | inr floored ↦ at_floor read (read_made cluster p replies read orderly round.drawn true_ is_read) (sym read_is ∙ floored.0) (floors.empty (link_of (marks_of log) p) floored.1)
+      | inr floored ↦ at_floor read read_is (read_made cluster p replies read orderly round.drawn true_ is_read) (sym read_is ∙ floored.0) (floors.empty (link_of (marks_of log) p) floored.1)
     ]
   where
     at_read : (r : Option Accepted) → IsAcceptedState (marks_of log) p.key r → link_of (marks_of log) p ≡ accepted_ballot r
         → state_read r ≡ replay_from (opening_state p.key (marks_of log)) (chain_of p.key (link_of (marks_of log) p) (marks_of log))
     at_read None made link =
         sym (ap (λ (xs : List Entry). replay_from (opening_state p.key (marks_of log)) xs) (ap (λ b. chain_of p.key b (marks_of log)) link ∙ chain_zero p.key (marks_of log))
-        ∙ opens_empty p.key (marks_of log) (none_opens cluster log p.key lawful floors.empty))
-    at_read (Some a) made link = made.state_is ∙ ap (λ b. replay_from (opening_state p.key (marks_of log)) (chain_of p.key b (marks_of log))) (sym link)
+        ∙ opens_empty p.key (marks_of log) (none_opens cluster log p lawful round.above_floors floors.empty link))
+    at_read (Some a) (inr opening) link =
+        opening.state_is ∙ ap (λ (xs : List Entry). replay_from (opening_state p.key (marks_of log)) xs) (sym (chain-opened p.key a.ballot (marks_of log) opening.opens) ∙ ap (λ b. chain_of p.key b (marks_of log)) (sym link))
+    at_read (Some a) (inl made) link = made.state_is ∙ ap (λ b. replay_from (opening_state p.key (marks_of log)) (chain_of p.key b (marks_of log))) (sym link)
 
-    at_floor : (r : Option Accepted) → IsAcceptedState (marks_of log) p.key r → accepted_ballot r ≡ zero_ballot → IsEmptyAt (marks_of log) p.key (link_of (marks_of log) p)
+    at_floor : (r : Option Accepted) → p.read ≡ accepted_ballot r → IsAcceptedState (marks_of log) p.key r → accepted_ballot r ≡ zero_ballot
+        → IsEmptyAt (marks_of log) p.key (link_of (marks_of log) p) ⊎ IsOpened cluster log p.key (link_of (marks_of log) p)
         → state_read r ≡ replay_from (opening_state p.key (marks_of log)) (chain_of p.key (link_of (marks_of log) p) (marks_of log))
-    at_floor None made zero empty = empty.1.state_is
-    at_floor (Some a) made zero empty = absurd (made_not_zero cluster log lawful made zero)
+    at_floor None nothing made zero (inl empty) = empty.1.state_is
+    at_floor None nothing made zero (inr opened) =
+        let after : Lawful cluster (Marked (Proposed p) ∷ log) = (lawful, may) in
+        absurd (opening_read cluster meets after orderly here nothing opened refl)
+    at_floor (Some a) nothing made zero floor = absurd (accepted_not_zero cluster log a lawful made zero)
 
 -- ---- who is clear of floors
 -- who promised is a member of the era of the ballot
@@ -244,8 +249,8 @@ all_in_low cluster log all proposer era lawful known not_beyond (inr all_in) = e
 
 -- a quorum of a round is clear of the floors that members are clear of
 pub clear_of_floors : (cluster : Cluster) (log : List Happening) (p : Proposal) (replies : List Reply) → Lawful cluster log → Orderly cluster log → IsOpenRound log p.caller p.call p.key p.ballot p.era
-    → AreRepliesTrue log replies → p.prepared_by ≡ promisers_of p.ballot replies → ((floor : Ballot) → HasFloor p.key floor (marks_of log) → IsEmptyAt (marks_of log) p.key floor)
-    → ((floor : Ballot) → HasFloor p.key floor (marks_of log) → IsFloorClear cluster log p.key floor) → AreFloorsClear log p.key p.ballot p.prepared_by
+    → AreRepliesTrue log replies → p.prepared_by ≡ promisers_of p.ballot replies → ((floor : Ballot) → HasFloor p.key floor (marks_of log) → IsEmptyAt (marks_of log) p.key floor ⊎ IsOpened cluster log p.key floor)
+    → ((floor : Ballot) → HasFloor p.key floor (marks_of log) → IsFloorClear cluster log p.key floor) → AreFloorsClear cluster log p.key p.ballot p.prepared_by
 clear_of_floors cluster log p replies lawful orderly round true_ by empty clear =
     let may : MayDraw cluster round.drawn.older p.ballot p.key p.era = reason cluster orderly round.drawn.at in
     record {
@@ -257,10 +262,9 @@ clear_of_floors cluster log p replies lawful orderly round true_ by empty clear 
     }
 
 pub propose : ProposersProposeLawfully
-propose cluster log p replies read lawful orderly round true_ by quorum is_read read_is floors = (
-  may_propose cluster log p replies read lawful orderly round true_ by quorum is_read read_is,
-  state_is_read cluster log p replies read lawful orderly round true_ by is_read read_is floors,
-)
+propose cluster meets log p replies read lawful orderly round true_ by quorum is_read read_is floors =
+    let may = may_propose cluster log p replies read lawful orderly round true_ by quorum is_read read_is in
+    (may, state_is_read cluster meets log p replies read lawful orderly round true_ by is_read read_is floors may)
 
 -- ---- an acknowledgment
 pub record Voter (replies : List Reply) (ballot : Ballot) (acceptor : ℕ) : Type 0 where

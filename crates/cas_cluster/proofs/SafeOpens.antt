@@ -10,9 +10,9 @@ use Rattle.cas_record.specs.declared.mark.Mark.{Mark}
 use Rattle.cas_cluster.specs.Council.{Council, exchange_place, reserved_by}
 use Rattle.cas_cluster.specs.Safe.{IsAskingSafe, IsCouncilSafe, IsCollectingIn, IsSound}
 use Rattle.cas_cluster.proofs.SafeListings.{no_listings, none_asks}
-use Rattle.cas_cluster.specs.SafeLaws.{OpeningsAreSafe}
+use Rattle.cas_cluster.specs.SafeLaws.{OpeningsAreSafe, OpeningsOnAreSafe}
 use Rattle.cas_cluster.specs.View.{Meaning, CallerView, IsAt, new_caller, reserved_in, reserved_of, era_at, era_in}
-use Rattle.cas_cluster.proofs.Opens.{none_under_way, opening_on_course}
+use Rattle.cas_cluster.proofs.Opens.{none_under_way, is_on_course, opening_on_none}
 use Rattle.cas_cluster.proofs.Places.{contains_none}
 use Rattle.cas_cluster.proofs.SafeParts.{party_idle}
 
@@ -32,10 +32,10 @@ sets zero id set = (no_members, no_members)
 sets (suc n) zero set = (set, set)
 sets (suc n) (suc id) set = sets n id set
 
-pub opens_are_safe : {S V : Type 0} (m : Meaning S V) → OpeningsAreSafe m
-opens_are_safe {S} {V} m members view is places = record {
+pub opens_on_are_safe : {S V : Type 0} (m : Meaning S V) → OpeningsOnAreSafe m
+opens_on_are_safe {S} {V} m members used floors view is places = record {
   sound = sound;
-  course = opening_on_course m members view is;
+  course = is_on_course m members used floors view is;
   collection = subst (λ (c : Council). IsCollectingIn c (era_at view 0) view.greatest) (sym is.council) (record { each = λ collection none. absurd (cc none); exchange = λ exchange none asks. absurd (cc none) });
 }
   where
@@ -58,5 +58,8 @@ opens_are_safe {S} {V} m members view is places = record {
           (λ call some. absurd (cc (some, ap (λ (c : CallerView). c.call) new)));
       asking = subst (λ (c : Council). IsAskingSafe c.exchange (queue_at view.flow exchange_place)) (sym is.council) (none_under_way view.flow exchange_place is.flow);
       council = subst IsCouncilSafe (sym is.council) (no_listings, none_asks None);
-      room = omega (arith, none_reserved view.callers is.callers, ap (λ (l : List Mark). length l) is.marks, ap (λ (c : Council). reserved_by c) is.council);
+      room = omega (arith, none_reserved view.callers is.callers, is.room, ap (λ (c : Council). reserved_by c) is.council);
     }
+
+pub opens_are_safe : {S V : Type 0} (m : Meaning S V) → OpeningsAreSafe m
+opens_are_safe m members view is places = opens_on_are_safe m members members [] view (opening_on_none m members view is) places

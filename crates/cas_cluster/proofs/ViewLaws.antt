@@ -1,5 +1,5 @@
 -- The laws of a cluster as it is seen.
-use Rattle.std.proofs.Common.{◌≡◌, ℕ, true, List, Option, None, Some, Ok, reverse, refl, sym, ap, subst, ◌∙◌, inl, inr, arith}
+use Rattle.std.proofs.Common.{◌≡◌, ℕ, true, false, List, Option, None, Some, Ok, reverse, refl, sym, ap, subst, ◌∙◌, inl, inr, arith}
 use Rattle.std.specs.Cmp.Lexicographic.{slice_cmp}
 use Rattle.std.specs.FinMap as map
 use Rattle.std.specs.Ordering.{nat_cmp}
@@ -28,14 +28,15 @@ use Rattle.cas_cluster.specs.History.{IsRemembered}
 use Rattle.cas_cluster.specs.Parties.{IsAcceptorTrue, IsDeskTrue, IsPrepareTrue, IsAcceptTrue, IsOpenTrue}
 use Rattle.cas_cluster.specs.Step.{IsOpening, History}
 use Rattle.cas_cluster.specs.Step as step
-use Rattle.cas_cluster.specs.ViewLaws.{OpeningsAreRemembered, StepsAreRemembered, HistoriesAreLegal, IsKeptBy, WhatIsDoneIsKept, FloorsArePassed, MembersAreClear}
+use Rattle.cas_cluster.specs.ViewLaws.{OpeningsAreRemembered, OpeningsOnAreRemembered, StepsAreRemembered, HistoriesAreLegal, IsKeptBy, WhatIsDoneIsKept, FloorsArePassed, MembersAreClear}
 use Rattle.cas_cluster.proofs.Held.{held_by}
-use Rattle.cas_cluster.proofs.Opens.{opening_remembered, remembered_legal}
+use Rattle.cas_cluster.proofs.Opens.{opening_remembered, remembered_on, remembered_legal}
 use Rattle.cas_cluster.proofs.Collecting.{keeps}
 use Rattle.cas_cluster.proofs.Places.{some_is}
 use Rattle.cas_cluster.proofs.Proposes.{all_in_low}
 use Rattle.cas_cluster.proofs.SafeParts.{at_low}
 use Rattle.cas_cluster.specs.Protocol.{IsFloorClear}
+use Rattle.cas_cluster.specs.Safe.{IsSafe}
 use Rattle.cas_proposer.specs.Desk.{DeskView}
 use Rattle.cas_record.specs.Lawful.{SlotTold}
 use Rattle.cas_record.proofs.Floors.{accepted_after}
@@ -50,8 +51,12 @@ openings m shelves disks members view is = opening_remembered m shelves disks me
 pub steps : {S V : Type 0} (m : Meaning S V) → StepsAreRemembered m
 steps m shelves disks old event new is by = keeps m old event new shelves disks is by
 
+pub openings_on : {S V : Type 0} (m : Meaning S V) → OpeningsOnAreRemembered m
+openings_on m shelves disks members used floors view is = remembered_on m shelves disks members used floors view is
+
 remembers : {S V : Type 0} (m : Meaning S V) → m.shelves.tells → m.disks.tells → (members : List ℕ) (view : View S V) → History m members view → IsRemembered m view
 remembers m shelves disks members view (step.opens now is) = opening_remembered m shelves disks members now is
+remembers m shelves disks members view (step.opens_on used floors now is) = remembered_on m shelves disks members used floors now is
 remembers m shelves disks members view (step.steps old event new before by) = keeps m old event new shelves disks (remembers m shelves disks members old before) by
 
 pub histories : {S V : Type 0} (m : Meaning S V) → HistoriesAreLegal m
@@ -136,43 +141,38 @@ floors_passed {S} {V} m shelves disks view key floor id desk caller is has at_de
         let is_it : one ≡ round = some_is e in
         subst (λ (r : Round). BallotLess floor r.ballot) is_it (in_phase true_of.call one (ap (λ (r : Round). r.key) is_it ∙ same) true_of.phase)
 
+-- a crash leaves of an acceptor that is up what is kept of it
+pub kept_by_member : {S V : Type 0} (m : Meaning S V) (view : View S V) (is : IsRemembered m view) (id : ℕ) (acceptor : AcceptorView S) → IsAt view.acceptors id acceptor → acceptor.down ≡ false
+    → (left : Contents) → m.shelves.may_leave acceptor.shelf (Ok left) → left ≡ is.followed.logged.global.kept id
+kept_by_member m view is id acceptor at up left may =
+    let of : IsAcceptorTrue m is.followed.logged.global.log id (is.followed.logged.global.kept id) acceptor = is.followed.logged.agrees.acceptors id acceptor at in
+    let same : Ok left ≡ Ok (is.followed.logged.global.kept id) = of.lasts up (Ok left) may ∙ ap (λ (c : Contents). Ok c) (of.keeps up) in
+    cc same
+
+-- the era in which a proposer works is that of the floor, or a later one
+pub reached : {S V : Type 0} (m : Meaning S V) (view : View S V) → IsSafe view → (is : IsRemembered m view) (key : List ℕ) (floor : Ballot) (clear : IsFloorClear is.followed.cluster is.followed.logged.global.log key floor) (proposer : ℕ) → proposer ≤ view.greatest
+    → clear.era ≤ (era_at view proposer).number
+reached {S} {V} m view safe is key floor clear proposer known =
+    let desk = at_low view.desks proposer (omega (arith, known, safe.sound.desks)) in
+    let caller = at_low view.callers proposer (omega (arith, known, safe.sound.callers)) in
+    let of : IsDeskTrue m is.followed.cluster is.followed.logged.global.log is.followed.logged.global.made (era_at view proposer).number proposer caller.0 (queue_at view.flow proposer).messages desk.0 =
+    is.followed.logged.agrees.desks proposer desk.0 caller.0 desk.1 caller.1 in
+    all_in_low is.followed.cluster is.followed.logged.global.log clear.era proposer (era_at view proposer).number is.followed.logged.history.lawful of.known of.vault.not_beyond clear.all_in
+
+-- who prepares or accepts in that era is a member of it
+pub member_of : {S V : Type 0} (m : Meaning S V) (view : View S V) (is : IsRemembered m view) (proposer id : ℕ) → proposer ≤ view.greatest → (has_member (era_at view proposer).prep id ≡ true) ⊎ (has_member (era_at view proposer).acc id ≡ true)
+    → has_member (is.followed.cluster.members (era_at view proposer).number) id ≡ true
+member_of m view is proposer id known (inl prepares) = (is.followed.logged.agrees.eras proposer known).prep_members id prepares
+member_of m view is proposer id known (inr accepts) = (is.followed.logged.agrees.eras proposer known).acc_members id accepts
+
 pub members_clear : {S V : Type 0} (m : Meaning S V) → MembersAreClear m
 members_clear {S} {V} m shelves disks view key floor proposer id acceptor safe is has known member at up left may =
-    subst (λ (c : Contents). IsNoneOrAbove floor (accepted_ballot (accepted_at c key))) (sym same_left)
-    (subst (λ (s : SlotTold). IsNoneOrAbove floor s.accepted) ((is.followed.logged.history.tells id).slots key) (accepted_after is.followed.cluster log id key floor is.followed.logged.history.lawful is.followed.logged.history.orderly clear))
+    subst (λ (c : Contents). IsNoneOrAbove floor (accepted_ballot (accepted_at c key))) (sym (kept_by_member m view is id acceptor at up left may))
+    (subst (λ (s : SlotTold). IsNoneOrAbove floor s.accepted) ((is.followed.logged.history.tells id).slots key)
+    (accepted_after is.followed.cluster is.followed.logged.global.log id key floor is.followed.logged.history.lawful is.followed.logged.history.orderly clear))
   where
-    log : List Happening
-    log = is.followed.logged.global.log
+    known_of : IsFloorClear is.followed.cluster is.followed.logged.global.log key floor
+    known_of = is.followed.logged.history.knows.clear key floor (subst (HasFloor key floor) (sym is.followed.logged.agrees.marks) has)
 
-    kept : Contents
-    kept = is.followed.logged.global.kept id
-
-    of : IsAcceptorTrue m log id kept acceptor
-    of = is.followed.logged.agrees.acceptors id acceptor at
-
-    same_left : left ≡ kept
-    same_left = let same : Ok left ≡ Ok kept = of.lasts up (Ok left) may ∙ ap (λ (c : Contents). Ok c) (of.keeps up) in cc same
-
-    stood : HasFloor key floor (marks_of log)
-    stood = subst (HasFloor key floor) (sym is.followed.logged.agrees.marks) has
-
-    known_of : IsFloorClear is.followed.cluster log key floor
-    known_of = is.followed.logged.history.knows.clear key floor stood
-
-    desk : (d : DeskView V) × IsAt view.desks proposer d
-    desk = at_low view.desks proposer (omega (arith, known, safe.sound.desks))
-
-    caller : (c : CallerView) × IsAt view.callers proposer c
-    caller = at_low view.callers proposer (omega (arith, known, safe.sound.callers))
-
-    of_desk : IsDeskTrue m is.followed.cluster log is.followed.logged.global.made (era_at view proposer).number proposer caller.0 (queue_at view.flow proposer).messages desk.0
-    of_desk = is.followed.logged.agrees.desks proposer desk.0 caller.0 desk.1 caller.1
-
-    low : known_of.era ≤ (era_at view proposer).number
-    low = all_in_low is.followed.cluster log known_of.era proposer (era_at view proposer).number is.followed.logged.history.lawful of_desk.known of_desk.vault.not_beyond known_of.all_in
-
-    clear : IsClear log id key floor
-    clear = known_of.clear (era_at view proposer).number id low (elim member [
-      | inl prepares ↦ (is.followed.logged.agrees.eras proposer known).prep_members id prepares
-      | inr accepts ↦ (is.followed.logged.agrees.eras proposer known).acc_members id accepts
-    ])
+    clear : IsClear is.followed.logged.global.log id key floor
+    clear = known_of.clear (era_at view proposer).number id (reached m view safe is key floor known_of proposer known) (member_of m view is proposer id known member)

@@ -82,7 +82,7 @@ kept = record { bound = 100; age = 0; era = 0 }
 module _ {D : Type 0} (begun : Vault D) where
   -- a vault that drew so many numbers
   abbrev vault_at : ℕ → Vault ToyDisk
-  vault_at counter = record { cells = record { disk = record { kept = kept }; alloc = begun.cells.alloc; cells = begun.cells.cells; change = begun.cells.change }; counter = counter; kept = kept }
+  vault_at counter = record { cells = record { disk = record { kept = kept }; alloc = begun.cells.alloc; narrow = begun.cells.narrow; cells = begun.cells.cells; change = begun.cells.change }; counter = counter; kept = kept }
 
   in_era : (counter : ℕ) → IsWithin toys.disks 0 0 (vault_at counter)
   in_era counter = record { kept = refl; left = λ c other on too. inl (ap (λ (k : Kept). k.era) (same_kept other kept c too on)) }

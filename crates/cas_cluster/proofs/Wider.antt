@@ -1,5 +1,5 @@
 -- What is logged of a cluster is logged of a wider one: its new eras are beyond all that happened.
-use Rattle.std.proofs.Common.{◌≡◌, ◌≤◌, ℕ, true, false, List, Option, None, Some, sym, subst, ◌∙◌, inl, inr, arith}
+use Rattle.std.proofs.Common.{◌≡◌, ◌≤◌, ◌<◌, ℕ, true, false, List, Option, None, Some, sym, subst, ◌∙◌, inl, inr, arith}
 use Rattle.std.specs.Prelude.{◌⊎◌}
 use Rattle.cas_base.proofs.Bools.{not_both}
 use Rattle.cas_ballot.specs.declared.ballot.Ballot.{Ballot}
@@ -10,13 +10,17 @@ use Rattle.cas_flow.specs.declared.message.Message.{Message}
 use Rattle.cas_proposer.specs.Desk.{DeskView}
 use Rattle.cas_proposer.specs.declared.round.Round.{Round}
 use Rattle.cas_quorum.specs.declared.era.Era.{Era}
+use Rattle.cas_slot.specs.declared.message.Request.{Request}
 use Rattle.cas_slot.specs.Message.{tag_of}
 use Rattle.cas_slot.specs.Rules.{key_of}
-use Rattle.cas_record.specs.Happening.{Happening, marks_of}
-use Rattle.cas_record.specs.Lawful.{Cluster, AllEntered}
-use Rattle.cas_record.specs.Orderly.{Orderly, MayAskFor, IsClear, never_asked}
+use Rattle.cas_record.specs.Happening.{Happening, Asked, marks_of}
+use Rattle.cas_record.specs.Lawful.{Cluster, IsWidened, AllEntered}
+use Rattle.cas_record.specs.Laws.{IsOpened}
+use Rattle.cas_record.specs.Orderly.{Orderly, MayAskFor, IsAgedOut, IsClear, IsRoundAsk, age_told, never_asked}
+use Rattle.cas_record.specs.Places.{Stands}
 use Rattle.cas_record.proofs.Clusters.{lawful_more, orderly_more}
 use Rattle.cas_record.proofs.Orders.{reason, round_asked}
+use Rattle.cas_record.proofs.PlaceLemmas.{stands_deeper}
 use Rattle.cas_cluster.specs.Council.{Council}
 use Rattle.cas_cluster.specs.History.{AgreesWith, IsLogged}
 use Rattle.cas_cluster.specs.Listed.{AreUsed, IsCouncilTrue}
@@ -35,9 +39,24 @@ pub record IsAhead (cluster : Cluster) (log : List Happening) (base : Era) (late
 
 -- who was never used was asked for no ballot
 unused_clear : (cluster : Cluster) (log : List Happening) (used : List ℕ) (acceptor : ℕ) (key : List ℕ) (floor : Ballot) → Orderly cluster log → AreUsed cluster used → has_member used acceptor ≡ false → IsClear log acceptor key floor
-unused_clear cluster log used acceptor key floor orderly are unused = never_asked (λ request asked to round same.
-    let may : MayAskFor cluster asked.older request (key_of request.ask) (tag_of request.ask) = round_asked cluster asked.older request request.ask round (reason cluster orderly asked.at) in
-    absurd (not_both (has_member used acceptor) (subst (λ (a : ℕ). has_member used a ≡ true) to (are.members may.era request.to may.member)) unused))
+unused_clear cluster log used acceptor key floor orderly are unused =
+    never_asked (λ request asked to round same. absurd (unasked request asked to round)) (λ ballot ride took. elim (reason cluster orderly took.at) [
+      | inl by ↦ absurd (unasked by.request (stands_deeper by.was_asked.asked took.at) by.was_asked.to (subst IsRoundAsk (sym by.is) tt))
+      | inr first ↦ absurd (not_both (has_member used acceptor) (are.members 0 acceptor first.member) unused)
+    ])
+  where
+    unasked : (request : Request) → Stands (Asked request) log → request.to ≡ acceptor → IsRoundAsk request.ask → ⊥
+    unasked request asked to round =
+        let may : MayAskFor cluster asked.older request (key_of request.ask) (tag_of request.ask) = round_asked cluster asked.older request request.ask round (reason cluster orderly asked.at) in
+        not_both (has_member used acceptor) (subst (λ (a : ℕ). has_member used a ≡ true) to (are.members may.era request.to may.member)) unused
+
+unused_aged : (cluster : Cluster) (log : List Happening) (used : List ℕ) (acceptor : ℕ) (key : List ℕ) (floor : Ballot) → Orderly cluster log → AreUsed cluster used → has_member used acceptor ≡ false → IsAgedOut log acceptor key floor
+unused_aged cluster log used acceptor key floor orderly are unused = record { aged = λ request asked to round same low. none request asked to round }
+  where
+    none : (request : Request) → Stands (Asked request) log → request.to ≡ acceptor → IsRoundAsk request.ask → request.age < age_told log acceptor request.from
+    none request asked to round =
+        let may : MayAskFor cluster asked.older request (key_of request.ask) (tag_of request.ask) = round_asked cluster asked.older request request.ask round (reason cluster orderly asked.at) in
+        absurd (not_both (has_member used acceptor) (subst (λ (a : ℕ). has_member used a ≡ true) to (are.members may.era request.to may.member)) unused)
 
 wider_clear : (cluster wider : Cluster) (base : Era) (later : List Era) (log : List Happening) (used : List ℕ) (key : List ℕ) (floor : Ballot) → IsWidening cluster wider base later → IsAhead cluster log base later used → AreUsed cluster used → Orderly cluster log
     → IsFloorClear cluster log key floor → IsFloorClear wider log key floor
@@ -54,12 +73,30 @@ wider_clear cluster wider base later log used key floor more ahead are orderly w
       | inr unused ↦ unused_clear cluster log used acceptor key floor orderly are unused
     ]
   ];
+  aged = λ number acceptor late member. elim (more.members number acceptor member) [
+    | inl before ↦ was.aged number acceptor late before
+    | inr new ↦ elim (ahead.joins acceptor new) [
+      | inl in_base ↦ was.aged base.number acceptor low in_base
+      | inr unused ↦ unused_aged cluster log used acceptor key floor orderly are unused
+    ]
+  ];
 }
   where
     low : was.era ≤ base.number
     low = elim was.all_in [ inl first ↦ omega (arith, first) | inr all ↦ ahead.all_in was.era all ]
 
 -- ---- the history
+-- a quorum stays one
+wider_opened : {cluster wider : Cluster} {log : List Happening} {key : List ℕ} {floor : Ballot} → IsWidened cluster wider → IsOpened cluster log key floor → IsOpened wider log key floor
+wider_opened w was = record {
+  opening = was.opening;
+  some = was.some;
+  by = was.by;
+  prepares = w.prepares 0 was.by was.prepares;
+  accepts = w.accepts 0 was.by was.accepts;
+  took = was.took;
+}
+
 wider_history : (cluster wider : Cluster) (base : Era) (later : List Era) (global : GlobalState) (used : List ℕ) → IsWidening cluster wider base later → IsAhead cluster global.log base later used → AreUsed cluster used
     → HasHistory cluster global → HasHistory wider global
 wider_history cluster wider base later global used more ahead are was = record {
@@ -73,7 +110,7 @@ wider_history cluster wider base later global used more ahead are was = record {
     replied = was.knows.replied;
     drawn = was.knows.drawn;
     made = was.knows.made;
-    floors = was.knows.floors;
+    floors = λ key floor has. elim (was.knows.floors key floor has) [ inl empty ↦ inl empty | inr opened ↦ inr (wider_opened more.widened opened) ];
     clear = λ key floor has. wider_clear cluster wider base later global.log used key floor more ahead are was.orderly (was.knows.clear key floor has);
   };
 }

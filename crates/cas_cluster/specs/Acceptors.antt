@@ -1,7 +1,7 @@
 -- That an acceptor is as the log tells, and what it adds to the log when it answers.
-use Rattle.std.specs.Prelude.{◌≡◌, ◌⊎◌, ⊤, ℕ, ◌≤◌, List, [], ◌∷◌, ◌++◌, Option, None, Some, Ok, unwrap_or, is_some, if◌then◌else◌}
+use Rattle.std.specs.Prelude.{◌≡◌, ◌⊎◌, ⊤, ℕ, ◌≤◌, true, List, [], ◌∷◌, ◌++◌, Option, None, Some, Ok, unwrap_or, is_some, if◌then◌else◌}
 use Rattle.cas_ballot.specs.declared.ballot.Ballot.{Ballot}
-use Rattle.cas_ballot.specs.Ballot.{zero_ballot}
+use Rattle.cas_ballot.specs.Ballot.{zero_ballot, BallotLess}
 use Rattle.cas_change.specs.declared.state.State.{State}
 use Rattle.cas_change.specs.declared.state.State.TheVariants.{Empty}
 use Rattle.cas_slot.specs.declared.message.Ask.{Ask}
@@ -21,7 +21,7 @@ use Rattle.cas_slot.specs.Table.{Handles, accepted_at}
 use Rattle.cas_record.specs.declared.mark.Mark.{Mark}
 use Rattle.cas_record.specs.declared.mark.Mark.TheVariants.{Proposed, Voted}
 use Rattle.cas_record.specs.declared.mark.Proposal.{Proposal}
-use Rattle.cas_record.specs.Chain.{chain_of}
+use Rattle.cas_record.specs.Chain.{has_opening, chain_of}
 use Rattle.cas_record.specs.Happening.{Happening, Marked, Promised, Took, Dropped, Raised, Replied, marks_of}
 use Rattle.cas_record.specs.Lawful.{SlotTold, slot_told}
 use Rattle.cas_record.specs.Orderly.{WasAsked, age_told}
@@ -38,10 +38,17 @@ pub record IsMadeState (marks : List Mark) (key : List ℕ) (ballot : Ballot) (e
   pub same_era : proposal.era ≡ era
   pub state_is : state ≡ replay_from (opening_state key marks) (chain_of key ballot marks)
 
--- what was accepted for the key is the state of a proposal
+-- the key's history opened with a floor at the ballot, and this is its state; it counts as of era 0
+pub record IsOpeningState (marks : List Mark) (key : List ℕ) (ballot : Ballot) (era : ℕ) (state : State) : Type 0 where
+  pub opens : has_opening key ballot marks ≡ true
+  pub some : BallotLess zero_ballot ballot
+  pub same_era : era ≡ 0
+  pub state_is : state ≡ opening_state key marks
+
+-- what was accepted for the key is the state of a proposal, or of the floor with which the key's history opened
 abbrev pub IsAcceptedState : List Mark → List ℕ → Option Accepted → Type 0
 IsAcceptedState marks key None = ⊤
-IsAcceptedState marks key (Some accepted) = IsMadeState marks key accepted.ballot accepted.era accepted.state
+IsAcceptedState marks key (Some accepted) = IsMadeState marks key accepted.ballot accepted.era accepted.state ⊎ IsOpeningState marks key accepted.ballot accepted.era accepted.state
 
 -- the key's ballot was proposed, and its history leaves the empty state
 abbrev pub IsEmptyAt : List Mark → List ℕ → Ballot → Type 0
@@ -65,7 +72,7 @@ abbrev pub told_of : Option Slot → SlotTold
 told_of slot = record { promise = promise_of slot; accepted = accepted_ballot (accepted_of slot) }
 
 -- the log tells each slot that the acceptor keeps, and no least age above the one that it keeps; and what a slot accepted is the state
--- of a proposal
+-- of a proposal or of an opening floor
 pub record Tells (log : List Happening) (id : ℕ) (kept : Contents) : Type 0 where
   pub slots : (key : List ℕ) → slot_told log id key ≡ told_of (kept_at kept key)
   pub ages : (proposer : ℕ) → proposer ≤ 16 → age_told log id proposer ≤ least_age kept.ages proposer

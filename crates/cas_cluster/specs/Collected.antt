@@ -16,10 +16,10 @@ use Rattle.cas_slot.specs.Message.{tag_of}
 use Rattle.cas_slot.specs.Rules.{key_of}
 use Rattle.cas_vault.specs.Vault.{IsPast}
 use Rattle.cas_record.specs.Happening.{Happening, Asked, Drew, Took, marks_of}
-use Rattle.cas_record.specs.declared.mark.Mark.TheVariants.{Proposed}
+use Rattle.cas_record.specs.declared.mark.Mark.TheVariants.{Proposed, Floor as FloorMark}
 use Rattle.cas_record.specs.declared.mark.Proposal.{Proposal}
 use Rattle.cas_record.specs.Lawful.{Cluster, AllEntered}
-use Rattle.cas_record.specs.Legal.{HasFloor, IsAcked}
+use Rattle.cas_record.specs.Legal.{IsAcked}
 use Rattle.cas_record.specs.Orderly.{age_told, IsRoundAsk}
 use Rattle.cas_record.specs.Places.{Stands}
 use Rattle.cas_cluster.specs.Acceptors.{IsMadeState}
@@ -94,7 +94,7 @@ pub record IsCollectionTrue (cluster : Cluster) (log : List Happening) (collecti
       → (may_tell_ages collection.course.step ≡ true) × (least ≡ ages_of collection.ages)
   pub told : is_after_ages collection.course.step ≡ true → (acceptor proposer age : ℕ) → has_member (cluster.members collection.course.era.number) acceptor ≡ true → IsAt collection.ages proposer age
       → age ≤ age_told log acceptor proposer
-  pub floor : is_after_floor collection.course.step ≡ true → HasFloor collection.course.key (tomb_of collection.tombstone) (marks_of log)
+  pub floor : is_after_floor collection.course.step ≡ true → Stands (FloorMark collection.course.key (tomb_of collection.tombstone) Empty) (marks_of log)
 
 abbrev pub IsCollectingTrue : Cluster → List Happening → Option CollectionView → Type 0
 IsCollectingTrue cluster log None = ⊤

@@ -96,10 +96,10 @@ IsStateRead log p read = state_read read ≡ replay_from (opening_state p.key (m
 -- A proposer whose prepare phase has a quorum may propose at its ballot what it makes of the state that it read: the one of the
 -- greatest ballot that those who promised told, which is the state that the history leaves from which the proposal goes on.
 abbrev pub ProposersProposeLawfully : Type 0
-ProposersProposeLawfully = (cluster : Cluster) (log : List Happening) (p : Proposal) (replies : List Reply) (read : Option Accepted)
+ProposersProposeLawfully = (cluster : Cluster) → ClusterMeets cluster → (log : List Happening) (p : Proposal) (replies : List Reply) (read : Option Accepted)
     → Lawful cluster log → Orderly cluster log → IsOpenRound log p.caller p.call p.key p.ballot p.era
     → AreRepliesTrue log replies → p.prepared_by ≡ promisers_of p.ballot replies → cluster.prepares p.era p.prepared_by ≡ true
-    → IsRead p.ballot replies read → p.read ≡ accepted_ballot read → AreFloorsClear log p.key p.ballot p.prepared_by
+    → IsRead p.ballot replies read → p.read ≡ accepted_ballot read → AreFloorsClear cluster log p.key p.ballot p.prepared_by
     → MayPropose cluster log p × IsStateRead log p read
 
 -- What a proposal makes of the state from which it goes on is the state of its ballot: the one that acceptors may be asked to accept.

@@ -1,4 +1,5 @@
 pub mod Acceptors
+pub mod CollectLaws
 pub mod Collected
 pub mod Collection
 pub mod Council
@@ -9,6 +10,7 @@ pub mod History
 pub mod Laws
 pub mod Listed
 pub mod Listings
+pub mod Openings
 pub mod Parties
 pub mod Proposers
 pub mod Protocol

@@ -1,5 +1,5 @@
 -- What a proposer knows of its round, and what it may do with it.
-use Rattle.std.specs.Prelude.{◌≡◌, ◌<◌, ℕ, suc, true, List, Option, None, Some, Contains}
+use Rattle.std.specs.Prelude.{◌≡◌, ◌⊎◌, ◌<◌, ℕ, suc, true, List, Option, None, Some, Contains}
 use Rattle.cas_ballot.specs.declared.ballot.Ballot.{Ballot}
 use Rattle.cas_ballot.specs.Ballot.{BallotLess}
 use Rattle.cas_ballot.specs.Members.{has_member}
@@ -14,6 +14,8 @@ use Rattle.cas_record.specs.declared.mark.Proposal.{Proposal}
 use Rattle.cas_record.specs.declared.mark.Acknowledgment.{Acknowledgment}
 use Rattle.cas_record.specs.Legal.{HasProposal, HasFloor, IsBegun, IsProposed, IsEnded}
 use Rattle.cas_record.specs.Happening.{Happening, Asked, Entered, Drew, Replied, marks_of}
+use Rattle.cas_record.specs.Lawful.{Cluster}
+use Rattle.cas_record.specs.Laws.{IsOpened}
 use Rattle.cas_record.specs.Orderly.{IsAboveFloors, IsClear}
 use Rattle.cas_record.specs.Places.{Stands}
 use Rattle.cas_cluster.specs.Acceptors.{IsTellState, IsEmptyAt}
@@ -42,9 +44,9 @@ pub record IsOpenRound (log : List Happening) (caller call : ℕ) (key : List �
   pub once : IsProposed caller call (marks_of log) → ⊥
   pub open_yet : IsEnded caller call (marks_of log) → ⊥
 
--- each floor of the key below the ballot is empty, and each of these acceptors is clear of what was below it
-pub record AreFloorsClear (log : List Happening) (key : List ℕ) (ballot : Ballot) (by : List ℕ) : Type 0 where
-  pub empty : (floor : Ballot) → HasFloor key floor (marks_of log) → IsEmptyAt (marks_of log) key floor
+-- each floor of the key is empty or opened its history, and each of these acceptors is clear of what was below it
+pub record AreFloorsClear (cluster : Cluster) (log : List Happening) (key : List ℕ) (ballot : Ballot) (by : List ℕ) : Type 0 where
+  pub empty : (floor : Ballot) → HasFloor key floor (marks_of log) → IsEmptyAt (marks_of log) key floor ⊎ IsOpened cluster log key floor
   pub clear : (acceptor : ℕ) (floor : Ballot) → has_member by acceptor ≡ true → HasFloor key floor (marks_of log) → BallotLess floor ballot → IsClear log acceptor key floor
 
 -- what was read: the state of the greatest ballot that was told, and nothing is the empty state

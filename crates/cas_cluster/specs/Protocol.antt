@@ -37,8 +37,9 @@ use Rattle.cas_record.specs.Chain.{chain_of, link_of}
 use Rattle.cas_record.specs.Happening.{Happening, Marked, Asked, Drew, Entered, Replied, marks_of}
 use Rattle.cas_record.specs.Lawful.{Cluster, ClusterMeets, Lawful, AllEntered, IsRescanned, MayMarkEra}
 use Rattle.cas_record.specs.Legal.{IsLegal, HasFloor, IsProposed, IsEnded, IsAcked, IsFirstEnd, calls_of, tells_refused, tells_unsettled, harms_due, harms_of}
+use Rattle.cas_record.specs.Laws.{IsOpened}
 use Rattle.cas_record.specs.Listing.{WasAbsent}
-use Rattle.cas_record.specs.Orderly.{Orderly, MayAsk, IsClear}
+use Rattle.cas_record.specs.Orderly.{Orderly, MayAsk, IsClear, IsAgedOut}
 use Rattle.cas_record.specs.Places.{Stands, At}
 use Rattle.cas_record.specs.Replay.{replay_from, opening_state}
 use Rattle.cas_record.specs.Witness.{small_cluster, key_a, at}
@@ -151,11 +152,13 @@ pub record IsOtherEnd (log : List Happening) (caller call : ℕ) (answer : Answe
   pub unsettled : tells_unsettled answer ≡ true → IsProposed caller call (marks_of log)
   pub harmed : harms_due answer ≤ harms_of caller call (marks_of log)
 
--- all proposers are in an era, and each member of that era or of a later one took the floor, or was never asked at or below it
+-- All proposers are in an era, and each member of that era or of a later one took the floor, or was never asked at or below it; and what
+-- it was asked at or below it is too old for it.
 pub record IsFloorClear (cluster : Cluster) (log : List Happening) (key : List ℕ) (floor : Ballot) : Type 0 where
   pub era : ℕ
   pub all_in : (era ≡ 0) ⊎ AllEntered cluster era (marks_of log)
   pub clear : (number acceptor : ℕ) → era ≤ number → has_member (cluster.members number) acceptor ≡ true → IsClear log acceptor key floor
+  pub aged : (number acceptor : ℕ) → era ≤ number → has_member (cluster.members number) acceptor ≡ true → IsAgedOut log acceptor key floor
 
 -- the empty state was made at the key's ballot and acknowledged, and members are clear of what was below it
 pub record MayBeFloor (cluster : Cluster) (global : GlobalState) (key : List ℕ) (tomb : Ballot) : Type 0 where
@@ -252,7 +255,7 @@ pub record IsMadeOf (log : List Happening) (m : Made) : Type 0 where
   pub is_made : IsMadeState (marks_of log) m.proposal.key m.proposal.ballot m.proposal.era m.outcome.state
 
 -- what requests ask for and replies tell is so, each ballot was drawn before it was proposed, what was made is so, and each floor is empty
--- and members are clear of it
+-- or opened the history of its key, and members are clear of it
 pub record Knows (cluster : Cluster) (log : List Happening) (all : List Made) : Type 0 where
   pub asked : (request : Request) → Stands (Asked request) log → IsAskState (marks_of log) request.ask
   pub known : (request : Request) → Stands (Asked request) log → (request.from ≤ 16) × (request.to < 64)
@@ -260,7 +263,7 @@ pub record Knows (cluster : Cluster) (log : List Happening) (all : List Made) : 
   pub replied : (request : Request) (reply : Reply) → Stands (Replied request reply) log → IsReplyTrue log reply
   pub drawn : (p : Proposal) → Stands (Proposed p) (marks_of log) → Stands (Drew p.ballot p.key p.era) log
   pub made : (m : Made) → Stands m all → IsMadeOf log m
-  pub floors : (key : List ℕ) (floor : Ballot) → HasFloor key floor (marks_of log) → IsEmptyAt (marks_of log) key floor
+  pub floors : (key : List ℕ) (floor : Ballot) → HasFloor key floor (marks_of log) → IsEmptyAt (marks_of log) key floor ⊎ IsOpened cluster log key floor
   pub clear : (key : List ℕ) (floor : Ballot) → HasFloor key floor (marks_of log) → IsFloorClear cluster log key floor
 
 -- the log is lawful and each happening has its reason; it tells what each acceptor keeps; and what is known is so

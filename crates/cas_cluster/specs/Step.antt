@@ -19,6 +19,7 @@ use Rattle.cas_record.specs.declared.operator.Asked.{Asked}
 use Rattle.cas_record.specs.declared.operator.OpAnswer.{OpAnswer}
 use Rattle.cas_cluster.specs.Council.{Question, opening_council}
 use Rattle.cas_cluster.specs.Course.{era_shown}
+use Rattle.cas_cluster.specs.Openings.{Opening, IsOpeningOn}
 use Rattle.cas_cluster.specs.Parties.{IsWithin}
 use Rattle.cas_cluster.specs.StepAcceptors.{CrashesShelf, StartsShelf, FailsToStart}
 use Rattle.cas_cluster.specs.StepCalls.{most_marks, Opens, BeginsRound, RefusesCall, ProposesOrEnds, CountsOrEnds, EndsCall, telling, with_call}
@@ -216,4 +217,6 @@ pub record IsOpening {S V : Type 0} (m : Meaning S V) (members : List ℕ) (view
 -- all that was done with a cluster, from its opening on
 pub data History {S V : Type 0} (m : Meaning S V) (members : List ℕ) : View S V → Type 0 where
   opens : (view : View S V) → IsOpening m members view → History m members view
+  -- or it opened on what stood before
+  opens_on : (used : List ℕ) (floors : List Opening) (view : View S V) → IsOpeningOn m members used floors view → History m members view
   steps : (old : View S V) (event : Event) (new : View S V) → History m members old → Step m old event new → History m members new

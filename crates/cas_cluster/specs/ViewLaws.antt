@@ -20,6 +20,7 @@ use Rattle.cas_record.specs.Legal.{IsLegal, HasFloor}
 use Rattle.cas_record.specs.Orderly.{IsAboveFloors, IsNoneOrAbove}
 use Rattle.cas_record.specs.Places.{Stands, IsPrefix}
 use Rattle.cas_cluster.specs.History.{IsRemembered}
+use Rattle.cas_cluster.specs.Openings.{Opening, IsOpeningOn}
 use Rattle.cas_cluster.specs.Safe.{IsSafe}
 use Rattle.cas_cluster.specs.Step.{Event, Step, IsOpening, History}
 use Rattle.cas_cluster.specs.View.{Meaning, View, CallerView, IsAt, era_at}
@@ -27,6 +28,10 @@ use Rattle.cas_cluster.specs.View.{Meaning, View, CallerView, IsAt, era_at}
 -- A cluster that has just opened is remembered.
 abbrev pub OpeningsAreRemembered : {S V : Type 0} → Meaning S V → Type 0
 OpeningsAreRemembered {S} {V} m = m.shelves.tells → m.disks.tells → (members : List ℕ) (view : View S V) → IsOpening m members view → IsRemembered m view
+
+-- And so is one that has just opened on what stood before.
+abbrev pub OpeningsOnAreRemembered : {S V : Type 0} → Meaning S V → Type 0
+OpeningsOnAreRemembered {S} {V} m = m.shelves.tells → m.disks.tells → (members used : List ℕ) (floors : List Opening) (view : View S V) → IsOpeningOn m members used floors view → IsRemembered m view
 
 -- Whatever is called on a cluster that is remembered, it is remembered then.
 abbrev pub StepsAreRemembered : {S V : Type 0} → Meaning S V → Type 0

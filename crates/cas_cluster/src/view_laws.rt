@@ -2,8 +2,9 @@
 //! the contract of a function that does nothing.
 
 ghost use Rattle.cas_cluster.specs.View.{meaning};
-ghost use Rattle.cas_cluster.specs.SafeLaws.{OpeningsAreSafe, StepsAreSafe};
-ghost use Rattle.cas_cluster.specs.ViewLaws.{OpeningsAreRemembered, StepsAreRemembered, HistoriesAreLegal, WhatIsDoneIsKept, FloorsArePassed, MembersAreClear};
+ghost use Rattle.cas_cluster.specs.SafeLaws.{OpeningsAreSafe, OpeningsOnAreSafe, StepsAreSafe};
+ghost use Rattle.cas_cluster.specs.ViewLaws.{OpeningsAreRemembered, OpeningsOnAreRemembered, StepsAreRemembered, HistoriesAreLegal, WhatIsDoneIsKept, FloorsArePassed, MembersAreClear};
+ghost use Rattle.cas_cluster.specs.CollectLaws.{RequestsAreAged, RemovalsAreDone, CollectedHaveFloors};
 ghost use Rattle.cas_cluster.specs.ViewWitness.{ShownHistory};
 
 use cas_disk::Disk;
@@ -14,6 +15,12 @@ use cas_vault::Vault;
 /// and knows, and what the frames under way bear.
 pub fn openings_are_remembered<S: Shelf, V: Disk>()
     ensures { OpeningsAreRemembered (meaning S.contents S.tells S.may_leave S.fault_count V.tells V.may_leave V.fault_count) }
+{}
+
+/// And so is one that has just opened on what stood before: with floors that its members hold, at ballots below all that its proposers
+/// may draw, and with acceptors that were used before and are never to join.
+pub fn openings_on_are_remembered<S: Shelf, V: Disk>()
+    ensures { OpeningsOnAreRemembered (meaning S.contents S.tells S.may_leave S.fault_count V.tells V.may_leave V.fault_count) }
 {}
 
 /// Whatever is called on a cluster that is remembered, it is remembered then: a call begins by a draw or by a promise that rode along, a
@@ -47,11 +54,33 @@ pub fn members_are_clear<S: Shelf, V: Disk>()
     ensures { MembersAreClear (meaning S.contents S.tells S.may_leave S.fault_count V.tells V.may_leave V.fault_count) }
 {}
 
+/// What is under way to such a member for the key, at a ballot at or below a floor of it, is too old for the member: its age is below the
+/// least age that the member asks its proposer for, whatever a crash now leaves of its shelf.
+pub fn requests_are_aged<S: Shelf, V: Disk>()
+    ensures { RequestsAreAged (meaning S.contents S.tells S.may_leave S.fault_count V.tells V.may_leave V.fault_count) }
+{}
+
+/// Where what the members told brings a collection to its end, each removed its slot of the key or kept it, and so many did the one and the
+/// other; and none that is up has seen anything of the key but above the tombstone, whatever a crash now leaves of its shelf.
+pub fn removals_are_done<S: Shelf, V: Disk>()
+    ensures { RemovalsAreDone (meaning S.contents S.tells S.may_leave S.fault_count V.tells V.may_leave V.fault_count) }
+{}
+
+/// Where a collection is at its end and the operator is told so, its tombstone is a floor of the key, with the empty state.
+pub fn collected_keys_have_floors<S: Shelf, V: Disk>()
+    ensures { CollectedHaveFloors (meaning S.contents S.tells S.may_leave S.fault_count V.tells V.may_leave V.fault_count) }
+{}
+
 /// A cluster that has just opened, with a place for each party, is safe, whatever its shelves and disks tell: each mark that may still
 /// be made is reserved, there is room for the reply to each request that waits, and each frame that waits is to or from a member that
 /// the open round of its proposer asks.
 pub fn openings_are_safe<S: Shelf, V: Disk>()
     ensures { OpeningsAreSafe (meaning S.contents S.tells S.may_leave S.fault_count V.tells V.may_leave V.fault_count) }
+{}
+
+/// And so is one that has just opened on what stood before.
+pub fn openings_on_are_safe<S: Shelf, V: Disk>()
+    ensures { OpeningsOnAreSafe (meaning S.contents S.tells S.may_leave S.fault_count V.tells V.may_leave V.fault_count) }
 {}
 
 /// Whatever is called on a cluster that is safe, it is safe then. So no call finds the record full but where it begins, nor a late

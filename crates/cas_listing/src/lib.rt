@@ -1,6 +1,6 @@
 //! Listings: how far the members of an era have told their keys, and which keys are still to be proposed anew.
 //!
-//! What is listed lives here alone. Who asks the members, and who proposes a key anew, lives above.
+//! What is listed lives here alone. Who asks the members lives in `cas_world`, and who proposes a key anew in `cas_script`.
 #![tactic(auto)]
 
 mod keys;

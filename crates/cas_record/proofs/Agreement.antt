@@ -127,7 +127,7 @@ settles_top cluster log key lawful = elim (top_cases key (marks_of log)) [
 ]
 
 -- ---- opening floors are below all else
-one_opening : {key : List ℕ} {floor other : Ballot} {log : List Happening} → OpeningAt key floor log → OpeningAt key other log → floor ≡ other
+pub one_opening : {key : List ℕ} {floor other : Ballot} {log : List Happening} → OpeningAt key floor log → OpeningAt key other log → floor ≡ other
 one_opening o q = elim (order o.at q.at) [
   | older_than before ↦ absurd (q.opening.first (mark_stands (stands_at before)))
   | newer_than after ↦ absurd (o.opening.first (mark_stands (stands_at after)))

@@ -26,7 +26,7 @@ use Rattle.cas_record.specs.Chain.{is_key, is_ballot, is_call, has_proposal, lin
 use Rattle.cas_record.specs.Replay.{replay_from, opening_state}
 use Rattle.cas_record.specs.Legal.{HasFloor, calls_of, IsBegun, IsProposed, IsEnded, IsFirstProposal, tells_refused, tells_unsettled, harms_due, harms_of, HasVotes, IsAcked, IsOpening, IsFloor}
 use Rattle.cas_record.specs.Happening.{Happening, Marked, Promised, Took, Dropped, Entered, marks_of}
-use Rattle.cas_record.specs.Lawful.{Cluster, IsMade, in_promise, in_take, in_ride, HasSeenAtMost, IsFloored, MayPromise, MayTake, slot_told, is_slot, MayDrop, IsIn, AllEntered, IsRescanned, IsCollected, MayLeave, MayEnter, Granted, by_promise, by_ride, MayPropose, MayVote, MayAck, MayBeDone, MayAnswer, MayEnd, MayMarkEra, MayMark, May, Lawful}
+use Rattle.cas_record.specs.Lawful.{Cluster, IsMade, in_promise, in_take, in_ride, HasSeenAtMost, IsFloored, MayPromise, MayTake, slot_told, is_slot, MayDrop, AreFirst, HasOpening, IsIn, AllEntered, IsRescanned, IsCollected, MayLeave, MayEnter, Granted, by_promise, by_ride, MayPropose, MayVote, MayAck, MayBeDone, MayAnswer, MayEnd, MayMarkEra, MayMark, May, Lawful}
 use Rattle.cas_record.proofs.PlaceLemmas.{stands_at}
 use Rattle.cas_base.proofs.Bools.{and_left, and_right, or_cases, or_left, or_right, both_true, not_tells, not_both}
 use Rattle.cas_record.proofs.Tests.{key_same, key_is, key_refl, ballot_same, ballot_is, less_tells, less_is, nat_same, nat_is, call_same, call_is, slot_same}
@@ -276,7 +276,7 @@ acked_by m older at e = absurd cc
 abbrev pub check_acked : List ℕ → Ballot → List Mark → Bool
 check_acked key ballot marks = some_place (is_acked_at key ballot) marks
 
-acked_checked : (key : List ℕ) (ballot : Ballot) (marks : List Mark) → check_acked key ballot marks ≡ true → IsAcked key ballot marks
+pub acked_checked : (key : List ℕ) (ballot : Ballot) (marks : List Mark) → check_acked key ballot marks ≡ true → IsAcked key ballot marks
 acked_checked key ballot marks e = let f = found (is_acked_at key ballot) marks e in acked_by f.x f.older f.at f.passes
 
 abbrev pub is_rescan_at : Cluster → ℕ → List ℕ → List Mark → Mark → List Mark → Bool
@@ -324,16 +324,38 @@ abbrev pub has_stone : Cluster → ℕ → List Mark → Mark → List Mark → 
 has_stone cluster left marks (Proposed p) older = implies (nat_lt p.era left) (some_place (is_rescan_at cluster left p.key marks) marks || some_place (is_collected_at left p.key marks) marks)
 has_stone cluster left marks other older = true
 
+-- nothing but floors was marked and taken
+abbrev pub are_first : List Happening → Bool
+are_first [] = true
+are_first (Marked (Floor key floor state) ∷ older) = are_first older
+are_first (Took acceptor key ballot ride ∷ older) = are_first older
+are_first (other ∷ older) = false
+
+are_first_is : (log : List Happening) → AreFirst log → are_first log ≡ true
+are_first_is [] first = refl
+are_first_is (Marked (Floor key floor state) ∷ older) first = are_first_is older first
+are_first_is (Took acceptor key ballot ride ∷ older) first = are_first_is older first
+are_first_is (other ∷ older) first = absurd first
+
+-- the happening is no floor with which a history opens
+abbrev pub is_no_opening : Happening → List Happening → Bool
+is_no_opening (Marked (Floor key floor state)) older = not (are_first older)
+is_no_opening other older = true
+
+none_opens : {key : List ℕ} {floor : Ballot} {log : List Happening} → each_place is_no_opening log ≡ true → HasOpening key floor log → ⊥
+none_opens e o = not_both (are_first o.older) (are_first_is o.older o.first) (not_tells _ (each_at is_no_opening e o.at))
+
 abbrev pub check_leave : Cluster → List Happening → ℕ → ℕ → Bool
 check_leave cluster log proposer left =
     nat_le proposer cluster.greatest && (not (some_place (entered_now proposer (suc left)) log)
-    && (((left == 0) || check_all_in cluster left (marks_of log)) && each_place (has_stone cluster left (marks_of log)) (marks_of log)))
+    && (((left == 0) || check_all_in cluster left (marks_of log)) && (each_place (has_stone cluster left (marks_of log)) (marks_of log) && each_place is_no_opening log)))
 
 leave_checked : (cluster : Cluster) (log : List Happening) (proposer left : ℕ) → check_leave cluster log proposer left ≡ true → MayLeave cluster log proposer left
 leave_checked cluster log proposer left e =
     let marks = marks_of log in
     let rest = and_right (nat_le proposer cluster.greatest) _ e in
     let last = and_right (not (some_place (entered_now proposer (suc left)) log)) _ rest in
+    let each = and_right ((left == 0) || check_all_in cluster left marks) _ last in
     record {
       known = le_tells (and_left (nat_le proposer cluster.greatest) _ e);
       once = not_entered log proposer (suc left) (not_tells _ (and_left (not (some_place (entered_now proposer (suc left)) log)) _ rest));
@@ -342,11 +364,12 @@ leave_checked cluster log proposer left e =
         | inr all ↦ all_in_checked cluster left marks all
       ];
       stones = λ {p} s early.
-          let stone = use_implies (nat_lt p.era left) _ (each_at (has_stone cluster left marks) (and_right ((left == 0) || check_all_in cluster left marks) _ last) s.at) (le_is early) in
+          let stone = use_implies (nat_lt p.era left) _ (each_at (has_stone cluster left marks) (and_left (each_place (has_stone cluster left marks) marks) _ each) s.at) (le_is early) in
           elim (or_cases (some_place (is_rescan_at cluster left p.key marks) marks) (some_place (is_collected_at left p.key marks) marks) stone) [
             | inl rescan ↦ let f = found (is_rescan_at cluster left p.key marks) marks rescan in inl (rescan_by f.x f.older f.at f.passes)
             | inr collected ↦ let f = found (is_collected_at left p.key marks) marks collected in inr (collected_by f.x f.older f.at f.passes)
           ];
+      openings = λ {key} {floor} opening some. absurd (none_opens (and_right (each_place (has_stone cluster left marks) marks) (each_place is_no_opening log) each) opening);
     }
 
 abbrev pub check_enter : Cluster → List Happening → ℕ → ℕ → Bool

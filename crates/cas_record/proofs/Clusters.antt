@@ -10,9 +10,9 @@ use Rattle.cas_record.specs.declared.mark.Mark.{Mark}
 use Rattle.cas_record.specs.declared.mark.Mark.TheVariants.{Proposed, Acked}
 use Rattle.cas_record.specs.declared.mark.Proposal.{Proposal}
 use Rattle.cas_record.specs.declared.mark.Acknowledgment.{Acknowledgment}
-use Rattle.cas_record.specs.Happening.{Happening, Marked, Asked, Entered, Drew}
+use Rattle.cas_record.specs.Happening.{Happening, Marked, Asked, Took, Entered, Drew}
 use Rattle.cas_record.specs.Lawful.{Cluster, IsWidened, AllEntered, IsRescanned, MayLeave, MayPropose, MayAck, MayMark, May, Lawful}
-use Rattle.cas_record.specs.Orderly.{MayDraw, MayAskFor, MayAsk, HasReason, Orderly}
+use Rattle.cas_record.specs.Orderly.{MayDraw, MayAskFor, MayAsk, MayTakeFirst, HasReason, Orderly}
 
 -- ---- lawful
 all_more : {old new : Cluster} → IsWidened old new → {era : ℕ} {marks : List Mark} → AllEntered old era marks → AllEntered new era marks
@@ -35,6 +35,7 @@ leave_more w {proposer = proposer} may = record {
   once = may.once;
   all_in = λ some. all_more w (may.all_in some);
   stones = λ {p} stands early. elim (may.stones stands early) [ inl rescanned ↦ inl (rescanned_more w rescanned) | inr collected ↦ inr collected ];
+  openings = λ {key} {floor} opening some. elim (may.openings opening some) [ inl rescanned ↦ inl (rescanned_more w rescanned) | inr above ↦ inr above ];
 }
 
 propose_more : {old new : Cluster} → IsWidened old new → {log : List Happening} (p : Proposal) → MayPropose old log p → MayPropose new log p
@@ -96,6 +97,10 @@ ask_more w log request other may = may
 reason_more : {old new : Cluster} → IsWidened old new → (log : List Happening) (happening : Happening) → HasReason old log happening → HasReason new log happening
 reason_more w log (Drew ballot key era) may = draw_more w ballot may
 reason_more w log (Asked request) may = ask_more w log request request.ask may
+reason_more w log (Took acceptor key ballot ride) may = elim may [
+  | inl by ↦ inl by
+  | inr first ↦ inr (record { first = first.first; member = w.members 0 acceptor first.member; opening = first.opening; no_ride = first.no_ride })
+]
 reason_more w log other may = may
 
 pub orderly_more : {old new : Cluster} → IsWidened old new → (log : List Happening) → Orderly old log → Orderly new log

@@ -132,14 +132,14 @@ above_by cluster meet {log} {older} {before} {p} {q} lawful at acked q_at same_k
     take.seen q.ballot (subst (λ k. HasSeen took.stands.older shared.acceptor k q.ballot) same_key seen)
 
 -- what stands before a proposal in the log does so because of the era that its proposer entered
-record EnteredAt (cluster : Cluster) (p : Proposal) (log : List Happening) : Type 0 where
-  older : List Happening
-  at : At (Entered p.ballot.proposer p.era) older log
-  left : ℕ
-  next : p.era ≡ suc left
-  may_leave : MayLeave cluster older p.ballot.proposer left
+pub record EnteredAt (cluster : Cluster) (p : Proposal) (log : List Happening) : Type 0 where
+  pub older : List Happening
+  pub at : At (Entered p.ballot.proposer p.era) older log
+  pub left : ℕ
+  pub next : p.era ≡ suc left
+  pub may_leave : MayLeave cluster older p.ballot.proposer left
 
-entered_at : (cluster : Cluster) {log older : List Happening} {p : Proposal} → Lawful cluster log → At (Marked (Proposed p)) older log → 0 < p.era → EnteredAt cluster p older
+pub entered_at : (cluster : Cluster) {log older : List Happening} {p : Proposal} → Lawful cluster log → At (Marked (Proposed p)) older log → 0 < p.era → EnteredAt cluster p older
 entered_at cluster {p = p} lawful at some = elim (proposal_law cluster lawful at).is_in [
   | inl none ↦ absurd (omega arith)
   | inr entered ↦
@@ -199,6 +199,25 @@ after_entry cluster {p = p} {acceptor = acceptor} {taken = taken} {ride = ride} 
       stands_deeper (subst (λ xs. Stands (Took acceptor p.key taken ride) xs) same took) entered.at
 ]
 
+-- a rescan in the era that was left is under the link of each proposal of the next
+pub rescan_below : (cluster : Cluster) → ClusterMeets cluster → {log older : List Happening} {p : Proposal} {key : List ℕ} → Lawful cluster log → At (Marked (Proposed p)) older log
+    → (entry : EnteredAt cluster p older) → key ≡ p.key → (r : RescanAt cluster entry.left key entry.older) → BallotAtMost r.proposal.ballot (link_of (marks_of older) p)
+rescan_below cluster meet {log} {older} {p} {key} lawful at entry same_key r =
+    let next : p.era ≡ suc entry.left = entry.next in
+    let r_era : r.proposal.era ≡ entry.left = r.same_era in
+    let there = lawful_older cluster lawful (deeper entry.at at) in
+    let r_key : r.proposal.key ≡ p.key = r.same_key ∙ same_key in
+    let acked : AckedAt r.proposal.key r.proposal.ballot entry.older = subst (λ k. AckedAt k r.proposal.ballot entry.older) (sym r.same_key) r.acked in
+    let era = acked_era cluster there acked r.at in
+    let quorum = (ack_law cluster there acked.at).quorum in
+    let law_p = proposal_law cluster lawful at in
+    let shared = meet p.era acked.acknowledgment.era (omega arith) (omega arith) p.prepared_by acked.acknowledgment.by law_p.quorum quorum in
+    let took = took_of_acked cluster there acked shared.acceptor shared.right in
+    let taken : Stands (Took shared.acceptor p.key r.proposal.ballot took.ride) entry.older =
+    subst (λ k. Stands (Took shared.acceptor k r.proposal.ballot took.ride) entry.older) r_key (stands_deeper took.stands acked.at) in
+    let granted = law_p.granted shared.acceptor shared.left in
+    took_before_grant cluster lawful at granted (after_entry cluster lawful at entry granted taken)
+
 -- a proposal of an era two or more before another's is under the other's link
 far_below : (cluster : Cluster) → ClusterMeets cluster → {log older before : List Happening} {p q : Proposal} → Lawful cluster log → At (Marked (Proposed p)) older log
     → At (Marked (Proposed q)) before log → q.key ≡ p.key → suc (suc q.era) ≤ p.era → BallotAtMost q.ballot (link_of (marks_of older) p)
@@ -214,17 +233,7 @@ far_below cluster meet {log} {older} {before} {p} {q} lawful at q_at same_key fa
           let r = rescan_at cluster entry.older rescanned in
           let r_era : r.proposal.era ≡ left = r.same_era in
           let high = rescan_above cluster meet left (omega arith) there r q_there refl (omega arith) in
-          let r_key : r.proposal.key ≡ p.key = r.same_key ∙ same_key in
-          let acked : AckedAt r.proposal.key r.proposal.ballot entry.older = subst (λ k. AckedAt k r.proposal.ballot entry.older) (sym r.same_key) r.acked in
-          let era = acked_era cluster there acked r.at in
-          let quorum = (ack_law cluster there acked.at).quorum in
-          let law_p = proposal_law cluster lawful at in
-          let shared = meet p.era acked.acknowledgment.era (omega arith) (omega arith) p.prepared_by acked.acknowledgment.by law_p.quorum quorum in
-          let took = took_of_acked cluster there acked shared.acceptor shared.right in
-          let taken : Stands (Took shared.acceptor p.key r.proposal.ballot took.ride) entry.older =
-          subst (λ k. Stands (Took shared.acceptor k r.proposal.ballot took.ride) entry.older) r_key (stands_deeper took.stands acked.at) in
-          let granted = law_p.granted shared.acceptor shared.left in
-          at_most_trans high (took_before_grant cluster lawful at granted (after_entry cluster lawful at entry granted taken))
+          at_most_trans high (rescan_below cluster meet lawful at entry same_key r)
       | inr collected ↦
           let floor : Stands (Floor p.key collected.floor collected.state) (marks_of older) =
           subst (λ k. Stands (Floor k collected.floor collected.state) (marks_of older)) same_key (stands_part collected.stands (part_of entry.at)) in

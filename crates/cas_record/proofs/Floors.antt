@@ -22,22 +22,20 @@ use Rattle.cas_record.proofs.Orders.{reason, orderly_older}
 clear_before : {happening : Happening} {log : List Happening} {acceptor : ℕ} {key : List ℕ} {floor : Ballot} → ((ride : Ballot) → Took acceptor key floor ride ≡ happening → ⊥)
     → IsClear (happening ∷ log) acceptor key floor → IsClear log acceptor key floor
 clear_before other (took_it ride took) = elim (newest_or took) [ inl now ↦ absurd (other ride now) | inr older ↦ took_it ride older ]
-clear_before {happening} {log} other (never_asked above) =
+clear_before {happening} {log} other (never_asked above none_taken) =
     let newest : At happening log (happening ∷ log) = here in
-    never_asked (λ request asked to round key. above request (stands_deeper asked newest) to round key)
+    never_asked (λ request asked to round key. above request (stands_deeper asked newest) to round key) (λ ballot ride took. none_taken ballot ride (stands_deeper took newest))
 
 -- what a clear acceptor takes is at or above the floor
-taken_high : (cluster : Cluster) (log : List Happening) (acceptor : ℕ) (key : List ℕ) (floor ballot ride : Ballot) → MayTake log acceptor key ballot → MayTakeBy log acceptor key ballot ride
+taken_high : (log : List Happening) (acceptor : ℕ) (key : List ℕ) (floor ballot ride : Ballot) → MayTake log acceptor key ballot
     → IsClear (Took acceptor key ballot ride ∷ log) acceptor key floor → BallotAtMost floor ballot
-taken_high cluster log acceptor key floor ballot ride take by (took_it r took) = elim (newest_or took) [
+taken_high log acceptor key floor ballot ride take (took_it r took) = elim (newest_or took) [
   | inl now ↦ let same : floor ≡ ballot = cc in subst (BallotAtMost floor) same (at_most_refl floor)
   | inr older ↦ take.seen floor (in_take r older)
 ]
-taken_high cluster log acceptor key floor ballot ride take by (never_asked above) =
-    let round : IsRoundAsk by.request.ask = subst IsRoundAsk (sym by.is) tt in
+taken_high log acceptor key floor ballot ride take (never_asked above none_taken) =
     let newest : At (Took acceptor key ballot ride) log (Took acceptor key ballot ride ∷ log) = here in
-    let high = above by.request (stands_deeper by.was_asked.asked newest) by.was_asked.to round (ap key_of by.is) in
-    at_most_of_less (subst (λ (a : Ask). BallotLess floor (tag_of a)) by.is high)
+    none_taken ballot ride (stands_at newest)
 
 pub accepted_after : (cluster : Cluster) (log : List Happening) (acceptor : ℕ) (key : List ℕ) (floor : Ballot) → Lawful cluster log → Orderly cluster log → IsClear log acceptor key floor
     → IsNoneOrAbove floor (slot_told log acceptor key).accepted
@@ -51,8 +49,7 @@ accepted_after cluster (Took a k b ride ∷ older) acceptor key floor lawful ord
       let here_clear : IsClear (Took a k b ride ∷ older) a k floor =
       subst (λ x. IsClear (Took a k b ride ∷ older) x k floor) (sym same.0) (subst (λ x. IsClear (Took a k b ride ∷ older) acceptor x floor) (sym same.1) clear) in
       let take : MayTake older a k b = lawful.1 in
-      let by : MayTakeBy older a k b ride = orderly.1 in
-      subst (λ (s : SlotTold). IsNoneOrAbove floor s.accepted) (sym (if_true (is_slot acceptor key a k) _ _ own)) (inr (taken_high cluster older a k floor b ride take by here_clear))
+      subst (λ (s : SlotTold). IsNoneOrAbove floor s.accepted) (sym (if_true (is_slot acceptor key a k) _ _ own)) (inr (taken_high older a k floor b ride take here_clear))
   | inr other ↦
       let elsewhere : (r : Ballot) → Took acceptor key floor r ≡ Took a k b ride → ⊥ =
       λ r e. let p : acceptor ≡ a = cc in let q : key ≡ k = cc in not_both (is_slot acceptor key a k) (slot_of p q) other in
@@ -77,7 +74,8 @@ clear_then cluster {acceptor = acceptor} {key = key} {floor = floor} {b = b} {to
       absurd (less_not_at_most less (take.seen b (in_promise told (stands_at after))))
   | at_one same older_same ↦ absurd cc
 ]
-clear_then cluster lawful at less (never_asked above) = never_asked (λ request asked to round key. above request (stands_deeper asked at) to round key)
+clear_then cluster lawful at less (never_asked above none_taken) =
+    never_asked (λ request asked to round key. above request (stands_deeper asked at) to round key) (λ ballot ride took. none_taken ballot ride (stands_deeper took at))
 
 -- what is told to a ballot above the floor is nothing, or at or above the floor
 pub told_after : (cluster : Cluster) {log : List Happening} {acceptor : ℕ} {key : List ℕ} {floor b told : Ballot} → Lawful cluster log → Orderly cluster log → IsClear log acceptor key floor

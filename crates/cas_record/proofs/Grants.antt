@@ -40,10 +40,12 @@ rode cluster log key ballot ride (Some other) some is may = subst (MayRide log k
 
 pub granted_ride : (cluster : Cluster) {log : List Happening} {acceptor : ℕ} (p : Proposal) → Orderly cluster log → Stands (Drew p.ballot p.key p.era) log → (p.ballot ≡ zero_ballot → ⊥)
     → Stands (Took acceptor p.key p.read p.ballot) log → Granted log acceptor p
-granted_ride cluster {acceptor = acceptor} p orderly drawn some took =
-    let by : MayTakeBy took.older acceptor p.key p.read p.ballot = reason cluster orderly took.at in
-    let asked = by.was_asked.asked in
-    let may : MayAsk cluster asked.older by.request by.request.ask = reason cluster orderly (deeper asked.at took.at) in
-    let accept : MayAsk cluster asked.older by.request (ask.Accept p.key p.read by.era by.rides by.state) = subst (MayAsk cluster asked.older by.request) by.is may in
-    let ride = rode cluster asked.older p.key p.read p.ballot by.rides some by.ride_is accept.2 in
-    by_ride took (drawn_in cluster orderly drawn took.at (stands_deeper ride.drawn asked.at))
+granted_ride cluster {acceptor = acceptor} p orderly drawn some took = elim (reason cluster orderly took.at) [
+  | inl by ↦
+      let asked = by.was_asked.asked in
+      let may : MayAsk cluster asked.older by.request by.request.ask = reason cluster orderly (deeper asked.at took.at) in
+      let accept : MayAsk cluster asked.older by.request (ask.Accept p.key p.read by.era by.rides by.state) = subst (MayAsk cluster asked.older by.request) by.is may in
+      let ride = rode cluster asked.older p.key p.read p.ballot by.rides some by.ride_is accept.2 in
+      by_ride took (drawn_in cluster orderly drawn took.at (stands_deeper ride.drawn asked.at))
+  | inr first ↦ absurd (some first.no_ride)
+]

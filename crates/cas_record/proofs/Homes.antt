@@ -16,9 +16,6 @@ or_some a b x is = ap (λ o. option_or o b) is
 pub or_none : {A : Type 0} (a b : Option A) → a ≡ None → option_or a b ≡ b
 or_none a b is = ap (λ o. option_or o b) is
 
-pub or_both : {A : Type 0} (a b : Option A) → a ≡ None → b ≡ None → option_or a b ≡ None
-or_both a b is other = or_none a b is ∙ other
-
 -- what may be there is there, or not
 pub there_or_not : {A : Type 0} (a : Option A) → ((x : A) × (a ≡ Some x)) ⊎ (a ≡ None)
 there_or_not None = inr refl

@@ -6,10 +6,12 @@ use Rattle.cas_record.specs.declared.mark.Mark.TheVariants.{Proposed}
 use Rattle.cas_record.specs.declared.mark.Proposal.{Proposal}
 use Rattle.cas_record.specs.Places.{Stands, IsOlderPart, whole, later}
 use Rattle.cas_record.specs.Happening.{Happening, Entered, marks_of}
-use Rattle.cas_record.specs.Lawful.{Cluster, Lawful, AllEntered, IsRescanned, MayLeave}
+use Rattle.cas_record.specs.Lawful.{Cluster, Lawful, HasOpening, AllEntered, IsRescanned, MayLeave}
 use Rattle.cas_record.proofs.PlaceLemmas.{stands_at, at_part, stands_part, newest_or}
 use Rattle.cas_record.proofs.LogLemmas.{mark_at, in_log}
+use Rattle.cas_record.proofs.Eras.{entered_of_mark}
 use Rattle.cas_record.proofs.Listings.{marks_part, proposed_before}
+use Rattle.cas_record.proofs.Openings.{opening_older}
 
 -- a proposal of an era before one that all have entered stood already
 old_proposal : (cluster : Cluster) (happening : Happening) (log : List Happening) {p : Proposal} {era : ℕ} → Lawful cluster (happening ∷ log) → AllEntered cluster era (marks_of log)
@@ -48,5 +50,11 @@ may_leave_more cluster happening {log} {proposer} {left} lawful other may =
               stands = stands_part collected.stands part;
               above = λ {p = q} there same before. collected.above (old_proposal cluster happening log lawful entered there before) same before;
             })
+          ];
+      openings = λ {key} {floor} opening some.
+          let entered = entered_of_mark cluster log lawful.0 (may.all_in some 0 (omega arith)) in
+          elim (may.openings (opening_older entered opening) some) [
+            | inl rescanned ↦ inl (rescanned_part part rescanned)
+            | inr above ↦ inr (record { floor = above.floor; state = above.state; stands = stands_part above.stands part; above = above.above })
           ];
     }

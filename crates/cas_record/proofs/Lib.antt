@@ -7,7 +7,6 @@ pub mod CallLemmas
 pub mod LegalLemmas
 pub mod Eras
 pub mod LawLemmas
-pub mod ScanLemmas
 pub mod Homes
 pub mod Positions
 pub mod RowLemmas
@@ -26,6 +25,8 @@ pub mod Grants
 pub mod Floors
 pub mod LinkLemmas
 pub mod Listings
+pub mod Openings
 pub mod Leaving
 pub mod Clusters
 pub mod Reasons
+pub mod Removals

@@ -71,8 +71,6 @@ listed_named key marks listed = elim (there_or_not (home_of key marks)) [
 ]
 
 -- ---- the first row after a key
-pub first_of_all : (rows : List Row) (marks : List Mark) → IsFirstAfter None rows marks 0
-first_of_all rows marks = record { before = λ j row key low is own after. omega (arith, low); beyond = λ j row key from is own. tt }
 
 -- one row more that is not of a listed key
 pub unlisted_more : (rows : List Row) (marks : List Mark) (from at : ℕ) → AreUnlisted rows marks from at

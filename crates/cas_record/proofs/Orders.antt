@@ -13,7 +13,8 @@ use Rattle.cas_slot.specs.Ages.{least_age}
 use Rattle.cas_slot.specs.Message.{tag_of}
 use Rattle.cas_slot.specs.Rules.{key_of}
 use Rattle.cas_record.specs.Places.{At, Stands, here, past}
-use Rattle.cas_record.specs.Legal.{HasFloor}
+use Rattle.cas_record.specs.declared.mark.Mark.TheVariants.{Floor}
+use Rattle.cas_record.specs.Legal.{HasFloor, IsAcked}
 use Rattle.cas_record.specs.Happening.{Happening, Asked, Dropped, Drew, Raised, marks_of}
 use Rattle.cas_record.specs.Lawful.{Cluster}
 use Rattle.cas_record.specs.Orderly.{age_told, MayDraw, IsRoundAsk, MayAskFor, IsAgedOut, MayAsk, WasAsked, MayDropBy, HasReason, Orderly}
@@ -70,6 +71,27 @@ not_remove request other key tomb is round same =
     let same_request : other ≡ request = cc in
     subst IsRoundAsk (sym (ap (λ (r : Request). r.ask) same_request) ∙ is) round
 
+-- once an acceptor was asked to remove the key's slot at a tombstone, what it may answer of a round of the key is above that
+pub removed_above : (cluster : Cluster) {log older : List Happening} {acceptor : ℕ} {key : List ℕ} {tomb : Ballot} {request removal : Request} → Orderly cluster log → At (Asked removal) older log
+    → removal.ask ≡ ask.Remove key tomb → removal.to ≡ acceptor → WasAsked log acceptor request → IsRoundAsk request.ask → key_of request.ask ≡ key → BallotLess tomb (tag_of request.ask)
+removed_above cluster {log} {older} {acceptor} {key} {tomb} {request} {removal} orderly at is to was round same =
+    let may : MayAsk cluster older removal removal.ask = reason cluster orderly at in
+    let remove : HasFloor key tomb (marks_of older) × IsAcked key tomb (marks_of older) × IsAgedOut older removal.to key tomb = subst (MayAsk cluster older removal) is may in
+    elim (order was.asked.at at) [
+      | older_than before ↦ elim (at_most_or_less (tag_of request.ask) tomb) [
+        | inl low ↦
+            let young : request.age < age_told older removal.to request.from = remove.2.aged request (stands_at before) (was.to ∙ sym to) round same low in
+            let grown : age_told older acceptor request.from ≤ age_told log acceptor request.from = age_later log acceptor request.from at in
+            let young_here : request.age < age_told older acceptor request.from = subst (λ (a : ℕ). request.age < age_told older a request.from) to young in
+            absurd (omega (arith, was.age, grown, young_here))
+        | inr high ↦ high
+      ]
+      | newer_than after ↦
+          let ask_for = round_asked cluster was.asked.older request request.ask round (reason cluster orderly was.asked.at) in
+          ask_for.above.above (subst (λ (k : List ℕ). Stands (Floor k tomb remove.0.state) (marks_of was.asked.older)) (sym same) (stands_part remove.0.stands (part_of after)))
+      | at_one one older_same ↦ absurd (not_remove request removal key tomb is round (sym one))
+    ]
+
 -- an acceptor that may answer a request of a round has removed the key's slot only below the request's ballot
 pub above_dropped : (cluster : Cluster) {log : List Happening} {acceptor : ℕ} {request : Request} → Orderly cluster log → WasAsked log acceptor request → IsRoundAsk request.ask
     → IsAboveDropped log acceptor (key_of request.ask) (tag_of request.ask)
@@ -77,24 +99,5 @@ above_dropped cluster {log} {acceptor} {request} orderly was round = record { ab
   where
     above : (tomb : Ballot) → Stands (Dropped acceptor (key_of request.ask) tomb) log → BallotLess tomb (tag_of request.ask)
     above tomb dropped =
-        let key = key_of request.ask in
-        let drop : MayDropBy dropped.older acceptor key tomb = reason cluster orderly dropped.at in
-        let asked = drop.was_asked.asked in
-        let asked_at = deeper asked.at dropped.at in
-        let may : MayAsk cluster asked.older drop.request drop.request.ask = reason cluster orderly asked_at in
-        let remove : HasFloor key tomb (marks_of asked.older) × IsAgedOut asked.older drop.request.to key tomb = subst (MayAsk cluster asked.older drop.request) drop.is may in
-        elim (order was.asked.at asked_at) [
-          | older_than before ↦ elim (at_most_or_less (tag_of request.ask) tomb) [
-            | inl low ↦
-                let to : request.to ≡ drop.request.to = was.to ∙ sym drop.was_asked.to in
-                let young : request.age < age_told asked.older drop.request.to request.from = remove.1.aged request (stands_at before) to round refl low in
-                let grown : age_told asked.older acceptor request.from ≤ age_told log acceptor request.from = age_later log acceptor request.from asked_at in
-                let young_here : request.age < age_told asked.older acceptor request.from = subst (λ (a : ℕ). request.age < age_told asked.older a request.from) drop.was_asked.to young in
-                absurd (omega (arith, was.age, grown, young_here))
-            | inr high ↦ high
-          ]
-          | newer_than after ↦
-              let ask_for = round_asked cluster was.asked.older request request.ask round (reason cluster orderly was.asked.at) in
-              ask_for.above.above (stands_part remove.0.stands (part_of after))
-          | at_one same older_same ↦ absurd (not_remove request drop.request key tomb drop.is round (sym same))
-        ]
+        let drop : MayDropBy dropped.older acceptor (key_of request.ask) tomb = reason cluster orderly dropped.at in
+        removed_above cluster orderly (deeper drop.was_asked.asked.at dropped.at) drop.is drop.was_asked.to was round refl

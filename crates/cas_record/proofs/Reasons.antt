@@ -33,7 +33,7 @@ use Rattle.cas_record.specs.Orderly.{age_told, IsAboveFloors, MayDraw, IsRoundAs
 use Rattle.cas_record.proofs.PlaceLemmas.{stands_at}
 use Rattle.cas_record.proofs.Tests.{key_same, key_is, key_refl, ballot_same, ballot_is, nat_same, nat_is, slot_same}
 use Rattle.cas_record.proofs.ChainLemmas.{has_proposal_tells}
-use Rattle.cas_record.proofs.Checks.{each_place, some_place, each_at, found, some_is, implies, use_implies, at_most, at_most_tells, less, less_of, le_tells, is_floor_at, floor_by, check_in, in_checked, up_to, up_to_at, is_above_floor, is_vote, vote_by}
+use Rattle.cas_record.proofs.Checks.{each_place, some_place, each_at, found, some_is, implies, use_implies, at_most, at_most_tells, less, less_of, le_tells, is_floor_at, floor_by, check_in, in_checked, up_to, up_to_at, is_above_floor, check_acked, acked_checked, is_vote, vote_by}
 
 at_most_is : {a b : Ballot} → BallotAtMost a b → at_most a b ≡ true
 at_most_is low = not_of_false _ (not_lt_of_at_most low)
@@ -155,7 +155,7 @@ aged_checked log acceptor key tomb e = record {
 abbrev pub check_ask : Cluster → List Happening → Request → Ask → Bool
 check_ask cluster log request (ask.Prepare key ballot) = check_ask_for cluster log request key ballot
 check_ask cluster log request (ask.Accept key ballot era ride state) = check_ask_for cluster log request key ballot && (has_proposal key ballot (marks_of log) && check_ride log key ballot ride)
-check_ask cluster log request (ask.Remove key tomb) = some_place (is_floor_at key tomb) (marks_of log) && each_place (is_aged log request.to key tomb) log
+check_ask cluster log request (ask.Remove key tomb) = some_place (is_floor_at key tomb) (marks_of log) && (check_acked key tomb (marks_of log) && each_place (is_aged log request.to key tomb) log)
 check_ask cluster log request (ask.List tag after) = check_ask_for cluster log request [] tag
 check_ask cluster log request (ask.Probe tag key) = check_ask_for cluster log request [] tag
 check_ask cluster log request other = true
@@ -170,7 +170,11 @@ ask_checked cluster log request (ask.Accept key ballot era ride state) e =
     )
 ask_checked cluster log request (ask.Remove key tomb) e =
     let f = found (is_floor_at key tomb) (marks_of log) (and_left (some_place (is_floor_at key tomb) (marks_of log)) _ e) in
-    (floor_by f.x f.older f.at f.passes, aged_checked log request.to key tomb (and_right (some_place (is_floor_at key tomb) (marks_of log)) _ e))
+    let rest = and_right (some_place (is_floor_at key tomb) (marks_of log)) _ e in (
+      floor_by f.x f.older f.at f.passes,
+      acked_checked key tomb (marks_of log) (and_left (check_acked key tomb (marks_of log)) _ rest),
+      aged_checked log request.to key tomb (and_right (check_acked key tomb (marks_of log)) _ rest),
+    )
 ask_checked cluster log request (ask.List tag after) e = ask_for_checked cluster log request [] tag e
 ask_checked cluster log request (ask.Probe tag key) e = ask_for_checked cluster log request [] tag e
 ask_checked cluster log request other e = tt
@@ -490,7 +494,7 @@ reason_checked : (cluster : Cluster) (log : List Happening) (h : Happening) → 
 reason_checked cluster log (Drew ballot key era) e = draw_checked cluster log ballot key era e
 reason_checked cluster log (Asked request) e = ask_checked cluster log request request.ask e
 reason_checked cluster log (Promised acceptor key ballot told) e = promise_by_checked log acceptor key ballot told e
-reason_checked cluster log (Took acceptor key ballot ride) e = take_by_checked log acceptor key ballot ride e
+reason_checked cluster log (Took acceptor key ballot ride) e = inl (take_by_checked log acceptor key ballot ride e)
 reason_checked cluster log (Dropped acceptor key tomb) e = drop_by_checked log acceptor key tomb e
 reason_checked cluster log (Replied request reply) e = reply_checked log request reply e
 reason_checked cluster log other e = tt

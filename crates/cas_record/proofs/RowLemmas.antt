@@ -12,7 +12,6 @@ use Rattle.std.proofs.lemmas.List.{length-reverse, reverse-reverse}
 use Rattle.std.proofs.lemmas.List.Sorted.{IsNonDecreasingBy-from_default}
 use Rattle.std.proofs.lemmas.List.Edits.{length-insert, get_or-insert_below, get_or-insert_at, get_or-insert_above}
 use Rattle.std.proofs.lemmas.Bool.{cases_lt}
-use Rattle.std.proofs.lemmas.Option.{slice_get-get_or}
 use mathlib.Core.Logic.{inl, inr}
 use Rattle.cas_base.proofs.Bools.{true_or_false, if_false, left_false, some_is, not_both, false_of_not}
 use Rattle.cas_record.specs.declared.mark.Mark.{Mark}
@@ -20,7 +19,7 @@ use Rattle.cas_record.specs.declared.mark.Mark.TheVariants.{Begun, Proposed, Ack
 use Rattle.cas_record.specs.declared.row.Row.{Row}
 use Rattle.cas_record.specs.Chain.{is_key, has_calls}
 use Rattle.cas_record.specs.Index.{named_by, names, key_at, home_of, TellsOf, IsRowOf, KeyLess}
-use Rattle.cas_record.specs.Tables.{row_cmp, AreRowsOf, HasRows, IsPlaceFor, IsGapFor, IsSearched, IsRowFor}
+use Rattle.cas_record.specs.Tables.{row_cmp, AreRowsOf, HasRows, IsPlaceFor, IsGapFor, IsSearched}
 use Rattle.cas_record.proofs.Tests.{key_same, nat_same, nat_is}
 use Rattle.cas_record.proofs.Homes.{there_or_not, names_one, home_cases, one_home, home_same, homeless}
 use Rattle.cas_record.proofs.Positions.{got, gets, get_front, get_last, read_more, made_more}
@@ -179,12 +178,6 @@ pub equal_is : (o : Ordering) → is_eq o ≡ true → o ≡ Equal
 equal_is Less e = absurd cc
 equal_is Equal e = refl
 equal_is Greater e = absurd cc
-
--- the row that a search found
-pub found_row : (key : List ℕ) (rows : List Row) (marks : List Mark) (at : ℕ) → IsPlaceFor key rows marks at → IsRowFor key marks (slice_get rows at)
-found_row key rows marks at place =
-    let there = slice_get-get_or rows at no_row place.within in
-    subst (IsRowFor key marks) (sym there) (place.own (get_or rows at no_row) there)
 
 -- ---- rows with one mark more
 same_or_not : (p q : ℕ) → (p ≡ q) ⊎ (p ≡ q → ⊥)

@@ -133,10 +133,6 @@ stands_here tables key b marks row are is =
     ap (λ (t : Bool). if t && not (is_some (get same_spot tables.openings (row.home, b))) then Some b else None) found
     ∙ ap (λ (t : Bool). if has_proposal key b (reverse marks) && not t then Some b else None) shut
 
--- a row's floor
-pub row_floor : (key : List ℕ) (marks : List Mark) (row : Row) → IsRowOf key (reverse marks) row → floor_at key (reverse marks) ≡ row.floor
-row_floor key marks row is = sym is.tells.floor
-
 -- a key that no mark names has no floor
 pub floor_of_none : (key : List ℕ) (marks : List Mark) → home_of key marks ≡ None → floor_at key marks ≡ None
 floor_of_none key marks gone = sym (tells_none key marks no_row gone refl refl refl).floor

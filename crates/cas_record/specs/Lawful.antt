@@ -102,6 +102,28 @@ pub record MayDrop (log : List Happening) (acceptor : ℕ) (key : List ℕ) (tom
   pub holds : (slot_told log acceptor key).accepted ≡ tombstone
   pub promise : BallotAtMost (slot_told log acceptor key).promise tombstone
 
+-- ---- opening floors
+-- nothing happened but that floors were marked and taken
+abbrev pub AreFirst : List Happening → Type 0
+AreFirst [] = ⊤
+AreFirst (Marked (Floor key floor state) ∷ older) = AreFirst older
+AreFirst (Took acceptor key ballot ride ∷ older) = AreFirst older
+AreFirst (other ∷ older) = ⊥
+
+-- the history of the key opened with this floor: it was marked before all that is no floor
+pub record HasOpening (key : List ℕ) (floor : Ballot) (log : List Happening) : Type 0 where
+  pub state : State
+  pub older : List Happening
+  pub at : At (Marked (Floor key floor state)) older log
+  pub first : AreFirst older
+
+-- a floor of the key is above the ballot
+pub record HasFloorAbove (key : List ℕ) (ballot : Ballot) (marks : List Mark) : Type 0 where
+  pub floor : Ballot
+  pub state : State
+  pub stands : Stands (Floor key floor state) marks
+  pub above : BallotLess ballot floor
+
 -- ---- eras
 -- the proposer is in the era; all are in era 0 from the beginning
 abbrev pub IsIn : List Happening → ℕ → ℕ → Type 0
@@ -129,13 +151,15 @@ pub record IsCollected (era : ℕ) (key : List ℕ) (marks : List Mark) : Type 0
   pub above : {p : Proposal} → Stands (Proposed p) marks → p.key ≡ key → p.era < era → BallotAtMost p.ballot floor
 
 -- the era after `left` may be entered once, by a proposer that is known, when all are in `left` and each key that was
--- proposed in an earlier era is rescanned in `left` or collected
+-- proposed in an earlier era is rescanned in `left` or collected; and so is, from era 1 on, each key with an opening floor
 pub record MayLeave (cluster : Cluster) (log : List Happening) (proposer left : ℕ) : Type 0 where
   pub known : proposer ≤ cluster.greatest
   pub once : Stands (Entered proposer (suc left)) log → ⊥
   pub all_in : 0 < left → AllEntered cluster left (marks_of log)
   pub stones : {p : Proposal} → Stands (Proposed p) (marks_of log) → p.era < left
       → IsRescanned cluster left p.key (marks_of log) ⊎ IsCollected left p.key (marks_of log)
+  pub openings : {key : List ℕ} {floor : Ballot} → HasOpening key floor log → 0 < left
+      → IsRescanned cluster left key (marks_of log) ⊎ HasFloorAbove key floor (marks_of log)
 
 pub record MayEnter (cluster : Cluster) (log : List Happening) (proposer era : ℕ) : Type 0 where
   pub left : ℕ

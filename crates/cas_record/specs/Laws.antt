@@ -13,7 +13,7 @@ use Rattle.cas_record.specs.Places.{Stands, IsOlderPart, IsPrefix}
 use Rattle.cas_record.specs.Chain.{has_opening, link_of, chain_of, settled_of}
 use Rattle.cas_record.specs.Legal.{HasFloor, IsLegal}
 use Rattle.cas_record.specs.Happening.{Happening, Promised, Took, Dropped, Entered, Drew, marks_of}
-use Rattle.cas_record.specs.Lawful.{Cluster, ClusterMeets, IsWidened, AllEntered, IsRescanned, IsCollected, MayLeave, Granted, Lawful, MayVote}
+use Rattle.cas_record.specs.Lawful.{Cluster, ClusterMeets, IsWidened, HasOpening, HasFloorAbove, AllEntered, IsRescanned, IsCollected, MayLeave, MayPropose, Granted, Lawful, MayVote}
 use Rattle.cas_record.specs.Listing.{WasAbsent}
 use Rattle.cas_record.specs.Orderly.{IsRoundAsk, WasAsked, IsClear, IsNoneOrAbove, WasRead, Orderly}
 
@@ -78,6 +78,20 @@ LinksAreRead = (cluster : Cluster) (log : List Happening) → Lawful cluster log
     → ((acceptor : ℕ) (floor : Ballot) → has_member p.prepared_by acceptor ≡ true → HasFloor p.key floor (marks_of log) → BallotLess floor p.ballot → IsClear log acceptor p.key floor)
     → (link_of (marks_of log) p ≡ p.read) ⊎ ((p.read ≡ zero_ballot) × HasFloor p.key (link_of (marks_of log) p) (marks_of log))
 
+-- the history of the key opened with this floor, and a quorum of either kind of the first era took it then
+pub record IsOpened (cluster : Cluster) (log : List Happening) (key : List ℕ) (floor : Ballot) : Type 0 where
+  pub opening : HasOpening key floor log
+  pub some : BallotLess zero_ballot floor
+  pub by : List ℕ
+  pub prepares : cluster.prepares 0 by ≡ true
+  pub accepts : cluster.accepts 0 by ≡ true
+  pub took : (acceptor : ℕ) → has_member by acceptor ≡ true → Stands (Took acceptor key floor zero_ballot) log
+
+-- a proposal that read nothing does not go on from the floor with which the history of its key opened
+abbrev pub OpeningsAreRead : Type 0
+OpeningsAreRead = (cluster : Cluster) → ClusterMeets cluster → (log : List Happening) → Lawful cluster log → Orderly cluster log → (p : Proposal) → MayPropose cluster log p → p.read ≡ zero_ballot
+    → (floor : Ballot) → IsOpened cluster log p.key floor → link_of (marks_of log) p ≡ floor → ⊥
+
 -- ---- eras
 -- once all proposers had entered an era, each key that an accept quorum of it then had no slot of, or that was rescanned,
 -- has its stepping stone where it was proposed in an earlier era
@@ -86,6 +100,13 @@ ListingsGiveStones = (cluster : Cluster) → ClusterMeets cluster → (log : Lis
     → cluster.accepts era by ≡ true
     → ((acceptor : ℕ) (key : List ℕ) → has_member by acceptor ≡ true → IsRescanned cluster era key (marks_of log) ⊎ WasAbsent cluster era log acceptor key)
     → (p : Proposal) → Stands (Proposed p) (marks_of log) → p.era < era → IsRescanned cluster era p.key (marks_of log) ⊎ IsCollected era p.key (marks_of log)
+
+-- and so has each key whose history opened with a floor: it was rescanned in the era, or has a later floor
+abbrev pub ListingsGiveOpeningStones : Type 0
+ListingsGiveOpeningStones = (cluster : Cluster) → ClusterMeets cluster → (log : List Happening) → Lawful cluster log → Orderly cluster log → (era : ℕ) (by : List ℕ) → 0 < era
+    → AllEntered cluster era (marks_of log) → cluster.accepts era by ≡ true
+    → ((acceptor : ℕ) (key : List ℕ) → has_member by acceptor ≡ true → IsRescanned cluster era key (marks_of log) ⊎ WasAbsent cluster era log acceptor key)
+    → (key : List ℕ) (floor : Ballot) → IsOpened cluster log key floor → IsRescanned cluster era key (marks_of log) ⊎ HasFloorAbove key floor (marks_of log)
 
 -- what may be left may be left later, as long as the proposer has not left it
 abbrev pub LeavingStays : Type 0

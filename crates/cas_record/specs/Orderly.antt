@@ -23,9 +23,9 @@ use Rattle.cas_record.specs.declared.mark.Mark.TheVariants.{Floor, Voted}
 use Rattle.cas_record.specs.declared.mark.Proposal.{Proposal}
 use Rattle.cas_record.specs.Places.{Stands}
 use Rattle.cas_record.specs.Chain.{is_key}
-use Rattle.cas_record.specs.Legal.{HasProposal, HasFloor}
+use Rattle.cas_record.specs.Legal.{HasProposal, HasFloor, IsAcked}
 use Rattle.cas_record.specs.Happening.{Happening, Asked, Promised, Took, Dropped, Drew, Raised, Replied, marks_of}
-use Rattle.cas_record.specs.Lawful.{Cluster, IsIn, SlotTold, slot_told}
+use Rattle.cas_record.specs.Lawful.{Cluster, AreFirst, HasOpening, IsIn, SlotTold, slot_told}
 use Rattle.cas_record.specs.Listing.{no_slot_told}
 
 -- ---- ages
@@ -75,12 +75,12 @@ pub record IsAgedOut (log : List Happening) (acceptor : ℕ) (key : List ℕ) (t
   pub aged : (request : Request) → Stands (Asked request) log → request.to ≡ acceptor → IsRoundAsk request.ask → key_of request.ask ≡ key
       → BallotAtMost (tag_of request.ask) tombstone → request.age < age_told log acceptor request.from
 
--- a request is for a ballot that was drawn: to accept it, it was proposed; to remove a tombstone, it is a floor, and what
--- was asked at or below it is aged out
+-- a request is for a ballot that was drawn: to accept it, it was proposed; to remove a tombstone, it was acknowledged and is
+-- a floor, and what was asked at or below it is aged out
 abbrev pub MayAsk : Cluster → List Happening → Request → Ask → Type 0
 MayAsk cluster log request (ask.Prepare key ballot) = MayAskFor cluster log request key ballot
 MayAsk cluster log request (ask.Accept key ballot era ride state) = MayAskFor cluster log request key ballot × HasProposal key ballot (marks_of log) × IfSome ride (MayRide log key ballot)
-MayAsk cluster log request (ask.Remove key tomb) = HasFloor key tomb (marks_of log) × IsAgedOut log request.to key tomb
+MayAsk cluster log request (ask.Remove key tomb) = HasFloor key tomb (marks_of log) × IsAcked key tomb (marks_of log) × IsAgedOut log request.to key tomb
 MayAsk cluster log request (ask.List tag after) = MayAskFor cluster log request [] tag
 MayAsk cluster log request (ask.Probe tag key) = MayAskFor cluster log request [] tag
 MayAsk cluster log request other = ⊤
@@ -108,6 +108,13 @@ pub record MayTakeBy (log : List Happening) (acceptor : ℕ) (key : List ℕ) (b
   pub state : State
   pub is : request.ask ≡ ask.Accept key ballot era rides state
   pub ride_is : ride ≡ unwrap_or rides zero_ballot
+
+-- or it is the floor with which the key's history opened, taken by a member of the first era before all that is no floor
+pub record MayTakeFirst (cluster : Cluster) (log : List Happening) (acceptor : ℕ) (key : List ℕ) (ballot ride : Ballot) : Type 0 where
+  pub first : AreFirst log
+  pub member : has_member (cluster.members 0) acceptor ≡ true
+  pub opening : HasOpening key ballot log
+  pub no_ride : ride ≡ zero_ballot
 
 -- a slot is removed that was asked to be
 pub record MayDropBy (log : List Happening) (acceptor : ℕ) (key : List ℕ) (tombstone : Ballot) : Type 0 where
@@ -156,11 +163,11 @@ pub record MayReply (log : List Happening) (request : Request) (reply : Reply) :
 
 -- ---- floors
 -- the acceptor is clear of what was below a floor of the key: it took the floor, or it was never asked for the key at or
--- below it
+-- below it, and took nothing below it
 pub data IsClear (log : List Happening) (acceptor : ℕ) (key : List ℕ) (floor : Ballot) : Type 0 where
   took_it : (ride : Ballot) → Stands (Took acceptor key floor ride) log → IsClear log acceptor key floor
   never_asked : ((request : Request) → Stands (Asked request) log → request.to ≡ acceptor → IsRoundAsk request.ask → key_of request.ask ≡ key → BallotLess floor (tag_of request.ask))
-      → IsClear log acceptor key floor
+      → ((ballot ride : Ballot) → Stands (Took acceptor key ballot ride) log → BallotAtMost floor ballot) → IsClear log acceptor key floor
 
 -- nothing, or a ballot at or above the floor
 abbrev pub IsNoneOrAbove : Ballot → Ballot → Type 0
@@ -177,7 +184,7 @@ abbrev pub HasReason : Cluster → List Happening → Happening → Type 0
 HasReason cluster log (Drew ballot key era) = MayDraw cluster log ballot key era
 HasReason cluster log (Asked request) = MayAsk cluster log request request.ask
 HasReason cluster log (Promised acceptor key ballot told) = MayPromiseBy log acceptor key ballot told
-HasReason cluster log (Took acceptor key ballot ride) = MayTakeBy log acceptor key ballot ride
+HasReason cluster log (Took acceptor key ballot ride) = MayTakeBy log acceptor key ballot ride ⊎ MayTakeFirst cluster log acceptor key ballot ride
 HasReason cluster log (Dropped acceptor key tombstone) = MayDropBy log acceptor key tombstone
 HasReason cluster log (Replied request reply) = MayReply log request reply
 HasReason cluster log other = ⊤

@@ -5,7 +5,7 @@
 //! its reason: a ballot was drawn, a request asked for it, an acceptor did what it was asked. Both lists are read newest
 //! first.
 
-ghost use Rattle.cas_record.specs.Laws.{ChainsExtend, OpeningsAreEmpty, SettledGrows, LawfulIsLegal, EarlierIsLegal, DrawnOnce, AnswersAboveRemovals, DrawsAreGranted, FloorsAreTold, LinksAreRead, ListingsGiveStones, LeavingStays, WiderStaysLawful};
+ghost use Rattle.cas_record.specs.Laws.{ChainsExtend, OpeningsAreEmpty, SettledGrows, LawfulIsLegal, EarlierIsLegal, DrawnOnce, AnswersAboveRemovals, DrawsAreGranted, FloorsAreTold, LinksAreRead, OpeningsAreRead, ListingsGiveStones, ListingsGiveOpeningStones, LeavingStays, WiderStaysLawful};
 ghost use Rattle.cas_record.specs.Witness.{WitnessStands, WitnessIsOrderly};
 
 /// Agreement: in a lawful log the history of a ballot that an accept quorum of its era took begins the history of each
@@ -65,10 +65,22 @@ pub fn links_are_read()
     ensures { LinksAreRead }
 {}
 
+/// In a lawful and orderly log a proposal that read nothing does not go on from a floor with which the history of its key
+/// opened and that a quorum of the first era took: one of them told it what it took, or something later.
+pub fn openings_are_read()
+    ensures { OpeningsAreRead }
+{}
+
 /// In a lawful log, once all proposers are in an era, a listing by an accept quorum of it gives each key that was proposed
 /// in an earlier era its stepping stone: the key was shown and rescanned, or some acceptor had it removed.
 pub fn a_complete_listing_gives_stones()
     ensures { ListingsGiveStones }
+{}
+
+/// And so it does each key whose history opened with a floor that a quorum of the first era took: the key was rescanned, or
+/// a later floor stands.
+pub fn a_complete_listing_gives_opening_stones()
+    ensures { ListingsGiveOpeningStones }
 {}
 
 /// A proposer that may leave an era may leave it later, whatever happens meanwhile.
