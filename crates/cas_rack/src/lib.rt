@@ -1,6 +1,6 @@
 //! The disks of a cluster, and the world that is opened over them.
 //!
-//! What a disk is, and what stands on it, is said elsewhere, and so is what a world does.
+//! What a disk is is said in `cas_disk`, what stands on it in `cas_disk_shelf` and `cas_vault`, and what a world does in `cas_world`.
 #![tactic(auto)]
 
 mod rack;

@@ -26,6 +26,7 @@ use Rattle.cas_cluster.specs.StepCalls.{Sends, most_marks}
 use Rattle.cas_cluster.specs.StepCouncil.{SaysTheSame, asked_by, everyone, new_exchange, questions_to, told_view, with_council}
 use Rattle.cas_cluster.specs.View.{Meaning, View, IsAt, era_at, reserved_in_all, with_marks}
 use Rattle.cas_vault.specs.Vault.{kept_of}
+use Rattle.cas_cluster.proofs.CollectLaws.{requests_aged}
 use Rattle.cas_cluster.proofs.Places.{some_is}
 use Rattle.cas_cluster.proofs.Rescanning.{told_reserves}
 use Rattle.cas_cluster.proofs.SafeParts.{at_low, low_at}
@@ -304,4 +305,5 @@ floors_kept m view shelves disks safe is = record {
       let caller = at_low view.callers id (omega (arith, safe.sound.callers, safe.sound.desks, low_at view.desks id at)) in
       floors_passed m shelves disks view key floor id desk caller.0 is has at caller.1;
   members = λ key floor proposer id acceptor has known member at up left may. members_clear m shelves disks view key floor proposer id acceptor safe is has known member at up left may;
+  requests = λ key floor id acceptor request left has member under to round same low may. requests_aged m shelves disks view key floor id acceptor request left safe is has member under to round same low may;
 }

@@ -10,6 +10,7 @@ pub mod Gathers
 pub mod Lists
 pub mod Moving
 pub mod Openings
+pub mod OpeningsOn
 pub mod Parts
 pub mod Planning
 pub mod Proposes

@@ -81,7 +81,7 @@ fresh_desk {S} {V} m faults id disk desk over = record {
 }
 
 -- ---- callers
-fresh_callers : (n : ℕ) (callers : List Caller) → callers ≡ replicate n unbegun → (id : ℕ) (caller : CallerView) → IsAt (map caller_view callers) id caller → caller ≡ new_caller
+pub fresh_callers : (n : ℕ) (callers : List Caller) → callers ≡ replicate n unbegun → (id : ℕ) (caller : CallerView) → IsAt (map caller_view callers) id caller → caller ≡ new_caller
 fresh_callers n callers is id caller at =
     let low : id < length callers = omega (arith, slice_get_within (map caller_view callers) id caller at, length-map callers caller_view) in
     let found = at_low callers id low in
@@ -90,7 +90,7 @@ fresh_callers n callers is id caller at =
     let same : caller ≡ caller_view found.0 = cc seen in
     same ∙ ap caller_view one
 
-none_reserved : (callers : List CallerView) → ((id : ℕ) (caller : CallerView) → IsAt callers id caller → caller ≡ new_caller) → reserved_of callers ≡ 0
+pub none_reserved : (callers : List CallerView) → ((id : ℕ) (caller : CallerView) → IsAt callers id caller → caller ≡ new_caller) → reserved_of callers ≡ 0
 none_reserved [] fresh = refl
 none_reserved (caller ∷ callers) fresh = omega (arith, ap (λ (c : CallerView). reserved_in c.call) (fresh 0 caller refl), none_reserved callers (λ id c at. fresh (suc id) c at))
 

@@ -16,11 +16,11 @@ use Rattle.cas_record.specs.declared.operator.OpAnswer.TheVariants as op
 use Rattle.cas_cluster.specs.Collection.{CollectionView}
 use Rattle.cas_cluster.specs.Council.{ListingView, OrderView, PlanView, silent_order, told_so}
 use Rattle.cas_cluster.specs.Course as course
-use Rattle.cas_cluster.specs.Course.{IsMoving, IsSettled, IsStart, IsWhole, WorksIn, base_of, course_of, entering, entries_in, next_era}
+use Rattle.cas_cluster.specs.Course.{IsMoving, IsSettled, IsStart, IsWhole, WorksIn, base_of, course_of, entering, entries_in}
 use Rattle.cas_cluster.specs.Course.{IsUnderWay as IsOnCourse}
 use Rattle.cas_cluster.specs.Safe.{IsListingSafe, IsRoundSafe, IsSafe}
 use Rattle.cas_cluster.specs.Step as step
-use Rattle.cas_cluster.specs.Step.{Step, StepRestartAcceptor}
+use Rattle.cas_cluster.specs.Step.{Step}
 use Rattle.cas_cluster.specs.StepCouncil.{SaysTheSame, told_view}
 use Rattle.cas_cluster.specs.StepPlans as plans
 use Rattle.cas_cluster.specs.StepPlans.{EntersNext, IsPlanned, OpensPlan, StepEnterEra, StepOpenPlan, Welcomes, new_plan, opened_plan}
@@ -34,7 +34,7 @@ use Rattle.cas_calls.specs.declared.call.OpenCall.{OpenCall}
 use Rattle.cas_record.specs.declared.operator.Asked.TheVariants as to_do
 use Rattle.cas_calls.specs.Council.{due_key, first_of, first_where}
 use Rattle.cas_world.specs.Exchange.{WasToldOrder}
-use Rattle.cas_world.specs.Plans.{IsAtEnd, IsUnderWay, MayEnter, MayOpenPlan, asked_to, entrant_of, planned_by, step_of}
+use Rattle.cas_world.specs.Plans.{IsAtEnd, IsUnderWay, MayEnter, MayOpenPlan, asked_to, planned_by, step_of}
 use Rattle.cas_world.specs.declared.plans.PlanKind.{PlanKind}
 use Rattle.cas_world.specs.declared.plans.PlanKind.TheVariants.{Join, Leave}
 
@@ -159,17 +159,6 @@ entrant_known {S} {V} view proposer safe may =
 
 entered_low : {S V : Type 0} (view : View S V) (plan : PlanView) → IsSafe view → view.council.plan ≡ Some plan → IsMoving (course_of view) plan
 entered_low {S} {V} view plan safe is = subst (λ (o : Option PlanView). IsOnCourse (course_of view) o) is safe.course.under_way
-
-pub entrant_low : {S V : Type 0} (view : View S V) (proposer : ℕ) → IsSafe view → entrant_of view.council.plan ≡ Some proposer → proposer ≤ view.greatest
-entrant_low {S} {V} view proposer safe due = by_plan view.council.plan refl due
-  where
-    by_next : (plan : PlanView) → view.council.plan ≡ Some plan → (next : Option Era) → option_map (λ (era : Era). plan.entered) next ≡ Some proposer → proposer ≤ view.greatest
-    by_next plan is None due = absurd (cc due)
-    by_next plan is (Some era) due = omega (arith, (entered_low view plan safe is).some_left, some_is due)
-
-    by_plan : (plan : Option PlanView) → view.council.plan ≡ plan → entrant_of plan ≡ Some proposer → proposer ≤ view.greatest
-    by_plan None is due = absurd (cc due)
-    by_plan (Some plan) is due = by_next plan is (next_era (Some plan)) due
 
 -- ---- the end of a change
 pub at_end : {S V : Type 0} (view : View S V) → IsSafe view → step_of view.council.plan ≡ Some Finished → IsAtEnd view

@@ -1,13 +1,15 @@
 -- A collection, as a world's calls begin its own call, end it, and lead the collection on.
-use Rattle.std.specs.Prelude.{◌≡◌, ◌⊎◌, ℕ, ◌≤◌, ◌++◌, ◌∷◌, Bool, true, false, List, [], Option, None, Some, Result, Ok, Err, reverse}
+use Rattle.std.specs.Prelude.{◌≡◌, ◌⊎◌, ℕ, ◌<◌, ◌≤◌, ◌++◌, ◌∷◌, Bool, true, false, List, [], Option, None, Some, Result, Ok, Err, reverse}
 use Rattle.cas_acceptor.specs.Acceptor.{AcceptorView}
 use Rattle.cas_ballot.specs.declared.ballot.Ballot.{Ballot}
+use Rattle.cas_ballot.specs.Ballot.{BallotAtMost}
 use Rattle.cas_ballot.specs.Members.{has_member}
 use Rattle.cas_change.specs.declared.state.Body.{Body}
 use Rattle.cas_change.specs.declared.state.State.TheVariants.{Held}
 use Rattle.cas_collect.specs.declared.collect.CollectStep.{CollectStep}
-use Rattle.cas_collect.specs.declared.collect.CollectStep.TheVariants.{Renew}
+use Rattle.cas_collect.specs.declared.collect.CollectStep.TheVariants.{End, Renew}
 use Rattle.cas_flow.specs.Flow.{FlowView}
+use Rattle.cas_flow.specs.declared.message.Message.TheVariants as message
 use Rattle.cas_proposer.specs.Desk.{DeskView}
 use Rattle.cas_proposer.specs.Round.{has_quorum, latest_in, IsReadOf}
 use Rattle.cas_proposer.specs.declared.round.Round.{Round}
@@ -17,8 +19,12 @@ use Rattle.cas_record.specs.declared.operator.Asked.TheVariants.{Collect}
 use Rattle.cas_record.specs.declared.operator.OpAnswer.{OpAnswer}
 use Rattle.cas_record.specs.declared.operator.OpAnswer.TheVariants as op
 use Rattle.cas_record.specs.Legal.{HasFloor}
-use Rattle.cas_record.specs.Orderly.{IsNoneOrAbove}
+use Rattle.cas_record.specs.Orderly.{IsNoneOrAbove, IsRoundAsk}
+use Rattle.cas_slot.specs.Ages.{least_age}
 use Rattle.cas_slot.specs.Contents.{Contents}
+use Rattle.cas_slot.specs.Message.{tag_of}
+use Rattle.cas_slot.specs.Rules.{key_of}
+use Rattle.cas_slot.specs.declared.message.Request.{Request}
 use Rattle.cas_slot.specs.Slot.{accepted_ballot}
 use Rattle.cas_slot.specs.Table.{accepted_at}
 use Rattle.cas_slot.specs.declared.slot.Accepted.{Accepted}
@@ -26,9 +32,11 @@ use Rattle.cas_vault.specs.declared.error.VaultError.{VaultError}
 use Rattle.cas_vault.specs.declared.error.VaultError.TheVariants as error
 use Rattle.cas_cluster.specs.Collection.{CollectionView, course_stepped, confirmed_step}
 use Rattle.cas_cluster.specs.Council as cluster
-use Rattle.cas_cluster.specs.Council.{OrderView, PlanView, telling, hushed}
+use Rattle.cas_cluster.specs.CollectLaws.{IsMemberUp, IsRemovalDone, IsUnderWay}
+use Rattle.cas_cluster.specs.Council.{ExchangeView, OrderView, PlanView, telling, hushed}
 use Rattle.cas_cluster.specs.Proposers.{state_read}
 use Rattle.cas_cluster.specs.Protocol.{is_done}
+use Rattle.cas_cluster.specs.Safe.{is_of_collection}
 use Rattle.cas_cluster.specs.Step.{Step, Count, CountCollect}
 use Rattle.cas_cluster.specs.StepCalls.{IsFull}
 use Rattle.cas_cluster.specs.StepCollect.{IsCollecting}
@@ -123,12 +131,20 @@ pub record GoesOnCollecting {S V : Type 0} (old new : View S V) : Type 0 where
   pub course : next.course ≡ course_stepped collection.course
 
 -- Each floor that is marked is past: no proposer draws a ballot at or below it, whatever a crash leaves of its vault, and what it holds of the
--- key is above it; and no member that is up has a state of the key below it, whatever a crash leaves of its shelf.
+-- key is above it; no member that is up has a state of the key below it, whatever a crash leaves of its shelf; and what is under way to such a
+-- member for the key, at or below the floor, is too old for it.
 pub record AreFloorsPassed {S V : Type 0} (m : Meaning S V) (view : View S V) : Type 0 where
   pub proposers : (key : List ℕ) (floor : Ballot) (id : ℕ) (desk : DeskView V) → HasFloor key floor (reverse view.marks) → IsAt view.desks id desk → IsPastFloor m desk key floor
   pub members : (key : List ℕ) (floor : Ballot) (proposer id : ℕ) (acceptor : AcceptorView S) → HasFloor key floor (reverse view.marks) → proposer ≤ view.greatest
       → (has_member (era_at view proposer).prep id ≡ true) ⊎ (has_member (era_at view proposer).acc id ≡ true) → IsAt view.acceptors id acceptor → acceptor.down ≡ false
       → (left : Contents) → m.shelves.may_leave acceptor.shelf (Ok left) → IsNoneOrAbove floor (accepted_ballot (accepted_at left key))
+  pub requests : (key : List ℕ) (floor : Ballot) (id : ℕ) (acceptor : AcceptorView S) (request : Request) (left : Contents) → HasFloor key floor (reverse view.marks) → IsMemberUp view id acceptor → IsUnderWay view (message.Request request)
+      → request.to ≡ id → IsRoundAsk request.ask → key_of request.ask ≡ key → BallotAtMost (tag_of request.ask) floor → m.shelves.may_leave acceptor.shelf (Ok left) → request.age < least_age left.ages request.from
+
+-- Where what all members told to a removal brings a collection to its end, the removal is done.
+abbrev pub AreRemovalsDone : {S V : Type 0} → Meaning S V → View S V → View S V → Type 0
+AreRemovalsDone m old new = (exchange : ExchangeView) (collection : CollectionView) → old.council.exchange ≡ Some exchange → is_of_collection exchange.question ≡ true → new.council.collection ≡ Some collection → collection.course.step ≡ End
+    → IsRemovalDone m old exchange collection
 
 -- a proposer is renewed to that age, or is not
 pub data MarksRenewal (id : ℕ) (renewed : Result ℕ VaultError) (old new : cluster.Council) (flow flow_now : FlowView) (result : Result ℕ OpAnswer) : Type 0 where

@@ -4,6 +4,7 @@ pub mod Count
 pub mod Exchange
 pub mod Moving
 pub mod Opening
+pub mod OpeningOn
 pub mod Plans
 pub mod Readers
 pub mod Reading

@@ -44,6 +44,7 @@ disks_of desks = map (λ desk. disk_of desk.vault) desks
 abbrev pub IsFaultOf : ℕ → ℕ → ℕ → OpenFault → Type 0
 IsFaultOf number old new (DiskFault disk) = (disk ≡ number) × Rose old new
 IsFaultOf number old new NoMemory = Unit {0}
+IsFaultOf number old new other = ⊥
 
 -- the same where a shelf tells why it did not start
 abbrev pub fault_of_shelf : ℕ → ShelfFault → OpenFault

@@ -1,5 +1,5 @@
 -- Changes of membership, as a world's calls begin them and lead proposers on.
-use Rattle.std.specs.Prelude.{◌≡◌, ⊤, ℕ, false, List, [], Option, None, Some, Result, option_map}
+use Rattle.std.specs.Prelude.{◌≡◌, ℕ, false, List, [], Option, None, Some, Result, option_map}
 use Rattle.cas_members.specs.declared.plan.PlanStep.{PlanStep}
 use Rattle.cas_members.specs.Plan.{next_of, join_of, leave_of}
 use Rattle.cas_members.specs.Steps.{Progress}
@@ -103,9 +103,3 @@ pub data MayTell {S V : Type 0} (view : View S V) (answer : OpAnswer) : Type 0 w
   was_told : WasToldOrder view answer → MayTell view answer
   has_finished : HasFinished view answer → MayTell view answer
   has_collected : HasCollectedAll view answer → MayTell view answer
-
--- it tells that a change is at its end
-abbrev pub IsEnd : OpAnswer → Type 0
-IsEnd (op.Joined id era rescanned) = ⊤
-IsEnd (op.Left id era rescanned) = ⊤
-IsEnd other = ⊥

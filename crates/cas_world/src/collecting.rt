@@ -3,6 +3,7 @@
 ghost use Rattle.std.specs.Prelude.{◌≡◌, ◌⊎◌, None, IsSome, IfOk, IfErr, OnOk, OnErr};
 ghost use Rattle.cas_collect.specs.declared.collect.CollectStep.TheVariants.{Ages as AgesStep, Remove as RemoveStep};
 ghost use Rattle.cas_cluster.specs.Step.{Step, AskCollect, GatherCollect, GatherRound};
+ghost use Rattle.cas_world.specs.Collect.{AreRemovalsDone};
 ghost use Rattle.cas_cluster.specs.View.{meaning};
 ghost use Rattle.cas_world.specs.Exchange.{MayAskCollected, MayGatherCollected, MayGatherRound, HasGathered, WasToldOrder};
 
@@ -65,6 +66,7 @@ impl<S: Shelf, V: Disk> World<S, V> {
     pub(crate) fn gather_collection(&mut self) -> Result<Gathered, OpAnswer>
         requires { MayGatherCollected self.old }
         ensures step { Step (meaning S.contents S.tells S.may_leave S.fault_count V.tells V.may_leave V.fault_count) self.old GatherCollect self.new }
+        ensures removed { S.tells → V.tells → AreRemovalsDone (meaning S.contents S.tells S.may_leave S.fault_count V.tells V.may_leave V.fault_count) self.old self.new }
         ensures ok { IfOk result (λ found. HasGathered self.old found self.new) }
         ensures err { IfErr result (WasToldOrder self.new) }
     {

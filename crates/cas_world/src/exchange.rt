@@ -1,6 +1,6 @@
 //! The operator's calls, and the exchange in which proposer 0 asks all members.
 
-ghost use Rattle.std.specs.Prelude.{◌≡◌, ◌≢◌, ◌⊎◌, ◌↔◌, ◌+◌, ◌<◌, ◌≤◌, ◌++◌, [], None, Some, Ok, false, length, IsSome, IsErrOf, IfOk, IfErr, IfSome, OnOk, OnErr, option_copied};
+ghost use Rattle.std.specs.Prelude.{◌≡◌, ◌≢◌, ◌⊎◌, ◌↔◌, ◌+◌, ◌<◌, ◌≤◌, ◌++◌, [], None, Some, Ok, false, length, IsSome, IsErrOf, IfOk, IfErr, IfSome, OnOk, OnErr, option_copied, reverse};
 ghost use Rattle.cas_flow.specs.Flow.{queue_at};
 ghost use Rattle.cas_flow.specs.Message.{CanBeSent};
 ghost use Rattle.cas_flow.specs.Queue.{fall_of};
@@ -14,7 +14,9 @@ ghost use Rattle.cas_cluster.specs.StepCalls.{Sends};
 ghost use Rattle.cas_cluster.specs.StepCouncil.{new_exchange, questions_to, told_marks, HasTag};
 ghost use Rattle.cas_calls.specs.Council.{exchange_view, question_view, left_to_list};
 ghost use Rattle.cas_world.specs.Exchange.{MayAsk, MayAskThis, MayGather, MayGatherMembers, HasGathered, asking_of, gathering_of, WasToldOrder, IsAsked, Opens, FailsToAsk, FailsToTag, question_in, question_from, asked_from, begins_with};
-ghost use Rattle.cas_world.specs.Plans.{MayTell};
+ghost use Rattle.cas_cluster.specs.CollectLaws.{HasItsFloor};
+ghost use Rattle.cas_world.specs.Collect.{AreRemovalsDone};
+ghost use Rattle.cas_world.specs.Plans.{HasCollectedAll, MayTell};
 ghost use Rattle.cas_calls.specs.Proposing.{disks};
 
 use crate::serve::{Served, serve};
@@ -81,11 +83,12 @@ impl<S: Shelf, V: Disk> World<S, V> {
     /// was asked for is at its end, with [`OpAnswer::Joined`] or [`OpAnswer::Left`], and the change is no longer under way then; or, where the
     /// collection that was asked for is at its end, with [`OpAnswer::Collected`]. It is marked, but for what a probe found, and handed back.
     /// An exchange that is open is over, and its frames join the late ones; so is a collection, and a listing that is not complete is
-    /// dropped. It takes no memory.
+    /// dropped. It takes no memory. A key that is told to be collected has its tombstone as a floor, with the empty state.
     pub fn tell(&mut self, answer: OpAnswer) -> OpAnswer
         requires { MayTell self.old answer }
         ensures same { result ≡ answer }
         ensures step { Step (meaning S.contents S.tells S.may_leave S.fault_count V.tells V.may_leave V.fault_count) self.old (Tell answer) self.new }
+        ensures floor { S.tells → V.tells → HasCollectedAll self.old answer → HasItsFloor answer (reverse self.old.marks) }
     {
         self.flow.abandon(EXCHANGE_PLACE);
         let EndedOrder {
@@ -163,9 +166,12 @@ impl<S: Shelf, V: Disk> World<S, V> {
     ///
     /// A collection goes on where all who accept acknowledged its tombstone, and where all members confirmed what they were asked; otherwise
     /// the call is told [`OpAnswer::Absent`] of the least that did not. Where the round read a held state it is told [`OpAnswer::NotEmpty`].
+    /// Once all members confirmed the removal, each removed its slot or kept a later one, as many as are counted did the one and the other,
+    /// and none that is up has seen anything of the key but above the tombstone, whatever a crash leaves of its shelf.
     pub fn gather(&mut self) -> Result<Gathered, OpAnswer>
         requires { MayGather self.old }
         ensures step { Step (meaning S.contents S.tells S.may_leave S.fault_count V.tells V.may_leave V.fault_count) self.old (gathering_of self.old) self.new }
+        ensures removed { S.tells → V.tells → AreRemovalsDone (meaning S.contents S.tells S.may_leave S.fault_count V.tells V.may_leave V.fault_count) self.old self.new }
         ensures ok { IfOk result (λ found. HasGathered self.old found self.new) }
         ensures less { result ≡ Ok Gathered.More → left_to_list self.new.council.plan < left_to_list self.old.council.plan }
         ensures err { IfErr result (WasToldOrder self.new) }

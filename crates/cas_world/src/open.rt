@@ -20,7 +20,7 @@ use cas_vault::{Vault, VaultError};
 use std::alloc::{AllocError, Global};
 
 /// How many identities of acceptors there are. The disks of the proposers are numbered from there on.
-const ACCEPTORS: u8 = 64;
+pub(crate) const ACCEPTORS: u8 = 64;
 
 /// How many proposers of clients a world has, and the lists that its shelves and the disks of its vaults came in, so that all can be
 /// handed back without taking memory.

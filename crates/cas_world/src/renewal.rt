@@ -68,8 +68,8 @@ impl<S: Shelf, V: Disk> World<S, V> {
     /// The tombstone becomes the floor of the key's history, where that is the step of the collection that is due. It takes no memory.
     ///
     /// Where the shelves and the disks tell what they keep, each floor is passed then: no proposer draws a ballot at or below it, whatever
-    /// a crash leaves of its vault, and what it holds of the key is above it; and no member that is up has a state of the key below it,
-    /// whatever a crash leaves of its shelf.
+    /// a crash leaves of its vault, and what it holds of the key is above it; no member that is up has a state of the key below it,
+    /// whatever a crash leaves of its shelf; and what is under way to such a member for the key, at or below the floor, is too old for it.
     pub fn floor(&mut self)
         requires { IsDueStep self.old FloorStep }
         ensures step { Step (meaning S.contents S.tells S.may_leave S.fault_count V.tells V.may_leave V.fault_count) self.old MakeFloor self.new }

@@ -1,10 +1,14 @@
 //! The world: all acceptors and proposers, the frames between them, the callers' calls, and the record of what happened.
 
-ghost use Rattle.std.specs.Prelude.{◌≡◌, ◌+◌, ◌<◌, ◌≤◌, take, slice_get, option_map, reverse, vec_len, Some, IfOk, IfErr};
+ghost use Rattle.std.specs.Prelude.{◌≡◌, ◌+◌, ◌<◌, ◌≤◌, ◌^◌, length, take, slice_get, option_map, reverse, vec_len, Some, IfOk, IfErr};
 ghost use Rattle.cas_acceptor.specs.Acceptor.{AcceptorView};
 ghost use Rattle.cas_cluster.specs.SafeLaws.{HasPlaces};
 ghost use Rattle.cas_cluster.specs.Step.{IsOpening};
 ghost use Rattle.cas_cluster.specs.View.{CallerView, IsAt, era_at, meaning};
+ghost use Rattle.cas_ballot.specs.Members.{union_of};
+ghost use Rattle.cas_cluster.specs.Openings.{AreOpenings, IsOpeningOn};
+ghost use Rattle.cas_cluster.specs.StepCalls.{most_marks};
+ghost use Rattle.cas_world.specs.OpeningOn.{openings_of, greatest_counter, placed, MembersHold, AreTakenUpBelow, DoesNotGoOn};
 ghost use Rattle.cas_world.specs.Opening.{members_to, unstarted, shelves_of, disks_of, AreStartedBelow, AreDesksBelow, DoesNotOpen};
 ghost use Rattle.cas_world.specs.Readers.{next_number, told_if, closed_in, IsVerdictIn};
 ghost use Rattle.cas_world.specs.Exchange.{asks_as, place_of};
@@ -18,8 +22,9 @@ ghost use Rattle.cas_record.specs.Legal.{IsLegal};
 
 use crate::fault::OpenFault;
 use crate::open::{Lists, Setup, first_members, give_disks, give_shelves, start, take_shelves};
+use crate::reopen::{OpeningFloor, greatest_counter, place_shelves, record_of, take_up_desks};
 use cas_acceptor::Acceptor;
-use cas_ballot::AcceptorId;
+use cas_ballot::{AcceptorId, Members};
 use cas_calls::answers::{copy_of, is_done};
 use cas_calls::call::{Caller, OpenCall};
 use cas_calls::council::{Council, EXCHANGE_PLACE};
@@ -122,6 +127,78 @@ impl<S: Shelf, V: Disk> World<S, V> {
                 callers,
                 flow,
                 record: Record::new(alloc),
+            }),
+            Err(fault) => {
+                give_shelves(acceptors, &mut shelves);
+                give_disks(desks, &mut vaults);
+                Err((fault, shelves, vaults))
+            }
+        }
+    }
+
+    /// A world that goes on from what stood before. The history of each key opens with its floor, which the shelf of each member holds
+    /// and of which the record has a mark, in the order of the list. The vaults of the proposers are started where their disks are empty
+    /// and reopened where they are not; each proposer goes on above all that it ever drew and above each floor, one age older, and in
+    /// era 0 over the members. Acceptors that were used before never join.
+    ///
+    /// After an `Err` the shelves and the disks come back in their places. [`OpenFault::DiskFault`], [`OpenFault::Foreign`] and
+    /// [`OpenFault::Spent`] tell the first vault that was not taken up: its disk failed, it is no vault, or its age is 2^48.
+    pub fn open_on(
+        alloc: Global,
+        config: Config,
+        members: Members,
+        used: Members,
+        floors: Vec<OpeningFloor>,
+        mut shelves: Vec<S>,
+        mut vaults: Vec<V>,
+    ) -> Result<World<S, V>, (OpenFault, Vec<S>, Vec<V>)>
+        requires some { 0 < config.acceptors }
+        requires few { config.acceptors ≤ 9 }
+        requires count { length members ≡ config.acceptors }
+        requires proposers { config.proposers ≤ 16 }
+        requires floors { AreOpenings (openings_of floors.items) }
+        requires counters { greatest_counter floors.items ≤ 2 ^ 48 }
+        requires marks { vec_len floors ≤ most_marks }
+        requires shelves { vec_len shelves ≡ 64 }
+        requires vaults { vec_len vaults ≡ 17 }
+        requires held { MembersHold S.is_up S.contents members (openings_of floors.items) shelves.items }
+        ensures opening { IfOk result (IsOpeningOn (meaning S.contents S.tells S.may_leave S.fault_count V.tells V.may_leave V.fault_count) members (union_of used members) (openings_of floors.items)) }
+        ensures places { IfOk result HasPlaces }
+        ensures greatest { IfOk result (λ world. world.greatest ≡ config.proposers) }
+        ensures shelves { IfOk result (λ world. world.acceptors ≡ placed members 0 shelves.items) }
+        ensures vaults { IfOk result (λ world. AreTakenUpBelow (disks_like V.tells V.may_leave V.fault_count) V.fault_count (greatest_counter floors.items) vaults.items (config.proposers + 1) world.desks) }
+        ensures fault { IfErr result (λ back. DoesNotGoOn (disks_like V.tells V.may_leave V.fault_count) V.seen V.fault_count (greatest_counter floors.items) config.proposers shelves.items vaults.items back.0 back.1.items back.2.items) }
+        ensures back { IfErr result (λ back. (vec_len back.1 ≡ 64) × (vec_len back.2 ≡ 17)) }
+    {
+        let past = greatest_counter(&floors);
+        let record = match record_of(alloc, floors) {
+            Ok(record) => record,
+            Err(_) => return Err((OpenFault::NoMemory, shelves, vaults)),
+        };
+        let Lists {
+            mut acceptors,
+            mut desks,
+            callers,
+            flow,
+        } = match Lists::new(alloc, config.proposers) {
+            Ok(lists) => lists,
+            Err(_) => return Err((OpenFault::NoMemory, shelves, vaults)),
+        };
+        place_shelves(&mut acceptors, &mut shelves, members);
+        vaults.reverse();
+        match take_up_desks(alloc, &mut desks, &mut vaults, config.proposers, past) {
+            Ok(()) => Ok(World {
+                config: Setup {
+                    proposers: config.proposers,
+                    shelves,
+                    disks: vaults,
+                },
+                council: Council::new(Era::majority(0, members), used.union(&members)),
+                acceptors,
+                desks,
+                callers,
+                flow,
+                record,
             }),
             Err(fault) => {
                 give_shelves(acceptors, &mut shelves);

@@ -1,4 +1,4 @@
-use Rattle.std.proofs.Common.{◌≡◌, None, Option, false, sym, ap, subst, ◌∙◌}
+use Rattle.std.proofs.Common.{◌≡◌, None, Some, Option, true, false, sym, ap, subst, ◌∙◌}
 use Rattle.std.specs.Option.{option_map_or}
 use Rattle.std.specs.Prelude.{is_some, option_map}
 use Rattle.cas_cluster.specs.Council.{ExchangeView}
@@ -28,3 +28,16 @@ gather_members-requires g c = record {
   may = must_be_members c.args.self.now (sym (ap (λ (v : (View g.row.S.Denot g.row.V.Denot)). is_some v.council.exchange) c.self.view_is) ∙ some_seen c.self.inside.council.exchange c.if-is_none.ensures)
       (sym (ap (λ (v : (View g.row.S.Denot g.row.V.Denot)). option_map_or (λ e. is_of_collection e.question) v.council.exchange false) c.self.view_is) ∙ sym c.asks_for_collection.ensures ∙ c.if-asks_for_collection.false) c.requires;
 }
+
+pub returns-then-is_none-clause-removed : goal.returns-then-is_none-clause-removed
+returns-then-is_none-clause-removed g c shelves disks exchange collection is_open asks is_collection at_end =
+    let none : c.args.self.now.council.exchange ≡ None = sym (ap (λ (v : (View g.row.S.Denot g.row.V.Denot)). v.council.exchange) c.self.view_is) ∙ ap (option_map exchange_view) (none_there c.self.inside.council.exchange c.if-is_none.ensures) in
+    let e : None ≡ Some exchange = sym none ∙ is_open in
+    absurd (cc e)
+
+pub returns-clause-removed : goal.returns-clause-removed
+returns-clause-removed g c shelves disks exchange collection is_open asks is_collection at_end =
+    let other : option_map_or (λ e. is_of_collection e.question) c.args.self.now.council.exchange false ≡ false =
+    sym (ap (λ (v : (View g.row.S.Denot g.row.V.Denot)). option_map_or (λ e. is_of_collection e.question) v.council.exchange false) c.self.view_is) ∙ sym c.asks_for_collection.ensures ∙ c.if-asks_for_collection.false in
+    let e : true ≡ false = sym asks ∙ sym (ap (λ (o : Option ExchangeView). option_map_or (λ x. is_of_collection x.question) o false) is_open) ∙ other in
+    absurd (cc e)

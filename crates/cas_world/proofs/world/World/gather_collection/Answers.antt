@@ -13,6 +13,8 @@ use Rattle.cas_cluster.specs.Collection.{CollectionView}
 use Rattle.std.proofs.Common.{Option}
 use Rattle.std.specs.Prelude.{IsSome}
 use Rattle.cas_calls.specs.Collecting.{GathersCollectAs}
+use Rattle.cas_cluster.proofs.CollectLaws.{removals_done}
+use Rattle.cas_world.specs.Collect.{AreRemovalsDone}
 use Rattle.cas_world.specs.Exchange.{HasGathered, MayGatherCollected}
 use Rattle.cas_world.proofs.Exchanges.{council_next, council_world, in_world, open_code}
 use Rattle.cas_world.proofs.Gathers.{Gathers, gathers_collect}
@@ -54,3 +56,7 @@ returns-clause-ok g c = subst (λ (v : (View g.row.S.Denot g.row.V.Denot)). IfOk
 
 pub returns-clause-err : goal.returns-clause-err
 returns-clause-err g c = (did g c).err
+
+pub returns-clause-removed : goal.returns-clause-removed
+returns-clause-removed g c shelves disks = subst (λ (v : (View g.row.S.Denot g.row.V.Denot)). AreRemovalsDone (meaning g.S.Shelf.contents g.S.Shelf.tells g.S.Shelf.may_leave g.S.Shelf.fault_count g.V.Disk.tells g.V.Disk.may_leave g.V.Disk.fault_count) v (view_of c.self.inside.config.proposers c.gather_collection.new.self c.self.inside.acceptors.items c.self.inside.desks.items c.self.inside.callers.items c.self.inside.flow c.self.inside.record)) c.self.view_is
+    (λ exchange collection is_open asks is_collection at_end. removals_done (meaning g.S.Shelf.contents g.S.Shelf.tells g.S.Shelf.may_leave g.S.Shelf.fault_count g.V.Disk.tells g.V.Disk.may_leave g.V.Disk.fault_count) shelves disks (view_of c.self.inside.config.proposers c.self.inside.council c.self.inside.acceptors.items c.self.inside.desks.items c.self.inside.callers.items c.self.inside.flow c.self.inside.record) _ exchange collection (c.self.invariant.remembered shelves disks) (did g c).step_ is_open is_collection at_end)
