@@ -1,2 +1,4 @@
+mod Floors
+mod Leading
 mod Plays
 mod Shown

@@ -1,13 +1,15 @@
 -- What the calls of a player leave of its play.
-use Rattle.std.proofs.Common.{◌≡◌, ◌≤◌, ℕ, Bool, true, false, List, Option, None, Some, Ok, Err, slice_get, slice_set, refl, sym, ap, subst, ◌∙◌, inl, inr}
-use Rattle.std.specs.Prelude.{Result, OnOk, OnErr, option_map}
+use Rattle.std.proofs.Common.{◌≡◌, ◌≤◌, ℕ, Bool, true, false, List, Option, None, Some, Ok, Err, slice_get, slice_set, refl, sym, ap, subst, ◌∙◌, inl, inr, arith}
+use Rattle.std.specs.Prelude.{Result, OnOk, OnErr, is_some}
 use Rattle.cas_change.specs.declared.program.Clause.{Clause}
 use Rattle.cas_fate.specs.declared.fate.Verdict.{Verdict}
 use Rattle.cas_flow.specs.declared.message.Message.{Message}
 use Rattle.cas_record.specs.declared.answer.Answer.{Answer}
+use Rattle.cas_collect.specs.declared.collect.CollectStep.{CollectStep}
+use Rattle.cas_collect.specs.declared.collect.CollectStep.TheVariants as due
 use Rattle.cas_record.specs.declared.operator.Asked.{Asked}
 use Rattle.cas_record.specs.declared.operator.OpAnswer.{OpAnswer}
-use Rattle.cas_cluster.specs.Council.{Council}
+use Rattle.cas_cluster.specs.Council.{Council, IsAtRest}
 use Rattle.cas_cluster.specs.Safe.{IsSafe}
 use Rattle.cas_cluster.specs.Step as step
 use Rattle.cas_cluster.specs.Step.{Step, Event, StepBegin, StepEnd, StepStray, StepRestartProposer}
@@ -24,47 +26,79 @@ use Rattle.cas_cluster.proofs.Places.{at_one, some_is, same_or_not, own_set, oth
 use Rattle.cas_cluster.proofs.SafeSteps.{steps_are_safe}
 use Rattle.cas_world.specs.Beginning.{HasNoCall}
 use Rattle.cas_world.specs.Exchange.{turn_of, refusal_of}
-use Rattle.cas_world.specs.Plans.{IsFor, IsUnderWay}
+use Rattle.cas_world.specs.Plans.{IsFor, IsUnderWay, asked_to}
 use Rattle.cas_script.specs.Orders.{KeepsIdle}
 use Rattle.cas_script.proofs.Asking.{keeps_idle, order_keeps, tell_keeps}
 use Rattle.cas_script.proofs.Entering.{enter_idle, enters_so}
-use Rattle.cas_script.proofs.Keeping.{KeepsOthers, get_other, begin_keeps, turn_keeps, refuse_keeps, crash_keeps}
+use Rattle.cas_script.proofs.Keeping.{KeepsOthers, begin_keeps, turn_keeps, refuse_keeps, crash_keeps}
+use Rattle.cas_script.proofs.Others.{get_other}
 use Rattle.cas_script.proofs.Playing.{end_closes}
 use Rattle.cas_script.proofs.Turns.{as_turn, as_refusal}
-use Rattle.cas_world_tests.specs.Play.{IsOrder, IsPlay}
+use Rattle.cas_script.specs.Collecting.{IsDue}
+use Rattle.cas_world_tests.specs.Play.{Goes, IsOrder, IsPlay, IsRenewing, StandsStill, renews, renewed}
+use Rattle.cas_world_tests.specs.Tasks.{is_change, is_collection}
+use Rattle.cas_world_tests.specs.declared.task.Plan.{Plan}
+use Rattle.cas_world_tests.specs.declared.task.Task.{Task}
+use Rattle.cas_world_tests.specs.declared.task.Task.TheVariants.{Change, Collection}
 
 -- ---- parts of a play
-order_then : {S V : Type 0} (old new : View S V) (change : Option Asked) → new.council ≡ old.council → IsOrder old change → IsOrder new change
-order_then old new None same is = ap (λ (c : Council). c.order) same ∙ is
-order_then old new (Some asked) same is = record {
+due_then : {S V : Type 0} (old new : View S V) (key : List ℕ) (step : CollectStep) → new.council ≡ old.council → HasNoCall new 0 → IsDue old key step → IsDue new key step
+due_then old new key step same own was = record {
+  order = was.order;
+  is_open = ap (λ (c : Council). c.order) same ∙ was.is_open;
+  is_for = was.is_for;
+  untold = was.untold;
+  collection = was.collection;
+  is_collection = ap (λ (c : Council). c.collection) same ∙ was.is_collection;
+  same_key = was.same_key;
+  is_due = was.is_due;
+  quiet = ap (λ (c : Council). c.exchange) same ∙ was.quiet;
+  idle = own;
+}
+
+renewing_then : {S V : Type 0} (old new : View S V) (key : List ℕ) → new.council ≡ old.council → HasNoCall new 0 → IsRenewing old key → IsRenewing new key
+renewing_then old new key same own (renews proposer was) = renews proposer (due_then old new key (due.Renew proposer) same own was)
+renewing_then old new key same own (renewed was) = renewed (due_then old new key due.Ages same own was)
+
+order_then : {S V : Type 0} (old new : View S V) (calls : List Bool) (task : Option Task) → new.council ≡ old.council → StandsStill calls task → (slice_get calls 0 ≡ Some false → HasNoCall new 0) → IsOrder old task → IsOrder new task
+order_then old new calls None same still own is = ap (λ (c : Council). c.order) same ∙ is
+order_then old new calls (Some (Change plan)) same still own is = record {
   order = is.order;
   is_open = ap (λ (c : Council). c.order) same ∙ is.is_open;
   is_for = is.is_for;
   untold = is.untold;
-  plan = subst (λ (c : Council). IsFor c.plan asked) (sym same) is.plan;
+  plan = subst (λ (c : Council). IsFor c.plan (asked_to plan.kind plan.id)) (sym same) is.plan;
 }
+order_then old new calls (Some (Collection key)) same still own is = renewing_then old new key same (own still) is
+
+-- another caller's call begins or ends
+still_set : (opened : List Bool) (id : ℕ) (now : Bool) (task : Option Task) → (id ≡ 0 → task ≡ None) → StandsStill opened task → StandsStill (slice_set opened id now) task
+still_set opened id now None free was = tt
+still_set opened id now (Some (Change plan)) free was = tt
+still_set opened id now (Some (Collection key)) free was = get_other opened id now 0 (λ is. absurd (cc (free (sym is)))) ∙ was
 
 -- a caller that is as it was
 same_idle : {S V : Type 0} (old new : View S V) (id : ℕ) → slice_get new.callers id ≡ slice_get old.callers id → HasNoCall old id → HasNoCall new id
 same_idle old new id same was = record { caller = was.caller; at_caller = same ∙ was.at_caller; none_open = was.none_open }
 
 -- nothing of the operator's changes
-goes : {S V : Type 0} (old new : View S V) (proposers : ℕ) (opened after : List Bool) (change : Option Asked) → IsPlay old proposers opened change → IsSafe new → new.greatest ≡ old.greatest → new.council ≡ old.council
-    → ((id : ℕ) → id ≤ proposers → slice_get after id ≡ Some false → HasNoCall new id) → IsPlay new proposers after change
-goes old new proposers opened after change was safe greatest same idle = record {
+goes : {S V : Type 0} (old new : View S V) (proposers : ℕ) (opened after : List Bool) (task : Option Task) → IsPlay old proposers opened task → IsSafe new → new.greatest ≡ old.greatest → new.council ≡ old.council
+    → ((id : ℕ) → id ≤ proposers → slice_get after id ≡ Some false → HasNoCall new id) → StandsStill after task → IsPlay new proposers after task
+goes old new proposers opened after task was safe greatest same idle still = record {
   known = greatest ∙ was.known;
   few = was.few;
   safe = safe;
   idle = idle;
   quiet = ap (λ (c : Council). c.exchange) same ∙ was.quiet;
-  order = order_then old new change same was.order;
+  order = order_then old new after task same still (λ closed. idle 0 (omega arith) closed) was.order;
+  still = still;
 }
 
 -- ---- a caller's open call goes on
-pub goes_on : {S V : Type 0} (m : Meaning S V) (old new : View S V) (event : Event) (id proposers : ℕ) (opened : List Bool) (change : Option Asked) → IsPlay old proposers opened change → slice_get opened id ≡ Some true
+pub goes_on : {S V : Type 0} (m : Meaning S V) (old new : View S V) (event : Event) (id proposers : ℕ) (opened : List Bool) (change : Option Task) → IsPlay old proposers opened change → slice_get opened id ≡ Some true
     → Step m old event new → KeepsOthers old new id → IsPlay new proposers opened change
 goes_on {S} {V} m old new event id proposers opened change was is_open by keeps =
-    goes old new proposers opened opened change was (steps_are_safe m old event new was.safe by) keeps.greatest (keeps.council was.quiet) (λ p low closed. idle p low closed)
+    goes old new proposers opened opened change was (steps_are_safe m old event new was.safe by) keeps.greatest (keeps.council was.quiet) (λ p low closed. idle p low closed) was.still
   where
     idle : (p : ℕ) → p ≤ proposers → slice_get opened p ≡ Some false → HasNoCall new p
     idle p low closed = elim (same_or_not p id) [
@@ -73,7 +107,7 @@ goes_on {S} {V} m old new event id proposers opened change was is_open by keeps 
     ]
 
 -- its first frame has its turn
-pub turns : {S V T E : Type 0} (m : Meaning S V) (old new : View S V) (id proposers : ℕ) (verdict : Verdict) (opened : List Bool) (change : Option Asked) (result : Result T E) → IsPlay old proposers opened change → slice_get opened id ≡ Some true
+pub turns : {S V T E : Type 0} (m : Meaning S V) (old new : View S V) (id proposers : ℕ) (verdict : Verdict) (opened : List Bool) (change : Option Task) (result : Result T E) → IsPlay old proposers opened change → slice_get opened id ≡ Some true
     → OnOk result (Step m old (turn_of old id verdict) new) → OnErr result (Step m old (refusal_of old id) new) → IsPlay new proposers opened change
 turns m old new id proposers verdict opened change (Ok done) was is_open ok err =
     let by = as_turn m old new id verdict was.quiet ok in
@@ -83,10 +117,11 @@ turns m old new id proposers verdict opened change (Err error) was is_open ok er
     goes_on m old new (step.RefuseTurn id) id proposers opened change was is_open by (refuse_keeps m old new id by)
 
 -- it begins
-pub begins : {S V : Type 0} (m : Meaning S V) (old new : View S V) (id proposers : ℕ) (key : List ℕ) (program : List Clause) (opened after : List Bool) (change : Option Asked) → IsPlay old proposers opened change → after ≡ slice_set opened id true
+pub begins : {S V : Type 0} (m : Meaning S V) (old new : View S V) (id proposers : ℕ) (key : List ℕ) (program : List Clause) (opened after : List Bool) (change : Option Task) → IsPlay old proposers opened change → after ≡ slice_set opened id true → (id ≡ 0 → change ≡ None)
     → StepBegin m old id key program new → IsPlay new proposers after change
-begins {S} {V} m old new id proposers key program opened after change was after_is by =
-    subst (λ (l : List Bool). IsPlay new proposers l change) (sym after_is) (goes old new proposers opened (slice_set opened id true) change was (steps_are_safe m old (step.Begin id key program) new was.safe by) keeps.greatest (keeps.council was.quiet) idle)
+begins {S} {V} m old new id proposers key program opened after change was after_is free by =
+    subst (λ (l : List Bool). IsPlay new proposers l change) (sym after_is)
+    (goes old new proposers opened (slice_set opened id true) change was (steps_are_safe m old (step.Begin id key program) new was.safe by) keeps.greatest (keeps.council was.quiet) idle (still_set opened id true change free was.still))
   where
     keeps : KeepsOthers old new id
     keeps = begin_keeps m old new id key program by
@@ -103,7 +138,7 @@ rescans_same (calls.rescans of done is) none = absurd (cc (sym (none of.by_opera
 rescans_same (calls.stops of not_done is) none = absurd (cc (sym (none of.by_operator) ∙ of.is_open))
 rescans_same (calls.is_none other is) none = is
 
-none_ordered : {S V : Type 0} (view : View S V) (proposers : ℕ) (opened : List Bool) (change : Option Asked) → IsPlay view proposers opened change → change ≡ None → view.council.order ≡ None
+none_ordered : {S V : Type 0} (view : View S V) (proposers : ℕ) (opened : List Bool) (change : Option Task) → IsPlay view proposers opened change → change ≡ None → view.council.order ≡ None
 none_ordered view proposers opened change was none = subst (IsOrder view) none was.order
 
 -- a step of its round was the last before
@@ -121,10 +156,10 @@ ends_after m old mid new event id told safe by keeps ends = record { mid = mid; 
 pub ends_so : {S V : Type 0} (m : Meaning S V) (old new : View S V) (id : ℕ) (told : Answer) → IsSafe old → StepEnd m old id told new → EndsBy m old new id
 ends_so m old new id told safe ends = record { mid = old; safe = safe; keeps = record { greatest = refl; others = λ p other. refl; council = λ quiet. refl }; told = told; ends = ends }
 
-ended : {S V : Type 0} (m : Meaning S V) (old new : View S V) (id proposers : ℕ) (opened after : List Bool) (change : Option Asked) → IsPlay old proposers opened change → (id ≡ 0 → change ≡ None)
-    → ((p : ℕ) → (p ≡ id → ⊥) → slice_get after p ≡ Some false → slice_get opened p ≡ Some false) → EndsBy m old new id → IsPlay new proposers after change
-ended {S} {V} m old new id proposers opened after change was free others by =
-    goes old new proposers opened after change was (steps_are_safe m by.mid (step.End id by.told) new by.safe by.ends) (ap (λ (w : View S V). w.greatest) by.ends.ends.view ∙ by.keeps.greatest) (same ∙ before) idle
+ended : {S V : Type 0} (m : Meaning S V) (old new : View S V) (id proposers : ℕ) (opened after : List Bool) (change : Option Task) → IsPlay old proposers opened change → (id ≡ 0 → change ≡ None)
+    → ((p : ℕ) → (p ≡ id → ⊥) → slice_get after p ≡ Some false → slice_get opened p ≡ Some false) → StandsStill after change → EndsBy m old new id → IsPlay new proposers after change
+ended {S} {V} m old new id proposers opened after change was free others still by =
+    goes old new proposers opened after change was (steps_are_safe m by.mid (step.End id by.told) new by.safe by.ends) (ap (λ (w : View S V). w.greatest) by.ends.ends.view ∙ by.keeps.greatest) (same ∙ before) idle still
   where
     before : by.mid.council ≡ old.council
     before = by.keeps.council was.quiet
@@ -139,14 +174,14 @@ ended {S} {V} m old new id proposers opened after change was free others by =
       | inr other ↦ same_idle old new p (ap (λ (w : View S V). slice_get w.callers p) by.ends.ends.view ∙ get_other by.mid.callers id _ p other ∙ by.keeps.others p other) (was.idle p low (others p other closed))
     ]
 
-pub ends : {S V : Type 0} (m : Meaning S V) (old new : View S V) (id proposers : ℕ) (opened after : List Bool) (change : Option Asked) → IsPlay old proposers opened change → after ≡ slice_set opened id false → (id ≡ 0 → change ≡ None)
+pub ends : {S V : Type 0} (m : Meaning S V) (old new : View S V) (id proposers : ℕ) (opened after : List Bool) (change : Option Task) → IsPlay old proposers opened change → after ≡ slice_set opened id false → (id ≡ 0 → change ≡ None)
     → EndsBy m old new id → IsPlay new proposers after change
 ends m old new id proposers opened after change was after_is free by =
-    subst (λ (l : List Bool). IsPlay new proposers l change) (sym after_is) (ended m old new id proposers opened (slice_set opened id false) change was free (λ p other closed. other_set opened id false p false other closed) by)
+    subst (λ (l : List Bool). IsPlay new proposers l change) (sym after_is) (ended m old new id proposers opened (slice_set opened id false) change was free (λ p other closed. other_set opened id false p false other closed) (still_set opened id false change free was.still) by)
 
 -- one that was begun and ended at once
-pub ends_at_once : {S V : Type 0} (m : Meaning S V) (old new : View S V) (id proposers : ℕ) (opened : List Bool) (change : Option Asked) → IsPlay old proposers opened change → (id ≡ 0 → change ≡ None) → EndsBy m old new id → IsPlay new proposers opened change
-ends_at_once m old new id proposers opened change was free by = ended m old new id proposers opened opened change was free (λ p other closed. closed) by
+pub ends_at_once : {S V : Type 0} (m : Meaning S V) (old new : View S V) (id proposers : ℕ) (opened : List Bool) (change : Option Task) → IsPlay old proposers opened change → (id ≡ 0 → change ≡ None) → EndsBy m old new id → IsPlay new proposers opened change
+ends_at_once m old new id proposers opened change was free by = ended m old new id proposers opened opened change was free (λ p other closed. closed) was.still by
 
 -- ---- callers stay
 pub record Unchanged {S V : Type 0} (old new : View S V) : Type 0 where
@@ -162,12 +197,12 @@ unchanged_by {S} {V} old changed new is greatest callers council = record {
   council = ap (λ (w : View S V). w.council) is ∙ council;
 }
 
-pub stays : {S V : Type 0} (m : Meaning S V) (old new : View S V) (event : Event) (proposers : ℕ) (opened : List Bool) (change : Option Asked) → IsPlay old proposers opened change → Step m old event new → Unchanged old new → IsPlay new proposers opened change
+pub stays : {S V : Type 0} (m : Meaning S V) (old new : View S V) (event : Event) (proposers : ℕ) (opened : List Bool) (change : Option Task) → IsPlay old proposers opened change → Step m old event new → Unchanged old new → IsPlay new proposers opened change
 stays m old new event proposers opened change was by same =
-    goes old new proposers opened opened change was (steps_are_safe m old event new was.safe by) same.idle.greatest same.council (λ id low closed. same.idle.idle id (was.idle id low closed))
+    goes old new proposers opened opened change was (steps_are_safe m old event new was.safe by) same.idle.greatest same.council (λ id low closed. same.idle.idle id (was.idle id low closed)) was.still
 
 -- a call is not begun
-pub refused : {S V : Type 0} (m : Meaning S V) (old new : View S V) (id proposers : ℕ) (key : List ℕ) (opened : List Bool) (change : Option Asked) → IsPlay old proposers opened change → (id ≡ 0 → change ≡ None) → RefusesCall m old id key new
+pub refused : {S V : Type 0} (m : Meaning S V) (old new : View S V) (id proposers : ℕ) (key : List ℕ) (opened : List Bool) (change : Option Task) → IsPlay old proposers opened change → (id ≡ 0 → change ≡ None) → RefusesCall m old id key new
     → Unchanged old new
 refused m old new id proposers key opened change was free (calls.stays told council refusal anew is) =
     unchanged_by old _ new is refl refl (rescans_same anew (λ operator. none_ordered old proposers opened change was (free operator)))
@@ -216,33 +251,14 @@ pub strays_not : {S V : Type 0} (m : Meaning S V) (old new : View S V) → frame
 strays_not m old new (frames.stays is) = unchanged_by old old new is refl refl refl
 strays_not m old new (frames.kept id acceptor now there finds is) = unchanged_by old _ new is refl refl refl
 
-pub strays : {S V T E : Type 0} (m : Meaning S V) (old new : View S V) (index proposers : ℕ) (opened : List Bool) (change : Option Asked) (result : Result T E) → IsPlay old proposers opened change → OnOk result (StepStray m old index new)
+pub strays : {S V T E : Type 0} (m : Meaning S V) (old new : View S V) (index proposers : ℕ) (opened : List Bool) (change : Option Task) (result : Result T E) → IsPlay old proposers opened change → OnOk result (StepStray m old index new)
     → OnErr result (frames.FindsNoRoom m old new) → IsPlay new proposers opened change
 strays m old new index proposers opened change (Ok peer) was ok err = stays m old new (step.Stray index) proposers opened change was ok (strays_in m old new index ok)
 strays m old new index proposers opened change (Err fault) was ok err = stays m old new step.RefuseStray proposers opened change was err (strays_not m old new err)
 
--- ---- what a caller's calls ask
--- the calls of caller 0 stand still while a change of membership is under way
-pub free_then : {A : Type 0} (f : A → Asked) (plan : Option A) (result : Bool) (id : ℕ) → (result ≡ true → id ≡ 0 → plan ≡ None) → result ≡ true → id ≡ 0 → option_map f plan ≡ None
-free_then f plan result id says is operator = ap (option_map f) (says is operator)
-
 -- ---- the operator's call
--- it is open and asks for a change of membership that is under way
-pub takes_up : {S V : Type 0} (m : Meaning S V) (old mid new : View S V) (what : Asked) (proposers : ℕ) (opened : List Bool) (change : Option Asked) → IsPlay old proposers opened change → StepOrder old what mid → KeepsIdle mid new
-    → new.council.exchange ≡ mid.council.exchange → IsSafe new → IsUnderWay new what → IsPlay new proposers opened (Some what)
-takes_up {S} {V} m old mid new what proposers opened change was by keeps same safe now =
-    let before = keeps_idle old mid (order_keeps old mid what by) in
-    record {
-      known = keeps.greatest ∙ before.greatest ∙ was.known;
-      few = was.few;
-      safe = safe;
-      idle = λ id low closed. keeps.idle id (before.idle id (was.idle id low closed));
-      quiet = same ∙ ap (λ (w : View S V). w.council.exchange) by.view ∙ was.quiet;
-      order = now;
-    }
-
 -- it is told its answer
-pub is_told : {S V : Type 0} (m : Meaning S V) (old mid new : View S V) (told : OpAnswer) (proposers : ℕ) (opened : List Bool) (change : Option Asked) → IsPlay old proposers opened change → KeepsIdle old mid → IsSafe mid → StepTell mid told new
+pub is_told : {S V : Type 0} (m : Meaning S V) (old mid new : View S V) (told : OpAnswer) (proposers : ℕ) (opened : List Bool) (change : Option Task) → IsPlay old proposers opened change → KeepsIdle old mid → IsSafe mid → StepTell mid told new
     → IsPlay new proposers opened None
 is_told {S} {V} m old mid new told proposers opened change was before safe by =
     let after = keeps_idle mid new (tell_keeps mid new told by) in
@@ -253,6 +269,7 @@ is_told {S} {V} m old mid new told proposers opened change was before safe by =
       idle = λ id low closed. after.idle id (before.idle id (was.idle id low closed));
       quiet = none_asks by;
       order = none_told by;
+      still = tt;
     }
   where
     none_asks : StepTell mid told new → new.council.exchange ≡ None
@@ -266,15 +283,62 @@ is_told {S} {V} m old mid new told proposers opened change was before safe by =
     none_told (council.collects order is_open by is) = ap (λ (w : View S V). w.council.order) is
 
 -- the next proposer enters the era
-pub enters : {S V : Type 0} (m : Meaning S V) (old new : View S V) (id : ℕ) (what : Asked) (proposers : ℕ) (opened : List Bool) → IsPlay old proposers opened (Some what) → id ≤ old.greatest → IsUnderWay new what → StepEnterEra m old id new
-    → IsPlay new proposers opened (Some what)
-enters m old new id what proposers opened was low now by =
+pub enters : {S V : Type 0} (m : Meaning S V) (old new : View S V) (id : ℕ) (plan : Plan) (proposers : ℕ) (opened : List Bool) → IsPlay old proposers opened (Some (Change plan)) → id ≤ old.greatest → IsUnderWay new (asked_to plan.kind plan.id) → StepEnterEra m old id new
+    → IsPlay new proposers opened (Some (Change plan))
+enters m old new id plan proposers opened was low now by =
     let keeps = enter_idle m old new id by in
     record {
       known = keeps.greatest ∙ was.known;
       few = was.few;
       safe = steps_are_safe m old (step.EnterEra id) new was.safe by;
       idle = λ p known closed. keeps.idle p (was.idle p known closed);
-      quiet = (enters_so m old new id what low now by).exchange ∙ was.quiet;
+      quiet = (enters_so m old new id (asked_to plan.kind plan.id) low now by).exchange ∙ was.quiet;
       order = now;
+      still = tt;
     }
+
+-- ---- a collection
+-- it is led on, or began
+pub collects : {S V : Type 0} (old new : View S V) (key : List ℕ) (proposers : ℕ) (opened : List Bool) (task : Option Task) → IsPlay old proposers opened task → slice_get opened 0 ≡ Some false → Goes old new → IsRenewing new key
+    → new.council.exchange ≡ None → IsPlay new proposers opened (Some (Collection key))
+collects old new key proposers opened task was closed by now quiet = record {
+  known = by.idle.greatest ∙ was.known;
+  few = was.few;
+  safe = by.safe was.safe;
+  idle = λ id low none. by.idle.idle id (was.idle id low none);
+  quiet = quiet;
+  order = now;
+  still = closed;
+}
+
+-- none is under way after it
+pub rests : {S V : Type 0} (old new : View S V) (proposers : ℕ) (opened : List Bool) (task : Option Task) → IsPlay old proposers opened task → Goes old new → IsAtRest new.council → IsPlay new proposers opened None
+rests old new proposers opened task was by rest = record {
+  known = by.idle.greatest ∙ was.known;
+  few = was.few;
+  safe = by.safe was.safe;
+  idle = λ id low none. by.idle.idle id (was.idle id low none);
+  quiet = rest.exchange;
+  order = rest.order;
+  still = tt;
+}
+
+-- ---- what is not under way
+pub none_of : {A : Type 0} (o : Option A) → is_some o ≡ false → o ≡ None
+none_of None none = refl
+none_of (Some there) none = absurd (cc none)
+
+-- a play without a task is at rest
+pub at_rest : {S V : Type 0} (view : View S V) (proposers : ℕ) (opened : List Bool) (task : Option Task) → IsPlay view proposers opened task → is_some task ≡ false → IsAtRest view.council
+at_rest view proposers opened task was none = record { order = none_ordered view proposers opened task was (none_of task none); exchange = was.quiet }
+
+-- ---- what is under way
+pub change_of : (task : Option Task) → is_change task ≡ true → (plan : Plan) × (task ≡ Some (Change plan))
+change_of None is = absurd (cc is)
+change_of (Some (Change plan)) is = (plan, refl)
+change_of (Some (Collection key)) is = absurd (cc is)
+
+pub collection_of : (task : Option Task) → is_collection task ≡ true → (key : List ℕ) × (task ≡ Some (Collection key))
+collection_of None is = absurd (cc is)
+collection_of (Some (Change plan)) is = absurd (cc is)
+collection_of (Some (Collection key)) is = (key, refl)

@@ -32,6 +32,7 @@ new_play m members world proposers calls opening places known =
       idle = λ id low closed. new_idle m members world opening places id (subst (λ (n : ℕ). id ≤ n) (sym known) low);
       quiet = quiet.exchange;
       order = quiet.order;
+      still = tt;
     }
 
 -- ---- an open round

@@ -5,8 +5,17 @@
 #![tactic(auto)]
 
 #[cfg(test)]
+mod collection;
+#[cfg(test)]
+mod collections;
+#[cfg(test)]
+mod openings;
+#[cfg(test)]
 mod player;
 #[cfg(test)]
 mod rows;
 #[cfg(test)]
 mod steps;
+#[cfg(test)]
+mod stops;
+pub mod task;

@@ -1,24 +1,30 @@
 //! A world whose calls are checked: each is made where it may be, and refused otherwise.
 
-ghost use Rattle.std.specs.Prelude.{◌≡◌, ◌≤◌, ◌+◌, Some, None, true, false, slice_get, slice_set, IfErr, IfSome, OnOk, OnErr};
+ghost use Rattle.std.specs.Prelude.{◌≡◌, ◌≤◌, ◌+◌, ◌^◌, vec_len, Some, None, true, false, slice_get, slice_set, IfErr, IfSome, OnOk, OnErr};
+ghost use Rattle.cas_cluster.specs.Openings.{AreOpenings};
 ghost use Rattle.cas_cluster.specs.Safe.{IsSafe};
 ghost use Rattle.cas_cluster.specs.Step.{Step, OpenPlan as OpensPlan};
+ghost use Rattle.cas_cluster.specs.StepCalls.{most_marks};
 ghost use Rattle.cas_cluster.specs.View.{CallerView, meaning};
 ghost use Rattle.cas_script.specs.Orders.{IsOrdered, KeepsIdle};
 ghost use Rattle.cas_world.specs.Beginning.{is_refusal};
 ghost use Rattle.cas_world.specs.Exchange.{WasToldOrder};
+ghost use Rattle.cas_world.specs.OpeningOn.{openings_of, greatest_counter, MembersHold};
 ghost use Rattle.cas_world.specs.Plans.{IsUnderWay, asked_to};
 ghost use Rattle.cas_world.specs.World.{IsInPhase};
+ghost use Rattle.cas_world_tests.specs.Tasks.{is_change, is_collection};
 
-use cas_ballot::AcceptorId;
+use crate::collection::{always_keep, begin_collection, end_collection};
+use crate::task::{Plan, Task};
+use cas_ballot::{AcceptorId, Members};
 use cas_change::{Key, Program};
 use cas_disk::Disk;
-use cas_fate::{Leg, Verdict};
-use cas_record::{Answer, OpAnswer};
+use cas_fate::{Leg, Links, Verdict};
+use cas_record::{Answer, Asked, Entry, OpAnswer};
 use cas_script::Script;
 use cas_slot::Shelf;
 use cas_vault::VaultError;
-use cas_world::{Config, PlanKind, StrayFault, World};
+use cas_world::{Config, OpeningFloor, PlanKind, StrayFault, World};
 use std::alloc::{AllocError, Global};
 use std::marker::Model;
 
@@ -27,13 +33,6 @@ const PROPOSERS: usize = 17;
 
 /// No call is open.
 const NONE_OPEN: [bool; PROPOSERS] = [false; PROPOSERS];
-
-/// A change of membership that the operator's open call asks for.
-#[derive(Clone, Copy, Debug, PartialEq, Eq)]
-pub struct Plan {
-    pub kind: PlanKind,
-    pub id: AcceptorId,
-}
 
 /// What is due of a proposer none of whose frames waits.
 #[derive(Clone, Copy, Debug, PartialEq, Eq)]
@@ -52,20 +51,19 @@ pub struct Player<S: Shelf, V: Disk> {
     proposers: u8,
     /// Whether the caller of that number has an open call.
     calls: [bool; PROPOSERS],
-    /// What the operator's open call asks for, which is under way.
-    plan: Option<Plan>,
+    /// What the operator's open call asks for.
+    task: Option<Task>,
 }
 
 impl<S: Shelf, V: Disk> Model for Player<S, V> {
-    ghost use Rattle.std.specs.Prelude.{ℕ, option_map};
-    ghost use Rattle.cas_world.specs.Plans.{asked_to};
+    ghost use Rattle.std.specs.Prelude.{ℕ};
     ghost use Rattle.cas_world_tests.specs.Play.{IsPlay};
 
     ghost Value = { ℕ };
 
     ghost view = { λ p. p.proposers };
 
-    ghost invariant = { λ p. IsPlay p.world p.proposers p.calls (option_map (λ plan. asked_to plan.kind plan.id) p.plan) };
+    ghost invariant = { λ p. IsPlay p.world p.proposers p.calls p.task };
 }
 
 impl<S: Shelf + Drop, V: Disk + Drop> Player<S, V> {
@@ -87,17 +85,59 @@ impl<S: Shelf + Drop, V: Disk + Drop> Player<S, V> {
                 world,
                 proposers: config.proposers,
                 calls: NONE_OPEN,
-                plan: None,
+                task: None,
             }),
             Err(_) => None,
         }
     }
 
+    /// A player of a world that goes on from floors, which the shelf of each member holds. Where the numbers do not fit, or the world
+    /// does not open, there is none.
+    pub fn open_on(
+        alloc: Global,
+        config: Config,
+        members: Members,
+        floors: Vec<OpeningFloor>,
+        shelves: Vec<S>,
+        vaults: Vec<V>,
+    ) -> Option<Player<S, V>>
+        requires floors { AreOpenings (openings_of floors.items) }
+        requires counters { greatest_counter floors.items ≤ 2 ^ 48 }
+        requires marks { vec_len floors ≤ most_marks }
+        requires held { MembersHold S.is_up S.contents members (openings_of floors.items) shelves.items }
+    {
+        if config.acceptors == 0 || config.acceptors > 9 || config.proposers > 16 {
+            return None;
+        }
+        if shelves.len() != 64 || vaults.len() != 17 {
+            return None;
+        }
+        if members.count() != u32::from(config.acceptors) {
+            return None;
+        }
+        match World::open_on(alloc, config, members, members, floors, shelves, vaults) {
+            Ok(world) => Some(Player {
+                world,
+                proposers: config.proposers,
+                calls: NONE_OPEN,
+                task: None,
+            }),
+            Err(_) => None,
+        }
+    }
+
+    /// The settled history of the key, and the vaults of the world. The rest of it goes.
+    pub fn into_history(self, key: &Key) -> Result<(Vec<Entry>, Vec<V>), AllocError> {
+        let entries = self.world.record().settled(key)?;
+        let (_, _, vaults) = self.world.parts();
+        Ok((entries, vaults))
+    }
+
     /// A script that goes on in the world, where no call is open.
     pub fn into_script(self, tries: u8) -> Option<Script<S, V>> {
-        let None = self.plan else {
+        if self.task.is_some() {
             return None;
-        };
+        }
         if tries == 0 || self.calls != NONE_OPEN {
             return None;
         }
@@ -116,7 +156,7 @@ impl<S: Shelf, V: Disk> Player<S, V> {
         let Some(false) = call_of(&self.calls, self.proposers, caller) else {
             return None;
         };
-        if !is_free(&self.plan, caller) {
+        if !is_free(&self.task, caller) {
             return None;
         }
         let call = self.world.next_call(caller);
@@ -158,7 +198,7 @@ impl<S: Shelf, V: Disk> Player<S, V> {
         let Some(true) = call_of(&self.calls, self.proposers, proposer) else {
             return None;
         };
-        if !is_free(&self.plan, proposer) {
+        if !is_free(&self.task, proposer) {
             return None;
         }
         let Some(Due::Propose) = what_is_due(&self.world, proposer) else {
@@ -180,7 +220,7 @@ impl<S: Shelf, V: Disk> Player<S, V> {
         let Some(true) = call_of(&self.calls, self.proposers, proposer) else {
             return None;
         };
-        if !is_free(&self.plan, proposer) {
+        if !is_free(&self.task, proposer) {
             return None;
         }
         let Some(Due::Count) = what_is_due(&self.world, proposer) else {
@@ -198,7 +238,7 @@ impl<S: Shelf, V: Disk> Player<S, V> {
         let Some(true) = call_of(&self.calls, self.proposers, proposer) else {
             return None;
         };
-        if !is_free(&self.plan, proposer) {
+        if !is_free(&self.task, proposer) {
             return None;
         }
         let call = last_call(&self.world, proposer);
@@ -240,12 +280,12 @@ impl<S: Shelf, V: Disk> Player<S, V> {
 
     /// A call of the operator opens a change of membership, or takes it up where it stopped. One that is refused is ended.
     pub fn order(&mut self, kind: PlanKind, id: AcceptorId) -> Option<Result<(), OpAnswer>> {
-        if self.plan.is_some() {
+        if self.task.is_some() {
             return None;
         }
         match begin_plan(&mut self.world, kind, id) {
             Ok(()) => {
-                self.plan = Some(Plan { kind, id });
+                self.task = Some(Task::Change(Plan { kind, id }));
                 Some(Ok(()))
             }
             Err(told) => Some(Err(told)),
@@ -254,9 +294,9 @@ impl<S: Shelf, V: Disk> Player<S, V> {
 
     /// The next proposer enters the era that the change of membership leads to. Where it does not, the operator's call is ended.
     pub fn enter(&mut self) -> Option<Result<u8, OpAnswer>> {
-        let Some(_) = self.plan else {
+        if !is_change(&self.task) {
             return None;
-        };
+        }
         let Some(proposer) = self.world.enter_next() else {
             return None;
         };
@@ -264,8 +304,70 @@ impl<S: Shelf, V: Disk> Player<S, V> {
             Ok(()) => Some(Ok(proposer)),
             Err(told) => {
                 let told = self.world.tell(told);
-                self.plan = None;
+                self.task = None;
                 Some(Err(told))
+            }
+        }
+    }
+
+    /// A call of the operator opens the collection of the key, whose tombstone is proposed and acknowledged in one round. What becomes of
+    /// each frame the links say. One that stops is ended. `None` comes also where no memory was found.
+    pub fn bury(
+        &mut self,
+        alloc: Global,
+        links: &mut Links,
+        key: Key,
+    ) -> Option<Result<(), OpAnswer>> {
+        if self.task.is_some() {
+            return None;
+        }
+        let Some(false) = call_of(&self.calls, self.proposers, 0) else {
+            return None;
+        };
+        let Ok(own) = key.copy() else {
+            return None;
+        };
+        let Ok(program) = always_keep(alloc) else {
+            return None;
+        };
+        let asked = Asked::Collect(own);
+        match begin_collection(&mut self.world, links, &asked, &key, &program) {
+            Ok(()) => {
+                self.task = Some(Task::Collection(key));
+                Some(Ok(()))
+            }
+            Err(told) => Some(Err(told)),
+        }
+    }
+
+    /// The next proposer is renewed for the collection; gives it and its new age. Where it is not, the operator's call is ended.
+    pub fn renew(&mut self) -> Option<Result<(u8, u64), OpAnswer>> {
+        if !is_collection(&self.task) {
+            return None;
+        }
+        let Some(proposer) = self.world.renew_next() else {
+            return None;
+        };
+        match self.world.renew(proposer) {
+            Ok(age) => Some(Ok((proposer, age))),
+            Err(told) => {
+                let told = self.world.tell(told);
+                self.task = None;
+                Some(Err(told))
+            }
+        }
+    }
+
+    /// Makes the steps of the collection that are left once all proposers are renewed, and ends the operator's call.
+    pub fn remove_slots(&mut self, links: &mut Links) -> Option<OpAnswer> {
+        if self.world.renew_next().is_some() {
+            return None;
+        }
+        match self.task.take() {
+            Some(Task::Collection(key)) => Some(end_collection(&mut self.world, links, key)),
+            other => {
+                self.task = other;
+                None
             }
         }
     }
@@ -290,12 +392,26 @@ fn set(calls: &mut [bool; PROPOSERS], caller: u8, is_open: bool)
     calls[usize::from(caller)] = is_open;
 }
 
-/// Whether the calls of this caller go on now: those of caller 0 stand still while a change of membership is under way, which they
-/// could be a part of.
-fn is_free(plan: &Option<Plan>, caller: u8) -> bool
-    ensures { result ≡ true → caller ≡ 0 → plan.now ≡ None }
+/// Whether the calls of this caller go on now: those of caller 0 stand still while the operator's call is open, which they could be a part
+/// of.
+fn is_free(task: &Option<Task>, caller: u8) -> bool
+    ensures { result ≡ true → caller ≡ 0 → task.now ≡ None }
 {
-    caller != 0 || plan.is_none()
+    caller != 0 || task.is_none()
+}
+
+/// Whether the operator's open call asks for a change of membership.
+fn is_change(task: &Option<Task>) -> bool
+    ensures { result ≡ is_change task.now }
+{
+    matches!(task, Some(Task::Change(_)))
+}
+
+/// Whether the operator's open call asks for a collection.
+fn is_collection(task: &Option<Task>) -> bool
+    ensures { result ≡ is_collection task.now }
+{
+    matches!(task, Some(Task::Collection(_)))
 }
 
 /// Whether a new call that is answered so was not begun.

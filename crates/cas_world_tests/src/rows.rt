@@ -2,8 +2,8 @@
 
 use crate::player::Player;
 use crate::steps::Step::{
-    Add, BeginAdd, BeginGet, Closed, Count, Crash, Enter, Get, Gets, Join, Net, Propose, Restart,
-    Stray, Turn, Turns,
+    Add, BeginAdd, BeginGet, Closed, Count, Crash, Enter, Fill, Get, Gets, Join, Net, Propose,
+    Restart, Stray, Turn, Turns,
 };
 use crate::steps::{Play, Step};
 use cas_disk::{Image, MemoryDisk, Trouble};
@@ -11,32 +11,32 @@ use cas_fate::{Leg, Verdict};
 use cas_lines::lines::Lines;
 use cas_lines::source::MemorySource;
 use cas_script::Script;
-use cas_slot::MapShelf;
+use cas_slot::{MapShelf, Shelf};
 use cas_world::Config;
 use std::alloc::{AllocError, Global};
 use std::test::Fail;
 
 /// A world with these many acceptors and two proposers of clients.
-const fn among(acceptors: u8) -> Config {
+pub const fn among(acceptors: u8) -> Config {
     Config {
         acceptors,
         proposers: 2,
     }
 }
 
-/// Where the disk of proposer 1 stops, and what a crash leaves of it.
+/// Where the disk of number 1 stops, and what a crash leaves of it.
 #[derive(Clone, Copy, Debug)]
-struct Stop {
-    call: u64,
-    image: Image,
+pub struct Stop {
+    pub call: u64,
+    pub image: Image,
 }
 
 /// A play: steps in a new world, then lines of a script in it, and what is written.
 #[derive(Clone, Copy)]
-struct Row<'a> {
-    steps: &'a [Step],
-    lines: &'a str,
-    want: &'a str,
+pub struct Row<'a> {
+    pub steps: &'a [Step],
+    pub lines: &'a str,
+    pub want: &'a str,
 }
 
 /// Empty shelves in memory.
@@ -49,30 +49,34 @@ fn shelves(alloc: Global) -> Result<Vec<MapShelf>, AllocError> {
 }
 
 /// Empty disks in memory, for vaults.
-fn vaults(alloc: Global, stop: Option<Stop>) -> Result<Vec<MemoryDisk>, AllocError> {
+pub fn vaults(alloc: Global, stop: Option<Stop>) -> Result<Vec<MemoryDisk>, AllocError> {
     let mut vaults = Vec::new(alloc);
     for place in 0..17usize {
-        let mut troubles = Vec::new(alloc);
-        let mut image = Image::New;
-        if let Some(stop) = stop
-            && place == 1
-        {
-            troubles.push((stop.call, Trouble::Stop))?;
-            image = stop.image;
-        }
-        let disk = MemoryDisk::new(alloc, Vec::new(alloc), troubles, image);
-        vaults.push(disk)?;
+        vaults.push(disk(alloc, place, stop)?)?;
     }
     Ok(vaults)
 }
 
-/// A play in a new world of so many acceptors.
-fn opened(
+/// The empty disk of that place. That of place 1 stops.
+pub fn disk(alloc: Global, place: usize, stop: Option<Stop>) -> Result<MemoryDisk, AllocError> {
+    let mut troubles = Vec::new(alloc);
+    let mut image = Image::New;
+    if let Some(stop) = stop
+        && place == 1
+    {
+        troubles.push((stop.call, Trouble::Stop))?;
+        image = stop.image;
+    }
+    Ok(MemoryDisk::new(alloc, Vec::new(alloc), troubles, image))
+}
+
+/// A play in a new world of so many acceptors over these shelves.
+fn opened<S: Shelf + Drop>(
     alloc: Global,
     acceptors: u8,
+    shelves: Vec<S>,
     stop: Option<Stop>,
-) -> Result<Play<MapShelf, MemoryDisk>, Fail> {
-    let shelves = shelves(alloc)?;
+) -> Result<Play<S, MemoryDisk>, Fail> {
     let vaults = vaults(alloc, stop)?;
     match Player::open(alloc, among(acceptors), shelves, vaults) {
         Some(player) => Ok(Play::new(alloc, player)),
@@ -81,9 +85,9 @@ fn opened(
 }
 
 /// What the script answers to the lines.
-fn answers(
+fn answers<S: Shelf + Drop>(
     alloc: Global,
-    script: &mut Script<MapShelf, MemoryDisk>,
+    script: &mut Script<S, MemoryDisk>,
     lines: &str,
 ) -> Result<Vec<u8>, Fail> {
     let mut source = MemorySource::new(lines.as_bytes().to_vec(alloc)?, 4096, Vec::new(alloc));
@@ -100,9 +104,9 @@ fn answers(
 }
 
 /// What is written as the player's world goes on as a script of these lines, with two tries.
-fn go_on(
+fn go_on<S: Shelf + Drop>(
     alloc: Global,
-    player: Player<MapShelf, MemoryDisk>,
+    player: Player<S, MemoryDisk>,
     lines: &str,
 ) -> Result<Vec<u8>, Fail> {
     if lines.is_empty() {
@@ -115,14 +119,26 @@ fn go_on(
 }
 
 /// Takes the steps in a new world of so many acceptors, and then runs the lines in it. Gives all that was written.
-fn play(
+pub fn play(
     alloc: Global,
     acceptors: u8,
     stop: Option<Stop>,
     steps: &[Step],
     lines: &str,
 ) -> Result<String, Fail> {
-    let mut play = opened(alloc, acceptors, stop)?;
+    play_over(alloc, acceptors, shelves(alloc)?, stop, steps, lines)
+}
+
+/// The same over these shelves.
+pub fn play_over<S: Shelf + Drop>(
+    alloc: Global,
+    acceptors: u8,
+    shelves: Vec<S>,
+    stop: Option<Stop>,
+    steps: &[Step],
+    lines: &str,
+) -> Result<String, Fail> {
+    let mut play = opened(alloc, acceptors, shelves, stop)?;
     for step in steps {
         play.take(*step)?;
     }
@@ -468,6 +484,16 @@ fn has_room_for_so_many_rounds(rt: HostRuntime) -> Result<(), Fail> {
     ];
     let want =
         "ok\n1: down\nok\n1: done empty at 199994.1\nok\nok\nok\n1: prepare 1\nrecord full\nok\n2: crashed\nok\nok\n2: record full\n";
+    let written = play(rt.alloc(), 1, None, &steps, "")?;
+    assert_eq!(rt; written.as_str(), want);
+    Ok(())
+}
+
+/// A shelf holds 4,096 slots. Each of the changes that fill it draws two numbers: its ballot, and the one that rides.
+#[test]
+fn finds_a_full_acceptor(rt: HostRuntime) -> Result<(), Fail> {
+    let steps = [Fill(1, 4_096), Get(1, "a"), Get(2, "a"), Get(2, "k0")];
+    let want = "1: done empty at 8191.1\n1: full 1\n2: full 1\n2: done empty at 2.2\n";
     let written = play(rt.alloc(), 1, None, &steps, "")?;
     assert_eq!(rt; written.as_str(), want);
     Ok(())

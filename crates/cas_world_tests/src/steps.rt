@@ -4,10 +4,9 @@ use crate::player::Player;
 use cas_ballot::AcceptorId;
 use cas_change::{Act, Clause, Guard, Key, Program};
 use cas_disk::Disk;
-use cas_fate::{Leg, Verdict};
+use cas_fate::{Fate, Leg, Links, Verdict};
 use cas_lines::answer::{EventAnswer, print_answer, print_event, print_op};
 use cas_record::{Answer, OpAnswer};
-use cas_script::Network;
 use cas_slot::Shelf;
 use cas_vault::VaultError;
 use cas_world::{PlanKind, StrayFault};
@@ -26,6 +25,10 @@ pub enum Step {
     Get(u8, &'static str),
     /// The same, so many times. What came of it last is written.
     Gets(u32, u8, &'static str),
+    /// Whole changes, one for each of so many keys, leave their registers as they are. What came of the last is written.
+    Fill(u8, u32),
+    /// A whole change, without another try, leaves its register empty.
+    Clear(u8, &'static str),
     /// A change begins that adds to a number.
     BeginAdd(u8, &'static str, i64),
     /// A change begins that leaves its register as it is.
@@ -44,6 +47,12 @@ pub enum Step {
     Join(u8),
     /// The next proposer enters the era that the change leads to.
     Enter,
+    /// The operator's call opens a collection, whose tombstone is proposed and acknowledged.
+    Bury(&'static str),
+    /// The next proposer is renewed for the collection.
+    Renew,
+    /// The other steps of the collection are made, and the operator's call ends.
+    Remove,
     /// From now on this becomes of the frames of that leg to or from an acceptor, or all.
     Net(Leg, Option<u8>, Verdict),
     /// The late frame of that place strays in.
@@ -59,7 +68,7 @@ pub enum Step {
 pub struct Play<S: Shelf, V: Disk> {
     alloc: Global,
     player: Player<S, V>,
-    network: Network,
+    links: Links,
     written: Vec<u8>,
 }
 
@@ -69,7 +78,7 @@ impl<S: Shelf, V: Disk> Play<S, V> {
         Play {
             alloc,
             player,
-            network: Network::new(),
+            links: Links::new(),
             written: Vec::new(alloc),
         }
     }
@@ -79,7 +88,7 @@ impl<S: Shelf, V: Disk> Play<S, V> {
         let Play {
             alloc: _,
             player,
-            network: _,
+            links: _,
             written,
         } = self;
         (player, written)
@@ -91,9 +100,12 @@ impl<S: Shelf, V: Disk> Play<S, V> {
             Step::Add(caller, key, number) => self.change(1, caller, key, Act::Add(number)),
             Step::Get(caller, key) => self.change(1, caller, key, Act::Keep),
             Step::Gets(times, caller, key) => self.change(times, caller, key, Act::Keep),
+            Step::Fill(caller, keys) => self.fill(caller, keys),
+            Step::Clear(caller, key) => self.change(1, caller, key, Act::Clear),
             Step::BeginAdd(caller, key, number) => self.begin(caller, key, Act::Add(number)),
             Step::BeginGet(caller, key) => self.begin(caller, key, Act::Keep),
             Step::Join(id) => self.join(id),
+            Step::Bury(key) => self.bury(key),
             other => Ok(self.call(other)?),
         }
     }
@@ -113,6 +125,11 @@ impl<S: Shelf, V: Disk> Play<S, V> {
                 self.write_answer(proposer, told)
             }
             Step::Enter => self.enter(),
+            Step::Renew => self.renew(),
+            Step::Remove => match self.player.remove_slots(&mut self.links) {
+                Some(told) => self.write_told(&told),
+                None => self.write("not now"),
+            },
             other => {
                 let answer = self.event(other);
                 self.write_event(answer)
@@ -126,6 +143,18 @@ impl<S: Shelf, V: Disk> Play<S, V> {
         let program = program_of(self.alloc, act)?;
         let mut told = None;
         for _time in 0..times {
+            told = self.round(caller, &key, &program)?;
+        }
+        Ok(self.write_answer(caller, told)?)
+    }
+
+    /// Whole changes, one for each of so many keys, without another try.
+    fn fill(&mut self, caller: u8, keys: u32) -> Result<(), Fail> {
+        let program = program_of(self.alloc, Act::Keep)?;
+        let mut told = None;
+        for number in 0..keys {
+            let text = format!(in self.alloc; "k{number}")?;
+            let key = Key::read(self.alloc, text.as_bytes())?;
             told = self.round(caller, &key, &program)?;
         }
         Ok(self.write_answer(caller, told)?)
@@ -182,7 +211,7 @@ impl<S: Shelf, V: Disk> Play<S, V> {
         let Some((leg, peer)) = self.player.front(proposer) else {
             return Ok(None);
         };
-        let verdict = self.network.verdict(leg, peer);
+        let verdict = self.links.verdict(leg, peer);
         match self.player.turn(proposer, verdict) {
             Some(Ok(())) => Ok(Some((leg, peer.number()))),
             Some(Err(error)) => Err(error),
@@ -232,6 +261,27 @@ impl<S: Shelf, V: Disk> Play<S, V> {
         }
     }
 
+    fn bury(&mut self, key: &'static str) -> Result<(), Fail> {
+        let key = Key::read(self.alloc, key.as_bytes())?;
+        match self.player.bury(self.alloc, &mut self.links, key) {
+            Some(Ok(())) => self.write("ok")?,
+            Some(Err(told)) => self.write_told(&told)?,
+            None => self.write("not now")?,
+        }
+        Ok(())
+    }
+
+    fn renew(&mut self) -> Result<(), AllocError> {
+        match self.player.renew() {
+            Some(Ok((proposer, age))) => {
+                let text = format!(in self.alloc; "renewed {proposer} to {age}")?;
+                self.write(text.as_str())
+            }
+            Some(Err(told)) => self.write_told(&told),
+            None => self.write("not now"),
+        }
+    }
+
     /// An event happens. `None` comes where it may not happen now, and where the step is no event.
     fn event(&mut self, step: Step) -> Option<EventAnswer> {
         match step {
@@ -253,11 +303,14 @@ impl<S: Shelf, V: Disk> Play<S, V> {
         if verdict == Verdict::Hold {
             return None;
         }
-        let who = match who {
-            Some(number) => Some(AcceptorId::new(number)?),
-            None => None,
+        let (first, last) = match who {
+            Some(number) => (number, number),
+            None => (0, 63),
         };
-        self.network.set(Some(leg), who, verdict);
+        for number in first..=last {
+            let peer = AcceptorId::new(number)?;
+            self.links.set(leg, peer, verdict);
+        }
         Some(EventAnswer::Ok)
     }
 

@@ -1,5 +1,5 @@
 use Rattle.std.proofs.Common.{arith}
-use Rattle.cas_world_tests.proofs.Plays.{ends, ends_so, free_then}
+use Rattle.cas_world_tests.proofs.Plays.{ends, ends_so}
 use Rattle.cas_world_tests.proofs.Shown.{closed_told}
 use Rattle.cas_world_tests.proofs.player.Player.closed.Goals as goal
 
@@ -9,4 +9,4 @@ end-told-requires-clause-told g c =
 
 pub invariant_of-self : goal.invariant_of-self
 invariant_of-self g c =
-    ends _ c.self.inside.world c.end-told.new.self c.args.proposer c.self.inside.proposers c.self.inside.calls c.set.new.calls _ c.self.invariant c.set.ensures (free_then _ c.self.inside.plan c.is_free.result c.args.proposer c.is_free.ensures c.if-not-is_free.false) (ends_so _ c.self.inside.world c.end-told.new.self c.args.proposer _ c.self.invariant.safe c.end-told.ensures.step)
+    ends _ c.self.inside.world c.end-told.new.self c.args.proposer c.self.inside.proposers c.self.inside.calls c.set.new.calls _ c.self.invariant c.set.ensures (λ operator. c.is_free.ensures c.if-not-is_free.false operator) (ends_so _ c.self.inside.world c.end-told.new.self c.args.proposer _ c.self.invariant.safe c.end-told.ensures.step)

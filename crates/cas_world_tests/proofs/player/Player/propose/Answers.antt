@@ -2,7 +2,7 @@ use Rattle.std.proofs.Common.{Bool, Some, ap, ◌∙◌}
 use Rattle.cas_cluster.specs.Step as step
 use Rattle.cas_script.proofs.Keeping.{propose_keeps}
 use Rattle.cas_world_tests.specs.declared.player.Due.{Due}
-use Rattle.cas_world_tests.proofs.Plays.{ends, ends_after, free_then, goes_on}
+use Rattle.cas_world_tests.proofs.Plays.{ends, ends_after, goes_on}
 use Rattle.cas_world_tests.proofs.player.Player.propose.Goals as goal
 
 pub propose-requires-clause-preparing : goal.propose-requires-clause-preparing
@@ -15,5 +15,5 @@ invariant_of-self g c =
 
 pub invariant_of-self-in-Err : goal.invariant_of-self-in-Err
 invariant_of-self-in-Err g c =
-    ends _ c.self.inside.world c.end-told.new.self c.args.proposer c.self.inside.proposers c.self.inside.calls c.set.new.calls _ c.self.invariant c.set.ensures (free_then _ c.self.inside.plan c.is_free.result c.args.proposer c.is_free.ensures c.if-not-is_free.false)
+    ends _ c.self.inside.world c.end-told.new.self c.args.proposer c.self.inside.proposers c.self.inside.calls c.set.new.calls _ c.self.invariant c.set.ensures (λ operator. c.is_free.ensures c.if-not-is_free.false operator)
     (ends_after _ c.self.inside.world c.propose.new.self c.end-told.new.self (step.Propose c.args.proposer) c.args.proposer _ c.self.invariant.safe c.propose.ensures.step (propose_keeps _ c.self.inside.world c.propose.new.self c.args.proposer c.propose.ensures.step) c.end-told.ensures.step)
