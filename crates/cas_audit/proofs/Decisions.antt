@@ -5,9 +5,9 @@ use Rattle.std.specs.List.{range_with_len}
 use mathlib.Core.Logic.{inl, inr}
 use Rattle.cas_base.proofs.Bools.{if_true, if_false, true_or_false, or_cases, or_left, or_right, and_right, not_both, not_tells, not_of_false, false_of_not, some_is}
 use Rattle.cas_ballot.specs.declared.ballot.Ballot.{Ballot}
-use Rattle.cas_ballot.specs.Ballot.{greater_of, BallotLess, BallotAtMost}
+use Rattle.cas_ballot.specs.Ballot.{greater_of, BallotLess}
 use Rattle.cas_ballot.specs.Members.{has_member, with_member, intersection_of, members_where, IsMemberSet}
-use Rattle.cas_ballot.proofs.BallotLemmas.{greater_cases, at_most_antisym, less_not_at_most, at_most_of_less}
+use Rattle.cas_ballot.proofs.BallotLemmas.{greater_cases, less_not_at_most, at_most_of_less}
 use Rattle.cas_ballot.proofs.MemberLemmas.{has-members_where, members_where_same, members_where_tells}
 use Rattle.cas_change.specs.declared.state.State.{State}
 use Rattle.cas_change.specs.declared.outcome.Took.{Took}
@@ -23,7 +23,7 @@ use Rattle.cas_record.specs.Chain.{is_key, has_calls, has_proposal, opens_at, li
 use Rattle.cas_record.specs.Index.{floor_at}
 use Rattle.cas_record.specs.Replay.{replay_from, opening_state}
 use Rattle.cas_record.specs.Legal.{IsBegun, IsProposed, IsEnded, IsNumbered, DoesStand, tells_refused, tells_unsettled, HasVotes, HasFloor, IsAcked, IsOpening, IsLegal}
-use Rattle.cas_record.proofs.PlaceLemmas.{stands_at, stands_part, part_at, prefix_refl, length-prefix}
+use Rattle.cas_record.proofs.PlaceLemmas.{stands_at, stands_part, part_at, length-prefix}
 use Rattle.cas_record.proofs.Tests.{key_same, key_refl, nat_same, nat_is}
 use Rattle.cas_record.proofs.HistoryLemmas.{placed}
 use Rattle.cas_record.proofs.CallLemmas.{begun_once}
@@ -301,13 +301,6 @@ late_told {caller} {call} {place} {marks} {told} numbered is c =
     one_end_same numbered a b = sym b.chain_is ∙ a.chain_is
 
 -- ---- what is settled
-pub kept_low : (key : List ℕ) (ballot : Ballot) (marks : List Mark) → BallotAtMost ballot (top_of key marks) → IsPrefix (settled_of key marks) (chain_of key (greater_of ballot (top_of key marks)) marks)
-kept_low key ballot marks low = elim (greater_cases ballot (top_of key marks)) [
-  | inl own ↦
-      let same : ballot ≡ top_of key marks = at_most_antisym low own.1 in
-      subst (λ b. IsPrefix (settled_of key marks) (chain_of key b marks)) (sym (own.0 ∙ same)) (prefix_refl (settled_of key marks))
-  | inr top ↦ subst (λ b. IsPrefix (settled_of key marks) (chain_of key b marks)) (sym top.0) (prefix_refl (settled_of key marks))
-]
 
 pub greater_high : (ballot top : Ballot) → BallotLess top ballot → greater_of ballot top ≡ ballot
 greater_high ballot top less = elim (greater_cases ballot top) [

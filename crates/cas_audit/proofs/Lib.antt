@@ -18,3 +18,4 @@ mod TextWords
 mod Updates
 mod Verdicts
 mod Walks
+pub mod LowerFloors

@@ -3,7 +3,6 @@ use Rattle.std.proofs.Common.{◌≡◌, ℕ, zero, suc, ◌-◌, ◌<◌, List,
 use Rattle.std.specs.Prelude.{Result, Ok, Err, reverse}
 use Rattle.std.proofs.lemmas.Grind.{reverse_onto}
 use Rattle.std.proofs.lemmas.List.{reverse-reverse}
-use Rattle.cas_change_text.specs.declared.refusal.TextRefusal.{TextRefusal}
 use Rattle.cas_change_text.specs.declared.refusal.Why.{Why}
 use Rattle.cas_change_text.specs.declared.refusal.Why.TheVariants as why
 use Rattle.cas_record.specs.Legal.{IsLegal}
@@ -11,16 +10,13 @@ use Rattle.cas_record.specs.declared.mark.Mark.{Mark}
 use Rattle.cas_audit.specs.Auditing.{IsBroken}
 use Rattle.cas_audit.specs.Progress.{marks_onto, IsProgress}
 use Rattle.cas_audit.specs.Reading.{line_mark}
-use Rattle.cas_audit.specs.Texts.{BadLine, line_count, mark_onto, mark_before, marks_from, marks_counted, marks_of, IsFound}
+use Rattle.cas_audit.specs.Texts.{BadLine, mark_onto, mark_before, marks_from, marks_of, IsFound}
 use Rattle.cas_audit.specs.declared.auditor.Broken.{Broken as BrokenRule}
 use Rattle.cas_audit.specs.declared.finding.Finding.TheVariants.{Legal, Broken, Bad}
 use Rattle.cas_audit.specs.declared.text.Progress.TheVariants as progress
 use Rattle.cas_audit.proofs.Findings.{found_legal, found_broken, found_bad}
 
 -- ---- the marks so far
-onto_nothing : (later : Result (List Mark) BadLine) → marks_onto [] later ≡ later
-onto_nothing (Ok marks) = refl
-onto_nothing (Err bad) = refl
 
 onto_more : (marks : List Mark) (mark : Mark) (later : Result (List Mark) BadLine) → marks_onto marks (mark_onto mark later) ≡ marks_onto (marks ++ mark ∷ []) later
 onto_more marks mark (Ok more) = ap Ok (sym (append_assoc marks (mark ∷ []) more))
@@ -30,12 +26,6 @@ longer : (lines : List (List ℕ)) (line : List ℕ) → length (lines ++ line �
 longer lines line = omega (arith, length-append lines (line ∷ []))
 
 -- ---- one line more
--- the first line says how many marks there are
-pub first_counts : (line : List ℕ) (left : ℕ) → line_count line ≡ Ok left → IsProgress (line ∷ []) [] (progress.Marks left)
-first_counts line left is later = ap (λ read. marks_counted read later) is ∙ sym (onto_nothing (marks_from 2 later left))
-
-pub first_refused : (line : List ℕ) (refusal : TextRefusal) → line_count line ≡ Err refusal → IsProgress (line ∷ []) [] (progress.Bad 1 refusal.why)
-first_refused line refusal is later = ap (λ read. marks_counted read later) is
 
 -- what is read of a line more, and of those behind it
 next_is : (lines : List (List ℕ)) (line : List ℕ) (marks : List Mark) (left : ℕ) → IsProgress lines marks (progress.Marks left)
@@ -59,22 +49,6 @@ next_mark lines line mark marks new (suc left) some at is new_is =
     let less : suc left - 1 ≡ left = omega arith in
     subst (λ n. IsProgress (lines ++ line ∷ []) new (progress.Marks n)) (sym less) (subst (λ m. IsProgress (lines ++ line ∷ []) m (progress.Marks left)) (sym new_is) (next_says lines line mark marks left at is))
 
-pub next_refused : (lines : List (List ℕ)) (line : List ℕ) (refusal : TextRefusal) (marks : List Mark) (left number : ℕ) → IsProgress lines marks (progress.Marks (suc left)) → line_mark line ≡ Err refusal → number ≡ suc (length lines)
-    → IsProgress (lines ++ line ∷ []) marks (progress.Bad number refusal.why)
-next_refused lines line refusal marks left number at is counted later =
-    next_is lines line marks (suc left) at later
-    ∙ ap (λ read. marks_onto (reverse marks) (mark_before (suc (length lines)) read (marks_from (suc (suc (length lines))) later left))) is
-    ∙ (λ i. Err (record { line = sym counted i; why = refusal.why }))
-
-pub one_too_many : (lines : List (List ℕ)) (line : List ℕ) (marks : List Mark) (number : ℕ) → IsProgress lines marks (progress.Marks zero) → number ≡ suc (length lines)
-    → IsProgress (lines ++ line ∷ []) marks (progress.Bad number why.UnknownWord)
-one_too_many lines line marks number at counted later =
-    next_is lines line marks zero at later ∙ (λ i. Err (record { line = sym counted i; why = why.UnknownWord }))
-
-pub stays_bad : (lines : List (List ℕ)) (line : List ℕ) (marks : List Mark) (number : ℕ) (reason : Why) → IsProgress lines marks (progress.Bad number reason)
-    → IsProgress (lines ++ line ∷ []) marks (progress.Bad number reason)
-stays_bad lines line marks number reason at later = ap marks_of (append_assoc lines (line ∷ []) later) ∙ at (line ∷ later)
-
 -- ---- no line more
 -- all marks came
 whole_is : (lines : List (List ℕ)) (marks : List Mark) → IsProgress lines marks (progress.Marks zero) → marks_of lines ≡ Ok (reverse marks)
@@ -91,9 +65,6 @@ pub found_missing : (lines : List (List ℕ)) (marks : List Mark) (left number :
 found_missing lines marks zero number some at counted = absurd (omega arith)
 found_missing lines marks (suc left) number some at counted =
     found_bad lines number why.NoWord (ap marks_of (sym (append-nil lines)) ∙ at [] ∙ (λ i. Err (record { line = sym counted i; why = why.NoWord })))
-
-pub found_nothing : (lines : List (List ℕ)) → lines ≡ [] → IsFound lines (Bad 1 why.NoWord)
-found_nothing lines is = found_bad lines 1 why.NoWord (ap marks_of is)
 
 pub found_bad_line : (lines : List (List ℕ)) (marks : List Mark) (number : ℕ) (reason : Why) → IsProgress lines marks (progress.Bad number reason) → IsFound lines (Bad number reason)
 found_bad_line lines marks number reason at = found_bad lines number reason (ap marks_of (sym (append-nil lines)) ∙ at [])

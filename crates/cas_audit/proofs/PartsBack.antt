@@ -121,10 +121,6 @@ last read text words x are reads at =
 pub named : (word : Word) (rest : List ℕ) (words : List Word) → 0 < length word → has_no_blank word ≡ true → words_of rest ≡ words → words_of (word ++ 32 ∷ rest) ≡ word ∷ words
 named word rest words some whole are = behind word rest (word ∷ []) words (name word some whole) are
 
--- two numbers
-two_words : (one two : ℕ) → one < 2 ^ 64 → two < 2 ^ 64 → words_of (decimal one ++ codes " " ++ decimal two) ≡ decimal one ∷ decimal two ∷ []
-two_words one two fits also = after_blank (decimal one) (decimal two) (decimal one ∷ []) (decimal two ∷ []) (number_words one fits) (number_words two also)
-
 -- the words of a shortfall
 short_words : (got need : ℕ) → got < 2 ^ 32 → need < 2 ^ 32 → words_of (codes "short " ++ decimal got ++ codes " " ++ decimal need) ≡ codes "short" ∷ decimal got ∷ decimal need ∷ []
 short_words got need fits also =
@@ -286,8 +282,6 @@ answer_last answer.RecordFull fits = stop_last answer.RecordFull refl fits
 answer_last (answer.NoMemory proposed) fits = stop_last (answer.NoMemory proposed) refl fits
 
 -- ---- an era and a quorum
-abbrev pub quorum_text : ℕ → List ℕ → List ℕ
-quorum_text era by = codes "era " ++ decimal era ++ codes " by " ++ numbers_text by
 
 abbrev pub quorum_list : ℕ → List ℕ → List Word
 quorum_list era by = codes "era" ∷ decimal era ∷ codes "by" ∷ numbers_text by ∷ []

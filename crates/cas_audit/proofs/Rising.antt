@@ -129,15 +129,6 @@ one_read word members list part least id behind so_far split says from fits =
       set = IsMemberSet-members_where (λ n. n == id || has_member members n);
     }
 
--- the first part is that of no member that may stand there
-pub none_says : (word members list part : List ℕ) (least : ℕ) (behind : Option (List ℕ)) → IsReadSoFar word members least (Some list)
-    → slice_split is_comma list ≡ part ∷ option_map_or (λ rest. slice_split is_comma rest) behind [] → within least 63 (u64_of part) ≡ None
-    → None ≡ members_from 0 (slice_split is_comma word)
-none_says word members list part least behind so_far split says =
-    let parts : List Word = option_map_or (λ rest. slice_split is_comma rest) behind [] in
-    let step : members_from least (part ∷ parts) ≡ None = rw says refl in
-    ap (in_front members) (sym step) ∙ ap (λ (ps : List Word). in_front members (members_from least ps)) (sym split) ∙ so_far.reads
-
 -- nothing is left to read
 pub all_read : (word members : List ℕ) (least : ℕ) → IsReadSoFar word members least None → Some members ≡ members_from 0 (slice_split is_comma word)
 all_read word members least so_far = ap (λ (ids : List ℕ). Some ids) (sym (append-nil members)) ∙ so_far.reads

@@ -14,7 +14,7 @@ use Rattle.cas_ballot.specs.Members.{with_member}
 use Rattle.cas_change.specs.declared.program.Clause.{Clause}
 use Rattle.cas_record.specs.declared.entry.Entry.{Entry}
 use Rattle.cas_record.specs.declared.mark.Mark.{Mark}
-use Rattle.cas_record.specs.declared.mark.Mark.TheVariants.{Begun, Proposed, Voted, Acked, Floor, EraEntered, Ended, Harmed}
+use Rattle.cas_record.specs.declared.mark.Mark.TheVariants.{Begun, Proposed, Voted, Acked, Floor, Ended, Harmed}
 use Rattle.cas_record.specs.declared.answer.Answer.{Answer}
 use Rattle.cas_record.specs.declared.mark.Proposal.{Proposal}
 use Rattle.cas_record.specs.declared.mark.Acknowledgment.{Acknowledgment}
@@ -34,7 +34,7 @@ use Rattle.cas_audit.specs.declared.told.Opening.{Opening}
 use Rattle.cas_audit.specs.declared.told.Node.{Node}
 use Rattle.cas_audit.specs.declared.told.Spot.{Spot}
 use Rattle.cas_audit.specs.declared.tables.Tables.{Tables}
-use Rattle.cas_audit.specs.Told.{place_of, seen_of, ballot_of, has_ended, call_of, row_of, opening_of, node_of, node_by, voters_of, has_acked, spot_of, is_at, if_some, chain_from, start_of, raised_row, Reaches}
+use Rattle.cas_audit.specs.Told.{place_of, seen_of, ballot_of, has_ended, call_of, row_of, opening_of, node_of, node_by, voters_of, has_acked, spot_of, is_at, chain_from, start_of, raised_row}
 use Rattle.cas_audit.specs.Tables.{same_call, same_spot, same_place, no_call, IsFoundIn, IsFoundAt, AreTables, program_in, program_at}
 use Rattle.cas_audit.proofs.Histories.{counted_of, some_stays}
 use Rattle.cas_audit.proofs.Openings.{start_is}
@@ -96,17 +96,6 @@ pub places_kept : (mark : Mark) (older : List Mark) (settled : (List ℕ × ℕ)
 places_kept mark older settled legal same places key place within = found_kept mark older legal key place (settled (key, place)) (places key place (omega (arith, within, same key)))
 
 -- ---- marks that change no table
-pub era_next : (tables : Tables) (proposer number : ℕ) (older : List Mark) → IsLegal (EraEntered proposer number ∷ older) → AreTables tables older → AreTables tables (EraEntered proposer number ∷ older)
-era_next tables proposer number older legal are = record {
-  counts = are.counts;
-  calls = are.calls;
-  rows = are.rows;
-  openings = are.openings;
-  nodes = are.nodes;
-  spots = are.spots;
-  settled = places_kept (EraEntered proposer number) older (get same_place tables.settled) legal (λ key. refl) are.settled;
-  calls_began = are.calls_began;
-}
 
 -- ---- a mark that tells of a call
 module _ (old new : Tables) (older : List Mark) (caller call : ℕ) (value : Call) (are : AreTables old older)
@@ -289,23 +278,7 @@ program_told p marks numbered begun =
     let b = began_at p.caller p.call h.place (reverse marks) h.is in
     ap (program_at marks) h.is ∙ ap (λ (n : ℕ). program_in (slice_get marks n)) b.place_is ∙ ap program_in (placed marks b.at) ∙ ap Some (sym (program_of_begun (counted_of numbered) b.at))
 
-pub from_told : (ballot : Ballot) (entries : List Entry) → length entries ≡ 0 → None ≡ if_some ballot entries
-from_told ballot [] e = refl
-from_told ballot (x ∷ entries) e = absurd cc
-
-pub from_some : (ballot : Ballot) (entries : List Entry) → (length entries ≡ 0 → ⊥) → Some ballot ≡ if_some ballot entries
-from_some ballot [] e = absurd (e refl)
-from_some ballot (x ∷ entries) e = refl
-
 -- ---- what an acknowledgment or a floor leaves
--- at each place of what is settled then a ballot was found
-abbrev pub AllFound : List ℕ → List Mark → List Entry → ((List ℕ × ℕ) → Option Ballot) → Type 0
-AllFound key marks entries settled = (place : ℕ) → place < length entries → IsFoundIn key marks entries place (settled (key, place))
-
--- places of what was settled before are places of what goes on from it
-pub found_on : (key : List ℕ) (marks : List Mark) (entries : List Entry) (place : ℕ) (found : Option Ballot) → IsPrefix (settled_of key marks) entries → IsFoundAt key marks place found → IsFoundIn key marks entries place found
-found_on key marks entries place None begins ends = ends
-found_on key marks entries place (Some ballot) begins ends = record { begins = prefix_trans ends.begins begins; long = ends.long }
 
 -- with one mark more
 pub found_next : (mark : Mark) (older : List Mark) → IsLegal (mark ∷ older) → (key : List ℕ) (entries : List Entry) (place : ℕ) (found : Option Ballot) → settled_of key (mark ∷ older) ≡ entries
@@ -322,9 +295,6 @@ found_next mark older legal key entries place (Some ballot) is ends =
 pub place_apart : (key k : List ℕ) (place p : ℕ) → (key ≡ k → place ≡ p → ⊥) → same_place (key, place) (k, p) ≡ false
 place_apart key k place p apart = false_of_not (same_place (key, place) (k, p)) (λ e. apart (key_same (and_left (is_key key k) (place == p) e)) (nat_same {a = place} {b = p} (and_right (is_key key k) (place == p) e)))
 
-pub place_same : (key : List ℕ) (place : ℕ) → same_place (key, place) (key, place) ≡ true
-place_same key place = both_true (is_key key key) (place == place) (key_is {a = key} refl) (nat_is {a = place} {b = place} refl)
-
 -- what a table of places finds of the settled histories stays, with one ballot more past what is settled
 pub settled_put : (key : List ℕ) (place : ℕ) (ballot : Ballot) (marks : List Mark) (old new : (List ℕ × ℕ) → Option Ballot) → length (settled_of key marks) ≤ place
     → ((q : List ℕ × ℕ) → new q ≡ (if same_place (key, place) q then Some ballot else old q))
@@ -335,10 +305,6 @@ settled_put key place ballot marks old new beyond put places k p within =
 
 pub node_empty : (key : List ℕ) (ballot : Ballot) (marks : List Mark) (node : Node) → IsNumbered marks → node_of key ballot marks ≡ Some node → node.length ≡ 0 → length (chain_of key ballot marks) ≡ 0
 node_empty key ballot marks node numbered is none = sym (node_length numbered (node_tells key ballot marks node is)) ∙ none
-
--- a step finds the ballot at its place
-pub found_step : (key : List ℕ) (ballot : Ballot) (marks : List Mark) (entries : List Entry) (place : ℕ) → Reaches key (Some ballot) marks entries (suc place) → IsFoundIn key marks entries place (Some ballot)
-found_step key ballot marks entries place r = record { begins = r.begins; long = r.long }
 
 -- ---- rows after a top
 -- the row of another key stays

@@ -1,6 +1,7 @@
 -- What the tables of an audit are to the marks so far. The marks are read newest first.
 use Rattle.std.specs.Prelude.{◌≡◌, ℕ, ◌<◌, Bool, false, ◌&&◌, ◌==◌, nat_eq, List, [], ◌∷◌, ◌++◌, length, Option, Some, None, unwrap_or, slice_get}
 use Rattle.std.specs.Option.{option_and_then}
+use Rattle.std.specs.BTreeSet.{BTreeSet}
 use Rattle.indexmap.specs.IndexMap.{get, spare}
 use Rattle.cas_ballot.specs.declared.ballot.Ballot.{Ballot}
 use Rattle.cas_ballot.specs.Ballot.{zero_ballot}
@@ -16,7 +17,7 @@ use Rattle.cas_audit.specs.declared.told.Call.{Call}
 use Rattle.cas_audit.specs.declared.told.Row.{Row}
 use Rattle.cas_audit.specs.declared.told.Spot.{Spot}
 use Rattle.cas_audit.specs.declared.tables.Tables.{Tables}
-use Rattle.cas_audit.specs.Told.{call_of, row_of, opening_of, node_of, spot_of, EndsFront}
+use Rattle.cas_audit.specs.Told.{call_of, row_of, opening_of, floors_of, node_of, spot_of, EndsFront}
 
 -- whether two calls, two ballots of keys, or two places in the histories of keys are one
 abbrev pub same_call : (ℕ × ℕ) → (ℕ × ℕ) → Bool
@@ -38,6 +39,11 @@ no_row = record { top = zero_ballot; settled = 0; floor = None }
 abbrev pub no_spot : Spot
 no_spot = record { voters = []; acked = false }
 
+-- the ballots of a set, in their order, and none where there is no set
+abbrev pub ballots_in : Option (BTreeSet Ballot) → List Ballot
+ballots_in None = []
+ballots_in (Some set) = set.keys
+
 -- the ballot that was found ends the front of the entries with so many before its last
 abbrev pub IsFoundIn : List ℕ → List Mark → List Entry → ℕ → Option Ballot → Type 0
 IsFoundIn key marks entries place None = ⊥
@@ -52,6 +58,7 @@ pub record AreTables (tables : Tables) (marks : List Mark) : Type 0 where
   pub calls : (caller call : ℕ) → unwrap_or (get same_call tables.calls (caller, call)) no_call ≡ call_of caller call marks
   pub rows : (key : List ℕ) → unwrap_or (get is_key tables.rows key) no_row ≡ row_of key marks
   pub openings : (key : List ℕ) → get is_key tables.openings key ≡ opening_of key marks
+  pub floors : (key : List ℕ) → ballots_in (get is_key tables.floors key) ≡ floors_of key marks
   pub nodes : (key : List ℕ) (ballot : Ballot) → get same_spot tables.nodes (key, ballot) ≡ node_of key ballot marks
   pub spots : (key : List ℕ) (ballot : Ballot) → unwrap_or (get same_spot tables.spots (key, ballot)) no_spot ≡ spot_of key ballot marks
   pub settled : (key : List ℕ) (place : ℕ) → place < length (settled_of key marks) → IsFoundAt key marks place (get same_place tables.settled (key, place))
@@ -63,6 +70,7 @@ pub record HasRoom (tables : Tables) : Type 0 where
   pub calls : 0 < spare tables.calls
   pub rows : 0 < spare tables.rows
   pub openings : 0 < spare tables.openings
+  pub floors : 0 < spare tables.floors
   pub nodes : 0 < spare tables.nodes
   pub spots : 0 < spare tables.spots
 

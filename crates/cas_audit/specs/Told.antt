@@ -1,7 +1,9 @@
 -- What the marks tell of a call, of a key, and of a key's ballot. The marks are read newest first.
 use Rattle.std.specs.Prelude.{◌≡◌, ℕ, suc, Bool, false, not, ◌&&◌, ◌||◌, if◌then◌else◌, List, [], ◌∷◌, length, Option, Some, None}
 use Rattle.cas_ballot.specs.declared.ballot.Ballot.{Ballot}
-use Rattle.cas_ballot.specs.Ballot.{greater_of}
+use Rattle.std.specs.BTreeSet.{insert_key}
+use Rattle.std.specs.Ordering.{is_lt}
+use Rattle.cas_ballot.specs.Ballot.{ballot_cmp, greater_of, zero_ballot}
 use Rattle.cas_ballot.specs.Members.{with_member}
 use Rattle.cas_change.specs.declared.state.State.{State}
 use Rattle.cas_change.specs.declared.state.State.TheVariants.{Empty}
@@ -64,6 +66,17 @@ abbrev pub raised_row : List ℕ → Ballot → List Mark → Row
 raised_row key ballot marks =
     let top = greater_of ballot (top_of key marks) in
     record { top = top; settled = length (chain_of key top marks); floor = floor_at key marks }
+
+-- the key's floors, in the order of their ballots
+abbrev pub floors_of : List ℕ → List Mark → List Ballot
+floors_of key [] = []
+floors_of key (Floor k floor state ∷ older) = if is_key k key then insert_key ballot_cmp (floors_of key older) floor else floors_of key older
+floors_of key (mark ∷ older) = floors_of key older
+
+-- the greatest of these ballots that is below that one, or zero
+abbrev pub most_below : Ballot → List Ballot → Ballot
+most_below ballot [] = zero_ballot
+most_below ballot (floor ∷ floors) = if is_lt (ballot_cmp floor ballot) then greater_of floor (most_below ballot floors) else most_below ballot floors
 
 -- the key's latest opening floor
 abbrev pub opening_of : List ℕ → List Mark → Option Opening

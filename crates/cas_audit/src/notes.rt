@@ -1,7 +1,8 @@
 //! What one mark more adds to the tables.
 
 ghost use Rattle.std.specs.Prelude.{◌≡◌, ◌<◌, Some, ◌≤◌, ◌^◌, ℕ, suc, Bool, List, ◌∷◌, length, reverse, option_copied, if◌then◌else◌, IfOk, OnOk, OnErr};
-ghost use Rattle.cas_ballot.specs.Ballot.{greater_of};
+ghost use Rattle.std.specs.BTreeSet.{insert_key};
+ghost use Rattle.cas_ballot.specs.Ballot.{ballot_cmp, greater_of};
 ghost use Rattle.cas_change.specs.declared.program.Clause.{Clause};
 ghost use Rattle.cas_record.specs.declared.answer.Answer.{Answer};
 ghost use Rattle.cas_record.specs.Index.{later_of};
@@ -9,13 +10,13 @@ ghost use Rattle.cas_record.specs.declared.entry.Entry.{Entry};
 ghost use Rattle.cas_record.specs.declared.mark.Mark.{Mark};
 ghost use Rattle.cas_record.specs.declared.mark.Mark.TheVariants.{Begun, Proposed, Voted, Acked, Floor, Ended, Harmed};
 ghost use Rattle.cas_change.specs.Outcome.{outcome_of};
-ghost use Rattle.cas_record.specs.Chain.{floor_below, has_opening, link_of, program_of, chain_of, top_of, settled_of};
+ghost use Rattle.cas_record.specs.Chain.{floor_below, is_key, has_opening, link_of, program_of, chain_of, top_of, settled_of};
 ghost use Rattle.cas_record.specs.Places.{IsPrefix};
 ghost use Rattle.cas_record.specs.Legal.{IsBegun, IsLegal};
 ghost use Rattle.cas_record.specs.Replay.{replay_from, opening_state};
-ghost use Rattle.cas_audit.specs.Told.{opening_of, start_of, node_by, raised_row, Reaches};
-ghost use Rattle.cas_audit.specs.Tables.{AreTables, IsAudit, IsFoundIn, HasRoom, program_at, same_place};
-ghost use Rattle.indexmap.specs.IndexMap.{get};
+ghost use Rattle.cas_audit.specs.Told.{opening_of, start_of, most_below, node_by, raised_row, Reaches};
+ghost use Rattle.cas_audit.specs.Tables.{AreTables, ballots_in, IsAudit, IsFoundIn, HasRoom, program_at, same_place};
+ghost use Rattle.indexmap.specs.IndexMap.{get, spare};
 
 use crate::tables::{Tables, put};
 use crate::told::{Call, Node, Opening, Row, Spot};
@@ -24,6 +25,7 @@ use cas_change::{Key, Outcome, Program, State, apply};
 use cas_record::{Acknowledgment, Mark, Proposal};
 use indexmap::IndexMap;
 use std::alloc::AllocError;
+use std::collections::BTreeSet;
 
 impl Tables {
     /// Notes that a call began, by the mark at this place.
@@ -153,20 +155,13 @@ impl Tables {
         }
     }
 
-    /// The greatest floor of the key below the ballot, or zero. The marks are read where its greatest floor is not below.
-    fn floor_below(&self, marks: &[Mark], key: &Key, ballot: Ballot) -> Ballot
-        requires { IsAudit self.now (reverse marks.now) }
-        ensures { result ≡ floor_below key.now ballot (reverse marks.now) }
+    /// The greatest floor of the key below the ballot, or zero.
+    fn floor_below(&self, key: &Key, ballot: Ballot) -> Ballot
+        ensures { (marks : List Mark) → IsAudit self.now marks → result ≡ floor_below key.now ballot marks }
     {
-        match self.row_of(key).floor {
+        match self.floors.get(key) {
+            Some(floors) => most_below(floors, ballot),
             None => Ballot::ZERO,
-            Some(floor) => {
-                if floor.cmp(&ballot).is_lt() {
-                    floor
-                } else {
-                    read_floor_below(marks, key, ballot)
-                }
-            }
         }
     }
 
@@ -204,7 +199,7 @@ impl Tables {
         requires few { length marks.now < 2 ^ 32 }
         ensures { IfOk result (λ node. node ≡ node_by p.now (reverse marks.now)) }
     {
-        let link = later_of(p.read, self.floor_below(marks, &p.key, p.ballot));
+        let link = later_of(p.read, self.floor_below(&p.key, p.ballot));
         let before = self.length_of(&p.key, link)?;
         let state = self.state_at(&p.key, link)?;
         let outcome = self.outcome_by(marks, p, &state)?;
@@ -388,6 +383,7 @@ impl Tables {
             state: state.copy()?,
         };
         let row = self.raise(key, ballot)?;
+        add_floor(&mut self.floors, key, ballot)?;
         let raised = Row {
             top: row.top,
             settled: row.settled,
@@ -419,6 +415,27 @@ fn keep(
     Ok(())
 }
 
+/// Adds a ballot to the floors of the key. After an `Err` the floors of each key are what they were.
+fn add_floor(
+    table: &mut IndexMap<Key, BTreeSet<Ballot>>,
+    key: &Key,
+    ballot: Ballot,
+) -> Result<(), AllocError>
+    requires { 0 < spare table.old }
+    ensures ok { OnOk result ((k : List ℕ) → ballots_in (get is_key table.new k) ≡ (if is_key key.now k then insert_key ballot_cmp (ballots_in (get is_key table.old k)) ballot else ballots_in (get is_key table.old k))) }
+    ensures err { OnErr result ((k : List ℕ) → ballots_in (get is_key table.new k) ≡ ballots_in (get is_key table.old k)) }
+{
+    if let Some(floors) = table.get_mut(key) {
+        floors.insert(ballot)?;
+        return Ok(());
+    }
+    let at = key.copy()?;
+    let mut floors = BTreeSet::new(*table.allocator());
+    floors.insert(ballot)?;
+    put(table, at, floors);
+    Ok(())
+}
+
 /// The later of a ballot and a floor that may be there.
 fn later_floor(ballot: Ballot, floor: Option<Ballot>) -> Ballot
     ensures { result ≡ later_of ballot floor }
@@ -446,36 +463,12 @@ fn program_at(marks: &[Mark], begun: Option<usize>) -> Option<&Program>
     }
 }
 
-fn later_if(taken: bool, ballot: Ballot, so_far: Ballot) -> Ballot
-    ensures { result ≡ (if taken then greater_of ballot so_far else so_far) }
+/// The greatest of these ballots that is below that one, or zero.
+fn most_below(floors: &BTreeSet<Ballot>, ballot: Ballot) -> Ballot
+    ensures { result ≡ most_below ballot floors.now.keys }
 {
-    if taken {
-        later_of(ballot, so_far)
-    } else {
-        so_far
+    match floors.range(..ballot).next_back() {
+        Some(floor) => *floor,
+        None => Ballot::ZERO,
     }
-}
-
-fn floor_after(floor: Ballot, key: &Key, ballot: Ballot, mark: &Mark) -> Ballot
-    ensures { (older : List Mark) → floor ≡ floor_below key.now ballot older → result ≡ floor_below key.now ballot (mark.now ∷ older) }
-{
-    match mark {
-        Mark::Floor {
-            key: other,
-            ballot: made,
-            ..
-        } => later_if(other == key && made.cmp(&ballot).is_lt(), *made, floor),
-        _ => floor,
-    }
-}
-
-/// The greatest floor of the key below the ballot, or zero, by reading all marks.
-fn read_floor_below(marks: &[Mark], key: &Key, ballot: Ballot) -> Ballot
-    ensures { result ≡ floor_below key.now ballot (reverse marks.now) }
-{
-    let mut floor = Ballot::ZERO;
-    for mark in marks {
-        floor = floor_after(floor, key, ballot, mark);
-    }
-    floor
 }

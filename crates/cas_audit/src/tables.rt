@@ -15,6 +15,7 @@ use cas_ballot::{Ballot, Members};
 use cas_change::Key;
 use indexmap::IndexMap;
 use std::alloc::{AllocError, Global};
+use std::collections::BTreeSet;
 use std::hash::Hash;
 
 /// What is kept of the marks.
@@ -26,6 +27,8 @@ pub struct Tables {
     pub rows: IndexMap<Key, Row>,
     /// The floors with which keys open.
     pub openings: IndexMap<Key, Opening>,
+    /// The floors of each key, in the order of their ballots.
+    pub floors: IndexMap<Key, BTreeSet<Ballot>>,
     /// The proposal of each key at a ballot.
     pub nodes: IndexMap<(Key, Ballot), Node>,
     pub spots: IndexMap<(Key, Ballot), Spot>,
@@ -53,6 +56,7 @@ impl Tables {
             calls: IndexMap::new(alloc),
             rows: IndexMap::new(alloc),
             openings: IndexMap::new(alloc),
+            floors: IndexMap::new(alloc),
             nodes: IndexMap::new(alloc),
             spots: IndexMap::new(alloc),
             settled: IndexMap::new(alloc),
@@ -69,6 +73,7 @@ impl Tables {
         self.calls.reserve(1)?;
         self.rows.reserve(1)?;
         self.openings.reserve(1)?;
+        self.floors.reserve(1)?;
         self.nodes.reserve(1)?;
         self.spots.reserve(1)
     }

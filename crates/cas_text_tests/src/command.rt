@@ -227,12 +227,12 @@ fn keeps_to_the_limits(rt: HostRuntime) -> Result<(), Fail> {
         (b"op probe ", b'k', 65, b"", Some((Why::TooLong, 2))),
         (b"op collect ", b'k', 64, b"", None),
         (b"op collect ", b'k', 65, b"", Some((Why::TooLong, 2))),
-        (b"1 set a ", b't', 200, b"", None),
-        (b"1 set a ", b't', 201, b"", Some((Why::TooLong, 3))),
-        (b"1 get a", b' ', 4_089, b"", None),
-        (b"1 get a", b' ', 4_090, b"", Some((Why::TooLong, 0))),
-        (b"1 got ", b' ', 4_090, b"a", Some((Why::TooLong, 0))),
-        (b"#", b' ', 4_096, b"", Some((Why::TooLong, 0))),
+        (b"1 set a ", b't', 4_000, b"", None),
+        (b"1 set a ", b't', 4_001, b"", Some((Why::TooLong, 3))),
+        (b"1 get a", b' ', 16_377, b"", None),
+        (b"1 get a", b' ', 16_378, b"", Some((Why::TooLong, 0))),
+        (b"1 got ", b' ', 16_378, b"a", Some((Why::TooLong, 0))),
+        (b"#", b' ', 16_384, b"", Some((Why::TooLong, 0))),
     ] {
         let line = line_of(rt.alloc(), front, byte, count, back)?;
         match read_command(rt.alloc(), &line, 1) {

@@ -1,16 +1,13 @@
-use Rattle.std.proofs.Common.{reverse, sym, ap, ◌∙◌}
-use Rattle.std.specs.Ordering.{is_lt}
-use Rattle.cas_record.proofs.StandLemmas.{no_floor, floor_is}
-use Rattle.cas_audit.specs.declared.told.Row.{Row}
+use Rattle.std.proofs.Common.{sym, ap, ◌∙◌}
+use Rattle.std.specs.Prelude.{option_copied}
+use Rattle.cas_audit.specs.Tables.{ballots_in}
+use Rattle.cas_audit.specs.Told.{most_below}
+use Rattle.cas_audit.proofs.LowerFloors.{floors_below}
 use Rattle.cas_audit.proofs.tables.Tables.floor_below.Goals as goal
 
-pub returns-in-None : goal.returns-in-None
-returns-in-None c =
-    let marks = reverse c.args.marks.now in
-    sym (no_floor c.args.key.now c.args.ballot marks (sym (ap (λ (x : Row). x.floor) (c.row_of.ensures marks c.requires.are)) ∙ c.in-None.is))
+pub returns-in-Some : goal.returns-in-Some
+returns-in-Some c = λ marks audit.
+    c.most_below.ensures ∙ ap (most_below c.args.ballot) (ap ballots_in (ap option_copied (sym c.in-Some.is) ∙ c.get.ensures.value) ∙ audit.are.floors c.args.key.now) ∙ floors_below c.args.key.now c.args.ballot marks
 
-pub returns-then-is_lt : goal.returns-then-is_lt
-returns-then-is_lt c =
-    let marks = reverse c.args.marks.now in
-    sym (floor_is c.args.key.now c.args.ballot c.in-Some.floor marks (sym (ap (λ (x : Row). x.floor) (c.row_of.ensures marks c.requires.are)) ∙ c.in-Some.is)
-    (sym (c.is_lt.ensures ∙ ap is_lt c.cmp.ensures) ∙ c.if-is_lt.true))
+pub returns-in-None : goal.returns-in-None
+returns-in-None c = λ marks audit. ap (most_below c.args.ballot) (ap ballots_in (ap option_copied (sym c.in-None.is) ∙ c.get.ensures.value) ∙ audit.are.floors c.args.key.now) ∙ floors_below c.args.key.now c.args.ballot marks

@@ -9,6 +9,7 @@ returns-clause-tables c = λ marks are beyond. record {
   calls = are.calls;
   rows = are.rows;
   openings = are.openings;
+  floors = are.floors;
   nodes = are.nodes;
   spots = are.spots;
   settled = settled_put c.args.key.now c.args.place c.args.ballot marks (get same_place c.args.self.now.settled) (get same_place c.keep.new.table) beyond c.in_ok-keep.ensures.ok are.settled;

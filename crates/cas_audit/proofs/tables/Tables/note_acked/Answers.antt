@@ -34,6 +34,7 @@ returns-clause-ok c = λ marks audit legal.
       calls = are.calls;
       rows = next_or is_key (λ k. row_of k (mark ∷ marks)) (λ k. row_of k marks) no_row (get is_key mid.rows) (get is_key c.put-2.new.table) a.key row put_row are.rows (acked_row a marks row row_is) (acked_row_other a marks);
       openings = are.openings;
+      floors = are.floors;
       nodes = are.nodes;
       spots = λ k b. next_or same_spot (λ q. spot_of q.0 q.1 (mark ∷ marks)) (λ q. spot_of q.0 q.1 marks) no_spot (get same_spot mid.spots) (get same_spot c.put.new.table) (a.key, a.ballot) value put_spot (λ q. are.spots q.0 q.1)
           (acked_spot a marks spot (c.in_ok-spot.ensures marks audit.are)) (acked_other a marks) (k, b);

@@ -28,6 +28,7 @@ returns c = λ marks program are place_is legal.
           (λ q e. begun_other caller call key program marks q.0 q.1 e) (c1, n1);
       rows = are.rows;
       openings = are.openings;
+      floors = are.floors;
       nodes = are.nodes;
       spots = are.spots;
       settled = places_kept mark marks (get same_place old.settled) legal (λ k. refl) are.settled;

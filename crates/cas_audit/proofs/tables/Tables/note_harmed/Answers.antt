@@ -29,6 +29,7 @@ returns c = λ down legal.
           (λ q e. harmed_other caller call down marks q.0 q.1 e) (c1, n1);
       rows = are.rows;
       openings = are.openings;
+      floors = are.floors;
       nodes = are.nodes;
       spots = are.spots;
       settled = places_kept mark marks (get same_place old.settled) legal (λ k. refl) are.settled;

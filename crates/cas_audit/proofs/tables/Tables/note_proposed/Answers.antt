@@ -23,6 +23,7 @@ returns-clause-ok c =
           (λ q e. proposed_other p marks q.0 q.1 e) (c1, n1);
       rows = λ key. are.rows key ∙ sym (proposed_row p marks c.requires.audit.legal key);
       openings = are.openings;
+      floors = are.floors;
       nodes = λ k b. next_some same_spot (λ q. node_of q.0 q.1 (mark ∷ marks)) (λ q. node_of q.0 q.1 marks) (get same_spot old.nodes) (get same_spot c.put-2.new.table) (p.key, p.ballot) node put (λ q. are.nodes q.0 q.1)
           (λ q e. proposed_node p marks node c.in_ok-node.ensures q e)
           (λ q e. no_proposed_node p marks q e) (k, b);

@@ -22,6 +22,7 @@ returns-clause-ok c = λ marks are legal.
       calls = are.calls;
       rows = are.rows;
       openings = are.openings;
+      floors = are.floors;
       nodes = are.nodes;
       spots = λ k b. next_or same_spot (λ q. spot_of q.0 q.1 (mark ∷ marks)) (λ q. spot_of q.0 q.1 marks) no_spot (get same_spot old.spots) (get same_spot c.put.new.table) (key, ballot) value put (λ q. are.spots q.0 q.1)
           (λ q e. voted_spot c.args.acceptor key ballot marks spot (c.in_ok-spot.ensures marks are) q e ∙ (λ i. record { voters = sym c.insert.ensures i; acked = spot.acked }))
