@@ -54,10 +54,6 @@ last_one_found says left x e =
     let w = one_found says left x r.0 r.1 in
     (w.0, w.1 ∙ ap (λ (ws : List Word). w.0 ∷ ws) r.2, w.2)
 
-pub one_again : {X : Type 0} (says : ℕ → Word → Result X TextRefusal) (at : ℕ) (word : Word) (rest : List Word) (x : X) → says at word ≡ Ok x
-    → one_word says (from at (word ∷ rest)) ≡ Ok (x, from (at + 1) rest)
-one_again says at word rest x e = rw e refl
-
 pub said_found : {X : Type 0} (value : Word → Option X) (reason : Why) (at : ℕ) (word : Word) (x : X) → said value reason at word ≡ Ok x → value word ≡ Some x
 said_found value reason at word x e = ok_or_ok (value word) (record { why = reason; word = at }) x e
 

@@ -8,5 +8,6 @@ pub mod LineMisfits
 pub mod Newlines
 pub mod OperatorLines
 pub mod Pieces
+pub mod Summaries
 pub mod Told
 pub mod WholeRuns

@@ -125,7 +125,7 @@ is_remark [] = true
 is_remark ([] ∷ words) = false
 is_remark ((byte ∷ bytes) ∷ words) = byte == 35
 
--- what a line of at most 4,096 bytes says: a command, or nothing where it is a remark
+-- what a line of at most 16,384 bytes says: a command, or nothing where it is a remark
 abbrev pub IsLine : ℕ → List ℕ → Option Command → Type 0
 IsLine proposers line None = (length line ≤ LONGEST_LINE) × (is_remark (words_of line) ≡ true)
 IsLine proposers line (Some command) = (length line ≤ LONGEST_LINE) × IsCommand proposers (words_of line) command

@@ -5,3 +5,4 @@ pub mod Lines
 pub mod Reading
 pub mod Sink
 pub mod Source
+pub mod Summary

@@ -14,6 +14,9 @@ use cas_record::{Answer, Cause};
 use cas_slot::{Accepted, Slot};
 use std::alloc::{AllocError, Global};
 
+/// For how many bytes an answer has room at first. Only a longer one grows.
+const USUAL_ANSWER: usize = 64;
+
 /// What an event is answered.
 #[derive(Clone, Copy, Debug, PartialEq, Eq)]
 pub enum EventAnswer {
@@ -46,7 +49,8 @@ pub enum Shown {
 pub fn print_answer(alloc: Global, caller: u8, answer: &Answer) -> Result<Vec<u8>, AllocError>
     ensures { IfOk result (λ line. line.items ≡ change_line caller answer.now) }
 {
-    let mut line = format!(in alloc; "{caller}: ")?;
+    let mut line = String::with_capacity(alloc, USUAL_ANSWER)?;
+    write!(line, "{caller}: ")?;
     push_answer(&mut line, answer)?;
     line.push('\n')?;
     Ok(line.into_bytes())
@@ -56,7 +60,8 @@ pub fn print_answer(alloc: Global, caller: u8, answer: &Answer) -> Result<Vec<u8
 pub fn print_bad(alloc: Global, number: u32, why: Why) -> Result<Vec<u8>, AllocError>
     ensures { IfOk result (λ line. line.items ≡ bad_line number why) }
 {
-    let mut line = format!(in alloc; "bad {number} ")?;
+    let mut line = String::with_capacity(alloc, USUAL_ANSWER)?;
+    write!(line, "bad {number} ")?;
     line.push_str(why.reason())?;
     line.push('\n')?;
     Ok(line.into_bytes())

@@ -15,6 +15,7 @@ mod parts;
 mod reading;
 pub mod sink;
 pub mod source;
+pub mod summary;
 
 pub use events::read_acceptor;
 pub use parts::{read_key, within};

@@ -113,6 +113,13 @@ fn has_newline_from(bytes: &[u8], from: usize) -> bool
     contains_newline(&bytes[from..])
 }
 
+/// Whether some byte of the first ones is a newline.
+fn has_newline_within(bytes: &[u8], room: usize) -> bool
+    ensures { result ≡ has_newline (take room bytes.now) }
+{
+    contains_newline(&bytes[..room.min(bytes.len())])
+}
+
 /// Where the first line ends.
 #[derive(Clone, Copy, Debug, PartialEq, Eq)]
 struct Cut {
@@ -217,7 +224,7 @@ fn fill<S: Source>(source: &mut S, held: &mut Vec<u8>, room: usize) -> Result<Su
     ensures not_too_many { result ≢ Err LineFault.TooManyLines }
     ensures never_falls { S.faults_of source.old ≤ S.faults_of source.new }
 {
-    if contains_newline(&held[..room.min(held.len())]) {
+    if has_newline_within(held, room) {
         return Ok(Supply::Line);
     }
     while held.len() <= room {
@@ -234,23 +241,26 @@ fn fill<S: Source>(source: &mut S, held: &mut Vec<u8>, room: usize) -> Result<Su
 }
 
 /// A reader of the lines of one source, which each call of `next` is passed.
+///
+/// What was taken and is not handed out stands in `held` from `at` on. It moves to the front only before more is taken.
 #[derive(Debug, Drop)]
 pub struct Lines {
     alloc: Global,
     held: Vec<u8>,
+    at: usize,
     handed: u32,
 }
 
 impl Model for Lines {
-    ghost use Rattle.std.specs.Prelude.{◌+◌, ◌≤◌, vec_len};
+    ghost use Rattle.std.specs.Prelude.{◌+◌, ◌≤◌, drop, vec_len};
     ghost use Rattle.cas_lines.specs.Lines.{LinesState};
     ghost use Rattle.cas_lines.specs.declared.lines.TheConstants.{LINE_LIMIT, MOST_LINES};
 
     ghost Value = { LinesState };
 
-    ghost view = { λ l. record { held = l.held.items; handed = l.handed } };
+    ghost view = { λ l. record { held = drop l.at l.held.items; handed = l.handed } };
 
-    ghost invariant = { λ l. (vec_len l.held ≤ LINE_LIMIT + 1) × (l.handed ≤ MOST_LINES) };
+    ghost invariant = { λ l. (l.at ≤ vec_len l.held) × (vec_len l.held ≤ LINE_LIMIT + 1) × (l.handed ≤ MOST_LINES) };
 }
 
 impl Lines {
@@ -262,8 +272,16 @@ impl Lines {
         Lines {
             alloc,
             held: Vec::new(alloc),
+            at: 0,
             handed: 0,
         }
+    }
+
+    /// The bytes that were taken and are not handed out.
+    fn rest(&self) -> &[u8]
+        ensures { result.now ≡ self.now.held }
+    {
+        &self.held[self.at..]
     }
 
     /// Hands out the first line of what is held. After an `Err` all is as before.
@@ -276,9 +294,10 @@ impl Lines {
         ensures handed { OnOk result (self.new.handed ≡ self.old.handed + 1) }
         ensures err { OnErr result (self.new ≡ self.old) }
     {
-        let cut = first_cut(&self.held);
-        let bytes = Vec::from_slice(self.alloc, &self.held[..cut.text])?;
-        drop_front(&mut self.held, cut.spelled);
+        let rest = self.rest();
+        let cut = first_cut(rest);
+        let bytes = Vec::from_slice(self.alloc, &rest[..cut.text])?;
+        self.at += cut.spelled;
         self.handed += 1;
         Ok(Line {
             number: self.handed,
@@ -299,14 +318,39 @@ impl Lines {
         ensures asks { GrowsBy S.take_gives 0 self.old.held source.old (StopsAtEnd result) self.new.held source.new }
         ensures never_falls { S.faults_of source.old ≤ S.faults_of source.new }
     {
-        if !self.held.is_empty() {
+        if !self.rest().is_empty() {
             return Err(LineFault::TooManyLines);
         }
+        drop_front(&mut self.held, self.at);
+        self.at = 0;
         if take_piece(source, &mut self.held, LINE_LIMIT)? == 0 {
             Ok(())
         } else {
             Err(LineFault::TooManyLines)
         }
+    }
+
+    /// Takes from the source until a newline stands within the longest line, and leaves it alone where one stands there
+    /// already.
+    fn supply<S: Source>(&mut self, source: &mut S) -> Result<Supply, LineFault>
+        ensures ahead { Keeps (ahead self.old (S.remaining source.old)) (ahead self.new (S.remaining source.new)) }
+        ensures line { result ≡ Ok Supply.Line → has_newline (take LINE_LIMIT self.new.held) ≡ true }
+        ensures end { result ≡ Ok Supply.End → (has_newline self.new.held ≡ false) × (length self.new.held ≤ LINE_LIMIT) × IsAtEnd (S.remaining source.new) }
+        ensures beyond { result ≡ Ok Supply.Beyond → (has_newline (take LINE_LIMIT self.new.held) ≡ false) × (LINE_LIMIT < length self.new.held) }
+        ensures handed { self.new.handed ≡ self.old.handed }
+        ensures ready { has_newline (take LINE_LIMIT self.old.held) ≡ true → source.new ≡ source.old }
+        ensures asks { GrowsBy S.take_gives LINE_LIMIT self.old.held source.old (StopsFilling result) self.new.held source.new }
+        ensures read_fault { IsErrOf result LineFault.ReadFault → Rose (S.faults_of source.old) (S.faults_of source.new) }
+        ensures not_endless { (line : ℕ) → result ≢ Err (LineFault.Endless line) }
+        ensures not_too_many { result ≢ Err LineFault.TooManyLines }
+        ensures never_falls { S.faults_of source.old ≤ S.faults_of source.new }
+    {
+        if has_newline_within(self.rest(), LINE_LIMIT) {
+            return Ok(Supply::Line);
+        }
+        drop_front(&mut self.held, self.at);
+        self.at = 0;
+        fill(source, &mut self.held, LINE_LIMIT)
     }
 
     /// Hands out the next line, or `None` where the input has ended and all its lines were handed out. It takes from
@@ -346,14 +390,13 @@ impl Lines {
             self.expect_end(source)?;
             return Ok(None);
         }
-        match fill(source, &mut self.held, LINE_LIMIT)? {
+        let line = self.handed + 1;
+        match self.supply(source)? {
             Supply::Line => Ok(Some(self.hand_out()?)),
-            Supply::End if self.held.is_empty() => Ok(None),
+            Supply::End if self.rest().is_empty() => Ok(None),
             Supply::End => Ok(Some(self.hand_out()?)),
-            Supply::Beyond if self.held[LINE_LIMIT] == b'\n' => Ok(Some(self.hand_out()?)),
-            Supply::Beyond => Err(LineFault::Endless {
-                line: self.handed + 1,
-            }),
+            Supply::Beyond if self.rest()[LINE_LIMIT] == b'\n' => Ok(Some(self.hand_out()?)),
+            Supply::Beyond => Err(LineFault::Endless { line }),
         }
     }
 }

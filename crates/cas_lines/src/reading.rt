@@ -21,7 +21,7 @@ use cas_change_text::{TextRefusal, Why, Words, next_word, says};
 use std::alloc::Global;
 
 /// How many bytes a line may have that is read as a command.
-pub const LONGEST_LINE: usize = 4_096;
+pub const LONGEST_LINE: usize = 16_384;
 
 /// What the first word of a line says.
 #[derive(Clone, Copy, Debug, PartialEq, Eq)]
@@ -147,7 +147,7 @@ fn line_in(alloc: Global, line: &[u8], proposers: u8) -> Result<Option<Command>,
 /// What a line asks for, and nothing where it is a remark: a line without a word, or whose first word begins with `#`.
 ///
 /// The line stands without its ending. A caller is 1 to `proposers`, a proposer 0 to `proposers`, and an acceptor 0 to 63. A line of the forms is refused for want of memory
-/// alone. Any other is refused at the first word that does not fit, and one of more than 4,096 bytes before all else, at
+/// alone. Any other is refused at the first word that does not fit, and one of more than 16,384 bytes before all else, at
 /// word 0.
 pub fn read_command(
     alloc: Global,

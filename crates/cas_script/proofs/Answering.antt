@@ -15,15 +15,16 @@ use Rattle.cas_change.specs.declared.program.Clause.{Clause}
 use Rattle.cas_world.specs.Beginning.{HasNoCall}
 use Rattle.cas_script.specs.Changes.{IsChange}
 use Rattle.cas_script.specs.Collections.{IsCollection}
-use Rattle.cas_script.specs.Conditions.{Rule}
+use Rattle.cas_script.specs.Conditions.{Ruled}
 use Rattle.cas_script.specs.Events.{IsShown}
 use Rattle.cas_script.specs.Membership.{ChangesMembers}
-use Rattle.cas_script.specs.Network.{IsNetwork}
+use Rattle.cas_script.specs.Network.{IsNetwork, Leaves, Through}
 use Rattle.cas_script.specs.Script.{State, LineAnswer, Changed, Happened, Shows, Operated, RunsProbe, probes, RunsCollection, collects, RunsMembership, changes_members, membership_of, RunsChange, RunsEvent, IsAnswered, changes, happens, shows, text_of, IsIn, AnswersLine, RanOrNot, ran, Runs, nowhere}
 use Rattle.cas_script.specs.Stage.{Stage, IsStage}
 use Rattle.cas_script.specs.declared.halt.Halt.{Halt}
 use Rattle.cas_script.specs.declared.network.Network.{Network}
 use Rattle.cas_script.proofs.Keeping.{change_leaves, stays_quiet, idle_then}
+use Rattle.cas_script.proofs.Ruled.{still_ruled, change_stay, collection_stay, membership_stay, probe_stay}
 use Rattle.cas_script.proofs.Stages.{stage_of, halt_at, world_is, halts_are, network_is}
 
 -- ---- results
@@ -70,90 +71,95 @@ members_run m tries old stage state line command asked answer at is asks runs = 
 -- ---- a collection
 pub collection_runs : {S V : Type 0} (m : Meaning S V) (world now : View S V) (network next : Network) (halts : List Halt) (tries : ℕ) (seen : Stage S V) (state : State S V) (key : List ℕ) (after : Halt) (answer : OpAnswer)
     → stage_of world network halts tries ≡ seen → IsIn seen state → 0 < length halts
-    → (IsNetwork network state.rules → IsNetwork next state.rules) → (IsNetwork network state.rules → IsCollection m tries state.rules key (slice_index_or halts 0 nowhere) world answer after now)
+    → (IsNetwork network (Ruled state.rules) → Leaves next (λ view. IsCollection m tries (Ruled state.rules) key (slice_index_or halts 0 nowhere) world answer view after now))
     → Runs (RunsCollection m tries state key answer) (stage_of now next (slice_set halts 0 after) tries)
-collection_runs {S} {V} m world now network next halts tries seen state key after answer is at low still runs = record {
-  new = record state { world = now; halts = slice_set state.halts 0 after };
-  is_in = record {
-    world = refl;
-    network = still (network_is world network halts tries seen state is at);
-    halts = ap (λ (l : List Halt). slice_set l 0 after) (halts_are world network halts tries seen state is at);
-  };
-  has = record {
-    halt = slice_index_or halts 0 nowhere;
-    at_halt = halt_at halts state.halts 0 0 refl low (halts_are world network halts tries seen state is at);
-    after = after;
-    collects = subst (λ (w : View S V). IsCollection m tries state.rules key (slice_index_or halts 0 nowhere) w answer after now) (world_is world network halts tries seen state is at) (runs (network_is world network halts tries seen state is at));
-    rules = refl;
-    halts = refl;
-  };
-}
+collection_runs {S} {V} m world now network next halts tries seen state key after answer is at low runs =
+    let now_ruled = still_ruled next state.rules (λ view. IsCollection m tries (Ruled state.rules) key (slice_index_or halts 0 nowhere) world answer view after now) (λ view. collection_stay m tries (Ruled state.rules) view key (slice_index_or halts 0 nowhere) after world now answer) (runs (network_is world network halts tries seen state is at)) in record {
+      new = record state { world = now; halts = slice_set state.halts 0 after };
+      is_in = record {
+        world = refl;
+        network = now_ruled.is;
+        halts = ap (λ (l : List Halt). slice_set l 0 after) (halts_are world network halts tries seen state is at);
+      };
+      has = record {
+        halt = slice_index_or halts 0 nowhere;
+        at_halt = halt_at halts state.halts 0 0 refl low (halts_are world network halts tries seen state is at);
+        after = after;
+        collects = subst (λ (w : View S V). IsCollection m tries (Ruled state.rules) key (slice_index_or halts 0 nowhere) w answer (Ruled state.rules) after now) (world_is world network halts tries seen state is at) now_ruled.has;
+        rules = refl;
+        halts = refl;
+      };
+    }
 
 -- ---- a change of membership
 pub membership_runs : {S V : Type 0} (m : Meaning S V) (world now : View S V) (network next : Network) (halts : List Halt) (tries : ℕ) (seen : Stage S V) (state : State S V) (asked : operator.Asked) (after : Halt) (answer : OpAnswer)
     → stage_of world network halts tries ≡ seen → IsIn seen state → 0 < length halts
-    → (IsNetwork network state.rules → IsNetwork next state.rules) → (IsNetwork network state.rules → ChangesMembers m tries state.rules asked (slice_index_or halts 0 nowhere) world answer after now)
+    → (IsNetwork network (Ruled state.rules) → Leaves next (λ view. ChangesMembers m tries (Ruled state.rules) asked (slice_index_or halts 0 nowhere) world answer view after now))
     → Runs (RunsMembership m tries state asked answer) (stage_of now next (slice_set halts 0 after) tries)
-membership_runs {S} {V} m world now network next halts tries seen state asked after answer is at low still runs = record {
-  new = record state { world = now; halts = slice_set state.halts 0 after };
-  is_in = record {
-    world = refl;
-    network = still (network_is world network halts tries seen state is at);
-    halts = ap (λ (l : List Halt). slice_set l 0 after) (halts_are world network halts tries seen state is at);
-  };
-  has = record {
-    halt = slice_index_or halts 0 nowhere;
-    at_halt = halt_at halts state.halts 0 0 refl low (halts_are world network halts tries seen state is at);
-    after = after;
-    changes = subst (λ (w : View S V). ChangesMembers m tries state.rules asked (slice_index_or halts 0 nowhere) w answer after now) (world_is world network halts tries seen state is at) (runs (network_is world network halts tries seen state is at));
-    rules = refl;
-    halts = refl;
-  };
-}
+membership_runs {S} {V} m world now network next halts tries seen state asked after answer is at low runs =
+    let now_ruled = still_ruled next state.rules (λ view. ChangesMembers m tries (Ruled state.rules) asked (slice_index_or halts 0 nowhere) world answer view after now) (λ view. membership_stay m tries (Ruled state.rules) view asked (slice_index_or halts 0 nowhere) after world now answer) (runs (network_is world network halts tries seen state is at)) in record {
+      new = record state { world = now; halts = slice_set state.halts 0 after };
+      is_in = record {
+        world = refl;
+        network = now_ruled.is;
+        halts = ap (λ (l : List Halt). slice_set l 0 after) (halts_are world network halts tries seen state is at);
+      };
+      has = record {
+        halt = slice_index_or halts 0 nowhere;
+        at_halt = halt_at halts state.halts 0 0 refl low (halts_are world network halts tries seen state is at);
+        after = after;
+        changes = subst (λ (w : View S V). ChangesMembers m tries (Ruled state.rules) asked (slice_index_or halts 0 nowhere) w answer (Ruled state.rules) after now) (world_is world network halts tries seen state is at) now_ruled.has;
+        rules = refl;
+        halts = refl;
+      };
+    }
 
 -- ---- a probe
 pub probe_runs : {S V : Type 0} (m : Meaning S V) (world now : View S V) (network next : Network) (halts : List Halt) (tries : ℕ) (seen : Stage S V) (state : State S V) (key : List ℕ) (answer : OpAnswer) → stage_of world network halts tries ≡ seen → IsIn seen state
-    → (IsNetwork network state.rules → IsNetwork next state.rules) → (IsNetwork network state.rules → IsProbe m state.rules key world answer now) → Runs (RunsProbe m state key answer) (stage_of now next halts tries)
-probe_runs {S} {V} m world now network next halts tries seen state key answer is at still runs = record {
-  new = record state { world = now };
-  is_in = record { world = refl; network = still (network_is world network halts tries seen state is at); halts = halts_are world network halts tries seen state is at };
-  has = record {
-    probe = subst (λ (w : View S V). IsProbe m state.rules key w answer now) (world_is world network halts tries seen state is at) (runs (network_is world network halts tries seen state is at));
-    rules = refl;
-    halts = refl;
-  };
-}
+    → (IsNetwork network (Ruled state.rules) → Leaves next (λ view. IsProbe m (Ruled state.rules) key world answer view now)) → Runs (RunsProbe m state key answer) (stage_of now next halts tries)
+probe_runs {S} {V} m world now network next halts tries seen state key answer is at runs =
+    let now_ruled = still_ruled next state.rules (λ view. IsProbe m (Ruled state.rules) key world answer view now) (λ view. probe_stay m (Ruled state.rules) view key world now answer) (runs (network_is world network halts tries seen state is at)) in record {
+      new = record state { world = now };
+      is_in = record { world = refl; network = now_ruled.is; halts = halts_are world network halts tries seen state is at };
+      has = record {
+        probe = subst (λ (w : View S V). IsProbe m (Ruled state.rules) key w answer (Ruled state.rules) now) (world_is world network halts tries seen state is at) now_ruled.has;
+        rules = refl;
+        halts = refl;
+      };
+    }
 
 -- ---- a change
 pub change_runs : {S V : Type 0} (m : Meaning S V) (world now : View S V) (network next : Network) (halts : List Halt) (tries : ℕ) (seen : Stage S V) (state : State S V) (index : ℕ) (asked : Asked) (after : Halt) (answer : Answer)
     → stage_of world network halts tries ≡ seen → IsIn seen state → index ≡ asked.caller → asked.caller < length halts
-    → (IsNetwork network state.rules → IsNetwork next state.rules) → (IsNetwork network state.rules → IsChange m tries state.rules asked.caller asked.key asked.program (slice_index_or halts index nowhere) world answer after now)
+    → (IsNetwork network (Ruled state.rules) → Leaves next (λ view. IsChange m tries (Ruled state.rules) asked.caller asked.key asked.program (slice_index_or halts index nowhere) world answer view after now))
     → Runs (RunsChange m tries state asked answer) (stage_of now next (slice_set halts index after) tries)
-change_runs {S} {V} m world now network next halts tries seen state index asked after answer is at same low still runs = record {
-  new = record state { world = now; halts = slice_set state.halts asked.caller after };
-  is_in = record {
-    world = refl;
-    network = still (network_is world network halts tries seen state is at);
-    halts = ap (λ (l : List Halt). slice_set l index after) (halts_are world network halts tries seen state is at) ∙ ap (λ (i : ℕ). slice_set state.halts i after) same;
-  };
-  has = record {
-    halt = slice_index_or halts index nowhere;
-    at_halt = halt_at halts state.halts index asked.caller same low (halts_are world network halts tries seen state is at);
-    after = after;
-    change = subst (λ (w : View S V). IsChange m tries state.rules asked.caller asked.key asked.program (slice_index_or halts index nowhere) w answer after now) (world_is world network halts tries seen state is at) (runs (network_is world network halts tries seen state is at));
-    rules = refl;
-    halts = refl;
-  };
-}
+change_runs {S} {V} m world now network next halts tries seen state index asked after answer is at same low runs =
+    let now_ruled = still_ruled next state.rules (λ view. IsChange m tries (Ruled state.rules) asked.caller asked.key asked.program (slice_index_or halts index nowhere) world answer view after now) (λ view. change_stay m tries (Ruled state.rules) view asked.caller asked.key asked.program (slice_index_or halts index nowhere) after world now answer) (runs (network_is world network halts tries seen state is at)) in record {
+      new = record state { world = now; halts = slice_set state.halts asked.caller after };
+      is_in = record {
+        world = refl;
+        network = now_ruled.is;
+        halts = ap (λ (l : List Halt). slice_set l index after) (halts_are world network halts tries seen state is at) ∙ ap (λ (i : ℕ). slice_set state.halts i after) same;
+      };
+      has = record {
+        halt = slice_index_or halts index nowhere;
+        at_halt = halt_at halts state.halts index asked.caller same low (halts_are world network halts tries seen state is at);
+        after = after;
+        change = subst (λ (w : View S V). IsChange m tries (Ruled state.rules) asked.caller asked.key asked.program (slice_index_or halts index nowhere) w answer (Ruled state.rules) after now) (world_is world network halts tries seen state is at) now_ruled.has;
+        rules = refl;
+        halts = refl;
+      };
+    }
 
 pub change_stage : {S V : Type 0} (m : Meaning S V) (world now : View S V) (network next : Network) (halts afters : List Halt) (tries proposers : ℕ) (id : ℕ) (key : List ℕ) (program : List Clause) (halt after : Halt) (answer : Answer) → IsStage (stage_of world network halts tries) proposers
-    → now.greatest ≡ world.greatest → HasNoCall now id → ((rules : List Rule) → IsNetwork network rules → IsNetwork next rules) → ((rules : List Rule) → IsNetwork network rules → IsChange m tries rules id key program halt world answer after now)
+    → now.greatest ≡ world.greatest → HasNoCall now id → Through network next (λ by view. IsChange m tries by id key program halt world answer view after now)
     → IsStage (stage_of now next afters tries) proposers
-change_stage m world now network next halts afters tries proposers id key program halt after answer is greatest idle still runs = record {
-  known = greatest ∙ is.known;
-  few = is.few;
-  some = is.some;
-  idle = idle_then world now id (change_leaves m tries is.ruled.0 id key program halt after world now answer (runs is.ruled.0 is.ruled.1)) is.idle idle;
-  quiet = stays_quiet ((change_leaves m tries is.ruled.0 id key program halt after world now answer (runs is.ruled.0 is.ruled.1)).council is.quiet) is.quiet;
-  ruled = (is.ruled.0, still is.ruled.0 is.ruled.1);
-}
+change_stage m world now network next halts afters tries proposers id key program halt after answer is greatest idle runs =
+    let leaves = change_leaves m tries id key program halt after world now answer (runs (Ruled is.ruled.0) is.ruled.1).has in record {
+      known = greatest ∙ is.known;
+      few = is.few;
+      some = is.some;
+      idle = idle_then world now id leaves is.idle idle;
+      quiet = stays_quiet (leaves.council is.quiet) is.quiet;
+      ruled = (is.ruled.0, (still_ruled next is.ruled.0 (λ view. IsChange m tries (Ruled is.ruled.0) id key program halt world answer view after now) (λ view. change_stay m tries (Ruled is.ruled.0) view id key program halt after world now answer) (runs (Ruled is.ruled.0) is.ruled.1)).is);
+    }

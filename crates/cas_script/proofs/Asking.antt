@@ -40,14 +40,15 @@ use Rattle.cas_world.specs.Exchange.{asks_as, place_of, turn_of, refusal_of, May
 use Rattle.cas_world.specs.declared.exchange.Exchange.{Exchange}
 use Rattle.cas_world.specs.declared.exchange.Exchange.TheVariants as what
 use Rattle.cas_world.specs.Plans.{IsUnderWay, IsPartial, step_of}
-use Rattle.cas_script.specs.Conditions.{Rule, verdict_of}
-use Rattle.cas_script.specs.Exchanges.{AskTurned, one_more, HasListed, HasConfirmed, CameOf, IsAsking, KeepsCalls, KeepsOrder, answers_of, listing_left}
+use Rattle.cas_script.specs.Conditions.{NetworkView, Decides, is_to_repeat}
+use Rattle.cas_script.specs.Exchanges.{AskTurned, FailsToAsk, one_more, HasListed, HasConfirmed, CameOf, IsAsking, KeepsCalls, KeepsOrder, answers_of, listing_left}
 use Rattle.cas_script.specs.Membership.{TakesStep, left_of, steps_left}
 use Rattle.cas_script.specs.Orders.{IsFree, KeepsIdle}
 use Rattle.cas_script.specs.Playing.{turns_left}
+use Rattle.cas_script.specs.Strays.{LetsIn, KeepsUnderWay}
 use Rattle.cas_base.proofs.Bools.{true_or_false}
 use Rattle.cas_script.proofs.Rescanning.{with_asked, settles_by, Settles}
-use Rattle.cas_script.proofs.Turns.{front_of, not_held, fewer_taken, fewer_answered}
+use Rattle.cas_script.proofs.Turns.{front_of, not_held, fewer_taken, fewer_answered, waits_near}
 
 -- ---- the calls of callers
 by_view : {S V : Type 0} (old changed new : View S V) → new ≡ changed → changed.greatest ≡ old.greatest → changed.callers ≡ old.callers → KeepsCalls old new
@@ -466,12 +467,49 @@ ask_turn_fewer {S} {V} m old new verdict free by = in_turn by.turn
     in_turn (council.brings_down request acceptor now fall front at stops is) = fewer_taken old.flow new.flow exchange_place verdict by.front by.waits free (ap (λ (w : View S V). w.flow) is)
     in_turn (council.arrives reply fall front to_it is) = fewer_taken old.flow new.flow exchange_place verdict by.front by.waits free (ap (λ (w : View S V). w.flow) is)
 
--- of the frame became what the rules say
-pub ask_turned_more : {S V : Type 0} (m : Meaning S V) (rules : List Rule) (old mid new : View S V) (front : Option (Leg × ℕ)) (leg : Leg) (peer : ℕ) (verdict : Verdict) → front ≡ option_map head_of (slice_get (queue_at mid.flow exchange_place).messages 0) → front ≡ Some (leg, peer)
-    → verdict ≡ verdict_of rules leg peer → AskTurned m rules old mid → StepTurnExchange m mid verdict new → AskTurned m rules old new
-ask_turned_more m rules old mid new front leg peer verdict shown is says before by =
+-- a late frame that strays in leaves all that the operator has under way
+module _ {S V : Type 0} (mid near : View S V) (keeps : KeepsUnderWay mid near) where
+  pub near_calls : KeepsCalls mid near
+  near_calls = record { greatest = keeps.greatest; callers = keeps.callers }
+
+  pub near_order : KeepsOrder mid near
+  near_order = record { order = ap (λ (c : Council). c.order) keeps.council; plan = ap (λ (c : Council). c.plan) keeps.council; collection = ap (λ (c : Council). c.collection) keeps.council }
+
+  pub near_asks : (question : Question) → IsAsking mid question → IsAsking near question
+  near_asks question was = record {
+    order = was.order;
+    is_order = ap (λ (c : Council). c.order) keeps.council ∙ was.is_order;
+    exchange = was.exchange;
+    is_open = ap (λ (c : Council). c.exchange) keeps.council ∙ was.is_open;
+    same = was.same;
+  }
+
+-- of the frame became what the network decided
+pub ask_turned_more : {S V : Type 0} (m : Meaning S V) (old mid near new : View S V) {by before between after : NetworkView} {again : Bool} {verdict : Verdict} (front : Option (Leg × ℕ)) (leg : Leg) (peer : ℕ) → front ≡ option_map head_of (slice_get (queue_at mid.flow exchange_place).messages 0) → front ≡ Some (leg, peer)
+    → KeepsUnderWay mid near → AskTurned m by old before again mid → LetsIn m before mid between near → Decides (leg, peer) between again verdict after → StepTurnExchange m near verdict new → AskTurned m by old after (is_to_repeat again verdict) new
+ask_turned_more m old mid near new {between = between} {after = after} {again = again} {verdict = verdict} front leg peer shown is keeps turned lets decides by =
     let one = front_of (queue_at mid.flow exchange_place).messages front leg peer shown is in
-    one_more one.frame before one.at (subst (λ (v : Verdict). StepTurnExchange m mid v new) (says ∙ ap (λ (h : Leg × ℕ). verdict_of rules h.0 h.1) (sym one.head)) by)
+    one_more one.frame turned lets (waits_near mid near exchange_place keeps one.at) (subst (λ (h : Leg × ℕ). Decides h between again verdict after) (sym one.head) decides) by
+
+-- no memory was found for its turn
+pub ask_turn_refused : {S V : Type 0} (m : Meaning S V) (old mid near new : View S V) {by before between after : NetworkView} {again : Bool} {verdict : Verdict} (front : Option (Leg × ℕ)) (leg : Leg) (peer : ℕ) → front ≡ option_map head_of (slice_get (queue_at mid.flow exchange_place).messages 0) → front ≡ Some (leg, peer)
+    → KeepsUnderWay mid near → AskTurned m by old before again mid → LetsIn m before mid between near → Decides (leg, peer) between again verdict after → StepRefuseTurnExchange m near new → FailsToAsk m by old after new
+ask_turn_refused m old mid near new {before = before} {between = between} {after = after} {again = again} {verdict = verdict} front leg peer shown is keeps turned lets decides by =
+    let one = front_of (queue_at mid.flow exchange_place).messages front leg peer shown is in
+    record {
+      before = before;
+      again = again;
+      mid = mid;
+      turned = turned;
+      between = between;
+      near = near;
+      lets_in = lets;
+      frame = one.frame;
+      waits = waits_near mid near exchange_place keeps one.at;
+      verdict = verdict;
+      decides = subst (λ (h : Leg × ℕ). Decides h between again verdict after) (sym one.head) decides;
+      fails = by;
+    }
 
 -- ---- a listing
 -- what the operator's call asks for is under way, and its era is to be settled

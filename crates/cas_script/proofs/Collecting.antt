@@ -23,13 +23,14 @@ use Rattle.cas_world.specs.Exchange.{HasGathered, MayAskCollected, MayGather, Wa
 use Rattle.cas_script.specs.Collecting.{IsDue, IsBuried}
 use Rattle.cas_script.specs.Collections as collections
 use Rattle.cas_script.specs.Collections.{AreTombstoneRounds, EndsReading, EndsVoting, HasRounds, HasTaken, IsCalled, TakesStep}
-use Rattle.cas_script.specs.Conditions.{Rule}
+use Rattle.cas_script.specs.Conditions.{NetworkView}
 use Rattle.cas_script.specs.Exchanges.{AsksMembers, HasConfirmed, KeepsCalls}
 use Rattle.cas_script.specs.Orders.{GoesOn, KeepsIdle}
 use Rattle.cas_script.specs.declared.halt.Halt.{Halt}
 use Rattle.cas_script.proofs.Asking.{keeps_idle}
 use Rattle.cas_script.proofs.Entering.{leaves_idle, down_idle, told_idle}
-use Rattle.cas_script.proofs.Keeping.{KeepsOthers, begin_keeps, count_keeps, propose_keeps, turn_keeps, refuse_keeps, crash_keeps, end_leaves, get_other, rounds_hold}
+use Rattle.cas_script.proofs.Keeping.{KeepsOthers, begin_keeps, count_keeps, propose_keeps, turn_keeps, refuse_keeps, crash_keeps, end_leaves, rounds_hold}
+use Rattle.cas_script.proofs.Others.{get_other}
 use Rattle.cas_script.proofs.Rescanning.{told_stays}
 
 -- ---- what its call leaves to the others
@@ -82,12 +83,13 @@ end_clients {S} {V} m old new told by =
     let leaves = end_leaves m old by.middle 0 told by.ends in
     clients_join old by.middle new (record { greatest = leaves.greatest; others = leaves.others }) (same_callers by.middle new (ap (λ (w : View S V). w.greatest) by.view) (ap (λ (w : View S V). w.callers) by.view))
 
-rounds_clients : {S V : Type 0} (m : Meaning S V) (rules : List Rule) (key : List ℕ) (tries : ℕ) (halt after : Halt) (old new : View S V) → AreTombstoneRounds m rules key tries halt old after new → KeepsClients old new
-rounds_clients {S} {V} m rules key tries halt after old new by =
+rounds_clients : {S V : Type 0} (m : Meaning S V) {net next : NetworkView} (key : List ℕ) (tries : ℕ) (halt after : Halt) (old new : View S V) → AreTombstoneRounds m key tries net halt old next after new → KeepsClients old new
+rounds_clients {S} {V} m key tries halt after old new by =
     rounds_hold {Holds = λ before next. KeepsClients before next} (record {
       through = record {
         stays = λ view. record { greatest = refl; others = λ p other. refl };
         joins = clients_join;
+        lets = λ before next keeps. same_callers before next keeps.greatest keeps.callers;
         turn = λ before next verdict turns. of_others before next (turn_keeps m before next 0 verdict turns);
         refuse = λ before next fails. of_others before next (refuse_keeps m before next 0 fails);
         crash = λ before next crashes. of_others before next (crash_keeps m before next 0 crashes);
@@ -95,7 +97,7 @@ rounds_clients {S} {V} m rules key tries halt after old new by =
       begins = λ before next begins. begin_clients m before next key begins;
       ends = reading_clients m;
       counts = voting_clients m;
-    }) rules tries halt after old new by
+    }) tries halt after old new by
 
 idle_by : {S V : Type 0} (old new : View S V) → KeepsClients old new → HasNoCall new 0 → KeepsIdle old new
 idle_by {S} {V} old new keeps own = record { greatest = keeps.greatest; idle = idle }
@@ -106,22 +108,22 @@ idle_by {S} {V} old new keeps own = record { greatest = keeps.greatest; idle = i
       | inr other ↦ record { caller = was.caller; at_caller = keeps.others p (eqb-false p 0 other) ∙ was.at_caller; none_open = was.none_open }
     ]
 
-has_rounds_clients : {S V : Type 0} (m : Meaning S V) (tries : ℕ) (rules : List Rule) (key : List ℕ) (halt after : Halt) (old new : View S V) → HasRounds m tries rules key halt old after new → KeepsClients old new
-has_rounds_clients m tries rules key halt after old new by = clients_join old by.begun new (begin_clients m old by.begun key by.begins) (rounds_clients m rules key tries halt after by.begun new by.rounds)
+has_rounds_clients : {S V : Type 0} (m : Meaning S V) (tries : ℕ) {net next : NetworkView} (key : List ℕ) (halt after : Halt) (old new : View S V) → HasRounds m tries net key halt old next after new → KeepsClients old new
+has_rounds_clients m tries key halt after old new by = clients_join old by.begun new (begin_clients m old by.begun key by.begins) (rounds_clients m key tries halt after by.begun new by.rounds)
 
-pub called_idle : {S V : Type 0} (m : Meaning S V) (tries : ℕ) (rules : List Rule) (key : List ℕ) (halt after : Halt) (old new : View S V) → IsCalled m tries rules key halt old after new → HasNoCall new 0 → KeepsIdle old new
-called_idle m tries rules key halt after old new (collections.over by none) own = idle_by old new (has_rounds_clients m tries rules key halt after old new by) own
-called_idle m tries rules key halt after old new (collections.ended {told = told} answer by ends) own = idle_by old new (clients_join old told new (has_rounds_clients m tries rules key halt after old told by) (end_clients m told new answer ends)) own
+pub called_idle : {S V : Type 0} (m : Meaning S V) (tries : ℕ) {net next : NetworkView} (key : List ℕ) (halt after : Halt) (old new : View S V) → IsCalled m tries net key halt old next after new → HasNoCall new 0 → KeepsIdle old new
+called_idle m tries key halt after old new (collections.over by none) own = idle_by old new (has_rounds_clients m tries key halt after old new by) own
+called_idle m tries key halt after old new (collections.ended {told = told} answer by ends) own = idle_by old new (clients_join old told new (has_rounds_clients m tries key halt after old told by) (end_clients m told new answer ends)) own
 
 -- ---- its steps
 pub goes_on_due : {S V : Type 0} (view : View S V) (key : List ℕ) (step : CollectStep) → IsDue view key step → GoesOn view
 goes_on_due view key step was = record { order = was.order; is_open = was.is_open; untold = was.untold }
 
-pub taken_on : {S V : Type 0} {m : Meaning S V} {rules : List Rule} {old mid new : View S V} → HasTaken m rules old mid → HasTaken m rules mid new → HasTaken m rules old new
+pub taken_on : {S V : Type 0} {m : Meaning S V} {net between : NetworkView} {old mid : View S V} {next : NetworkView} {new : View S V} → HasTaken m net old between mid → HasTaken m between mid next new → HasTaken m net old next new
 taken_on before collections.none = before
 taken_on before (collections.one_more more on by) = collections.one_more (taken_on before more) on by
 
-pub one_step : {S V : Type 0} {m : Meaning S V} {rules : List Rule} {old new : View S V} (key : List ℕ) (step : CollectStep) → IsDue old key step → TakesStep m rules old new → HasTaken m rules old new
+pub one_step : {S V : Type 0} {m : Meaning S V} {net next : NetworkView} {old new : View S V} (key : List ℕ) (step : CollectStep) → IsDue old key step → TakesStep m net old next new → HasTaken m net old next new
 one_step {old = old} key step was by = collections.one_more collections.none (goes_on_due old key step was) by
 
 -- the next one is due
@@ -254,41 +256,41 @@ renewed_so {S} {V} old new key proposer few was by idle = by_last (nat_lt propos
 
 -- ---- all of them
 -- the steps up to one that is due
-pub record HasLed {S V : Type 0} (m : Meaning S V) (rules : List Rule) (old new : View S V) (key : List ℕ) (step : CollectStep) : Type 0 where
-  pub taken : HasTaken m rules old new
+pub record HasLed {S V : Type 0} (m : Meaning S V) (net : NetworkView) (old : View S V) (next : NetworkView) (new : View S V) (key : List ℕ) (step : CollectStep) : Type 0 where
+  pub taken : HasTaken m net old next new
   pub now_due : IsDue new key step
   pub idle : KeepsIdle old new
 
 -- and one more, which may be the last
-pub taken_then : {S V : Type 0} {m : Meaning S V} {rules : List Rule} {old mid new : View S V} (key : List ℕ) (step : CollectStep) → HasLed m rules old mid key step → TakesStep m rules mid new → HasTaken m rules old new
+pub taken_then : {S V : Type 0} {m : Meaning S V} {net between next : NetworkView} {old mid new : View S V} (key : List ℕ) (step : CollectStep) → HasLed m net old between mid key step → TakesStep m between mid next new → HasTaken m net old next new
 taken_then key step led by = collections.one_more led.taken (goes_on_due _ key step led.now_due) by
 
 idle_join : {S V : Type 0} (old mid new : View S V) → KeepsIdle old mid → KeepsIdle mid new → KeepsIdle old new
 idle_join old mid new before after = record { greatest = after.greatest ∙ before.greatest; idle = λ id was. after.idle id (before.idle id was) }
 
-module _ {S V : Type 0} (m : Meaning S V) (rules : List Rule) (old new : View S V) (key : List ℕ) where
-  pub led_round : (result : Gathered) → IsBuried old key → Step m old (gathering_of old) new → HasGathered old result new → HasLed m rules old new key (due.Renew 0)
+module _ {S V : Type 0} (m : Meaning S V) {net : NetworkView} (old new : View S V) (key : List ℕ) where
+  pub led_round : (result : Gathered) → IsBuried old key → Step m old (gathering_of old) new → HasGathered old result new → HasLed m net old net new key (due.Renew 0)
   led_round result was by found =
       let step = as_gather_round m old new key was by in
       let idle = gather_round_idle old new step in
       record { taken = one_step key due.Round was.due (collections.gathers step); now_due = round_due old new key result was found (idle.idle 0 was.due.idle); idle = idle }
 
-  pub led_renewals : (mid : View S V) → HasLed m rules old mid key (due.Renew 0) → HasTaken m rules mid new → IsDue new key due.Ages → KeepsIdle mid new → HasLed m rules old new key due.Ages
+  pub led_renewals : {next : NetworkView} (mid : View S V) → HasLed m net old next mid key (due.Renew 0) → HasTaken m next mid next new → IsDue new key due.Ages → KeepsIdle mid new → HasLed m net old next new key due.Ages
   led_renewals mid led taken now idle = record { taken = taken_on led.taken taken; now_due = now; idle = idle_join old mid new led.idle idle }
 
-  pub led_ages : (mid : View S V) (result : Gathered) → HasLed m rules old mid key due.Ages → AsksMembers m rules AskCollect GatherCollect mid new → HasConfirmed mid result new → KeepsCalls mid new → HasLed m rules old new key due.Floor
+  pub led_ages : {between next : NetworkView} (mid : View S V) (result : Gathered) → HasLed m net old between mid key due.Ages → AsksMembers m between AskCollect GatherCollect mid next new → HasConfirmed mid result new → KeepsCalls mid new → HasLed m net old next new key due.Floor
   led_ages mid result led by found calls = record {
     taken = taken_then key due.Ages led (collections.asks by);
     now_due = confirmed_due mid new key due.Ages result led.now_due found (keeps_idle mid new calls);
     idle = idle_join old mid new led.idle (keeps_idle mid new calls);
   }
 
-  pub led_floor : (mid : View S V) → HasLed m rules old mid key due.Floor → StepMakeFloor mid new → GoesOnCollecting mid new → HasLed m rules old new key due.Remove
+  pub led_floor : {next : NetworkView} (mid : View S V) → HasLed m net old next mid key due.Floor → StepMakeFloor mid new → GoesOnCollecting mid new → HasLed m net old next new key due.Remove
   led_floor mid led by goes =
       let idle = floor_idle mid new by in
       record { taken = taken_then key due.Floor led (collections.marks by); now_due = goes_due mid new key due.Floor led.now_due goes (idle.idle 0 led.now_due.idle); idle = idle_join old mid new led.idle idle }
 
-  pub led_removal : (mid : View S V) (result : Gathered) → HasLed m rules old mid key due.Remove → AsksMembers m rules AskCollect GatherCollect mid new → HasConfirmed mid result new → KeepsCalls mid new → HasLed m rules old new key due.End
+  pub led_removal : {between next : NetworkView} (mid : View S V) (result : Gathered) → HasLed m net old between mid key due.Remove → AsksMembers m between AskCollect GatherCollect mid next new → HasConfirmed mid result new → KeepsCalls mid new → HasLed m net old next new key due.End
   led_removal mid result led by found calls = record {
     taken = taken_then key due.Remove led (collections.asks by);
     now_due = confirmed_due mid new key due.Remove result led.now_due found (keeps_idle mid new calls);

@@ -25,10 +25,10 @@ use Rattle.cas_world.specs.Plans.{IsFor, IsUnderWay, MayOpenPlan, MayEnter, entr
 use Rattle.cas_script.specs.Exchanges.{KeepsCalls}
 use Rattle.cas_script.specs.Membership as membership
 use Rattle.cas_script.specs.Membership.{HasAdvanced, left_of, steps_left}
-use Rattle.cas_script.specs.Conditions.{Rule}
+use Rattle.cas_script.specs.Conditions.{NetworkView}
 use Rattle.cas_script.specs.Orders.{IsFree, IsOrdered, KeepsIdle}
 use Rattle.cas_script.specs.declared.halt.Halt.{Halt}
-use Rattle.cas_script.proofs.Keeping.{get_other}
+use Rattle.cas_script.proofs.Others.{get_other}
 
 -- ---- the operator's call begins
 pub is_ordered : {S V : Type 0} (old new : View S V) (what : Asked) → StepOrder old what new → IsOrdered new what
@@ -261,6 +261,6 @@ enters_so {S} {V} m old new proposer what few now by = by_case by.enters
     by_case (plans.no_memory desk room up kept is_now is) = untold _ _ refl is
 
 -- ---- one step after another
-pub advances_on : {S V : Type 0} {m : Meaning S V} {tries : ℕ} {rules : List Rule} {halt before : Halt} {old mid : View S V} {after : Halt} {new : View S V} → HasAdvanced m tries rules halt old before mid → HasAdvanced m tries rules before mid after new → HasAdvanced m tries rules halt old after new
+pub advances_on : {S V : Type 0} {m : Meaning S V} {tries : ℕ} {net between : NetworkView} {halt before : Halt} {old mid : View S V} {next : NetworkView} {after : Halt} {new : View S V} → HasAdvanced m tries net halt old between before mid → HasAdvanced m tries between before mid next after new → HasAdvanced m tries net halt old next after new
 advances_on first membership.none = first
 advances_on first (membership.one_more more on by) = membership.one_more (advances_on first more) on by

@@ -1,5 +1,5 @@
 -- What a call of one caller leaves to the others.
-use Rattle.std.proofs.Common.{◌≡◌, ◌≢◌, ◌≤◌, ℕ, zero, suc, nat_eq, List, [], ◌∷◌, None, slice_get, slice_set, inl, inr, refl, sym, ap, subst, ◌∙◌, eqb-true}
+use Rattle.std.proofs.Common.{◌≡◌, ◌≢◌, ◌≤◌, ℕ, Bool, nat_eq, List, [], ◌∷◌, None, slice_get, slice_set, inl, inr, refl, sym, ap, subst, ◌∙◌, eqb-true}
 use Rattle.std.proofs.lemmas.Bool.{eqb-false}
 use Rattle.cas_base.proofs.Bools.{true_or_false}
 use Rattle.cas_change.specs.declared.program.Clause.{Clause}
@@ -22,12 +22,15 @@ use Rattle.cas_cluster.proofs.Places.{at_one}
 use Rattle.cas_world.specs.Beginning.{HasNoCall}
 use Rattle.cas_script.specs.Changes as changes
 use Rattle.cas_script.specs.Changes.{Turned, AllTurned, FailsToTurn, EndsPrepareBy, IsAcceptedBy, IsCutOff, IsCutShort, IsRoundBy, AreRoundsBy, AreRounds, IsChange}
-use Rattle.cas_script.specs.Conditions.{Rule}
+use Rattle.cas_script.specs.Conditions.{NetworkView}
 use Rattle.cas_script.specs.Events as events
 use Rattle.cas_script.specs.Events.{CrashesAcceptor, RestartsAcceptor, RestartsProposer, StraysIn}
 use Rattle.cas_script.specs.Orders.{KeepsIdle}
 use Rattle.cas_script.specs.Stage.{AllIdle}
+use Rattle.cas_script.specs.Strays.{KeepsUnderWay}
 use Rattle.cas_script.specs.declared.halt.Halt.{Halt}
+use Rattle.cas_script.proofs.Others.{get_other}
+use Rattle.cas_script.proofs.Straying.{lets_under_way}
 
 -- ---- the others
 pub record KeepsOthers {S V : Type 0} (old new : View S V) (id : ℕ) : Type 0 where
@@ -45,13 +48,6 @@ pub record LeavesOthers {S V : Type 0} (old new : View S V) (id : ℕ) : Type 0 
 -- no operator's call is open still
 pub stays_quiet : {old new : Council} → new ≡ old → IsAtRest old → IsAtRest new
 stays_quiet same was = subst IsAtRest (sym same) was
-
-pub get_other : {A : Type 0} (all : List A) (place : ℕ) (x : A) (p : ℕ) → p ≢ place → slice_get (slice_set all place x) p ≡ slice_get all p
-get_other [] place x p other = refl
-get_other (one ∷ rest) zero x zero other = absurd (other refl)
-get_other (one ∷ rest) zero x (suc p) other = refl
-get_other (one ∷ rest) (suc place) x zero other = refl
-get_other (one ∷ rest) (suc place) x (suc p) other = get_other rest place x p (λ is. other (ap suc is))
 
 -- one caller changes
 sets : {S V : Type 0} (old new : View S V) (id : ℕ) (next : CallerView) → new.greatest ≡ old.greatest → new.callers ≡ slice_set old.callers id next → new.council ≡ old.council → KeepsOthers old new id
@@ -177,27 +173,30 @@ crash_keeps m old new id (stops.of_client client crashes) = desk_crash_keeps m o
 crash_keeps m old new id (stops.of_operator middle operator crashes is) = both old middle new id (desk_crash_keeps m old middle id crashes) (breaks_off middle new id is)
 
 -- ---- a change
--- what each turn of a proposer's frames and a crash of it do to a world
+-- what each turn of a proposer's frames, a late frame that strays in, and a crash of the proposer do to a world
 pub record HoldsThrough {S V : Type 0} (m : Meaning S V) (id : ℕ) (Holds : View S V → View S V → Type 0) : Type 0 where
   pub stays : (old : View S V) → Holds old old
   pub joins : (old mid new : View S V) → Holds old mid → Holds mid new → Holds old new
+  pub lets : (old new : View S V) → KeepsUnderWay old new → Holds old new
   pub turn : (old new : View S V) (verdict : Verdict) → StepTurn m old id verdict new → Holds old new
   pub refuse : (old new : View S V) → StepRefuseTurn m old id new → Holds old new
   pub crash : (old new : View S V) → StepCrashProposer m old id new → Holds old new
 
-module _ {S V : Type 0} {m : Meaning S V} {id : ℕ} {Holds : View S V → View S V → Type 0} (through : HoldsThrough m id Holds) (rules : List Rule) where
-  pub turned_holds : (old new : View S V) → Turned m rules id old new → Holds old new
+module _ {S V : Type 0} {m : Meaning S V} {id : ℕ} {Holds : View S V → View S V → Type 0} (through : HoldsThrough m id Holds) where
+  pub turned_holds : {by : NetworkView} (old : View S V) {next : NetworkView} {again : Bool} (new : View S V) → Turned m by id old next again new → Holds old new
   turned_holds old new changes.none = through.stays old
-  turned_holds old new (changes.one_more {mid = mid} frame before at by) = through.joins old mid new (turned_holds old mid before) (through.turn mid new _ by)
+  turned_holds old new (changes.one_more {before = before} {between = between} {mid = mid} {near = near} frame turned lets at decides by) =
+      through.joins old mid new (turned_holds old mid turned) (through.joins mid near new (through.lets mid near (lets_under_way m before between mid near lets)) (through.turn near new _ by))
 
-  pub fails_hold : (old new : View S V) → FailsToTurn m rules id old new → Holds old new
-  fails_hold old new by = through.joins old by.mid new (turned_holds old by.mid by.turned) (through.refuse by.mid new by.fails)
+  pub fails_hold : {by next : NetworkView} (old new : View S V) → FailsToTurn m by id old next new → Holds old new
+  fails_hold old new by =
+      through.joins old by.mid new (turned_holds old by.mid by.turned) (through.joins by.mid by.near new (through.lets by.mid by.near (lets_under_way m by.before by.between by.mid by.near by.lets_in)) (through.refuse by.near new by.fails))
 
-  pub cut_off_holds : (halt after : Halt) (old new : View S V) → IsCutOff m rules id halt old after new → Holds old new
+  pub cut_off_holds : {by next : NetworkView} (halt after : Halt) (old new : View S V) → IsCutOff m by id halt old next after new → Holds old new
   cut_off_holds halt after old new (changes.no_memory by) = fails_hold old new by
   cut_off_holds halt after old new (changes.halts {turned = turned} turns strikes by) = through.joins old turned new (turned_holds old turned turns.turned) (through.crash turned new by)
 
-  pub cut_short_holds : (halt after : Halt) (old new : View S V) → IsCutShort m rules id halt old after new → Holds old new
+  pub cut_short_holds : {by next : NetworkView} (halt after : Halt) (old new : View S V) → IsCutShort m by id halt old next after new → Holds old new
   cut_short_holds halt after old new (changes.halts accepting due by) = through.crash old new by
   cut_short_holds halt after old new (changes.no_memory not_due by) = fails_hold old new by
 
@@ -208,22 +207,22 @@ pub record HoldsInRounds {S V : Type 0} (m : Meaning S V) (id : ℕ) (Holds Begi
   pub ends : (old new : View S V) → Ends old new → Holds old new
   pub counts : (old new : View S V) → Counts old new → Holds old new
 
-module _ {S V : Type 0} {m : Meaning S V} {id : ℕ} {Holds Begins Ends Counts : View S V → View S V → Type 0} (holds : HoldsInRounds m id Holds Begins Ends Counts) (rules : List Rule) where
-  prepare_holds : (halt : Halt) (old new : View S V) → EndsPrepareBy Ends m rules id halt old new → Holds old new
-  prepare_holds halt old new by = holds.through.joins old by.turned new (turned_holds holds.through rules old by.turned by.turns.turned) (holds.ends by.turned new by.proposes)
+module _ {S V : Type 0} {m : Meaning S V} {id : ℕ} {Holds Begins Ends Counts : View S V → View S V → Type 0} (holds : HoldsInRounds m id Holds Begins Ends Counts) where
+  prepare_holds : {by next : NetworkView} (halt : Halt) (old new : View S V) → EndsPrepareBy Ends m by id halt old next new → Holds old new
+  prepare_holds halt old new by = holds.through.joins old by.turned new (turned_holds holds.through old by.turned by.turns.turned) (holds.ends by.turned new by.proposes)
 
-  accepted_holds : (halt after : Halt) (old new : View S V) → IsAcceptedBy Counts m rules id halt old after new → Holds old new
-  accepted_holds halt after old new (changes.cut_short by) = cut_short_holds holds.through rules halt after old new by
-  accepted_holds halt after old new (changes.counts {turned = turned} not_due turns by) = holds.through.joins old turned new (turned_holds holds.through rules old turned turns.turned) (holds.counts turned new by)
+  accepted_holds : {by next : NetworkView} (halt after : Halt) (old new : View S V) → IsAcceptedBy Counts m by id halt old next after new → Holds old new
+  accepted_holds halt after old new (changes.cut_short by) = cut_short_holds holds.through halt after old new by
+  accepted_holds halt after old new (changes.counts {turned = turned} not_due turns by) = holds.through.joins old turned new (turned_holds holds.through old turned turns.turned) (holds.counts turned new by)
 
-  round_holds : (halt after : Halt) (old new : View S V) → IsRoundBy Ends Counts m rules id halt old after new → Holds old new
+  round_holds : {by next : NetworkView} (halt after : Halt) (old new : View S V) → IsRoundBy Ends Counts m by id halt old next after new → Holds old new
   round_holds halt after old new changes.none_begun = holds.through.stays old
   round_holds halt after old new (changes.by_promise accepted) = accepted_holds halt after old new accepted
-  round_holds halt after old new (changes.cut_off by) = cut_off_holds holds.through rules halt after old new by
+  round_holds halt after old new (changes.cut_off by) = cut_off_holds holds.through halt after old new by
   round_holds halt after old new (changes.ends_short by) = prepare_holds halt old new by
   round_holds halt after old new (changes.proposes {proposed = proposed} by accepted) = holds.through.joins old proposed new (prepare_holds halt old proposed by) (accepted_holds halt after proposed new accepted)
 
-  pub rounds_hold : (tries : ℕ) (halt after : Halt) (old new : View S V) → AreRoundsBy Begins Ends Counts m rules id tries halt old after new → Holds old new
+  pub rounds_hold : (tries : ℕ) {by next : NetworkView} (halt after : Halt) (old new : View S V) → AreRoundsBy Begins Ends Counts m id tries by halt old next after new → Holds old new
   rounds_hold tries halt after old new (changes.last by ends) = round_holds halt after old new by
   rounds_hold tries halt after old new (changes.another {mid = mid} {met = met} {begun = begun} many by is_met begins more) =
       holds.through.joins old met new (round_holds halt mid old met by) (holds.through.joins met begun new (holds.begins met begun begins) (rounds_hold _ mid after begun new more))
@@ -233,24 +232,25 @@ pub others_through : {S V : Type 0} (m : Meaning S V) (id : ℕ) → HoldsThroug
 others_through m id = record {
   stays = λ old. same old id;
   joins = λ old mid new. both old mid new id;
+  lets = λ old new keeps. stays old new id keeps.greatest keeps.callers keeps.council;
   turn = λ old new verdict. turn_keeps m old new id verdict;
   refuse = λ old new. refuse_keeps m old new id;
   crash = λ old new. crash_keeps m old new id;
 }
 
-pub rounds_keep : {S V : Type 0} (m : Meaning S V) (rules : List Rule) (id : ℕ) (key : List ℕ) (program : List Clause) (tries : ℕ) (halt after : Halt) (old new : View S V) → AreRounds m rules id key program tries halt old after new → KeepsOthers old new id
-rounds_keep {S} {V} m rules id key program tries halt after old new by =
+pub rounds_keep : {S V : Type 0} (m : Meaning S V) {net next : NetworkView} (id : ℕ) (key : List ℕ) (program : List Clause) (tries : ℕ) (halt after : Halt) (old new : View S V) → AreRounds m id key program tries net halt old next after new → KeepsOthers old new id
+rounds_keep {S} {V} m id key program tries halt after old new by =
     rounds_hold {Holds = λ before next. KeepsOthers before next id} (record {
       through = others_through m id;
       begins = λ before next begins. begin_keeps m before next id key program begins;
       ends = λ before next ends. propose_keeps m before next id ends;
       counts = λ before next counts. count_keeps m before next id counts;
-    }) rules tries halt after old new by
+    }) tries halt after old new by
 
-pub change_leaves : {S V : Type 0} (m : Meaning S V) (tries : ℕ) (rules : List Rule) (id : ℕ) (key : List ℕ) (program : List Clause) (halt after : Halt) (old new : View S V) (answer : Answer) → IsChange m tries rules id key program halt old answer after new → LeavesOthers old new id
-change_leaves m tries rules id key program halt after old new answer (changes.refused is by) = no_begin_leaves m old new id key by
-change_leaves m tries rules id key program halt after old new answer (changes.ended {begun = begun} {told = told} begins rounds ends) =
-    then_leaves old told new id (both old begun told id (begin_keeps m old begun id key program begins) (rounds_keep m rules id key program tries halt after begun told rounds)) (end_leaves m told new id answer ends)
+pub change_leaves : {S V : Type 0} (m : Meaning S V) (tries : ℕ) {net next : NetworkView} (id : ℕ) (key : List ℕ) (program : List Clause) (halt after : Halt) (old new : View S V) (answer : Answer) → IsChange m tries net id key program halt old answer next after new → LeavesOthers old new id
+change_leaves m tries id key program halt after old new answer (changes.refused is by) = no_begin_leaves m old new id key by
+change_leaves m tries id key program halt after old new answer (changes.ended {begun = begun} {told = told} begins rounds ends) =
+    then_leaves old told new id (both old begun told id (begin_keeps m old begun id key program begins) (rounds_keep m id key program tries halt after begun told rounds)) (end_leaves m told new id answer ends)
 
 -- ---- no call is open
 pub still_none : {S V : Type 0} (old new : View S V) (id : ℕ) → LeavesOthers old new id → HasNoCall new id → (p : ℕ) → HasNoCall old p → HasNoCall new p

@@ -6,10 +6,15 @@ pub mod Collecting
 pub mod Entering
 pub mod Happenings
 pub mod Keeping
+pub mod Loads
+pub mod Networks
 pub mod Opened
+pub mod Others
 pub mod Outcomes
 pub mod Playing
 pub mod Rescanning
+pub mod Ruled
 pub mod Rules
 pub mod Stages
+pub mod Straying
 pub mod Turns

@@ -245,30 +245,6 @@ turn_greatest {S} {V} m old new id v by = in_turn by.of_call by.front by.turn
     in_turn at front (frames.brings_down request acceptor now fall is there stops same) = ap (λ (w : View S V). w.greatest) same
     in_turn at front (frames.arrives reply desk now round heard fall is there is_round hears same) = ap (λ (w : View S V). w.greatest) same
 
--- ---- greatest
-pub greatest_stays : {S V : Type 0} (m : Meaning S V) (old new : View S V) (id : ℕ) → StepPropose m old id new → new.greatest ≡ old.greatest
-greatest_stays {S} {V} m old new id by = in_phase by.at_round.of_call by.at_round.desk by.at_round.round by.proposes
-  where
-    in_phase : (of_call : OpenCallAt old id) (desk : DeskView V) (round : Round) → calls.ProposesOrEnds m old id desk round of_call.caller of_call.call new → new.greatest ≡ old.greatest
-    in_phase at desk round (calls.proposes now turned read by ride outcome flow quorum confirmers reads turns made sends same) = ap (λ (v : View S V). v.greatest) same
-    in_phase at desk round (calls.ends now verdict told is refuses ends same) = ap (λ (v : View S V). v.greatest) same
-    in_phase at desk round (calls.fails now fails same) = ap (λ (v : View S V). v.greatest) same
-    in_phase at desk round (calls.loses now ballot loses same) = ap (λ (v : View S V). v.greatest) same
-
-pub count_greatest : {S V : Type 0} (m : Meaning S V) (old new : View S V) (id : ℕ) → StepCount m old id new → new.greatest ≡ old.greatest
-count_greatest {S} {V} m old new id by = in_phase by.at_round.of_call by.at_round.desk by.at_round.round by.counts
-  where
-    in_phase : (of_call : OpenCallAt old id) (desk : DeskView V) (round : Round) → calls.CountsOrEnds m old id desk round of_call.caller of_call.call new → new.greatest ≡ old.greatest
-    in_phase at desk round (calls.counts now by outcome quorum confirmers proposed ends same) = ap (λ (v : View S V). v.greatest) same
-    in_phase at desk round (calls.ends now verdict why is cause ends same) = ap (λ (v : View S V). v.greatest) same
-
-pub refuse_greatest : {S V : Type 0} (m : Meaning S V) (old new : View S V) (id : ℕ) → StepRefuseTurn m old id new → new.greatest ≡ old.greatest
-refuse_greatest {S} {V} m old new id by = ap (λ (v : View S V). v.greatest) by.view ∙ by_case by.refuses
-  where
-    by_case : {middle : View S V} → frames.FindsNoRoom m old middle → middle.greatest ≡ old.greatest
-    by_case (frames.stays same) = ap (λ (v : View S V). v.greatest) same
-    by_case (frames.kept id acceptor now there finds same) = ap (λ (v : View S V). v.greatest) same
-
 pub no_begin_idle : {S V : Type 0} (m : Meaning S V) (old new : View S V) (id : ℕ) (key : List ℕ) → calls.RefusesCall m old id key new → HasNoCall old id → HasNoCall new id
 no_begin_idle {S} {V} m old new id key (calls.stays told council refusal anew same) none =
     record { caller = none.caller; at_caller = subst (λ (v : View S V). IsAt v.callers id none.caller) (sym same) none.at_caller; none_open = none.none_open }
@@ -395,9 +371,6 @@ crash_over m old new id asked proposed closed was (of_client client crashes) say
     crash_of m old new new id asked proposed closed was crashes refl (quiet_then old new id (crash_keeps m old new id (of_client client crashes)) was.quiet) says
 crash_over {S} {V} m old new id asked proposed closed was (of_operator middle operator crashes same) says =
     crash_of m old middle new id asked proposed closed was crashes (ap (λ (w : View S V). w.callers) same) (quiet_then old new id (crash_keeps m old new id (of_operator middle operator crashes same)) was.quiet) says
-
-pub crash_greatest : {S V : Type 0} (m : Meaning S V) (old new : View S V) (id : ℕ) → StepCrashProposer m old id new → new.greatest ≡ old.greatest
-crash_greatest m old new id by = (crash_keeps m old new id by).greatest
 
 -- ---- a quorum
 verdict_shown : (r : Option RoundVerdict) (round : Round) → IsVerdictIn (Some round) r → (r ≡ Some verdict.Quorum) ↔ (has_quorum round.phase ≡ true)

@@ -1,17 +1,13 @@
 -- Rules, and the table that agrees with them.
-use Rattle.std.proofs.Common.{◌≡◌, ◌≢◌, ◌<◌, ◌≤◌, ◌+◌, ℕ, zero, suc, Bool, true, false, nat_eq, nat_lt, List, ◌∷◌, inl, inr, refl, sym, ap, ap₂, ◌∙◌, arith, eqb-true, eq-eqb, ne_eqb, lt-ltb, ltb-true, ltb-false}
+use Rattle.std.proofs.Common.{◌≡◌, ◌≢◌, ◌<◌, ◌≤◌, ◌+◌, ℕ, zero, suc, Bool, true, false, nat_eq, nat_lt, List, inl, inr, refl, sym, ap, ap₂, ◌∙◌, arith, eqb-true, eq-eqb, ne_eqb, lt-ltb, ltb-true, ltb-false}
 use Rattle.std.proofs.lemmas.Bool.{eqb-false, le-ltb}
-use Rattle.std.specs.Prelude.{◌&&◌, ◌⊎◌, Option, slice_index_or}
+use Rattle.std.specs.Prelude.{◌&&◌, ◌⊎◌, slice_index_or}
 use Rattle.cas_base.proofs.Bools.{true_or_false}
 use Rattle.cas_fate.specs.Legs.{row_of}
 use Rattle.cas_fate.specs.declared.fate.Leg.{Leg}
 use Rattle.cas_fate.specs.declared.fate.Leg.TheVariants as leg
 use Rattle.cas_fate.specs.declared.fate.Verdict.{Verdict}
-use Rattle.cas_fate.specs.declared.fate.Verdict.TheVariants.{Hold}
-use Rattle.cas_fate.specs.Links.{verdict_at}
-use Rattle.cas_script.specs.Conditions.{Rule, is_leg, is_who, verdict_of}
-use Rattle.cas_script.specs.Network.{IsNetwork, ruled}
-use Rattle.cas_script.specs.declared.network.Network.{Network}
+use Rattle.cas_script.specs.Network.{ruled}
 use Rattle.cas_script.specs.declared.network.TheConstants.{LEGS}
 
 -- ---- rows
@@ -37,15 +33,6 @@ row_at (suc (suc (suc (suc zero)))) low = refl
 row_at (suc (suc (suc (suc (suc zero))))) low = refl
 row_at (suc (suc (suc (suc (suc (suc zero)))))) low = refl
 row_at (suc (suc (suc (suc (suc (suc (suc row))))))) low = absurd (omega (arith, low))
-
-pub row_low : (l : Leg) → row_of l < 7
-row_low leg.Prepare = omega arith
-row_low leg.Accept = omega arith
-row_low leg.Ages = omega arith
-row_low leg.Remove = omega arith
-row_low leg.List = omega arith
-row_low leg.Probe = omega arith
-row_low leg.Reply = omega arith
 
 -- legs of one row are one
 same_leg : (a b : Leg) → row_of a ≡ row_of b → a ≡ b
@@ -104,14 +91,3 @@ all_more one row verdict before old new at set was l p low = elim (true_or_false
 ]
 
 -- ---- one more rule
--- the table that is set so agrees with one rule more
-pub network_ruled : (old new : Network) (leg : Option Leg) (who : Option ℕ) (verdict : Verdict) (rules : List Rule) → verdict ≢ Hold
-    → ((l : Leg) (p : ℕ) → p < 64 → verdict_at new.links l p ≡ ruled (is_leg leg l && is_who who p) verdict (verdict_at old.links l p)) → IsNetwork old rules → IsNetwork new (record { leg = leg; who = who; verdict = verdict } ∷ rules)
-network_ruled old new leg who verdict rules not_held set was = record {
-  table = λ l p low. set l p low ∙ ap (λ (v : Verdict). ruled (is_leg leg l && is_who who p) verdict v) (was.table l p low);
-  none_held = λ l p. never (is_leg leg l && is_who who p) (verdict_of rules l p) (was.none_held l p);
-}
-  where
-    never : (b : Bool) (w : Verdict) → w ≢ Hold → ruled b verdict w ≢ Hold
-    never true w is = not_held
-    never false w is = is

@@ -1,12 +1,9 @@
 -- What a line does to the state of a script.
-use Rattle.std.proofs.Common.{◌≡◌, ◌<◌, ℕ, zero, suc, true, List, [], ◌∷◌, length, None, Some, slice_get, slice_set, slice_index_or, refl, sym, ap, subst, ◌∙◌, arith}
-use Rattle.cas_lines.specs.Command.{change_of}
-use Rattle.cas_lines.specs.declared.command.Command.{Command}
-use Rattle.cas_lines.specs.declared.command.Command.TheVariants.{Join, Leave, Probe, Collect, Get, Set, Num, Init, Add, Cas, CasNum, Del, DelVersion, Do, Net, CrashAcceptor, RestartAcceptor, CrashProposer, RestartProposer, HaltPrepared, HaltProposed, Stray, Show}
+use Rattle.std.proofs.Common.{◌≡◌, ◌<◌, ℕ, zero, suc, List, [], ◌∷◌, length, Some, slice_get, slice_set, slice_index_or, refl, sym, ap, subst, ◌∙◌, arith}
 use Rattle.cas_cluster.specs.View.{View, IsAt}
-use Rattle.cas_script.specs.Conditions.{Rule}
+use Rattle.cas_script.specs.Conditions.{Rule, Ruled}
 use Rattle.cas_script.specs.Network.{IsNetwork}
-use Rattle.cas_script.specs.Script.{State, IsIn, Runs, is_event, membership_of, nowhere}
+use Rattle.cas_script.specs.Script.{State, IsIn, Runs, nowhere}
 use Rattle.cas_script.specs.Stage.{Stage, IsStage}
 use Rattle.cas_script.specs.declared.halt.Halt.{Halt}
 use Rattle.cas_script.specs.declared.network.Network.{Network}
@@ -38,8 +35,8 @@ world_is {S} {V} world network halts tries seen state is at = ap (λ (s : Stage 
 pub halts_are : {S V : Type 0} (world : View S V) (network : Network) (halts : List Halt) (tries : ℕ) (seen : Stage S V) (state : State S V) → stage_of world network halts tries ≡ seen → IsIn seen state → halts ≡ state.halts
 halts_are {S} {V} world network halts tries seen state is at = ap (λ (s : Stage S V). s.halts) is ∙ at.halts
 
-pub network_is : {S V : Type 0} (world : View S V) (network : Network) (halts : List Halt) (tries : ℕ) (seen : Stage S V) (state : State S V) → stage_of world network halts tries ≡ seen → IsIn seen state → IsNetwork network state.rules
-network_is {S} {V} world network halts tries seen state is at = subst (λ (n : Network). IsNetwork n state.rules) (sym (ap (λ (s : Stage S V). s.network) is)) at.network
+pub network_is : {S V : Type 0} (world : View S V) (network : Network) (halts : List Halt) (tries : ℕ) (seen : Stage S V) (state : State S V) → stage_of world network halts tries ≡ seen → IsIn seen state → IsNetwork network (Ruled state.rules)
+network_is {S} {V} world network halts tries seen state is at = subst (λ (n : Network). IsNetwork n (Ruled state.rules)) (sym (ap (λ (s : Stage S V). s.network) is)) at.network
 
 -- another world, with all else as it is
 pub in_world : {S V : Type 0} (world now : View S V) (network : Network) (halts : List Halt) (tries : ℕ) (seen : Stage S V) (state : State S V) (P : State S V → Type 0) → stage_of world network halts tries ≡ seen → IsIn seen state → P (record state { world = now })
@@ -52,7 +49,7 @@ in_world world now network halts tries seen state P is at has = record {
 
 -- one rule more
 pub in_network : {S V : Type 0} (world : View S V) (network now : Network) (halts : List Halt) (tries : ℕ) (seen : Stage S V) (state : State S V) (rule : Rule) (P : State S V → Type 0) → stage_of world network halts tries ≡ seen → IsIn seen state
-    → (IsNetwork network state.rules → IsNetwork now (rule ∷ state.rules)) → P (record state { rules = rule ∷ state.rules }) → Runs P (stage_of world now halts tries)
+    → (IsNetwork network (Ruled state.rules) → IsNetwork now (Ruled (rule ∷ state.rules))) → P (record state { rules = rule ∷ state.rules }) → Runs P (stage_of world now halts tries)
 in_network world network now halts tries seen state rule P is at goes has = record {
   new = record state { rules = rule ∷ state.rules };
   is_in = record { world = world_is world network halts tries seen state is at; network = goes (network_is world network halts tries seen state is at); halts = halts_are world network halts tries seen state is at };
@@ -73,28 +70,3 @@ in_halts world network halts tries seen state index place next P is at same has 
 }
 
 -- ---- event lines
--- a line that asks for no change, no probe, no collection and no change of membership, and shows nothing, is an event
-pub event_of : (command : Command) → change_of command ≡ None → ((id : ℕ) (key : List ℕ) → command ≡ Show id key → ⊥) → ((key : List ℕ) → command ≡ Probe key → ⊥) → ((key : List ℕ) → command ≡ Collect key → ⊥) → membership_of command ≡ None → is_event command ≡ true
-event_of (Get caller key) none not_show not_probe not_collect no_member = absurd (cc none)
-event_of (Set caller key text) none not_show not_probe not_collect no_member = absurd (cc none)
-event_of (Num caller key number) none not_show not_probe not_collect no_member = absurd (cc none)
-event_of (Init caller key number) none not_show not_probe not_collect no_member = absurd (cc none)
-event_of (Add caller key number) none not_show not_probe not_collect no_member = absurd (cc none)
-event_of (Cas caller key version text) none not_show not_probe not_collect no_member = absurd (cc none)
-event_of (CasNum caller key version number) none not_show not_probe not_collect no_member = absurd (cc none)
-event_of (Del caller key) none not_show not_probe not_collect no_member = absurd (cc none)
-event_of (DelVersion caller key version) none not_show not_probe not_collect no_member = absurd (cc none)
-event_of (Do caller key program) none not_show not_probe not_collect no_member = absurd (cc none)
-event_of (Net leg who verdict) none not_show not_probe not_collect no_member = refl
-event_of (CrashAcceptor id) none not_show not_probe not_collect no_member = refl
-event_of (RestartAcceptor id) none not_show not_probe not_collect no_member = refl
-event_of (CrashProposer proposer) none not_show not_probe not_collect no_member = refl
-event_of (RestartProposer proposer) none not_show not_probe not_collect no_member = refl
-event_of (HaltPrepared proposer) none not_show not_probe not_collect no_member = refl
-event_of (HaltProposed proposer) none not_show not_probe not_collect no_member = refl
-event_of (Stray index) none not_show not_probe not_collect no_member = refl
-event_of (Show id key) none not_show not_probe not_collect no_member = absurd (not_show id key refl)
-event_of (Probe key) none not_show not_probe not_collect no_member = absurd (not_probe key refl)
-event_of (Collect key) none not_show not_probe not_collect no_member = absurd (not_collect key refl)
-event_of (Join id) none not_show not_probe not_collect no_member = absurd (cc no_member)
-event_of (Leave id) none not_show not_probe not_collect no_member = absurd (cc no_member)

@@ -1,18 +1,18 @@
 -- What a turn leaves of the turns of a proposer.
 use Rattle.std.proofs.Common.{◌≡◌, ◌≢◌, ◌<◌, ◌+◌, ℕ, Bool, true, false, List, [], ◌∷◌, ◌++◌, Some, slice_get, refl, sym, ap, subst, ◌∙◌, arith}
-use Rattle.std.specs.Prelude.{if◌then◌else◌, option_map, Option, None}
+use Rattle.std.specs.Prelude.{if◌then◌else◌, option_map, slice_index_or, Option, None}
 use Rattle.std.proofs.lemmas.List.{length-set}
 use Rattle.cas_fate.specs.declared.fate.Leg.{Leg}
 use Rattle.cas_fate.specs.declared.fate.Verdict.{Verdict}
 use Rattle.cas_fate.specs.declared.fate.Verdict.TheVariants.{Deliver, Lose, Twice, Late, Hold}
 use Rattle.cas_flow.specs.Flow.{FlowView, queue_at, queue_after, taken}
 use Rattle.cas_flow.specs.Message.{head_of}
-use Rattle.cas_flow.specs.Queue.{QueueView, fall_of, pushed}
+use Rattle.cas_flow.specs.Queue.{QueueView, empty_queue, fall_of, pushed}
 use Rattle.cas_flow.specs.declared.fall.Fall.TheVariants.{Handle, Held}
 use Rattle.cas_flow.specs.declared.message.Message.{Message}
 use Rattle.cas_flow.specs.declared.message.Message.TheVariants as message
 use Rattle.cas_slot.specs.declared.message.Reply.{Reply}
-use Rattle.cas_cluster.specs.Council.{ExchangeView, exchange_place}
+use Rattle.cas_cluster.specs.Council.{Council, ExchangeView, exchange_place}
 use Rattle.cas_cluster.specs.Step as step
 use Rattle.cas_cluster.specs.Step.{Step, StepTurn, StepRefuseTurn}
 use Rattle.cas_cluster.specs.StepStops.{OpenCallAt}
@@ -21,8 +21,9 @@ use Rattle.cas_cluster.specs.StepFrames as frames
 use Rattle.cas_cluster.specs.View.{Meaning, View}
 use Rattle.cas_cluster.proofs.FrameSteps.{taken_own}
 use Rattle.cas_cluster.proofs.Places.{queue_same, has_queue, some_is}
-use Rattle.cas_script.specs.Changes.{Turned, one_more}
-use Rattle.cas_script.specs.Conditions.{Rule, verdict_of}
+use Rattle.cas_script.specs.Changes.{Turned, FailsToTurn, one_more}
+use Rattle.cas_script.specs.Conditions.{NetworkView, Decides, is_to_repeat}
+use Rattle.cas_script.specs.Strays.{LetsIn, KeepsUnderWay}
 use Rattle.cas_script.specs.Playing.{turns_of, turns_in, turns_left_in, turns_left}
 
 -- ---- frames of rounds
@@ -121,16 +122,44 @@ pub front_of : (messages : List Message) (front : Option (Leg × ℕ)) (leg : Le
 front_of [] front leg peer shown is = absurd (cc (shown, is))
 front_of (frame ∷ rest) front leg peer shown is = record { frame = frame; at = refl; head = some_is (sym shown ∙ is) }
 
--- of the frame became what the rules say
-pub turned_more : {S V : Type 0} (m : Meaning S V) (rules : List Rule) (id : ℕ) (old mid new : View S V) (front : Option (Leg × ℕ)) (leg : Leg) (peer : ℕ) (verdict : Verdict) → front ≡ option_map head_of (slice_get (queue_at mid.flow id).messages 0) → front ≡ Some (leg, peer)
-    → verdict ≡ verdict_of rules leg peer → Turned m rules id old mid → StepTurn m mid id verdict new → Turned m rules id old new
-turned_more m rules id old mid new front leg peer verdict shown is says before by =
+-- a late frame that strays in leaves the frames of the proposers as they are
+module _ {S V : Type 0} (mid near : View S V) (place : ℕ) (keeps : KeepsUnderWay mid near) where
+  pub waits_near : {frame : Message} → slice_get (queue_at mid.flow place).messages 0 ≡ Some frame → slice_get (queue_at near.flow place).messages 0 ≡ Some frame
+  waits_near at = ap (λ (own : List QueueView). slice_get (slice_index_or own place empty_queue).messages 0) keeps.own ∙ at
+
+  pub same_turns : turns_left near place ≡ turns_left mid place
+  same_turns = ap (λ (own : List QueueView). turns_left_in (slice_index_or own place empty_queue)) keeps.own
+
+  pub quiet_near : mid.council.exchange ≡ None → near.council.exchange ≡ None
+  quiet_near quiet = ap (λ (c : Council). c.exchange) keeps.council ∙ quiet
+
+-- of the frame became what the network decided
+pub turned_more : {S V : Type 0} (m : Meaning S V) (id : ℕ) (old mid near new : View S V) {by before between after : NetworkView} {again : Bool} {verdict : Verdict} (front : Option (Leg × ℕ)) (leg : Leg) (peer : ℕ) → front ≡ option_map head_of (slice_get (queue_at mid.flow id).messages 0) → front ≡ Some (leg, peer)
+    → KeepsUnderWay mid near → Turned m by id old before again mid → LetsIn m before mid between near → Decides (leg, peer) between again verdict after → StepTurn m near id verdict new → Turned m by id old after (is_to_repeat again verdict) new
+turned_more m id old mid near new {between = between} {after = after} {again = again} {verdict = verdict} front leg peer shown is keeps turned lets decides by =
     let one = front_of (queue_at mid.flow id).messages front leg peer shown is in
-    one_more one.frame before one.at (subst (λ (v : Verdict). StepTurn m mid id v new) (says ∙ ap (λ (h : Leg × ℕ). verdict_of rules h.0 h.1) (sym one.head)) by)
+    one_more one.frame turned lets (waits_near mid near id keeps one.at) (subst (λ (h : Leg × ℕ). Decides h between again verdict after) (sym one.head) decides) by
+
+-- no memory was found for its turn
+pub turn_refused : {S V : Type 0} (m : Meaning S V) (id : ℕ) (old mid near new : View S V) {by before between after : NetworkView} {again : Bool} {verdict : Verdict} (front : Option (Leg × ℕ)) (leg : Leg) (peer : ℕ) → front ≡ option_map head_of (slice_get (queue_at mid.flow id).messages 0) → front ≡ Some (leg, peer)
+    → KeepsUnderWay mid near → Turned m by id old before again mid → LetsIn m before mid between near → Decides (leg, peer) between again verdict after → StepRefuseTurn m near id new → FailsToTurn m by id old after new
+turn_refused m id old mid near new {before = before} {between = between} {after = after} {again = again} {verdict = verdict} front leg peer shown is keeps turned lets decides by =
+    let one = front_of (queue_at mid.flow id).messages front leg peer shown is in
+    record {
+      before = before;
+      again = again;
+      mid = mid;
+      turned = turned;
+      between = between;
+      near = near;
+      lets_in = lets;
+      frame = one.frame;
+      waits = waits_near mid near id keeps one.at;
+      verdict = verdict;
+      decides = subst (λ (h : Leg × ℕ). Decides h between again verdict after) (sym one.head) decides;
+      fails = by;
+    }
 
 pub none_waits : (messages : List Message) (front : Option (Leg × ℕ)) → front ≡ option_map head_of (slice_get messages 0) → front ≡ None → messages ≡ []
 none_waits [] front shown none = refl
 none_waits (one ∷ rest) front shown none = absurd (cc (shown, none))
-
-pub some_waits : (messages : List Message) (front : Option (Leg × ℕ)) (leg : Leg) (peer : ℕ) → front ≡ option_map head_of (slice_get messages 0) → front ≡ Some (leg, peer) → messages ≢ []
-some_waits messages front leg peer shown is empty = absurd (cc (shown ∙ ap (λ (l : List Message). option_map head_of (slice_get l 0)) empty, is))

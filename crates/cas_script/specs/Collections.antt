@@ -14,7 +14,7 @@ use Rattle.cas_proposer.specs.Desk.{DeskView}
 use Rattle.cas_world.specs.Beginning.{HasNoCall}
 use Rattle.cas_world.specs.Collect.{FindsHeld}
 use Rattle.cas_script.specs.Changes.{AreRoundsBy}
-use Rattle.cas_script.specs.Conditions.{Rule}
+use Rattle.cas_script.specs.Conditions.{NetworkView}
 use Rattle.cas_script.specs.Exchanges.{AsksMembers}
 use Rattle.cas_script.specs.Orders.{IsNotOrdered, GoesOn}
 use Rattle.cas_script.specs.declared.halt.Halt.{Halt}
@@ -43,45 +43,46 @@ pub data EndsVoting {S V : Type 0} (m : Meaning S V) (old new : View S V) : Type
   leaves_open : Step m old (Count 0) new → IsUnsettled new → EndsVoting m old new
 
 -- so many rounds at most, as a change has
-abbrev pub AreTombstoneRounds : {S V : Type 0} → Meaning S V → List Rule → List ℕ → ℕ → Halt → View S V → Halt → View S V → Type 0
-AreTombstoneRounds m rules key = AreRoundsBy (λ before after. Step m before (BeginCollect key) after) (EndsReading m) (EndsVoting m) m rules 0
+abbrev pub AreTombstoneRounds : {S V : Type 0} → Meaning S V → List ℕ → ℕ → NetworkView → Halt → View S V → NetworkView → Halt → View S V → Type 0
+AreTombstoneRounds m key = AreRoundsBy (λ before after. Step m before (BeginCollect key) after) (EndsReading m) (EndsVoting m) m 0
 
 -- the call is begun, and has its rounds
-pub record HasRounds {S V : Type 0} (m : Meaning S V) (tries : ℕ) (rules : List Rule) (key : List ℕ) (halt : Halt) (old : View S V) (after : Halt) (new : View S V) : Type 0 where
+pub record HasRounds {S V : Type 0} (m : Meaning S V) (tries : ℕ) (by : NetworkView) (key : List ℕ) (halt : Halt) (old : View S V) (next : NetworkView) (after : Halt) (new : View S V) : Type 0 where
   pub begun : View S V
   pub begins : Step m old (BeginCollect key) begun
-  pub rounds : AreTombstoneRounds m rules key tries halt begun after new
+  pub rounds : AreTombstoneRounds m key tries by halt begun next after new
 
 -- It is ended by what it was told. No end is left for it where it was not begun, as the operator's call is told, or where a held state was
 -- read.
-pub data IsCalled {S V : Type 0} (m : Meaning S V) (tries : ℕ) (rules : List Rule) (key : List ℕ) (halt : Halt) (old : View S V) : Halt → View S V → Type 0 where
-  over : {new : View S V} {after : Halt} → HasRounds m tries rules key halt old after new → HasNoCall new 0 → IsCalled m tries rules key halt old after new
-  ended : {told new : View S V} {after : Halt} (answer : Answer) → HasRounds m tries rules key halt old after told → Step m told (EndCollect answer) new → IsCalled m tries rules key halt old after new
+pub data IsCalled {S V : Type 0} (m : Meaning S V) (tries : ℕ) (by : NetworkView) (key : List ℕ) (halt : Halt) (old : View S V) : NetworkView → Halt → View S V → Type 0 where
+  over : {new : View S V} {next : NetworkView} {after : Halt} → HasRounds m tries by key halt old next after new → HasNoCall new 0 → IsCalled m tries by key halt old next after new
+  ended : {told new : View S V} {next : NetworkView} {after : Halt} (answer : Answer) → HasRounds m tries by key halt old next after told → Step m told (EndCollect answer) new → IsCalled m tries by key halt old next after new
 
 -- ---- its steps
 -- The step that is due is taken: what the round came to is gathered, the next proposer is renewed, all members are asked, or the floor is
 -- marked.
-pub data TakesStep {S V : Type 0} (m : Meaning S V) (rules : List Rule) (old : View S V) : View S V → Type 0 where
-  gathers : {new : View S V} → Step m old GatherRound new → TakesStep m rules old new
-  renews : {new : View S V} (proposer : ℕ) → Step m old (Renew proposer) new → TakesStep m rules old new
-  asks : {new : View S V} → AsksMembers m rules AskCollect GatherCollect old new → TakesStep m rules old new
-  marks : {new : View S V} → Step m old MakeFloor new → TakesStep m rules old new
+pub data TakesStep {S V : Type 0} (m : Meaning S V) (by : NetworkView) (old : View S V) : NetworkView → View S V → Type 0 where
+  gathers : {new : View S V} → Step m old GatherRound new → TakesStep m by old by new
+  renews : {new : View S V} (proposer : ℕ) → Step m old (Renew proposer) new → TakesStep m by old by new
+  asks : {next : NetworkView} {new : View S V} → AsksMembers m by AskCollect GatherCollect old next new → TakesStep m by old next new
+  marks : {new : View S V} → Step m old MakeFloor new → TakesStep m by old by new
 
 -- so it goes on, up to the first step that tells why it goes no further
-pub data HasTaken {S V : Type 0} (m : Meaning S V) (rules : List Rule) (old : View S V) : View S V → Type 0 where
-  none : HasTaken m rules old old
-  one_more : {mid new : View S V} → HasTaken m rules old mid → GoesOn mid → TakesStep m rules mid new → HasTaken m rules old new
+pub data HasTaken {S V : Type 0} (m : Meaning S V) (by : NetworkView) (old : View S V) : NetworkView → View S V → Type 0 where
+  none : HasTaken m by old by old
+  one_more : {between next : NetworkView} {mid new : View S V} → HasTaken m by old between mid → GoesOn mid → TakesStep m between mid next new → HasTaken m by old next new
 
 -- ---- the whole
 -- its call comes first; then its steps are taken until one told why it goes no further, or it is at its end
-pub record IsCarriedOut {S V : Type 0} (m : Meaning S V) (tries : ℕ) (rules : List Rule) (key : List ℕ) (halt : Halt) (old : View S V) (after : Halt) (new : View S V) : Type 0 where
+pub record IsCarriedOut {S V : Type 0} (m : Meaning S V) (tries : ℕ) (by : NetworkView) (key : List ℕ) (halt : Halt) (old : View S V) (next : NetworkView) (after : Halt) (new : View S V) : Type 0 where
   pub called : View S V
-  pub calls : IsCalled m tries rules key halt old after called
-  pub takes : HasTaken m rules called new
+  pub between : NetworkView
+  pub calls : IsCalled m tries by key halt old between after called
+  pub takes : HasTaken m between called next new
   pub ends : GoesOn new → IsSomeAnd new.council.collection (λ c. c.course.step ≡ End)
 
 -- a collection of the key as a call of the operator, with its answer
-pub data IsCollection {S V : Type 0} (m : Meaning S V) (tries : ℕ) (rules : List Rule) (key : List ℕ) (halt : Halt) (old : View S V) : OpAnswer → Halt → View S V → Type 0 where
-  refused : {refusal : Answer} {new : View S V} → IsNotOrdered old refusal → Step m old RefuseOrder new → IsCollection m tries rules key halt old (op.Stopped refusal) halt new
-  told : {ordered over new : View S V} {after : Halt} {answer : OpAnswer} → Step m old (Order (asked.Collect key)) ordered → IsCarriedOut m tries rules key halt ordered after over → Step m over (Tell answer) new
-      → IsCollection m tries rules key halt old answer after new
+pub data IsCollection {S V : Type 0} (m : Meaning S V) (tries : ℕ) (by : NetworkView) (key : List ℕ) (halt : Halt) (old : View S V) : OpAnswer → NetworkView → Halt → View S V → Type 0 where
+  refused : {refusal : Answer} {new : View S V} → IsNotOrdered old refusal → Step m old RefuseOrder new → IsCollection m tries by key halt old (op.Stopped refusal) by halt new
+  told : {ordered over new : View S V} {next : NetworkView} {after : Halt} {answer : OpAnswer} → Step m old (Order (asked.Collect key)) ordered → IsCarriedOut m tries by key halt ordered next after over → Step m over (Tell answer) new
+      → IsCollection m tries by key halt old answer next after new

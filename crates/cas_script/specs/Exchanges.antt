@@ -1,6 +1,8 @@
 -- What an exchange does to a world, in which proposer 0 asks all members: the calls that it makes, one after another.
-use Rattle.std.specs.Prelude.{◌≡◌, ℕ, List, [], None, Some}
+use Rattle.std.specs.Prelude.{◌≡◌, ℕ, Bool, false, List, [], None, Some}
+use Rattle.cas_fate.specs.declared.fate.Verdict.{Verdict}
 use Rattle.cas_flow.specs.Flow.{queue_at}
+use Rattle.cas_flow.specs.Message.{head_of}
 use Rattle.cas_flow.specs.declared.message.Message.{Message}
 use Rattle.cas_record.specs.declared.operator.OpAnswer.TheVariants as op
 use Rattle.cas_calls.specs.Council.{listed_if}
@@ -15,32 +17,44 @@ use Rattle.cas_cluster.specs.View.{Meaning, View, IsAt}
 use Rattle.cas_world.specs.Exchange.{WasToldOrder}
 use Rattle.cas_world.specs.declared.exchange.Exchange.{Exchange}
 use Rattle.cas_world.specs.declared.exchange.Exchange.TheVariants as what
-use Rattle.cas_script.specs.Conditions.{Rule, verdict_on}
+use Rattle.cas_script.specs.Conditions.{NetworkView, Decides, is_to_repeat}
+use Rattle.cas_script.specs.Strays.{LetsIn}
 
 -- ---- turns
--- turns were made, each on the first frame of the exchange, of which became what the rules say
-pub data AskTurned {S V : Type 0} (m : Meaning S V) (rules : List Rule) (old : View S V) : View S V → Type 0 where
-  none : AskTurned m rules old old
-  one_more : {mid new : View S V} (frame : Message) → AskTurned m rules old mid → IsAt (queue_at mid.flow exchange_place).messages 0 frame → Step m mid (TurnExchange (verdict_on rules frame)) new → AskTurned m rules old new
+-- turns were made, each on the first frame of the exchange, as those of a round are
+pub data AskTurned {S V : Type 0} (m : Meaning S V) (by : NetworkView) (old : View S V) : NetworkView → Bool → View S V → Type 0 where
+  none : AskTurned m by old by false old
+  one_more : {before between after : NetworkView} {again : Bool} {verdict : Verdict} {mid near new : View S V} (frame : Message) → AskTurned m by old before again mid → LetsIn m before mid between near → IsAt (queue_at near.flow exchange_place).messages 0 frame
+      → Decides (head_of frame) between again verdict after → Step m near (TurnExchange verdict) new → AskTurned m by old after (is_to_repeat again verdict) new
 
 -- turns were made until none of the exchange's frames waits
-pub record AllAskTurned {S V : Type 0} (m : Meaning S V) (rules : List Rule) (old new : View S V) : Type 0 where
-  pub turned : AskTurned m rules old new
+pub record AllAskTurned {S V : Type 0} (m : Meaning S V) (by : NetworkView) (old : View S V) (next : NetworkView) (new : View S V) : Type 0 where
+  pub again : Bool
+  pub turned : AskTurned m by old next again new
   pub none_waits : (queue_at new.flow exchange_place).messages ≡ []
 
 -- after some turns one found no memory
-pub record FailsToAsk {S V : Type 0} (m : Meaning S V) (rules : List Rule) (old new : View S V) : Type 0 where
+pub record FailsToAsk {S V : Type 0} (m : Meaning S V) (by : NetworkView) (old : View S V) (next : NetworkView) (new : View S V) : Type 0 where
+  pub before : NetworkView
+  pub again : Bool
   pub mid : View S V
-  pub turned : AskTurned m rules old mid
-  pub fails : Step m mid RefuseTurnExchange new
+  pub turned : AskTurned m by old before again mid
+  pub between : NetworkView
+  pub near : View S V
+  pub lets_in : LetsIn m before mid between near
+  pub frame : Message
+  pub waits : IsAt (queue_at near.flow exchange_place).messages 0 frame
+  pub verdict : Verdict
+  pub decides : Decides (head_of frame) between again verdict next
+  pub fails : Step m near RefuseTurnExchange new
 
 -- ---- the whole
 -- The members are asked, and what they told is gathered; or none is asked, or a turn finds no memory. The two events are those by which
 -- the question is asked and its answers are gathered.
-pub data AsksMembers {S V : Type 0} (m : Meaning S V) (rules : List Rule) (asks gathers : Event) (old : View S V) : View S V → Type 0 where
-  not_asked : {new : View S V} → Step m old asks new → new.council.exchange ≡ None → AsksMembers m rules asks gathers old new
-  no_memory : {asked new : View S V} → Step m old asks asked → FailsToAsk m rules asked new → AsksMembers m rules asks gathers old new
-  gathered : {asked turned new : View S V} → Step m old asks asked → AllAskTurned m rules asked turned → Step m turned gathers new → AsksMembers m rules asks gathers old new
+pub data AsksMembers {S V : Type 0} (m : Meaning S V) (by : NetworkView) (asks gathers : Event) (old : View S V) : NetworkView → View S V → Type 0 where
+  not_asked : {new : View S V} → Step m old asks new → new.council.exchange ≡ None → AsksMembers m by asks gathers old by new
+  no_memory : {next : NetworkView} {asked new : View S V} → Step m old asks asked → FailsToAsk m by asked next new → AsksMembers m by asks gathers old next new
+  gathered : {next : NetworkView} {asked turned new : View S V} → Step m old asks asked → AllAskTurned m by asked next turned → Step m turned gathers new → AsksMembers m by asks gathers old next new
 
 -- the step of the store by which its answers are gathered
 abbrev pub answers_of : Exchange → Event

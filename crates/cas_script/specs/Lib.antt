@@ -4,6 +4,7 @@ pub mod Collections
 pub mod Conditions
 pub mod Events
 pub mod Exchanges
+pub mod Load
 pub mod Membership
 pub mod Network
 pub mod Orders
@@ -11,3 +12,4 @@ pub mod Playing
 pub mod Probes
 pub mod Script
 pub mod Stage
+pub mod Strays

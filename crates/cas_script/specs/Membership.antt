@@ -15,7 +15,7 @@ use Rattle.cas_lines.specs.Command.{one}
 use Rattle.cas_calls.specs.Council.{due_in}
 use Rattle.cas_world.specs.Plans.{IsFor, step_of, entrant_of}
 use Rattle.cas_script.specs.Changes.{IsChange}
-use Rattle.cas_script.specs.Conditions.{Rule}
+use Rattle.cas_script.specs.Conditions.{NetworkView}
 use Rattle.cas_script.specs.Exchanges.{AsksMembers}
 use Rattle.cas_script.specs.Orders.{IsNotOrdered, GoesOn}
 use Rattle.cas_script.specs.declared.halt.Halt.{Halt}
@@ -24,16 +24,16 @@ use Rattle.cas_script.specs.declared.halt.Halt.{Halt}
 -- The step that is due is taken. To settle an era, the members are asked for their next keys until a listing of it is complete, and each
 -- key of that is proposed anew, by a call of caller 0 that leaves its state as it is, unless no memory is found for the key; an era is
 -- entered by one proposer after another.
-pub data Advances {S V : Type 0} (m : Meaning S V) (tries : ℕ) (rules : List Rule) (halt : Halt) (old : View S V) : Halt → View S V → Type 0 where
-  lists : {new : View S V} (places : List MemberPlace) → step_of old.council.plan ≡ Some Settle → due_in old.council.plan ≡ None → AsksMembers m rules (AskAll (NextKeys places)) Gather old new → Advances m tries rules halt old halt new
-  rescans : {new : View S V} {after : Halt} (key : List ℕ) (answer : Answer) → due_in old.council.plan ≡ Some key → IsChange m tries rules 0 key (one Always Keep) halt old answer after new → Advances m tries rules halt old after new
-  no_memory : {new : View S V} → Step m old RefuseKey new → Advances m tries rules halt old halt new
-  enters : {new : View S V} (proposer : ℕ) → entrant_of old.council.plan ≡ Some proposer → Step m old (EnterEra proposer) new → Advances m tries rules halt old halt new
+pub data Advances {S V : Type 0} (m : Meaning S V) (tries : ℕ) (by : NetworkView) (halt : Halt) (old : View S V) : NetworkView → Halt → View S V → Type 0 where
+  lists : {next : NetworkView} {new : View S V} (places : List MemberPlace) → step_of old.council.plan ≡ Some Settle → due_in old.council.plan ≡ None → AsksMembers m by (AskAll (NextKeys places)) Gather old next new → Advances m tries by halt old next halt new
+  rescans : {next : NetworkView} {new : View S V} {after : Halt} (key : List ℕ) (answer : Answer) → due_in old.council.plan ≡ Some key → IsChange m tries by 0 key (one Always Keep) halt old answer next after new → Advances m tries by halt old next after new
+  no_memory : {new : View S V} → Step m old RefuseKey new → Advances m tries by halt old by halt new
+  enters : {new : View S V} (proposer : ℕ) → entrant_of old.council.plan ≡ Some proposer → Step m old (EnterEra proposer) new → Advances m tries by halt old by halt new
 
 -- so it goes on, up to the first step that tells why it goes no further
-pub data HasAdvanced {S V : Type 0} (m : Meaning S V) (tries : ℕ) (rules : List Rule) (halt : Halt) (old : View S V) : Halt → View S V → Type 0 where
-  none : HasAdvanced m tries rules halt old halt old
-  one_more : {before after : Halt} {mid new : View S V} → HasAdvanced m tries rules halt old before mid → GoesOn mid → Advances m tries rules before mid after new → HasAdvanced m tries rules halt old after new
+pub data HasAdvanced {S V : Type 0} (m : Meaning S V) (tries : ℕ) (by : NetworkView) (halt : Halt) (old : View S V) : NetworkView → Halt → View S V → Type 0 where
+  none : HasAdvanced m tries by halt old by halt old
+  one_more : {between next : NetworkView} {before after : Halt} {mid new : View S V} → HasAdvanced m tries by halt old between before mid → GoesOn mid → Advances m tries between before mid next after new → HasAdvanced m tries by halt old next after new
 
 -- ---- the whole
 -- it goes on where it stopped, if it was opened for just that; otherwise it is opened
@@ -42,17 +42,17 @@ pub data IsTakenUp {S V : Type 0} (m : Meaning S V) (asked : Asked) (old : View 
   opens : {new : View S V} → (IsFor old.council.plan asked → ⊥) → Step m old OpenPlan new → IsTakenUp m asked old new
 
 -- and advances until a step told why it goes no further, or it is at its end
-pub record IsCarriedOut {S V : Type 0} (m : Meaning S V) (tries : ℕ) (rules : List Rule) (asked : Asked) (halt : Halt) (old : View S V) (after : Halt) (new : View S V) : Type 0 where
+pub record IsCarriedOut {S V : Type 0} (m : Meaning S V) (tries : ℕ) (by : NetworkView) (asked : Asked) (halt : Halt) (old : View S V) (next : NetworkView) (after : Halt) (new : View S V) : Type 0 where
   pub taken_up : View S V
   pub takes_up : IsTakenUp m asked old taken_up
-  pub advances : HasAdvanced m tries rules halt taken_up after new
+  pub advances : HasAdvanced m tries by halt taken_up next after new
   pub over : GoesOn new → step_of new.council.plan ≡ Some Finished
 
 -- a change of membership as a call of the operator, with its answer
-pub data ChangesMembers {S V : Type 0} (m : Meaning S V) (tries : ℕ) (rules : List Rule) (asked : Asked) (halt : Halt) (old : View S V) : OpAnswer → Halt → View S V → Type 0 where
-  refused : {refusal : Answer} {new : View S V} → IsNotOrdered old refusal → Step m old RefuseOrder new → ChangesMembers m tries rules asked halt old (op.Stopped refusal) halt new
-  told : {ordered over new : View S V} {after : Halt} {answer : OpAnswer} → Step m old (Order asked) ordered → IsCarriedOut m tries rules asked halt ordered after over → Step m over (Tell answer) new
-      → ChangesMembers m tries rules asked halt old answer after new
+pub data ChangesMembers {S V : Type 0} (m : Meaning S V) (tries : ℕ) (by : NetworkView) (asked : Asked) (halt : Halt) (old : View S V) : OpAnswer → NetworkView → Halt → View S V → Type 0 where
+  refused : {refusal : Answer} {new : View S V} → IsNotOrdered old refusal → Step m old RefuseOrder new → ChangesMembers m tries by asked halt old (op.Stopped refusal) by halt new
+  told : {ordered over new : View S V} {next : NetworkView} {after : Halt} {answer : OpAnswer} → Step m old (Order asked) ordered → IsCarriedOut m tries by asked halt ordered next after over → Step m over (Tell answer) new
+      → ChangesMembers m tries by asked halt old answer next after new
 
 -- ---- what is left of it
 -- how many of its steps

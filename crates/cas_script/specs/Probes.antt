@@ -7,11 +7,11 @@ use Rattle.cas_record.specs.declared.operator.OpAnswer.TheVariants as op
 use Rattle.cas_cluster.specs.Council.{Probe}
 use Rattle.cas_cluster.specs.Step.{Step, Order, RefuseOrder, Tell, AskAll, Gather}
 use Rattle.cas_cluster.specs.View.{Meaning, View}
-use Rattle.cas_script.specs.Conditions.{Rule}
+use Rattle.cas_script.specs.Conditions.{NetworkView}
 use Rattle.cas_script.specs.Exchanges.{AsksMembers}
 use Rattle.cas_script.specs.Orders.{IsNotOrdered}
 
 -- a probe of the key as a call of the operator, with its answer, which is what the call was told last
-pub data IsProbe {S V : Type 0} (m : Meaning S V) (rules : List Rule) (key : List ℕ) (old : View S V) : OpAnswer → View S V → Type 0 where
-  refused : {refusal : Answer} {new : View S V} → IsNotOrdered old refusal → Step m old RefuseOrder new → IsProbe m rules key old (op.Stopped refusal) new
-  told : {ordered asked_all new : View S V} {answer : OpAnswer} → Step m old (Order (asked.Probe key)) ordered → AsksMembers m rules (AskAll (Probe key)) Gather ordered asked_all → Step m asked_all (Tell answer) new → IsProbe m rules key old answer new
+pub data IsProbe {S V : Type 0} (m : Meaning S V) (by : NetworkView) (key : List ℕ) (old : View S V) : OpAnswer → NetworkView → View S V → Type 0 where
+  refused : {refusal : Answer} {new : View S V} → IsNotOrdered old refusal → Step m old RefuseOrder new → IsProbe m by key old (op.Stopped refusal) by new
+  told : {ordered asked_all new : View S V} {next : NetworkView} {answer : OpAnswer} → Step m old (Order (asked.Probe key)) ordered → AsksMembers m by (AskAll (Probe key)) Gather ordered next asked_all → Step m asked_all (Tell answer) new → IsProbe m by key old answer next new

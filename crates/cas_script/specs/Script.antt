@@ -18,7 +18,7 @@ use Rattle.cas_cluster.specs.Step.{Step}
 use Rattle.cas_cluster.specs.View.{Meaning, View, IsAt}
 use Rattle.cas_script.specs.Changes.{IsChange}
 use Rattle.cas_script.specs.Collections.{IsCollection}
-use Rattle.cas_script.specs.Conditions.{Rule}
+use Rattle.cas_script.specs.Conditions.{Rule, Ruled}
 use Rattle.cas_script.specs.Events.{CrashesAcceptor, RestartsAcceptor, RestartsProposer, StraysIn, IsShown}
 use Rattle.cas_script.specs.Membership.{ChangesMembers}
 use Rattle.cas_script.specs.Network.{IsNetwork}
@@ -57,7 +57,7 @@ pub record RunsChange {S V : Type 0} (m : Meaning S V) (tries : ℕ) (old : Stat
   pub halt : Halt
   pub at_halt : IsAt old.halts asked.caller halt
   pub after : Halt
-  pub change : IsChange m tries old.rules asked.caller asked.key asked.program halt old.world answer after new.world
+  pub change : IsChange m tries (Ruled old.rules) asked.caller asked.key asked.program halt old.world answer (Ruled new.rules) after new.world
   pub rules : new.rules ≡ old.rules
   pub halts : new.halts ≡ slice_set old.halts asked.caller after
 
@@ -74,7 +74,7 @@ pub data RunsEvent {S V : Type 0} (m : Meaning S V) (old : State S V) : Command 
 
 -- a line that asks for a probe runs it
 pub record RunsProbe {S V : Type 0} (m : Meaning S V) (old : State S V) (key : List ℕ) (answer : OpAnswer) (new : State S V) : Type 0 where
-  pub probe : IsProbe m old.rules key old.world answer new.world
+  pub probe : IsProbe m (Ruled old.rules) key old.world answer (Ruled new.rules) new.world
   pub rules : new.rules ≡ old.rules
   pub halts : new.halts ≡ old.halts
 
@@ -89,7 +89,7 @@ pub record RunsMembership {S V : Type 0} (m : Meaning S V) (tries : ℕ) (old : 
   pub halt : Halt
   pub at_halt : IsAt old.halts 0 halt
   pub after : Halt
-  pub changes : ChangesMembers m tries old.rules asked halt old.world answer after new.world
+  pub changes : ChangesMembers m tries (Ruled old.rules) asked halt old.world answer (Ruled new.rules) after new.world
   pub rules : new.rules ≡ old.rules
   pub halts : new.halts ≡ slice_set old.halts 0 after
 
@@ -98,7 +98,7 @@ pub record RunsCollection {S V : Type 0} (m : Meaning S V) (tries : ℕ) (old : 
   pub halt : Halt
   pub at_halt : IsAt old.halts 0 halt
   pub after : Halt
-  pub collects : IsCollection m tries old.rules key halt old.world answer after new.world
+  pub collects : IsCollection m tries (Ruled old.rules) key halt old.world answer (Ruled new.rules) after new.world
   pub rules : new.rules ≡ old.rules
   pub halts : new.halts ≡ slice_set old.halts 0 after
 
@@ -140,7 +140,7 @@ transcript_of number (answer ∷ later) = text_of number answer ++ transcript_of
 -- a script is in this state
 pub record IsIn {S V : Type 0} (stage : Stage S V) (state : State S V) : Type 0 where
   pub world : stage.world ≡ state.world
-  pub network : IsNetwork stage.network state.rules
+  pub network : IsNetwork stage.network (Ruled state.rules)
   pub halts : stage.halts ≡ state.halts
 
 -- the line of that number was run, and this is the text of its answer

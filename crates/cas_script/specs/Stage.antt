@@ -3,7 +3,7 @@ use Rattle.std.specs.Prelude.{◌≡◌, ◌≤◌, ℕ, List}
 use Rattle.cas_cluster.specs.Council.{IsAtRest}
 use Rattle.cas_cluster.specs.View.{View}
 use Rattle.cas_world.specs.Beginning.{HasNoCall}
-use Rattle.cas_script.specs.Conditions.{Rule}
+use Rattle.cas_script.specs.Conditions.{Rule, Ruled}
 use Rattle.cas_script.specs.Network.{IsNetwork}
 use Rattle.cas_script.specs.declared.halt.Halt.{Halt}
 use Rattle.cas_script.specs.declared.network.Network.{Network}
@@ -27,4 +27,4 @@ pub record IsStage {S V : Type 0} (stage : Stage S V) (proposers : ℕ) : Type 0
   pub idle : AllIdle stage.world
   -- and neither is one of the operator's, nor an exchange
   pub quiet : IsAtRest stage.world.council
-  pub ruled : (rules : List Rule) × IsNetwork stage.network rules
+  pub ruled : (rules : List Rule) × IsNetwork stage.network (Ruled rules)

@@ -8,12 +8,13 @@ ghost use Rattle.cas_cluster.specs.View.{meaning};
 ghost use Rattle.cas_record.specs.declared.answer.Answer.TheVariants as answer;
 ghost use Rattle.cas_world.specs.Beginning.{is_refusal, HasNoCall};
 ghost use Rattle.cas_script.specs.Changes.{AllTurned, FailsToTurn, EndsPrepare, IsAccepted, IsCutOff, IsCutShort, IsRound, AreRounds, IsChange, HasQuorum, Strikes};
-ghost use Rattle.cas_script.specs.Conditions.{Rule};
-ghost use Rattle.cas_script.specs.Network.{IsNetwork};
+ghost use Rattle.cas_script.specs.Conditions.{NetworkView};
+ghost use Rattle.cas_script.specs.Network.{IsNetwork, Through};
 ghost use Rattle.cas_script.specs.Playing.{Asked, HasBegun, IsPlaying, IsOver, is_conflict};
 
 use crate::halt::Halt;
-use crate::network::Network;
+use crate::network::{Network, is_to_repeat};
+use crate::strays::let_in;
 use cas_change::{Key, Program};
 use cas_disk::Disk;
 use cas_record::Answer;
@@ -37,9 +38,9 @@ pub fn change<S: Shelf, V: Disk>(
     requires quiet { world.old.council.exchange ≡ None }
     requires idle { HasNoCall world.old caller }
     requires some { 1 ≤ tries }
-    requires network { (rules : List Rule) × IsNetwork network.old rules }
-    ensures change { (rules : List Rule) → IsNetwork network.old rules → IsChange (meaning S.contents S.tells S.may_leave S.fault_count V.tells V.may_leave V.fault_count) tries rules caller key.now program.now halt.old world.old result halt.new world.new }
-    ensures network { (rules : List Rule) → IsNetwork network.old rules → IsNetwork network.new rules }
+    requires network { (by : NetworkView) × IsNetwork network.old by }
+    ensures change { Through network.old network.new (λ by next. IsChange (meaning S.contents S.tells S.may_leave S.fault_count V.tells V.may_leave V.fault_count) tries by caller key.now program.now halt.old world.old result next halt.new world.new) }
+    ensures network { (by : NetworkView) → IsNetwork network.old by → (next : NetworkView) × IsNetwork network.new next }
     ensures rescans { Rescans world.old.council caller key.now result world.new.council }
     ensures idle { HasNoCall world.new caller }
     ensures greatest { world.new.greatest ≡ world.old.greatest }
@@ -77,9 +78,9 @@ fn rounds<S: Shelf, V: Disk>(
     requires known { caller ≤ world.old.greatest }
     requires begun { HasBegun world.old caller (record { number = call; key = key.now; program = program.now }) }
     requires some { 1 ≤ tries }
-    requires network { (rules : List Rule) × IsNetwork network.old rules }
-    ensures rounds { (rules : List Rule) → IsNetwork network.old rules → AreRounds (meaning S.contents S.tells S.may_leave S.fault_count V.tells V.may_leave V.fault_count) rules caller key.now program.now tries halt.old world.old halt.new world.new }
-    ensures network { (rules : List Rule) → IsNetwork network.old rules → IsNetwork network.new rules }
+    requires network { (by : NetworkView) × IsNetwork network.old by }
+    ensures rounds { Through network.old network.new (λ by next. AreRounds (meaning S.contents S.tells S.may_leave S.fault_count V.tells V.may_leave V.fault_count) caller key.now program.now tries by halt.old world.old next halt.new world.new) }
+    ensures network { (by : NetworkView) → IsNetwork network.old by → (next : NetworkView) × IsNetwork network.new next }
     ensures over { IsOver world.new caller (record { number = call; key = key.now; program = program.now }) result }
     ensures greatest { world.new.greatest ≡ world.old.greatest }
 {
@@ -112,9 +113,9 @@ fn round<S: Shelf, V: Disk>(
 ) -> Answer
     requires known { proposer ≤ world.old.greatest }
     requires begun { (asked : Asked) × HasBegun world.old proposer asked }
-    requires network { (rules : List Rule) × IsNetwork network.old rules }
-    ensures round { (rules : List Rule) → IsNetwork network.old rules → IsRound (meaning S.contents S.tells S.may_leave S.fault_count V.tells V.may_leave V.fault_count) rules proposer halt.old world.old halt.new world.new }
-    ensures network { (rules : List Rule) → IsNetwork network.old rules → IsNetwork network.new rules }
+    requires network { (by : NetworkView) × IsNetwork network.old by }
+    ensures round { Through network.old network.new (λ by next. IsRound (meaning S.contents S.tells S.may_leave S.fault_count V.tells V.may_leave V.fault_count) by proposer halt.old world.old next halt.new world.new) }
+    ensures network { (by : NetworkView) → IsNetwork network.old by → (next : NetworkView) × IsNetwork network.new next }
     ensures over { (asked : Asked) → HasBegun world.old proposer asked → IsOver world.new proposer asked result }
     ensures greatest { world.new.greatest ≡ world.old.greatest }
 {
@@ -136,13 +137,13 @@ fn prepare<S: Shelf, V: Disk>(
 ) -> Result<(), Answer>
     requires known { proposer ≤ world.old.greatest }
     requires open { (asked : Asked) × IsPlaying world.old proposer asked false }
-    requires network { (rules : List Rule) × IsNetwork network.old rules }
-    ensures proposed { (rules : List Rule) → IsNetwork network.old rules → OnOk result (EndsPrepare (meaning S.contents S.tells S.may_leave S.fault_count V.tells V.may_leave V.fault_count) rules proposer halt.old world.old world.new) }
+    requires network { (by : NetworkView) × IsNetwork network.old by }
+    ensures proposed { OnOk result (Through network.old network.new (λ by next. EndsPrepare (meaning S.contents S.tells S.may_leave S.fault_count V.tells V.may_leave V.fault_count) by proposer halt.old world.old next world.new)) }
     ensures same_halt { OnOk result (halt.new ≡ halt.old) }
     ensures plays { (asked : Asked) → IsPlaying world.old proposer asked false → OnOk result (IsPlaying world.new proposer asked true) }
-    ensures refused { (rules : List Rule) → IsNetwork network.old rules → OnErr result (IsRound (meaning S.contents S.tells S.may_leave S.fault_count V.tells V.may_leave V.fault_count) rules proposer halt.old world.old halt.new world.new) }
+    ensures refused { OnErr result (Through network.old network.new (λ by next. IsRound (meaning S.contents S.tells S.may_leave S.fault_count V.tells V.may_leave V.fault_count) by proposer halt.old world.old next halt.new world.new)) }
     ensures over { (asked : Asked) → IsPlaying world.old proposer asked false → IfErr result (IsOver world.new proposer asked) }
-    ensures network { (rules : List Rule) → IsNetwork network.old rules → IsNetwork network.new rules }
+    ensures network { (by : NetworkView) → IsNetwork network.old by → (next : NetworkView) × IsNetwork network.new next }
     ensures greatest { world.new.greatest ≡ world.old.greatest }
 {
     prepare_turns(world, network, halt, proposer)?;
@@ -159,15 +160,15 @@ pub(crate) fn prepare_turns<S: Shelf, V: Disk>(
 ) -> Result<(), Answer>
     requires known { proposer ≤ world.old.greatest }
     requires open { (asked : Asked) × IsPlaying world.old proposer asked false }
-    requires network { (rules : List Rule) × IsNetwork network.old rules }
-    ensures turned { (rules : List Rule) → IsNetwork network.old rules → OnOk result (AllTurned (meaning S.contents S.tells S.may_leave S.fault_count V.tells V.may_leave V.fault_count) rules proposer world.old world.new) }
+    requires network { (by : NetworkView) × IsNetwork network.old by }
+    ensures turned { OnOk result (Through network.old network.new (λ by next. AllTurned (meaning S.contents S.tells S.may_leave S.fault_count V.tells V.may_leave V.fault_count) by proposer world.old next world.new)) }
     ensures goes_on { OnOk result (Strikes halt.old world.new proposer → ⊥) }
     ensures same_halt { OnOk result (halt.new ≡ halt.old) }
     ensures plays { (asked : Asked) → IsPlaying world.old proposer asked false → OnOk result (IsPlaying world.new proposer asked false) }
-    ensures cut_off { (rules : List Rule) → IsNetwork network.old rules → OnErr result (IsCutOff (meaning S.contents S.tells S.may_leave S.fault_count V.tells V.may_leave V.fault_count) rules proposer halt.old world.old halt.new world.new) }
+    ensures cut_off { OnErr result (Through network.old network.new (λ by next. IsCutOff (meaning S.contents S.tells S.may_leave S.fault_count V.tells V.may_leave V.fault_count) by proposer halt.old world.old next halt.new world.new)) }
     ensures over { (asked : Asked) → IsPlaying world.old proposer asked false → IfErr result (IsOver world.new proposer asked) }
     ensures not_done { IfErr result (λ told. is_done told ≡ false) }
-    ensures network { (rules : List Rule) → IsNetwork network.old rules → IsNetwork network.new rules }
+    ensures network { (by : NetworkView) → IsNetwork network.old by → (next : NetworkView) × IsNetwork network.new next }
     ensures council { world.new.council ≡ world.old.council }
     ensures greatest { world.new.greatest ≡ world.old.greatest }
 {
@@ -190,10 +191,10 @@ fn accept<S: Shelf, V: Disk>(
 ) -> Answer
     requires known { proposer ≤ world.old.greatest }
     requires open { (asked : Asked) × IsPlaying world.old proposer asked true }
-    requires network { (rules : List Rule) × IsNetwork network.old rules }
-    ensures accepted { (rules : List Rule) → IsNetwork network.old rules → IsAccepted (meaning S.contents S.tells S.may_leave S.fault_count V.tells V.may_leave V.fault_count) rules proposer halt.old world.old halt.new world.new }
+    requires network { (by : NetworkView) × IsNetwork network.old by }
+    ensures accepted { Through network.old network.new (λ by next. IsAccepted (meaning S.contents S.tells S.may_leave S.fault_count V.tells V.may_leave V.fault_count) by proposer halt.old world.old next halt.new world.new) }
     ensures over { (asked : Asked) → IsPlaying world.old proposer asked true → IsOver world.new proposer asked result }
-    ensures network { (rules : List Rule) → IsNetwork network.old rules → IsNetwork network.new rules }
+    ensures network { (by : NetworkView) → IsNetwork network.old by → (next : NetworkView) × IsNetwork network.new next }
     ensures greatest { world.new.greatest ≡ world.old.greatest }
 {
     match accept_turns(world, network, halt, proposer) {
@@ -212,15 +213,15 @@ pub(crate) fn accept_turns<S: Shelf, V: Disk>(
 ) -> Result<(), Answer>
     requires known { proposer ≤ world.old.greatest }
     requires open { (asked : Asked) × IsPlaying world.old proposer asked true }
-    requires network { (rules : List Rule) × IsNetwork network.old rules }
-    ensures turned { (rules : List Rule) → IsNetwork network.old rules → OnOk result (AllTurned (meaning S.contents S.tells S.may_leave S.fault_count V.tells V.may_leave V.fault_count) rules proposer world.old world.new) }
+    requires network { (by : NetworkView) × IsNetwork network.old by }
+    ensures turned { OnOk result (Through network.old network.new (λ by next. AllTurned (meaning S.contents S.tells S.may_leave S.fault_count V.tells V.may_leave V.fault_count) by proposer world.old next world.new)) }
     ensures goes_on { OnOk result (halt.old.after_propose ≡ false) }
     ensures same_halt { OnOk result (halt.new ≡ halt.old) }
     ensures plays { (asked : Asked) → IsPlaying world.old proposer asked true → OnOk result (IsPlaying world.new proposer asked true) }
-    ensures cut_short { (rules : List Rule) → IsNetwork network.old rules → OnErr result (IsCutShort (meaning S.contents S.tells S.may_leave S.fault_count V.tells V.may_leave V.fault_count) rules proposer halt.old world.old halt.new world.new) }
+    ensures cut_short { OnErr result (Through network.old network.new (λ by next. IsCutShort (meaning S.contents S.tells S.may_leave S.fault_count V.tells V.may_leave V.fault_count) by proposer halt.old world.old next halt.new world.new)) }
     ensures over { (asked : Asked) → IsPlaying world.old proposer asked true → IfErr result (IsOver world.new proposer asked) }
     ensures not_done { IfErr result (λ told. is_done told ≡ false) }
-    ensures network { (rules : List Rule) → IsNetwork network.old rules → IsNetwork network.new rules }
+    ensures network { (by : NetworkView) → IsNetwork network.old by → (next : NetworkView) × IsNetwork network.new next }
     ensures council { world.new.council ≡ world.old.council }
     ensures greatest { world.new.greatest ≡ world.old.greatest }
 {
@@ -242,17 +243,20 @@ fn all_turns<S: Shelf, V: Disk>(
 ) -> Result<(), AllocError>
     requires known { proposer ≤ world.old.greatest }
     requires quiet { world.old.council.exchange ≡ None }
-    requires network { (rules : List Rule) × IsNetwork network.old rules }
-    ensures through { (rules : List Rule) → IsNetwork network.old rules → OnOk result (AllTurned (meaning S.contents S.tells S.may_leave S.fault_count V.tells V.may_leave V.fault_count) rules proposer world.old world.new) }
-    ensures fails { (rules : List Rule) → IsNetwork network.old rules → OnErr result (FailsToTurn (meaning S.contents S.tells S.may_leave S.fault_count V.tells V.may_leave V.fault_count) rules proposer world.old world.new) }
+    requires network { (by : NetworkView) × IsNetwork network.old by }
+    ensures through { OnOk result (Through network.old network.new (λ by next. AllTurned (meaning S.contents S.tells S.may_leave S.fault_count V.tells V.may_leave V.fault_count) by proposer world.old next world.new)) }
+    ensures fails { OnErr result (Through network.old network.new (λ by next. FailsToTurn (meaning S.contents S.tells S.may_leave S.fault_count V.tells V.may_leave V.fault_count) by proposer world.old next world.new)) }
     ensures plays { (asked : Asked) (proposed : Bool) → IsPlaying world.old proposer asked proposed → OnOk result (IsPlaying world.new proposer asked proposed) }
     ensures told { (asked : Asked) (proposed : Bool) → IsPlaying world.old proposer asked proposed → OnErr result (IsOver world.new proposer asked (answer.NoMemory proposed)) }
-    ensures network { (rules : List Rule) → IsNetwork network.old rules → IsNetwork network.new rules }
+    ensures network { (by : NetworkView) → IsNetwork network.old by → (next : NetworkView) × IsNetwork network.new next }
     ensures greatest { world.new.greatest ≡ world.old.greatest }
 {
+    let mut again = false;
     while let Some(front) = world.front(proposer) {
-        let verdict = network.verdict(front.0, front.1);
+        let_in(world, network);
+        let verdict = network.verdict(again, front.0, front.1);
         world.turn(proposer, verdict)?;
+        again = is_to_repeat(again, verdict);
     }
     Ok(())
 }

@@ -16,8 +16,8 @@ ghost use Rattle.cas_world.specs.Readers.{next_number};
 ghost use Rattle.cas_script.specs.Changes.{EndsPrepareBy, IsAcceptedBy, IsRoundBy};
 ghost use Rattle.cas_script.specs.Collecting.{HasStopped, IsBuried, IsDue, IsInRound, IsRunning};
 ghost use Rattle.cas_script.specs.Collections.{AreTombstoneRounds, EndsReading, EndsVoting, HasRounds, HasTaken, IsCalled, IsCarriedOut, IsCollection};
-ghost use Rattle.cas_script.specs.Conditions.{Rule};
-ghost use Rattle.cas_script.specs.Network.{IsNetwork};
+ghost use Rattle.cas_script.specs.Conditions.{NetworkView};
+ghost use Rattle.cas_script.specs.Network.{IsNetwork, Through};
 ghost use Rattle.cas_script.specs.Orders.{IsOrdered, IsFree, KeepsIdle};
 ghost use Rattle.cas_script.specs.Playing.{Asked as Wanted};
 
@@ -47,10 +47,10 @@ pub fn collect<S: Shelf, V: Disk>(
     requires idle { HasNoCall world.old 0 }
     requires quiet { IsAtRest world.old.council }
     requires some { 1 ≤ tries }
-    requires network { (rules : List Rule) × IsNetwork network.old rules }
-    ensures collects { (rules : List Rule) → IsNetwork network.old rules → IfOk result (λ answer. IsCollection (meaning S.contents S.tells S.may_leave S.fault_count V.tells V.may_leave V.fault_count) tries rules key.now halt.old world.old answer halt.new world.new) }
+    requires network { (by : NetworkView) × IsNetwork network.old by }
+    ensures collects { IfOk result (λ answer. Through network.old network.new (λ by next. IsCollection (meaning S.contents S.tells S.may_leave S.fault_count V.tells V.may_leave V.fault_count) tries by key.now halt.old world.old answer next halt.new world.new)) }
     ensures err { OnErr result ((world.new ≡ world.old) × (network.new ≡ network.old) × (halt.new ≡ halt.old)) }
-    ensures network { (rules : List Rule) → IsNetwork network.old rules → IsNetwork network.new rules }
+    ensures network { (by : NetworkView) → IsNetwork network.old by → (next : NetworkView) × IsNetwork network.new next }
     ensures quiet { IsAtRest world.new.council }
     ensures idle { KeepsIdle world.old world.new }
 {
@@ -98,11 +98,11 @@ fn carry_out<S: Shelf, V: Disk>(
     requires free { IsFree world.old }
     requires program { program.now ≡ keep_always }
     requires some { 1 ≤ tries }
-    requires network { (rules : List Rule) × IsNetwork network.old rules }
-    ensures carried { (rules : List Rule) → IsNetwork network.old rules → IsCarriedOut (meaning S.contents S.tells S.may_leave S.fault_count V.tells V.may_leave V.fault_count) tries rules key.now halt.old world.old halt.new world.new }
+    requires network { (by : NetworkView) × IsNetwork network.old by }
+    ensures carried { Through network.old network.new (λ by next. IsCarriedOut (meaning S.contents S.tells S.may_leave S.fault_count V.tells V.may_leave V.fault_count) tries by key.now halt.old world.old next halt.new world.new) }
     ensures end { OnOk result (IsDue world.new key.now EndStep) }
     ensures told { IfErr result (WasToldOrder world.new) }
-    ensures network { (rules : List Rule) → IsNetwork network.old rules → IsNetwork network.new rules }
+    ensures network { (by : NetworkView) → IsNetwork network.old by → (next : NetworkView) × IsNetwork network.new next }
     ensures idle { KeepsIdle world.old world.new }
 {
     bury(world, network, halt, tries, key, program)?;
@@ -115,11 +115,11 @@ fn take_steps<S: Shelf, V: Disk>(
     network: &mut Network,
 ) -> Result<(), OpAnswer>
     requires buried { (key : List ℕ) × IsBuried world.old key }
-    requires network { (rules : List Rule) × IsNetwork network.old rules }
-    ensures taken { (rules : List Rule) → IsNetwork network.old rules → HasTaken (meaning S.contents S.tells S.may_leave S.fault_count V.tells V.may_leave V.fault_count) rules world.old world.new }
+    requires network { (by : NetworkView) × IsNetwork network.old by }
+    ensures taken { Through network.old network.new (λ by next. HasTaken (meaning S.contents S.tells S.may_leave S.fault_count V.tells V.may_leave V.fault_count) by world.old next world.new) }
     ensures end { (key : List ℕ) → IsBuried world.old key → OnOk result (IsDue world.new key EndStep) }
     ensures told { IfErr result (WasToldOrder world.new) }
-    ensures network { (rules : List Rule) → IsNetwork network.old rules → IsNetwork network.new rules }
+    ensures network { (by : NetworkView) → IsNetwork network.old by → (next : NetworkView) × IsNetwork network.new next }
     ensures idle { KeepsIdle world.old world.new }
 {
     world.gather()?;
@@ -144,11 +144,11 @@ fn bury<S: Shelf, V: Disk>(
     requires free { IsFree world.old }
     requires program { program.now ≡ keep_always }
     requires some { 1 ≤ tries }
-    requires network { (rules : List Rule) × IsNetwork network.old rules }
-    ensures called { (rules : List Rule) → IsNetwork network.old rules → IsCalled (meaning S.contents S.tells S.may_leave S.fault_count V.tells V.may_leave V.fault_count) tries rules key.now halt.old world.old halt.new world.new }
+    requires network { (by : NetworkView) × IsNetwork network.old by }
+    ensures called { Through network.old network.new (λ by next. IsCalled (meaning S.contents S.tells S.may_leave S.fault_count V.tells V.may_leave V.fault_count) tries by key.now halt.old world.old next halt.new world.new) }
     ensures buried { OnOk result (IsBuried world.new key.now) }
     ensures told { IfErr result (WasToldOrder world.new) }
-    ensures network { (rules : List Rule) → IsNetwork network.old rules → IsNetwork network.new rules }
+    ensures network { (by : NetworkView) → IsNetwork network.old by → (next : NetworkView) × IsNetwork network.new next }
     ensures idle { KeepsIdle world.old world.new }
 {
     let call = world.next_call(0);
@@ -177,13 +177,13 @@ fn call_for<S: Shelf, V: Disk>(
     requires next { option_map next_number (slice_get world.old.callers 0) ≡ Some call }
     requires program { program.now ≡ keep_always }
     requires some { 1 ≤ tries }
-    requires network { (rules : List Rule) × IsNetwork network.old rules }
-    ensures called { (rules : List Rule) → IsNetwork network.old rules → HasRounds (meaning S.contents S.tells S.may_leave S.fault_count V.tells V.may_leave V.fault_count) tries rules key.now halt.old world.old halt.new world.new }
+    requires network { (by : NetworkView) × IsNetwork network.old by }
+    ensures called { Through network.old network.new (λ by next. HasRounds (meaning S.contents S.tells S.may_leave S.fault_count V.tells V.may_leave V.fault_count) tries by key.now halt.old world.old next halt.new world.new) }
     ensures stopped { IfOk result (λ told. IfSome told (HasStopped world.new (record { number = call; key = key.now; program = keep_always }))) }
     ensures buried { IfOk result (λ told. IfNone told (IsBuried world.new key.now)) }
     ensures told { IfErr result (WasToldOrder world.new) }
     ensures none { OnErr result (HasNoCall world.new 0) }
-    ensures network { (rules : List Rule) → IsNetwork network.old rules → IsNetwork network.new rules }
+    ensures network { (by : NetworkView) → IsNetwork network.old by → (next : NetworkView) × IsNetwork network.new next }
 {
     match world.begin_collect(call, key, program) {
         Ok(()) => Ok(rounds(world, network, halt, tries, call, key, program)),
@@ -234,11 +234,11 @@ fn rounds<S: Shelf, V: Disk>(
     requires running { IsRunning world.old (record { number = call; key = key.now; program = keep_always }) }
     requires program { program.now ≡ keep_always }
     requires some { 1 ≤ tries }
-    requires network { (rules : List Rule) × IsNetwork network.old rules }
-    ensures rounds { (rules : List Rule) → IsNetwork network.old rules → AreTombstoneRounds (meaning S.contents S.tells S.may_leave S.fault_count V.tells V.may_leave V.fault_count) rules key.now tries halt.old world.old halt.new world.new }
+    requires network { (by : NetworkView) × IsNetwork network.old by }
+    ensures rounds { Through network.old network.new (λ by next. AreTombstoneRounds (meaning S.contents S.tells S.may_leave S.fault_count V.tells V.may_leave V.fault_count) key.now tries by halt.old world.old next halt.new world.new) }
     ensures stopped { IfSome result (HasStopped world.new (record { number = call; key = key.now; program = keep_always })) }
     ensures buried { IfNone result (IsBuried world.new key.now) }
-    ensures network { (rules : List Rule) → IsNetwork network.old rules → IsNetwork network.new rules }
+    ensures network { (by : NetworkView) → IsNetwork network.old by → (next : NetworkView) × IsNetwork network.new next }
 {
     let told = round(world, network, halt)?;
     if tries == 1 {
@@ -260,11 +260,11 @@ fn round<S: Shelf, V: Disk>(
     halt: &mut Halt,
 ) -> Option<Answer>
     requires running { (asked : Wanted) × IsRunning world.old asked }
-    requires network { (rules : List Rule) × IsNetwork network.old rules }
-    ensures round { (rules : List Rule) → IsNetwork network.old rules → IsRoundBy (EndsReading (meaning S.contents S.tells S.may_leave S.fault_count V.tells V.may_leave V.fault_count)) (EndsVoting (meaning S.contents S.tells S.may_leave S.fault_count V.tells V.may_leave V.fault_count)) (meaning S.contents S.tells S.may_leave S.fault_count V.tells V.may_leave V.fault_count) rules 0 halt.old world.old halt.new world.new }
+    requires network { (by : NetworkView) × IsNetwork network.old by }
+    ensures round { Through network.old network.new (λ by next. IsRoundBy (EndsReading (meaning S.contents S.tells S.may_leave S.fault_count V.tells V.may_leave V.fault_count)) (EndsVoting (meaning S.contents S.tells S.may_leave S.fault_count V.tells V.may_leave V.fault_count)) (meaning S.contents S.tells S.may_leave S.fault_count V.tells V.may_leave V.fault_count) by 0 halt.old world.old next halt.new world.new) }
     ensures stopped { (asked : Wanted) → IsRunning world.old asked → IfSome result (HasStopped world.new asked) }
     ensures buried { (asked : Wanted) → IsRunning world.old asked → IfNone result (IsBuried world.new asked.key) }
-    ensures network { (rules : List Rule) → IsNetwork network.old rules → IsNetwork network.new rules }
+    ensures network { (by : NetworkView) → IsNetwork network.old by → (next : NetworkView) × IsNetwork network.new next }
 {
     if world.has_proposed(0) {
         return Some(accept(world, network, halt));
@@ -283,14 +283,14 @@ fn prepare<S: Shelf, V: Disk>(
     halt: &mut Halt,
 ) -> Result<Reading, Answer>
     requires open { (asked : Wanted) × IsInRound world.old asked false }
-    requires network { (rules : List Rule) × IsNetwork network.old rules }
-    ensures ended { (rules : List Rule) → IsNetwork network.old rules → OnOk result (EndsPrepareBy (EndsReading (meaning S.contents S.tells S.may_leave S.fault_count V.tells V.may_leave V.fault_count)) (meaning S.contents S.tells S.may_leave S.fault_count V.tells V.may_leave V.fault_count) rules 0 halt.old world.old world.new) }
+    requires network { (by : NetworkView) × IsNetwork network.old by }
+    ensures ended { OnOk result (Through network.old network.new (λ by next. EndsPrepareBy (EndsReading (meaning S.contents S.tells S.may_leave S.fault_count V.tells V.may_leave V.fault_count)) (meaning S.contents S.tells S.may_leave S.fault_count V.tells V.may_leave V.fault_count) by 0 halt.old world.old next world.new)) }
     ensures same_halt { OnOk result (halt.new ≡ halt.old) }
     ensures plays { (asked : Wanted) → IsInRound world.old asked false → result ≡ Ok Reading.Empty → IsInRound world.new asked true }
     ensures buried { (asked : Wanted) (version : ℕ) → IsInRound world.old asked false → result ≡ Ok (Reading.Held version) → IsBuried world.new asked.key }
-    ensures refused { (rules : List Rule) → IsNetwork network.old rules → OnErr result (IsRoundBy (EndsReading (meaning S.contents S.tells S.may_leave S.fault_count V.tells V.may_leave V.fault_count)) (EndsVoting (meaning S.contents S.tells S.may_leave S.fault_count V.tells V.may_leave V.fault_count)) (meaning S.contents S.tells S.may_leave S.fault_count V.tells V.may_leave V.fault_count) rules 0 halt.old world.old halt.new world.new) }
+    ensures refused { OnErr result (Through network.old network.new (λ by next. IsRoundBy (EndsReading (meaning S.contents S.tells S.may_leave S.fault_count V.tells V.may_leave V.fault_count)) (EndsVoting (meaning S.contents S.tells S.may_leave S.fault_count V.tells V.may_leave V.fault_count)) (meaning S.contents S.tells S.may_leave S.fault_count V.tells V.may_leave V.fault_count) by 0 halt.old world.old next halt.new world.new)) }
     ensures stopped { (asked : Wanted) → IsInRound world.old asked false → IfErr result (HasStopped world.new asked) }
-    ensures network { (rules : List Rule) → IsNetwork network.old rules → IsNetwork network.new rules }
+    ensures network { (by : NetworkView) → IsNetwork network.old by → (next : NetworkView) × IsNetwork network.new next }
 {
     prepare_turns(world, network, halt, 0)?;
     world.propose_tombstone()
@@ -303,10 +303,10 @@ fn accept<S: Shelf, V: Disk>(
     halt: &mut Halt,
 ) -> Answer
     requires open { (asked : Wanted) × IsInRound world.old asked true }
-    requires network { (rules : List Rule) × IsNetwork network.old rules }
-    ensures accepted { (rules : List Rule) → IsNetwork network.old rules → IsAcceptedBy (EndsVoting (meaning S.contents S.tells S.may_leave S.fault_count V.tells V.may_leave V.fault_count)) (meaning S.contents S.tells S.may_leave S.fault_count V.tells V.may_leave V.fault_count) rules 0 halt.old world.old halt.new world.new }
+    requires network { (by : NetworkView) × IsNetwork network.old by }
+    ensures accepted { Through network.old network.new (λ by next. IsAcceptedBy (EndsVoting (meaning S.contents S.tells S.may_leave S.fault_count V.tells V.may_leave V.fault_count)) (meaning S.contents S.tells S.may_leave S.fault_count V.tells V.may_leave V.fault_count) by 0 halt.old world.old next halt.new world.new) }
     ensures stopped { (asked : Wanted) → IsInRound world.old asked true → HasStopped world.new asked result }
-    ensures network { (rules : List Rule) → IsNetwork network.old rules → IsNetwork network.new rules }
+    ensures network { (by : NetworkView) → IsNetwork network.old by → (next : NetworkView) × IsNetwork network.new next }
 {
     match accept_turns(world, network, halt, 0) {
         Ok(()) => world.count_tombstone(),
@@ -317,7 +317,7 @@ fn accept<S: Shelf, V: Disk>(
 /// Renews each proposer that is to be renewed, in turn. An `Err` is what the operator's call was told.
 fn renew<S: Shelf, V: Disk>(world: &mut World<S, V>) -> Result<(), OpAnswer>
     requires due { (key : List ℕ) × IsDue world.old key (RenewStep 0) }
-    ensures taken { (rules : List Rule) → HasTaken (meaning S.contents S.tells S.may_leave S.fault_count V.tells V.may_leave V.fault_count) rules world.old world.new }
+    ensures taken { (by : NetworkView) → HasTaken (meaning S.contents S.tells S.may_leave S.fault_count V.tells V.may_leave V.fault_count) by world.old by world.new }
     ensures due { (key : List ℕ) → IsDue world.old key (RenewStep 0) → OnOk result (IsDue world.new key AgesStep) }
     ensures told { IfErr result (WasToldOrder world.new) }
     ensures idle { KeepsIdle world.old world.new }

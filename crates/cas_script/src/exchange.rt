@@ -6,11 +6,12 @@ ghost use Rattle.cas_cluster.specs.View.{meaning};
 ghost use Rattle.cas_record.specs.declared.answer.Answer.TheVariants as answer;
 ghost use Rattle.cas_record.specs.declared.operator.OpAnswer.TheVariants as op;
 ghost use Rattle.cas_world.specs.Exchange.{MayAskThis, WasToldOrder, asking_of};
-ghost use Rattle.cas_script.specs.Conditions.{Rule};
+ghost use Rattle.cas_script.specs.Conditions.{NetworkView};
 ghost use Rattle.cas_script.specs.Exchanges.{AllAskTurned, FailsToAsk, AsksMembers, CameOf, IsAsking, KeepsCalls, KeepsOrder, answers_of, listing_left};
-ghost use Rattle.cas_script.specs.Network.{IsNetwork};
+ghost use Rattle.cas_script.specs.Network.{IsNetwork, Through};
 
-use crate::network::Network;
+use crate::network::{Network, is_to_repeat};
+use crate::strays::let_in;
 use cas_disk::Disk;
 use cas_record::{Answer, OpAnswer};
 use cas_slot::Shelf;
@@ -25,12 +26,12 @@ pub(crate) fn exchange<S: Shelf, V: Disk>(
     what: Exchange,
 ) -> Result<Gathered, OpAnswer>
     requires may { MayAskThis world.old what }
-    requires network { (rules : List Rule) × IsNetwork network.old rules }
-    ensures asks { (rules : List Rule) → IsNetwork network.old rules → AsksMembers (meaning S.contents S.tells S.may_leave S.fault_count V.tells V.may_leave V.fault_count) rules (asking_of world.old what) (answers_of what) world.old world.new }
+    requires network { (by : NetworkView) × IsNetwork network.old by }
+    ensures asks { Through network.old network.new (λ by next. AsksMembers (meaning S.contents S.tells S.may_leave S.fault_count V.tells V.may_leave V.fault_count) by (asking_of world.old what) (answers_of what) world.old next world.new) }
     ensures gathered { IfOk result (λ gathered. CameOf what world.old gathered world.new) }
     ensures less { result ≡ Ok Gathered.More → listing_left world.new < listing_left world.old }
     ensures told { IfErr result (WasToldOrder world.new) }
-    ensures network { (rules : List Rule) → IsNetwork network.old rules → IsNetwork network.new rules }
+    ensures network { (by : NetworkView) → IsNetwork network.old by → (next : NetworkView) × IsNetwork network.new next }
     ensures calls { KeepsCalls world.old world.new }
 {
     world.ask_all(what)?;
@@ -46,18 +47,21 @@ fn ask_turns<S: Shelf, V: Disk>(
     network: &mut Network,
 ) -> Result<(), AllocError>
     requires asks { (question : Question) × IsAsking world.old question }
-    requires network { (rules : List Rule) × IsNetwork network.old rules }
-    ensures through { (rules : List Rule) → IsNetwork network.old rules → OnOk result (AllAskTurned (meaning S.contents S.tells S.may_leave S.fault_count V.tells V.may_leave V.fault_count) rules world.old world.new) }
-    ensures fails { (rules : List Rule) → IsNetwork network.old rules → OnErr result (FailsToAsk (meaning S.contents S.tells S.may_leave S.fault_count V.tells V.may_leave V.fault_count) rules world.old world.new) }
+    requires network { (by : NetworkView) × IsNetwork network.old by }
+    ensures through { OnOk result (Through network.old network.new (λ by next. AllAskTurned (meaning S.contents S.tells S.may_leave S.fault_count V.tells V.may_leave V.fault_count) by world.old next world.new)) }
+    ensures fails { OnErr result (Through network.old network.new (λ by next. FailsToAsk (meaning S.contents S.tells S.may_leave S.fault_count V.tells V.may_leave V.fault_count) by world.old next world.new)) }
     ensures asks { (question : Question) → IsAsking world.old question → OnOk result (IsAsking world.new question) }
     ensures order { OnOk result (KeepsOrder world.old world.new) }
     ensures told { OnErr result (WasToldOrder world.new (op.Stopped (answer.NoMemory false))) }
-    ensures network { (rules : List Rule) → IsNetwork network.old rules → IsNetwork network.new rules }
+    ensures network { (by : NetworkView) → IsNetwork network.old by → (next : NetworkView) × IsNetwork network.new next }
     ensures calls { KeepsCalls world.old world.new }
 {
+    let mut again = false;
     while let Some(front) = world.front(0) {
-        let verdict = network.verdict(front.0, front.1);
+        let_in(world, network);
+        let verdict = network.verdict(again, front.0, front.1);
         world.turn(0, verdict)?;
+        again = is_to_repeat(again, verdict);
     }
     Ok(())
 }

@@ -9,9 +9,9 @@ ghost use Rattle.cas_record.specs.declared.operator.Asked.{Asked};
 ghost use Rattle.cas_world.specs.Beginning.{HasNoCall};
 ghost use Rattle.cas_world.specs.Exchange.{WasToldOrder};
 ghost use Rattle.cas_world.specs.Plans.{IsUnderWay, IsAtEnd, HasFinished, MayTell, asked_to, step_of, entrant_of};
-ghost use Rattle.cas_script.specs.Conditions.{Rule};
+ghost use Rattle.cas_script.specs.Conditions.{NetworkView};
 ghost use Rattle.cas_script.specs.Membership.{HasAdvanced, IsCarriedOut, IsTakenUp, ChangesMembers, TakesStep, steps_left};
-ghost use Rattle.cas_script.specs.Network.{IsNetwork};
+ghost use Rattle.cas_script.specs.Network.{IsNetwork, Through};
 ghost use Rattle.cas_script.specs.Orders.{IsOrdered, IsFree, KeepsIdle};
 ghost use Rattle.cas_script.specs.declared.halt.Halt.{Halt as AHalt};
 
@@ -43,10 +43,10 @@ pub fn change_members<S: Shelf, V: Disk>(
     requires idle { HasNoCall world.old 0 }
     requires quiet { IsAtRest world.old.council }
     requires some { 1 ≤ tries }
-    requires network { (rules : List Rule) × IsNetwork network.old rules }
-    ensures changes { (rules : List Rule) → IsNetwork network.old rules → IfOk result (λ answer. ChangesMembers (meaning S.contents S.tells S.may_leave S.fault_count V.tells V.may_leave V.fault_count) tries rules (asked_to kind id) halt.old world.old answer halt.new world.new) }
+    requires network { (by : NetworkView) × IsNetwork network.old by }
+    ensures changes { IfOk result (λ answer. Through network.old network.new (λ by next. ChangesMembers (meaning S.contents S.tells S.may_leave S.fault_count V.tells V.may_leave V.fault_count) tries by (asked_to kind id) halt.old world.old answer next halt.new world.new)) }
     ensures err { OnErr result ((world.new ≡ world.old) × (network.new ≡ network.old) × (halt.new ≡ halt.old)) }
-    ensures network { (rules : List Rule) → IsNetwork network.old rules → IsNetwork network.new rules }
+    ensures network { (by : NetworkView) → IsNetwork network.old by → (next : NetworkView) × IsNetwork network.new next }
     ensures quiet { IsAtRest world.new.council }
     ensures idle { KeepsIdle world.old world.new }
 {
@@ -103,10 +103,10 @@ fn carry_out<S: Shelf, V: Disk>(
     requires free { IsFree world.old }
     requires program { program.now ≡ one Guard.Always Act.Keep }
     requires some { 1 ≤ tries }
-    requires network { (rules : List Rule) × IsNetwork network.old rules }
-    ensures carried { (rules : List Rule) → IsNetwork network.old rules → IsCarriedOut (meaning S.contents S.tells S.may_leave S.fault_count V.tells V.may_leave V.fault_count) tries rules (asked_to kind id) halt.old world.old halt.new world.new }
+    requires network { (by : NetworkView) × IsNetwork network.old by }
+    ensures carried { Through network.old network.new (λ by next. IsCarriedOut (meaning S.contents S.tells S.may_leave S.fault_count V.tells V.may_leave V.fault_count) tries by (asked_to kind id) halt.old world.old next halt.new world.new) }
     ensures told { MayTell world.new result }
-    ensures network { (rules : List Rule) → IsNetwork network.old rules → IsNetwork network.new rules }
+    ensures network { (by : NetworkView) → IsNetwork network.old by → (next : NetworkView) × IsNetwork network.new next }
     ensures idle { KeepsIdle world.old world.new }
 {
     if let Err(told) = take_up(world, kind, id) {
@@ -150,12 +150,12 @@ fn advance<S: Shelf, V: Disk>(
     requires free { IsFree world.old }
     requires program { program.now ≡ one Guard.Always Act.Keep }
     requires some { 1 ≤ tries }
-    requires network { (rules : List Rule) × IsNetwork network.old rules }
-    ensures advances { (rules : List Rule) → IsNetwork network.old rules → HasAdvanced (meaning S.contents S.tells S.may_leave S.fault_count V.tells V.may_leave V.fault_count) tries rules halt.old world.old halt.new world.new }
+    requires network { (by : NetworkView) × IsNetwork network.old by }
+    ensures advances { Through network.old network.new (λ by next. HasAdvanced (meaning S.contents S.tells S.may_leave S.fault_count V.tells V.may_leave V.fault_count) tries by halt.old world.old next halt.new world.new) }
     ensures under_way { (asked : Asked) → IsUnderWay world.old asked → OnOk result (IsUnderWay world.new asked) }
     ensures end { OnOk result (IsAtEnd world.new) }
     ensures told { IfErr result (WasToldOrder world.new) }
-    ensures network { (rules : List Rule) → IsNetwork network.old rules → IsNetwork network.new rules }
+    ensures network { (by : NetworkView) → IsNetwork network.old by → (next : NetworkView) × IsNetwork network.new next }
     ensures idle { KeepsIdle world.old world.new }
 {
     while let Some(step) = world.plan_step() {
@@ -173,7 +173,7 @@ fn enter<S: Shelf, V: Disk>(world: &mut World<S, V>) -> Result<(), OpAnswer>
     requires under_way { (asked : Asked) × IsUnderWay world.old asked }
     requires free { IsFree world.old }
     requires due { IsSome (entrant_of world.old.council.plan) }
-    ensures advances { (tries : ℕ) (rules : List Rule) (halt : AHalt) → HasAdvanced (meaning S.contents S.tells S.may_leave S.fault_count V.tells V.may_leave V.fault_count) tries rules halt world.old halt world.new }
+    ensures advances { (tries : ℕ) (by : NetworkView) (halt : AHalt) → HasAdvanced (meaning S.contents S.tells S.may_leave S.fault_count V.tells V.may_leave V.fault_count) tries by halt world.old by halt world.new }
     ensures under_way { (asked : Asked) → IsUnderWay world.old asked → OnOk result (IsUnderWay world.new asked) }
     ensures fewer { OnOk result (steps_left world.new < steps_left world.old) }
     ensures told { IfErr result (WasToldOrder world.new) }
@@ -199,12 +199,12 @@ fn settle<S: Shelf, V: Disk>(
     requires settles { step_of world.old.council.plan ≡ Some PlanStep.Settle }
     requires program { program.now ≡ one Guard.Always Act.Keep }
     requires some { 1 ≤ tries }
-    requires network { (rules : List Rule) × IsNetwork network.old rules }
-    ensures advances { (rules : List Rule) → IsNetwork network.old rules → HasAdvanced (meaning S.contents S.tells S.may_leave S.fault_count V.tells V.may_leave V.fault_count) tries rules halt.old world.old halt.new world.new }
+    requires network { (by : NetworkView) × IsNetwork network.old by }
+    ensures advances { Through network.old network.new (λ by next. HasAdvanced (meaning S.contents S.tells S.may_leave S.fault_count V.tells V.may_leave V.fault_count) tries by halt.old world.old next halt.new world.new) }
     ensures under_way { (asked : Asked) → IsUnderWay world.old asked → OnOk result (IsUnderWay world.new asked) }
     ensures fewer { OnOk result (steps_left world.new < steps_left world.old) }
     ensures told { IfErr result (WasToldOrder world.new) }
-    ensures network { (rules : List Rule) → IsNetwork network.old rules → IsNetwork network.new rules }
+    ensures network { (by : NetworkView) → IsNetwork network.old by → (next : NetworkView) × IsNetwork network.new next }
     ensures free { OnOk result (IsFree world.new) }
     ensures idle { KeepsIdle world.old world.new }
 {
@@ -218,14 +218,14 @@ fn list<S: Shelf, V: Disk>(world: &mut World<S, V>, network: &mut Network) -> Re
     requires under_way { (asked : Asked) × IsUnderWay world.old asked }
     requires free { IsFree world.old }
     requires settles { step_of world.old.council.plan ≡ Some PlanStep.Settle }
-    requires network { (rules : List Rule) × IsNetwork network.old rules }
-    ensures advances { (tries : ℕ) (rules : List Rule) (halt : AHalt) → IsNetwork network.old rules → HasAdvanced (meaning S.contents S.tells S.may_leave S.fault_count V.tells V.may_leave V.fault_count) tries rules halt world.old halt world.new }
+    requires network { (by : NetworkView) × IsNetwork network.old by }
+    ensures advances { (tries : ℕ) (halt : AHalt) → Through network.old network.new (λ by next. HasAdvanced (meaning S.contents S.tells S.may_leave S.fault_count V.tells V.may_leave V.fault_count) tries by halt world.old next halt world.new) }
     ensures under_way { (asked : Asked) → IsUnderWay world.old asked → OnOk result (IsUnderWay world.new asked) }
     ensures no_more { OnOk result (steps_left world.new ≤ steps_left world.old) }
     ensures listed { OnOk result (TakesStep world.old world.new) }
     ensures free { OnOk result (IsFree world.new) }
     ensures told { IfErr result (WasToldOrder world.new) }
-    ensures network { (rules : List Rule) → IsNetwork network.old rules → IsNetwork network.new rules }
+    ensures network { (by : NetworkView) → IsNetwork network.old by → (next : NetworkView) × IsNetwork network.new next }
     ensures idle { KeepsIdle world.old world.new }
 {
     if world.settle_key().is_some() {
@@ -248,13 +248,13 @@ fn rescan<S: Shelf, V: Disk>(
     requires free { IsFree world.old }
     requires program { program.now ≡ one Guard.Always Act.Keep }
     requires some { 1 ≤ tries }
-    requires network { (rules : List Rule) × IsNetwork network.old rules }
-    ensures advances { (rules : List Rule) → IsNetwork network.old rules → HasAdvanced (meaning S.contents S.tells S.may_leave S.fault_count V.tells V.may_leave V.fault_count) tries rules halt.old world.old halt.new world.new }
+    requires network { (by : NetworkView) × IsNetwork network.old by }
+    ensures advances { Through network.old network.new (λ by next. HasAdvanced (meaning S.contents S.tells S.may_leave S.fault_count V.tells V.may_leave V.fault_count) tries by halt.old world.old next halt.new world.new) }
     ensures under_way { (asked : Asked) → IsUnderWay world.old asked → OnOk result (IsUnderWay world.new asked) }
     ensures fewer { IsSome (due_in world.old.council.plan) → OnOk result (steps_left world.new < steps_left world.old) }
     ensures no_more { OnOk result (steps_left world.new ≤ steps_left world.old) }
     ensures told { IfErr result (WasToldOrder world.new) }
-    ensures network { (rules : List Rule) → IsNetwork network.old rules → IsNetwork network.new rules }
+    ensures network { (by : NetworkView) → IsNetwork network.old by → (next : NetworkView) × IsNetwork network.new next }
     ensures free { OnOk result (IsFree world.new) }
     ensures idle { KeepsIdle world.old world.new }
 {

@@ -4,9 +4,9 @@ ghost use Rattle.std.specs.Prelude.{◌≡◌, List, IfOk, OnErr};
 ghost use Rattle.cas_cluster.specs.Council.{IsAtRest};
 ghost use Rattle.cas_cluster.specs.View.{meaning};
 ghost use Rattle.cas_world.specs.Beginning.{HasNoCall};
-ghost use Rattle.cas_script.specs.Conditions.{Rule};
+ghost use Rattle.cas_script.specs.Conditions.{NetworkView};
 ghost use Rattle.cas_script.specs.Exchanges.{KeepsCalls};
-ghost use Rattle.cas_script.specs.Network.{IsNetwork};
+ghost use Rattle.cas_script.specs.Network.{IsNetwork, Through};
 ghost use Rattle.cas_script.specs.Probes.{IsProbe};
 
 use crate::exchange::exchange;
@@ -27,10 +27,10 @@ pub fn probe<S: Shelf, V: Disk>(
 ) -> Result<OpAnswer, AllocError>
     requires idle { HasNoCall world.old 0 }
     requires quiet { IsAtRest world.old.council }
-    requires network { (rules : List Rule) × IsNetwork network.old rules }
-    ensures probe { (rules : List Rule) → IsNetwork network.old rules → IfOk result (λ answer. IsProbe (meaning S.contents S.tells S.may_leave S.fault_count V.tells V.may_leave V.fault_count) rules key.now world.old answer world.new) }
+    requires network { (by : NetworkView) × IsNetwork network.old by }
+    ensures probe { IfOk result (λ answer. Through network.old network.new (λ by next. IsProbe (meaning S.contents S.tells S.may_leave S.fault_count V.tells V.may_leave V.fault_count) by key.now world.old answer next world.new)) }
     ensures err { OnErr result ((world.new ≡ world.old) × (network.new ≡ network.old)) }
-    ensures network { (rules : List Rule) → IsNetwork network.old rules → IsNetwork network.new rules }
+    ensures network { (by : NetworkView) → IsNetwork network.old by → (next : NetworkView) × IsNetwork network.new next }
     ensures quiet { IsAtRest world.new.council }
     ensures calls { KeepsCalls world.old world.new }
 {

@@ -43,7 +43,7 @@ impl<S: Shelf, V: Disk> Script<S, V> {
     {
         Script {
             world,
-            network: Network::new(),
+            network: Network::ruled(),
             halts: [Halt::NOWHERE; PROPOSERS],
             proposers,
             tries,

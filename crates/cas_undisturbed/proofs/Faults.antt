@@ -20,8 +20,8 @@ use Rattle.cas_cluster.specs.StepDesks.{MayHaveDrawn, FailsToDraw, LosesMemory}
 use Rattle.cas_cluster.specs.StepFrames as frames
 use Rattle.cas_cluster.specs.View.{Meaning, ShelfMeaning, DiskMeaning, View, IsAt}
 use Rattle.cas_cluster.proofs.Places.{at_one, but_set}
-use Rattle.cas_script.specs.Changes as script
-use Rattle.cas_script.specs.Changes.{Turned, FailsToTurn, EndsPrepare, IsAccepted, IsRound, AreRounds, IsChange}
+use Rattle.cas_undisturbed.proofs.ByRules as script
+use Rattle.cas_undisturbed.proofs.ByRules.{change_by, Turned, FailsToTurn, EndsPrepare, IsAccepted, IsRound, AreRounds, IsChange}
 use Rattle.cas_script.specs.Conditions.{Rule, verdict_on}
 use Rattle.cas_script.specs.Script.{nowhere}
 use Rattle.cas_script.specs.declared.halt.Halt.{Halt}
@@ -282,4 +282,4 @@ lines_stay_up {S} {V} m tries era old new asked told goes_on up runs faultless =
 }
   where
     kept : Kept m old.world new.world asked.caller
-    kept = change_kept m tries old.rules asked.caller asked.key asked.program runs.halt runs.after old.world new.world told (at_one old.halts asked.caller runs.at_halt goes_on) runs.change
+    kept = change_kept m tries old.rules asked.caller asked.key asked.program runs.halt runs.after old.world new.world told (at_one old.halts asked.caller runs.at_halt goes_on) (change_by m tries old.rules _ asked.caller asked.key asked.program runs.halt runs.after old.world new.world told runs.change)

@@ -43,8 +43,8 @@ use Rattle.cas_cluster.proofs.Places.{at_one, at_set, own_set, same_or_not, cont
 use Rattle.cas_causes.specs.Rounds.{RoundSteps, none, one_more}
 use Rattle.cas_causes.specs.Undisturbed.{LetsPass, IsHandledWell, GoesWell, IsUndisturbedBy, AreUndisturbed}
 use Rattle.cas_causes.proofs.Hearing.{at_other, steps}
-use Rattle.cas_script.specs.Changes as script
-use Rattle.cas_script.specs.Changes.{Turned}
+use Rattle.cas_undisturbed.proofs.ByRules as script
+use Rattle.cas_undisturbed.proofs.ByRules.{Turned}
 use Rattle.cas_script.specs.Conditions.{Rule, verdict_on}
 use Rattle.cas_undisturbed.specs.Lines.{IsMemberOf}
 use Rattle.cas_undisturbed.proofs.Standing.{StillUp, up_before, turn_keeps}

@@ -1,4 +1,5 @@
 pub mod Beginning
+pub mod ByRules
 pub mod Faults
 pub mod Fitting
 pub mod Lines

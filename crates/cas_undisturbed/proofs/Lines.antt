@@ -14,8 +14,10 @@ use Rattle.cas_cluster.proofs.Places.{at_one, some_is}
 use Rattle.cas_cluster.proofs.SafeParts.{low_at}
 use Rattle.cas_causes.specs.Causes.{IsTold}
 use Rattle.cas_causes.proofs.Ends.{desk_by}
-use Rattle.cas_script.specs.Changes as script
-use Rattle.cas_script.specs.Changes.{IsRound, AreRounds, IsMet, IsRefused, IsChange}
+use Rattle.cas_undisturbed.proofs.ByRules as script
+use Rattle.cas_script.specs.Changes as refusals
+use Rattle.cas_script.specs.Changes.{IsMet, IsRefused}
+use Rattle.cas_undisturbed.proofs.ByRules.{change_by, IsRound, AreRounds, IsChange}
 use Rattle.cas_script.specs.Conditions.{Rule}
 use Rattle.cas_script.specs.Script.{nowhere}
 use Rattle.cas_script.specs.declared.halt.Halt.{Halt}
@@ -88,12 +90,13 @@ answered {S} {V} m ballot old new id answer_is by well up = by_end well
 
 -- a call that the record has room for is refused for want of memory alone
 refused_well : {S V : Type 0} (ballot : Ballot) (world : View S V) (id : ℕ) (told : Answer) → HasRoom world id (round_marks (era_at world id)) → IsRefused world id told → IsDoneOrNoMemory ballot told
-refused_well ballot world id told room (script.full no_room) = absurd (omega (arith, room, no_room))
-refused_well ballot world id told room (script.no_memory fits) = tt
+refused_well ballot world id told room (refusals.full no_room) = absurd (omega (arith, room, no_room))
+refused_well ballot world id told room (refusals.no_memory fits) = tt
 
 pub lines_are_done : {S V : Type 0} (m : Meaning S V) → ReadyLinesAreDone m
 lines_are_done {S} {V} m tries old new asked told safe ready runs up =
-    in_change (subst (λ (h : Halt). IsChange m tries old.rules asked.caller asked.key asked.program h old.world told runs.after new.world) (at_one old.halts asked.caller runs.at_halt ready.goes_on) runs.change)
+    in_change (subst (λ (h : Halt). IsChange m tries old.rules asked.caller asked.key asked.program h old.world told runs.after new.world) (at_one old.halts asked.caller runs.at_halt ready.goes_on)
+    (change_by m tries old.rules _ asked.caller asked.key asked.program runs.halt runs.after old.world new.world told runs.change))
   where
     ballot : Ballot
     ballot = next_ballot ready.all_ready.desk asked.key

@@ -39,8 +39,8 @@ use Rattle.cas_causes.specs.Undisturbed as undisturbed
 use Rattle.cas_causes.specs.Undisturbed.{LetsPass, AcceptsAfresh, ProposesUndisturbed}
 use Rattle.cas_causes.proofs.Ends.{told_by, desk_by}
 use Rattle.cas_causes.proofs.Undisturbed.{prepares_propose, accepts_are_done}
-use Rattle.cas_script.specs.Changes as script
-use Rattle.cas_script.specs.Changes.{Turned, FailsToTurn, EndsPrepare, IsAccepted}
+use Rattle.cas_undisturbed.proofs.ByRules as script
+use Rattle.cas_undisturbed.proofs.ByRules.{Turned, FailsToTurn, EndsPrepare, IsAccepted}
 use Rattle.cas_script.specs.Conditions.{Rule, verdict_on}
 use Rattle.cas_script.specs.Script.{nowhere}
 use Rattle.cas_script.specs.declared.halt.Halt.{Halt}

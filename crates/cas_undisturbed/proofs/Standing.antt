@@ -21,8 +21,8 @@ use Rattle.cas_cluster.specs.View.{Meaning, View, IsAt}
 use Rattle.cas_cluster.proofs.Places.{at_one, at_set, same_or_not}
 use Rattle.cas_causes.specs.Rounds.{Brings, nothing, one}
 use Rattle.cas_causes.proofs.Hearing.{at_other, steps}
-use Rattle.cas_script.specs.Changes as script
-use Rattle.cas_script.specs.Changes.{Turned, AllTurned, FailsToTurn, EndsPrepare, IsAccepted, IsRound, AreRounds}
+use Rattle.cas_undisturbed.proofs.ByRules as script
+use Rattle.cas_undisturbed.proofs.ByRules.{Turned, AllTurned, FailsToTurn, EndsPrepare, IsAccepted, IsRound, AreRounds}
 use Rattle.cas_script.specs.Conditions.{Rule, verdict_on}
 use Rattle.cas_script.specs.declared.halt.Halt.{Halt}
 use Rattle.cas_undisturbed.specs.Lines.{IsMemberOf}

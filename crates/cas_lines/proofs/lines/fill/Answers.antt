@@ -36,8 +36,8 @@ loop-held-preserved g c = record {
 }
 
 -- ---- what the source was asked
-pub returns-then-contains_newline-clause-asks : goal.returns-then-contains_newline-clause-asks
-returns-then-contains_newline-clause-asks g c = grows_on _ _ _ _ _ _ _ (gathered_nothing _ _ _ _) refl
+pub returns-then-has_newline_within-clause-asks : goal.returns-then-has_newline_within-clause-asks
+returns-then-has_newline_within-clause-asks g c = grows_on _ _ _ _ _ _ _ (gathered_nothing _ _ _ _) refl
 
 pub returns-in_err-count-clause-asks : goal.returns-in_err-count-clause-asks
 returns-in_err-count-clause-asks g c =

@@ -5,14 +5,19 @@ use Rattle.cas_script.proofs.Playing.{has_begun, begun_over, begun_not_met, agai
 use Rattle.cas_script.proofs.changes.+rounds.Goals as goal
 
 pub returns-then-tries-eq1-clause-rounds : goal.returns-then-tries-eq1-clause-rounds
-returns-then-tries-eq1-clause-rounds g n c rules is = last (c.round-told.ensures.round rules is) (λ met. c.if-tries-eq1.true)
+returns-then-tries-eq1-clause-rounds g n c by is = let round = c.round-told.ensures.round by is in record { view = round.view; is = round.is; has = last round.has (λ met. c.if-tries-eq1.true) }
 
 pub returns-then-tries-eq1-clause-over : goal.returns-then-tries-eq1-clause-over
 returns-then-tries-eq1-clause-over g n c = c.round-told.ensures.over _ c.requires.begun
 
 pub returns-then-not-is_conflict-clause-rounds : goal.returns-then-not-is_conflict-clause-rounds
-returns-then-not-is_conflict-clause-rounds g n c rules is =
-    last (c.round-told.ensures.round rules is) (not_met c.round-told.new.world c.args.caller c.args.call c.args.tries c.round-told.result (c.round-told.ensures.over _ c.requires.begun).was_told (sym c.is_conflict.ensures ∙ c.if-not-is_conflict.true))
+returns-then-not-is_conflict-clause-rounds g n c by is =
+    let round = c.round-told.ensures.round by is in
+    record {
+      view = round.view;
+      is = round.is;
+      has = last round.has (not_met c.round-told.new.world c.args.caller c.args.call c.args.tries c.round-told.result (c.round-told.ensures.over _ c.requires.begun).was_told (sym c.is_conflict.ensures ∙ c.if-not-is_conflict.true));
+    }
 
 pub returns-then-not-is_conflict-clause-over : goal.returns-then-not-is_conflict-clause-over
 returns-then-not-is_conflict-clause-over g n c = c.round-told.ensures.over _ c.requires.begun
@@ -33,7 +38,7 @@ rounds-requires g n c κs lives = (
           has_begun _ c.round-told.new.world c.begin.new.self c.args.caller c.args.call c.args.key.now c.args.program.now (c.round-told.ensures.over _ c.requires.begun).quiet c.in-Ok.ensures.step.0 c.in-Ok.ensures.step.1,
           (
             omega (arith, c.if-tries-eq1.false, c.requires.some),
-            (c.requires.network.0, c.round-told.ensures.network c.requires.network.0 c.requires.network.1),
+            c.round-told.ensures.network c.requires.network.0 c.requires.network.1,
           ),
         ),
       ),
@@ -42,16 +47,26 @@ rounds-requires g n c κs lives = (
 )
 
 pub returns-in-Ok-clause-rounds : goal.returns-in-Ok-clause-rounds
-returns-in-Ok-clause-rounds g n c rules is =
-    another (omega (arith, c.if-tries-eq1.false, c.requires.some)) (c.round-told.ensures.round rules is) (is_met c.round-told.new.world c.args.caller c.args.call c.round-told.result (c.round-told.ensures.over _ c.requires.begun).was_told (sym c.is_conflict.ensures ∙ c.if-not-is_conflict.false)) c.in-Ok.ensures.step.0
-    (c.rounds.ensures.rounds rules (c.round-told.ensures.network rules is))
+returns-in-Ok-clause-rounds g n c by is =
+    let round = c.round-told.ensures.round by is in
+    let more = c.rounds.ensures.rounds round.view round.is in
+    record {
+      view = more.view;
+      is = more.is;
+      has = another (omega (arith, c.if-tries-eq1.false, c.requires.some)) round.has (is_met c.round-told.new.world c.args.caller c.args.call c.round-told.result (c.round-told.ensures.over _ c.requires.begun).was_told (sym c.is_conflict.ensures ∙ c.if-not-is_conflict.false)) c.in-Ok.ensures.step.0 more.has;
+    }
 
 pub returns-clause-rounds : goal.returns-clause-rounds
-returns-clause-rounds g n c rules is =
+returns-clause-rounds g n c by is =
+    let round = c.round-told.ensures.round by is in
     let was = (c.round-told.ensures.over _ c.requires.begun).was_told in
     let begun = again_is ⊤ _ c.round-told.new.world c.begin.new.self c.args.caller c.args.call c.args.call c.args.key.now c.args.program.now c.in-Err.told c.round-told.result was c.in-Err.ensures.step in
-    another (omega (arith, c.if-tries-eq1.false, c.requires.some)) (c.round-told.ensures.round rules is) (is_met c.round-told.new.world c.args.caller c.args.call c.round-told.result was (sym c.is_conflict.ensures ∙ c.if-not-is_conflict.false)) begun.0
-    (last none_begun (begun_not_met _ c.round-told.new.world c.begin.new.self c.args.caller c.args.key.now c.args.program.now _ begun.0))
+    record {
+      view = round.view;
+      is = round.is;
+      has = another (omega (arith, c.if-tries-eq1.false, c.requires.some)) round.has (is_met c.round-told.new.world c.args.caller c.args.call c.round-told.result was (sym c.is_conflict.ensures ∙ c.if-not-is_conflict.false)) begun.0
+          (last none_begun (begun_not_met _ c.round-told.new.world c.begin.new.self c.args.caller c.args.key.now c.args.program.now _ begun.0));
+    }
 
 pub returns-clause-over : goal.returns-clause-over
 returns-clause-over g n c =

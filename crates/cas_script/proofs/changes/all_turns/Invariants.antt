@@ -1,16 +1,16 @@
-use Rattle.std.proofs.Common.{◌≡◌, Bool, List, None}
+use Rattle.std.proofs.Common.{◌≡◌, Bool, None}
 use Rattle.cas_cluster.specs.View.{meaning}
 use Rattle.cas_script.specs.Changes.{Turned}
-use Rattle.cas_script.specs.Conditions.{Rule}
-use Rattle.cas_script.specs.Network.{IsNetwork}
+use Rattle.cas_script.specs.Conditions.{NetworkView}
+use Rattle.cas_script.specs.Network.{IsNetwork, Through}
 use Rattle.cas_script.specs.Playing.{Asked, IsPlaying, turns_left}
 use Rattle.cas_script.proofs.changes.all_turns.Given as goal
 
 abbrev pub invariant-loop-front : goal.invariant-loop-front
 invariant-loop-front g l = record {
-  turned : (rules : List Rule) → IsNetwork l.initial.network rules → Turned (meaning g.S.Shelf.contents g.S.Shelf.tells g.S.Shelf.may_leave g.S.Shelf.fault_count g.V.Disk.tells g.V.Disk.may_leave g.V.Disk.fault_count) rules l.proposer l.initial.world l.world;
+  turned : Through l.initial.network l.network (λ by next. Turned (meaning g.S.Shelf.contents g.S.Shelf.tells g.S.Shelf.may_leave g.S.Shelf.fault_count g.V.Disk.tells g.V.Disk.may_leave g.V.Disk.fault_count) by l.proposer l.initial.world next l.again l.world);
   plays : (asked : Asked) (proposed : Bool) → IsPlaying l.initial.world l.proposer asked proposed → IsPlaying l.world l.proposer asked proposed;
-  network : (rules : List Rule) → IsNetwork l.initial.network rules → IsNetwork l.network rules;
+  network : (by : NetworkView) → IsNetwork l.initial.network by → (next : NetworkView) × IsNetwork l.network next;
   greatest : l.world.greatest ≡ l.initial.world.greatest;
   quiet : l.world.council.exchange ≡ None;
 }

@@ -14,7 +14,7 @@ accept-requires-clause-open g c = (
 )
 
 pub returns-then-has_proposed-clause-round : goal.returns-then-has_proposed-clause-round
-returns-then-has_proposed-clause-round g c rules is = by_promise (c.accept.ensures.accepted rules is)
+returns-then-has_proposed-clause-round g c by is = let accepted = c.accept.ensures.accepted by is in record { view = accepted.view; is = accepted.is; has = by_promise accepted.has }
 
 pub returns-then-has_proposed-clause-over : goal.returns-then-has_proposed-clause-over
 returns-then-has_proposed-clause-over g c asked was = c.accept.ensures.over asked (subst (λ (b : Bool). IsPlaying c.args.world.now c.args.proposer asked b) c.if-has_proposed.true
@@ -35,9 +35,14 @@ accept-requires-in-Ok-clause-open g c = (
 )
 
 pub returns-in-Ok-clause-round : goal.returns-in-Ok-clause-round
-returns-in-Ok-clause-round g c rules is =
-    proposes (c.in-Ok.ensures.proposed rules is) (subst (λ (h : Halt). IsAccepted (meaning g.S.Shelf.contents g.S.Shelf.tells g.S.Shelf.may_leave g.S.Shelf.fault_count g.V.Disk.tells g.V.Disk.may_leave g.V.Disk.fault_count) rules c.args.proposer h c.prepare.new.world c.accept-in-Ok.new.halt c.accept-in-Ok.new.world)
-    c.in-Ok.ensures.same_halt (c.accept-in-Ok.ensures.accepted rules (c.prepare.ensures.network rules is)))
+returns-in-Ok-clause-round g c by is =
+    let proposed = c.in-Ok.ensures.proposed by is in
+    let accepted = c.accept-in-Ok.ensures.accepted proposed.view proposed.is in
+    record {
+      view = accepted.view;
+      is = accepted.is;
+      has = proposes proposed.has (subst (λ (h : Halt). IsAccepted (meaning g.S.Shelf.contents g.S.Shelf.tells g.S.Shelf.may_leave g.S.Shelf.fault_count g.V.Disk.tells g.V.Disk.may_leave g.V.Disk.fault_count) proposed.view c.args.proposer h c.prepare.new.world accepted.view c.accept-in-Ok.new.halt c.accept-in-Ok.new.world) c.in-Ok.ensures.same_halt accepted.has);
+    }
 
 pub returns-in-Ok-clause-over : goal.returns-in-Ok-clause-over
 returns-in-Ok-clause-over g c asked was = c.accept-in-Ok.ensures.over asked (c.in-Ok.ensures.plays asked (subst (λ (b : Bool). IsPlaying c.args.world.now c.args.proposer asked b) c.if-has_proposed.false

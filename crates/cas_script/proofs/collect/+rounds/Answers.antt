@@ -13,19 +13,25 @@ use Rattle.cas_script.proofs.Playing.{is_met, not_met, may_again}
 use Rattle.cas_script.proofs.collect.+rounds.Goals as goal
 
 pub returns-in_err-told-clause-rounds : goal.returns-in_err-told-clause-rounds
-returns-in_err-told-clause-rounds g n c rules is =
-    last (c.round.ensures.round rules is) (λ met. buried_not_met c.round.new.world c.args.key.now (subst (λ (o : Option Answer). IfNone o (IsBuried c.round.new.world c.args.key.now)) c.in_err-told.was (c.round.ensures.buried _ c.requires.running)) met)
+returns-in_err-told-clause-rounds g n c by is =
+    let round = c.round.ensures.round by is in
+    record {
+      view = round.view;
+      is = round.is;
+      has = last round.has (λ met. buried_not_met c.round.new.world c.args.key.now (subst (λ (o : Option Answer). IfNone o (IsBuried c.round.new.world c.args.key.now)) c.in_err-told.was (c.round.ensures.buried _ c.requires.running)) met);
+    }
 
 pub returns-in_err-told-clause-buried : goal.returns-in_err-told-clause-buried
 returns-in_err-told-clause-buried g n c = if_none_of c.from_residual.result (subst (λ (o : Option Answer). IfNone o (IsBuried c.round.new.world c.args.key.now)) c.in_err-told.was (c.round.ensures.buried _ c.requires.running))
 
 pub returns-then-tries-eq1-clause-rounds : goal.returns-then-tries-eq1-clause-rounds
-returns-then-tries-eq1-clause-rounds g n c rules is = last (c.round.ensures.round rules is) (λ met. c.if-tries-eq1.true)
+returns-then-tries-eq1-clause-rounds g n c by is = let round = c.round.ensures.round by is in record { view = round.view; is = round.is; has = last round.has (λ met. c.if-tries-eq1.true) }
 
 pub returns-then-not-is_conflict-clause-rounds : goal.returns-then-not-is_conflict-clause-rounds
-returns-then-not-is_conflict-clause-rounds g n c rules is =
+returns-then-not-is_conflict-clause-rounds g n c by is =
+    let round = c.round.ensures.round by is in
     let stopped = subst (λ (o : Option Answer). IfSome o (HasStopped c.round.new.world (record { number = c.args.call; key = c.args.key.now; program = keep_always }))) c.in_ok-told.was (c.round.ensures.stopped _ c.requires.running) in
-    last (c.round.ensures.round rules is) (not_met c.round.new.world 0 c.args.call c.args.tries c.in_ok-told.told stopped.over.was_told (sym c.is_conflict.ensures ∙ c.if-not-is_conflict.true))
+    record { view = round.view; is = round.is; has = last round.has (not_met c.round.new.world 0 c.args.call c.args.tries c.in_ok-told.told stopped.over.was_told (sym c.is_conflict.ensures ∙ c.if-not-is_conflict.true)) }
 
 pub begin_collect-requires-clause-asked : goal.begin_collect-requires-clause-asked
 begin_collect-requires-clause-asked g n c =
@@ -47,17 +53,22 @@ rounds-requires g n c κs lives =
           lives.1,
           (
             is_running (meaning {S = g.row.S.Denot} g.S.Shelf.contents g.S.Shelf.tells g.S.Shelf.may_leave g.S.Shelf.fault_count g.V.Disk.tells g.V.Disk.may_leave g.V.Disk.fault_count) c.round.new.world c.begin_collect.new.self c.args.key.now c.begin_collect.ensures.step c.args.call stopped.over.quiet (inr stopped.seeks.none_planned) c.in-Ok.ensures.ok,
-            (c.requires.program, (omega (arith, c.if-tries-eq1.false, c.requires.some), (c.requires.network.0, c.round.ensures.network c.requires.network.0 c.requires.network.1))),
+            (c.requires.program, (omega (arith, c.if-tries-eq1.false, c.requires.some), c.round.ensures.network c.requires.network.0 c.requires.network.1)),
           ),
         ),
       ),
     )
 
 pub returns-in-Ok-clause-rounds : goal.returns-in-Ok-clause-rounds
-returns-in-Ok-clause-rounds g n c rules is =
+returns-in-Ok-clause-rounds g n c by is =
+    let round = c.round.ensures.round by is in
+    let more = c.rounds.ensures.rounds round.view round.is in
     let stopped = subst (λ (o : Option Answer). IfSome o (HasStopped c.round.new.world (record { number = c.args.call; key = c.args.key.now; program = keep_always }))) c.in_ok-told.was (c.round.ensures.stopped _ c.requires.running) in
-    another (omega (arith, c.if-tries-eq1.false, c.requires.some)) (c.round.ensures.round rules is) (is_met c.round.new.world 0 c.args.call c.in_ok-told.told stopped.over.was_told (sym c.is_conflict.ensures ∙ c.if-not-is_conflict.false)) c.begin_collect.ensures.step
-    (c.rounds.ensures.rounds rules (c.round.ensures.network rules is))
+    record {
+      view = more.view;
+      is = more.is;
+      has = another (omega (arith, c.if-tries-eq1.false, c.requires.some)) round.has (is_met c.round.new.world 0 c.args.call c.in_ok-told.told stopped.over.was_told (sym c.is_conflict.ensures ∙ c.if-not-is_conflict.false)) c.begin_collect.ensures.step more.has;
+    }
 
 pub why_stopped-requires : goal.why_stopped-requires
 why_stopped-requires g n c =
@@ -66,10 +77,15 @@ why_stopped-requires g n c =
     (again.0, again.1)
 
 pub returns-clause-rounds : goal.returns-clause-rounds
-returns-clause-rounds g n c rules is =
+returns-clause-rounds g n c by is =
+    let round = c.round.ensures.round by is in
     let stopped = subst (λ (o : Option Answer). IfSome o (HasStopped c.round.new.world (record { number = c.args.call; key = c.args.key.now; program = keep_always }))) c.in_ok-told.was (c.round.ensures.stopped _ c.requires.running) in
-    another (omega (arith, c.if-tries-eq1.false, c.requires.some)) (c.round.ensures.round rules is) (is_met c.round.new.world 0 c.args.call c.in_ok-told.told stopped.over.was_told (sym c.is_conflict.ensures ∙ c.if-not-is_conflict.false)) c.begin_collect.ensures.step
-    (last none_begun (λ met. collect_not_met (meaning {S = g.row.S.Denot} g.S.Shelf.contents g.S.Shelf.tells g.S.Shelf.may_leave g.S.Shelf.fault_count g.V.Disk.tells g.V.Disk.may_leave g.V.Disk.fault_count) c.round.new.world c.begin_collect.new.self c.args.key.now c.begin_collect.ensures.step met))
+    record {
+      view = round.view;
+      is = round.is;
+      has = another (omega (arith, c.if-tries-eq1.false, c.requires.some)) round.has (is_met c.round.new.world 0 c.args.call c.in_ok-told.told stopped.over.was_told (sym c.is_conflict.ensures ∙ c.if-not-is_conflict.false)) c.begin_collect.ensures.step
+          (last none_begun (λ met. collect_not_met (meaning {S = g.row.S.Denot} g.S.Shelf.contents g.S.Shelf.tells g.S.Shelf.may_leave g.S.Shelf.fault_count g.V.Disk.tells g.V.Disk.may_leave g.V.Disk.fault_count) c.round.new.world c.begin_collect.new.self c.args.key.now c.begin_collect.ensures.step met));
+    }
 
 pub returns-clause-stopped : goal.returns-clause-stopped
 returns-clause-stopped g n c =
@@ -77,3 +93,6 @@ returns-clause-stopped g n c =
     let again = told_again c.round.new.world c.begin_collect.new.self c.args.call c.args.key.now c.in-Err.refusal _ c.in_ok-told.told stopped c.in-Err.ensures.err in
     let begun = said_so c.begin_collect.new.self c.args.call c.args.key.now c.in-Err.refusal again.0 c.why_stopped.result again.1 c.why_stopped.ensures again.2 in
     begun_stopped (meaning {S = g.row.S.Denot} g.S.Shelf.contents g.S.Shelf.tells g.S.Shelf.may_leave g.S.Shelf.fault_count g.V.Disk.tells g.V.Disk.may_leave g.V.Disk.fault_count) c.round.new.world c.begin_collect.new.self c.args.key.now c.begin_collect.ensures.step c.args.call c.why_stopped.result stopped.over.quiet (inr stopped.seeks.none_planned) begun.not_done begun.was_told begun.is
+
+pub returns-then-not-is_conflict-clause-stopped : goal.returns-then-not-is_conflict-clause-stopped
+returns-then-not-is_conflict-clause-stopped g n c = subst (λ (o : Option Answer). IfSome o (HasStopped c.round.new.world (record { number = c.args.call; key = c.args.key.now; program = keep_always }))) c.in_ok-told.was (c.round.ensures.stopped _ c.requires.running)

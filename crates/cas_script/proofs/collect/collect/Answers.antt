@@ -34,9 +34,14 @@ tell-requires g c = elim c.match-carry_out.branch [
 ]
 
 pub returns-in-Ok-clause-collects : goal.returns-in-Ok-clause-collects
-returns-in-Ok-clause-collects g c rules is =
-    subst (λ (a : OpAnswer). IsCollection (meaning {S = g.row.S.Denot} g.S.Shelf.contents g.S.Shelf.tells g.S.Shelf.may_leave g.S.Shelf.fault_count g.V.Disk.tells g.V.Disk.may_leave g.V.Disk.fault_count) c.args.tries rules c.args.key.now c.args.halt.now c.args.world.now a c.carry_out.new.halt c.tell.new.self) (sym c.tell.ensures.same)
-    (told (subst (λ (k : List ℕ). StepOrder c.args.world.now (asked.Collect k) c.order.new.self) c.in_ok-copy.ensures c.in-Ok.ensures.ok) (c.carry_out.ensures.carried rules is) c.tell.ensures.step)
+returns-in-Ok-clause-collects g c by is =
+    let carried = c.carry_out.ensures.carried by is in
+    record {
+      view = carried.view;
+      is = carried.is;
+      has = subst (λ (a : OpAnswer). IsCollection (meaning {S = g.row.S.Denot} g.S.Shelf.contents g.S.Shelf.tells g.S.Shelf.may_leave g.S.Shelf.fault_count g.V.Disk.tells g.V.Disk.may_leave g.V.Disk.fault_count) c.args.tries by c.args.key.now c.args.halt.now c.args.world.now a carried.view c.carry_out.new.halt c.tell.new.self) (sym c.tell.ensures.same)
+          (told (subst (λ (k : List ℕ). StepOrder c.args.world.now (asked.Collect k) c.order.new.self) c.in_ok-copy.ensures c.in-Ok.ensures.ok) carried.has c.tell.ensures.step);
+    }
 
 pub returns-in-Ok-clause-quiet : goal.returns-in-Ok-clause-quiet
 returns-in-Ok-clause-quiet g c = quiet_after c.carry_out.new.world c.tell.new.self _ c.tell.ensures.step
@@ -47,7 +52,7 @@ returns-in-Ok-clause-idle g c =
     (both_idle c.order.new.self c.carry_out.new.world c.tell.new.self c.carry_out.ensures.idle (keeps_idle c.carry_out.new.world c.tell.new.self (tell_keeps c.carry_out.new.world c.tell.new.self _ c.tell.ensures.step)))
 
 pub returns-clause-collects : goal.returns-clause-collects
-returns-clause-collects g c rules is = refused (why c.in-Err.ensures.cause) c.in-Err.ensures.err
+returns-clause-collects g c by is = record { view = by; is = is; has = refused (why c.in-Err.ensures.cause) c.in-Err.ensures.err }
   where
     why : (c.in-Err.refusal ≡ answer.RecordFull) ⊎ (c.in-Err.refusal ≡ answer.NoMemory false) → IsNotOrdered c.args.world.now c.in-Err.refusal
     why (inl is_full) = subst (IsNotOrdered c.args.world.now) (sym is_full) (full (c.in-Err.ensures.full.0 (ap (λ (a : Answer). Err a) is_full)))

@@ -9,7 +9,7 @@ use Rattle.cas_script.proofs.collect.renew.Goals as goal
 use Rattle.cas_script.proofs.collect.renew.Goals.{In_ok-renew}
 
 pub loop-proposer-init : goal.loop-proposer-init
-loop-proposer-init g c = record { taken = λ rules. collections.none; due = λ key was. renews 0 was; idle = same_idle c.args.world.now }
+loop-proposer-init g c = record { taken = λ by. collections.none; due = λ key was. renews 0 was; idle = same_idle c.args.world.now }
 
 pub renew-requires-clause-due : goal.renew-requires-clause-due
 renew-requires-clause-due g c = due_step c.loop-proposer.world c.requires.due.0 (Renew c.in-Some.proposer) (due_renewal c.loop-proposer.world c.requires.due.0 c.in-Some.proposer (c.loop-proposer.invariant.due c.requires.due.0 c.requires.due.1) (sym c.in-Some.ensures.next))
@@ -24,7 +24,7 @@ loop-proposer-smaller g c = (renewed g c c.requires.due.0 c.requires.due.1).fewe
 
 pub loop-proposer-preserved : goal.loop-proposer-preserved
 loop-proposer-preserved g c = record {
-  taken = λ rules. collections.one_more (c.loop-proposer.invariant.taken rules)
+  taken = λ by. collections.one_more (c.loop-proposer.invariant.taken by)
       (goes_on_due c.loop-proposer.world c.requires.due.0 _ (due_renewal c.loop-proposer.world c.requires.due.0 c.in-Some.proposer (c.loop-proposer.invariant.due c.requires.due.0 c.requires.due.1) (sym c.in-Some.ensures.next)))
       (collections.renews c.in-Some.proposer c.in_ok-renew.ensures.step);
   due = λ key was. (renewed g c key was).still;
@@ -32,8 +32,8 @@ loop-proposer-preserved g c = record {
 }
 
 pub returns-in_err-renew-clause-taken : goal.returns-in_err-renew-clause-taken
-returns-in_err-renew-clause-taken g c rules =
-    collections.one_more (c.loop-proposer.invariant.taken rules)
+returns-in_err-renew-clause-taken g c by =
+    collections.one_more (c.loop-proposer.invariant.taken by)
     (goes_on_due c.loop-proposer.world c.requires.due.0 _ (due_renewal c.loop-proposer.world c.requires.due.0 c.in-Some.proposer (c.loop-proposer.invariant.due c.requires.due.0 c.requires.due.1) (sym c.in-Some.ensures.next)))
     (collections.renews c.in-Some.proposer c.in_err-renew.ensures.step)
 

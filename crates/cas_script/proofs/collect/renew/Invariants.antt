@@ -3,14 +3,14 @@ use Rattle.cas_cluster.specs.View.{meaning}
 use Rattle.cas_collect.specs.declared.collect.CollectStep.TheVariants.{Renew}
 use Rattle.cas_script.specs.Collecting.{IsDue}
 use Rattle.cas_script.specs.Collections.{HasTaken}
-use Rattle.cas_script.specs.Conditions.{Rule}
+use Rattle.cas_script.specs.Conditions.{NetworkView}
 use Rattle.cas_script.specs.Orders.{KeepsIdle}
 use Rattle.cas_script.proofs.Collecting.{IsRenewing, renewals_left}
 use Rattle.cas_script.proofs.collect.renew.Given as goal
 
 abbrev pub invariant-loop-proposer : goal.invariant-loop-proposer
 invariant-loop-proposer g l = record {
-  taken : (rules : List Rule) → HasTaken (meaning {S = g.row.S.Denot} g.S.Shelf.contents g.S.Shelf.tells g.S.Shelf.may_leave g.S.Shelf.fault_count g.V.Disk.tells g.V.Disk.may_leave g.V.Disk.fault_count) rules l.initial.world l.world;
+  taken : (by : NetworkView) → HasTaken (meaning {S = g.row.S.Denot} g.S.Shelf.contents g.S.Shelf.tells g.S.Shelf.may_leave g.S.Shelf.fault_count g.V.Disk.tells g.V.Disk.may_leave g.V.Disk.fault_count) by l.initial.world by l.world;
   due : (key : List ℕ) → IsDue l.initial.world key (Renew 0) → IsRenewing l.world key;
   idle : KeepsIdle l.initial.world l.world;
 }

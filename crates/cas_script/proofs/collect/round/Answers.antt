@@ -18,7 +18,7 @@ accept-requires-clause-open g c = (
 )
 
 pub returns-then-has_proposed-clause-round : goal.returns-then-has_proposed-clause-round
-returns-then-has_proposed-clause-round g c rules is = by_promise (c.accept.ensures.accepted rules is)
+returns-then-has_proposed-clause-round g c by is = let accepted = c.accept.ensures.accepted by is in record { view = accepted.view; is = accepted.is; has = by_promise accepted.has }
 
 pub returns-then-has_proposed-clause-stopped : goal.returns-then-has_proposed-clause-stopped
 returns-then-has_proposed-clause-stopped g c asked was =
@@ -43,10 +43,14 @@ accept-requires-in-Ok-Empty-clause-open g c = (
 )
 
 pub returns-in-Ok-Empty-clause-round : goal.returns-in-Ok-Empty-clause-round
-returns-in-Ok-Empty-clause-round g c rules is =
-    proposes (on_ok_is c.prepare.result c.in-Ok-Empty.field-0 c.in-Ok-Empty.is (c.prepare.ensures.ended rules is))
-    (subst (λ (h : Halt). IsAcceptedBy (EndsVoting (meaning {S = g.row.S.Denot} g.S.Shelf.contents g.S.Shelf.tells g.S.Shelf.may_leave g.S.Shelf.fault_count g.V.Disk.tells g.V.Disk.may_leave g.V.Disk.fault_count)) (meaning {S = g.row.S.Denot} g.S.Shelf.contents g.S.Shelf.tells g.S.Shelf.may_leave g.S.Shelf.fault_count g.V.Disk.tells g.V.Disk.may_leave g.V.Disk.fault_count) rules 0 h c.prepare.new.world c.accept-in-Ok-Empty.new.halt c.accept-in-Ok-Empty.new.world) (on_ok_is c.prepare.result c.in-Ok-Empty.field-0 c.in-Ok-Empty.is c.prepare.ensures.same_halt)
-    (c.accept-in-Ok-Empty.ensures.accepted rules (c.prepare.ensures.network rules is)))
+returns-in-Ok-Empty-clause-round g c by is =
+    let ended = on_ok_is c.prepare.result c.in-Ok-Empty.field-0 c.in-Ok-Empty.is c.prepare.ensures.ended by is in
+    let accepted = c.accept-in-Ok-Empty.ensures.accepted ended.view ended.is in
+    record {
+      view = accepted.view;
+      is = accepted.is;
+      has = proposes ended.has (subst (λ (h : Halt). IsAcceptedBy (EndsVoting (meaning {S = g.row.S.Denot} g.S.Shelf.contents g.S.Shelf.tells g.S.Shelf.may_leave g.S.Shelf.fault_count g.V.Disk.tells g.V.Disk.may_leave g.V.Disk.fault_count)) (meaning {S = g.row.S.Denot} g.S.Shelf.contents g.S.Shelf.tells g.S.Shelf.may_leave g.S.Shelf.fault_count g.V.Disk.tells g.V.Disk.may_leave g.V.Disk.fault_count) ended.view 0 h c.prepare.new.world accepted.view c.accept-in-Ok-Empty.new.halt c.accept-in-Ok-Empty.new.world) (on_ok_is c.prepare.result c.in-Ok-Empty.field-0 c.in-Ok-Empty.is c.prepare.ensures.same_halt) accepted.has);
+    }
 
 pub returns-in-Ok-Empty-clause-stopped : goal.returns-in-Ok-Empty-clause-stopped
 returns-in-Ok-Empty-clause-stopped g c asked was =
@@ -57,9 +61,13 @@ returns-in-Ok-Empty-clause-stopped g c asked was =
     (c.in-Ok-Empty.is ∙ ap (λ (r : Reading). Ok r) c.in-Ok-Empty.field-0-is))
 
 pub returns-in-Ok-Held-clause-round : goal.returns-in-Ok-Held-clause-round
-returns-in-Ok-Held-clause-round g c rules is =
-    subst (λ (h : Halt). IsRoundBy (EndsReading (meaning {S = g.row.S.Denot} g.S.Shelf.contents g.S.Shelf.tells g.S.Shelf.may_leave g.S.Shelf.fault_count g.V.Disk.tells g.V.Disk.may_leave g.V.Disk.fault_count)) (EndsVoting (meaning {S = g.row.S.Denot} g.S.Shelf.contents g.S.Shelf.tells g.S.Shelf.may_leave g.S.Shelf.fault_count g.V.Disk.tells g.V.Disk.may_leave g.V.Disk.fault_count)) (meaning {S = g.row.S.Denot} g.S.Shelf.contents g.S.Shelf.tells g.S.Shelf.may_leave g.S.Shelf.fault_count g.V.Disk.tells g.V.Disk.may_leave g.V.Disk.fault_count) rules 0 c.args.halt.now c.args.world.now h c.prepare.new.world) (sym (on_ok_is c.prepare.result c.in-Ok-Held.field-0 c.in-Ok-Held.is c.prepare.ensures.same_halt))
-    (ends_short (on_ok_is c.prepare.result c.in-Ok-Held.field-0 c.in-Ok-Held.is (c.prepare.ensures.ended rules is)))
+returns-in-Ok-Held-clause-round g c by is =
+    let ended = on_ok_is c.prepare.result c.in-Ok-Held.field-0 c.in-Ok-Held.is c.prepare.ensures.ended by is in
+    record {
+      view = ended.view;
+      is = ended.is;
+      has = subst (λ (h : Halt). IsRoundBy (EndsReading (meaning {S = g.row.S.Denot} g.S.Shelf.contents g.S.Shelf.tells g.S.Shelf.may_leave g.S.Shelf.fault_count g.V.Disk.tells g.V.Disk.may_leave g.V.Disk.fault_count)) (EndsVoting (meaning {S = g.row.S.Denot} g.S.Shelf.contents g.S.Shelf.tells g.S.Shelf.may_leave g.S.Shelf.fault_count g.V.Disk.tells g.V.Disk.may_leave g.V.Disk.fault_count)) (meaning {S = g.row.S.Denot} g.S.Shelf.contents g.S.Shelf.tells g.S.Shelf.may_leave g.S.Shelf.fault_count g.V.Disk.tells g.V.Disk.may_leave g.V.Disk.fault_count) by 0 c.args.halt.now c.args.world.now ended.view h c.prepare.new.world) (sym (on_ok_is c.prepare.result c.in-Ok-Held.field-0 c.in-Ok-Held.is c.prepare.ensures.same_halt)) (ends_short ended.has);
+    }
 
 pub returns-in-Ok-Held-clause-buried : goal.returns-in-Ok-Held-clause-buried
 returns-in-Ok-Held-clause-buried g c asked was =

@@ -12,7 +12,7 @@ use Rattle.cas_script.proofs.exchange.exchange.Given.{Over}
 use Rattle.cas_script.proofs.exchange.exchange.Goals as goal
 
 pub returns-in_err-ask_all-clause-asks : goal.returns-in_err-ask_all-clause-asks
-returns-in_err-ask_all-clause-asks g c rules is = not_asked c.in_err-ask_all.ensures.step c.in_err-ask_all.ensures.none
+returns-in_err-ask_all-clause-asks g c by is = record { view = by; is = is; has = not_asked c.in_err-ask_all.ensures.step c.in_err-ask_all.ensures.none }
 
 pub returns-in_err-ask_all-clause-calls : goal.returns-in_err-ask_all-clause-calls
 returns-in_err-ask_all-clause-calls g c = asking_keeps _ c.args.world.now c.ask_all.new.self c.args.what c.in_err-ask_all.ensures.step
@@ -23,7 +23,9 @@ ask_turns-requires-clause-asks g c =
     (has.question, is_asking c.args.world.now c.ask_all.new.self has.question has.asked)
 
 pub returns-then-is_err-clause-asks : goal.returns-then-is_err-clause-asks
-returns-then-is_err-clause-asks g c rules is = no_memory c.in_ok-ask_all.ensures.step (on_err _ (sym c.is_err.ensures.value ∙ c.if-is_err.true) (c.ask_turns.ensures.fails rules is))
+returns-then-is_err-clause-asks g c by is =
+    let fails = on_err _ (sym c.is_err.ensures.value ∙ c.if-is_err.true) c.ask_turns.ensures.fails by is in
+    record { view = fails.view; is = fails.is; has = no_memory c.in_ok-ask_all.ensures.step fails.has }
 
 pub returns-then-is_err-clause-calls : goal.returns-then-is_err-clause-calls
 returns-then-is_err-clause-calls g c = both_calls c.args.world.now c.ask_all.new.self c.ask_turns.new.world (asking_keeps _ c.args.world.now c.ask_all.new.self c.args.what c.in_ok-ask_all.ensures.step) c.ask_turns.ensures.calls
@@ -33,7 +35,7 @@ gather-requires g c =
     let none = sym c.is_err.ensures.value ∙ c.if-is_err.false in
     let has = has_asked_this _ c.args.world.now c.ask_all.new.self c.args.what c.in_ok-ask_all.ensures.step c.in_ok-ask_all.ensures.ok in
     may_gather c.ask_turns.new.world has.question (on_ok _ none (c.ask_turns.ensures.asks has.question (is_asking c.args.world.now c.ask_all.new.self has.question has.asked)))
-    (on_ok _ none (c.ask_turns.ensures.through c.requires.network.0 c.requires.network.1)).none_waits
+    (on_ok _ none c.ask_turns.ensures.through c.requires.network.0 c.requires.network.1).has.none_waits
 
 asked_so : (g : Over) (c : goal.After-gather g) → HasAskedThis c.args.world.now c.args.what c.ask_all.new.self
 asked_so g c = has_asked_this _ c.args.world.now c.ask_all.new.self c.args.what c.in_ok-ask_all.ensures.step c.in_ok-ask_all.ensures.ok
@@ -45,9 +47,13 @@ still_ordered : (g : Over) (c : goal.After-gather g) → KeepsOrder c.ask_all.ne
 still_ordered g c = on_ok _ (sym c.is_err.ensures.value ∙ c.if-is_err.false) c.ask_turns.ensures.order
 
 pub returns-clause-asks : goal.returns-clause-asks
-returns-clause-asks g c rules is =
-    gathered c.in_ok-ask_all.ensures.step (on_ok _ (sym c.is_err.ensures.value ∙ c.if-is_err.false) (c.ask_turns.ensures.through rules is))
-    (gathered_so _ c.args.world.now c.ask_turns.new.world c.gather.new.self c.args.what (asked_so g c).question (asked_so g c).asks (still_asking g c) c.gather.ensures.step)
+returns-clause-asks g c by is =
+    let turns = on_ok _ (sym c.is_err.ensures.value ∙ c.if-is_err.false) c.ask_turns.ensures.through by is in
+    record {
+      view = turns.view;
+      is = turns.is;
+      has = gathered c.in_ok-ask_all.ensures.step turns.has (gathered_so _ c.args.world.now c.ask_turns.new.world c.gather.new.self c.args.what (asked_so g c).question (asked_so g c).asks (still_asking g c) c.gather.ensures.step);
+    }
 
 pub returns-clause-gathered : goal.returns-clause-gathered
 returns-clause-gathered g c =

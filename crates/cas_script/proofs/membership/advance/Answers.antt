@@ -7,7 +7,7 @@ use Rattle.cas_script.proofs.Entering.{some_due, advances_on}
 use Rattle.cas_script.proofs.membership.advance.Goals as goal
 
 pub loop-step-init : goal.loop-step-init
-loop-step-init g c = record { advances = λ rules is. none; network = λ rules is. is; goes = same_goes c.args.world.now c.requires.free }
+loop-step-init g c = record { advances = λ by is. record { view = by; is = is; has = none }; network = λ by is. (by, is); goes = same_goes c.args.world.now c.requires.free }
 
 pub settle-requires-clause-under_way : goal.settle-requires-clause-under_way
 settle-requires-clause-under_way g c = (c.requires.under_way.0, c.loop-step.invariant.goes.under_way c.requires.under_way.0 c.requires.under_way.1)
@@ -23,28 +23,34 @@ loop-step-preserved-in-Continue-1 g c =
     let was = c.loop-step.invariant in
     let by = c.in_ok-settle-in-Settle.ensures in
     record {
-      advances = λ rules is. advances_on (was.advances rules is) (by.advances rules (was.network rules is));
-      network = λ rules is. by.network rules (was.network rules is);
+      advances = λ net is.
+          let first_ = was.advances net is in
+          let then_ = by.advances first_.view first_.is in
+          record { view = then_.view; is = then_.is; has = advances_on first_.has then_.has };
+      network = λ net is. let before = was.network net is in by.network before.0 before.1;
       goes = then_goes c.args.world.now c.loop-step.world c.settle.new.world was.goes (record { under_way = by.under_way; no_more = omega (arith, by.fewer); free = by.free; idle = by.idle });
     }
 
 pub returns-in_err-settle-in-Settle-clause-advances : goal.returns-in_err-settle-in-Settle-clause-advances
-returns-in_err-settle-in-Settle-clause-advances g c rules is =
-    advances_on (c.loop-step.invariant.advances rules is) (c.in_err-settle-in-Settle.ensures.advances rules (c.loop-step.invariant.network rules is))
+returns-in_err-settle-in-Settle-clause-advances g c by is =
+    let first_ = c.loop-step.invariant.advances by is in
+    let then_ = c.in_err-settle-in-Settle.ensures.advances first_.view first_.is in
+    record { view = then_.view; is = then_.is; has = advances_on first_.has then_.has }
 
 pub loop-step-preserved : goal.loop-step-preserved
 loop-step-preserved g c =
     let was = c.loop-step.invariant in
     let by = c.in_ok-enter-in-Enter.ensures in
     record {
-      advances = λ rules is. advances_on (was.advances rules is) (by.advances c.args.tries rules c.loop-step.halt);
+      advances = λ net is. let first_ = was.advances net is in record { view = first_.view; is = first_.is; has = advances_on first_.has (by.advances c.args.tries first_.view c.loop-step.halt) };
       network = was.network;
       goes = then_goes c.args.world.now c.loop-step.world c.enter.new.world was.goes (record { under_way = by.under_way; no_more = omega (arith, by.fewer); free = by.free; idle = by.idle });
     }
 
 pub returns-in_err-enter-in-Enter-clause-advances : goal.returns-in_err-enter-in-Enter-clause-advances
-returns-in_err-enter-in-Enter-clause-advances g c rules is =
-    advances_on (c.loop-step.invariant.advances rules is) (c.in_err-enter-in-Enter.ensures.advances c.args.tries rules c.loop-step.halt)
+returns-in_err-enter-in-Enter-clause-advances g c by is =
+    let first_ = c.loop-step.invariant.advances by is in
+    record { view = first_.view; is = first_.is; has = advances_on first_.has (c.in_err-enter-in-Enter.ensures.advances c.args.tries first_.view c.loop-step.halt) }
 
 pub unreachable-requires : goal.unreachable-requires
 unreachable-requires g c =

@@ -1,15 +1,15 @@
 use Rattle.std.proofs.Common.{List}
 use Rattle.cas_cluster.specs.View.{meaning}
-use Rattle.cas_script.specs.Conditions.{Rule}
+use Rattle.cas_script.specs.Conditions.{NetworkView}
 use Rattle.cas_script.specs.Membership.{HasAdvanced, steps_left}
-use Rattle.cas_script.specs.Network.{IsNetwork}
+use Rattle.cas_script.specs.Network.{IsNetwork, Through}
 use Rattle.cas_script.proofs.Carrying.{GoesFrom}
 use Rattle.cas_script.proofs.membership.advance.Given as goal
 
 abbrev pub invariant-loop-step : goal.invariant-loop-step
 invariant-loop-step g l = record {
-  advances : (rules : List Rule) → IsNetwork l.initial.network rules → HasAdvanced (meaning g.S.Shelf.contents g.S.Shelf.tells g.S.Shelf.may_leave g.S.Shelf.fault_count g.V.Disk.tells g.V.Disk.may_leave g.V.Disk.fault_count) l.tries rules l.initial.halt l.initial.world l.halt l.world;
-  network : (rules : List Rule) → IsNetwork l.initial.network rules → IsNetwork l.network rules;
+  advances : Through l.initial.network l.network (λ by next. HasAdvanced (meaning g.S.Shelf.contents g.S.Shelf.tells g.S.Shelf.may_leave g.S.Shelf.fault_count g.V.Disk.tells g.V.Disk.may_leave g.V.Disk.fault_count) l.tries by l.initial.halt l.initial.world next l.halt l.world);
+  network : (by : NetworkView) → IsNetwork l.initial.network by → (next : NetworkView) × IsNetwork l.network next;
   goes : GoesFrom l.initial.world l.world;
 }
 

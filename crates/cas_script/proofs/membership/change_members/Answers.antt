@@ -21,9 +21,14 @@ carry_out-answer-requires-clause-free g c =
     free_then c.args.world.now c.order.new.self _ c.requires.quiet ((keeps_idle c.args.world.now c.order.new.self (order_keeps c.args.world.now c.order.new.self _ c.in-Ok.ensures.ok)).idle 0 c.requires.idle) c.in-Ok.ensures.ok
 
 pub returns-in-Ok-clause-changes : goal.returns-in-Ok-clause-changes
-returns-in-Ok-clause-changes g c rules is =
-    subst (λ (a : OpAnswer). ChangesMembers (meaning {S = g.row.S.Denot} g.S.Shelf.contents g.S.Shelf.tells g.S.Shelf.may_leave g.S.Shelf.fault_count g.V.Disk.tells g.V.Disk.may_leave g.V.Disk.fault_count) c.args.tries rules (asked_to c.args.kind c.args.id) c.args.halt.now c.args.world.now a c.carry_out-answer.new.halt c.tell.new.self) (sym c.tell.ensures.same)
-    (told (subst (λ (a : Asked). StepOrder c.args.world.now a c.order.new.self) c.asked.ensures c.in-Ok.ensures.ok) (c.carry_out-answer.ensures.carried rules is) c.tell.ensures.step)
+returns-in-Ok-clause-changes g c by is =
+    let carried = c.carry_out-answer.ensures.carried by is in
+    record {
+      view = carried.view;
+      is = carried.is;
+      has = subst (λ (a : OpAnswer). ChangesMembers (meaning {S = g.row.S.Denot} g.S.Shelf.contents g.S.Shelf.tells g.S.Shelf.may_leave g.S.Shelf.fault_count g.V.Disk.tells g.V.Disk.may_leave g.V.Disk.fault_count) c.args.tries by (asked_to c.args.kind c.args.id) c.args.halt.now c.args.world.now a carried.view c.carry_out-answer.new.halt c.tell.new.self) (sym c.tell.ensures.same)
+          (told (subst (λ (a : Asked). StepOrder c.args.world.now a c.order.new.self) c.asked.ensures c.in-Ok.ensures.ok) carried.has c.tell.ensures.step);
+    }
 
 pub returns-in-Ok-clause-quiet : goal.returns-in-Ok-clause-quiet
 returns-in-Ok-clause-quiet g c = quiet_after c.carry_out-answer.new.world c.tell.new.self _ c.tell.ensures.step
@@ -34,7 +39,7 @@ returns-in-Ok-clause-idle g c =
     (both_idle c.order.new.self c.carry_out-answer.new.world c.tell.new.self c.carry_out-answer.ensures.idle (keeps_idle c.carry_out-answer.new.world c.tell.new.self (tell_keeps c.carry_out-answer.new.world c.tell.new.self _ c.tell.ensures.step)))
 
 pub returns-clause-changes : goal.returns-clause-changes
-returns-clause-changes g c rules is = refused (why c.in-Err.ensures.cause) c.in-Err.ensures.err
+returns-clause-changes g c by is = record { view = by; is = is; has = refused (why c.in-Err.ensures.cause) c.in-Err.ensures.err }
   where
     why : (c.in-Err.refusal ≡ answer.RecordFull) ⊎ (c.in-Err.refusal ≡ answer.NoMemory false) → IsNotOrdered c.args.world.now c.in-Err.refusal
     why (inl is_full) = subst (IsNotOrdered c.args.world.now) (sym is_full) (full (c.in-Err.ensures.full.0 (ap (λ (a : Answer). Err a) is_full)))

@@ -2,7 +2,7 @@ use Rattle.std.proofs.Common.{◌<◌, ℕ, List}
 use Rattle.std.specs.Prelude.{◌⊎◌, IsSome}
 use Rattle.cas_cluster.specs.View.{meaning}
 use Rattle.cas_world.specs.Plans.{entrant_of}
-use Rattle.cas_script.specs.Conditions.{Rule}
+use Rattle.cas_script.specs.Conditions.{NetworkView}
 use Rattle.cas_script.specs.Membership.{HasAdvanced, steps_left}
 use Rattle.cas_script.specs.declared.halt.Halt.{Halt}
 use Rattle.cas_script.proofs.Carrying.{GoesFrom}
@@ -11,7 +11,7 @@ use Rattle.cas_script.proofs.membership.enter.Given as goal
 
 abbrev pub invariant-loop-proposer : goal.invariant-loop-proposer
 invariant-loop-proposer g l = record {
-  advances : (tries : ℕ) (rules : List Rule) (halt : Halt) → HasAdvanced (meaning g.S.Shelf.contents g.S.Shelf.tells g.S.Shelf.may_leave g.S.Shelf.fault_count g.V.Disk.tells g.V.Disk.may_leave g.V.Disk.fault_count) tries rules halt l.initial.world halt l.world;
+  advances : (tries : ℕ) (by : NetworkView) (halt : Halt) → HasAdvanced (meaning g.S.Shelf.contents g.S.Shelf.tells g.S.Shelf.may_leave g.S.Shelf.fault_count g.V.Disk.tells g.V.Disk.may_leave g.V.Disk.fault_count) tries by halt l.initial.world by halt l.world;
   goes : GoesFrom l.initial.world l.world;
   takes : (steps_left l.world < steps_left l.initial.world) ⊎ IsSome (entrant_of l.world.council.plan);
 }

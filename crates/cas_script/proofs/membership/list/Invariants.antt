@@ -2,18 +2,18 @@ use Rattle.std.proofs.Common.{◌≡◌, ℕ, List, Some}
 use Rattle.cas_cluster.specs.View.{meaning}
 use Rattle.cas_members.specs.declared.plan.PlanStep.TheVariants.{Settle}
 use Rattle.cas_world.specs.Plans.{IsPartial, step_of}
-use Rattle.cas_script.specs.Conditions.{Rule}
+use Rattle.cas_script.specs.Conditions.{NetworkView}
 use Rattle.cas_script.specs.Exchanges.{listing_left}
 use Rattle.cas_script.specs.Membership.{HasAdvanced}
-use Rattle.cas_script.specs.Network.{IsNetwork}
+use Rattle.cas_script.specs.Network.{IsNetwork, Through}
 use Rattle.cas_script.specs.declared.halt.Halt.{Halt}
 use Rattle.cas_script.proofs.Carrying.{GoesFrom}
 use Rattle.cas_script.proofs.membership.list.Given as goal
 
 abbrev pub invariant-pages : goal.invariant-pages
 invariant-pages g l = record {
-  advances : (tries : ℕ) (rules : List Rule) (halt : Halt) → IsNetwork l.initial.network rules → HasAdvanced (meaning g.S.Shelf.contents g.S.Shelf.tells g.S.Shelf.may_leave g.S.Shelf.fault_count g.V.Disk.tells g.V.Disk.may_leave g.V.Disk.fault_count) tries rules halt l.initial.world halt l.world;
-  network : (rules : List Rule) → IsNetwork l.initial.network rules → IsNetwork l.network rules;
+  advances : (tries : ℕ) (halt : Halt) → Through l.initial.network l.network (λ by next. HasAdvanced (meaning g.S.Shelf.contents g.S.Shelf.tells g.S.Shelf.may_leave g.S.Shelf.fault_count g.V.Disk.tells g.V.Disk.may_leave g.V.Disk.fault_count) tries by halt l.initial.world next halt l.world);
+  network : (by : NetworkView) → IsNetwork l.initial.network by → (next : NetworkView) × IsNetwork l.network next;
   goes : GoesFrom l.initial.world l.world;
   settles : step_of l.world.council.plan ≡ Some Settle;
   partial : IsPartial l.world.council.plan;

@@ -2,16 +2,16 @@ use Rattle.std.proofs.Common.{List}
 use Rattle.std.specs.Prelude.{IsSome}
 use Rattle.cas_calls.specs.Council.{due_in}
 use Rattle.cas_cluster.specs.View.{meaning}
-use Rattle.cas_script.specs.Conditions.{Rule}
+use Rattle.cas_script.specs.Conditions.{NetworkView}
 use Rattle.cas_script.specs.Membership.{HasAdvanced, TakesStep, keys_listed}
-use Rattle.cas_script.specs.Network.{IsNetwork}
+use Rattle.cas_script.specs.Network.{IsNetwork, Through}
 use Rattle.cas_script.proofs.Carrying.{GoesFrom}
 use Rattle.cas_script.proofs.membership.rescan.Given as goal
 
 abbrev pub invariant-loop-key : goal.invariant-loop-key
 invariant-loop-key g l = record {
-  advances : (rules : List Rule) → IsNetwork l.initial.network rules → HasAdvanced (meaning g.S.Shelf.contents g.S.Shelf.tells g.S.Shelf.may_leave g.S.Shelf.fault_count g.V.Disk.tells g.V.Disk.may_leave g.V.Disk.fault_count) l.tries rules l.initial.halt l.initial.world l.halt l.world;
-  network : (rules : List Rule) → IsNetwork l.initial.network rules → IsNetwork l.network rules;
+  advances : Through l.initial.network l.network (λ by next. HasAdvanced (meaning g.S.Shelf.contents g.S.Shelf.tells g.S.Shelf.may_leave g.S.Shelf.fault_count g.V.Disk.tells g.V.Disk.may_leave g.V.Disk.fault_count) l.tries by l.initial.halt l.initial.world next l.halt l.world);
+  network : (by : NetworkView) → IsNetwork l.initial.network by → (next : NetworkView) × IsNetwork l.network next;
   goes : GoesFrom l.initial.world l.world;
   takes : IsSome (due_in l.initial.world.council.plan) → TakesStep l.initial.world l.world;
 }

@@ -8,13 +8,16 @@ pub rescan-requires-clause-under_way : goal.rescan-requires-clause-under_way
 rescan-requires-clause-under_way g c = (c.requires.under_way.0, c.in_ok-list.ensures.under_way c.requires.under_way.0 c.requires.under_way.1)
 
 pub rescan-requires-clause-network : goal.rescan-requires-clause-network
-rescan-requires-clause-network g c = (c.requires.network.0, c.in_ok-list.ensures.network c.requires.network.0 c.requires.network.1)
+rescan-requires-clause-network g c = c.in_ok-list.ensures.network c.requires.network.0 c.requires.network.1
 
 pub returns-in_err-list-clause-advances : goal.returns-in_err-list-clause-advances
-returns-in_err-list-clause-advances g c rules is = c.in_err-list.ensures.advances c.args.tries rules c.args.halt.now is
+returns-in_err-list-clause-advances g c = c.in_err-list.ensures.advances c.args.tries c.args.halt.now
 
 pub returns-clause-advances : goal.returns-clause-advances
-returns-clause-advances g c rules is = advances_on (c.in_ok-list.ensures.advances c.args.tries rules c.args.halt.now is) (c.rescan.ensures.advances rules (c.in_ok-list.ensures.network rules is))
+returns-clause-advances g c by is =
+    let first_ = c.in_ok-list.ensures.advances c.args.tries c.args.halt.now by is in
+    let then_ = c.rescan.ensures.advances first_.view first_.is in
+    record { view = then_.view; is = then_.is; has = advances_on first_.has then_.has }
 
 pub returns-clause-under_way : goal.returns-clause-under_way
 returns-clause-under_way g c asked was = c.rescan.ensures.under_way asked (c.in_ok-list.ensures.under_way asked was)

@@ -34,12 +34,17 @@ tell-requires g c = elim c.match-exchange.branch [
 ]
 
 pub returns-in-Ok-clause-probe : goal.returns-in-Ok-clause-probe
-returns-in-Ok-clause-probe g c rules is =
-    subst (λ (a : OpAnswer). IsProbe (meaning {S = g.row.S.Denot} g.S.Shelf.contents g.S.Shelf.tells g.S.Shelf.may_leave g.S.Shelf.fault_count g.V.Disk.tells g.V.Disk.may_leave g.V.Disk.fault_count) rules c.args.key.now c.args.world.now a c.tell.new.self) (sym c.tell.ensures.same)
-    (told (subst (λ (k : List ℕ). StepOrder c.args.world.now (asked.Probe k) c.order.new.self) c.in_ok-copy.ensures c.in-Ok.ensures.ok) (subst (λ (k : List ℕ). AsksMembers (meaning {S = g.row.S.Denot} g.S.Shelf.contents g.S.Shelf.tells g.S.Shelf.may_leave g.S.Shelf.fault_count g.V.Disk.tells g.V.Disk.may_leave g.V.Disk.fault_count) rules (AskAll (Probe k)) Gather c.order.new.self c.exchange.new.world) c.in_ok-copy-2.ensures (c.exchange.ensures.asks rules is)) c.tell.ensures.step)
+returns-in-Ok-clause-probe g c by is =
+    let asks = c.exchange.ensures.asks by is in
+    record {
+      view = asks.view;
+      is = asks.is;
+      has = subst (λ (a : OpAnswer). IsProbe (meaning {S = g.row.S.Denot} g.S.Shelf.contents g.S.Shelf.tells g.S.Shelf.may_leave g.S.Shelf.fault_count g.V.Disk.tells g.V.Disk.may_leave g.V.Disk.fault_count) by c.args.key.now c.args.world.now a asks.view c.tell.new.self) (sym c.tell.ensures.same)
+          (told (subst (λ (k : List ℕ). StepOrder c.args.world.now (asked.Probe k) c.order.new.self) c.in_ok-copy.ensures c.in-Ok.ensures.ok) (subst (λ (k : List ℕ). AsksMembers (meaning {S = g.row.S.Denot} g.S.Shelf.contents g.S.Shelf.tells g.S.Shelf.may_leave g.S.Shelf.fault_count g.V.Disk.tells g.V.Disk.may_leave g.V.Disk.fault_count) by (AskAll (Probe k)) Gather c.order.new.self asks.view c.exchange.new.world) c.in_ok-copy-2.ensures asks.has) c.tell.ensures.step);
+    }
 
 pub returns-clause-probe : goal.returns-clause-probe
-returns-clause-probe g c rules is = refused (why c.in-Err.ensures.cause) c.in-Err.ensures.err
+returns-clause-probe g c by is = record { view = by; is = is; has = refused (why c.in-Err.ensures.cause) c.in-Err.ensures.err }
   where
     why : (c.in-Err.refusal ≡ answer.RecordFull) ⊎ (c.in-Err.refusal ≡ answer.NoMemory false) → IsNotOrdered c.args.world.now c.in-Err.refusal
     why (inl is_full) = subst (IsNotOrdered c.args.world.now) (sym is_full) (full (c.in-Err.ensures.full.0 (ap (λ (a : Answer). Err a) is_full)))

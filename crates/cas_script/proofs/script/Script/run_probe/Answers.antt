@@ -2,10 +2,13 @@ use Rattle.std.proofs.Common.{◌∙◌}
 use Rattle.std.proofs.lemmas.Result.{IfOk-weaker}
 use Rattle.cas_cluster.specs.View.{meaning}
 use Rattle.cas_script.specs.Probes.{IsProbe}
+use Rattle.cas_script.specs.Conditions.{Ruled}
+use Rattle.cas_script.specs.Network.{Through}
 use Rattle.cas_script.specs.Script.{RunsProbe, Runs}
 use Rattle.cas_script.proofs.Answering.{probe_runs}
 use Rattle.cas_script.proofs.Keeping.{still_idle}
-use Rattle.cas_script.proofs.Stages.{stage_of, network_is}
+use Rattle.cas_script.proofs.Ruled.{ruled_after, probe_stay}
+use Rattle.cas_script.proofs.Stages.{stage_of}
 use Rattle.cas_script.proofs.script.Script.run_probe.Goals as goal
 
 pub invariant_of-self : goal.invariant_of-self
@@ -15,13 +18,12 @@ invariant_of-self g c = record {
   some = c.self.invariant.some;
   idle = still_idle c.self.inside.world c.probe.new.world c.probe.ensures.calls.greatest c.probe.ensures.calls.callers c.self.invariant.idle;
   quiet = c.probe.ensures.quiet;
-  ruled = (c.self.invariant.ruled.0, c.probe.ensures.network c.self.invariant.ruled.0 c.self.invariant.ruled.1);
+  ruled = (c.self.invariant.ruled.0, ruled_after c.probe.result c.self.inside.network c.probe.new.network (λ a by next. IsProbe (meaning {S = g.row.S.Denot} g.S.Shelf.contents g.S.Shelf.tells g.S.Shelf.may_leave g.S.Shelf.fault_count g.V.Disk.tells g.V.Disk.may_leave g.V.Disk.fault_count) by c.args.key.now c.self.inside.world a next c.probe.new.world) (λ a by next. probe_stay (meaning {S = g.row.S.Denot} g.S.Shelf.contents g.S.Shelf.tells g.S.Shelf.may_leave g.S.Shelf.fault_count g.V.Disk.tells g.V.Disk.may_leave g.V.Disk.fault_count) by next c.args.key.now c.self.inside.world c.probe.new.world a) (λ same. same.1) c.probe.ensures.probe c.probe.ensures.err c.self.invariant.ruled.0 c.self.invariant.ruled.1);
 }
 
 pub returns-clause-runs : goal.returns-clause-runs
 returns-clause-runs g c state at =
-    let rules_are = network_is c.self.inside.world c.self.inside.network c.self.inside.halts c.self.inside.tries c.args.self.now state c.self.view_is at in
-    IfOk-weaker c.probe.result (λ a. IsProbe (meaning {S = g.row.S.Denot} g.S.Shelf.contents g.S.Shelf.tells g.S.Shelf.may_leave g.S.Shelf.fault_count g.V.Disk.tells g.V.Disk.may_leave g.V.Disk.fault_count) state.rules c.args.key.now c.self.inside.world a c.probe.new.world)
+    IfOk-weaker c.probe.result (λ a. Through c.self.inside.network c.probe.new.network (λ by next. IsProbe (meaning {S = g.row.S.Denot} g.S.Shelf.contents g.S.Shelf.tells g.S.Shelf.may_leave g.S.Shelf.fault_count g.V.Disk.tells g.V.Disk.may_leave g.V.Disk.fault_count) by c.args.key.now c.self.inside.world a next c.probe.new.world))
     (λ a. Runs (RunsProbe (meaning {S = g.row.S.Denot} g.S.Shelf.contents g.S.Shelf.tells g.S.Shelf.may_leave g.S.Shelf.fault_count g.V.Disk.tells g.V.Disk.may_leave g.V.Disk.fault_count) state c.args.key.now a) (stage_of c.probe.new.world c.probe.new.network c.self.inside.halts c.self.inside.tries))
-    (λ a h. probe_runs (meaning {S = g.row.S.Denot} g.S.Shelf.contents g.S.Shelf.tells g.S.Shelf.may_leave g.S.Shelf.fault_count g.V.Disk.tells g.V.Disk.may_leave g.V.Disk.fault_count) c.self.inside.world c.probe.new.world c.self.inside.network c.probe.new.network c.self.inside.halts c.self.inside.tries c.args.self.now state c.args.key.now a c.self.view_is at (c.probe.ensures.network state.rules) (λ n. h))
-    (c.probe.ensures.probe state.rules rules_are)
+    (λ a h. probe_runs (meaning {S = g.row.S.Denot} g.S.Shelf.contents g.S.Shelf.tells g.S.Shelf.may_leave g.S.Shelf.fault_count g.V.Disk.tells g.V.Disk.may_leave g.V.Disk.fault_count) c.self.inside.world c.probe.new.world c.self.inside.network c.probe.new.network c.self.inside.halts c.self.inside.tries c.args.self.now state c.args.key.now a c.self.view_is at (h (Ruled state.rules)))
+    c.probe.ensures.probe
