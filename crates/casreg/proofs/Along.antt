@@ -1,5 +1,5 @@
 -- Along a script over a store that just opened was done what nothing stood against.
-use Rattle.std.proofs.Common.{ℕ, List, Option}
+use Rattle.std.proofs.Common.{◌≡◌, ℕ, List, Option, subst}
 use Rattle.cas_cluster.proofs.SafeOpens.{opens_are_safe}
 use Rattle.cas_cluster.specs.Safe.{IsSafe}
 use Rattle.cas_cluster.specs.View.{Meaning, View}
@@ -10,10 +10,12 @@ use Rattle.cas_script.specs.Script.{opening_state}
 use Rattle.cas_undisturbed.proofs.Runs.{runs_are_done}
 use Rattle.cas_world.specs.Opening.{members_to}
 use Rattle.casreg.specs.Causes.{AreDoneAlong, IsNewOver, Ran, Wrote, ran}
-use Rattle.casreg.specs.Words.{AreWords}
+use Rattle.casreg.specs.Words.{AreWords, acceptors_of, proposers_of}
+use Rattle.casreg.specs.declared.words.Request.{Request}
 use Rattle.casreg.specs.declared.status.Status.{Status}
 use Rattle.casreg.specs.declared.status.Status.TheVariants as status
 use Rattle.casreg.specs.declared.words.Options.{Options}
+use Rattle.casreg.specs.declared.words.Request.TheVariants as request
 
 safe_done : {D : Type 0} (meant : Meaning (DiskShelf D) D) (tells : Type 0) (tries : ℕ) (P : List (List ℕ) → Type 0) (input old new : Option (List ℕ)) (world : View (DiskShelf D) D) (back : Rack D) (result : Status) → IsSafe world → (by : Ran meant tells tries P input old new world result back)
     → AreDoneAlong result by
@@ -28,7 +30,15 @@ safe_done meant tells tries P input old new world back status.NoMemory safe by =
 safe_done meant tells tries P input old new world back (status.Endless line) safe by = runs_are_done meant tries (opening_state world) by.last by.wrote.lines by.wrote.answers safe by.wrote.run
 
 -- a run over a new world
-pub ran_over : {D : Type 0} {meant : Meaning (DiskShelf D) D} {m : RackMeaning D} {words : List (List ℕ)} {P : List (List ℕ) → Type 0} {input old new : Option (List ℕ)} {rack asked back : Rack D} {result : Status} (options : Options) (world : View (DiskShelf D) D) → AreWords words options → IsAllEmpty m rack asked
-    → IsNewOver meant options asked world → Ran meant m.tells options.tries P input old new world result back → Wrote meant m words P input old new rack result back
+pub ran_over : {D : Type 0} {meant : Meaning (DiskShelf D) D} {m : RackMeaning D} {words : List (List ℕ)} {P : List (List ℕ) → Type 0} {input old new : Option (List ℕ)} {rack asked back : Rack D} {result : Status} (options : Options) (world : View (DiskShelf D) D) → AreWords words (request.Script options) → IsAllEmpty m rack asked
+    → IsNewOver meant options.acceptors options.proposers asked world → Ran meant m.tells options.tries P input old new world result back → Wrote meant m words P input old new rack result back
 ran_over {D} {meant} {m} {words} {P} {input} {old} {new} {rack} {asked} {back} {result} options world are empty over by =
     ran options world are empty over by (safe_done meant m.tells options.tries P input old new world back result (opens_are_safe meant (members_to options.acceptors) world over.opening over.places) by)
+
+-- ---- the world that was asked for
+-- a new world of as many acceptors and proposers as are asked for is one of a request that asks for the same
+pub new_of : {D : Type 0} {meant : Meaning (DiskShelf D) D} {asked : Rack D} {world : View (DiskShelf D) D} (acceptors proposers : ℕ) (asks other : Request) → acceptors ≡ acceptors_of asks → proposers ≡ proposers_of asks → asks ≡ other → IsNewOver meant acceptors proposers asked world
+    → IsNewOver meant (acceptors_of other) (proposers_of other) asked world
+new_of {D} {meant} {asked} {world} acceptors proposers asks other are_acceptors are_proposers same over =
+    subst (λ (r : Request). IsNewOver meant (acceptors_of r) (proposers_of r) asked world) same
+    (subst (λ (n : ℕ). IsNewOver meant n (proposers_of asks) asked world) are_acceptors (subst (λ (n : ℕ). IsNewOver meant acceptors n asked world) are_proposers over))

@@ -1,11 +1,10 @@
 -- A status that names a disk comes by what became of that disk.
-use Rattle.std.proofs.Common.{suc, zero, ◌≡◌, ◌⊎◌, inl, inr, ◌+◌, ◌<◌, ◌≤◌, ℕ, List, Option, refl, sym, ap, subst, ◌∙◌, arith}
+use Rattle.std.proofs.Common.{suc, zero, ◌≡◌, ◌⊎◌, inl, inr, ◌+◌, ◌<◌, ◌≤◌, ℕ, List, Option, sym, subst, ◌∙◌, arith}
 use Rattle.cas_base.specs.Faults.{Rose}
-use Rattle.cas_cluster.specs.View.{Meaning, IsAt}
-use Rattle.cas_cluster.proofs.Places.{at_one}
+use Rattle.cas_cluster.specs.View.{Meaning, View, IsAt}
 use Rattle.cas_disk_shelf.specs.declared.shelf.DiskShelf.{DiskShelf}
-use Rattle.cas_rack.specs.Rack.{RackMeaning, IsFoundEmpty, AreFoundEmptyBelow, OneIsNot, IsWhyNot, IsAllEmpty, IsNotEmpty, an_acceptor, a_vault}
-use Rattle.cas_rack.specs.Store.{OneFails, StaysClosed, nothing_reached, a_member_fails, a_vault_fails}
+use Rattle.cas_rack.specs.Rack.{RackMeaning, AreFoundEmptyBelow, IsWhyNot, IsAllEmpty, IsNotEmpty, an_acceptor, a_vault}
+use Rattle.cas_rack.specs.Store.{StaysClosed, nothing_reached, a_member_fails, a_vault_fails}
 use Rattle.cas_rack.specs.declared.rack.Rack.{Rack}
 use Rattle.cas_rack.specs.declared.rack.RackFault.{RackFault}
 use Rattle.cas_rack.specs.declared.rack.RackFault.TheVariants as rack_fault
@@ -13,7 +12,9 @@ use Rattle.cas_world.specs.Opening.{IsFaultOf}
 use Rattle.cas_world.specs.declared.fault.OpenFault.{OpenFault}
 use Rattle.cas_world.specs.declared.fault.OpenFault.TheVariants as opening
 use Rattle.cas_script.specs.Script.{State}
-use Rattle.casreg.specs.Causes.{IsDisk, of_acceptor, of_vault, AreDisksToBlame, WroteIn, Ran, Wrote, wrong_words, no_words_read, not_empty, not_opened, ran}
+use Rattle.cas_script.specs.declared.load.Load.{Load}
+use Rattle.casreg.specs.Causes.{IsDisk, of_acceptor, of_vault, AreDisksToBlame, WroteIn, Wrote, wrong_words, no_words_read, not_empty, not_opened, ran, loaded, WroteSummary, whole, sink_failed, no_text, broke_off}
+use Rattle.casreg.specs.Words.{acceptors_of, proposers_of}
 use Rattle.casreg.specs.Status.{status_of_rack, status_of_opening}
 use Rattle.casreg.specs.declared.status.Status.{Status}
 use Rattle.casreg.specs.declared.status.Status.TheVariants as status
@@ -68,18 +69,17 @@ was_there {D} m old new to place now empty at = elim (low_or_high place to) [
 ]
 
 opening_by : {D : Type 0} (m : RackMeaning D) (rack asked back : Rack D) (number : ℕ) (was mid now : D) (fault : OpenFault) → IsDisk rack number was → m.faults was ≤ m.faults mid → IsDisk back number now
-    → ((disk : ℕ) → fault ≡ opening.DiskFault disk → (disk ≡ number) × Rose (m.faults mid) (m.faults now)) → AreDisksToBlame m rack back (status_of_opening fault)
+    → IsFaultOf number (m.faults mid) (m.faults now) fault → AreDisksToBlame m rack back (status_of_opening fault)
 opening_by {D} m rack asked back number was mid now (opening.DiskFault disk) is_was low is_now cause = record {
   was = was;
-  is_was = subst (λ (n : ℕ). IsDisk rack n was) (sym (cause disk refl).0) is_was;
+  is_was = subst (λ (n : ℕ). IsDisk rack n was) (sym cause.0) is_was;
   now = now;
-  is_now = subst (λ (n : ℕ). IsDisk back n now) (sym (cause disk refl).0) is_now;
-  rose = rose_later (m.faults was) (m.faults mid) (m.faults now) low (cause disk refl).1;
+  is_now = subst (λ (n : ℕ). IsDisk back n now) (sym cause.0) is_now;
+  rose = rose_later (m.faults was) (m.faults mid) (m.faults now) low cause.1;
 }
+opening_by m rack asked back number was mid now (opening.Foreign disk at) is_was low is_now cause = absurd cause
+opening_by m rack asked back number was mid now (opening.Spent disk) is_was low is_now cause = absurd cause
 opening_by m rack asked back number was mid now opening.NoMemory is_was low is_now cause = tt
-
-fails_by : {D : Type 0} (m : RackMeaning D) (first from to : ℕ) (fault : OpenFault) (old new : List D) (one : OneFails m.faults first from to fault old new) → (disk : ℕ) → fault ≡ opening.DiskFault disk → (disk ≡ first + one.place) × Rose (m.faults one.was) (m.faults one.now)
-fails_by {D} m first from to fault old new one disk is = subst (λ (f : OpenFault). IsFaultOf (first + one.place) (m.faults one.was) (m.faults one.now) f) is one.cause
 
 opening_blamed : {D : Type 0} (m : RackMeaning D) (count greatest : ℕ) (rack asked back : Rack D) (fault : OpenFault) → IsAllEmpty m rack asked → StaysClosed m.faults count greatest asked.acceptors.items asked.vaults.items fault back.acceptors.items back.vaults.items
     → AreDisksToBlame m rack back (status_of_opening fault)
@@ -87,11 +87,11 @@ opening_blamed m count greatest rack asked back fault empty (nothing_reached non
 opening_blamed m count greatest rack asked back fault empty (a_member_fails one vaults) =
     let before = was_there m rack.acceptors.items asked.acceptors.items 64 one.place one.was empty.acceptors one.at_was in
     opening_by m rack asked back one.place before.was one.was one.now fault (of_acceptor one.place before.was before.at_was) before.never_falls (of_acceptor one.place one.now one.at_now)
-    (λ disk e. let by = fails_by m 0 1 count fault asked.acceptors.items back.acceptors.items one disk e in (by.0 ∙ from_zero one.place, by.1))
+    (subst (λ (n : ℕ). IsFaultOf n (m.faults one.was) (m.faults one.now) fault) (from_zero one.place) one.cause)
 opening_blamed m count greatest rack asked back fault empty (a_vault_fails members one) =
     let before = was_there m rack.vaults.items asked.vaults.items 17 one.place one.was empty.vaults one.at_was in
     opening_by m rack asked back (64 + one.place) before.was one.was one.now fault (of_vault one.place before.was before.at_was) before.never_falls (of_vault one.place one.now one.at_now)
-    (fails_by m 64 0 greatest fault asked.vaults.items back.vaults.items one)
+    one.cause
 
 -- ---- all of it
 -- a run that began ends with no status that names a disk
@@ -107,9 +107,17 @@ ran_blamed meant m tries P input old new first last rack back status.TooManyLine
 ran_blamed meant m tries P input old new first last rack back status.NoMemory wrote = tt
 ran_blamed meant m tries P input old new first last rack back (status.Endless line) wrote = tt
 
+-- and so does a load
+load_blamed : {S V D : Type 0} (meant : Meaning S V) (m : RackMeaning D) (load : Load) (old new : Option (List ℕ)) (world last : View S V) (rack back : Rack D) (result : Status) → WroteSummary meant load old new world last result → AreDisksToBlame m rack back result
+load_blamed meant m load old new world last rack back result (whole summary sums wrote) = tt
+load_blamed meant m load old new world last rack back result (sink_failed summary sums wrote) = tt
+load_blamed meant m load old new world last rack back result (no_text summary sums same) = tt
+load_blamed meant m load old new world last rack back result (broke_off breaks same) = tt
+
 pub blamed : {D : Type 0} (meant : Meaning (DiskShelf D) D) (m : RackMeaning D) (words : List (List ℕ)) (P : List (List ℕ) → Type 0) (input old new : Option (List ℕ)) (rack : Rack D) (result : Status) (back : Rack D) → Wrote meant m words P input old new rack result back → AreDisksToBlame m rack back result
 blamed meant m words P input old new rack result back (wrong_words same) = tt
 blamed meant m words P input old new rack result back (no_words_read same) = tt
 blamed meant m words P input old new rack result back (not_empty fault is same) = rack_blamed m rack back fault is
-blamed meant m words P input old new rack result back (not_opened {asked = asked} options fault are empty closed same) = opening_blamed m options.acceptors options.proposers rack asked back fault empty closed
+blamed meant m words P input old new rack result back (not_opened {asked = asked} request fault are empty closed same) = opening_blamed m (acceptors_of request) (proposers_of request) rack asked back fault empty closed
 blamed meant m words P input old new rack result back (ran options world are empty over run done) = ran_blamed meant m options.tries P input old new _ run.last rack back result run.wrote
+blamed meant m words P input old new rack result back (loaded load world are empty over run) = load_blamed meant m load old new world run.last rack back result run.wrote

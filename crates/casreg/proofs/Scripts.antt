@@ -1,14 +1,14 @@
--- The options of a script, where clap takes the words.
+-- The options of a script and of a load, where clap takes the words.
 use Rattle.std.proofs.Common.{◌≡◌, ℕ, Bool, true, false, cond, List, [], Option, Some, None, is_some, refl, sym, ap, subst, inl, inr, codes, find}
 use Rattle.std.specs.Prelude.{◌⊎◌, option_map, slice_get, unwrap_or}
 use Rattle.clap.specs.declared.builder.value_parser.ValueParser.TheVariants.{Unsigned}
 use Rattle.clap.proofs.ValueTestLemmas.{accepts-Accepts}
 use Rattle.clap.proofs.OnLiterals.{clap_on_literals}
 use Rattle.clap.specs.Simple.{App, Shape, new_shape, built, entered, names_of, subcommand_of, rows_at}
-use Rattle.clap.specs.Walk.{Rule, Row, Text, Waiting, walk, walk_from, nothing_held, settled, finished, with_default, default_rows, reading_by, has_row, answers_to, subcommand_met, arg_by_index, one_of}
+use Rattle.clap.specs.Walk.{Rule, Row, Text, Waiting, walk, walk_from, nothing_held, settled, finished, with_default, default_rows, reading_by, has_row, answers_to, subcommand_met, arg_by_index}
 use Rattle.clap.specs.Walk.Waiting.{idle, option, positional}
 use Rattle.clap.specs.Faults.{level_fault, entered_fault, walk_fault, settle_fault, defaults_fault, check_fault}
-use Rattle.casreg.specs.Words.{casreg, command_line, faults_of, IsNumberIn, HasOptions}
+use Rattle.casreg.specs.Words.{casreg, command_line, faults_of, HasOptions, HasDrawing, HasCommand}
 use Rattle.casreg.proofs.Taken.{Each, IsOption, IsKnown, Passes, IsNamed, by_test, neither, found_each, walk_each, settled_each, default_each, default_there, default_stays, read_passes, walk_named}
 
 -- the subcommand as clap builds it, and its rules
@@ -87,7 +87,7 @@ module _ (rows : List Row) (each : Each (Passes rules) rows) where
   has_tries = default_there rules tries (codes "1") refl second
 
   -- each option has a number within its bounds
-  numbers : IsNumberIn 9 (one_of (codes "acceptors") third) × IsNumberIn 16 (one_of (codes "proposers") third) × IsNumberIn 64 (one_of (codes "tries") third)
+  numbers : HasOptions third
   unfolding clap_on_literals
   numbers =
       let a = read_passes rules acceptors third is_acceptors has_acceptors all_pass in
@@ -98,7 +98,7 @@ module _ (rows : List Row) (each : Each (Passes rules) rows) where
         (t.0, t.1, accepts-Accepts false (Unsigned 1 64) t.0 t.2),
       )
 
-leaf : (words : List Text) → level_fault taken [] nothing_held words false [] ≡ [] → HasOptions (Some (rows_at taken words))
+leaf : (words : List Text) → level_fault taken [] nothing_held words false [] ≡ [] → HasCommand (Some (rows_at taken words))
 unfolding clap_on_literals
 leaf words none =
     let end = (walk rules [] nothing_held words).held in
@@ -107,23 +107,151 @@ leaf words none =
     let rows = walk_each rules known taken refl no_places [] words (walk_from nothing_held) parts.0 tt in
     let each = settled_each rules known taken.args_override_self end settles.0 rows in
     let last : with_default (third (settled rules end).rows each) help ≡ third (settled rules end).rows each = default_none help (third (settled rules end).rows each) refl in
-    subst (λ (l : List Row). IsNumberIn 9 (one_of (codes "acceptors") l) × IsNumberIn 16 (one_of (codes "proposers") l) × IsNumberIn 64 (one_of (codes "tries") l)) (sym last) (numbers (settled rules end).rows each)
+    (subst HasOptions (sym last) (numbers (settled rules end).rows each), inl refl)
+
+-- ---- the options of a load
+abbrev loading : Shape
+loading = unwrap_or (slice_get (built casreg).subs 1) (new_shape [])
+
+abbrev load_rules : List Rule
+load_rules = loading.rules
+
+abbrev load_acceptors : Rule
+load_acceptors = unwrap_or (slice_get load_rules 0) no_rule
+
+abbrev load_proposers : Rule
+load_proposers = unwrap_or (slice_get load_rules 1) no_rule
+
+abbrev load_tries : Rule
+load_tries = unwrap_or (slice_get load_rules 2) no_rule
+
+abbrev load_seed : Rule
+load_seed = unwrap_or (slice_get load_rules 3) no_rule
+
+abbrev load_lines : Rule
+load_lines = unwrap_or (slice_get load_rules 4) no_rule
+
+abbrev load_help : Rule
+load_help = unwrap_or (slice_get load_rules 5) no_rule
+
+is_load_acceptors : IsOption load_rules load_acceptors
+unfolding clap_on_literals
+is_load_acceptors = record { own = refl; action = refl; least = refl; most = refl; reading = refl }
+
+is_load_proposers : IsOption load_rules load_proposers
+unfolding clap_on_literals
+is_load_proposers = record { own = refl; action = refl; least = refl; most = refl; reading = refl }
+
+is_load_tries : IsOption load_rules load_tries
+unfolding clap_on_literals
+is_load_tries = record { own = refl; action = refl; least = refl; most = refl; reading = refl }
+
+is_load_seed : IsOption load_rules load_seed
+unfolding clap_on_literals
+is_load_seed = record { own = refl; action = refl; least = refl; most = refl; reading = refl }
+
+is_load_lines : IsOption load_rules load_lines
+unfolding clap_on_literals
+is_load_lines = record { own = refl; action = refl; least = refl; most = refl; reading = refl }
+
+load_known : (test : Rule → Bool) (a : Rule) → find test load_rules ≡ Some a → IsKnown load_rules a
+unfolding clap_on_literals
+load_known test a is = found_each (IsKnown load_rules) test load_rules a (inl is_load_acceptors, (inl is_load_proposers, (inl is_load_tries, (inl is_load_seed, (inl is_load_lines, (inr refl, tt)))))) is
+
+no_load_places : (place : ℕ) → arg_by_index load_rules place ≡ None
+unfolding clap_on_literals
+no_load_places place = refl
+
+module _ (rows : List Row) (each : Each (Passes load_rules) rows) where
+  abbrev with_one : List Row
+  with_one = with_default rows load_acceptors
+
+  abbrev with_two : List Row
+  with_two = with_default with_one load_proposers
+
+  abbrev with_three : List Row
+  with_three = with_default with_two load_tries
+
+  abbrev with_four : List Row
+  with_four = with_default with_three load_seed
+
+  abbrev with_five : List Row
+  with_five = with_default with_four load_lines
+
+  loads_pass : Each (Passes load_rules) with_five
+  unfolding clap_on_literals
+  loads_pass =
+      default_each load_rules load_lines is_load_lines (codes "1000") refl refl with_four (default_each load_rules load_seed is_load_seed (codes "1") refl refl with_three (default_each load_rules load_tries is_load_tries (codes "1") refl refl with_two
+      (default_each load_rules load_proposers is_load_proposers (codes "1") refl refl with_one (default_each load_rules load_acceptors is_load_acceptors (codes "3") refl refl rows each))))
+
+  -- what is there behind the tries stays
+  stays_there : (wanted : Text) → has_row wanted with_three ≡ true → has_row wanted with_five ≡ true
+  unfolding clap_on_literals
+  stays_there wanted has = default_stays load_rules load_lines (codes "1000") refl wanted with_four (default_stays load_rules load_seed (codes "1") refl wanted with_three has)
+
+  load_has_acceptors : has_row load_acceptors.id with_five ≡ true
+  unfolding clap_on_literals
+  load_has_acceptors = stays_there load_acceptors.id (default_stays load_rules load_tries (codes "1") refl load_acceptors.id with_two (default_stays load_rules load_proposers (codes "1") refl load_acceptors.id with_one (default_there load_rules load_acceptors (codes "3") refl rows)))
+
+  load_has_proposers : has_row load_proposers.id with_five ≡ true
+  unfolding clap_on_literals
+  load_has_proposers = stays_there load_proposers.id (default_stays load_rules load_tries (codes "1") refl load_proposers.id with_two (default_there load_rules load_proposers (codes "1") refl with_one))
+
+  load_has_tries : has_row load_tries.id with_five ≡ true
+  unfolding clap_on_literals
+  load_has_tries = stays_there load_tries.id (default_there load_rules load_tries (codes "1") refl with_two)
+
+  load_has_seed : has_row load_seed.id with_five ≡ true
+  unfolding clap_on_literals
+  load_has_seed = default_stays load_rules load_lines (codes "1000") refl load_seed.id with_four (default_there load_rules load_seed (codes "1") refl with_three)
+
+  load_has_lines : has_row load_lines.id with_five ≡ true
+  unfolding clap_on_literals
+  load_has_lines = default_there load_rules load_lines (codes "1000") refl with_four
+
+  load_numbers : HasOptions with_five × HasDrawing with_five
+  unfolding clap_on_literals
+  load_numbers =
+      let a = read_passes load_rules load_acceptors with_five is_load_acceptors load_has_acceptors loads_pass in
+      let p = read_passes load_rules load_proposers with_five is_load_proposers load_has_proposers loads_pass in
+      let t = read_passes load_rules load_tries with_five is_load_tries load_has_tries loads_pass in
+      let s = read_passes load_rules load_seed with_five is_load_seed load_has_seed loads_pass in
+      let l = read_passes load_rules load_lines with_five is_load_lines load_has_lines loads_pass in (
+        (
+          (a.0, a.1, accepts-Accepts false (Unsigned 1 9) a.0 a.2),
+          (p.0, p.1, accepts-Accepts false (Unsigned 1 16) p.0 p.2),
+          (t.0, t.1, accepts-Accepts false (Unsigned 1 64) t.0 t.2),
+        ),
+        ((s.0, s.1, accepts-Accepts false (Unsigned 0 18446744073709551615) s.0 s.2), (l.0, l.1, accepts-Accepts false (Unsigned 0 100000) l.0 l.2)),
+      )
+
+load_leaf : (words : List Text) → level_fault loading [] nothing_held words false [] ≡ [] → HasCommand (Some (rows_at loading words))
+unfolding clap_on_literals
+load_leaf words none =
+    let end = (walk load_rules [] nothing_held words).held in
+    let parts = neither (walk_fault loading [] (walk_from nothing_held) words) _ none in
+    let settles = neither (settle_fault load_rules loading.args_override_self end) _ parts.1 in
+    let rows = walk_each load_rules load_known loading refl no_load_places [] words (walk_from nothing_held) parts.0 tt in
+    let each = settled_each load_rules load_known loading.args_override_self end settles.0 rows in
+    let last : with_default (with_five (settled load_rules end).rows each) load_help ≡ with_five (settled load_rules end).rows each = default_none load_help (with_five (settled load_rules end).rows each) refl in
+    let both = subst (λ (l : List Row). HasOptions l × HasDrawing l) (sym last) (load_numbers (settled load_rules end).rows each) in
+    (both.0, inr (refl, both.1))
 
 -- ---- the program
 -- the names of its subcommands
-only : (waiting : Waiting) (word name : Text) → subcommand_met (names_of (built casreg)) waiting word ≡ Some name → (name ≡ codes "script") ⊎ (name ≡ codes "help")
+abbrev IsCommand : Text → Type 0
+IsCommand name = (name ≡ codes "script") ⊎ (name ≡ codes "load")
+
+only : (waiting : Waiting) (word name : Text) → subcommand_met (names_of (built casreg)) waiting word ≡ Some name → IsCommand name ⊎ (name ≡ codes "help")
 unfolding clap_on_literals
 only idle word name is = go (find (answers_to word) (names_of (built casreg))) refl is
   where
-    IsOne : Text × List Text → Type 0
-    IsOne n = (n.0 ≡ codes "script") ⊎ (n.0 ≡ codes "help")
-
-    go : (o : Option (Text × List Text)) → find (answers_to word) (names_of (built casreg)) ≡ o → option_map (λ (n : Text × List Text). n.0) o ≡ Some name → (name ≡ codes "script") ⊎ (name ≡ codes "help")
+    go : (o : Option (Text × List Text)) → find (answers_to word) (names_of (built casreg)) ≡ o → option_map (λ (n : Text × List Text). n.0) o ≡ Some name → IsCommand name ⊎ (name ≡ codes "help")
     go None found e = absurd (cc e)
     go (Some n) found e =
-        let one = found_each (λ (n : Text × List Text). (n.0 ≡ codes "script") ⊎ (n.0 ≡ codes "help")) (answers_to word) (names_of (built casreg)) n (inl refl, (inr refl, tt)) found in
+        let one = found_each (λ (n : Text × List Text). IsCommand n.0 ⊎ (n.0 ≡ codes "help")) (answers_to word) (names_of (built casreg)) n (inl (inl refl), (inl (inr refl), (inr refl, tt))) found in
         let same : n.0 ≡ name = cc e in
-        subst (λ (t : Text). (t ≡ codes "script") ⊎ (t ≡ codes "help")) same one
+        subst (λ (t : Text). IsCommand t ⊎ (t ≡ codes "help")) same one
 only (option id) word name is = absurd (cc is)
 only positional word name is = absurd (cc is)
 
@@ -133,14 +261,20 @@ unfolding clap_on_literals
 wanted rows true none = refl
 wanted rows false none = absurd (cc none)
 
-met : (stop : Option (Text × List Text)) → IsNamed (codes "script") stop → is_some (entered (built casreg) stop) ≡ true → (words : List Text) × (stop ≡ Some (codes "script", words))
+met : (stop : Option (Text × List Text)) → IsNamed IsCommand stop → is_some (entered (built casreg) stop) ≡ true → (words : List Text) × ((stop ≡ Some (codes "script", words)) ⊎ (stop ≡ Some (codes "load", words)))
 met None named is = absurd (cc is)
-met (Some p) named is = (p.1, ap (λ (n : Text). Some (n, p.1)) (named p refl))
+met (Some p) named is = (
+  p.1,
+  elim (named p refl) [
+    | inl script ↦ inl (ap (λ (n : Text). Some (n, p.1)) script)
+    | inr load ↦ inr (ap (λ (n : Text). Some (n, p.1)) load)
+  ],
+)
 
--- Where clap finds nothing wrong, the subcommand was met, and each of its options has a number within its bounds.
-pub has_options : (words : List Text) → faults_of words ≡ [] → HasOptions (subcommand_of casreg (command_line words))
+-- Where clap finds nothing wrong, a subcommand was met, and each of its options has a number within its bounds.
+pub has_command : (words : List Text) → faults_of words ≡ [] → HasCommand (subcommand_of casreg (command_line words))
 unfolding clap_on_literals
-has_options words none =
+has_command words none =
     let top = (built casreg).top in
     let stop = (walk top.rules (names_of (built casreg)) nothing_held words).stopped in
     let end = (walk top.rules (names_of (built casreg)) nothing_held words).held in
@@ -149,7 +283,13 @@ has_options words none =
     let enters = neither (entered_fault (built casreg) stop) _ walks.1 in
     let settles = neither (settle_fault top.rules top.args_override_self end) _ enters.1 in
     let defaults = neither (defaults_fault (settled top.rules end).rows top.rules) _ settles.1 in
-    let named = walk_named top (names_of (built casreg)) (codes "script") only refl words (walk_from nothing_held) walks.0 (λ p is. absurd (cc is)) in
+    let named = walk_named top (names_of (built casreg)) IsCommand only refl words (walk_from nothing_held) walks.0 (λ p is. absurd (cc is)) in
     let there = met stop named (wanted (finished top.rules end) has defaults.1) in
-    let below : level_fault taken [] nothing_held there.0 false [] ≡ [] = subst (λ (o : Option (Text × List Text)). entered_fault (built casreg) o ≡ []) there.1 enters.0 in
-    subst (λ (o : Option (Text × List Text)). HasOptions (entered (built casreg) o)) (sym there.1) (leaf there.0 below)
+    elim there.1 [
+      | inl script ↦
+          let below : level_fault taken [] nothing_held there.0 false [] ≡ [] = subst (λ (o : Option (Text × List Text)). entered_fault (built casreg) o ≡ []) script enters.0 in
+          subst (λ (o : Option (Text × List Text)). HasCommand (entered (built casreg) o)) (sym script) (leaf there.0 below)
+      | inr load ↦
+          let below : level_fault loading [] nothing_held there.0 false [] ≡ [] = subst (λ (o : Option (Text × List Text)). entered_fault (built casreg) o ≡ []) load enters.0 in
+          subst (λ (o : Option (Text × List Text)). HasCommand (entered (built casreg) o)) (sym load) (load_leaf there.0 below)
+    ]

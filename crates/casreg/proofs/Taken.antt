@@ -360,9 +360,9 @@ read_passes c a rows known has each =
     (first.0, ap (λ (o : Option Row). option_and_then row_text o) row.1 ∙ first.1, first.2)
 
 -- ---- the subcommand at which a walk stops
--- it has this name, if there is one
-abbrev pub IsNamed : Text → Option (Text × List Text) → Type 0
-IsNamed name stopped = (p : Text × List Text) → stopped ≡ Some p → p.0 ≡ name
+-- its name is one that is wanted, if there is one
+abbrev pub IsNamed : (Text → Type 0) → Option (Text × List Text) → Type 0
+IsNamed IsWanted stopped = (p : Text × List Text) → stopped ≡ Some p → IsWanted p.0
 
 after_step_goes_on : (c : List Rule) (word : Text) (w : Walk) (h : Held) (step : Step) → ((name : Text) → step ≡ subcommand name → ⊥) → w.stopped ≡ None → (after_step c word w h step).stopped ≡ None
 after_step_goes_on c word w h (next waiting) no_sub is = is
@@ -397,11 +397,11 @@ module _ (c : List Rule) (waiting : Waiting) (word : Text) where
       go (Some flags) e = after_flag_is_none _ _ name e
       go None e = plain_is_none h name e
 
-none_named : (wanted : Text) (stopped : Option (Text × List Text)) → stopped ≡ None → IsNamed wanted stopped
-none_named wanted stopped none p is = absurd (cc (none, is))
+none_named : (IsWanted : Text → Type 0) (stopped : Option (Text × List Text)) → stopped ≡ None → IsNamed IsWanted stopped
+none_named IsWanted stopped none p is = absurd (cc (none, is))
 
--- the names of which one is met are that one and `help`, which is refused
-module _ (s : Shape) (names : Names) (wanted : Text) (only : (waiting : Waiting) (word name : Text) → subcommand_met names waiting word ≡ Some name → (name ≡ wanted) ⊎ (name ≡ codes "help")) (helps : s.disable_help_subcommand ≡ false) where
+-- the names of which one is met are the wanted ones and `help`, which is refused
+module _ (s : Shape) (names : Names) (IsWanted : Text → Type 0) (only : (waiting : Waiting) (word name : Text) → subcommand_met names waiting word ≡ Some name → IsWanted name ⊎ (name ≡ codes "help")) (helps : s.disable_help_subcommand ≡ false) where
   help_is_refused : (name : Text) (word : Text) (h : Held) → name ≡ codes "help" → other_fault s (Some name) word h ≡ [] → ⊥
   help_is_refused name word h is none = go (bytes_eq name (codes "help")) s.disable_help_subcommand (bytes_same name (codes "help") is) helps none
     where
@@ -411,33 +411,33 @@ module _ (s : Shape) (names : Names) (wanted : Text) (only : (waiting : Waiting)
       go false b x y e = cc x
 
   other_named : (o : Option Text) (waiting : Waiting) (w : Walk) (word : Text) → subcommand_met names waiting word ≡ o → w.stopped ≡ None → other_fault s o word w.held ≡ []
-      → IsNamed wanted (after_step s.rules word w (subcommand_or_other s.rules o waiting w.position word w.held).0 (subcommand_or_other s.rules o waiting w.position word w.held).1).stopped
+      → IsNamed IsWanted (after_step s.rules word w (subcommand_or_other s.rules o waiting w.position word w.held).0 (subcommand_or_other s.rules o waiting w.position word w.held).1).stopped
   other_named (Some name) waiting w word met open_still none = λ p is.
       let same : p.0 ≡ name = sym (ap (λ (o : Option (Text × List Text)). option_map_or (λ (q : Text × List Text). q.0) o name) is) in
       elim (only waiting word name met) [
-        | inl it ↦ same ∙ it
+        | inl it ↦ subst IsWanted (sym same) it
         | inr help ↦ absurd (help_is_refused name word w.held help none)
       ]
   other_named None waiting w word met open_still none =
       by_test (bytes_eq word (45 ∷ 45 ∷ []))
-      (λ b. IsNamed wanted (after_step s.rules word w (cond b (w.held, trailing w.position) (long_or_other s.rules waiting word (long_of word) w.held)).0 (cond b (w.held, trailing w.position) (long_or_other s.rules waiting word (long_of word) w.held)).1).stopped)
-      (λ on. none_named wanted w.stopped open_still)
-      (λ off. none_named wanted _ (after_step_goes_on s.rules word w _ (long_or_other s.rules waiting word (long_of word) w.held).1 (long_or_other_is_none s.rules waiting word (long_of word) w.held) open_still))
+      (λ b. IsNamed IsWanted (after_step s.rules word w (cond b (w.held, trailing w.position) (long_or_other s.rules waiting word (long_of word) w.held)).0 (cond b (w.held, trailing w.position) (long_or_other s.rules waiting word (long_of word) w.held)).1).stopped)
+      (λ on. none_named IsWanted w.stopped open_still)
+      (λ off. none_named IsWanted _ (after_step_goes_on s.rules word w _ (long_or_other s.rules waiting word (long_of word) w.held).1 (long_or_other_is_none s.rules waiting word (long_of word) w.held) open_still))
 
   word_named : (is_trailing : Bool) (w : Walk) (word : Text) → w.stopped ≡ None → word_fault s names is_trailing w.waiting word w.held ≡ []
-      → IsNamed wanted (after_step s.rules word w (word_met s.rules names is_trailing w.waiting w.position word w.held).0 (word_met s.rules names is_trailing w.waiting w.position word w.held).1).stopped
-  word_named true w word open_still none = none_named wanted _ (after_step_goes_on s.rules word w w.held value (λ name e. cc e) open_still)
+      → IsNamed IsWanted (after_step s.rules word w (word_met s.rules names is_trailing w.waiting w.position word w.held).0 (word_met s.rules names is_trailing w.waiting w.position word w.held).1).stopped
+  word_named true w word open_still none = none_named IsWanted _ (after_step_goes_on s.rules word w w.held value (λ name e. cc e) open_still)
   word_named false w word open_still none = other_named (subcommand_met names w.waiting word) w.waiting w word refl open_still none
 
   walked_named : (stopped : Option (Text × List Text)) (w : Walk) (word : Text) → w.stopped ≡ stopped
       → (if is_some stopped then [] else or_else (word_fault s names w.is_trailing w.waiting word w.held) (step_fault s w.position (word_met s.rules names w.is_trailing w.waiting w.position word w.held).0 (word_met s.rules names w.is_trailing w.waiting w.position word w.held).1)) ≡ []
-      → IsNamed wanted stopped → IsNamed wanted (walked_from s.rules names stopped w word).stopped
+      → IsNamed IsWanted stopped → IsNamed IsWanted (walked_from s.rules names stopped w word).stopped
   walked_named (Some p) w word same none named = λ q is.
-      sym (ap (λ (o : Option (Text × List Text)). option_map_or (λ (x : Text × List Text). x.0) o p.0) is) ∙ named p refl
+      subst IsWanted (ap (λ (o : Option (Text × List Text)). option_map_or (λ (x : Text × List Text). x.0) o p.0) is) (named p refl)
   walked_named None w word same none named =
       word_named w.is_trailing w word same ((neither (word_fault s names w.is_trailing w.waiting word w.held) (step_fault s w.position (word_met s.rules names w.is_trailing w.waiting w.position word w.held).0 (word_met s.rules names w.is_trailing w.waiting w.position word w.held).1) none).0)
 
-  pub walk_named : (words : List Text) (w : Walk) → walk_fault s names w words ≡ [] → IsNamed wanted w.stopped → IsNamed wanted (fold (walked s.rules names) w words).stopped
+  pub walk_named : (words : List Text) (w : Walk) → walk_fault s names w words ≡ [] → IsNamed IsWanted w.stopped → IsNamed IsWanted (fold (walked s.rules names) w words).stopped
   unfolding walked walk_fault
   walk_named [] w none named = named
   walk_named (word ∷ words) w none named =

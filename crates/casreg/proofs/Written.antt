@@ -25,12 +25,13 @@ use Rattle.cas_rack.specs.Store.{acceptor_disks, StaysClosed}
 use Rattle.cas_rack.specs.declared.rack.RackFault.{RackFault}
 use Rattle.cas_rack.specs.declared.rack.Rack.{Rack}
 use Rattle.cas_script.specs.Stage.{Stage}
-use Rattle.casreg.specs.Causes.{AnswersTo, AreFirstLines, WroteIn, EndsIn, IsOfDisk, IsRackOf, Ran, Wrote, not_empty, not_opened, status_of}
+use Rattle.cas_script.specs.declared.load.Load.{Load}
+use Rattle.casreg.specs.Causes.{AnswersTo, AreFirstLines, WroteIn, EndsIn, IsOfDisk, IsRackOf, Ran, Loaded, WroteSummary, Wrote, not_empty, not_opened, status_of, LoadEnds, whole, sink_failed, no_text, broke_off}
 use Rattle.cas_cluster.specs.View.{Meaning}
 use Rattle.cas_script.specs.Script.{State, opening_state, AnswersLine, RanOrNot, not_run, ran, one_more, text_of, transcript_of}
 use Rattle.casreg.specs.Status.{status_of_fault, status_of_rack, status_of_opening}
-use Rattle.casreg.specs.Words.{AreWords}
-use Rattle.casreg.specs.declared.words.Options.{Options}
+use Rattle.casreg.specs.Words.{AreWords, acceptors_of, proposers_of}
+use Rattle.casreg.specs.declared.words.Request.{Request}
 use Rattle.casreg.proofs.Runs.{IsMidway, IsMidwayIn, IsNextLine, appends_both, transcript_more, midway-too_many, midway-endless}
 
 -- what holds of the error holds of the result that has it
@@ -194,11 +195,30 @@ completes_of (Some bytes) status.TooManyLines read wrote u r w ends no_read no_w
 completes_of (Some bytes) status.NoMemory read wrote u r w ends no_read no_write = inr (inl refl)
 completes_of (Some bytes) (status.Endless line) read wrote u r w ends no_read no_write = inl (ap status_of (sym (ends (TooLong line) refl)))
 
+-- and so does a load, which has no input
+pub load_completes_of : (result : Status) → LoadEnds result → (result ≡ status.WriteFault → ⊥) → (result ≡ status.Ok) ⊎ (result ≡ status.NoMemory) ⊎ IsOfDisk result
+load_completes_of status.Ok ends no_write = inl refl
+load_completes_of status.Usage ends no_write = absurd ends
+load_completes_of status.ReadFault ends no_write = absurd ends
+load_completes_of status.WriteFault ends no_write = absurd (no_write refl)
+load_completes_of (status.NotEmpty disk) ends no_write = inr (inr tt)
+load_completes_of (status.DiskFault disk) ends no_write = inr (inr tt)
+load_completes_of status.TooManyLines ends no_write = absurd ends
+load_completes_of status.NoMemory ends no_write = inr (inl refl)
+load_completes_of (status.Endless line) ends no_write = absurd ends
+
+-- the statuses with which a summary is written or not
+pub summed_ends : {S V : Type 0} {meant : Meaning S V} {load : Load} {old new : Option (List ℕ)} {world last : View S V} (result : Status) → WroteSummary meant load old new world last result → LoadEnds result
+summed_ends result (whole summary sums wrote) = tt
+summed_ends result (sink_failed summary sums wrote) = tt
+summed_ends result (no_text summary sums same) = tt
+summed_ends result (broke_off breaks same) = tt
+
 -- a run that ends well ends by the end of its input
 pub ends_whole : (input : Option (List ℕ)) → IfSome input (λ bytes. ending_of bytes ≡ Whole) → (ending : Ending) → status.Ok ≡ status_of ending → IfSome input (λ bytes. ending_of bytes ≡ ending)
-ends_whole input whole Whole is = whole
-ends_whole input whole TooMany is = absurd (cc is)
-ends_whole input whole (TooLong line) is = absurd (cc is)
+ends_whole input ends Whole is = ends
+ends_whole input ends TooMany is = absurd (cc is)
+ends_whole input ends (TooLong line) is = absurd (cc is)
 
 -- ---- the store is taken apart
 pub ran_from : {D : Type 0} (meant : Meaning (DiskShelf D) D) (tells : Type 0) (tries made : ℕ) (P : List (List ℕ) → Type 0) (input old new : Option (List ℕ)) (world closed : View (DiskShelf D) D) (stage : Stage (DiskShelf D) D) (marks : List Mark) (result : Status) (back : Rack D) → made ≡ tries
@@ -214,11 +234,24 @@ ran_from {D} meant tells tries made P input old new world closed stage marks res
       rack = subst (λ (w : View (DiskShelf D) D). IsRackOf w back) same (record { acceptors = acceptors; vaults = vaults });
     }
 
+-- the same of a load
+pub loaded_from : {D : Type 0} (meant : Meaning (DiskShelf D) D) (tells : Type 0) (load : Load) (old new : Option (List ℕ)) (world closed : View (DiskShelf D) D) (marks : List Mark) (result : Status) (back : Rack D) → WroteSummary meant load old new world closed result → marks ≡ closed.marks → (tells → IsLegal (reverse marks))
+    → back.acceptors.items ≡ acceptor_disks closed.acceptors → take (closed.greatest + 1) back.vaults.items ≡ disks_of closed.desks → Loaded meant tells load old new world result back
+loaded_from meant tells load old new world closed marks result back wrote marks_are legal acceptors vaults = record {
+  last = closed;
+  wrote = wrote;
+  legal = λ tell. subst (λ (l : List Mark). IsLegal (reverse l)) marks_are (legal tell);
+  rack = record { acceptors = acceptors; vaults = vaults };
+}
+
 -- ---- nothing was run
 pub wrote_not_empty : {D : Type 0} (meant : Meaning (DiskShelf D) D) (m : RackMeaning D) (words : List (List ℕ)) (P : List (List ℕ) → Type 0) (input old : Option (List ℕ)) (rack back : Rack D) (fault : RackFault) (result : Status) → result ≡ status_of_rack fault → IsNotEmpty m rack fault back
     → Wrote meant m words P input old old rack result back
 wrote_not_empty meant m words P input old rack back fault result is not = subst (λ (s : Status). Wrote meant m words P input old old rack s back) (sym is) (not_empty fault not refl)
 
-pub wrote_not_opened : {D : Type 0} (meant : Meaning (DiskShelf D) D) (m : RackMeaning D) (words : List (List ℕ)) (P : List (List ℕ) → Type 0) (input old : Option (List ℕ)) (rack asked back : Rack D) (options : Options) (fault : OpenFault) (result : Status) → result ≡ status_of_opening fault
-    → AreWords words options → IsAllEmpty m rack asked → StaysClosed m.faults options.acceptors options.proposers asked.acceptors.items asked.vaults.items fault back.acceptors.items back.vaults.items → Wrote meant m words P input old old rack result back
-wrote_not_opened meant m words P input old rack asked back options fault result is are empty closed = subst (λ (s : Status). Wrote meant m words P input old old rack s back) (sym is) (not_opened options fault are empty closed refl)
+pub wrote_not_opened : {D : Type 0} (meant : Meaning (DiskShelf D) D) (m : RackMeaning D) (words : List (List ℕ)) (P : List (List ℕ) → Type 0) (input old : Option (List ℕ)) (rack asked back : Rack D) (request : Request) (fault : OpenFault) (result : Status) (acceptors proposers : ℕ) → acceptors ≡ acceptors_of request → proposers ≡ proposers_of request
+    → result ≡ status_of_opening fault → AreWords words request → IsAllEmpty m rack asked → StaysClosed m.faults acceptors proposers asked.acceptors.items asked.vaults.items fault back.acceptors.items back.vaults.items → Wrote meant m words P input old old rack result back
+wrote_not_opened meant m words P input old rack asked back request fault result acceptors proposers are_acceptors are_proposers is are empty closed =
+    let by_acceptors = subst (λ (n : ℕ). StaysClosed m.faults n proposers asked.acceptors.items asked.vaults.items fault back.acceptors.items back.vaults.items) are_acceptors closed in
+    let by_both = subst (λ (n : ℕ). StaysClosed m.faults (acceptors_of request) n asked.acceptors.items asked.vaults.items fault back.acceptors.items back.vaults.items) are_proposers by_acceptors in
+    subst (λ (s : Status). Wrote meant m words P input old old rack s back) (sym is) (not_opened request fault are empty by_both refl)

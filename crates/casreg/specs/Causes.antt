@@ -22,7 +22,14 @@ use Rattle.casreg.specs.declared.status.Status.{Status}
 use Rattle.casreg.specs.declared.status.Status.TheVariants as status
 use Rattle.casreg.specs.declared.words.Options.{Options}
 use Rattle.casreg.specs.Status.{status_of_rack, status_of_opening}
-use Rattle.casreg.specs.Words.{AreWords}
+use Rattle.cas_lines.specs.Sink.{AppendsFront}
+use Rattle.cas_lines.specs.Summary.{summary_line}
+use Rattle.cas_lines.specs.declared.summary.Summary.{Summary}
+use Rattle.cas_script.specs.Load.{SumsUp, BreaksOff}
+use Rattle.cas_script.specs.declared.load.Load.{Load}
+use Rattle.casreg.specs.declared.words.Request.{Request}
+use Rattle.casreg.specs.declared.words.Request.TheVariants as request
+use Rattle.casreg.specs.Words.{AreWords, acceptors_of, proposers_of}
 
 -- ---- causes
 -- the status of a run that nothing hinders, by where its input ends
@@ -30,6 +37,18 @@ abbrev pub status_of : Ending → Status
 status_of Whole = status.Ok
 status_of TooMany = status.TooManyLines
 status_of (TooLong line) = status.Endless line
+
+-- the statuses of a load that opened, or whose disks were not empty or failed
+abbrev pub LoadEnds : Status → Type 0
+LoadEnds status.Ok = ⊤
+LoadEnds status.Usage = ⊥
+LoadEnds status.ReadFault = ⊥
+LoadEnds status.WriteFault = ⊤
+LoadEnds (status.NotEmpty disk) = ⊤
+LoadEnds (status.DiskFault disk) = ⊤
+LoadEnds status.TooManyLines = ⊥
+LoadEnds status.NoMemory = ⊤
+LoadEnds (status.Endless line) = ⊥
 
 -- a status that names a disk
 abbrev pub IsOfDisk : Status → Type 0
@@ -39,16 +58,18 @@ IsOfDisk other = ⊥
 
 -- a status by the words, the input where its source tells it, and the faults of source and sink before and after
 pub record Causes (words : List (List ℕ)) (input : Option (List ℕ)) (source_old source_new sink_old sink_new : ℕ) (result : Status) : Type 0 where
-  pub usage : result ≡ status.Usage → (options : Options) → AreWords words options → ⊥
-  pub no_words : ((options : Options) → AreWords words options → ⊥) → (result ≡ status.Usage) ⊎ (result ≡ status.NoMemory)
+  pub usage : result ≡ status.Usage → (request : Request) → AreWords words request → ⊥
+  pub no_words : ((request : Request) → AreWords words request → ⊥) → (result ≡ status.Usage) ⊎ (result ≡ status.NoMemory)
   pub read_fault : result ≡ status.ReadFault → Rose source_old source_new
   pub write_fault : result ≡ status.WriteFault → Rose sink_old sink_new
-  -- 0, 7 and 9 come by where the input ends alone
-  pub ends : (ending : Ending) → result ≡ status_of ending → IfSome input (λ bytes. ending_of bytes ≡ ending)
+  -- of a script 0, 7 and 9 come by where the input ends alone
+  pub ends : (options : Options) → AreWords words (request.Script options) → (ending : Ending) → result ≡ status_of ending → IfSome input (λ bytes. ending_of bytes ≡ ending)
   -- with the right words and no fault of source and sink one of these comes, unless there is no memory, or a disk is not empty or fails
   -- as the store is opened
-  pub completes : (options : Options) → AreWords words options → (Rose source_old source_new → ⊥) → (Rose sink_old sink_new → ⊥)
+  pub completes : (options : Options) → AreWords words (request.Script options) → (Rose source_old source_new → ⊥) → (Rose sink_old sink_new → ⊥)
       → IfSome input (λ bytes. (result ≡ status_of (ending_of bytes)) ⊎ (result ≡ status.NoMemory) ⊎ IsOfDisk result)
+  -- and so does 0 of a load, which reads nothing
+  pub load_completes : (load : Load) → AreWords words (request.Load load) → (Rose sink_old sink_new → ⊥) → (result ≡ status.Ok) ⊎ (result ≡ status.NoMemory) ⊎ IsOfDisk result
 
 -- ---- disks
 -- the disk of that number: those of acceptors are numbered from 0 on, and those of vaults from 64 on
@@ -123,12 +144,12 @@ pub record EndsIn {S V : Type 0} (meant : Meaning S V) (tries : ℕ) (HadEnded :
 -- ---- the world of a run
 -- A world of so many acceptors and proposers in which nothing has happened, over the disks of a rack: each acceptor and each proposer on
 -- the disk at the place of its number, of which those of the members and of the proposers were started.
-pub record IsNewOver {D : Type 0} (meant : Meaning (DiskShelf D) D) (options : Options) (rack : Rack D) (world : View (DiskShelf D) D) : Type 0 where
-  pub opening : IsOpening meant (members_to options.acceptors) world
+pub record IsNewOver {D : Type 0} (meant : Meaning (DiskShelf D) D) (acceptors proposers : ℕ) (rack : Rack D) (world : View (DiskShelf D) D) : Type 0 where
+  pub opening : IsOpening meant (members_to acceptors) world
   pub places : HasPlaces world
-  pub greatest : world.greatest ≡ options.proposers
-  pub acceptors : AreReached meant.disks.faults 1 (options.acceptors + 1) rack.acceptors.items (acceptor_disks world.acceptors)
-  pub vaults : AreDesksBelow meant.disks meant.disks.faults rack.vaults.items (options.proposers + 1) world.desks
+  pub greatest : world.greatest ≡ proposers
+  pub shelves : AreReached meant.disks.faults 1 (acceptors + 1) rack.acceptors.items (acceptor_disks world.acceptors)
+  pub vaults : AreDesksBelow meant.disks meant.disks.faults rack.vaults.items (proposers + 1) world.desks
 
 -- the rack that comes back holds the disks of the world, each at its place
 pub record IsRackOf {D : Type 0} (world : View (DiskShelf D) D) (rack : Rack D) : Type 0 where
@@ -143,6 +164,23 @@ pub record Ran {D : Type 0} (meant : Meaning (DiskShelf D) D) (tells : Type 0) (
   pub legal : tells → IsLegal (reverse last.world.marks)
   pub rack : IsRackOf last.world back
 
+-- ---- a load
+-- What a load wrote that ran from this world to that one: the summary of its answers, or a front of it where the sink failed or there was no
+-- memory. Where memory failed before the end of the load nothing was written.
+pub data WroteSummary {S V : Type 0} (meant : Meaning S V) (load : Load) (old new : Option (List ℕ)) (world last : View S V) : Status → Type 0 where
+  whole : (summary : Summary) → SumsUp meant load world summary last → Appends old new (summary_line summary) → WroteSummary meant load old new world last status.Ok
+  sink_failed : (summary : Summary) → SumsUp meant load world summary last → AppendsFront old new (summary_line summary) → WroteSummary meant load old new world last status.WriteFault
+  no_text : (summary : Summary) → SumsUp meant load world summary last → new ≡ old → WroteSummary meant load old new world last status.NoMemory
+  broke_off : BreaksOff meant load world last → new ≡ old → WroteSummary meant load old new world last status.NoMemory
+
+-- what a load wrote that ran from this world on, whose record was legal then, where disks tell what they keep, and the rack that comes back
+pub record Loaded {D : Type 0} (meant : Meaning (DiskShelf D) D) (tells : Type 0) (load : Load) (old new : Option (List ℕ)) (world : View (DiskShelf D) D) (result : Status) (back : Rack D) : Type 0 where
+  pub last : View (DiskShelf D) D
+  pub wrote : WroteSummary meant load old new world last result
+  pub legal : tells → IsLegal (reverse last.marks)
+  pub rack : IsRackOf last back
+
+-- ---- a script along its lines
 -- Along the run whose answers, or a front of them, were written, each change line that nothing stood against was answered done, or that
 -- there was no memory, where the members and its proposer were up after it.
 abbrev pub AreDoneAlong : {D : Type 0} {meant : Meaning (DiskShelf D) D} {tells : Type 0} {tries : ℕ} {HadEnded : List (List ℕ) → Type 0} {input old new : Option (List ℕ)} {world : View (DiskShelf D) D} {back : Rack D} (result : Status) → Ran meant tells tries HadEnded input old new world result back → Type 0
@@ -158,13 +196,15 @@ AreDoneAlong {meant = meant} (status.Endless line) by = AreDoneWhereReady meant 
 
 -- ---- all of it
 -- What was written by the end, and the rack that comes back: nothing, where the words are none of a command, where there was no memory,
--- where a disk is not known to be empty, or where the store did not open; or what a run wrote, from a new world over the rack on to one
--- whose record is legal, and along which was done what nothing stood against.
+-- where a disk is not known to be empty, or where the store did not open; or what a script or a load wrote, from a new world over the rack on
+-- to one whose record is legal, and along a script was done what nothing stood against.
 pub data Wrote {D : Type 0} (meant : Meaning (DiskShelf D) D) (m : RackMeaning D) (words : List (List ℕ)) (HadEnded : List (List ℕ) → Type 0) (input old new : Option (List ℕ)) (rack : Rack D) : Status → Rack D → Type 0 where
   wrong_words : new ≡ old → Wrote meant m words HadEnded input old new rack status.Usage rack
   no_words_read : new ≡ old → Wrote meant m words HadEnded input old new rack status.NoMemory rack
   not_empty : {back : Rack D} (fault : RackFault) → IsNotEmpty m rack fault back → new ≡ old → Wrote meant m words HadEnded input old new rack (status_of_rack fault) back
-  not_opened : {asked back : Rack D} (options : Options) (fault : OpenFault) → AreWords words options → IsAllEmpty m rack asked
-      → StaysClosed m.faults options.acceptors options.proposers asked.acceptors.items asked.vaults.items fault back.acceptors.items back.vaults.items → new ≡ old → Wrote meant m words HadEnded input old new rack (status_of_opening fault) back
-  ran : {asked back : Rack D} {result : Status} (options : Options) (world : View (DiskShelf D) D) → AreWords words options → IsAllEmpty m rack asked → IsNewOver meant options asked world
+  not_opened : {asked back : Rack D} (request : Request) (fault : OpenFault) → AreWords words request → IsAllEmpty m rack asked
+      → StaysClosed m.faults (acceptors_of request) (proposers_of request) asked.acceptors.items asked.vaults.items fault back.acceptors.items back.vaults.items → new ≡ old → Wrote meant m words HadEnded input old new rack (status_of_opening fault) back
+  ran : {asked back : Rack D} {result : Status} (options : Options) (world : View (DiskShelf D) D) → AreWords words (request.Script options) → IsAllEmpty m rack asked → IsNewOver meant options.acceptors options.proposers asked world
       → (by : Ran meant m.tells options.tries HadEnded input old new world result back) → AreDoneAlong result by → Wrote meant m words HadEnded input old new rack result back
+  loaded : {asked back : Rack D} {result : Status} (load : Load) (world : View (DiskShelf D) D) → AreWords words (request.Load load) → IsAllEmpty m rack asked → IsNewOver meant load.acceptors load.proposers asked world
+      → Loaded meant m.tells load old new world result back → Wrote meant m words HadEnded input old new rack result back

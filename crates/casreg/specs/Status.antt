@@ -37,4 +37,6 @@ status_of_rack rack.NoMemory = status.NoMemory
 -- how a run ends whose store was not opened
 abbrev pub status_of_opening : OpenFault → Status
 status_of_opening (opening.DiskFault disk) = status.DiskFault disk
+status_of_opening (opening.Foreign disk at) = status.NotEmpty disk
+status_of_opening (opening.Spent disk) = status.NotEmpty disk
 status_of_opening opening.NoMemory = status.NoMemory

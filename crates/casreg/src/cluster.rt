@@ -9,30 +9,35 @@ ghost use Rattle.cas_cluster.specs.View.{meaning};
 ghost use Rattle.cas_rack.specs.Rack.{rack_meaning};
 ghost use Rattle.cas_script.specs.Script.{State, IsIn};
 ghost use Rattle.cas_script.specs.Stage.{AllIdle};
-ghost use Rattle.casreg.specs.Causes.{AreDisksToBlame, Causes, EndsIn, Ran, Wrote, status_of};
-ghost use Rattle.casreg.specs.Words.{AreWords, IsInRange};
+ghost use Rattle.casreg.specs.Causes.{AreDisksToBlame, Causes, EndsIn, LoadEnds, Ran, Wrote, status_of};
+ghost use Rattle.cas_script.specs.declared.load.Load.{Load as ALoad};
+ghost use Rattle.casreg.specs.Words.{AreWords, AreOptionsInRange, IsInRange, acceptors_of, proposers_of};
+ghost use Rattle.casreg.specs.declared.words.Options.{Options as ScriptOptions};
 
+use crate::load::load_store;
 use crate::status::Status;
-use crate::words::{Options, read_words};
+use crate::words::{Options, Request, read_words};
 use cas_disk::Disk;
 use cas_disk_shelf::DiskShelf;
 use cas_lines::lines::Lines;
 use cas_lines::sink::{Sink, put_all};
 use cas_lines::source::Source;
 use cas_rack::{Rack, Store};
-use cas_script::Script;
+use cas_script::{Load, Script};
 use cas_slot::Shelf;
 use cas_world::Config;
 use std::alloc::{AllocError, Global};
 
-/// Runs the command that the words name over the source's lines, and writes the answer to each line before it reads on. The rack, which
-/// has 64 disks of acceptors and 17 of vaults, comes back with the same disks in their places.
+/// Runs the command that the words name. A script runs over the source's lines, and the answer to each line is written before it reads on; a
+/// load reads nothing, runs lines that it draws, and writes the summary of their answers. The rack, which has 64 disks of acceptors and 17 of
+/// vaults, comes back with the same disks in their places.
 ///
-/// The words are read by clap: `script`, with the options `--acceptors` (1 to 9, or 3 where it is not given), `--proposers` (1 to 16, or
-/// 1) and `--tries` (1 to 64, or 1). Then all disks are asked for their lengths in the order of their numbers, and each must be empty.
-/// Then the members' and the proposers' disks are started in that order. A line asks for a change or for an event, is a remark, which has
-/// no answer, or is answered as bad, with the reason. The statuses say how the run ended: [`Status::NotEmpty`] comes only of a disk that was
-/// not empty, where disks tell what they keep, and [`Status::DiskFault`] only of one whose count of faults rose.
+/// The words are read by clap: `script` or `load`, with the options `--acceptors` (1 to 9, or 3 where it is not given), `--proposers` (1 to
+/// 16, or 1) and `--tries` (1 to 64, or 1), and of `load` `--seed` (any `u64`, or 1) and `--lines` (up to 100,000, or 1,000). Then all disks
+/// are asked for their lengths in the order of their numbers, and each must be empty. Then the members' and the proposers' disks are started
+/// in that order. A line of a script asks for a change or for an event, is a remark, which has no answer, or is answered as bad, with the
+/// reason. The statuses say how the run ended: [`Status::NotEmpty`] comes only of a disk that was not empty, where disks tell what they keep,
+/// and [`Status::DiskFault`] only of one whose count of faults rose.
 pub fn cluster<R, S: Source, K: Sink, D: Disk + Drop>(
     _rt: &R,
     alloc: Global,
@@ -43,58 +48,87 @@ pub fn cluster<R, S: Source, K: Sink, D: Disk + Drop>(
 ) -> (Status, Rack<D>)
     requires acceptors { vec_len rack.acceptors ≡ 64 }
     requires vaults { vec_len rack.vaults ≡ 17 }
-    // What was written is the transcript of a script run over the lines of the input, in a new world over the rack's disks; the record of
+    // Of a script, what was written is the transcript of a script run over the lines of the input, in a new world over the rack's disks; the record of
     // that run is legal, along it each change line that nothing stood against was answered done, or that there was no memory, where the
     // members and its proposer were up after it, and the rack that comes back holds the disks of its last world. Where the source failed
-    // these are all lines that had ended by then, and no others.
+    // these are all lines that had ended by then, and no others. Of a load, what was written is the summary of the answers of the load run
+    // over the lines that its seed draws, in a new world over the rack's disks; the record of that run is legal, and the rack that comes back
+    // holds the disks of its last world.
     ensures wrote { Wrote (meaning ⟦<DiskShelf<D> as Shelf>⟧.contents ⟦<DiskShelf<D> as Shelf>⟧.tells ⟦<DiskShelf<D> as Shelf>⟧.may_leave ⟦<DiskShelf<D> as Shelf>⟧.fault_count D.tells D.may_leave D.fault_count) (rack_meaning D.tells D.seen D.may_leave D.fault_count)
         (map string_bytes words.now) (FailsBehind S.take_gives source.old source.new) (S.remaining source.old) (K.contents sink.old) (K.contents sink.new) rack result.0 result.1 }
     ensures causes { Causes (map string_bytes words.now) (S.remaining source.old)
         (S.faults_of source.old) (S.faults_of source.new) (K.faults_of sink.old) (K.faults_of sink.new) result.0 }
     ensures disks { AreDisksToBlame (rack_meaning D.tells D.seen D.may_leave D.fault_count) rack result.1 result.0 }
-    ensures read { result.0 ≡ Status.Ok → IsAtEnd (S.remaining source.new) }
+    ensures read { (options : ScriptOptions) → AreWords (map string_bytes words.now) (Request.Script options) → result.0 ≡ Status.Ok → IsAtEnd (S.remaining source.new) }
+    ensures unread { (load : ALoad) → AreWords (map string_bytes words.now) (Request.Load load) → source.new ≡ source.old }
     ensures untouched { result.0 ≡ Status.Usage → (source.new ≡ source.old) × (sink.new ≡ sink.old) × (result.1 ≡ rack) }
     ensures all_acceptors { vec_len result.1.acceptors ≡ 64 }
     ensures all_vaults { vec_len result.1.vaults ≡ 17 }
 {
     match read_words(alloc, words) {
-        Ok(Some(options)) => run(alloc, options, source, sink, rack),
+        Ok(Some(request)) => run(alloc, request, source, sink, rack),
         Ok(None) => (Status::Usage, rack),
         Err(AllocError) => (Status::NoMemory, rack),
     }
 }
 
-/// Runs a script with these options over the rack.
+/// Runs what was asked for over the rack.
 fn run<S: Source, K: Sink, D: Disk + Drop>(
     alloc: Global,
-    options: Options,
+    request: Request,
     source: &mut S,
     sink: &mut K,
     mut rack: Rack<D>,
 ) -> (Status, Rack<D>)
     requires acceptors { vec_len rack.acceptors ≡ 64 }
     requires vaults { vec_len rack.vaults ≡ 17 }
-    requires range { IsInRange options }
-    ensures wrote { (words : List (List ℕ)) → AreWords words options → Wrote (meaning ⟦<DiskShelf<D> as Shelf>⟧.contents ⟦<DiskShelf<D> as Shelf>⟧.tells ⟦<DiskShelf<D> as Shelf>⟧.may_leave ⟦<DiskShelf<D> as Shelf>⟧.fault_count D.tells D.may_leave D.fault_count) (rack_meaning D.tells D.seen D.may_leave D.fault_count)
+    requires range { IsInRange request }
+    ensures wrote { (words : List (List ℕ)) → AreWords words request → Wrote (meaning ⟦<DiskShelf<D> as Shelf>⟧.contents ⟦<DiskShelf<D> as Shelf>⟧.tells ⟦<DiskShelf<D> as Shelf>⟧.may_leave ⟦<DiskShelf<D> as Shelf>⟧.fault_count D.tells D.may_leave D.fault_count) (rack_meaning D.tells D.seen D.may_leave D.fault_count)
         words (FailsBehind S.take_gives source.old source.new) (S.remaining source.old) (K.contents sink.old) (K.contents sink.new) rack result.0 result.1 }
     ensures usage { result.0 ≢ Status.Usage }
     ensures read_fault { result.0 ≡ Status.ReadFault → Rose (S.faults_of source.old) (S.faults_of source.new) }
     ensures write_fault { result.0 ≡ Status.WriteFault → Rose (K.faults_of sink.old) (K.faults_of sink.new) }
-    ensures ends { (ending : Ending) → result.0 ≡ status_of ending → IfSome (S.remaining source.old) (λ input. ending_of input ≡ ending) }
-    ensures read { result.0 ≡ Status.Ok → IsAtEnd (S.remaining source.new) }
+    ensures ends { (options : ScriptOptions) → request ≡ Request.Script options → (ending : Ending) → result.0 ≡ status_of ending → IfSome (S.remaining source.old) (λ input. ending_of input ≡ ending) }
+    ensures read { (options : ScriptOptions) → request ≡ Request.Script options → result.0 ≡ Status.Ok → IsAtEnd (S.remaining source.new) }
+    ensures loads { (load : ALoad) → request ≡ Request.Load load → (source.new ≡ source.old) × LoadEnds result.0 }
     ensures all_acceptors { vec_len result.1.acceptors ≡ 64 }
     ensures all_vaults { vec_len result.1.vaults ≡ 17 }
 {
     if let Err(fault) = rack.expect_empty() {
         return (Status::from(fault), rack);
     }
-    let config = Config {
-        acceptors: options.acceptors,
-        proposers: options.proposers,
-    };
-    match Store::open(alloc, config, rack) {
-        Ok(store) => run_script(alloc, options, source, sink, store),
+    match Store::open(alloc, config_of(request), rack) {
+        Ok(store) => match request {
+            Request::Script(options) => run_script(alloc, options, source, sink, store),
+            Request::Load(load) => load_store(alloc, load, sink, store),
+        },
         Err((fault, rack)) => (Status::from(fault), rack),
+    }
+}
+
+/// How large a cluster is asked for.
+fn config_of(request: Request) -> Config
+    ensures acceptors { result.acceptors ≡ acceptors_of request }
+    ensures proposers { result.proposers ≡ proposers_of request }
+{
+    match request {
+        Request::Script(
+            Options {
+                acceptors,
+                proposers,
+                ..
+            },
+        )
+        | Request::Load(
+            Load {
+                acceptors,
+                proposers,
+                ..
+            },
+        ) => Config {
+            acceptors,
+            proposers,
+        },
     }
 }
 
@@ -106,7 +140,7 @@ fn run_script<S: Source, K: Sink, D: Disk + Drop>(
     sink: &mut K,
     store: Store<D>,
 ) -> (Status, Rack<D>)
-    requires range { IsInRange options }
+    requires range { AreOptionsInRange options }
     requires known { store.world.greatest ≡ options.proposers }
     requires idle { AllIdle store.world }
     requires quiet { IsAtRest store.world.council }

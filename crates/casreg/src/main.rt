@@ -6,6 +6,7 @@
 ghost use Rattle.std.specs.Prelude.{◌≡◌, vec_len, IfOk};
 
 mod cluster;
+mod load;
 mod status;
 #[cfg(test)]
 mod tests;

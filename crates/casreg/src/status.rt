@@ -95,6 +95,8 @@ impl From<OpenFault> for Status {
     fn from(fault: OpenFault) -> Status {
         match fault {
             OpenFault::DiskFault { disk } => Status::DiskFault { disk },
+            OpenFault::Foreign { disk, at: _ } => Status::NotEmpty { disk },
+            OpenFault::Spent { disk } => Status::NotEmpty { disk },
             OpenFault::NoMemory => Status::NoMemory,
         }
     }

@@ -177,9 +177,9 @@ fn limits_words_and_lines(rt: HostRuntime) -> Result<(), Fail> {
     for (front, letters, status, written) in [
         ("1 get ", 64, Status::Ok, "1: done empty at 1.1\n"),
         ("1 get ", 65, Status::Ok, "bad 1 too long\n"),
-        ("1 set a ", 201, Status::Ok, "bad 1 too long\n"),
-        ("#", 4_095, Status::Ok, ""),
-        ("#", 4_096, Status::Ok, "bad 1 too long\n"),
+        ("1 set a ", 4_001, Status::Ok, "bad 1 too long\n"),
+        ("#", 16_383, Status::Ok, ""),
+        ("#", 16_384, Status::Ok, "bad 1 too long\n"),
         ("#", 65_535, Status::Ok, "bad 1 too long\n"),
         (
             "1 get a\n#",
@@ -197,9 +197,9 @@ fn limits_words_and_lines(rt: HostRuntime) -> Result<(), Fail> {
             "{front} and {letters}"
         );
     }
-    let input = with_letters(rt.alloc(), b"1 set a ", 200)?;
+    let input = with_letters(rt.alloc(), b"1 set a ", 4_000)?;
     let run = run(&rt, SCRIPT, &input, FINE)?;
-    let mut want = with_letters(rt.alloc(), b"1: done v0 text ", 200)?;
+    let mut want = with_letters(rt.alloc(), b"1: done v0 text ", 4_000)?;
     want.extend_from_slice(b" at 1.1\n")?;
     assert_eq!(rt; run.written.as_slice(), want.as_slice());
     Ok(())

@@ -1,13 +1,14 @@
 //! The words of the command line.
 
-ghost use Rattle.std.specs.Prelude.{◌≡◌, ◌≢◌, ◌≤◌, ◌∷◌, [], false, map, string_bytes, codes, IfOk, IfSome, MatchOption, Some, option_map};
+ghost use Rattle.std.specs.Prelude.{◌≡◌, ◌≢◌, ◌≤◌, ◌∷◌, [], ℕ, false, map, string_bytes, codes, IfOk, IfSome, MatchOption, Some, option_map};
 ghost use Rattle.clap.specs.Matches.{found_of};
 ghost use Rattle.clap.specs.Simple.{app_of, subcommand_rows_of};
 ghost use Rattle.clap.specs.Walk.{one_of, rows_of, rule_of};
 ghost use Rattle.clap.specs.declared.builder.command.Command.TheViews.{out-Command};
-ghost use Rattle.casreg.specs.Words.{option_of, script, casreg, command_line, faults_of, number_in, IsNumberIn, HasOptions, HasNumbers, AreWords, IsInRange};
-ghost use Rattle.casreg.specs.declared.words.Options.{Options};
+ghost use Rattle.casreg.specs.Words.{option_of, over_cluster, script, load, casreg, command_line, faults_of, number_in, IsNumberIn, HasOptions, HasDrawing, HasCommand, AsksFor, AreWords, AreOptionsInRange, IsLoadInRange, IsInRange};
+ghost use Rattle.casreg.specs.declared.words.Request.{Request as ARequest};
 
+use cas_script::Load;
 use clap::builder::ValueParser;
 use clap::error::ErrorKind;
 use clap::{Arg, ArgAction, ArgMatches, Command, value_parser};
@@ -24,31 +25,56 @@ pub struct Options {
     pub tries: u8,
 }
 
-/// What the words ask for: the command `script`, whose options `--acceptors` (1 to 9, or 3 where it is not given), `--proposers` (1
-/// to 16, or 1) and `--tries` (1 to 64, or 1) may stand once each, in any order. `None` comes exactly where the words are none of a
-/// command; a request for help is none. Only memory can fail.
-pub fn read_words(alloc: Global, words: &[String]) -> Result<Option<Options>, AllocError>
-    ensures words { IfOk result (λ options. MatchOption options (faults_of (map string_bytes words.now) ≢ []) (AreWords (map string_bytes words.now))) }
-    ensures range { IfOk result (λ options. IfSome options IsInRange) }
+/// What the words ask for.
+#[derive(Clone, Copy, Debug, PartialEq, Eq)]
+pub enum Request {
+    /// `script`: to run the lines of the input.
+    Script(Options),
+    /// `load`: to run lines that are drawn.
+    Load(Load),
+}
+
+/// What the words ask for: the command `script` or `load`, whose options `--acceptors` (1 to 9, or 3 where it is not given),
+/// `--proposers` (1 to 16, or 1) and `--tries` (1 to 64, or 1), and of `load` `--seed` (any `u64`, or 1) and `--lines` (up to 100,000,
+/// or 1,000), may stand once each, in any order. `None` comes exactly where the words are none of a command; a request for help is none.
+/// Only memory can fail.
+pub fn read_words(alloc: Global, words: &[String]) -> Result<Option<Request>, AllocError>
+    ensures words { IfOk result (λ request. MatchOption request (faults_of (map string_bytes words.now) ≢ []) (AreWords (map string_bytes words.now))) }
+    ensures range { IfOk result (λ request. IfSome request IsInRange) }
     // There are no two readings of the words.
-    ensures only { IfOk result (λ options. (other : Options) → AreWords (map string_bytes words.now) other → options ≡ Some other) }
+    ensures only { IfOk result (λ request. (other : ARequest) → AreWords (map string_bytes words.now) other → request ≡ Some other) }
 {
     let line = with_name(alloc, words)?;
     let command = casreg(alloc)?;
     match command.try_get_matches_from(&line) {
-        Ok(matches) => Ok(Some(options_of(&matches))),
+        Ok(matches) => Ok(Some(request_of(&matches))),
         Err(error) if error.kind() == ErrorKind::OutOfMemory => Err(AllocError),
         Err(_error) => Ok(None),
     }
 }
 
-/// The options of the subcommand that a parse met.
-fn options_of(matches: &ArgMatches<'_>) -> Options
-    requires { HasOptions (subcommand_rows_of matches.now) }
-    ensures numbers { HasNumbers (subcommand_rows_of matches.now) result }
+/// What the subcommand asks for that a parse met.
+fn request_of(matches: &ArgMatches<'_>) -> Request
+    requires { HasCommand (subcommand_rows_of matches.now) }
+    ensures asks { AsksFor (subcommand_rows_of matches.now) result }
     ensures range { IsInRange result }
 {
-    let (_name, given) = matches.subcommand().unwrap();
+    let (name, given) = matches.subcommand().unwrap();
+    if name == "load" {
+        Request::Load(load_of(given))
+    } else {
+        Request::Script(options_of(given))
+    }
+}
+
+/// The options of `script`.
+fn options_of(given: &ArgMatches<'_>) -> Options
+    requires { HasOptions (rows_of (found_of given.now)) }
+    ensures acceptors { option_map number_in (one_of (codes "acceptors") (rows_of (found_of given.now))) ≡ Some result.acceptors }
+    ensures proposers { option_map number_in (one_of (codes "proposers") (rows_of (found_of given.now))) ≡ Some result.proposers }
+    ensures tries { option_map number_in (one_of (codes "tries") (rows_of (found_of given.now))) ≡ Some result.tries }
+    ensures range { AreOptionsInRange result }
+{
     Options {
         acceptors: number_of(given, "acceptors", 9),
         proposers: number_of(given, "proposers", 16),
@@ -56,9 +82,51 @@ fn options_of(matches: &ArgMatches<'_>) -> Options
     }
 }
 
+/// The options of `load`.
+fn load_of(given: &ArgMatches<'_>) -> Load
+    requires options { HasOptions (rows_of (found_of given.now)) }
+    requires drawing { HasDrawing (rows_of (found_of given.now)) }
+    ensures acceptors { option_map number_in (one_of (codes "acceptors") (rows_of (found_of given.now))) ≡ Some result.acceptors }
+    ensures proposers { option_map number_in (one_of (codes "proposers") (rows_of (found_of given.now))) ≡ Some result.proposers }
+    ensures tries { option_map number_in (one_of (codes "tries") (rows_of (found_of given.now))) ≡ Some result.tries }
+    ensures seed { option_map number_in (one_of (codes "seed") (rows_of (found_of given.now))) ≡ Some result.seed }
+    ensures lines { option_map number_in (one_of (codes "lines") (rows_of (found_of given.now))) ≡ Some result.lines }
+    ensures range { IsLoadInRange result }
+{
+    let Options {
+        acceptors,
+        proposers,
+        tries,
+    } = options_of(given);
+    Load {
+        acceptors,
+        proposers,
+        tries,
+        seed: seed_of(given),
+        lines: lines_of(given),
+    }
+}
+
+/// The seed that a load has.
+fn seed_of(given: &ArgMatches<'_>) -> u64
+    requires { IsNumberIn 0 18446744073709551615 (one_of (codes "seed") (rows_of (found_of given.now))) }
+    ensures { option_map number_in (one_of (codes "seed") (rows_of (found_of given.now))) ≡ Some result }
+{
+    given.get_one("seed").unwrap()
+}
+
+/// How many lines a load has.
+fn lines_of(given: &ArgMatches<'_>) -> u32
+    requires { IsNumberIn 0 100000 (one_of (codes "lines") (rows_of (found_of given.now))) }
+    ensures number { option_map number_in (one_of (codes "lines") (rows_of (found_of given.now))) ≡ Some result }
+    ensures few { result ≤ 100000 }
+{
+    given.get_one("lines").unwrap()
+}
+
 /// The number that an option has, which is from 1 to this one.
 fn number_of(given: &ArgMatches<'_>, name: &str, most: u8) -> u8
-    requires { IsNumberIn most (one_of name.now (rows_of (found_of given.now))) }
+    requires { IsNumberIn 1 most (one_of name.now (rows_of (found_of given.now))) }
     ensures number { option_map number_in (one_of name.now (rows_of (found_of given.now))) ≡ Some result }
     ensures some { 1 ≤ result }
     ensures few { result ≤ most }
@@ -83,7 +151,7 @@ fn casreg<'a>(alloc: Global) -> Result<Command<'a>, AllocError>
     ensures { IfOk result (λ command. app_of command ≡ casreg) }
 {
     let bare = Command::new(alloc, "casreg").subcommand_required(true);
-    bare.subcommand(script(alloc)?)
+    bare.subcommand(script(alloc)?)?.subcommand(load(alloc)?)
 }
 
 /// The subcommand `script`.
@@ -91,10 +159,33 @@ fn script<'a>(alloc: Global) -> Result<Command<'a>, AllocError>
     ensures app { IfOk result (λ command. app_of command ≡ script) }
     ensures local { IfOk result (λ command. (out-Command command).has_globals ≡ false) }
 {
+    over_cluster(alloc, "script")
+}
+
+/// The subcommand `load`.
+fn load<'a>(alloc: Global) -> Result<Command<'a>, AllocError>
+    ensures app { IfOk result (λ command. app_of command ≡ load) }
+    ensures local { IfOk result (λ command. (out-Command command).has_globals ≡ false) }
+{
+    let seed = option_of(alloc, "seed", value_parser!(u64), "1");
+    let lines = option_of(
+        alloc,
+        "lines",
+        value_parser!(u64).range(0..=100_000),
+        "1000",
+    );
+    over_cluster(alloc, "load")?.arg(seed)?.arg(lines)
+}
+
+/// A subcommand of this name, with the options of a cluster.
+fn over_cluster<'a>(alloc: Global, name: &'a str) -> Result<Command<'a>, AllocError>
+    ensures app { IfOk result (λ command. app_of command ≡ over_cluster name.now) }
+    ensures local { IfOk result (λ command. (out-Command command).has_globals ≡ false) }
+{
     let acceptors = option_of(alloc, "acceptors", value_parser!(u64).range(1..=9), "3");
     let proposers = option_of(alloc, "proposers", value_parser!(u64).range(1..=16), "1");
     let tries = option_of(alloc, "tries", value_parser!(u64).range(1..=64), "1");
-    Command::new(alloc, "script")
+    Command::new(alloc, name)
         .arg(acceptors)?
         .arg(proposers)?
         .arg(tries)
@@ -122,15 +213,35 @@ mod tests {
     use super::*;
     use std::test::Fail;
 
+    /// A script with these options is asked for.
+    fn runs(acceptors: u8, proposers: u8, tries: u8) -> Option<Request> {
+        Some(Request::Script(Options {
+            acceptors,
+            proposers,
+            tries,
+        }))
+    }
+
+    /// A load with these options is asked for.
+    fn loads(acceptors: u8, proposers: u8, tries: u8, seed: u64, lines: u32) -> Option<Request> {
+        Some(Request::Load(Load {
+            acceptors,
+            proposers,
+            tries,
+            seed,
+            lines,
+        }))
+    }
+
     #[test]
     fn knows_the_words(rt: HostRuntime) -> Result<(), Fail> {
         for (line, want) in [
-            ("script", Some((3, 1, 1))),
-            ("script --acceptors 3 --proposers 1", Some((3, 1, 1))),
-            ("script --tries 64 --acceptors=9", Some((9, 1, 64))),
-            ("script --proposers=16 --acceptors=1", Some((1, 16, 1))),
-            ("script --acceptors 03 --", Some((3, 1, 1))),
-            ("script --acceptors +4", Some((4, 1, 1))),
+            ("script", runs(3, 1, 1)),
+            ("script --acceptors 3 --proposers 1", runs(3, 1, 1)),
+            ("script --tries 64 --acceptors=9", runs(9, 1, 64)),
+            ("script --proposers=16 --acceptors=1", runs(1, 16, 1)),
+            ("script --acceptors 03 --", runs(3, 1, 1)),
+            ("script --acceptors +4", runs(4, 1, 1)),
             ("script --acceptors 10", None),
             ("script --acceptors 0", None),
             ("script --proposers 17", None),
@@ -142,6 +253,22 @@ mod tests {
             ("script 3", None),
             ("script --help", None),
             ("--acceptors 3 script", None),
+            ("load", loads(3, 1, 1, 1, 1000)),
+            ("load --lines 0 --seed=0", loads(3, 1, 1, 0, 0)),
+            (
+                "load --seed 18446744073709551615 --lines=100000",
+                loads(3, 1, 1, u64::MAX, 100_000),
+            ),
+            (
+                "load --tries 8 --acceptors 5 --proposers 4",
+                loads(5, 4, 8, 1, 1000),
+            ),
+            ("load --lines 100001", None),
+            ("load --seed 18446744073709551616", None),
+            ("load --seed -1", None),
+            ("load --seed 1 --seed 1", None),
+            ("load 3", None),
+            ("load script", None),
             ("race", None),
             ("help", None),
             ("", None),
@@ -151,8 +278,7 @@ mod tests {
                 words.push(String::from_str(rt.alloc(), word)?)?;
             }
             let read = read_words(rt.alloc(), &words)?;
-            let found = read.map(|options| (options.acceptors, options.proposers, options.tries));
-            assert_eq!(rt; found, want, "at {line}");
+            assert_eq!(rt; read, want, "at {line}");
         }
         Ok(())
     }

@@ -1,10 +1,11 @@
-use Rattle.std.proofs.Common.{◌≢◌, [], Option, map, string_bytes, refl, subst}
+use Rattle.std.proofs.Common.{◌≡◌, ◌≢◌, [], Option, Some, map, string_bytes, refl, sym, ◌∙◌, subst}
 use Rattle.std.specs.Prelude.{MatchOption}
 use Rattle.casreg.specs.Causes.{wrong_words, no_words_read}
 use Rattle.casreg.specs.Words.{AreWords, faults_of}
-use Rattle.casreg.specs.declared.words.Options.{Options}
+use Rattle.casreg.specs.declared.words.Request.{Request}
+use Rattle.casreg.specs.declared.words.Request.TheVariants as request
 use Rattle.casreg.proofs.Blame.{blamed}
-use Rattle.casreg.proofs.Written.{completes_of}
+use Rattle.casreg.proofs.Written.{completes_of, load_completes_of}
 use Rattle.casreg.proofs.cluster.cluster.Given.{Over}
 use Rattle.casreg.proofs.cluster.cluster.Goals as goal
 
@@ -14,18 +15,30 @@ returns-in-Ok-None-clause-wrote g c = wrong_words refl
 pub returns-in-Err-clause-wrote : goal.returns-in-Err-clause-wrote
 returns-in-Err-clause-wrote g c = no_words_read refl
 
-are_words : (g : Over) (c : goal.After-run g) → AreWords (map string_bytes c.args.words.now) c.in-Ok-Some.options
-are_words g c = subst (λ (o : Option Options). MatchOption o (faults_of (map string_bytes c.args.words.now) ≢ []) (AreWords (map string_bytes c.args.words.now))) c.in-Ok-Some.field-0-is c.in-Ok-Some.ensures.words
+are_words : (g : Over) (c : goal.After-run g) → AreWords (map string_bytes c.args.words.now) c.in-Ok-Some.request
+are_words g c = subst (λ (o : Option Request). MatchOption o (faults_of (map string_bytes c.args.words.now) ≢ []) (AreWords (map string_bytes c.args.words.now))) c.in-Ok-Some.field-0-is c.in-Ok-Some.ensures.words
+
+-- the words ask for nothing else
+only_one : (g : Over) (c : goal.After-run g) (other : Request) → AreWords (map string_bytes c.args.words.now) other → c.in-Ok-Some.request ≡ other
+only_one g c other are = let same : Some c.in-Ok-Some.request ≡ Some other = sym c.in-Ok-Some.field-0-is ∙ c.in-Ok-Some.ensures.only other are in cc same
 
 pub returns-in-Ok-Some-clause-causes : goal.returns-in-Ok-Some-clause-causes
 returns-in-Ok-Some-clause-causes g c = record {
   usage = λ is. absurd (c.run.ensures.usage is);
-  no_words = λ differs. absurd (differs c.in-Ok-Some.options (are_words g c));
+  no_words = λ differs. absurd (differs c.in-Ok-Some.request (are_words g c));
   read_fault = c.run.ensures.read_fault;
   write_fault = c.run.ensures.write_fault;
-  ends = c.run.ensures.ends;
-  completes = λ options words no_read no_write. completes_of _ _ _ _ c.run.ensures.usage c.run.ensures.read_fault c.run.ensures.write_fault c.run.ensures.ends no_read no_write;
+  ends = λ options words. c.run.ensures.ends options (only_one g c (request.Script options) words);
+  completes = λ options words no_read no_write.
+      completes_of _ _ _ _ c.run.ensures.usage c.run.ensures.read_fault c.run.ensures.write_fault (c.run.ensures.ends options (only_one g c (request.Script options) words)) no_read no_write;
+  load_completes = λ load words no_write. load_completes_of c.run.result.0 (c.run.ensures.loads load (only_one g c (request.Load load) words)).1 (λ is. no_write (c.run.ensures.write_fault is));
 }
 
 pub returns-in-Ok-Some-clause-disks : goal.returns-in-Ok-Some-clause-disks
 returns-in-Ok-Some-clause-disks g c = blamed _ _ (map string_bytes c.args.words.now) _ _ _ _ c.args.rack c.run.result.0 c.run.result.1 (c.run.ensures.wrote (map string_bytes c.args.words.now) (are_words g c))
+
+pub returns-in-Ok-Some-clause-read : goal.returns-in-Ok-Some-clause-read
+returns-in-Ok-Some-clause-read g c options words = c.run.ensures.read options (only_one g c (request.Script options) words)
+
+pub returns-in-Ok-Some-clause-unread : goal.returns-in-Ok-Some-clause-unread
+returns-in-Ok-Some-clause-unread g c load words = (c.run.ensures.loads load (only_one g c (request.Load load) words)).0

@@ -2,8 +2,12 @@ use Rattle.cas_cluster.specs.View.{meaning}
 use Rattle.cas_disk_shelf.specs.Shelf.{disk_of, contents_of, MayLeave}
 use Rattle.cas_disk_shelf.specs.declared.shelf.DiskShelf.{DiskShelf}
 use Rattle.cas_rack.specs.Rack.{rack_meaning}
-use Rattle.casreg.proofs.Along.{ran_over}
-use Rattle.casreg.proofs.Written.{wrote_not_empty, wrote_not_opened}
+use Rattle.std.proofs.Common.{refl, subst}
+use Rattle.casreg.specs.Causes.{loaded}
+use Rattle.casreg.specs.Words.{AreWords}
+use Rattle.casreg.specs.declared.words.Request.TheVariants as request
+use Rattle.casreg.proofs.Along.{ran_over, new_of}
+use Rattle.casreg.proofs.Written.{wrote_not_empty, wrote_not_opened, summed_ends}
 use Rattle.cas_script.proofs.Opened.{new_idle, new_quiet}
 use Rattle.casreg.proofs.cluster.run.Goals as goal
 
@@ -13,13 +17,30 @@ returns-in-Err-clause-wrote g c words are = wrote_not_empty (meaning {S = DiskSh
 pub run_script-requires-clause-idle : goal.run_script-requires-clause-idle
 run_script-requires-clause-idle g c = new_idle _ _ c.in-Ok.store.world c.in-Ok.ensures.opening c.in-Ok.ensures.places
 
-pub returns-in-Ok-clause-wrote : goal.returns-in-Ok-clause-wrote
-returns-in-Ok-clause-wrote g c words are = ran_over c.args.options c.in-Ok.store.world are c.in_default.ensures.ok
-    (record { opening = c.in-Ok.ensures.opening; places = c.in-Ok.ensures.places; greatest = c.in-Ok.ensures.greatest; acceptors = c.in-Ok.ensures.acceptors; vaults = c.in-Ok.ensures.vaults }) c.run_script.ensures.ran
-
 pub returns-in-Err-open-clause-wrote : goal.returns-in-Err-open-clause-wrote
 returns-in-Err-open-clause-wrote g c words are =
-    wrote_not_opened (meaning {S = DiskShelf g.row.D.Denot} (λ shelf. contents_of shelf) g.D.Disk.tells (λ shelf left. MayLeave g.D.Disk.may_leave shelf left) (λ shelf. g.D.Disk.fault_count (disk_of shelf)) g.D.Disk.tells g.D.Disk.may_leave g.D.Disk.fault_count) (rack_meaning g.D.Disk.tells g.D.Disk.seen g.D.Disk.may_leave g.D.Disk.fault_count) words _ _ _ c.args.rack c.expect_empty.new.self c.in-Err-open.rack c.args.options c.in-Err-open.fault c.from-in-Err-open.result c.from-in-Err-open.ensures are c.in_default.ensures.ok c.in-Err-open.ensures.fault
+    wrote_not_opened (meaning {S = DiskShelf g.row.D.Denot} (λ shelf. contents_of shelf) g.D.Disk.tells (λ shelf left. MayLeave g.D.Disk.may_leave shelf left) (λ shelf. g.D.Disk.fault_count (disk_of shelf)) g.D.Disk.tells g.D.Disk.may_leave g.D.Disk.fault_count) (rack_meaning g.D.Disk.tells g.D.Disk.seen g.D.Disk.may_leave g.D.Disk.fault_count) words _ _ _ c.args.rack c.expect_empty.new.self c.in-Err-open.rack c.args.request c.in-Err-open.fault c.from-in-Err-open.result c.config_of.result.acceptors c.config_of.result.proposers c.config_of.ensures.acceptors c.config_of.ensures.proposers c.from-in-Err-open.ensures are c.in_default.ensures.ok c.in-Err-open.ensures.fault
 
 pub run_script-requires-clause-quiet : goal.run_script-requires-clause-quiet
 run_script-requires-clause-quiet g c = new_quiet _ _ c.in-Ok.store.world c.in-Ok.ensures.opening
+
+pub load_store-requires-clause-idle : goal.load_store-requires-clause-idle
+load_store-requires-clause-idle g c = new_idle _ _ c.in-Ok.store.world c.in-Ok.ensures.opening c.in-Ok.ensures.places
+
+pub load_store-requires-clause-quiet : goal.load_store-requires-clause-quiet
+load_store-requires-clause-quiet g c = new_quiet _ _ c.in-Ok.store.world c.in-Ok.ensures.opening
+
+pub returns-in-Script-clause-wrote : goal.returns-in-Script-clause-wrote
+returns-in-Script-clause-wrote g c words are = ran_over c.in-Script.options c.in-Ok.store.world (subst (AreWords words) c.in-Script.is are) c.in_default.ensures.ok
+    (new_of c.config_of.result.acceptors c.config_of.result.proposers c.args.request (request.Script c.in-Script.options) c.config_of.ensures.acceptors c.config_of.ensures.proposers c.in-Script.is
+    (record { opening = c.in-Ok.ensures.opening; places = c.in-Ok.ensures.places; greatest = c.in-Ok.ensures.greatest; shelves = c.in-Ok.ensures.acceptors; vaults = c.in-Ok.ensures.vaults }))
+    c.run_script.ensures.ran
+
+pub returns-in-Load-clause-wrote : goal.returns-in-Load-clause-wrote
+returns-in-Load-clause-wrote g c words are = loaded c.in-Load.load c.in-Ok.store.world (subst (AreWords words) c.in-Load.is are) c.in_default.ensures.ok
+    (new_of c.config_of.result.acceptors c.config_of.result.proposers c.args.request (request.Load c.in-Load.load) c.config_of.ensures.acceptors c.config_of.ensures.proposers c.in-Load.is
+    (record { opening = c.in-Ok.ensures.opening; places = c.in-Ok.ensures.places; greatest = c.in-Ok.ensures.greatest; shelves = c.in-Ok.ensures.acceptors; vaults = c.in-Ok.ensures.vaults }))
+    c.load_store.ensures.loaded
+
+pub returns-in-Load-clause-loads : goal.returns-in-Load-clause-loads
+returns-in-Load-clause-loads g c load is = (refl, summed_ends c.load_store.result.0 c.load_store.ensures.loaded.wrote)

@@ -1,4 +1,4 @@
-use Rattle.std.proofs.Common.{◌≡◌, ◌∷◌, [], ℕ, List, Option, Some, true, false, refl, map, string_bytes, sym, ap, ap₂, subst, ◌∙◌, inl, inr}
+use Rattle.std.proofs.Common.{◌≡◌, ◌∷◌, [], ℕ, List, Option, Some, None, true, false, refl, map, string_bytes, sym, ap, ap₂, subst, ◌∙◌, inl, inr, codes}
 use Rattle.clap.specs.Faults.{fault_of, is_simple_and_free}
 use denote.Enum.Bare.{sameb}
 use Rattle.clap.specs.contracts.error.kind.ErrorKind.{the_type}
@@ -13,8 +13,11 @@ use Rattle.clap.specs.Walk.{Row, Text, rows_of}
 use Rattle.clap.specs.declared.parser.matches.ArgMatches.{ArgMatches}
 use Rattle.clap.proofs.OnLiterals.{clap_on_literals}
 use Rattle.casreg.specs.declared.words.Options.{Options}
-use Rattle.casreg.specs.Words.{casreg, command_line, faults_of, HasOptions, HasNumbers}
-use Rattle.casreg.proofs.Scripts.{has_options}
+use Rattle.cas_script.specs.declared.load.Load.{Load}
+use Rattle.casreg.specs.declared.words.Request.{Request}
+use Rattle.casreg.specs.declared.words.Request.TheVariants as request
+use Rattle.casreg.specs.Words.{casreg, command_line, faults_of, HasCommand, HasNumbers, HasLoad, IsNamed, AsksFor}
+use Rattle.casreg.proofs.Scripts.{has_command}
 use Rattle.casreg.proofs.words.read_words.Goals as goal
 
 casreg_is_free : is_simple_and_free casreg ≡ true
@@ -33,12 +36,12 @@ found app line words m is line_is matches = (matches (ap is_simple is ∙ casreg
 taken : (app : App) (line words : List Text) → app ≡ casreg → line ≡ command_line words → (is_simple_and_free app ≡ true → fault_of app line ≡ []) → faults_of words ≡ []
 taken app line words is line_is kinds = sym (ap₂ fault_of is line_is) ∙ kinds (ap is_simple_and_free is ∙ casreg_is_free)
 
-pub options_of-requires : goal.options_of-requires
-options_of-requires c =
+pub request_of-requires : goal.request_of-requires
+request_of-requires c =
     let ws = map string_bytes c.args.words.now in
     let line_is : map (λ word. word.now) c.deref.result.now ≡ command_line ws = ap (map (λ word. word.now)) c.deref.ensures.value ∙ c.in_ok-line.ensures in
-    subst (λ (given : Option (Text × List Row)). HasOptions given) (sym (found _ _ ws c.in-Ok.matches c.in_ok-command.ensures line_is c.in-Ok.ensures.matches))
-    (has_options ws (taken _ _ ws c.in_ok-command.ensures line_is c.in-Ok.ensures.kinds))
+    subst (λ (given : Option (Text × List Row)). HasCommand given) (sym (found _ _ ws c.in-Ok.matches c.in_ok-command.ensures line_is c.in-Ok.ensures.matches))
+    (has_command ws (taken _ _ ws c.in_ok-command.ensures line_is c.in-Ok.ensures.kinds))
 
 pub returns-in-Ok-clause-words : goal.returns-in-Ok-clause-words
 returns-in-Ok-clause-words c =
@@ -46,7 +49,7 @@ returns-in-Ok-clause-words c =
     let line_is : map (λ word. word.now) c.deref.result.now ≡ command_line ws = ap (map (λ word. word.now)) c.deref.ensures.value ∙ c.in_ok-line.ensures in
     record {
       taken = taken _ _ ws c.in_ok-command.ensures line_is c.in-Ok.ensures.kinds;
-      numbers = subst (λ (given : Option (Text × List Row)). HasNumbers given c.options_of.result) (found _ _ ws c.in-Ok.matches c.in_ok-command.ensures line_is c.in-Ok.ensures.matches) c.options_of.ensures.numbers;
+      asks = subst (λ (given : Option (Text × List Row)). AsksFor given c.request_of.result) (found _ _ ws c.in-Ok.matches c.in_ok-command.ensures line_is c.in-Ok.ensures.matches) c.request_of.ensures.asks;
     }
 
 -- an error that is no want of memory has a kind
@@ -75,8 +78,27 @@ same_options given a b x y =
     ∙ ap (λ (n : ℕ). record { acceptors = b.acceptors; proposers = n; tries = a.tries }) (same_number _ _ _ x.proposers y.proposers)
     ∙ ap (λ (n : ℕ). record { acceptors = b.acceptors; proposers = b.proposers; tries = n }) (same_number _ _ _ x.tries y.tries)
 
+same_load : (given : Option (Text × List Row)) (a b : Load) → HasLoad given a → HasLoad given b → a ≡ b
+same_load given a b x y =
+    ap (λ (n : ℕ). record { acceptors = n; proposers = a.proposers; tries = a.tries; seed = a.seed; lines = a.lines }) (same_number _ _ _ x.acceptors y.acceptors)
+    ∙ ap (λ (n : ℕ). record { acceptors = b.acceptors; proposers = n; tries = a.tries; seed = a.seed; lines = a.lines }) (same_number _ _ _ x.proposers y.proposers)
+    ∙ ap (λ (n : ℕ). record { acceptors = b.acceptors; proposers = b.proposers; tries = n; seed = a.seed; lines = a.lines }) (same_number _ _ _ x.tries y.tries)
+    ∙ ap (λ (n : ℕ). record { acceptors = b.acceptors; proposers = b.proposers; tries = b.tries; seed = n; lines = a.lines }) (same_number _ _ _ x.seed y.seed)
+    ∙ ap (λ (n : ℕ). record { acceptors = b.acceptors; proposers = b.proposers; tries = b.tries; seed = b.seed; lines = n }) (same_number _ _ _ x.lines y.lines)
+
+-- a subcommand has one name
+not_both_names : (given : Option (Text × List Row)) (A : Type 0) → IsNamed (codes "script") given → IsNamed (codes "load") given → A
+not_both_names None A is other = absurd is
+not_both_names (Some found) A is other = let differ : codes "script" ≡ codes "load" = sym is ∙ other in absurd (cc differ)
+
+same_request : (given : Option (Text × List Row)) (a b : Request) → AsksFor given a → AsksFor given b → a ≡ b
+same_request given (request.Script a) (request.Script b) x y = ap (λ (o : Options). request.Script o) (same_options given a b x.1 y.1)
+same_request given (request.Load a) (request.Load b) x y = ap (λ (l : Load). request.Load l) (same_load given a b x.1 y.1)
+same_request given (request.Script a) (request.Load b) x y = not_both_names given _ x.0 y.0
+same_request given (request.Load a) (request.Script b) x y = not_both_names given _ y.0 x.0
+
 pub returns-in-Ok-clause-only : goal.returns-in-Ok-clause-only
-returns-in-Ok-clause-only c other are = ap (λ (o : Options). Some o) (same_options _ c.options_of.result other (returns-in-Ok-clause-words c).numbers are.numbers)
+returns-in-Ok-clause-only c other are = ap (λ (o : Request). Some o) (same_request _ c.request_of.result other (returns-in-Ok-clause-words c).asks are.asks)
 
 pub returns-clause-only : goal.returns-clause-only
 returns-clause-only c other are = absurd (returns-clause-words c are.taken)

@@ -1,22 +1,11 @@
-use Rattle.std.proofs.Common.{◌≡◌, ◌||◌, ℤ, Bool, Some, Result, Ok, Err, IfOk, ap, ap₂, ◌∙◌, codes}
-use Rattle.std.specs.Ordering.{nat_cmp, ord_max}
-use Rattle.std.specs.Int.{saturate_unsigned}
-use mir.Syntax.{w64}
-use Rattle.clap.specs.Values.{unsigned_up_to}
+use Rattle.std.proofs.Common.{◌≡◌, ◌||◌, Bool, ap, ap₂, ◌∙◌, codes}
 use Rattle.clap.specs.Simple.{with_rule}
 use Rattle.clap.specs.Walk.{rule_of}
 use Rattle.clap.specs.declared.builder.value_parser.ValueParser.{ValueParser}
 use Rattle.clap.specs.declared.builder.value_parser.ValueParser.TheVariants.{Unsigned}
 use Rattle.casreg.specs.Words.{option_of}
-use Rattle.casreg.proofs.words.script.Goals as goal
-
-if_ok : {T E : Type 0} (r : Result T E) (P Q : T → Type 0) → ((x : T) → P x → Q x) → IfOk r P → IfOk r Q
-if_ok (Ok x) P Q f h = f x h
-if_ok (Err e) P Q f h = tt
-
--- what a parser of numbers becomes within these bounds
-abbrev narrowed : ℤ → ℤ → ValueParser
-narrowed low high = unsigned_up_to (ord_max nat_cmp 0 (saturate_unsigned w64 low)) 18446744073709551615 (Some high)
+use Rattle.casreg.proofs.Parsers.{if_ok, narrowed}
+use Rattle.casreg.proofs.words.over_cluster.Goals as goal
 
 pub returns-clause-app : goal.returns-clause-app
 returns-clause-app c =
