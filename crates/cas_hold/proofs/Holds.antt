@@ -1,0 +1,362 @@
+-- What a hold does for a caller's call, by what its calls on the world do.
+use Rattle.std.proofs.Common.{◌≡◌, ◌≤◌, ℕ, suc, Bool, true, false, if◌then◌else◌, List, [], ◌∷◌, ◌++◌, Option, None, Some, IsSome, slice_get, slice_set, length, inl, inr, refl, sym, ap, ap₂, subst, ◌∙◌, append-nil, arith}
+use Rattle.std.specs.Prelude.{IfSome, option_map, is_some, Result, Ok, Err, OnOk, OnErr}
+use Rattle.std.proofs.lemmas.List.Elements.{All-append, All-nil, All-cons, All-head}
+use Rattle.cas_change.specs.declared.program.Clause.{Clause}
+use Rattle.cas_fate.specs.declared.fate.Verdict.{Verdict}
+use Rattle.cas_proposer.specs.Desk.{DeskView}
+use Rattle.cas_record.proofs.Tests.{nat_is}
+use Rattle.cas_record.specs.declared.answer.Answer.{Answer}
+use Rattle.cas_record.specs.declared.answer.Answer.TheVariants as answer
+use Rattle.cas_record.specs.declared.mark.Mark.{Mark}
+use Rattle.cas_record.specs.declared.mark.Mark.TheVariants.{Begun, Ended}
+use Rattle.cas_cluster.specs.Council.{Council}
+use Rattle.cas_cluster.specs.Step.{Step, Stray, RefuseStray, StepBegin, StepCount, StepEnd, StepPropose, StepRefuseTurn, StepTurn}
+use Rattle.cas_cluster.specs.StepCalls as calls
+use Rattle.cas_cluster.specs.StepFrames as frames
+use Rattle.cas_cluster.specs.View.{Meaning, View, CallView, CallerView, IsAt}
+use Rattle.cas_cluster.proofs.Places.{at_one, at_set, some_is}
+use Rattle.cas_turn.specs.Seen.{OnlyOwnedBy}
+use Rattle.cas_world.specs.Beginning.{HasRound, HasNoCall, BeginsOrNot, MayBegin, first, is_refusal}
+use Rattle.cas_world.specs.Readers.{next_number}
+use Rattle.cas_world.specs.Reading.{HasProposed}
+use Rattle.cas_world.specs.World.{WasTold}
+use Rattle.cas_hold.specs.Deeds.{BeginsIn, IsRefusal, BeginsNot, ends_at_once, is_refused, GoesOnIn, EndsIn, StraysIn, harm_by, is_conflict}
+use Rattle.cas_hold.specs.Kept.{IsStaged, running, IsKept, Makes}
+use Rattle.cas_hold.specs.Mine.{mine, call_of, AreOfCall, losses, Wanted, wants, wanted_after, wanted_by}
+use Rattle.cas_hold.specs.Owners.{owner_of}
+use Rattle.cas_hold.specs.OwnParts.{own_part}
+use Rattle.cas_hold.specs.Open.{IsFree, HasOpen}
+use Rattle.cas_hold.proofs.Acts.{Acts, acts_then, spares_same, spares_rounds, part_same, makes_of, OwnKept, was_desk, staged_same, kept_by}
+use Rattle.cas_hold.proofs.Events.{Fine, fine_none, CallGoesOn, CallIsOver, LetsIn, end_ends, stray_lets_in, refused_stray_lets_in, first_begins, again_goes_on, over_where_told, turn_goes_on, refused_turn_goes_on, propose_goes_on, count_is_over, refused_acts}
+use Rattle.cas_hold.proofs.Fronts.{wanted_append}
+use Rattle.cas_hold.proofs.Parts.{open_at, open_quiet, free_quiet, free_call, stays_open, is_open_then, is_closed_then, stays_free}
+use Rattle.cas_hold.proofs.Stages.{NextAt, next_at, turn_running, proposed_running, propose_met}
+
+-- ---- calls that go on
+-- the caller of the open call is the one that stands there
+pub number_of : {S V : Type 0} (view : View S V) (n call : ℕ) → HasOpen call (own_part view n) → (caller : CallerView) → IsAt view.callers n caller → caller.number ≡ call
+number_of view n call has caller at = let open_ = open_at view n call has in ap (λ (c : CallerView). c.number) (at_one view.callers n at open_.at_caller) ∙ open_.number
+
+-- what a hold does, what the store keeps true by it, and how many proposers there are then
+pub record Held {S V : Type 0} (old new : View S V) (Does : Type 0) : Type 0 where
+  pub does : Does
+  pub kept : IsKept new
+  pub greatest : new.greatest ≡ old.greatest
+
+wanted_by_acts : {S V : Type 0} (n call most : ℕ) (old new : View S V) (marks : List Mark) → Acts n old new marks → Fine n call most marks → wanted_by n new.marks ≡ wanted_by n old.marks
+wanted_by_acts n call most old new marks acts fine = ap (wanted_by n) acts.made ∙ wanted_append n None old.marks marks ∙ fine.asks (wanted_by n old.marks)
+
+pub goes_on_in : {S V : Type 0} (n call most : ℕ) (old new : View S V) (caller : CallerView) (was : CallView) → IsAt old.callers n caller → caller.call ≡ Some was → HasOpen call (own_part old n) → IsKept old → (goes : CallGoesOn n most old new caller was)
+    → ((desk : DeskView V) → IsAt new.desks n desk → IsStaged desk goes.next) → Held old new (GoesOnIn n call most old new)
+goes_on_in {S} {V} n call most old new caller was at is has kept goes staged =
+    let number : caller.number ≡ call = number_of old n call has caller at in
+    let next_caller : CallerView = record caller { call = Some goes.next } in
+    let wanted : wanted_by n new.marks ≡ wanted_by n old.marks = wanted_by_acts n caller.number most old new goes.marks goes.acts goes.fine in
+    record {
+      does = record {
+        marks = goes.marks;
+        makes = makes_of n old new goes.marks goes.acts goes.fine.may_add goes.fine.only;
+        of_call = subst (λ (k : ℕ). AreOfCall k (mine n goes.marks)) number goes.fine.of_call;
+        few = goes.fine.few;
+        is_open = stays_open old new n call has goes.acts.council next_caller goes.next goes.at_next number refl;
+        wanted = wanted;
+      };
+      kept = kept_by n old new goes.marks goes.acts goes.fine.only kept (record {
+        staged = λ desk one open_ at_desk at_one_ is_open. subst (λ (c : CallView). IsStaged desk c) (some_is (ap (λ (c : CallerView). c.call) (at_one new.callers n goes.at_next at_one_) ∙ is_open)) (staged desk at_desk);
+        wanted = λ one open_ at_one_ is_open.
+            let same : next_caller ≡ one = at_one new.callers n goes.at_next at_one_ in
+            let same_call : goes.next ≡ open_ = some_is (ap (λ (c : CallerView). c.call) same ∙ is_open) in
+            let before : wanted_by n old.marks ≡ Some (wants caller.number was.key was.program) = kept.wanted n caller was at is in
+            wanted ∙ before ∙ ap₂ (λ (k : List ℕ) (p : List Clause). Some (wants caller.number k p)) (sym goes.key) (sym goes.program)
+            ∙ ap₂ (λ (c : CallerView) (o : CallView). Some (wants c.number o.key o.program)) same same_call;
+      });
+      greatest = goes.acts.greatest;
+    }
+
+-- ---- calls that end
+-- nothing is done before it ends
+pub over_at_once : {S V : Type 0} (n most : ℕ) (old : View S V) (caller : CallerView) (was : CallView) → IsAt old.callers n caller → caller.call ≡ Some was → CallIsOver n most old old caller was
+over_at_once n most old caller was at is = record {
+  goes = record {
+    next = was;
+    marks = [];
+    acts = record { greatest = refl; desks = spares_rounds n old.desks old.desks (spares_same n old.desks old.desks refl); callers = spares_same n old.callers old.callers refl; council = refl; made = sym (append-nil old.marks) };
+    fine = fine_none n caller.number most;
+    at_next = subst (λ (c : CallerView). IsAt old.callers n c) (ap (λ (o : Option CallView). record caller { call = o }) is) at;
+    key = refl;
+    program = refl;
+  };
+  may_end = λ rounds told. (tt, tt);
+}
+
+-- a caller with no open call has nothing of its own to keep
+pub idle_kept : {S V : Type 0} (n : ℕ) (view : View S V) (caller : CallerView) → IsAt view.callers n caller → caller.call ≡ None → OwnKept n view
+idle_kept {S} {V} n view caller at none = record {
+  staged = λ desk one open_ at_desk at_one_ is_open. absurd (cc (sym none ∙ ap (λ (c : CallerView). c.call) (at_one view.callers n at at_one_) ∙ is_open));
+  wanted = λ one open_ at_one_ is_open. absurd (cc (sym none ∙ ap (λ (c : CallerView). c.call) (at_one view.callers n at at_one_) ∙ is_open));
+}
+
+only_ended : (n call rounds : ℕ) (told : Answer) → OnlyOwnedBy owner_of n (Ended n call rounds told ∷ [])
+only_ended n call rounds told = All-cons (λ i. (m : ℕ) → owner_of i ≡ Some m → m ≡ n) (Ended n call rounds told) [] (λ m e. sym (some_is e)) (All-nil (λ i. (m : ℕ) → owner_of i ≡ Some m → m ≡ n))
+
+pub ends_in : {S V : Type 0} (m : Meaning S V) (n call most : ℕ) (told : Answer) (old mid new : View S V) (caller : CallerView) (was : CallView) → IsAt old.callers n caller → HasOpen call (own_part old n) → IsKept old → CallIsOver n most old mid caller was
+    → StepEnd m mid n told new → Held old new (EndsIn n call most old new told)
+ends_in {S} {V} m n call most told old mid new caller was at has kept over by =
+    let number : caller.number ≡ call = number_of old n call has caller at in
+    let next_caller : CallerView = record caller { call = Some over.goes.next } in
+    let same : by.of_call.caller ≡ next_caller = at_one mid.callers n by.of_call.at_caller over.goes.at_next in
+    let ended = end_ends m n told mid new (λ is_first. ap (λ (k : Council). k.order) over.goes.acts.council ∙ (open_quiet old n call has is_first).order) by in
+    let rounds : ℕ = by.of_call.call.rounds in
+    let same_number : by.of_call.caller.number ≡ caller.number = ap (λ (c : CallerView). c.number) same in
+    let acts_end : Acts n mid new (Ended n caller.number rounds told ∷ []) = subst (λ (k : ℕ). Acts n mid new (Ended n k rounds told ∷ [])) same_number ended.acts in
+    let all : List Mark = over.goes.marks ++ Ended n caller.number rounds told ∷ [] in
+    let acts : Acts n old new all = acts_then n old mid new over.goes.marks (Ended n caller.number rounds told ∷ []) over.goes.acts acts_end in
+    let only : OnlyOwnedBy owner_of n all = All-append (λ i. (m : ℕ) → owner_of i ≡ Some m → m ≡ n) over.goes.marks (Ended n caller.number rounds told ∷ []) over.goes.fine.only (only_ended n caller.number rounds told) in
+    record {
+      does = record {
+        marks = over.goes.marks;
+        rounds = rounds;
+        makes = subst (λ (k : ℕ). Makes n old new (over.goes.marks ++ Ended n k rounds told ∷ [])) number (makes_of n old new all acts (over.may_end rounds told) only);
+        of_call = subst (λ (k : ℕ). AreOfCall k (mine n over.goes.marks)) number over.goes.fine.of_call;
+        few = over.goes.fine.few;
+        is_free = is_closed_then old new n call has acts.council (record by.of_call.caller { call = None }) ended.at_next refl;
+      };
+      kept = kept_by n old new all acts only kept (idle_kept n new (record by.of_call.caller { call = None }) ended.at_next refl);
+      greatest = acts.greatest;
+    }
+
+-- ---- calls that begin
+begun_only : (n number : ℕ) (key : List ℕ) (program : List Clause) (more : List Mark) → OnlyOwnedBy owner_of n more → OnlyOwnedBy owner_of n (Begun n number key program ∷ more)
+begun_only n number key program more only = All-cons (λ i. (m : ℕ) → owner_of i ≡ Some m → m ≡ n) (Begun n number key program) more (λ m e. sym (some_is e)) only
+
+wanted_begun : (n number : ℕ) (key : List ℕ) (program : List Clause) (old more : List Mark) → ((before : Option Wanted) → wanted_after n before more ≡ before) → wanted_by n (old ++ Begun n number key program ∷ more) ≡ Some (wants number key program)
+wanted_begun n number key program old more asks =
+    wanted_append n None old (Begun n number key program ∷ more)
+    ∙ ap (λ (t : Bool). wanted_after n (if t then Some (wants number key program) else wanted_by n old) more) (nat_is {a = n} {b = n} refl)
+    ∙ asks (Some (wants number key program))
+
+pub begins_in : {S V : Type 0} (m : Meaning S V) (n : ℕ) (key : List ℕ) (program : List Clause) (old new : View S V) (caller : CallerView) → IsAt old.callers n caller → caller.call ≡ None → IsFree (own_part old n) → IsKept old → StepBegin m old n key program new → HasRound new n (suc caller.number)
+    → Held old new (BeginsIn n (suc caller.number) key program old new)
+begins_in {S} {V} m n key program old new caller at none free kept by has =
+    let number : ℕ = suc caller.number in
+    let b = first_begins m n 0 key program old new caller at none by in
+    let next_caller : CallerView = record { number = number; call = Some b.next } in
+    let all : List Mark = Begun n number key program ∷ b.more in
+    let only : OnlyOwnedBy owner_of n all = begun_only n number key program b.more b.fine.only in
+    let wanted : wanted_by n new.marks ≡ Some (wants number key program) = ap (wanted_by n) b.acts.made ∙ wanted_begun n number key program old.marks b.more b.fine.asks in
+    let few : losses (mine n b.more) ≤ 0 = b.fine.few in
+    record {
+      does = record {
+        more = b.more;
+        makes = makes_of n old new all b.acts (tt, b.fine.may_add) only;
+        of_call = b.fine.of_call;
+        none_lost = omega (arith, few);
+        is_open = is_open_then old new n number free b.acts.council next_caller b.next b.at_next refl refl;
+        wanted = wanted;
+      };
+      kept = kept_by n old new all b.acts only kept (record {
+        staged = λ desk one open_ at_desk at_one_ is_open. running (subst (λ (d : DeskView V). IsSome d.round) (at_one new.desks n has.at_desk at_desk) has.is_open);
+        wanted = λ one open_ at_one_ is_open.
+            let same : next_caller ≡ one = at_one new.callers n b.at_next at_one_ in
+            let same_call : b.next ≡ open_ = some_is (ap (λ (c : CallerView). c.call) same ∙ is_open) in
+            wanted ∙ ap₂ (λ (k : List ℕ) (p : List Clause). Some (wants number k p)) (sym b.key_is) (sym b.program_is)
+            ∙ ap₂ (λ (c : CallerView) (o : CallView). Some (wants c.number o.key o.program)) same same_call;
+      });
+      greatest = b.acts.greatest;
+    }
+
+-- it is told why no round begins, and ends at once
+pub passes_in : {S V : Type 0} (m : Meaning S V) (n : ℕ) (key : List ℕ) (program : List Clause) (told : Answer) (old mid new : View S V) (caller : CallerView) → IsAt old.callers n caller → caller.call ≡ None → IsFree (own_part old n) → IsKept old → StepBegin m old n key program mid
+    → (number : ℕ) → WasTold mid n number told → StepEnd m mid n told new → Held old new (BeginsNot n key program old new told)
+passes_in {S} {V} m n key program told old mid new caller at none free kept by number was ends =
+    let call : ℕ = suc caller.number in
+    let b = first_begins m n 0 key program old mid caller at none by in
+    let next_caller : CallerView = record { number = call; call = Some b.next } in
+    let same : ends.of_call.caller ≡ next_caller = at_one mid.callers n ends.of_call.at_caller b.at_next in
+    let ended = end_ends m n told mid new (λ is_first. ap (λ (k : Council). k.order) b.acts.council ∙ (free_quiet old n free is_first).order) ends in
+    let rounds : ℕ = ends.of_call.call.rounds in
+    let acts_end : Acts n mid new (Ended n call rounds told ∷ []) = subst (λ (k : ℕ). Acts n mid new (Ended n k rounds told ∷ [])) (ap (λ (c : CallerView). c.number) same) ended.acts in
+    let opens : Acts n old mid (Begun n call key program ∷ []) = subst (λ (l : List Mark). Acts n old mid (Begun n call key program ∷ l)) (b.silent number told was) b.acts in
+    let all : List Mark = Begun n call key program ∷ Ended n call rounds told ∷ [] in
+    let acts : Acts n old new all = acts_then n old mid new (Begun n call key program ∷ []) (Ended n call rounds told ∷ []) opens acts_end in
+    let only : OnlyOwnedBy owner_of n all = begun_only n call key program (Ended n call rounds told ∷ []) (only_ended n call rounds told) in
+    record {
+      does = ends_at_once call rounds (makes_of n old new all acts (tt, (tt, tt)) only) (stays_free old new n free acts.council (record ends.of_call.caller { call = None }) ended.at_next refl);
+      kept = kept_by n old new all acts only kept (idle_kept n new (record ends.of_call.caller { call = None }) ended.at_next refl);
+      greatest = acts.greatest;
+    }
+
+-- it is not begun
+pub refused_in : {S V : Type 0} (m : Meaning S V) (n : ℕ) (key : List ℕ) (told : Answer) (old new : View S V) (program : List Clause) (caller : CallerView) → IsAt old.callers n caller → caller.call ≡ None → IsFree (own_part old n) → IsKept old → IsRefusal told → calls.RefusesCall m old n key new
+    → Held old new (BeginsNot n key program old new told)
+refused_in {S} {V} m n key told old new program caller at none free kept refusal by =
+    let done = refused_acts m n key old new (λ is_first. (free_quiet old n free is_first).order) by in
+    let at_new : IsAt new.callers n caller = subst (λ (l : List CallerView). IsAt l n caller) (sym done.1) at in
+    let fine = fine_none n 0 0 in
+    record {
+      does = is_refused refusal (makes_of n old new [] done.0 tt fine.only) (stays_free old new n free done.0.council caller at_new none);
+      kept = kept_by n old new [] done.0 fine.only kept (idle_kept n new caller at_new none);
+      greatest = done.0.greatest;
+    }
+
+-- ---- by what the world tells
+-- a caller with nothing open has no call
+no_call_of : {S V : Type 0} (old : View S V) (n call : ℕ) → NextAt old n call → IsFree (own_part old n) → HasNoCall old n
+no_call_of old n call at free = record { caller = at.caller; at_caller = at.at_caller; none_open = free_call old n free at.caller at.at_caller }
+
+pub begin_may : {S V : Type 0} (old : View S V) (n call : ℕ) (key : List ℕ) (program : List Clause) → option_map next_number (slice_get old.callers n) ≡ Some call → IsFree (own_part old n) → MayBegin old n call key program
+begin_may old n call key program next free =
+    let at = next_at old n call next in
+    first at.caller at.at_caller (free_call old n free at.caller at.at_caller) (let k : suc at.caller.number ≡ call = at.number in omega (arith, k))
+
+pub begin_ok : {S V : Type 0} (m : Meaning S V) (n call : ℕ) (key : List ℕ) (program : List Clause) (old new : View S V) → option_map next_number (slice_get old.callers n) ≡ Some call → IsFree (own_part old n) → IsKept old → StepBegin m old n key program new → HasRound new n call
+    → Held old new (BeginsIn n call key program old new)
+begin_ok m n call key program old new next free kept by has =
+    let at = next_at old n call next in
+    subst (λ (k : ℕ). Held old new (BeginsIn n k key program old new)) at.number
+    (begins_in m n key program old new at.caller at.at_caller (free_call old n free at.caller at.at_caller) free kept by (subst (λ (k : ℕ). HasRound new n k) (sym at.number) has))
+
+pub begin_refused : {S V : Type 0} (A : Type 0) (m : Meaning S V) (n call : ℕ) (key : List ℕ) (program : List Clause) (told : Answer) (old new : View S V) → option_map next_number (slice_get old.callers n) ≡ Some call → IsFree (own_part old n) → IsKept old → is_refusal told ≡ true
+    → BeginsOrNot {A = A} m old n call key program (Err told) new → Held old new (BeginsNot n key program old new told)
+begin_refused A m n call key program told old new next free kept refusal (inl begun) = absurd (cc (begun.2 (no_call_of old n call (next_at old n call next) free), refusal))
+begin_refused A m n call key program told old new next free kept refusal (inr not_begun) =
+    let at = next_at old n call next in
+    refused_in m n key told old new program at.caller at.at_caller (free_call old n free at.caller at.at_caller) free kept not_begun.2 not_begun.0
+
+-- it was told why no round begins
+pub begin_told : {S V : Type 0} (A : Type 0) (m : Meaning S V) (n call : ℕ) (key : List ℕ) (program : List Clause) (told : Answer) (old new : View S V) → is_refusal told ≡ false → BeginsOrNot {A = A} m old n call key program (Err told) new → StepBegin m old n key program new × WasTold new n call told
+begin_told A m n call key program told old new is (inl begun) = (begun.0, begun.1)
+begin_told A m n call key program told old new is (inr not_begun) = absurd (elim not_begun.2 [
+  | inl full_is ↦ cc (ap is_refusal full_is, is)
+  | inr none_is ↦ cc (ap is_refusal none_is, is)
+])
+
+pub begin_passes : {S V : Type 0} (A : Type 0) (m : Meaning S V) (n call : ℕ) (key : List ℕ) (program : List Clause) (told : Answer) (old mid new : View S V) → option_map next_number (slice_get old.callers n) ≡ Some call → IsFree (own_part old n) → IsKept old → is_refusal told ≡ false
+    → BeginsOrNot {A = A} m old n call key program (Err told) mid → StepEnd m mid n told new → Held old new (BeginsNot n key program old new told)
+begin_passes A m n call key program told old mid new next free kept is begun ends =
+    let at = next_at old n call next in
+    let by = begin_told A m n call key program told old mid is begun in
+    passes_in m n key program told old mid new at.caller at.at_caller (free_call old n free at.caller at.at_caller) free kept by.0 call by.1 ends
+
+-- ---- another round
+pub again_ok : {S V : Type 0} (m : Meaning S V) (n call most : ℕ) (key : List ℕ) (program : List Clause) (old new : View S V) → HasOpen call (own_part old n) → IsKept old → StepBegin m old n key program new → HasRound new n call → Held old new (GoesOnIn n call most old new)
+again_ok {S} {V} m n call most key program old new has kept by round =
+    let o = open_at old n call has in
+    goes_on_in n call most old new o.caller o.open_call o.at_caller o.is_open has kept (again_goes_on m n most key program old new o.caller o.open_call o.at_caller o.is_open by).goes
+    (λ desk at_desk. running (subst (λ (d : DeskView V). IsSome d.round) (at_one new.desks n round.at_desk at_desk) round.is_open))
+
+pub again_told : {S V : Type 0} (A : Type 0) (m : Meaning S V) (n call : ℕ) (key : List ℕ) (program : List Clause) (told : Answer) (old new : View S V) → HasOpen call (own_part old n) → BeginsOrNot {A = A} m old n call key program (Err told) new → StepBegin m old n key program new × WasTold new n call told
+again_told A m n call key program told old new has (inl begun) = (begun.0, begun.1)
+again_told A m n call key program told old new has (inr not_begun) =
+    let o = open_at old n call has in
+    absurd (cc (sym not_begun.1.none_open ∙ ap (λ (c : CallerView). c.call) (at_one old.callers n not_begun.1.at_caller o.at_caller) ∙ o.is_open))
+
+pub again_ends : {S V : Type 0} (A : Type 0) (m : Meaning S V) (n call most : ℕ) (key : List ℕ) (program : List Clause) (told : Answer) (old mid new : View S V) → HasOpen call (own_part old n) → IsKept old → BeginsOrNot {A = A} m old n call key program (Err told) mid → StepEnd m mid n told new
+    → Held old new (EndsIn n call most old new told)
+again_ends A m n call most key program told old mid new has kept begun ends =
+    let o = open_at old n call has in
+    let by = again_told A m n call key program told old mid has begun in
+    ends_in m n call most told old mid new o.caller o.open_call o.at_caller has kept
+    (over_where_told n most old mid o.caller o.open_call call told (again_goes_on m n most key program old mid o.caller o.open_call o.at_caller o.is_open by.0) by.1) ends
+
+-- ---- a turn
+pub turn_ok : {S V : Type 0} (m : Meaning S V) (n call : ℕ) (v : Verdict) (old new : View S V) → HasOpen call (own_part old n) → IsKept old → ((desk : DeskView V) → IsAt old.desks n desk → IsSome desk.round) → StepTurn m old n v new → Held old new (GoesOnIn n call (harm_by v) old new)
+turn_ok m n call v old new has kept was by =
+    goes_on_in n call (harm_by v) old new by.of_call.caller by.of_call.call by.of_call.at_caller by.of_call.is_open has kept (turn_goes_on m n v old new by) (λ desk at_desk. running (turn_running m n v old new was by desk at_desk))
+
+-- what the caller is told where no memory was found
+pub turn_told : {S V : Type 0} (m : Meaning S V) (n call : ℕ) (proposed : Bool) (old mid : View S V) → HasOpen call (own_part old n) → StepRefuseTurn m old n mid → ((seen : CallerView) → IsAt mid.callers n seen → IfSome seen.call (λ open_call. proposed ≡ is_some open_call.proposed)) → WasTold mid n call (answer.NoMemory proposed)
+turn_told {S} {V} m n call proposed old mid has by says =
+    let next : CallView = calls.telling by.of_call.call (answer.NoMemory (is_some by.of_call.call.proposed)) in
+    let next_caller : CallerView = record by.of_call.caller { call = Some next } in
+    let at_next : IsAt mid.callers n next_caller = subst (λ (l : List CallerView). IsAt l n next_caller) (sym (ap (λ (w : View S V). w.callers) by.view ∙ ap (λ (l : List CallerView). slice_set l n next_caller) (same_callers by.refuses))) (at_set old.callers n by.of_call.caller next_caller by.of_call.at_caller) in
+    record {
+      caller = next_caller;
+      at_caller = at_next;
+      same_number = number_of old n call has by.of_call.caller by.of_call.at_caller;
+      call = next;
+      is_open = refl;
+      told = ap (λ (b : Bool). Some (answer.NoMemory b)) (sym (says next_caller at_next));
+    }
+  where
+    same_callers : {middle : View S V} → frames.FindsNoRoom m old middle → middle.callers ≡ old.callers
+    same_callers (frames.stays same) = ap (λ (w : View S V). w.callers) same
+    same_callers (frames.kept id acceptor now there finds same) = ap (λ (w : View S V). w.callers) same
+
+pub turn_ends : {S V : Type 0} (m : Meaning S V) (n call most : ℕ) (told : Answer) (old mid new : View S V) → HasOpen call (own_part old n) → IsKept old → StepRefuseTurn m old n mid → WasTold mid n call told → StepEnd m mid n told new → Held old new (EndsIn n call most old new told)
+turn_ends m n call most told old mid new has kept by was ends =
+    ends_in m n call most told old mid new by.of_call.caller by.of_call.call by.of_call.at_caller has kept (over_where_told n most old mid by.of_call.caller by.of_call.call call told (refused_turn_goes_on m n most old mid by) was) ends
+
+-- ---- the end of a prepare phase
+pub propose_ok : {S V : Type 0} (m : Meaning S V) (n call most : ℕ) (old new : View S V) → HasOpen call (own_part old n) → IsKept old → HasProposed new n → StepPropose m old n new → Held old new (GoesOnIn n call most old new)
+propose_ok m n call most old new has kept proposed by =
+    goes_on_in n call most old new by.at_round.of_call.caller by.at_round.of_call.call by.at_round.of_call.at_caller by.at_round.of_call.is_open has kept (propose_goes_on m n most old new by).goes (λ desk at_desk. running (proposed_running new n proposed desk at_desk))
+
+pub propose_told : {S V : Type 0} (n call : ℕ) (told : Answer) (old new : View S V) → HasOpen call (own_part old n) → ((caller : CallerView) → slice_get old.callers n ≡ Some caller → WasTold new n caller.number told) → WasTold new n call told
+propose_told n call told old new has tells = let o = open_at old n call has in subst (λ (k : ℕ). WasTold new n k told) o.number (tells o.caller o.at_caller)
+
+pub propose_is_met : {S V : Type 0} (m : Meaning S V) (n call most : ℕ) (told : Answer) (old new : View S V) → HasOpen call (own_part old n) → IsKept old → ((caller : CallerView) → IsAt old.callers n caller → IfSome caller.call (λ one. one.proposed ≡ None)) → WasTold new n call told → is_conflict told ≡ true → StepPropose m old n new
+    → Held old new (GoesOnIn n call most old new)
+propose_is_met m n call most told old new has kept unproposed was conflict by =
+    let goes = (propose_goes_on m n most old new by).goes in
+    goes_on_in n call most old new by.at_round.of_call.caller by.at_round.of_call.call by.at_round.of_call.at_caller by.at_round.of_call.is_open has kept goes
+    (λ desk at_desk. propose_met m n call told old new unproposed was conflict by (record by.at_round.of_call.caller { call = Some goes.next }) goes.next goes.at_next refl desk at_desk)
+
+pub propose_ends : {S V : Type 0} (m : Meaning S V) (n call most : ℕ) (told : Answer) (old mid new : View S V) → HasOpen call (own_part old n) → IsKept old → WasTold mid n call told → StepPropose m old n mid → StepEnd m mid n told new → Held old new (EndsIn n call most old new told)
+propose_ends m n call most told old mid new has kept was by ends =
+    ends_in m n call most told old mid new by.at_round.of_call.caller by.at_round.of_call.call by.at_round.of_call.at_caller has kept
+    (over_where_told n most old mid by.at_round.of_call.caller by.at_round.of_call.call call told (propose_goes_on m n most old mid by) was) ends
+
+-- ---- the ends of a call
+pub count_ends : {S V : Type 0} (m : Meaning S V) (n call most : ℕ) (told : Answer) (old mid new : View S V) → HasOpen call (own_part old n) → IsKept old → StepCount m old n mid → StepEnd m mid n told new → Held old new (EndsIn n call most old new told)
+count_ends m n call most told old mid new has kept by ends =
+    ends_in m n call most told old mid new by.at_round.of_call.caller by.at_round.of_call.call by.at_round.of_call.at_caller has kept (count_is_over m n most old mid by) ends
+
+pub closed_ends : {S V : Type 0} (m : Meaning S V) (n call most : ℕ) (told : Answer) (old new : View S V) → HasOpen call (own_part old n) → IsKept old → StepEnd m old n told new → Held old new (EndsIn n call most old new told)
+closed_ends m n call most told old new has kept ends =
+    let o = open_at old n call has in
+    ends_in m n call most told old old new o.caller o.open_call o.at_caller has kept (over_at_once n most old o.caller o.open_call o.at_caller o.is_open) ends
+
+-- ---- late frames
+pub strays_in : {S V : Type 0} (old new : View S V) → IsKept old → LetsIn old new → Held old new (StraysIn old new)
+strays_in {S} {V} old new kept by = record {
+  does = record {
+    marks = by.marks;
+    makes = λ n. record { made = by.made; may_add = (by.fine n 0 0).may_add; owned = (by.fine n 0 0).only; others = λ m other. own m };
+    none_own = λ n. none_of_call (mine n by.marks) (by.fine n 0 0).of_call (by.fine n 1 0).of_call;
+    own = own;
+    wanted = λ n. ap (wanted_by n) by.made ∙ wanted_append n None old.marks by.marks ∙ (by.fine n 0 0).asks (wanted_by n old.marks);
+  };
+  kept = record {
+    places = record { desks = by.places ∙ kept.places.desks ∙ ap suc (sym by.greatest); callers = ap (λ (l : List CallerView). length l) by.callers ∙ kept.places.callers ∙ ap suc (sym by.greatest) };
+    staged = λ id desk caller call at_desk at_caller is_call.
+        let d = was_desk old.desks new.desks id desk (by.rounds id) at_desk in
+        staged_same desk d.was call d.same (kept.staged id d.was caller call d.at_was (subst (λ (l : List CallerView). IsAt l id caller) by.callers at_caller) is_call);
+    wanted = λ id caller call at_caller is_call.
+        ap (wanted_by id) by.made ∙ wanted_append id None old.marks by.marks ∙ (by.fine id 0 0).asks (wanted_by id old.marks) ∙ kept.wanted id caller call (subst (λ (l : List CallerView). IsAt l id caller) by.callers at_caller) is_call;
+  };
+  greatest = by.greatest;
+}
+  where
+    own : (n : ℕ) → own_part new n ≡ own_part old n
+    own n = part_same old new n (ap (λ (l : List CallerView). slice_get l n) by.callers) by.council
+
+    -- no mark is of two calls
+    none_of_call : (l : List Mark) → AreOfCall 0 l → AreOfCall 1 l → l ≡ []
+    none_of_call [] zero_ one_ = refl
+    none_of_call (mark ∷ l) zero_ one_ = absurd (let a : call_of mark ≡ Some 0 = All-head (λ i. call_of i ≡ Some 0) mark l zero_ in let b : call_of mark ≡ Some 1 = All-head (λ i. call_of i ≡ Some 1) mark l one_ in let e : 0 ≡ 1 = some_is (sym a ∙ b) in omega (arith, e))
+
+pub stray_ends : {S V A E : Type 0} (m : Meaning S V) (index : ℕ) (old new : View S V) (result : Result A E) → OnOk result (Step m old (Stray index) new) → OnErr result (Step m old RefuseStray new) → IsKept old → Held old new (StraysIn old new)
+stray_ends m index old new (Ok peer) ok err kept = strays_in old new kept (stray_lets_in m index old new ok)
+stray_ends m index old new (Err fault) ok err kept = strays_in old new kept (refused_stray_lets_in m old new err)
+
+-- ---- how many proposers there are within a hold
+pub greatest_refused : {S V : Type 0} (m : Meaning S V) (n : ℕ) (old new : View S V) → StepRefuseTurn m old n new → new.greatest ≡ old.greatest
+greatest_refused m n old new by = (refused_turn_goes_on m n 0 old new by).goes.acts.greatest
+
+pub greatest_proposed : {S V : Type 0} (m : Meaning S V) (n : ℕ) (old new : View S V) → StepPropose m old n new → new.greatest ≡ old.greatest
+greatest_proposed m n old new by = (propose_goes_on m n 0 old new by).goes.acts.greatest
+
+pub greatest_counted : {S V : Type 0} (m : Meaning S V) (n : ℕ) (old new : View S V) → StepCount m old n new → new.greatest ≡ old.greatest
+greatest_counted m n old new by = (count_is_over m n 0 old new by).goes.acts.greatest

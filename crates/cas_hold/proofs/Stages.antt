@@ -1,0 +1,216 @@
+-- How far an open call has come, by what is read of the world and by what its calls leave.
+use Rattle.std.proofs.Common.{◌≡◌, ◌≢◌, ◌≤◌, ℕ, zero, suc, ◌+◌, Bool, true, false, not, if◌then◌else◌, List, [], ◌∷◌, Option, None, Some, IsSome, IfSome, option_map, is_some, slice_get, slice_set, refl, sym, ap, subst, ◌∙◌, arith}
+use Rattle.std.specs.Prelude.{◌&&◌}
+use Rattle.cas_change.specs.declared.program.Clause.{Clause}
+use Rattle.cas_fate.specs.declared.fate.Verdict.{Verdict}
+use Rattle.cas_flow.specs.Flow.{queue_at}
+use Rattle.cas_flow.specs.Message.{head_of}
+use Rattle.cas_flow.specs.declared.message.Message.{Message}
+use Rattle.cas_fate.specs.declared.fate.Leg.{Leg}
+use Rattle.cas_proposer.specs.Desk.{DeskView}
+use Rattle.cas_proposer.specs.Round.{is_preparing}
+use Rattle.cas_proposer.specs.declared.round.Round.{Round}
+use Rattle.cas_record.specs.declared.answer.Answer.{Answer}
+use Rattle.cas_record.specs.declared.answer.Answer.TheVariants as answer
+use Rattle.cas_round.specs.declared.verdict.RoundVerdict.{RoundVerdict}
+use Rattle.cas_cluster.specs.Council.{ExchangeView, exchange_place}
+use Rattle.cas_cluster.specs.Protocol.{is_done}
+use Rattle.cas_cluster.specs.Step as step
+use Rattle.cas_cluster.specs.Step.{Step, StepTurn, StepRefuseTurn, StepPropose}
+use Rattle.cas_cluster.specs.StepCalls as calls
+use Rattle.cas_cluster.specs.StepCalls.{WasMet}
+use Rattle.cas_cluster.specs.StepFrames as frames
+use Rattle.cas_cluster.specs.StepStops.{OpenCallAt}
+use Rattle.cas_cluster.specs.View.{Meaning, View, CallView, CallerView, IsAt}
+use Rattle.cas_cluster.proofs.Places.{at_one, at_set, some_is}
+use Rattle.cas_cluster.proofs.SafeParts.{at_low}
+use Rattle.cas_world.specs.Beginning.{MayBegin, another}
+use Rattle.cas_world.specs.Exchange.{asks_as, place_of, turn_of, refusal_of}
+use Rattle.cas_world.specs.Readers.{closed_in, told_if, IsVerdictIn, next_number}
+use Rattle.cas_world.specs.Reading.{HasProposed}
+use Rattle.cas_world.specs.World.{WasTold, IsInPhase}
+use Rattle.cas_hold.specs.Deeds.{is_conflict}
+use Rattle.cas_hold.specs.Kept.{IsStaged, running, is_met, is_closed, IsKept}
+use Rattle.cas_hold.specs.Mine.{Wanted, wants, wanted_by}
+use Rattle.cas_hold.specs.OwnParts.{own_part}
+use Rattle.cas_hold.specs.Open.{HasOpen}
+use Rattle.cas_hold.proofs.Events.{told_in}
+use Rattle.cas_hold.proofs.Parts.{IsOpenAt, open_at}
+
+-- ---- frames of rounds
+-- where no exchange is open, the operator's frames are those of its round, too
+asks_false : (o : Option ExchangeView) (n : ℕ) → (n ≡ 0 → o ≡ None) → asks_as o n ≡ false
+asks_false None n quiet = refl
+asks_false (Some x) zero quiet = absurd (cc (quiet refl))
+asks_false (Some x) (suc n) quiet = refl
+
+module _ {S V : Type 0} (view : View S V) (n : ℕ) (quiet : n ≡ 0 → view.council.exchange ≡ None) where
+  pub place_is : place_of view n ≡ n
+  place_is = ap (λ (b : Bool). if b then exchange_place else n) (asks_false view.council.exchange n quiet)
+
+  pub turn_is : (v : Verdict) → turn_of view n v ≡ step.Turn n v
+  turn_is v = ap (λ (b : Bool). if b then step.TurnExchange v else step.Turn n v) (asks_false view.council.exchange n quiet)
+
+  pub refusal_is : refusal_of view n ≡ step.RefuseTurn n
+  refusal_is = ap (λ (b : Bool). if b then step.RefuseTurnExchange else step.RefuseTurn n) (asks_false view.council.exchange n quiet)
+
+pub as_turn : {S V : Type 0} (m : Meaning S V) (old new : View S V) (n : ℕ) (v : Verdict) → (n ≡ 0 → old.council.exchange ≡ None) → Step m old (turn_of old n v) new → StepTurn m old n v new
+as_turn {S} {V} m old new n v quiet by = subst (λ (e : step.Event). Step m old e new) (turn_is old n quiet v) by
+
+pub as_refusal : {S V : Type 0} (m : Meaning S V) (old new : View S V) (n : ℕ) → (n ≡ 0 → old.council.exchange ≡ None) → Step m old (refusal_of old n) new → StepRefuseTurn m old n new
+as_refusal {S} {V} m old new n quiet by = subst (λ (e : step.Event). Step m old e new) (refusal_is old n quiet) by
+
+pub waits_there : {S V : Type 0} (view : View S V) (n : ℕ) → (n ≡ 0 → view.council.exchange ≡ None) → (queue_at view.flow n).messages ≢ [] → (queue_at view.flow (place_of view n)).messages ≢ []
+waits_there view n quiet waits = subst (λ (p : ℕ). (queue_at view.flow p).messages ≢ []) (sym (place_is view n quiet)) waits
+
+-- the front that is shown is that of its own queue
+pub shown_there : {S V : Type 0} (view : View S V) (n : ℕ) (front : Option (Leg × ℕ)) → (n ≡ 0 → view.council.exchange ≡ None) → front ≡ option_map head_of (slice_get (queue_at view.flow (place_of view n)).messages 0) → front ≡ option_map head_of (slice_get (queue_at view.flow n).messages 0)
+shown_there view n front quiet shown = subst (λ (p : ℕ). front ≡ option_map head_of (slice_get (queue_at view.flow p).messages 0)) (place_is view n quiet) shown
+
+pub none_waits : (messages : List Message) (front : Option (Leg × ℕ)) → front ≡ option_map head_of (slice_get messages 0) → is_some front ≡ false → messages ≡ []
+none_waits [] front shown none = refl
+none_waits (one ∷ rest) front shown none = absurd (cc (ap (λ (o : Option (Leg × ℕ)). is_some o) shown, none))
+
+pub some_waits : (messages : List Message) (front : Option (Leg × ℕ)) → front ≡ option_map head_of (slice_get messages 0) → is_some front ≡ true → messages ≢ []
+some_waits messages front shown some empty = absurd (cc (ap (λ (o : Option (Leg × ℕ)). is_some o) (shown ∙ ap (λ (l : List Message). option_map head_of (slice_get l 0)) empty), some))
+
+-- ---- what is read
+-- a closed call was told just that
+pub closed_told : (call : CallView) (told : Answer) → closed_in (Some call) ≡ Some told → call.told ≡ Some told
+closed_told call told e = by_told call.is_closed call.told e
+  where
+    by_test : (b : Bool) (one : Answer) → (if b then Some one else None) ≡ Some told → Some one ≡ Some told
+    by_test true one is = is
+    by_test false one is = absurd (cc is)
+
+    by_told : (closed : Bool) (o : Option Answer) → told_if closed o ≡ Some told → o ≡ Some told
+    by_told closed None is = absurd (cc is)
+    by_told closed (Some one) is = by_test (closed && not (is_done one)) one is
+
+-- so it may be ended with that
+pub closed_was_told : {S V : Type 0} (view : View S V) (n call : ℕ) (told : Answer) (closed : Option Answer) → HasOpen call (own_part view n) → ((caller : CallerView) → IsAt view.callers n caller → closed ≡ closed_in caller.call) → closed ≡ Some told → WasTold view n call told
+closed_was_told view n call told closed has says is =
+    let o = open_at view n call has in
+    record { caller = o.caller; at_caller = o.at_caller; same_number = o.number; call = o.open_call; is_open = o.is_open; told = closed_told o.open_call told (ap closed_in (sym o.is_open) ∙ sym (says o.caller o.at_caller) ∙ is) }
+
+no_verdict : (round : Option Round) (v : Option RoundVerdict) → IsVerdictIn round v → is_some v ≡ false → round ≡ None
+no_verdict None v is none = refl
+no_verdict (Some round) None is none = absurd is
+no_verdict (Some round) (Some v) is none = absurd (cc none)
+
+some_verdict : (round : Option Round) (v : Option RoundVerdict) → IsVerdictIn round v → is_some v ≡ true → IsSome round
+some_verdict None v is some = absurd (cc (ap (λ (o : Option RoundVerdict). is_some o) is, some))
+some_verdict (Some round) v is some = refl
+
+pub is_idle : {S V : Type 0} (view : View S V) (n : ℕ) (v : Option RoundVerdict) → ((desk : DeskView V) → IsAt view.desks n desk → IsVerdictIn desk.round v) → is_some v ≡ false → (desk : DeskView V) → IsAt view.desks n desk → desk.round ≡ None
+is_idle view n v says none desk at = no_verdict desk.round v (says desk at) none
+
+pub is_through : {S V : Type 0} (view : View S V) (n : ℕ) (v : Option RoundVerdict) → ((desk : DeskView V) → IsAt view.desks n desk → IsVerdictIn desk.round v) → is_some v ≡ true → (desk : DeskView V) → IsAt view.desks n desk → IsSome desk.round
+is_through view n v says some desk at = some_verdict desk.round v (says desk at) some
+
+-- ---- the desk of a caller
+pub record DeskAt {S V : Type 0} (view : View S V) (n : ℕ) : Type 0 where
+  pub desk : DeskView V
+  pub at_desk : IsAt view.desks n desk
+
+pub desk_at : {S V : Type 0} (view : View S V) (n : ℕ) → n ≤ view.greatest → IsKept view → DeskAt view n
+desk_at view n known kept = let there = at_low view.desks n (omega (arith, kept.places.desks, known)) in record { desk = there.0; at_desk = there.1 }
+
+-- a phase that may be ended
+phase_in : {S V : Type 0} (view : View S V) (n : ℕ) (preparing : Bool) (desk : DeskView V) → IsAt view.desks n desk → (round : Option Round) → desk.round ≡ round → IsSome round → IfSome round (λ r. is_preparing r.phase ≡ preparing) → (queue_at view.flow n).messages ≡ [] → IsInPhase view n preparing
+phase_in view n preparing desk at None is some phase none = absurd (cc some)
+phase_in view n preparing desk at (Some round) is some phase none = record { desk = desk; at_desk = at; round = round; is_round = is; phase = phase; none_waits = none }
+
+pub in_phase : {S V : Type 0} (view : View S V) (n : ℕ) (proposed : Bool) → n ≤ view.greatest → IsKept view → ((desk : DeskView V) → IsAt view.desks n desk → IsSome desk.round)
+    → ((desk : DeskView V) → IsAt view.desks n desk → IfSome desk.round (λ r. is_preparing r.phase ≡ not proposed)) → (queue_at view.flow n).messages ≡ [] → IsInPhase view n (not proposed)
+in_phase view n proposed known kept running_ phase none = let d = desk_at view n known kept in phase_in view n (not proposed) d.desk d.at_desk d.desk.round refl (running_ d.desk d.at_desk) (phase d.desk d.at_desk) none
+
+-- ---- another round
+pub may_again : {S V : Type 0} (view : View S V) (n call : ℕ) (key : List ℕ) (program : List Clause) → n ≤ view.greatest → IsKept view → HasOpen call (own_part view n) → wanted_by n view.marks ≡ Some (wants call key program)
+    → ((desk : DeskView V) → IsAt view.desks n desk → desk.round ≡ None) → ((caller : CallerView) → IsAt view.callers n caller → closed_in caller.call ≡ None) → MayBegin view n call key program
+may_again {S} {V} view n call key program known kept has wanted idle unclosed =
+    let o = open_at view n call has in
+    let d = desk_at view n known kept in
+    let same : wants o.caller.number o.open_call.key o.open_call.program ≡ wants call key program = some_is (sym (kept.wanted n o.caller o.open_call o.at_caller o.is_open) ∙ wanted) in
+    by_stage o same (kept.staged n d.desk o.caller o.open_call d.at_desk o.at_caller o.is_open) (idle d.desk d.at_desk)
+  where
+    by_stage : (o : IsOpenAt view n call) → wants o.caller.number o.open_call.key o.open_call.program ≡ wants call key program → {desk : DeskView V} → IsStaged desk o.open_call → desk.round ≡ None → MayBegin view n call key program
+    by_stage o same (running some) none = absurd (cc (subst IsSome none some))
+    by_stage o same (is_met no_round met unproposed) none = another o.caller o.open_call o.at_caller o.is_open (sym o.number) (ap (λ (w : Wanted). w.key) same) (ap (λ (w : Wanted). w.program) same) unproposed met idle
+    by_stage o same (is_closed no_round closed) none = absurd (cc (subst IsSome (ap closed_in (sym o.is_open) ∙ unclosed o.caller o.at_caller) closed))
+
+-- ---- after a turn
+pub turn_running : {S V : Type 0} (m : Meaning S V) (n : ℕ) (v : Verdict) (old new : View S V) → ((desk : DeskView V) → IsAt old.desks n desk → IsSome desk.round) → StepTurn m old n v new → (desk : DeskView V) → IsAt new.desks n desk → IsSome desk.round
+turn_running {S} {V} m n v old new was by = in_turn by.of_call by.front by.turn
+  where
+    same_desks : new.desks ≡ old.desks → (desk : DeskView V) → IsAt new.desks n desk → IsSome desk.round
+    same_desks same desk at = was desk (subst (λ (l : List (DeskView V)). IsAt l n desk) same at)
+
+    in_turn : (at : OpenCallAt old n) (front : Message) → frames.TakesTurn m old n v front at.caller at.call new → (desk : DeskView V) → IsAt new.desks n desk → IsSome desk.round
+    in_turn at front (frames.held fall same) = same_desks (ap (λ (w : View S V). w.desks) same)
+    in_turn at front (frames.gone fall same) = same_desks (ap (λ (w : View S V). w.desks) same)
+    in_turn at front (frames.answers request acceptor now reply fall is there table same) = same_desks (ap (λ (w : View S V). w.desks) same)
+    in_turn at front (frames.finds_down request acceptor fall is there down same) = same_desks (ap (λ (w : View S V). w.desks) same)
+    in_turn at front (frames.brings_down request acceptor now fall is there stops same) = same_desks (ap (λ (w : View S V). w.desks) same)
+    in_turn at front (frames.arrives reply desk now round heard fall is there is_round hears same) = λ one at_one_.
+        let there_now : IsAt new.desks n now = subst (λ (l : List (DeskView V)). IsAt l n now) (sym (ap (λ (w : View S V). w.desks) same)) (at_set old.desks n desk now there) in
+        subst (λ (d : DeskView V). IsSome d.round) (at_one new.desks n there_now at_one_) (subst IsSome (sym (ap (λ (d : DeskView V). d.round) hears.desk)) refl)
+
+-- ---- after a proposal
+pub proposed_running : {S V : Type 0} (new : View S V) (n : ℕ) → HasProposed new n → (desk : DeskView V) → IsAt new.desks n desk → IsSome desk.round
+proposed_running {S} {V} new n has desk at = subst IsSome (sym (ap (λ (d : DeskView V). d.round) (at_one new.desks n at has.at_desk) ∙ has.is_round)) refl
+
+met_of : (told : Answer) → is_conflict told ≡ true → WasMet (Some told)
+met_of (answer.Conflict met) is = tt
+met_of (answer.Done state took ballot) is = absurd (cc is)
+met_of (answer.Aged least) is = absurd (cc is)
+met_of (answer.Full acceptor) is = absurd (cc is)
+met_of (answer.Short got need) is = absurd (cc is)
+met_of (answer.Moved era) is = absurd (cc is)
+met_of answer.Crashed is = absurd (cc is)
+met_of (answer.Unsettled why) is = absurd (cc is)
+met_of answer.Down is = absurd (cc is)
+met_of answer.VaultFault is = absurd (cc is)
+met_of answer.Spent is = absurd (cc is)
+met_of answer.RecordFull is = absurd (cc is)
+met_of (answer.NoMemory proposed) is = absurd (cc is)
+
+-- a round that ended with a conflict, and proposed nothing
+pub propose_met : {S V : Type 0} (m : Meaning S V) (n number : ℕ) (told : Answer) (old new : View S V) → ((caller : CallerView) → IsAt old.callers n caller → IfSome caller.call (λ call. call.proposed ≡ None)) → WasTold new n number told → is_conflict told ≡ true → StepPropose m old n new
+    → (caller : CallerView) (next : CallView) → IsAt new.callers n caller → caller.call ≡ Some next → (desk : DeskView V) → IsAt new.desks n desk → IsStaged desk next
+propose_met {S} {V} m n number told old new unproposed was conflict by caller next at is desk at_desk = by_case by.at_round.of_call by.at_round.desk by.at_round.at_desk by.at_round.round by.proposes
+  where
+    tells : next.told ≡ Some told
+    tells = told_in new n number told was caller next at is
+
+    over : (at_old : OpenCallAt old n) (was_desk now : DeskView V) → IsAt old.desks n was_desk → now.round ≡ None → (one : Answer) → new ≡ calls.with_call (record old { desks = slice_set old.desks n now }) n at_old.caller (calls.over at_old.call one) → IsStaged desk next
+    over at_old was_desk now there none one same =
+        let next_caller : CallerView = record at_old.caller { call = Some (calls.over at_old.call one) } in
+        let there_now : IsAt new.desks n now = subst (λ (w : View S V). IsAt w.desks n now) (sym same) (at_set old.desks n was_desk now there) in
+        let at_next : IsAt new.callers n next_caller = subst (λ (w : View S V). IsAt w.callers n next_caller) (sym same) (at_set old.callers n at_old.caller next_caller at_old.at_caller) in
+        let same_next : calls.over at_old.call one ≡ next = some_is (ap (λ (c : CallerView). c.call) (at_one new.callers n at_next at) ∙ is) in
+        is_met (ap (λ (d : DeskView V). d.round) (at_one new.desks n at_desk there_now) ∙ none) (subst WasMet (sym tells) (met_of told conflict))
+        (ap (λ (c : CallView). c.proposed) (sym same_next) ∙ subst (λ (o : Option CallView). IfSome o (λ call. call.proposed ≡ None)) at_old.is_open (unproposed at_old.caller at_old.at_caller))
+
+    by_case : (at_old : OpenCallAt old n) (was_desk : DeskView V) → IsAt old.desks n was_desk → (round : Round) → calls.ProposesOrEnds m old n was_desk round at_old.caller at_old.call new → IsStaged desk next
+    by_case at_old was_desk there round (calls.proposes now turned read by_ ride outcome flow quorum confirmers reads turns made sends same) =
+        let next_caller : CallerView = record at_old.caller { call = Some (calls.proposing at_old.call outcome) } in
+        let at_next : IsAt new.callers n next_caller = subst (λ (w : View S V). IsAt w.callers n next_caller) (sym same) (at_set old.callers n at_old.caller next_caller at_old.at_caller) in
+        let same_next : calls.proposing at_old.call outcome ≡ next = some_is (ap (λ (c : CallerView). c.call) (at_one new.callers n at_next at) ∙ is) in
+        absurd (cc (ap (λ (c : CallView). c.told) same_next ∙ tells))
+    by_case at_old was_desk there round (calls.ends now v one is_ refuses ends same) = over at_old was_desk now there (ap (λ (d : DeskView V). d.round) ends.desk) one same
+    by_case at_old was_desk there round (calls.fails now fails same) = over at_old was_desk now there (ap (λ (d : DeskView V). d.round) fails.desk) answer.VaultFault same
+    by_case at_old was_desk there round (calls.loses now ballot loses same) = over at_old was_desk now there (ap (λ (d : DeskView V). d.round) loses.desk) (answer.NoMemory false) same
+
+-- ---- the number of a call
+pub record NextAt {S V : Type 0} (view : View S V) (n call : ℕ) : Type 0 where
+  pub caller : CallerView
+  pub at_caller : IsAt view.callers n caller
+  pub number : suc caller.number ≡ call
+
+next_of : {S V : Type 0} (view : View S V) (n call : ℕ) (o : Option CallerView) → slice_get view.callers n ≡ o → option_map next_number o ≡ Some call → NextAt view n call
+next_of view n call None is e = absurd (cc e)
+next_of view n call (Some caller) is e = record { caller = caller; at_caller = is; number = let k : caller.number + 1 ≡ call = some_is e in omega (arith, k) }
+
+pub next_at : {S V : Type 0} (view : View S V) (n call : ℕ) → option_map next_number (slice_get view.callers n) ≡ Some call → NextAt view n call
+next_at view n call e = next_of view n call (slice_get view.callers n) refl e

@@ -1,0 +1,67 @@
+-- What a hold does for a caller's call.
+use Rattle.std.specs.Prelude.{◌≡◌, ◌⊎◌, ◌≤◌, ℕ, Bool, true, false, if◌then◌else◌, List, [], ◌∷◌, ◌++◌, Some}
+use Rattle.cas_change.specs.declared.program.Clause.{Clause}
+use Rattle.cas_fate.specs.Harms.{is_harm}
+use Rattle.cas_fate.specs.declared.fate.Verdict.{Verdict}
+use Rattle.cas_record.specs.declared.answer.Answer.{Answer}
+use Rattle.cas_record.specs.declared.answer.Answer.TheVariants as answer
+use Rattle.cas_record.specs.declared.mark.Mark.{Mark}
+use Rattle.cas_record.specs.declared.mark.Mark.TheVariants.{Begun, Ended}
+use Rattle.cas_cluster.specs.View.{View}
+use Rattle.cas_hold.specs.Kept.{Makes}
+use Rattle.cas_hold.specs.Mine.{mine, AreOfCall, losses, wants, wanted_by}
+use Rattle.cas_hold.specs.OwnParts.{own_part}
+use Rattle.cas_hold.specs.Open.{IsFree, HasOpen}
+
+-- how many frames one verdict may harm
+abbrev pub harm_by : Verdict → ℕ
+harm_by v = if is_harm v then 1 else 0
+
+-- what tells of a conflict
+abbrev pub is_conflict : Answer → Bool
+is_conflict (answer.Conflict met) = true
+is_conflict other = false
+
+-- A late frame strays in: no mark that it makes is anybody's own, and all that callers have open stays.
+pub record StraysIn {S V : Type 0} (old new : View S V) : Type 0 where
+  pub marks : List Mark
+  pub makes : (n : ℕ) → Makes n old new marks
+  pub none_own : (n : ℕ) → mine n marks ≡ []
+  pub own : (n : ℕ) → own_part new n ≡ own_part old n
+  pub wanted : (n : ℕ) → wanted_by n new.marks ≡ wanted_by n old.marks
+
+-- the call of that number begins, for this
+pub record BeginsIn {S V : Type 0} (n call : ℕ) (key : List ℕ) (program : List Clause) (old new : View S V) : Type 0 where
+  pub more : List Mark
+  pub makes : Makes n old new (Begun n call key program ∷ more)
+  pub of_call : AreOfCall call (mine n more)
+  pub none_lost : losses (mine n more) ≡ 0
+  pub is_open : HasOpen call (own_part new n)
+  pub wanted : wanted_by n new.marks ≡ Some (wants call key program)
+
+-- why a call is not begun: the record is full, or there is no memory
+abbrev pub IsRefusal : Answer → Type 0
+IsRefusal told = (told ≡ answer.RecordFull) ⊎ (told ≡ answer.NoMemory false)
+
+-- a call for this begins and ends at once; or it is not begun, and no mark is made
+pub data BeginsNot {S V : Type 0} (n : ℕ) (key : List ℕ) (program : List Clause) (old new : View S V) (told : Answer) : Type 0 where
+  ends_at_once : (call rounds : ℕ) → Makes n old new (Begun n call key program ∷ Ended n call rounds told ∷ []) → IsFree (own_part new n) → BeginsNot n key program old new told
+  is_refused : IsRefusal told → Makes n old new [] → IsFree (own_part new n) → BeginsNot n key program old new told
+
+-- the open call of that number goes on, and at most so many losses of its frames are marked
+pub record GoesOnIn {S V : Type 0} (n call most : ℕ) (old new : View S V) : Type 0 where
+  pub marks : List Mark
+  pub makes : Makes n old new marks
+  pub of_call : AreOfCall call (mine n marks)
+  pub few : losses (mine n marks) ≤ most
+  pub is_open : HasOpen call (own_part new n)
+  pub wanted : wanted_by n new.marks ≡ wanted_by n old.marks
+
+-- it ends with this answer, which is marked last
+pub record EndsIn {S V : Type 0} (n call most : ℕ) (old new : View S V) (told : Answer) : Type 0 where
+  pub marks : List Mark
+  pub rounds : ℕ
+  pub makes : Makes n old new (marks ++ Ended n call rounds told ∷ [])
+  pub of_call : AreOfCall call (mine n marks)
+  pub few : losses (mine n marks) ≤ most
+  pub is_free : IsFree (own_part new n)

@@ -1,0 +1,9 @@
+//! What one hold of the turn does to a world: one call on it, with the end of a caller's call where that call told its answer.
+//!
+//! A hold decides by what it finds in the world, and by the number, the key and the program of the call that goes on. The world is that of
+//! `cas_world`, the turn itself is in `cas_turn`, and passes and threads are in `cas_board`.
+#![tactic(auto)]
+
+mod deeds;
+
+pub use deeds::{Begun, Stage, Waiting, begin, first_frame, go_on, is_conflict, let_in, stage_of};
