@@ -1,0 +1,308 @@
+-- What a pass tells of a hold, by what the hold did.
+use Rattle.std.proofs.Common.{◌≡◌, ◌≤◌, ◌<◌, ℕ, zero, suc, ◌+◌, List, [], ◌∷◌, ◌++◌, length, None, Some, slice_get, true, false, refl, sym, ap, subst, ◌∙◌, append_assoc, append-nil, arith}
+use Rattle.std.specs.Prelude.{Result, Ok, Err, IfOk, IfErr, OnOk}
+use Rattle.std.proofs.lemmas.List.Elements.{All-append, All-nil}
+use Rattle.cas_change.specs.declared.program.Clause.{Clause}
+use Rattle.cas_record.specs.declared.answer.Answer.{Answer}
+use Rattle.cas_record.specs.declared.mark.Mark.{Mark}
+use Rattle.cas_record.specs.declared.mark.Mark.TheVariants as mark
+use Rattle.cas_record.specs.declared.mark.Mark.TheVariants.{Begun, Ended}
+use Rattle.cas_cluster.specs.View.{View}
+use Rattle.cas_cluster.proofs.Places.{some_is}
+use Rattle.cas_turn.specs.Seen.{Begins, HasSeen, OnlyOwnedBy, added_to}
+use Rattle.cas_turn.specs.Sitting.{Sitting, TurnId}
+use Rattle.cas_board.specs.Passes.{IsPassOf}
+use Rattle.cas_board.specs.Changes as changes
+use Rattle.cas_board.specs.Changes.{IsCounted, HasBegun, HasNotBegun, HasGoneOn, HasEnded, Answers}
+use Rattle.cas_hold.specs.Deeds as deeds
+use Rattle.cas_hold.specs.Deeds.{BeginsIn, BeginsNot, GoesOnIn, EndsIn, StraysIn}
+use Rattle.cas_hold.specs.Kept.{IsKept, Makes, IsHeldBy}
+use Rattle.cas_hold.specs.declared.deeds.Begun.{Begun as Opened}
+use Rattle.cas_hold.specs.Mine.{mine, call_of, losses, wanted_by, GoesOn, IsLast}
+use Rattle.cas_hold.specs.Owners.{owner_of, MayAdd}
+use Rattle.cas_hold.specs.OwnParts.{own_part}
+use Rattle.cas_hold.specs.Open.{IsFree, HasOpen}
+use Rattle.cas_hold.proofs.Fronts.{added_is, mine_append, mine_own, front_goes_on, goes_on_then, wanted_seen}
+use Rattle.cas_hold.proofs.Parts.{open_at}
+
+-- ---- what may be given back
+module _ {S V : Type 0} (n : ℕ) (before after : View S V) (marks : List Mark) (makes : Makes n before after marks) where
+  pub gives_more : Begins before.marks after.marks
+  gives_more = record { behind = marks; whole = sym makes.made }
+
+  pub gives_lawful : MayAdd (added_to before.marks after.marks)
+  gives_lawful = subst MayAdd (sym (added_is before.marks after.marks marks makes.made)) makes.may_add
+
+  pub gives_own : OnlyOwnedBy owner_of n (added_to before.marks after.marks)
+  gives_own = subst (OnlyOwnedBy owner_of n) (sym (added_is before.marks after.marks marks makes.made)) makes.owned
+
+-- ---- what a hold asks
+get_low : {A : Type 0} (xs : List A) (place : ℕ) (x : A) → slice_get xs place ≡ Some x → place < length xs
+get_low [] place x e = absurd (cc e)
+get_low (y ∷ xs) zero x e = omega arith
+get_low (y ∷ xs) (suc place) x e = let low : place < length xs = get_low xs place x e in omega (arith, low)
+
+-- a caller with an open call is known
+pub open_known : {S V : Type 0} (view : View S V) (n call : ℕ) → HasOpen call (own_part view n) → IsKept view → n ≤ view.greatest
+open_known view n call has kept = let o = open_at view n call has in let low : n < length view.callers = get_low view.callers n o.caller o.at_caller in omega (arith, low, kept.places.callers)
+
+-- ---- what the pass tells then
+module _ {S V A : Type 0} (before after : View S V) (old new : Sitting A Mark) (has : HasSeen owner_of old.number old.seen before.marks) (seen : new.seen ≡ after.marks) (own : new.own ≡ own_part after old.number) where
+  front_of : (marks : List Mark) → Makes old.number before after marks → GoesOn old.number old.seen new.seen (mine old.number marks)
+  front_of marks makes = front_goes_on old.number old.seen before.marks new.seen marks has (seen ∙ makes.made)
+
+  front_is : (marks mine_ : List Mark) → Makes old.number before after marks → mine old.number marks ≡ mine_ → GoesOn old.number old.seen new.seen mine_
+  front_is marks mine_ makes same = subst (GoesOn old.number old.seen new.seen) same (front_of marks makes)
+
+  free_then : IsFree (own_part after old.number) → IsFree new.own
+  free_then free = subst IsFree (sym own) free
+
+  open_then : (call : ℕ) → HasOpen call (own_part after old.number) → HasOpen call new.own
+  open_then call has_open = subst (HasOpen call) (sym own) has_open
+
+  last_then : (marks : List Mark) (mark : Mark) → Makes old.number before after (marks ++ mark ∷ []) → IsLast new.seen mark
+  last_then marks mark makes = record { before = before.marks ++ marks; whole = append_assoc before.marks marks (mark ∷ []) ∙ sym makes.made ∙ sym seen }
+
+  pub pass_begins : (call : ℕ) (key : List ℕ) (program : List Clause) → BeginsIn old.number call key program before after → HasBegun call key program old new
+  pass_begins call key program b = record {
+    more = mine old.number b.more;
+    front = front_is (Begun old.number call key program ∷ b.more) (Begun old.number call key program ∷ mine old.number b.more) b.makes (mine_own old.number (Begun old.number call key program) b.more refl);
+    of_call = b.of_call;
+    none_lost = b.none_lost;
+    is_open = open_then call b.is_open;
+    wanted = ap (wanted_by old.number) seen ∙ b.wanted;
+  }
+
+  pub pass_begins_not : (key : List ℕ) (program : List Clause) (told : Answer) → BeginsNot old.number key program before after told → HasNotBegun key program old new told
+  pass_begins_not key program told (deeds.ends_at_once call rounds makes free) =
+      let n : ℕ = old.number in
+      let begun : Mark = Begun n call key program in
+      let ended : Mark = Ended n call rounds told in
+      changes.ends_at_once call rounds (front_is (begun ∷ ended ∷ []) (begun ∷ ended ∷ []) makes (mine_own n begun (ended ∷ []) refl ∙ ap (λ (l : List Mark). begun ∷ l) (mine_own n ended [] refl)))
+      (last_then (begun ∷ []) ended makes) (free_then free)
+  pass_begins_not key program told (deeds.is_refused refusal makes free) = changes.is_refused refusal (front_of [] makes) (free_then free)
+
+  pub pass_goes_on : (call most : ℕ) → GoesOnIn old.number call most before after → HasGoneOn call most old new
+  pass_goes_on call most g = record {
+    marks = mine old.number g.marks;
+    front = front_of g.marks g.makes;
+    of_call = g.of_call;
+    few = g.few;
+    is_open = open_then call g.is_open;
+    wanted = ap (wanted_by old.number) seen ∙ g.wanted ∙ wanted_seen old.number old.seen before.marks has;
+  }
+
+  pub pass_ends : (call most : ℕ) (told : Answer) → EndsIn old.number call most before after told → HasEnded call most old new told
+  pass_ends call most told e =
+      let ended : Mark = Ended old.number call e.rounds told in
+      record {
+        marks = mine old.number e.marks;
+        rounds = e.rounds;
+        front = front_is (e.marks ++ ended ∷ []) (mine old.number e.marks ++ ended ∷ []) e.makes (mine_append old.number e.marks (ended ∷ []) ∙ ap (λ (l : List Mark). mine old.number e.marks ++ l) (mine_own old.number ended [] refl));
+        last = last_then e.marks ended e.makes;
+        of_call = e.of_call;
+        few = e.few;
+        is_free = free_then e.is_free;
+      }
+
+  pub pass_strays : StraysIn before after → GoesOn old.number old.seen new.seen []
+  pass_strays s = front_is s.marks [] (s.makes old.number) (s.none_own old.number)
+
+  pub pass_strays_wanted : StraysIn before after → wanted_by old.number new.seen ≡ wanted_by old.number old.seen
+  pass_strays_wanted s = ap (wanted_by old.number) seen ∙ s.wanted old.number ∙ wanted_seen old.number old.seen before.marks has
+
+-- ---- a hold
+-- between a pass and what it is once the hold is given back, a world became another
+pub record WasHeld {S V A : Type 0} (n : ℕ) (before after : View S V) (old new : Sitting A Mark) : Type 0 where
+  pub number : n ≡ old.number
+  pub has : HasSeen owner_of old.number old.seen before.marks
+  pub seen : new.seen ≡ after.marks
+  pub own : new.own ≡ own_part after old.number
+
+pub was_held : {S V : Type 0} (n : ℕ) (before after : View S V) (old held new : Sitting (View S V) Mark) → HasSeen owner_of old.number old.seen before.marks → held ≡ record old { holds = Some before; seen = before.marks } → n ≡ held.number
+    → new ≡ record held { holds = None; seen = after.marks; own = own_part after held.number } → WasHeld n before after old new
+was_held {S} {V} n before after old held new has holds number gave = record {
+  number = number ∙ ap (λ (s : Sitting (View S V) Mark). s.number) holds;
+  has = has;
+  seen = ap (λ (s : Sitting (View S V) Mark). s.seen) gave;
+  own = ap (λ (s : Sitting (View S V) Mark). s.own) gave ∙ ap (λ (s : Sitting (View S V) Mark). own_part after s.number) holds;
+}
+
+-- what is given back was made in the hold
+pub gives_back : {S V : Type 0} (n : ℕ) (before after : View S V) (old held : Sitting (View S V) Mark) → held ≡ record old { holds = Some before; seen = before.marks } → n ≡ held.number → IsHeldBy n before after → (x : View S V) → held.holds ≡ Some x → IsHeldBy held.number x after
+gives_back {S} {V} n before after old held holds number makes x is =
+    subst (λ (v : View S V). IsHeldBy held.number v after) (some_is (ap (λ (s : Sitting (View S V) Mark). s.holds) (sym holds) ∙ is))
+    (subst (λ (k : ℕ). IsHeldBy k before after) number makes)
+
+-- a caller with an open call is known
+pub held_known : {S V : Type 0} (n number call : ℕ) (before : View S V) (own : List ℕ) → n ≡ number → own_part before number ≡ own → HasOpen call own → IsKept before → n ≤ before.greatest
+held_known n number call before own same part has kept = open_known before n call (subst (λ (k : ℕ). HasOpen call (own_part before k)) (sym same) (subst (HasOpen call) (sym part) has)) kept
+
+-- ---- by what a hold answers
+module _ {S V : Type 0} (n : ℕ) (before after : View S V) (key : List ℕ) (program : List Clause) where
+  pub begun_makes : (result : Result Opened Answer) → IfOk result (λ begun. BeginsIn n begun.call key program before after) → IfErr result (BeginsNot n key program before after) → IsHeldBy n before after
+  begun_makes (Ok begun) b e = (_, b.makes)
+  begun_makes (Err told) b (deeds.ends_at_once call rounds makes free) = (_, makes)
+  begun_makes (Err told) b (deeds.is_refused refusal makes free) = (_, makes)
+
+module _ {S V A : Type 0} (n : ℕ) (before after : View S V) (key : List ℕ) (program : List Clause) where
+  pub begun_told : (old new : Sitting A Mark) (result : Result Opened Answer) → WasHeld n before after old new → IfOk result (λ begun. BeginsIn n begun.call key program before after) → IfOk result (λ begun. HasBegun begun.call key program old new)
+  begun_told old new (Ok begun) was b = pass_begins before after old new was.has was.seen was.own begun.call key program (subst (λ (k : ℕ). BeginsIn k begun.call key program before after) was.number b)
+  begun_told old new (Err told) was b = tt
+
+  pub refused_told : (old new : Sitting A Mark) (result : Result Opened Answer) → WasHeld n before after old new → IfErr result (BeginsNot n key program before after) → IfErr result (HasNotBegun key program old new)
+  refused_told old new (Ok begun) was e = tt
+  refused_told old new (Err told) was e = pass_begins_not before after old new was.has was.seen was.own key program told (subst (λ (k : ℕ). BeginsNot k key program before after told) was.number e)
+
+module _ {S V Stage : Type 0} (n call most : ℕ) (before after : View S V) where
+  pub gone_makes : (result : Result Stage Answer) → OnOk result (GoesOnIn n call most before after) → IfErr result (EndsIn n call most before after) → IsHeldBy n before after
+  gone_makes (Ok stage) g e = (_, g.makes)
+  gone_makes (Err told) g e = (_, e.makes)
+
+module _ {S V A Stage : Type 0} (n call most : ℕ) (before after : View S V) where
+  pub gone_told : (old new : Sitting A Mark) (result : Result Stage Answer) → WasHeld n before after old new → OnOk result (GoesOnIn n call most before after) → OnOk result (HasGoneOn call most old new)
+  gone_told old new (Ok stage) was g = pass_goes_on before after old new was.has was.seen was.own call most (subst (λ (k : ℕ). GoesOnIn k call most before after) was.number g)
+  gone_told old new (Err told) was g = tt
+
+  pub ended_told : (old new : Sitting A Mark) (result : Result Stage Answer) → WasHeld n before after old new → IfErr result (EndsIn n call most before after) → IfErr result (HasEnded call most old new)
+  ended_told old new (Ok stage) was e = tt
+  ended_told old new (Err told) was e = pass_ends before after old new was.has was.seen was.own call most told (subst (λ (k : ℕ). EndsIn k call most before after told) was.number e)
+
+-- ---- one hold after another
+losses_append : (a b : List Mark) → losses (a ++ b) ≡ losses a + losses b
+losses_append [] b = omega arith
+losses_append (mark.Harmed caller call false ∷ a) b = let rest = losses_append a b in omega (arith, rest)
+losses_append (mark.Harmed caller call true ∷ a) b = losses_append a b
+losses_append (mark.Begun caller call key program ∷ a) b = losses_append a b
+losses_append (mark.Proposed p ∷ a) b = losses_append a b
+losses_append (mark.Voted acceptor key ballot ∷ a) b = losses_append a b
+losses_append (mark.Acked x ∷ a) b = losses_append a b
+losses_append (mark.Floor key ballot state ∷ a) b = losses_append a b
+losses_append (mark.EraEntered proposer number ∷ a) b = losses_append a b
+losses_append (mark.Ended caller call rounds answer ∷ a) b = losses_append a b
+losses_append (mark.Told asked answer ∷ a) b = losses_append a b
+
+few_then : (a b : List Mark) (most more : ℕ) → losses a ≤ most → losses b ≤ more → losses (a ++ b) ≤ most + more
+few_then a b most more few less = let sum = losses_append a b in omega (arith, sum, few, less)
+
+pub counted_none : (harms : ℕ) → IsCounted 0 harms harms
+counted_none harms = record { never_falls = omega arith; counted = λ below. omega arith }
+
+pub counted_then : (most more a b c : ℕ) → IsCounted most a b → IsCounted more b c → IsCounted (most + more) a c
+counted_then most more a b c first then_ = record {
+  never_falls = let x = first.never_falls in let y = then_.never_falls in omega (arith, x, y);
+  counted = λ below. let y = then_.never_falls in let late = then_.counted below in let soon = first.counted (omega (arith, below, y)) in omega (arith, soon, late);
+}
+
+pub counted_less : (less most a b : ℕ) → less ≤ most → IsCounted most a b → IsCounted less a b
+counted_less less most a b low is = record { never_falls = is.never_falls; counted = λ below. let c = is.counted below in omega (arith, low, c) }
+
+module _ {A : Type 0} (call lost most : ℕ) (a b c d : Sitting A Mark) (number : b.number ≡ a.number) (asked : c ≡ record b { seen = c.seen }) (strays : GoesOn b.number b.seen c.seen []) (wants_same : wanted_by b.number c.seen ≡ wanted_by b.number b.seen) where
+  at_first : c.number ≡ a.number
+  at_first = ap (λ (s : Sitting A Mark). s.number) asked ∙ number
+
+  whole_front : (marks more : List Mark) → GoesOn a.number a.seen b.seen marks → GoesOn c.number c.seen d.seen more → GoesOn a.number a.seen d.seen (marks ++ more)
+  whole_front marks more first then_ =
+      goes_on_then a.number a.seen b.seen d.seen marks more first
+      (goes_on_then a.number b.seen c.seen d.seen [] more (subst (λ (k : ℕ). GoesOn k b.seen c.seen []) number strays) (subst (λ (k : ℕ). GoesOn k c.seen d.seen more) at_first then_))
+
+  pub gone_then : HasGoneOn call lost a b → HasGoneOn call most c d → HasGoneOn call (lost + most) a d
+  gone_then first then_ = record {
+    marks = first.marks ++ then_.marks;
+    front = whole_front first.marks then_.marks first.front then_.front;
+    of_call = All-append (λ mark. call_of mark ≡ Some call) first.marks then_.marks first.of_call then_.of_call;
+    few = few_then first.marks then_.marks lost most first.few then_.few;
+    is_open = then_.is_open;
+    wanted = ap (λ (k : ℕ). wanted_by k d.seen) (sym at_first) ∙ then_.wanted ∙ ap (λ (k : ℕ). wanted_by k c.seen) (at_first ∙ sym number) ∙ wants_same ∙ ap (λ (k : ℕ). wanted_by k b.seen) number ∙ first.wanted;
+  }
+
+  pub ended_then : (told : Answer) → HasGoneOn call lost a b → HasEnded call most c d told → HasEnded call (lost + most) a d told
+  ended_then told first then_ = record {
+    marks = first.marks ++ then_.marks;
+    rounds = then_.rounds;
+    front = subst (GoesOn a.number a.seen d.seen) (sym (append_assoc first.marks then_.marks (Ended a.number call then_.rounds told ∷ [])))
+        (whole_front first.marks (then_.marks ++ Ended a.number call then_.rounds told ∷ []) first.front (subst (λ (k : ℕ). GoesOn c.number c.seen d.seen (then_.marks ++ Ended k call then_.rounds told ∷ [])) at_first then_.front));
+    last = subst (λ (k : ℕ). IsLast d.seen (Ended k call then_.rounds told)) at_first then_.last;
+    of_call = All-append (λ mark. call_of mark ≡ Some call) first.marks then_.marks first.of_call then_.of_call;
+    few = few_then first.marks then_.marks lost most first.few then_.few;
+    is_free = then_.is_free;
+  }
+
+-- a call that has just begun has gone on by nothing
+pub goes_on_none : {A : Type 0} (call : ℕ) (pass : Sitting A Mark) → HasOpen call pass.own → HasGoneOn call 0 pass pass
+goes_on_none call pass has = record {
+  marks = [];
+  front = record { begins = record { behind = []; whole = append-nil pass.seen }; own_marks = sym (append-nil (mine pass.number pass.seen)) };
+  of_call = All-nil (λ mark. call_of mark ≡ Some call);
+  few = omega arith;
+  is_open = has;
+  wanted = refl;
+}
+
+-- ---- a call that has begun, from hold to hold
+-- the pass of a call that has gone on, and what was lost by then
+pub record HasRun {A : Type 0} (call harms harms_now : ℕ) (old now : Sitting A Mark) : Type 0 where
+  pub pass : now ≡ record old { seen = now.seen; own = now.own }
+  pub lost : ℕ
+  pub counted : IsCounted lost harms harms_now
+  pub gone : HasGoneOn call lost old now
+
+pub run_begins : {A : Type 0} (call harms : ℕ) (pass : Sitting A Mark) → HasOpen call pass.own → HasRun call harms harms pass pass
+run_begins call harms pass has = record { pass = refl; lost = 0; counted = counted_none harms; gone = goes_on_none call pass has }
+
+pub still_pass : {A : Type 0} (board : TurnId) (old now : Sitting A Mark) → IsPassOf board old → now ≡ record old { seen = now.seen; own = now.own } → IsPassOf board now
+still_pass {A} board old now is same = record {
+  turn = ap (λ (s : Sitting A Mark). s.turn) same ∙ is.turn;
+  idle = ap (λ (s : Sitting A Mark). s.holds) same ∙ is.idle;
+  known = let number : now.number ≡ old.number = ap (λ (s : Sitting A Mark). s.number) same in omega (arith, number, is.known);
+}
+
+module _ {A : Type 0} (call harms harms_now : ℕ) (a b c : Sitting A Mark) (run : HasRun call harms harms_now a b) (asked : c ≡ record b { seen = c.seen }) where
+  pub asked_pass : (board : TurnId) → IsPassOf board a → IsPassOf board c
+  asked_pass board is = let now = still_pass board a b is run.pass in record {
+    turn = ap (λ (s : Sitting A Mark). s.turn) asked ∙ now.turn;
+    idle = ap (λ (s : Sitting A Mark). s.holds) asked ∙ now.idle;
+    known = let number : c.number ≡ b.number = ap (λ (s : Sitting A Mark). s.number) asked in omega (arith, number, now.known);
+  }
+
+  pub asked_open : HasOpen call c.own
+  asked_open = subst (HasOpen call) (sym (ap (λ (s : Sitting A Mark). s.own) asked)) run.gone.is_open
+
+  number_b : b.number ≡ a.number
+  number_b = ap (λ (s : Sitting A Mark). s.number) run.pass
+
+  pub asked_wanted : (wanted : _) → wanted_by b.number c.seen ≡ wanted_by b.number b.seen → wanted_by a.number a.seen ≡ wanted → wanted_by c.number c.seen ≡ wanted
+  asked_wanted wanted same is = ap (λ (s : Sitting A Mark). wanted_by s.number c.seen) asked ∙ same ∙ ap (λ (k : ℕ). wanted_by k b.seen) number_b ∙ run.gone.wanted ∙ is
+
+  module _ (most harms_then : ℕ) (d : Sitting A Mark) (strays : GoesOn b.number b.seen c.seen []) (wants_same : wanted_by b.number c.seen ≡ wanted_by b.number b.seen) (counts : IsCounted most harms_now harms_then) (gave : d ≡ record c { seen = d.seen; own = d.own }) where
+    pub run_pass : d ≡ record a { seen = d.seen; own = d.own }
+    run_pass = gave ∙ ap (λ (s : Sitting A Mark). record s { seen = d.seen; own = d.own }) asked ∙ ap (λ (s : Sitting A Mark). record s { seen = d.seen; own = d.own }) run.pass
+
+    pub run_goes_on : HasGoneOn call most c d → HasRun call harms harms_then a d
+    run_goes_on gone = record {
+      pass = run_pass;
+      lost = run.lost + most;
+      counted = counted_then run.lost most harms harms_now harms_then run.counted counts;
+      gone = gone_then call run.lost most a b c d number_b asked strays wants_same run.gone gone;
+    }
+
+    pub run_ends : (told : Answer) → HasEnded call most c d told → (lost : ℕ) × IsCounted lost harms harms_then × HasEnded call lost a d told
+    run_ends told ended = (run.lost + most, counted_then run.lost most harms harms_now harms_then run.counted counts, ended_then call run.lost most a b c d number_b asked strays wants_same told run.gone ended)
+
+-- ---- a change
+module _ {A : Type 0} (key : List ℕ) (program : List Clause) (harms harms_then : ℕ) where
+  pub change_answered : (call lost : ℕ) (a b c : Sitting A Mark) (told : Answer) → b.number ≡ a.number → HasBegun call key program a b → IsCounted lost harms harms_then → HasEnded call lost b c told → Answers key program harms harms_then a c told
+  change_answered call lost a b c told number first counted then_ =
+      let begun : Mark = Begun a.number call key program in
+      let ended : Mark = Ended a.number call then_.rounds told in
+      changes.is_answered call then_.rounds (first.more ++ then_.marks)
+      (subst (λ (l : List Mark). GoesOn a.number a.seen c.seen (begun ∷ l)) (sym (append_assoc first.more then_.marks (ended ∷ [])))
+      (goes_on_then a.number a.seen b.seen c.seen (begun ∷ first.more) (then_.marks ++ ended ∷ []) first.front
+      (subst (λ (k : ℕ). GoesOn k b.seen c.seen (then_.marks ++ Ended k call then_.rounds told ∷ [])) number then_.front)))
+      (All-append (λ mark. call_of mark ≡ Some call) first.more then_.marks first.of_call then_.of_call)
+      (counted_less (losses (first.more ++ then_.marks)) lost harms harms_then (let low = few_then first.more then_.marks 0 lost (let none = first.none_lost in omega (arith, none)) then_.few in omega (arith, low)) counted)
+      (subst (λ (k : ℕ). IsLast c.seen (Ended k call then_.rounds told)) number then_.last)
+
+  pub change_refused : (a c : Sitting A Mark) (told : Answer) → IsCounted 0 harms harms_then → HasNotBegun key program a c told → Answers key program harms harms_then a c told
+  change_refused a c told counted (changes.ends_at_once call rounds front last free) = changes.is_answered call rounds [] front (All-nil (λ mark. call_of mark ≡ Some call)) counted last
+  change_refused a c told counted (changes.is_refused refusal front free) = changes.is_not_begun refusal front

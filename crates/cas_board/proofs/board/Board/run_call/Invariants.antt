@@ -1,0 +1,5 @@
+use Rattle.cas_board.proofs.Sittings.{HasRun}
+use Rattle.cas_board.proofs.board.Board.run_call.Given as goal
+
+abbrev pub invariant-loop : goal.invariant-loop
+invariant-loop g l = HasRun l.call (g.F.Fate.harm_count l.initial.fate) (g.F.Fate.harm_count l.fate) l.initial.pass l.pass

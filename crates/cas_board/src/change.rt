@@ -1,0 +1,183 @@
+//! A change, from its call to its answer.
+
+ghost use Rattle.std.specs.Prelude.{◌≡◌, ◌≤◌, ℕ, [], Some, IfOk, IfErr, OnOk, reverse};
+ghost use Rattle.cas_record.specs.Legal.{IsLegal};
+ghost use Rattle.cas_board.specs.Changes.{Answers, HasBegun, HasEnded, HasGoneOn, HasNotBegun, IsCounted};
+ghost use Rattle.cas_hold.specs.Deeds.{BeginsIn, BeginsNot, harm_by};
+ghost use Rattle.cas_hold.specs.Mine.{GoesOn, wanted_by, wants};
+ghost use Rattle.cas_hold.specs.OwnParts.{own_part};
+ghost use Rattle.cas_hold.specs.Open.{HasOpen, IsFree};
+ghost use Rattle.cas_board.specs.Passes.{IsPassOf};
+
+use crate::board::{Board, Pass, caller_of};
+use crate::fates::Holds;
+use crate::shared::Shared;
+use cas_change::{Key, Program};
+use cas_disk::Disk;
+use cas_fate::{Fate, Verdict};
+use cas_hold::{Begun, Stage, begin, go_on};
+use cas_record::Answer;
+use std::sync::Wait;
+
+impl<D: Disk> Board<D> {
+    /// Runs a change as the next call of the pass's caller, and gives its answer, which is marked last in the front that the pass has seen
+    /// then. Where a round ends with a conflict another is begun, until there were `tries`. What becomes of each frame the fate says, and it is
+    /// asked while this call does not hold the turn.
+    ///
+    /// A call that is refused with [`Answer::RecordFull`], or with [`Answer::NoMemory`] before anything was proposed, may not have been begun: the
+    /// pass has seen more then, and none of its caller's marks was made. All other answers are those of a call that was begun.
+    pub fn change<R: Wait, F: Fate>(
+        &self,
+        rt: &R,
+        pass: &mut Pass<D>,
+        fate: &mut F,
+        key: &Key,
+        program: &Program,
+        tries: u32,
+    ) -> Answer
+        requires pass { IsPassOf self.now.id pass.old }
+        requires free { IsFree pass.old.own }
+        requires some { 1 ≤ tries }
+        ensures pass { pass.new ≡ record pass.old { seen = pass.new.seen; own = pass.new.own } }
+        ensures free { IsFree pass.new.own }
+        ensures answers { Answers key.now program.now (F.harm_count fate.old) (F.harm_count fate.new) pass.old pass.new result }
+        ensures legal { D.tells → IsLegal (reverse pass.new.seen) }
+    {
+        let mut holds = Holds::new();
+        match self.begin_once(rt, pass, key, program) {
+            Ok(begun) => { self.run_call(rt, pass, fate, &mut holds, begun, key, program, tries) }
+            Err(answer) => answer,
+        }
+    }
+
+    /// Goes on with the call that has begun until it ends, and gives its answer. A conflict may be followed by another round until there
+    /// were `tries`.
+    fn run_call<R: Wait, F: Fate>(
+        &self,
+        rt: &R,
+        pass: &mut Pass<D>,
+        fate: &mut F,
+        holds: &mut Holds,
+        begun: Begun,
+        key: &Key,
+        program: &Program,
+        tries: u32,
+    ) -> Answer
+        requires pass { IsPassOf self.now.id pass.old }
+        requires called { HasOpen begun.call pass.old.own }
+        requires wanted { wanted_by pass.old.number pass.old.seen ≡ Some (wants begun.call key.now program.now) }
+        ensures pass { pass.new ≡ record pass.old { seen = pass.new.seen; own = pass.new.own } }
+        ensures ended { (lost : ℕ) × IsCounted lost (F.harm_count fate.old) (F.harm_count fate.new) × HasEnded begun.call lost pass.old pass.new result }
+        ensures legal { D.tells → IsLegal (reverse pass.new.seen) }
+    {
+        let Begun { call, mut stage } = begun;
+        let mut rounds = 1;
+        let mut again = false;
+        for _ in rt.forever() {
+            let verdict = self.verdict_at(rt, pass, fate, holds, &stage, again);
+            rounds = rounds_with(rounds, &stage);
+            let more = rounds < tries;
+            match self.go_on_once(rt, pass, call, key, program, verdict, more) {
+                Ok(next) => stage = next,
+                Err(answer) => return answer,
+            }
+            again = verdict == Verdict::Twice;
+        }
+        unreachable!()
+    }
+
+    /// What becomes of the frame that waits, if one does.
+    fn verdict_at<R: Wait, F: Fate>(
+        &self,
+        rt: &R,
+        pass: &mut Pass<D>,
+        fate: &mut F,
+        holds: &mut Holds,
+        stage: &Stage,
+        again: bool,
+    ) -> Verdict
+        requires pass { IsPassOf self.now.id pass.old }
+        ensures pass { pass.new ≡ record pass.old { seen = pass.new.seen } }
+        ensures front { GoesOn pass.old.number pass.old.seen pass.new.seen [] }
+        ensures wanted { wanted_by pass.old.number pass.new.seen ≡ wanted_by pass.old.number pass.old.seen }
+        ensures counted { IsCounted (harm_by result) (F.harm_count fate.old) (F.harm_count fate.new) }
+    {
+        match stage {
+            Stage::Waits(frame) => self.verdict_on(rt, pass, fate, holds, frame, again),
+            Stage::Through | Stage::Met => Verdict::Deliver,
+        }
+    }
+
+    /// A hold in which a change begins.
+    fn begin_once<R: Wait>(
+        &self,
+        rt: &R,
+        pass: &mut Pass<D>,
+        key: &Key,
+        program: &Program,
+    ) -> Result<Begun, Answer>
+        requires pass { IsPassOf self.now.id pass.old }
+        requires free { IsFree pass.old.own }
+        ensures pass { pass.new ≡ record pass.old { seen = pass.new.seen; own = pass.new.own } }
+        ensures begun { IfOk result (λ begun. HasBegun begun.call key.now program.now pass.old pass.new) }
+        ensures not_begun { IfErr result (HasNotBegun key.now program.now pass.old pass.new) }
+        ensures legal { D.tells → IsLegal (reverse pass.new.seen) }
+    {
+        let mut shared = self.turn.hold(rt, pass);
+        let begun = begin_known(&mut shared, caller_of(pass), key, program);
+        self.give_back(rt, pass, shared);
+        begun
+    }
+
+    /// A hold in which the call goes on.
+    fn go_on_once<R: Wait>(
+        &self,
+        rt: &R,
+        pass: &mut Pass<D>,
+        call: u32,
+        key: &Key,
+        program: &Program,
+        verdict: Verdict,
+        may_repeat: bool,
+    ) -> Result<Stage, Answer>
+        requires pass { IsPassOf self.now.id pass.old }
+        requires called { HasOpen call pass.old.own }
+        requires wanted { wanted_by pass.old.number pass.old.seen ≡ Some (wants call key.now program.now) }
+        ensures pass { pass.new ≡ record pass.old { seen = pass.new.seen; own = pass.new.own } }
+        ensures goes_on { OnOk result (HasGoneOn call (harm_by verdict) pass.old pass.new) }
+        ensures ends { IfErr result (HasEnded call (harm_by verdict) pass.old pass.new) }
+        ensures legal { D.tells → IsLegal (reverse pass.new.seen) }
+    {
+        let mut shared = self.turn.hold(rt, pass);
+        let world = &mut shared.store.world;
+        let caller = caller_of(pass);
+        let stage = go_on(world, caller, call, key, program, verdict, may_repeat);
+        self.give_back(rt, pass, shared);
+        stage
+    }
+}
+
+/// Begins a change of the caller, if it is one of the store's.
+fn begin_known<D: Disk>(
+    shared: &mut Shared<D>,
+    caller: u8,
+    key: &Key,
+    program: &Program,
+) -> Result<Begun, Answer>
+    requires free { IsFree (own_part shared.old caller) }
+    ensures begun { IfOk result (λ begun. BeginsIn caller begun.call key.now program.now shared.old shared.new) }
+    ensures not_begun { IfErr result (BeginsNot caller key.now program.now shared.old shared.new) }
+{
+    if caller > shared.greatest {
+        return Err(Answer::NoMemory { proposed: false });
+    }
+    begin(&mut shared.store.world, caller, key, program)
+}
+
+/// How many rounds the call has had once it goes on from that stage.
+fn rounds_with(rounds: u32, stage: &Stage) -> u32 {
+    match stage {
+        Stage::Met => rounds.saturating_add(1),
+        Stage::Waits(_) | Stage::Through => rounds,
+    }
+}
