@@ -2,6 +2,8 @@
 
 ghost use Rattle.std.specs.Prelude.{◌≡◌, vec_len, IfOk};
 
+mod faults;
+
 use crate::cluster::cluster;
 use crate::status::Status;
 use cas_disk::{Image, MemoryDisk, Trouble};
