@@ -18,4 +18,6 @@ mod rows;
 mod steps;
 #[cfg(test)]
 mod stops;
+#[cfg(test)]
+mod storm;
 pub mod task;

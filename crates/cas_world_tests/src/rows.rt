@@ -40,7 +40,7 @@ pub struct Row<'a> {
 }
 
 /// Empty shelves in memory.
-fn shelves(alloc: Global) -> Result<Vec<MapShelf>, AllocError> {
+pub fn shelves(alloc: Global) -> Result<Vec<MapShelf>, AllocError> {
     let mut shelves = Vec::new(alloc);
     for _shelf in 0..64usize {
         shelves.push(MapShelf::new(alloc))?;
@@ -85,7 +85,7 @@ fn opened<S: Shelf + Drop>(
 }
 
 /// What the script answers to the lines.
-fn answers<S: Shelf + Drop>(
+pub fn answers<S: Shelf + Drop>(
     alloc: Global,
     script: &mut Script<S, MemoryDisk>,
     lines: &str,

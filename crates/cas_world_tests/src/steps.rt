@@ -355,7 +355,7 @@ impl<S: Shelf, V: Disk> Play<S, V> {
 }
 
 /// A program that always acts so.
-fn program_of(alloc: Global, act: Act) -> Result<Program, Fail> {
+pub fn program_of(alloc: Global, act: Act) -> Result<Program, Fail> {
     let mut clauses = Vec::new(alloc);
     clauses.push(Clause {
         guard: Guard::Always,
