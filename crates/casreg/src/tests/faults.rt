@@ -94,7 +94,7 @@ fn has_ended(
 fn a_source_fails_at_each_of_its_calls(rt: HostRuntime) -> Result<(), Fail> {
     let alloc = rt.alloc();
     let input = input(alloc)?;
-    for (piece, calls) in [(5usize, 39), (16, 13), (4096, 2)] {
+    for (piece, calls) in [(5usize, 39u64), (16, 13), (4096, 2)] {
         for given in 0..=calls {
             let source_fails = given.saturating_add(1);
             let outside = Outside {
@@ -120,7 +120,7 @@ fn a_source_fails_at_each_of_its_calls(rt: HostRuntime) -> Result<(), Fail> {
 fn a_sink_fails_at_each_of_its_calls(rt: HostRuntime) -> Result<(), Fail> {
     let alloc = rt.alloc();
     let input = input(alloc)?;
-    for (piece, calls) in [(5usize, 60), (16, 24), (4096, 12)] {
+    for (piece, calls) in [(5usize, 60u64), (16, 24), (4096, 12)] {
         for taken in 0..=calls {
             let sink_fails = taken.saturating_add(1);
             let outside = Outside {
