@@ -52,8 +52,8 @@ impl<D: Disk> Board<D> {
     /// A board over the disks of the rack, in which nothing has happened, and a pass for each caller, from that of the operator on, whose
     /// number is 0. The disks of the members and those of the vaults of the proposers are started, in the order of their numbers.
     ///
-    /// After an `Err` the disks come back. [`OpenFault::DiskFault`] tells the first that failed, whose count of faults rose, and then each disk is in its
-    /// place; [`OpenFault::NoMemory`] may also come once all have started.
+    /// After an `Err` the disks come back. [`OpenFault::DiskFault`] tells the first that failed, whose count of faults rose, and then each disk
+    /// is in its place; [`OpenFault::NoMemory`] may also come once all have started.
     pub fn open(
         alloc: Global,
         config: Config,

@@ -21,11 +21,11 @@ use std::sync::Wait;
 
 impl<D: Disk> Board<D> {
     /// Runs a change as the next call of the pass's caller, and gives its answer, which is marked last in the front that the pass has seen
-    /// then. Where a round ends with a conflict another is begun, until there were `tries`. What becomes of each frame the fate says, and it is
-    /// asked while this call does not hold the turn.
+    /// then. Where a round ends with a conflict another is begun, until there were `tries`. What becomes of each frame the fate says, and
+    /// it is asked while this call does not hold the turn.
     ///
-    /// A call that is refused with [`Answer::RecordFull`], or with [`Answer::NoMemory`] before anything was proposed, may not have been begun: the
-    /// pass has seen more then, and none of its caller's marks was made. All other answers are those of a call that was begun.
+    /// A call that is refused with [`Answer::RecordFull`], or with [`Answer::NoMemory`] before anything was proposed, may not have been
+    /// begun: none of its caller's marks was made then. All other answers are those of a call that was begun.
     pub fn change<R: Wait, F: Fate>(
         &self,
         rt: &R,

@@ -357,6 +357,3 @@ greatest_refused m n old new by = (refused_turn_goes_on m n 0 old new by).goes.a
 
 pub greatest_proposed : {S V : Type 0} (m : Meaning S V) (n : ℕ) (old new : View S V) → StepPropose m old n new → new.greatest ≡ old.greatest
 greatest_proposed m n old new by = (propose_goes_on m n 0 old new by).goes.acts.greatest
-
-pub greatest_counted : {S V : Type 0} (m : Meaning S V) (n : ℕ) (old new : View S V) → StepCount m old n new → new.greatest ≡ old.greatest
-greatest_counted m n old new by = (count_is_over m n 0 old new by).goes.acts.greatest
