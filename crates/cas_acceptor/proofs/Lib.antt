@@ -1,3 +1,4 @@
 pub mod Decisions
 pub mod Fitting
 pub mod Moments
+pub mod Pages

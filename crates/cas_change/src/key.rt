@@ -13,6 +13,7 @@ use std::alloc::{AllocError, Global};
 use std::cmp::Ordering;
 use std::hash::{Hash, Hasher};
 use std::marker::Model;
+use std::sync::ArcSlice;
 
 /// How many bytes a key has at most.
 pub const LONGEST_KEY: usize = 64;
@@ -46,18 +47,19 @@ impl From<AllocError> for KeyFault {
 /// Contracts see a key as its bytes. Keys are ordered by their bytes, and a key that begins another comes first.
 #[derive(Debug, Drop)]
 pub struct Key {
-    bytes: Vec<u8>,
+    bytes: ArcSlice<u8>,
 }
 
 impl Model for Key {
     ghost use Rattle.std.specs.Prelude.{ℕ, List};
+    ghost use Rattle.std.specs.Arc.{arc_slice_items};
     ghost use Rattle.cas_change.specs.Key.{IsKey};
 
     ghost Value = { List ℕ };
 
-    ghost view = { λ key. key.bytes.items };
+    ghost view = { λ key. arc_slice_items key.bytes };
 
-    ghost invariant = { λ key. IsKey key.bytes.items };
+    ghost invariant = { λ key. IsKey (arc_slice_items key.bytes) };
 }
 
 fn is_key_byte(byte: u8) -> bool
@@ -95,7 +97,7 @@ impl Key {
             return Err(KeyFault::BadByte { at });
         }
         Ok(Key {
-            bytes: Vec::from_slice(alloc, bytes)?,
+            bytes: ArcSlice::from_slice(alloc, bytes)?,
         })
     }
 

@@ -27,6 +27,9 @@ const OLD_FRONT: [u8; 9] = *b"\x02CASREG01";
 /// How many bytes the ages have.
 const AGES_LENGTH: usize = 8 * PROPOSERS;
 
+/// How much room the payload of a slot has at first beyond the bytes of its key. Only one with a text takes more.
+const ROOM_BESIDE_KEY: usize = 66;
+
 /// The payload of a cell that holds no slot.
 pub const FREE: [u8; 1] = [0];
 
@@ -224,7 +227,7 @@ pub fn spell_slot(alloc: Global, key: &Key, slot: &Slot) -> Result<Vec<u8>, Allo
     ensures fits { OnOk result (FitsSlot slot.now) }
     ensures key { IsKey key.now }
 {
-    let mut bytes = Vec::with_capacity(alloc, key.bytes().len() + 4036)?;
+    let mut bytes = Vec::with_capacity(alloc, key.bytes().len() + ROOM_BESIDE_KEY)?;
     bytes.push(1)?;
     push_key(&mut bytes, key)?;
     push_ballot(&mut bytes, slot.promise)?;
