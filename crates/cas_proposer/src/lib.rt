@@ -1,6 +1,7 @@
 //! A proposer's desk: its vault, its cache of promises, and at most one open round.
 //!
-//! Whom a round asks, what it proposes and what its caller is answered is decided elsewhere, and so is what becomes of frames.
+//! Whom a round asks, what it proposes and what its caller is answered is decided in `cas_calls` and `cas_world`, and what becomes of
+//! frames in `cas_fate` and `cas_script`.
 #![tactic(auto)]
 
 mod began;

@@ -1,7 +1,7 @@
 //! The two phases of a round, as its proposer sees them: what the replies that arrived come to.
 //!
-//! A phase is pure: it is told each reply, and says at any time how it would end. Who sends the requests, and what
-//! becomes of the state that was read, lives above.
+//! A phase is pure: it is told each reply, and says at any time how it would end. Who sends the requests lives in `cas_calls`,
+//! and what becomes of the state that was read in `cas_world`.
 #![tactic(auto)]
 
 pub mod laws;

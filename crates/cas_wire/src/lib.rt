@@ -1,4 +1,4 @@
-//! The frames of requests and replies as bytes, format 1, and the parts that they share with the cells of a disk.
+//! The frames of requests and replies as bytes, and the parts that they share with the cells of a disk.
 //!
 //! Each value has one spelling, and no spelling begins another. No cell lives here, and nothing is sent or kept.
 #![tactic(auto)]
