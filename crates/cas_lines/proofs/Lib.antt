@@ -2,6 +2,7 @@ pub mod Calls
 pub mod ChangeLines
 pub mod Commands
 pub mod EventLines
+pub mod EventWords
 pub mod FirstLens
 pub mod FirstLines
 pub mod LineMisfits

@@ -1,5 +1,7 @@
 -- The lines that ask for a change, are an operator's or are an event, and what they ask for.
 use Rattle.std.specs.Prelude.{◌≡◌, ◌≢◌, ℕ, ◌≤◌, Bool, true, false, ◌==◌, List, [], ◌∷◌, ◌++◌, length, codes, Option, Some, None, IfSome}
+use Rattle.std.specs.List.{list_any}
+use Rattle.std.specs.Str.{bytes_eq}
 use Rattle.cas_change.specs.Key.{IsKey}
 use Rattle.cas_change.specs.declared.program.Clause.{Clause}
 use Rattle.cas_change.specs.declared.program.Guard.{Guard}
@@ -125,6 +127,15 @@ is_remark [] = true
 is_remark ([] ∷ words) = false
 is_remark ((byte ∷ bytes) ∷ words) = byte == 35
 
+-- the words that begin events
+abbrev pub event_words : List Word
+event_words = codes "net" ∷ codes "crash" ∷ codes "restart" ∷ codes "halt" ∷ codes "stray" ∷ codes "show" ∷ []
+
+-- an event's line: its first word is one of them
+abbrev pub is_event : List Word → Bool
+is_event [] = false
+is_event (word ∷ words) = list_any (bytes_eq word) event_words
+
 -- what a line of at most 16,384 bytes says: a command, or nothing where it is a remark
 abbrev pub IsLine : ℕ → List ℕ → Option Command → Type 0
 IsLine proposers line None = (length line ≤ LONGEST_LINE) × (is_remark (words_of line) ≡ true)
@@ -158,6 +169,19 @@ change_of (Del caller key) = asks caller key (one Always Clear)
 change_of (DelVersion caller key version) = asks caller key (one (VersionIs version) Clear)
 change_of (Do caller key program) = asks caller key program
 change_of command = None
+
+-- the command is an event, which asks for no change and nothing of the operator
+abbrev pub asks_nobody : Command → Bool
+asks_nobody (Net leg who verdict) = true
+asks_nobody (CrashAcceptor id) = true
+asks_nobody (RestartAcceptor id) = true
+asks_nobody (CrashProposer proposer) = true
+asks_nobody (RestartProposer proposer) = true
+asks_nobody (HaltPrepared proposer) = true
+asks_nobody (HaltProposed proposer) = true
+asks_nobody (Stray index) = true
+asks_nobody (Show id key) = true
+asks_nobody command = false
 
 -- a command is within its limits, where there are so many proposers: callers count from 1 and proposers from 0, and no
 -- frame is held back

@@ -19,3 +19,4 @@ pub mod summary;
 
 pub use events::read_acceptor;
 pub use parts::{read_key, within};
+pub use reading::is_event;

@@ -7,7 +7,7 @@ ghost use Rattle.std.specs.Prelude.{◌≡◌, ◌≢◌, ◌≤◌, length, Opt
 ghost use Rattle.cas_change_text.specs.Misfit.{IsFirstMisfit};
 ghost use Rattle.cas_change_text.specs.Reading.{Reads, GivesInMemory};
 ghost use Rattle.cas_change_text.specs.Words.{words_of};
-ghost use Rattle.cas_lines.specs.Command.{AreCommand, AreUnlimited, IsKnown, IsLine, is_remark};
+ghost use Rattle.cas_lines.specs.Command.{AreCommand, AreUnlimited, IsKnown, IsLine, asks_nobody, is_event, is_remark};
 ghost use Rattle.cas_lines.specs.Reading.{begins_with_digit, head_in, head_at, command_behind, command_at, words_in, line_in};
 ghost use Rattle.cas_lines.specs.declared.command.Command.{Command};
 
@@ -116,6 +116,16 @@ fn is_remark(line: &[u8]) -> bool
     }
 }
 
+/// Whether a line is an event's: whether its first word is `net`, `crash`, `restart`, `halt`, `stray` or `show`, whatever follows.
+pub fn is_event(line: &[u8]) -> bool
+    ensures { result ≡ is_event (words_of line.now) }
+{
+    match Words::of(line).next() {
+        Some(word) => event_name(word).is_some(),
+        None => false,
+    }
+}
+
 /// What the words of a line ask for, and nothing where it is a remark.
 #[tactic(auto, unfolding(crate::specs::Reading::words_in))]
 fn words_in(alloc: Global, line: &[u8], proposers: u8) -> Result<Option<Command>, TextRefusal>
@@ -161,6 +171,8 @@ pub fn read_command(
         → MatchResult result (λ read. read ≡ said) (λ refusal. refusal.why ≡ Why.NoMemory) }
     // What is read is within its limits.
     ensures known { IfOk result (λ read. IfSome read (IsKnown proposers)) }
+    // What is read is an event where the first word is an event's, and nowhere else.
+    ensures event { IfOk result (λ read. IfSome read (λ command. asks_nobody command ≡ is_event (words_of line.now))) }
     // A line whose length fits is refused at the first word with which it begins no command.
     ensures first { length line.now ≤ LONGEST_LINE → IfErr result (λ refusal. refusal.why ≢ Why.NoMemory
         → IsFirstMisfit (AreUnlimited proposers) (AreCommand proposers) (words_of line.now) refusal.word) }

@@ -1,10 +1,12 @@
 use Rattle.cas_change_text.proofs.BothWays.{only_from_gives, found_from_gives}
 use Rattle.cas_change_text.specs.Words.{words_of}
 use Rattle.cas_change_text.proofs.Misfits.{misfit_from_gives}
-use Rattle.std.specs.Prelude.{IfSome}
-use Rattle.cas_lines.specs.Command.{AreCommand, AreUnlimited, IsKnown, IsLine}
+use Rattle.std.specs.Prelude.{◌≡◌, Option, IfSome}
+use Rattle.cas_lines.specs.Command.{AreCommand, AreUnlimited, IsKnown, IsLine, asks_nobody, is_event}
 use Rattle.cas_lines.specs.Reading.{line_in}
+use Rattle.cas_lines.specs.declared.command.Command.{Command}
 use Rattle.cas_lines.proofs.Commands.{line_found, line_again, line_known}
+use Rattle.cas_lines.proofs.EventWords.{line_event}
 use Rattle.cas_lines.proofs.LineMisfits.{line_misfit}
 use Rattle.cas_lines.proofs.reading.read_command.Goals as goal
 
@@ -29,3 +31,10 @@ returns-clause-known c =
     let line = c.args.line.now in
     found_from_gives c.line_in.result (line_in c.args.proposers line) (λ read. IfSome read (IsKnown c.args.proposers)) c.line_in.ensures
     (λ read is. line_known c.args.proposers line read (line_found c.args.proposers line read is))
+
+pub returns-clause-event : goal.returns-clause-event
+returns-clause-event c =
+    let line = c.args.line.now in
+    let P : Option Command → Type 0 = λ read. IfSome read (λ command. asks_nobody command ≡ is_event (words_of line)) in
+    found_from_gives c.line_in.result (line_in c.args.proposers line) P c.line_in.ensures
+    (λ read is. line_event c.args.proposers line read (line_found c.args.proposers line read is))

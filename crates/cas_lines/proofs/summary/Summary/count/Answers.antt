@@ -1,4 +1,4 @@
-use Rattle.std.proofs.Common.{Bool, ℕ, refl, ap, arith}
+use Rattle.std.proofs.Common.{refl, ap, arith}
 use Rattle.cas_lines.specs.Summary.{is_done, is_conflict, is_unsettled, is_other}
 use Rattle.cas_lines.proofs.Summaries.{one_if, few_of, none_of, one_more}
 use Rattle.cas_lines.proofs.summary.Summary.count.Goals as goal
