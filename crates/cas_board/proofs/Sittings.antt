@@ -1,12 +1,14 @@
 -- What a pass tells of a hold, by what the hold did.
-use Rattle.std.proofs.Common.{◌≡◌, ◌≤◌, ◌<◌, ℕ, zero, suc, ◌+◌, List, [], ◌∷◌, ◌++◌, length, None, Some, slice_get, true, false, refl, sym, ap, subst, ◌∙◌, append_assoc, append-nil, arith}
+use Rattle.std.proofs.Common.{◌≡◌, ◌≤◌, ◌<◌, ℕ, zero, suc, ◌+◌, ◌-◌, ◌^◌, Bool, if◌then◌else◌, ap₂, List, [], ◌∷◌, ◌++◌, length, None, Some, slice_get, true, false, refl, sym, ap, subst, ◌∙◌, append_assoc, append-nil, arith}
 use Rattle.std.specs.Prelude.{Result, Ok, Err, IfOk, IfErr, OnOk}
 use Rattle.std.proofs.lemmas.List.Elements.{All-append, All-nil}
+use Rattle.std.proofs.Math.Nat.{min-le_left}
 use Rattle.cas_change.specs.declared.program.Clause.{Clause}
 use Rattle.cas_record.specs.declared.answer.Answer.{Answer}
 use Rattle.cas_record.specs.declared.mark.Mark.{Mark}
 use Rattle.cas_record.specs.declared.mark.Mark.TheVariants as mark
 use Rattle.cas_record.specs.declared.mark.Mark.TheVariants.{Begun, Ended}
+use Rattle.cas_cluster.specs.StepCalls.{one_more}
 use Rattle.cas_cluster.specs.View.{View}
 use Rattle.cas_cluster.proofs.Places.{some_is}
 use Rattle.cas_turn.specs.Seen.{Begins, HasSeen, OnlyOwnedBy, added_to}
@@ -21,7 +23,10 @@ use Rattle.cas_hold.specs.declared.deeds.Begun.{Begun as Opened}
 use Rattle.cas_hold.specs.Mine.{mine, call_of, losses, wanted_by, GoesOn, IsLast}
 use Rattle.cas_hold.specs.Owners.{owner_of, MayAdd}
 use Rattle.cas_hold.specs.OwnParts.{own_part}
-use Rattle.cas_hold.specs.Open.{IsFree, HasOpen}
+use Rattle.cas_hold.specs.Conflicts.{is_conflict}
+use Rattle.cas_hold.specs.Open.{IsFree, HasOpen, rounds_in, is_met_in, rounds_after}
+use Rattle.cas_hold.specs.Stages.{tells_met}
+use Rattle.cas_hold.specs.declared.deeds.Stage.{Stage}
 use Rattle.cas_hold.proofs.Fronts.{added_is, mine_append, mine_own, front_goes_on, goes_on_then, wanted_seen}
 use Rattle.cas_hold.proofs.Parts.{open_at}
 
@@ -70,16 +75,18 @@ module _ {S V A : Type 0} (before after : View S V) (old new : Sitting A Mark) (
     of_call = b.of_call;
     none_lost = b.none_lost;
     is_open = open_then call b.is_open;
+    first = ap rounds_in own ∙ b.first;
+    unmet = ap is_met_in own ∙ b.unmet;
     wanted = ap (wanted_by old.number) seen ∙ b.wanted;
   }
 
   pub pass_begins_not : (key : List ℕ) (program : List Clause) (told : Answer) → BeginsNot old.number key program before after told → HasNotBegun key program old new told
-  pass_begins_not key program told (deeds.ends_at_once call rounds makes free) =
+  pass_begins_not key program told (deeds.ends_at_once call rounds makes free no_conflict) =
       let n : ℕ = old.number in
       let begun : Mark = Begun n call key program in
       let ended : Mark = Ended n call rounds told in
       changes.ends_at_once call rounds (front_is (begun ∷ ended ∷ []) (begun ∷ ended ∷ []) makes (mine_own n begun (ended ∷ []) refl ∙ ap (λ (l : List Mark). begun ∷ l) (mine_own n ended [] refl)))
-      (last_then (begun ∷ []) ended makes) (free_then free)
+      (last_then (begun ∷ []) ended makes) (free_then free) no_conflict
   pass_begins_not key program told (deeds.is_refused refusal makes free) = changes.is_refused refusal (front_of [] makes) (free_then free)
 
   pub pass_goes_on : (call most : ℕ) → GoesOnIn old.number call most before after → HasGoneOn call most old new
@@ -92,12 +99,11 @@ module _ {S V A : Type 0} (before after : View S V) (old new : Sitting A Mark) (
     wanted = ap (wanted_by old.number) seen ∙ g.wanted ∙ wanted_seen old.number old.seen before.marks has;
   }
 
-  pub pass_ends : (call most : ℕ) (told : Answer) → EndsIn old.number call most before after told → HasEnded call most old new told
+  pub pass_ends : (call most : ℕ) (told : Answer) → EndsIn old.number call most before after told → HasEnded call (rounds_after (own_part before old.number)) most old new told
   pass_ends call most told e =
-      let ended : Mark = Ended old.number call e.rounds told in
+      let ended : Mark = Ended old.number call (rounds_after (own_part before old.number)) told in
       record {
         marks = mine old.number e.marks;
-        rounds = e.rounds;
         front = front_is (e.marks ++ ended ∷ []) (mine old.number e.marks ++ ended ∷ []) e.makes (mine_append old.number e.marks (ended ∷ []) ∙ ap (λ (l : List Mark). mine old.number e.marks ++ l) (mine_own old.number ended [] refl));
         last = last_then e.marks ended e.makes;
         of_call = e.of_call;
@@ -142,7 +148,7 @@ held_known n number call before own same part has kept = open_known before n cal
 module _ {S V : Type 0} (n : ℕ) (before after : View S V) (key : List ℕ) (program : List Clause) where
   pub begun_makes : (result : Result Opened Answer) → IfOk result (λ begun. BeginsIn n begun.call key program before after) → IfErr result (BeginsNot n key program before after) → IsHeldBy n before after
   begun_makes (Ok begun) b e = (_, b.makes)
-  begun_makes (Err told) b (deeds.ends_at_once call rounds makes free) = (_, makes)
+  begun_makes (Err told) b (deeds.ends_at_once call rounds makes free no_conflict) = (_, makes)
   begun_makes (Err told) b (deeds.is_refused refusal makes free) = (_, makes)
 
 module _ {S V A : Type 0} (n : ℕ) (before after : View S V) (key : List ℕ) (program : List Clause) where
@@ -164,9 +170,27 @@ module _ {S V A Stage : Type 0} (n call most : ℕ) (before after : View S V) wh
   gone_told old new (Ok stage) was g = pass_goes_on before after old new was.has was.seen was.own call most (subst (λ (k : ℕ). GoesOnIn k call most before after) was.number g)
   gone_told old new (Err told) was g = tt
 
-  pub ended_told : (old new : Sitting A Mark) (result : Result Stage Answer) → WasHeld n before after old new → IfErr result (EndsIn n call most before after) → IfErr result (HasEnded call most old new)
-  ended_told old new (Ok stage) was e = tt
-  ended_told old new (Err told) was e = pass_ends before after old new was.has was.seen was.own call most told (subst (λ (k : ℕ). EndsIn k call most before after told) was.number e)
+  pub ended_told : (old new : Sitting A Mark) (result : Result Stage Answer) → WasHeld n before after old new → own_part before old.number ≡ old.own → IfErr result (EndsIn n call most before after) → IfErr result (HasEnded call (rounds_after old.own) most old new)
+  ended_told old new (Ok stage) was own_was e = tt
+  ended_told old new (Err told) was own_was e =
+      subst (λ (own : List ℕ). HasEnded call (rounds_after own) most old new told) own_was
+      (pass_ends before after old new was.has was.seen was.own call most told (subst (λ (k : ℕ). EndsIn k call most before after told) was.number e))
+
+  pub rounds_told : (old new : Sitting A Mark) (result : Result Stage Answer) → WasHeld n before after old new → own_part before old.number ≡ old.own → OnOk result (GoesOnIn n call most before after) → OnOk result (rounds_in new.own ≡ rounds_after old.own)
+  rounds_told old new (Ok stage) was own_was g = ap rounds_in was.own ∙ (subst (λ (k : ℕ). GoesOnIn k call most before after) was.number g).rounds ∙ ap rounds_after own_was
+  rounds_told old new (Err told) was own_was g = tt
+
+module _ {S V A : Type 0} (n : ℕ) (before after : View S V) (old new : Sitting A Mark) (was : WasHeld n before after old new) where
+  met_own : is_met_in new.own ≡ is_met_in (own_part after n)
+  met_own = ap is_met_in was.own ∙ ap (λ (k : ℕ). is_met_in (own_part after k)) (sym was.number)
+
+  pub met_told : (result : Result Stage Answer) → IfOk result (λ stage. is_met_in (own_part after n) ≡ tells_met stage) → IfOk result (λ stage. is_met_in new.own ≡ tells_met stage)
+  met_told (Ok stage) met = met_own ∙ met
+  met_told (Err told) met = tt
+
+  pub repeats_told : (may_repeat : Bool) (result : Result Stage Answer) → OnOk result (is_met_in (own_part after n) ≡ true → may_repeat ≡ true) → OnOk result (is_met_in new.own ≡ true → may_repeat ≡ true)
+  repeats_told may_repeat (Ok stage) repeats = λ met. repeats (sym met_own ∙ met)
+  repeats_told may_repeat (Err told) repeats = tt
 
 -- ---- one hold after another
 losses_append : (a b : List Mark) → losses (a ++ b) ≡ losses a + losses b
@@ -216,13 +240,12 @@ module _ {A : Type 0} (call lost most : ℕ) (a b c d : Sitting A Mark) (number 
     wanted = ap (λ (k : ℕ). wanted_by k d.seen) (sym at_first) ∙ then_.wanted ∙ ap (λ (k : ℕ). wanted_by k c.seen) (at_first ∙ sym number) ∙ wants_same ∙ ap (λ (k : ℕ). wanted_by k b.seen) number ∙ first.wanted;
   }
 
-  pub ended_then : (told : Answer) → HasGoneOn call lost a b → HasEnded call most c d told → HasEnded call (lost + most) a d told
-  ended_then told first then_ = record {
+  pub ended_then : (told : Answer) (rounds : ℕ) → HasGoneOn call lost a b → HasEnded call rounds most c d told → HasEnded call rounds (lost + most) a d told
+  ended_then told rounds first then_ = record {
     marks = first.marks ++ then_.marks;
-    rounds = then_.rounds;
-    front = subst (GoesOn a.number a.seen d.seen) (sym (append_assoc first.marks then_.marks (Ended a.number call then_.rounds told ∷ [])))
-        (whole_front first.marks (then_.marks ++ Ended a.number call then_.rounds told ∷ []) first.front (subst (λ (k : ℕ). GoesOn c.number c.seen d.seen (then_.marks ++ Ended k call then_.rounds told ∷ [])) at_first then_.front));
-    last = subst (λ (k : ℕ). IsLast d.seen (Ended k call then_.rounds told)) at_first then_.last;
+    front = subst (GoesOn a.number a.seen d.seen) (sym (append_assoc first.marks then_.marks (Ended a.number call rounds told ∷ [])))
+        (whole_front first.marks (then_.marks ++ Ended a.number call rounds told ∷ []) first.front (subst (λ (k : ℕ). GoesOn c.number c.seen d.seen (then_.marks ++ Ended k call rounds told ∷ [])) at_first then_.front));
+    last = subst (λ (k : ℕ). IsLast d.seen (Ended k call rounds told)) at_first then_.last;
     of_call = All-append (λ mark. call_of mark ≡ Some call) first.marks then_.marks first.of_call then_.of_call;
     few = few_then first.marks then_.marks lost most first.few then_.few;
     is_free = then_.is_free;
@@ -286,23 +309,63 @@ module _ {A : Type 0} (call harms harms_now : ℕ) (a b c : Sitting A Mark) (run
       gone = gone_then call run.lost most a b c d number_b asked strays wants_same run.gone gone;
     }
 
-    pub run_ends : (told : Answer) → HasEnded call most c d told → (lost : ℕ) × IsCounted lost harms harms_then × HasEnded call lost a d told
-    run_ends told ended = (run.lost + most, counted_then run.lost most harms harms_now harms_then run.counted counts, ended_then call run.lost most a b c d number_b asked strays wants_same told run.gone ended)
+    pub run_ends : (told : Answer) (rounds tries : ℕ) → (is_conflict told ≡ true → rounds ≡ tries) → HasEnded call rounds most c d told
+        → (lost so_many : ℕ) × IsCounted lost harms harms_then × HasEnded call so_many lost a d told × (is_conflict told ≡ true → so_many ≡ tries)
+    run_ends told rounds tries tried ended = (run.lost + most, rounds, counted_then run.lost most harms harms_now harms_then run.counted counts, ended_then call run.lost most a b c d number_b asked strays wants_same told rounds run.gone ended, tried)
+
+-- ---- rounds
+-- it has had so many rounds, of which the last ended with a conflict or not; there may be so many, and behind a conflict there is another
+pub record HasTried (tries rounds : ℕ) (met : Bool) (own : List ℕ) : Type 0 where
+  pub counted : rounds_in own ≡ rounds
+  pub tells : is_met_in own ≡ met
+  pub within : rounds ≤ tries
+  pub more : met ≡ true → rounds < tries
+
+-- how many it has had as it goes on
+abbrev pub rounds_now : ℕ → Bool → ℕ
+rounds_now rounds met = if met then one_more rounds else rounds
+
+module _ (tries rounds : ℕ) (met : Bool) (own : List ℕ) (tried : HasTried tries rounds met own) where
+  pub rounds_same : rounds_after own ≡ rounds_now rounds met
+  rounds_same = ap₂ (λ (b : Bool) (r : ℕ). rounds_now r b) tried.tells tried.counted
+
+  pub rounds_within : rounds_now rounds met ≤ tries
+  rounds_within = by_test met tried.more tried.within
+    where
+      by_test : (b : Bool) → (b ≡ true → rounds < tries) → rounds ≤ tries → rounds_now rounds b ≤ tries
+      by_test true more within = let low = more refl in let less : one_more rounds ≤ rounds + 1 = min-le_left (rounds + 1) (2 ^ 32 - 1) in omega (arith, low, less)
+      by_test false more within = within
+
+  -- with no further one to come it has had all
+  pub rounds_spent : (now : ℕ) → now ≡ rounds_now rounds met → tries ≤ now → rounds_after own ≡ tries
+  rounds_spent now is spent = let low = rounds_within in let whole : now ≡ tries = omega (arith, is, low, spent) in rounds_same ∙ sym is ∙ whole
+
+  pub tried_on : (now : ℕ) (met_then : Bool) (own_then : List ℕ) → now ≡ rounds_now rounds met → rounds_in own_then ≡ rounds_after own → is_met_in own_then ≡ met_then → (is_met_in own_then ≡ true → now < tries) → HasTried tries now met_then own_then
+  tried_on now met_then own_then is goes tells more = record {
+    counted = goes ∙ rounds_same ∙ sym is;
+    tells = tells;
+    within = let low = rounds_within in omega (arith, is, low);
+    more = λ m. more (tells ∙ m);
+  }
+
+-- asking for a verdict leaves that
+pub tried_asked : {A : Type 0} (tries rounds : ℕ) (met : Bool) (b c : Sitting A Mark) → c ≡ record b { seen = c.seen } → HasTried tries rounds met b.own → HasTried tries rounds met c.own
+tried_asked {A} tries rounds met b c asked tried = subst (HasTried tries rounds met) (sym (ap (λ (s : Sitting A Mark). s.own) asked)) tried
 
 -- ---- a change
 module _ {A : Type 0} (key : List ℕ) (program : List Clause) (harms harms_then : ℕ) where
-  pub change_answered : (call lost : ℕ) (a b c : Sitting A Mark) (told : Answer) → b.number ≡ a.number → HasBegun call key program a b → IsCounted lost harms harms_then → HasEnded call lost b c told → Answers key program harms harms_then a c told
-  change_answered call lost a b c told number first counted then_ =
+  pub change_answered : (tries call lost rounds : ℕ) (a b c : Sitting A Mark) (told : Answer) → b.number ≡ a.number → HasBegun call key program a b → IsCounted lost harms harms_then → HasEnded call rounds lost b c told → (is_conflict told ≡ true → rounds ≡ tries) → Answers key program tries harms harms_then a c told
+  change_answered tries call lost rounds a b c told number first counted then_ tried =
       let begun : Mark = Begun a.number call key program in
-      let ended : Mark = Ended a.number call then_.rounds told in
-      changes.is_answered call then_.rounds (first.more ++ then_.marks)
+      let ended : Mark = Ended a.number call rounds told in
+      changes.is_answered call rounds (first.more ++ then_.marks)
       (subst (λ (l : List Mark). GoesOn a.number a.seen c.seen (begun ∷ l)) (sym (append_assoc first.more then_.marks (ended ∷ [])))
       (goes_on_then a.number a.seen b.seen c.seen (begun ∷ first.more) (then_.marks ++ ended ∷ []) first.front
-      (subst (λ (k : ℕ). GoesOn k b.seen c.seen (then_.marks ++ Ended k call then_.rounds told ∷ [])) number then_.front)))
+      (subst (λ (k : ℕ). GoesOn k b.seen c.seen (then_.marks ++ Ended k call rounds told ∷ [])) number then_.front)))
       (All-append (λ mark. call_of mark ≡ Some call) first.more then_.marks first.of_call then_.of_call)
       (counted_less (losses (first.more ++ then_.marks)) lost harms harms_then (let low = few_then first.more then_.marks 0 lost (let none = first.none_lost in omega (arith, none)) then_.few in omega (arith, low)) counted)
-      (subst (λ (k : ℕ). IsLast c.seen (Ended k call then_.rounds told)) number then_.last)
+      (subst (λ (k : ℕ). IsLast c.seen (Ended k call rounds told)) number then_.last) tried
 
-  pub change_refused : (a c : Sitting A Mark) (told : Answer) → IsCounted 0 harms harms_then → HasNotBegun key program a c told → Answers key program harms harms_then a c told
-  change_refused a c told counted (changes.ends_at_once call rounds front last free) = changes.is_answered call rounds [] front (All-nil (λ mark. call_of mark ≡ Some call)) counted last
-  change_refused a c told counted (changes.is_refused refusal front free) = changes.is_not_begun refusal front
+  pub change_refused : (tries : ℕ) (a c : Sitting A Mark) (told : Answer) → IsCounted 0 harms harms_then → HasNotBegun key program a c told → Answers key program tries harms harms_then a c told
+  change_refused tries a c told counted (changes.ends_at_once call rounds front last free no_conflict) = changes.is_answered call rounds [] front (All-nil (λ mark. call_of mark ≡ Some call)) counted last (λ conflict. absurd (cc (no_conflict, conflict)))
+  change_refused tries a c told counted (changes.is_refused refusal front free) = changes.is_not_begun refusal counted front

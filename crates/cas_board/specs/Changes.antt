@@ -1,13 +1,14 @@
 -- What a call of the board does for a caller, as its pass tells.
-use Rattle.std.specs.Prelude.{◌≡◌, ◌+◌, ◌-◌, ◌^◌, ◌<◌, ◌≤◌, ℕ, List, [], ◌∷◌, ◌++◌, Some}
+use Rattle.std.specs.Prelude.{◌≡◌, ◌+◌, ◌-◌, ◌^◌, ◌<◌, ◌≤◌, ℕ, true, false, List, [], ◌∷◌, ◌++◌, Some}
 use Rattle.cas_change.specs.declared.program.Clause.{Clause}
 use Rattle.cas_record.specs.declared.answer.Answer.{Answer}
 use Rattle.cas_record.specs.declared.mark.Mark.{Mark}
 use Rattle.cas_record.specs.declared.mark.Mark.TheVariants.{Begun, Ended}
 use Rattle.cas_turn.specs.Sitting.{Sitting}
+use Rattle.cas_hold.specs.Conflicts.{is_conflict}
 use Rattle.cas_hold.specs.Deeds.{IsRefusal}
 use Rattle.cas_hold.specs.Mine.{AreOfCall, losses, wants, wanted_by, GoesOn, IsLast}
-use Rattle.cas_hold.specs.Open.{IsFree, HasOpen}
+use Rattle.cas_hold.specs.Open.{IsFree, HasOpen, rounds_in, is_met_in}
 
 -- ---- harms
 -- a fate's count of harms did not fall, and rose by at least so much unless it stands at the greatest u64
@@ -24,11 +25,13 @@ module _ {V : Type 0} where
     pub of_call : AreOfCall call more
     pub none_lost : losses more ≡ 0
     pub is_open : HasOpen call new.own
+    pub first : rounds_in new.own ≡ 1
+    pub unmet : is_met_in new.own ≡ false
     pub wanted : wanted_by old.number new.seen ≡ Some (wants call key program)
 
-  -- a call for this begins and ends at once; or it is not begun, and no mark is made
+  -- a call for this begins and ends at once, which is no conflict; or it is not begun, and no mark is made
   pub data HasNotBegun (key : List ℕ) (program : List Clause) (old new : Sitting V Mark) (told : Answer) : Type 0 where
-    ends_at_once : (call rounds : ℕ) → GoesOn old.number old.seen new.seen (Begun old.number call key program ∷ Ended old.number call rounds told ∷ []) → IsLast new.seen (Ended old.number call rounds told) → IsFree new.own → HasNotBegun key program old new told
+    ends_at_once : (call rounds : ℕ) → GoesOn old.number old.seen new.seen (Begun old.number call key program ∷ Ended old.number call rounds told ∷ []) → IsLast new.seen (Ended old.number call rounds told) → IsFree new.own → is_conflict told ≡ false → HasNotBegun key program old new told
     is_refused : IsRefusal told → GoesOn old.number old.seen new.seen [] → IsFree new.own → HasNotBegun key program old new told
 
   -- the open call of that number goes on
@@ -40,10 +43,9 @@ module _ {V : Type 0} where
     pub is_open : HasOpen call new.own
     pub wanted : wanted_by old.number new.seen ≡ wanted_by old.number old.seen
 
-  -- it has ended with this answer, which the front's last mark tells
-  pub record HasEnded (call most : ℕ) (old new : Sitting V Mark) (told : Answer) : Type 0 where
+  -- it has ended after so many rounds with this answer, which the front's last mark tells
+  pub record HasEnded (call rounds most : ℕ) (old new : Sitting V Mark) (told : Answer) : Type 0 where
     pub marks : List Mark
-    pub rounds : ℕ
     pub front : GoesOn old.number old.seen new.seen (marks ++ Ended old.number call rounds told ∷ [])
     pub last : IsLast new.seen (Ended old.number call rounds told)
     pub of_call : AreOfCall call marks
@@ -51,10 +53,10 @@ module _ {V : Type 0} where
     pub is_free : IsFree new.own
 
   -- ---- a change
-  -- A change is a call of its caller, with the marks of its beginning and its end, and between them marks of that call alone. Or it is
-  -- not begun, and no mark of the caller is made.
+  -- A change is a call of its caller, with the marks of its beginning and its end, and between them marks of that call alone; a conflict
+  -- had all rounds that it might have. Or it is not begun, and no mark of the caller is made.
   -- So many of them at most tell of frames that were lost or made late as the fate's count of harms rose by.
-  pub data Answers (key : List ℕ) (program : List Clause) (harms harms_then : ℕ) (old new : Sitting V Mark) (told : Answer) : Type 0 where
+  pub data Answers (key : List ℕ) (program : List Clause) (tries harms harms_then : ℕ) (old new : Sitting V Mark) (told : Answer) : Type 0 where
     is_answered : (call rounds : ℕ) (between : List Mark) → GoesOn old.number old.seen new.seen (Begun old.number call key program ∷ between ++ Ended old.number call rounds told ∷ []) → AreOfCall call between → IsCounted (losses between) harms harms_then
-        → IsLast new.seen (Ended old.number call rounds told) → Answers key program harms harms_then old new told
-    is_not_begun : IsRefusal told → GoesOn old.number old.seen new.seen [] → Answers key program harms harms_then old new told
+        → IsLast new.seen (Ended old.number call rounds told) → (is_conflict told ≡ true → rounds ≡ tries) → Answers key program tries harms harms_then old new told
+    is_not_begun : IsRefusal told → IsCounted 0 harms harms_then → GoesOn old.number old.seen new.seen [] → Answers key program tries harms harms_then old new told

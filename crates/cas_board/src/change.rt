@@ -1,12 +1,15 @@
 //! A change, from its call to its answer.
 
-ghost use Rattle.std.specs.Prelude.{◌≡◌, ◌≤◌, ℕ, [], Some, IfOk, IfErr, OnOk, reverse};
+ghost use Rattle.std.specs.Prelude.{◌≡◌, ◌≤◌, ℕ, true, false, if◌then◌else◌, [], Some, IfOk, IfErr, OnOk, reverse};
 ghost use Rattle.cas_record.specs.Legal.{IsLegal};
+ghost use Rattle.cas_cluster.specs.StepCalls.{one_more};
 ghost use Rattle.cas_board.specs.Changes.{Answers, HasBegun, HasEnded, HasGoneOn, HasNotBegun, IsCounted};
 ghost use Rattle.cas_hold.specs.Deeds.{BeginsIn, BeginsNot, harm_by};
 ghost use Rattle.cas_hold.specs.Mine.{GoesOn, wanted_by, wants};
 ghost use Rattle.cas_hold.specs.OwnParts.{own_part};
-ghost use Rattle.cas_hold.specs.Open.{HasOpen, IsFree};
+ghost use Rattle.cas_hold.specs.Conflicts.{is_conflict};
+ghost use Rattle.cas_hold.specs.Open.{HasOpen, IsFree, is_met_in, rounds_after, rounds_in};
+ghost use Rattle.cas_hold.specs.Stages.{tells_met};
 ghost use Rattle.cas_board.specs.Passes.{IsPassOf};
 
 use crate::board::{Board, Pass, caller_of};
@@ -21,8 +24,8 @@ use std::sync::Wait;
 
 impl<D: Disk> Board<D> {
     /// Runs a change as the next call of the pass's caller, and gives its answer, which is marked last in the front that the pass has seen
-    /// then. Where a round ends with a conflict another is begun, until there were `tries`. What becomes of each frame the fate says, and
-    /// it is asked while this call does not hold the turn.
+    /// then. Where a round ends with a conflict another is begun, until there were `tries`: a conflict that is answered had just so many.
+    /// What becomes of each frame the fate says, and it is asked while this call does not hold the turn.
     ///
     /// A call that is refused with [`Answer::RecordFull`], or with [`Answer::NoMemory`] before anything was proposed, may not have been
     /// begun: none of its caller's marks was made then. All other answers are those of a call that was begun.
@@ -40,7 +43,7 @@ impl<D: Disk> Board<D> {
         requires some { 1 ≤ tries }
         ensures pass { pass.new ≡ record pass.old { seen = pass.new.seen; own = pass.new.own } }
         ensures free { IsFree pass.new.own }
-        ensures answers { Answers key.now program.now (F.harm_count fate.old) (F.harm_count fate.new) pass.old pass.new result }
+        ensures answers { Answers key.now program.now tries (F.harm_count fate.old) (F.harm_count fate.new) pass.old pass.new result }
         ensures legal { D.tells → IsLegal (reverse pass.new.seen) }
     {
         let mut holds = Holds::new();
@@ -66,8 +69,12 @@ impl<D: Disk> Board<D> {
         requires pass { IsPassOf self.now.id pass.old }
         requires called { HasOpen begun.call pass.old.own }
         requires wanted { wanted_by pass.old.number pass.old.seen ≡ Some (wants begun.call key.now program.now) }
+        requires some { 1 ≤ tries }
+        requires first { rounds_in pass.old.own ≡ 1 }
+        requires unmet { is_met_in pass.old.own ≡ false }
+        requires fresh { tells_met begun.stage ≡ false }
         ensures pass { pass.new ≡ record pass.old { seen = pass.new.seen; own = pass.new.own } }
-        ensures ended { (lost : ℕ) × IsCounted lost (F.harm_count fate.old) (F.harm_count fate.new) × HasEnded begun.call lost pass.old pass.new result }
+        ensures ended { (lost rounds : ℕ) × IsCounted lost (F.harm_count fate.old) (F.harm_count fate.new) × HasEnded begun.call rounds lost pass.old pass.new result × (is_conflict result ≡ true → rounds ≡ tries) }
         ensures legal { D.tells → IsLegal (reverse pass.new.seen) }
     {
         let Begun { call, mut stage } = begun;
@@ -120,6 +127,7 @@ impl<D: Disk> Board<D> {
         requires free { IsFree pass.old.own }
         ensures pass { pass.new ≡ record pass.old { seen = pass.new.seen; own = pass.new.own } }
         ensures begun { IfOk result (λ begun. HasBegun begun.call key.now program.now pass.old pass.new) }
+        ensures fresh { IfOk result (λ begun. tells_met begun.stage ≡ false) }
         ensures not_begun { IfErr result (HasNotBegun key.now program.now pass.old pass.new) }
         ensures legal { D.tells → IsLegal (reverse pass.new.seen) }
     {
@@ -145,7 +153,11 @@ impl<D: Disk> Board<D> {
         requires wanted { wanted_by pass.old.number pass.old.seen ≡ Some (wants call key.now program.now) }
         ensures pass { pass.new ≡ record pass.old { seen = pass.new.seen; own = pass.new.own } }
         ensures goes_on { OnOk result (HasGoneOn call (harm_by verdict) pass.old pass.new) }
-        ensures ends { IfErr result (HasEnded call (harm_by verdict) pass.old pass.new) }
+        ensures rounds { OnOk result (rounds_in pass.new.own ≡ rounds_after pass.old.own) }
+        ensures met { IfOk result (λ stage. is_met_in pass.new.own ≡ tells_met stage) }
+        ensures repeats { OnOk result (is_met_in pass.new.own ≡ true → may_repeat ≡ true) }
+        ensures ends { IfErr result (HasEnded call (rounds_after pass.old.own) (harm_by verdict) pass.old pass.new) }
+        ensures last { IfErr result (λ told. is_conflict told ≡ true → may_repeat ≡ false) }
         ensures legal { D.tells → IsLegal (reverse pass.new.seen) }
     {
         let mut shared = self.turn.hold(rt, pass);
@@ -166,6 +178,7 @@ fn begin_known<D: Disk>(
 ) -> Result<Begun, Answer>
     requires free { IsFree (own_part shared.old caller) }
     ensures begun { IfOk result (λ begun. BeginsIn caller begun.call key.now program.now shared.old shared.new) }
+    ensures fresh { IfOk result (λ begun. tells_met begun.stage ≡ false) }
     ensures not_begun { IfErr result (BeginsNot caller key.now program.now shared.old shared.new) }
 {
     if caller > shared.greatest {
@@ -175,7 +188,9 @@ fn begin_known<D: Disk>(
 }
 
 /// How many rounds the call has had once it goes on from that stage.
-fn rounds_with(rounds: u32, stage: &Stage) -> u32 {
+fn rounds_with(rounds: u32, stage: &Stage) -> u32
+    ensures { result ≡ (if tells_met stage.now then one_more rounds else rounds) }
+{
     match stage {
         Stage::Met => rounds.saturating_add(1),
         Stage::Waits(_) | Stage::Through => rounds,

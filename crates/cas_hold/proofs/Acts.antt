@@ -99,9 +99,9 @@ round_some (Some x) e = refl
 
 -- a stage depends on whether the round is open
 pub staged_same : {V : Type 0} (desk was : DeskView V) (call : CallView) → is_some desk.round ≡ is_some was.round → IsStaged was call → IsStaged desk call
-staged_same desk was call same (running some) = running (some_round desk.round (same ∙ round_some was.round some))
-staged_same {V} desk was call same (is_met none met unproposed) = is_met (none_round desk.round (same ∙ ap (λ (o : Option Round). is_some o) none)) met unproposed
-staged_same {V} desk was call same (is_closed none closed) = is_closed (none_round desk.round (same ∙ ap (λ (o : Option Round). is_some o) none)) closed
+staged_same desk was call same (running some unmet unclosed) = running (some_round desk.round (same ∙ round_some was.round some)) unmet unclosed
+staged_same {V} desk was call same (is_met none met unproposed unclosed) = is_met (none_round desk.round (same ∙ ap (λ (o : Option Round). is_some o) none)) met unproposed unclosed
+staged_same {V} desk was call same (is_closed none closed unmet) = is_closed (none_round desk.round (same ∙ ap (λ (o : Option Round). is_some o) none)) closed unmet
 
 -- a desk as it was before
 pub record WasDesk {V : Type 0} (old : List (DeskView V)) (p : ℕ) (desk : DeskView V) : Type 0 where

@@ -1,5 +1,5 @@
 -- What each call on the world for a caller's call does to its call, and which marks it makes.
-use Rattle.std.proofs.Common.{◌≡◌, ◌≤◌, ℕ, suc, ◌-◌, Bool, true, false, if◌then◌else◌, List, [], ◌∷◌, ◌++◌, length, Option, None, Some, is_some, slice_get, slice_set, refl, sym, ap, ap₂, subst, ◌∙◌, append-nil, length-set, arith}
+use Rattle.std.proofs.Common.{◌≡◌, ◌≤◌, ℕ, suc, ◌-◌, Bool, true, false, if◌then◌else◌, List, [], ◌∷◌, ◌++◌, length, Option, None, Some, IsSome, is_some, slice_get, slice_set, refl, sym, ap, ap₂, subst, ◌∙◌, append-nil, length-set, arith}
 use Rattle.std.proofs.lemmas.List.Elements.{All-nil, All-cons}
 use Rattle.cas_ballot.specs.Members.{has_member}
 use Rattle.cas_change.specs.declared.program.Clause.{Clause}
@@ -34,6 +34,7 @@ use Rattle.cas_cluster.specs.View.{Meaning, View, CallView, CallerView, IsAt, ne
 use Rattle.cas_cluster.proofs.Places.{at_one, at_set, some_is}
 use Rattle.cas_turn.specs.Seen.{OnlyOwnedBy}
 use Rattle.cas_world.specs.World.{WasTold}
+use Rattle.cas_hold.specs.Conflicts.{is_conflict, told_conflict}
 use Rattle.cas_hold.specs.Deeds.{harm_by}
 use Rattle.cas_hold.specs.Mine.{mine, call_of, AreOfCall, losses, Wanted, wanted_after}
 use Rattle.cas_hold.specs.Owners.{owner_of, is_answer, MayAdd}
@@ -121,7 +122,7 @@ gone_harms false verdict.Late e = omega arith
 gone_harms false verdict.Hold e = absurd (cc e)
 
 -- ---- a step of an open call
--- The call goes on as another state of it, with the same key and program.
+-- The call goes on as another state of it, with the same key, program and rounds; while its round is open no conflict is told.
 pub record CallGoesOn {S V : Type 0} (n most : ℕ) (old new : View S V) (caller : CallerView) (call : CallView) : Type 0 where
   pub next : CallView
   pub marks : List Mark
@@ -130,6 +131,9 @@ pub record CallGoesOn {S V : Type 0} (n most : ℕ) (old new : View S V) (caller
   pub at_next : IsAt new.callers n (record caller { call = Some next })
   pub key : next.key ≡ call.key
   pub program : next.program ≡ call.program
+  pub rounds : next.rounds ≡ call.rounds
+  pub closed : call.is_closed ≡ false → next.is_closed ≡ false
+  pub told : (desk : DeskView V) → IsAt new.desks n desk → IsSome desk.round → told_conflict call.told ≡ false → told_conflict next.told ≡ false
 
 -- and no mark is made where its caller is told something
 pub record SilentGoesOn {S V : Type 0} (n most : ℕ) (old new : View S V) (caller : CallerView) (call : CallView) : Type 0 where
@@ -159,8 +163,9 @@ acts_set : {S V : Type 0} (n : ℕ) (old new : View S V) (next : CallerView) (ma
 acts_set n old new next marks greatest desks callers council made = record { greatest = greatest; desks = desks; callers = spares_set n old.callers new.callers next callers; council = council; made = made }
 
 goes_on_set : {S V : Type 0} (n most : ℕ) (old new : View S V) (caller : CallerView) (call next : CallView) (marks : List Mark) → IsAt old.callers n caller → new.greatest ≡ old.greatest → SparesRounds n old.desks new.desks
-    → new.callers ≡ slice_set old.callers n (record caller { call = Some next }) → new.council ≡ old.council → new.marks ≡ old.marks ++ marks → Fine n caller.number most marks → next.key ≡ call.key → next.program ≡ call.program → CallGoesOn n most old new caller call
-goes_on_set n most old new caller call next marks at greatest desks callers council made fine key program = record {
+    → new.callers ≡ slice_set old.callers n (record caller { call = Some next }) → new.council ≡ old.council → new.marks ≡ old.marks ++ marks → Fine n caller.number most marks → next.key ≡ call.key → next.program ≡ call.program → next.rounds ≡ call.rounds
+    → next.is_closed ≡ call.is_closed → ((desk : DeskView V) → IsAt new.desks n desk → IsSome desk.round → told_conflict next.told ≡ false) → CallGoesOn n most old new caller call
+goes_on_set {S} {V} n most old new caller call next marks at greatest desks callers council made fine key program rounds closed told = record {
   next = next;
   marks = marks;
   acts = acts_set n old new (record caller { call = Some next }) marks greatest desks callers council made;
@@ -168,6 +173,9 @@ goes_on_set n most old new caller call next marks at greatest desks callers coun
   at_next = subst (λ (l : List CallerView). IsAt l n (record caller { call = Some next })) (sym callers) (at_set old.callers n caller (record caller { call = Some next }) at);
   key = key;
   program = program;
+  rounds = rounds;
+  closed = λ open_. closed ∙ open_;
+  told = λ desk at_desk some unmet. told desk at_desk some;
 }
 
 desks_same : {S V : Type 0} (n : ℕ) (old new : View S V) → new.desks ≡ old.desks → SparesRounds n old.desks new.desks
@@ -186,7 +194,7 @@ turn_goes_on {S} {V} m n v old new by = in_turn by.of_call by.front by.turn
         → losses (Harmed n at.caller.number down ∷ []) ≤ harm_by v → CallGoesOn n (harm_by v) old new at.caller at.call
     harmed at acceptor down spares greatest council callers made few =
         goes_on_set n (harm_by v) old new at.caller at.call (frames.harmed_by at.call acceptor) (frames.harms_marked n at.caller.number at.call acceptor down) at.at_caller greatest spares callers council made
-        (by_member (has_member at.call.harmed acceptor)) refl refl
+        (by_member (has_member at.call.harmed acceptor)) refl refl refl refl (λ desk at_desk some. refl)
       where
         by_member : (b : Bool) → Fine n at.caller.number (harm_by v) (if b then [] else Harmed n at.caller.number down ∷ [])
         by_member true = fine_none n at.caller.number (harm_by v)
@@ -201,20 +209,23 @@ turn_goes_on {S} {V} m n v old new by = in_turn by.of_call by.front by.turn
       at_next = subst (λ (w : View S V). IsAt w.callers n (record at.caller { call = Some at.call })) (sym same) (subst (λ (c : CallerView). IsAt old.callers n c) (same_caller at.caller at.call at.is_open) at.at_caller);
       key = refl;
       program = refl;
+      rounds = refl;
+      closed = λ open_. open_;
+      told = λ desk at_desk some unmet. unmet;
     }
     in_turn at front (frames.gone fall same) =
         harmed at _ false (desks_same n old new (ap (λ (w : View S V). w.desks) same)) (ap (λ (w : View S V). w.greatest) same) (ap (λ (w : View S V). w.council) same) (ap (λ (w : View S V). w.callers) same) (ap (λ (w : View S V). w.marks) same)
         (let some : 1 ≤ harm_by v = gone_harms (queue_at old.flow n).again v fall in omega (arith, some))
     in_turn at front (frames.answers request acceptor now reply fall is there table same) =
         goes_on_set n (harm_by v) old new at.caller at.call (frames.marking at.call (length (frames.votes_marked request reply))) (frames.votes_marked request reply) at.at_caller (ap (λ (w : View S V). w.greatest) same) (desks_same n old new (ap (λ (w : View S V). w.desks) same))
-        (ap (λ (w : View S V). w.callers) same) (ap (λ (w : View S V). w.council) same) (ap (λ (w : View S V). w.marks) same) (fine_votes n at.caller.number (harm_by v) request reply) refl refl
+        (ap (λ (w : View S V). w.callers) same) (ap (λ (w : View S V). w.council) same) (ap (λ (w : View S V). w.marks) same) (fine_votes n at.caller.number (harm_by v) request reply) refl refl refl refl (λ desk_ at_desk some. refl)
     in_turn at front (frames.finds_down request acceptor fall is there down same) =
         harmed at _ true (desks_same n old new (ap (λ (w : View S V). w.desks) same)) (ap (λ (w : View S V). w.greatest) same) (ap (λ (w : View S V). w.council) same) (ap (λ (w : View S V). w.callers) same) (ap (λ (w : View S V). w.marks) same) (omega arith)
     in_turn at front (frames.brings_down request acceptor now fall is there stops same) =
         harmed at _ true (desks_same n old new (ap (λ (w : View S V). w.desks) same)) (ap (λ (w : View S V). w.greatest) same) (ap (λ (w : View S V). w.council) same) (ap (λ (w : View S V). w.callers) same) (ap (λ (w : View S V). w.marks) same) (omega arith)
     in_turn at front (frames.arrives reply desk now round heard fall is there is_round hears same) =
         goes_on_set n (harm_by v) old new at.caller at.call (frames.silent at.call) [] at.at_caller (ap (λ (w : View S V). w.greatest) same) (desks_set n old new now (ap (λ (w : View S V). w.desks) same))
-        (ap (λ (w : View S V). w.callers) same) (ap (λ (w : View S V). w.council) same) (ap (λ (w : View S V). w.marks) same ∙ sym (append-nil old.marks)) (fine_none n at.caller.number (harm_by v)) refl refl
+        (ap (λ (w : View S V). w.callers) same) (ap (λ (w : View S V). w.council) same) (ap (λ (w : View S V). w.marks) same ∙ sym (append-nil old.marks)) (fine_none n at.caller.number (harm_by v)) refl refl refl refl (λ desk_ at_desk some. refl)
 
 -- no memory was found for it
 pub refused_turn_goes_on : {S V : Type 0} (m : Meaning S V) (n most : ℕ) (old new : View S V) (by : StepRefuseTurn m old n new) → SilentGoesOn n most old new by.of_call.caller by.of_call.call
@@ -233,38 +244,40 @@ refused_turn_goes_on {S} {V} m n most old new by = in_case by.middle by.refuses 
       goes = goes_on_set n most old new at.caller at.call next [] at.at_caller
           (ap (λ (w : View S V). w.greatest) same ∙ ap (λ (w : View S V). w.greatest) stays_) (desks_same n old new (ap (λ (w : View S V). w.desks) same ∙ ap (λ (w : View S V). w.desks) stays_))
           (ap (λ (w : View S V). w.callers) same ∙ ap (λ (w : View S V). slice_set w.callers n (record at.caller { call = Some next })) stays_) (ap (λ (w : View S V). w.council) same ∙ ap (λ (w : View S V). w.council) stays_)
-          (ap (λ (w : View S V). w.marks) same ∙ ap (λ (w : View S V). w.marks) stays_ ∙ sym (append-nil old.marks)) (fine_none n at.caller.number most) refl refl;
+          (ap (λ (w : View S V). w.marks) same ∙ ap (λ (w : View S V). w.marks) stays_ ∙ sym (append-nil old.marks)) (fine_none n at.caller.number most) refl refl refl refl (λ desk at_desk some. refl);
     }
     in_case middle (frames.kept id acceptor now there finds kept_) same = record {
       silent = λ number told was. refl;
       goes = goes_on_set n most old new at.caller at.call next [] at.at_caller
           (ap (λ (w : View S V). w.greatest) same ∙ ap (λ (w : View S V). w.greatest) kept_) (desks_same n old new (ap (λ (w : View S V). w.desks) same ∙ ap (λ (w : View S V). w.desks) kept_))
           (ap (λ (w : View S V). w.callers) same ∙ ap (λ (w : View S V). slice_set w.callers n (record at.caller { call = Some next })) kept_) (ap (λ (w : View S V). w.council) same ∙ ap (λ (w : View S V). w.council) kept_)
-          (ap (λ (w : View S V). w.marks) same ∙ ap (λ (w : View S V). w.marks) kept_ ∙ sym (append-nil old.marks)) (fine_none n at.caller.number most) refl refl;
+          (ap (λ (w : View S V). w.marks) same ∙ ap (λ (w : View S V). w.marks) kept_ ∙ sym (append-nil old.marks)) (fine_none n at.caller.number most) refl refl refl refl (λ desk at_desk some. refl);
     }
 
 -- the end of its prepare phase
 pub propose_goes_on : {S V : Type 0} (m : Meaning S V) (n most : ℕ) (old new : View S V) (by : StepPropose m old n new) → SilentGoesOn n most old new by.at_round.of_call.caller by.at_round.of_call.call
 unfolding goes_on_set
-propose_goes_on {S} {V} m n most old new by = in_phase by.at_round.of_call by.at_round.desk by.at_round.round by.proposes
+propose_goes_on {S} {V} m n most old new by = in_phase by.at_round.of_call by.at_round.desk by.at_round.at_desk by.at_round.round by.proposes
   where
-    over : (at : OpenCallAt old n) (now : DeskView V) (told : Answer) → new ≡ calls.with_call (record old { desks = slice_set old.desks n now }) n at.caller (calls.over at.call told) → SilentGoesOn n most old new at.caller at.call
-    over at now told same = record {
+    over : (at : OpenCallAt old n) (now : DeskView V) (told : Answer) → ((desk : DeskView V) → IsAt new.desks n desk → IsSome desk.round → told_conflict (Some told) ≡ false) → new ≡ calls.with_call (record old { desks = slice_set old.desks n now }) n at.caller (calls.over at.call told) → SilentGoesOn n most old new at.caller at.call
+    over at now told tells same = record {
       silent = λ number answer_ was. refl;
       goes = goes_on_set n most old new at.caller at.call (calls.over at.call told) [] at.at_caller (ap (λ (w : View S V). w.greatest) same) (desks_set n old new now (ap (λ (w : View S V). w.desks) same))
-          (ap (λ (w : View S V). w.callers) same) (ap (λ (w : View S V). w.council) same) (ap (λ (w : View S V). w.marks) same ∙ sym (append-nil old.marks)) (fine_none n at.caller.number most) refl refl;
+          (ap (λ (w : View S V). w.callers) same) (ap (λ (w : View S V). w.council) same) (ap (λ (w : View S V). w.marks) same ∙ sym (append-nil old.marks)) (fine_none n at.caller.number most) refl refl refl refl tells;
     }
 
-    in_phase : (at : OpenCallAt old n) (desk : DeskView V) (round : Round) → calls.ProposesOrEnds m old n desk round at.caller at.call new → SilentGoesOn n most old new at.caller at.call
-    in_phase at desk round (calls.proposes now turned read by_ ride outcome flow quorum confirmers reads turns made sends same) =
+    in_phase : (at : OpenCallAt old n) (desk : DeskView V) → IsAt old.desks n desk → (round : Round) → calls.ProposesOrEnds m old n desk round at.caller at.call new → SilentGoesOn n most old new at.caller at.call
+    in_phase at desk there round (calls.proposes now turned read by_ ride outcome flow quorum confirmers reads turns made sends same) =
         record {
           silent = λ number told was. absurd (cc (told_in new n number told was _ (calls.proposing at.call outcome) (subst (λ (w : View S V). IsAt w.callers n (record at.caller { call = Some (calls.proposing at.call outcome) })) (sym same) (at_set old.callers n at.caller _ at.at_caller)) refl));
           goes = goes_on_set n most old new at.caller at.call (calls.proposing at.call outcome) (Proposed (calls.proposal_of n at.caller.number round _ by_) ∷ []) at.at_caller (ap (λ (w : View S V). w.greatest) same) (desks_set n old new now (ap (λ (w : View S V). w.desks) same))
-              (ap (λ (w : View S V). w.callers) same) (ap (λ (w : View S V). w.council) same) (ap (λ (w : View S V). w.marks) same) (fine_proposal n at.caller.number most _ refl refl) refl refl;
+              (ap (λ (w : View S V). w.callers) same) (ap (λ (w : View S V). w.council) same) (ap (λ (w : View S V). w.marks) same) (fine_proposal n at.caller.number most _ refl refl) refl refl refl refl (λ desk_ at_desk some. refl);
         }
-    in_phase at desk round (calls.ends now v told is refuses ends same) = over at now told same
-    in_phase at desk round (calls.fails now fails same) = over at now answer.VaultFault same
-    in_phase at desk round (calls.loses now ballot loses same) = over at now (answer.NoMemory false) same
+    in_phase at desk there round (calls.ends now v told is refuses ends same) =
+        let there_now : IsAt new.desks n now = subst (λ (w : View S V). IsAt w.desks n now) (sym same) (at_set old.desks n desk now there) in
+        over at now told (λ one at_one_ some. absurd (cc (subst (λ (d : DeskView V). IsSome d.round) (at_one new.desks n at_one_ there_now) some, ap (λ (d : DeskView V). d.round) ends.desk))) same
+    in_phase at desk there round (calls.fails now fails same) = over at now answer.VaultFault (λ one at_one_ some. refl) same
+    in_phase at desk there round (calls.loses now ballot loses same) = over at now (answer.NoMemory false) (λ one at_one_ some. refl) same
 
 -- the end of its accept phase
 pub count_is_over : {S V : Type 0} (m : Meaning S V) (n most : ℕ) (old new : View S V) (by : StepCount m old n new) → CallIsOver n most old new by.at_round.of_call.caller by.at_round.of_call.call
@@ -276,13 +289,13 @@ count_is_over {S} {V} m n most old new by = in_phase by.at_round.of_call by.at_r
         record {
           may_end = λ rounds told. (tt, (tt, tt));
           goes = goes_on_set n most old new at.caller at.call (calls.over at.call _) (Acked _ ∷ []) at.at_caller (ap (λ (w : View S V). w.greatest) same) (desks_set n old new now (ap (λ (w : View S V). w.desks) same))
-              (ap (λ (w : View S V). w.callers) same) (ap (λ (w : View S V). w.council) same) (ap (λ (w : View S V). w.marks) same) (fine_ack n at.caller.number most _) refl refl;
+              (ap (λ (w : View S V). w.callers) same) (ap (λ (w : View S V). w.council) same) (ap (λ (w : View S V). w.marks) same) (fine_ack n at.caller.number most _) refl refl refl refl (λ desk_ at_desk some. refl);
         }
     in_phase at desk round (calls.ends now v why is cause ends same) =
         record {
           may_end = λ rounds told. (tt, tt);
           goes = goes_on_set n most old new at.caller at.call (calls.over at.call (answer.Unsettled why)) [] at.at_caller (ap (λ (w : View S V). w.greatest) same) (desks_set n old new now (ap (λ (w : View S V). w.desks) same))
-              (ap (λ (w : View S V). w.callers) same) (ap (λ (w : View S V). w.council) same) (ap (λ (w : View S V). w.marks) same ∙ sym (append-nil old.marks)) (fine_none n at.caller.number most) refl refl;
+              (ap (λ (w : View S V). w.callers) same) (ap (λ (w : View S V). w.council) same) (ap (λ (w : View S V). w.marks) same ∙ sym (append-nil old.marks)) (fine_none n at.caller.number most) refl refl refl refl (λ desk_ at_desk some. refl);
         }
 
 -- ---- a call ends
@@ -360,6 +373,22 @@ refused_stray_lets_in {S} {V} m old new (frames.kept id acceptor now there finds
     lets_in_same old new [] (ap (λ (w : View S V). w.greatest) same) (ap (λ (w : View S V). w.desks) same) (ap (λ (w : View S V). w.callers) same) (ap (λ (w : View S V). w.council) same) (ap (λ (w : View S V). w.marks) same ∙ sym (append-nil old.marks)) (λ n call most. fine_none n call most)
 
 -- ---- a round begins
+-- no conflict keeps it from beginning
+none_begun : (told : Answer) → calls.IsNoBeginning told → is_conflict told ≡ false
+none_begun (answer.Conflict met) none = absurd none
+none_begun (answer.Done state took ballot) none = refl
+none_begun (answer.Aged least) none = refl
+none_begun (answer.Full acceptor) none = refl
+none_begun (answer.Short got need) none = refl
+none_begun (answer.Moved era) none = refl
+none_begun answer.Crashed none = refl
+none_begun (answer.Unsettled why) none = refl
+none_begun answer.Down none = refl
+none_begun answer.VaultFault none = refl
+none_begun answer.Spent none = refl
+none_begun answer.RecordFull none = refl
+none_begun (answer.NoMemory proposed) none = refl
+
 begins_goes_on : {S V : Type 0} (m : Meaning S V) (n most : ℕ) (old new : View S V) (caller : CallerView) (call : CallView) → IsAt old.callers n caller → caller.call ≡ Some call → calls.BeginsRound m old n caller call new → SilentGoesOn n most old new caller call
 unfolding goes_on_set
 begins_goes_on {S} {V} m n most old new caller call at is (calls.prepares desk now ballot round flow at_desk up few begins sends same) = record {
@@ -371,31 +400,34 @@ begins_goes_on {S} {V} m n most old new caller call at is (calls.prepares desk n
     at_next = subst (λ (w : View S V). IsAt w.callers n (record caller { call = Some call })) (sym same) (subst (λ (c : CallerView). IsAt old.callers n c) (same_caller caller call is) at);
     key = refl;
     program = refl;
+    rounds = refl;
+    closed = λ open_. open_;
+    told = λ desk_ at_desk_ some unmet. unmet;
   };
   silent = λ number told was. refl;
 }
 begins_goes_on {S} {V} m n most old new caller call at is (calls.proposes desk now ready ride round outcome flow at_desk up few begins made sends same) =
     let goes : CallGoesOn n most old new caller call = goes_on_set n most old new caller call (calls.proposing call outcome) (Proposed (calls.proposal_of n caller.number round ready.read ready.by) ∷ []) at (ap (λ (w : View S V). w.greatest) same) (desks_set n old new now (ap (λ (w : View S V). w.desks) same))
-    (ap (λ (w : View S V). w.callers) same) (ap (λ (w : View S V). w.council) same) (ap (λ (w : View S V). w.marks) same) (fine_proposal n caller.number most _ refl refl) refl refl in
+    (ap (λ (w : View S V). w.callers) same) (ap (λ (w : View S V). w.council) same) (ap (λ (w : View S V). w.marks) same) (fine_proposal n caller.number most _ refl refl) refl refl refl refl (λ desk_ at_desk_ some. refl) in
     record { goes = goes; silent = λ number told was. absurd (cc (told_in new n number told was _ (calls.proposing call outcome) (subst (λ (w : View S V). IsAt w.callers n (record caller { call = Some (calls.proposing call outcome) })) (sym same) (at_set old.callers n caller _ at)) refl)) }
 begins_goes_on {S} {V} m n most old new caller call at is (calls.stays told none no_round full same) = record {
   goes = goes_on_set n most old new caller call (calls.over call told) [] at (ap (λ (w : View S V). w.greatest) same) (desks_same n old new (ap (λ (w : View S V). w.desks) same)) (ap (λ (w : View S V). w.callers) same) (ap (λ (w : View S V). w.council) same)
-      (ap (λ (w : View S V). w.marks) same ∙ sym (append-nil old.marks)) (fine_none n caller.number most) refl refl;
+      (ap (λ (w : View S V). w.marks) same ∙ sym (append-nil old.marks)) (fine_none n caller.number most) refl refl refl refl (λ desk at_desk some. none_begun told none);
   silent = λ number told was. refl;
 }
 begins_goes_on {S} {V} m n most old new caller call at is (calls.spent desk now at_desk none up no_promise spent kept is_now same) = record {
   goes = goes_on_set n most old new caller call (calls.over call answer.Spent) [] at (ap (λ (w : View S V). w.greatest) same) (desks_set n old new now (ap (λ (w : View S V). w.desks) same)) (ap (λ (w : View S V). w.callers) same) (ap (λ (w : View S V). w.council) same)
-      (ap (λ (w : View S V). w.marks) same ∙ sym (append-nil old.marks)) (fine_none n caller.number most) refl refl;
+      (ap (λ (w : View S V). w.marks) same ∙ sym (append-nil old.marks)) (fine_none n caller.number most) refl refl refl refl (λ desk_ at_desk_ some. refl);
   silent = λ number told was. refl;
 }
 begins_goes_on {S} {V} m n most old new caller call at is (calls.fails desk now at_desk none up fails same) = record {
   goes = goes_on_set n most old new caller call (calls.over call answer.VaultFault) [] at (ap (λ (w : View S V). w.greatest) same) (desks_set n old new now (ap (λ (w : View S V). w.desks) same)) (ap (λ (w : View S V). w.callers) same) (ap (λ (w : View S V). w.council) same)
-      (ap (λ (w : View S V). w.marks) same ∙ sym (append-nil old.marks)) (fine_none n caller.number most) refl refl;
+      (ap (λ (w : View S V). w.marks) same ∙ sym (append-nil old.marks)) (fine_none n caller.number most) refl refl refl refl (λ desk_ at_desk_ some. refl);
   silent = λ number told was. refl;
 }
 begins_goes_on {S} {V} m n most old new caller call at is (calls.loses desk now ballot at_desk none up loses same) = record {
   goes = goes_on_set n most old new caller call (calls.over call (answer.NoMemory false)) [] at (ap (λ (w : View S V). w.greatest) same) (desks_set n old new now (ap (λ (w : View S V). w.desks) same)) (ap (λ (w : View S V). w.callers) same) (ap (λ (w : View S V). w.council) same)
-      (ap (λ (w : View S V). w.marks) same ∙ sym (append-nil old.marks)) (fine_none n caller.number most) refl refl;
+      (ap (λ (w : View S V). w.marks) same ∙ sym (append-nil old.marks)) (fine_none n caller.number most) refl refl refl refl (λ desk_ at_desk_ some. refl);
   silent = λ number told was. refl;
 }
 
@@ -408,6 +440,9 @@ pub record CallBegins {S V : Type 0} (n most : ℕ) (old new : View S V) (number
   pub at_next : IsAt new.callers n (record { number = number; call = Some next })
   pub key_is : next.key ≡ key
   pub program_is : next.program ≡ program
+  pub rounds_is : next.rounds ≡ 1
+  pub closed : next.is_closed ≡ false
+  pub told : (desk : DeskView V) → IsAt new.desks n desk → IsSome desk.round → told_conflict next.told ≡ false
   pub silent : (k : ℕ) (told : Answer) → WasTold new n k told → more ≡ []
 
 pub first_begins : {S V : Type 0} (m : Meaning S V) (n most : ℕ) (key : List ℕ) (program : List Clause) (old new : View S V) (caller : CallerView) → IsAt old.callers n caller → caller.call ≡ None → StepBegin m old n key program new → CallBegins n most old new (suc caller.number) key program
@@ -435,14 +470,22 @@ first_begins {S} {V} m n most key program old new caller at none by = by_opens b
           at_next = subst (λ (k : ℕ). IsAt new.callers n (record { number = k; call = Some goes.next })) (ap (λ (c : CallerView). c.number) is_first) goes.at_next;
           key_is = goes.key ∙ ap (λ (c : CallView). c.key) is_made;
           program_is = goes.program ∙ ap (λ (c : CallView). c.program) is_made;
+          rounds_is = goes.rounds ∙ ap (λ (c : CallView). c.rounds) is_made;
+          closed = goes.closed (ap (λ (c : CallView). c.is_closed) is_made);
+          told = λ desk at_desk some. goes.told desk at_desk some (ap (λ (c : CallView). told_conflict c.told) is_made);
         }
     by_opens (calls.again was open_call reserved at_was is_call key_is program_is none_ met no_round room some same) = absurd (cc (sym none ∙ ap (λ (c : CallerView). c.call) (at_one old.callers n at at_was) ∙ is_call))
 
--- another round of it begins
-pub again_goes_on : {S V : Type 0} (m : Meaning S V) (n most : ℕ) (key : List ℕ) (program : List Clause) (old new : View S V) (caller : CallerView) (call : CallView) → IsAt old.callers n caller → caller.call ≡ Some call → StepBegin m old n key program new → SilentGoesOn n most old new caller call
+-- Another round of it begins behind a conflict, for which so many marks are reserved.
+pub record TriesAgain {S V : Type 0} (n most : ℕ) (old new : View S V) (caller : CallerView) (call : CallView) : Type 0 where
+  pub reserved : ℕ
+  pub met : calls.WasMet call.told
+  pub round : SilentGoesOn n most old new caller (calls.tried_again call reserved)
+
+pub again_goes_on : {S V : Type 0} (m : Meaning S V) (n most : ℕ) (key : List ℕ) (program : List Clause) (old new : View S V) (caller : CallerView) (call : CallView) → IsAt old.callers n caller → caller.call ≡ Some call → StepBegin m old n key program new → TriesAgain n most old new caller call
 again_goes_on {S} {V} m n most key program old new caller call at is by = by_opens by.opens
   where
-    by_opens : calls.Opens old n key program by.middle → SilentGoesOn n most old new caller call
+    by_opens : calls.Opens old n key program by.middle → TriesAgain n most old new caller call
     by_opens (calls.first was at_was is_none room same) = absurd (cc (sym is_none ∙ ap (λ (c : CallerView). c.call) (at_one old.callers n at_was at) ∙ is))
     by_opens (calls.again was open_call reserved at_was is_call key_is program_is none_ met no_round room some same) =
         let one : was ≡ caller = at_one old.callers n at_was at in
@@ -458,15 +501,22 @@ again_goes_on {S} {V} m n most key program old new caller call at is by = by_ope
         let round = begins_goes_on m n most by.middle new by.caller by.call by.at_caller by.is_open by.begins in
         let goes = round.goes in
         record {
-          silent = round.silent;
-          goes = record {
-            next = goes.next;
-            marks = goes.marks;
-            acts = acts_then n old by.middle new [] goes.marks opens goes.acts;
-            fine = subst (λ (k : ℕ). Fine n k most goes.marks) (ap (λ (c : CallerView). c.number) is_first) goes.fine;
-            at_next = subst (λ (k : ℕ). IsAt new.callers n (record { number = k; call = Some goes.next })) (ap (λ (c : CallerView). c.number) is_first) goes.at_next;
-            key = goes.key ∙ ap (λ (c : CallView). c.key) is_tried;
-            program = goes.program ∙ ap (λ (c : CallView). c.program) is_tried;
+          reserved = reserved;
+          met = subst (λ (c : CallView). calls.WasMet c.told) same_call met;
+          round = record {
+            silent = round.silent;
+            goes = record {
+              next = goes.next;
+              marks = goes.marks;
+              acts = acts_then n old by.middle new [] goes.marks opens goes.acts;
+              fine = subst (λ (k : ℕ). Fine n k most goes.marks) (ap (λ (c : CallerView). c.number) is_first) goes.fine;
+              at_next = subst (λ (k : ℕ). IsAt new.callers n (record { number = k; call = Some goes.next })) (ap (λ (c : CallerView). c.number) is_first) goes.at_next;
+              key = goes.key ∙ ap (λ (c : CallView). c.key) is_tried;
+              program = goes.program ∙ ap (λ (c : CallView). c.program) is_tried;
+              rounds = goes.rounds ∙ ap (λ (c : CallView). c.rounds) is_tried;
+              closed = λ open_. goes.closed (ap (λ (c : CallView). c.is_closed) is_tried ∙ open_);
+              told = λ desk at_desk some unmet. goes.told desk at_desk some (ap (λ (c : CallView). told_conflict c.told) is_tried ∙ unmet);
+            };
           };
         }
 

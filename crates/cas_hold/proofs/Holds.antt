@@ -1,6 +1,6 @@
 -- What a hold does for a caller's call, by what its calls on the world do.
 use Rattle.std.proofs.Common.{◌≡◌, ◌≤◌, ℕ, suc, Bool, true, false, if◌then◌else◌, List, [], ◌∷◌, ◌++◌, Option, None, Some, IsSome, slice_get, slice_set, length, inl, inr, refl, sym, ap, ap₂, subst, ◌∙◌, append-nil, arith}
-use Rattle.std.specs.Prelude.{IfSome, option_map, is_some, Result, Ok, Err, OnOk, OnErr}
+use Rattle.std.specs.Prelude.{IfSome, option_map, is_some, Result, Ok, Err, OnOk, OnErr, IfErr}
 use Rattle.std.proofs.lemmas.List.Elements.{All-append, All-nil, All-cons, All-head}
 use Rattle.cas_change.specs.declared.program.Clause.{Clause}
 use Rattle.cas_fate.specs.declared.fate.Verdict.{Verdict}
@@ -11,8 +11,10 @@ use Rattle.cas_record.specs.declared.answer.Answer.TheVariants as answer
 use Rattle.cas_record.specs.declared.mark.Mark.{Mark}
 use Rattle.cas_record.specs.declared.mark.Mark.TheVariants.{Begun, Ended}
 use Rattle.cas_cluster.specs.Council.{Council}
-use Rattle.cas_cluster.specs.Step.{Step, Stray, RefuseStray, StepBegin, StepCount, StepEnd, StepPropose, StepRefuseTurn, StepTurn}
+use Rattle.cas_cluster.specs.Step.{Step, OpenRoundAt, Stray, RefuseStray, StepBegin, StepCount, StepEnd, StepPropose, StepRefuseTurn, StepTurn}
 use Rattle.cas_cluster.specs.StepCalls as calls
+use Rattle.cas_cluster.specs.StepCalls.{one_more}
+use Rattle.cas_causes.specs.Told.{BeginsBy, AcceptsBy}
 use Rattle.cas_cluster.specs.StepFrames as frames
 use Rattle.cas_cluster.specs.View.{Meaning, View, CallView, CallerView, IsAt}
 use Rattle.cas_cluster.proofs.Places.{at_one, at_set, some_is}
@@ -21,17 +23,18 @@ use Rattle.cas_world.specs.Beginning.{HasRound, HasNoCall, BeginsOrNot, MayBegin
 use Rattle.cas_world.specs.Readers.{next_number}
 use Rattle.cas_world.specs.Reading.{HasProposed}
 use Rattle.cas_world.specs.World.{WasTold}
-use Rattle.cas_hold.specs.Deeds.{BeginsIn, IsRefusal, BeginsNot, ends_at_once, is_refused, GoesOnIn, EndsIn, StraysIn, harm_by, is_conflict}
+use Rattle.cas_hold.specs.Conflicts.{is_conflict, told_conflict}
+use Rattle.cas_hold.specs.Deeds.{BeginsIn, IsRefusal, BeginsNot, ends_at_once, is_refused, GoesOnIn, EndsIn, StraysIn, harm_by}
 use Rattle.cas_hold.specs.Kept.{IsStaged, running, IsKept, Makes}
 use Rattle.cas_hold.specs.Mine.{mine, call_of, AreOfCall, losses, Wanted, wants, wanted_after, wanted_by}
 use Rattle.cas_hold.specs.Owners.{owner_of}
 use Rattle.cas_hold.specs.OwnParts.{own_part}
-use Rattle.cas_hold.specs.Open.{IsFree, HasOpen}
+use Rattle.cas_hold.specs.Open.{IsFree, HasOpen, rounds_after}
 use Rattle.cas_hold.proofs.Acts.{Acts, acts_then, spares_same, spares_rounds, part_same, makes_of, OwnKept, was_desk, staged_same, kept_by}
 use Rattle.cas_hold.proofs.Events.{Fine, fine_none, CallGoesOn, CallIsOver, LetsIn, end_ends, stray_lets_in, refused_stray_lets_in, first_begins, again_goes_on, over_where_told, turn_goes_on, refused_turn_goes_on, propose_goes_on, count_is_over, refused_acts}
 use Rattle.cas_hold.proofs.Fronts.{wanted_append}
-use Rattle.cas_hold.proofs.Parts.{open_at, open_quiet, free_quiet, free_call, stays_open, is_open_then, is_closed_then, stays_free}
-use Rattle.cas_hold.proofs.Stages.{NextAt, next_at, turn_running, proposed_running, propose_met}
+use Rattle.cas_hold.proofs.Parts.{open_at, open_quiet, free_quiet, free_call, stays_open, is_open_then, is_closed_then, stays_free, rounds_part, met_part, after_part}
+use Rattle.cas_hold.proofs.Stages.{NextAt, next_at, IsRunning, running_call, runs_there, met_told, turn_running, proposed_running, propose_met}
 
 -- ---- calls that go on
 -- the caller of the open call is the one that stands there
@@ -47,9 +50,21 @@ pub record Held {S V : Type 0} (old new : View S V) (Does : Type 0) : Type 0 whe
 wanted_by_acts : {S V : Type 0} (n call most : ℕ) (old new : View S V) (marks : List Mark) → Acts n old new marks → Fine n call most marks → wanted_by n new.marks ≡ wanted_by n old.marks
 wanted_by_acts n call most old new marks acts fine = ap (wanted_by n) acts.made ∙ wanted_append n None old.marks marks ∙ fine.asks (wanted_by n old.marks)
 
-pub goes_on_in : {S V : Type 0} (n call most : ℕ) (old new : View S V) (caller : CallerView) (was : CallView) → IsAt old.callers n caller → caller.call ≡ Some was → HasOpen call (own_part old n) → IsKept old → (goes : CallGoesOn n most old new caller was)
+-- the open call as it goes on: as it was, or once more behind a conflict
+pub record Enters (was entered : CallView) : Type 0 where
+  pub key : entered.key ≡ was.key
+  pub program : entered.program ≡ was.program
+  pub rounds : entered.rounds ≡ (if told_conflict was.told then one_more was.rounds else was.rounds)
+
+pub enters_same : (was : CallView) → told_conflict was.told ≡ false → Enters was was
+enters_same was unmet = record { key = refl; program = refl; rounds = ap (λ (b : Bool). if b then one_more was.rounds else was.rounds) (sym unmet) }
+
+enters_again : (was : CallView) (reserved : ℕ) → calls.WasMet was.told → Enters was (calls.tried_again was reserved)
+enters_again was reserved met = record { key = refl; program = refl; rounds = ap (λ (b : Bool). if b then one_more was.rounds else was.rounds) (sym (met_told was.told met)) }
+
+pub goes_on_in : {S V : Type 0} (n call most : ℕ) (old new : View S V) (caller : CallerView) (was entered : CallView) → IsAt old.callers n caller → caller.call ≡ Some was → Enters was entered → HasOpen call (own_part old n) → IsKept old → (goes : CallGoesOn n most old new caller entered)
     → ((desk : DeskView V) → IsAt new.desks n desk → IsStaged desk goes.next) → Held old new (GoesOnIn n call most old new)
-goes_on_in {S} {V} n call most old new caller was at is has kept goes staged =
+goes_on_in {S} {V} n call most old new caller was entered at is enters has kept goes staged =
     let number : caller.number ≡ call = number_of old n call has caller at in
     let next_caller : CallerView = record caller { call = Some goes.next } in
     let wanted : wanted_by n new.marks ≡ wanted_by n old.marks = wanted_by_acts n caller.number most old new goes.marks goes.acts goes.fine in
@@ -60,6 +75,7 @@ goes_on_in {S} {V} n call most old new caller was at is has kept goes staged =
         of_call = subst (λ (k : ℕ). AreOfCall k (mine n goes.marks)) number goes.fine.of_call;
         few = goes.fine.few;
         is_open = stays_open old new n call has goes.acts.council next_caller goes.next goes.at_next number refl;
+        rounds = rounds_part new n next_caller goes.next goes.at_next refl ∙ goes.rounds ∙ enters.rounds ∙ sym (after_part old n caller was at is);
         wanted = wanted;
       };
       kept = kept_by n old new goes.marks goes.acts goes.fine.only kept (record {
@@ -68,7 +84,7 @@ goes_on_in {S} {V} n call most old new caller was at is has kept goes staged =
             let same : next_caller ≡ one = at_one new.callers n goes.at_next at_one_ in
             let same_call : goes.next ≡ open_ = some_is (ap (λ (c : CallerView). c.call) same ∙ is_open) in
             let before : wanted_by n old.marks ≡ Some (wants caller.number was.key was.program) = kept.wanted n caller was at is in
-            wanted ∙ before ∙ ap₂ (λ (k : List ℕ) (p : List Clause). Some (wants caller.number k p)) (sym goes.key) (sym goes.program)
+            wanted ∙ before ∙ ap₂ (λ (k : List ℕ) (p : List Clause). Some (wants caller.number k p)) (sym (goes.key ∙ enters.key)) (sym (goes.program ∙ enters.program))
             ∙ ap₂ (λ (c : CallerView) (o : CallView). Some (wants c.number o.key o.program)) same same_call;
       });
       greatest = goes.acts.greatest;
@@ -86,6 +102,9 @@ over_at_once n most old caller was at is = record {
     at_next = subst (λ (c : CallerView). IsAt old.callers n c) (ap (λ (o : Option CallView). record caller { call = o }) is) at;
     key = refl;
     program = refl;
+    rounds = refl;
+    closed = λ open_. open_;
+    told = λ desk at_desk some unmet. unmet;
   };
   may_end = λ rounds told. (tt, tt);
 }
@@ -100,14 +119,16 @@ idle_kept {S} {V} n view caller at none = record {
 only_ended : (n call rounds : ℕ) (told : Answer) → OnlyOwnedBy owner_of n (Ended n call rounds told ∷ [])
 only_ended n call rounds told = All-cons (λ i. (m : ℕ) → owner_of i ≡ Some m → m ≡ n) (Ended n call rounds told) [] (λ m e. sym (some_is e)) (All-nil (λ i. (m : ℕ) → owner_of i ≡ Some m → m ≡ n))
 
-pub ends_in : {S V : Type 0} (m : Meaning S V) (n call most : ℕ) (told : Answer) (old mid new : View S V) (caller : CallerView) (was : CallView) → IsAt old.callers n caller → HasOpen call (own_part old n) → IsKept old → CallIsOver n most old mid caller was
+pub ends_in : {S V : Type 0} (m : Meaning S V) (n call most : ℕ) (told : Answer) (old mid new : View S V) (caller : CallerView) (was entered : CallView) → IsAt old.callers n caller → caller.call ≡ Some was → Enters was entered → HasOpen call (own_part old n) → IsKept old → CallIsOver n most old mid caller entered
     → StepEnd m mid n told new → Held old new (EndsIn n call most old new told)
-ends_in {S} {V} m n call most told old mid new caller was at has kept over by =
+ends_in {S} {V} m n call most told old mid new caller was entered at is enters has kept over by =
     let number : caller.number ≡ call = number_of old n call has caller at in
     let next_caller : CallerView = record caller { call = Some over.goes.next } in
     let same : by.of_call.caller ≡ next_caller = at_one mid.callers n by.of_call.at_caller over.goes.at_next in
     let ended = end_ends m n told mid new (λ is_first. ap (λ (k : Council). k.order) over.goes.acts.council ∙ (open_quiet old n call has is_first).order) by in
     let rounds : ℕ = by.of_call.call.rounds in
+    let same_call : by.of_call.call ≡ over.goes.next = some_is (sym by.of_call.is_open ∙ ap (λ (c : CallerView). c.call) same) in
+    let same_rounds : rounds ≡ rounds_after (own_part old n) = ap (λ (c : CallView). c.rounds) same_call ∙ over.goes.rounds ∙ enters.rounds ∙ sym (after_part old n caller was at is) in
     let same_number : by.of_call.caller.number ≡ caller.number = ap (λ (c : CallerView). c.number) same in
     let acts_end : Acts n mid new (Ended n caller.number rounds told ∷ []) = subst (λ (k : ℕ). Acts n mid new (Ended n k rounds told ∷ [])) same_number ended.acts in
     let all : List Mark = over.goes.marks ++ Ended n caller.number rounds told ∷ [] in
@@ -116,8 +137,8 @@ ends_in {S} {V} m n call most told old mid new caller was at has kept over by =
     record {
       does = record {
         marks = over.goes.marks;
-        rounds = rounds;
-        makes = subst (λ (k : ℕ). Makes n old new (over.goes.marks ++ Ended n k rounds told ∷ [])) number (makes_of n old new all acts (over.may_end rounds told) only);
+        makes = subst (λ (k : ℕ). Makes n old new (over.goes.marks ++ Ended n k (rounds_after (own_part old n)) told ∷ [])) number
+            (subst (λ (r : ℕ). Makes n old new (over.goes.marks ++ Ended n caller.number r told ∷ [])) same_rounds (makes_of n old new all acts (over.may_end rounds told) only));
         of_call = subst (λ (k : ℕ). AreOfCall k (mine n over.goes.marks)) number over.goes.fine.of_call;
         few = over.goes.fine.few;
         is_free = is_closed_then old new n call has acts.council (record by.of_call.caller { call = None }) ended.at_next refl;
@@ -153,10 +174,15 @@ begins_in {S} {V} m n key program old new caller at none free kept by has =
         of_call = b.fine.of_call;
         none_lost = omega (arith, few);
         is_open = is_open_then old new n number free b.acts.council next_caller b.next b.at_next refl refl;
+        first = rounds_part new n next_caller b.next b.at_next refl ∙ b.rounds_is;
+        unmet = met_part new n next_caller b.next b.at_next refl ∙ b.told has.desk has.at_desk has.is_open;
         wanted = wanted;
       };
       kept = kept_by n old new all b.acts only kept (record {
-        staged = λ desk one open_ at_desk at_one_ is_open. running (subst (λ (d : DeskView V). IsSome d.round) (at_one new.desks n has.at_desk at_desk) has.is_open);
+        staged = λ desk one open_ at_desk at_one_ is_open.
+            let same_call : b.next ≡ open_ = some_is (ap (λ (c : CallerView). c.call) (at_one new.callers n b.at_next at_one_) ∙ is_open) in
+            let some : IsSome desk.round = subst (λ (d : DeskView V). IsSome d.round) (at_one new.desks n has.at_desk at_desk) has.is_open in
+            running some (subst (λ (c : CallView). told_conflict c.told ≡ false) same_call (b.told desk at_desk some)) (subst (λ (c : CallView). c.is_closed ≡ false) same_call b.closed);
         wanted = λ one open_ at_one_ is_open.
             let same : next_caller ≡ one = at_one new.callers n b.at_next at_one_ in
             let same_call : b.next ≡ open_ = some_is (ap (λ (c : CallerView). c.call) same ∙ is_open) in
@@ -168,8 +194,8 @@ begins_in {S} {V} m n key program old new caller at none free kept by has =
 
 -- it is told why no round begins, and ends at once
 pub passes_in : {S V : Type 0} (m : Meaning S V) (n : ℕ) (key : List ℕ) (program : List Clause) (told : Answer) (old mid new : View S V) (caller : CallerView) → IsAt old.callers n caller → caller.call ≡ None → IsFree (own_part old n) → IsKept old → StepBegin m old n key program mid
-    → (number : ℕ) → WasTold mid n number told → StepEnd m mid n told new → Held old new (BeginsNot n key program old new told)
-passes_in {S} {V} m n key program told old mid new caller at none free kept by number was ends =
+    → (number : ℕ) → WasTold mid n number told → is_conflict told ≡ false → StepEnd m mid n told new → Held old new (BeginsNot n key program old new told)
+passes_in {S} {V} m n key program told old mid new caller at none free kept by number was no_conflict ends =
     let call : ℕ = suc caller.number in
     let b = first_begins m n 0 key program old mid caller at none by in
     let next_caller : CallerView = record { number = call; call = Some b.next } in
@@ -182,7 +208,7 @@ passes_in {S} {V} m n key program told old mid new caller at none free kept by n
     let acts : Acts n old new all = acts_then n old mid new (Begun n call key program ∷ []) (Ended n call rounds told ∷ []) opens acts_end in
     let only : OnlyOwnedBy owner_of n all = begun_only n call key program (Ended n call rounds told ∷ []) (only_ended n call rounds told) in
     record {
-      does = ends_at_once call rounds (makes_of n old new all acts (tt, (tt, tt)) only) (stays_free old new n free acts.council (record ends.of_call.caller { call = None }) ended.at_next refl);
+      does = ends_at_once call rounds (makes_of n old new all acts (tt, (tt, tt)) only) (stays_free old new n free acts.council (record ends.of_call.caller { call = None }) ended.at_next refl) no_conflict;
       kept = kept_by n old new all acts only kept (idle_kept n new (record ends.of_call.caller { call = None }) ended.at_next refl);
       greatest = acts.greatest;
     }
@@ -200,7 +226,51 @@ refused_in {S} {V} m n key told old new program caller at none free kept refusal
       greatest = done.0.greatest;
     }
 
+-- ---- by how a result goes
+pub on_ok : {A E P Q : Type 0} (result : Result A E) → (P → Q) → OnOk result P → OnOk result Q
+on_ok (Ok value) then_ p = then_ p
+on_ok (Err told) then_ p = tt
+
+pub if_err : {A E : Type 0} {P Q : E → Type 0} (result : Result A E) → ((told : E) → P told → Q told) → IfErr result P → IfErr result Q
+if_err (Ok value) then_ p = tt
+if_err (Err told) then_ p = then_ told p
+
 -- ---- by what the world tells
+-- no conflict keeps a round from beginning
+pub no_conflict_begun : {S V : Type 0} (m : Meaning S V) (old new : View S V) (n : ℕ) (key : List ℕ) (told : Answer) → BeginsBy m old n key told new → is_conflict told ≡ false
+no_conflict_begun m old new n key (answer.Conflict met) cause = absurd cause
+no_conflict_begun m old new n key (answer.Done state took ballot) cause = refl
+no_conflict_begun m old new n key (answer.Aged least) cause = refl
+no_conflict_begun m old new n key (answer.Full acceptor) cause = refl
+no_conflict_begun m old new n key (answer.Short got need) cause = refl
+no_conflict_begun m old new n key (answer.Moved era) cause = refl
+no_conflict_begun m old new n key answer.Crashed cause = refl
+no_conflict_begun m old new n key (answer.Unsettled why) cause = refl
+no_conflict_begun m old new n key answer.Down cause = refl
+no_conflict_begun m old new n key answer.VaultFault cause = refl
+no_conflict_begun m old new n key answer.Spent cause = refl
+no_conflict_begun m old new n key answer.RecordFull cause = refl
+no_conflict_begun m old new n key (answer.NoMemory proposed) cause = refl
+
+pub again_no_conflict : {S V : Type 0} (A : Type 0) (m : Meaning S V) (n call : ℕ) (key : List ℕ) (program : List Clause) (told : Answer) (old new : View S V) → BeginsOrNot {A = A} m old n call key program (Err told) new → BeginsBy m old n key told new → is_conflict told ≡ false
+again_no_conflict A m n call key program told old new begun cause = no_conflict_begun m old new n key told cause
+
+-- nor is a round counted as one
+pub no_conflict_counted : {S V : Type 0} (view : View S V) (n : ℕ) (told : Answer) → AcceptsBy view n told → is_conflict told ≡ false
+no_conflict_counted view n (answer.Conflict met) cause = absurd cause
+no_conflict_counted view n (answer.Done state took ballot) cause = refl
+no_conflict_counted view n (answer.Aged least) cause = refl
+no_conflict_counted view n (answer.Full acceptor) cause = refl
+no_conflict_counted view n (answer.Short got need) cause = refl
+no_conflict_counted view n (answer.Moved era) cause = refl
+no_conflict_counted view n answer.Crashed cause = refl
+no_conflict_counted view n (answer.Unsettled why) cause = refl
+no_conflict_counted view n answer.Down cause = refl
+no_conflict_counted view n answer.VaultFault cause = refl
+no_conflict_counted view n answer.Spent cause = refl
+no_conflict_counted view n answer.RecordFull cause = refl
+no_conflict_counted view n (answer.NoMemory proposed) cause = refl
+
 -- a caller with nothing open has no call
 no_call_of : {S V : Type 0} (old : View S V) (n call : ℕ) → NextAt old n call → IsFree (own_part old n) → HasNoCall old n
 no_call_of old n call at free = record { caller = at.caller; at_caller = at.at_caller; none_open = free_call old n free at.caller at.at_caller }
@@ -233,18 +303,20 @@ begin_told A m n call key program told old new is (inr not_begun) = absurd (elim
 ])
 
 pub begin_passes : {S V : Type 0} (A : Type 0) (m : Meaning S V) (n call : ℕ) (key : List ℕ) (program : List Clause) (told : Answer) (old mid new : View S V) → option_map next_number (slice_get old.callers n) ≡ Some call → IsFree (own_part old n) → IsKept old → is_refusal told ≡ false
-    → BeginsOrNot {A = A} m old n call key program (Err told) mid → StepEnd m mid n told new → Held old new (BeginsNot n key program old new told)
-begin_passes A m n call key program told old mid new next free kept is begun ends =
+    → BeginsOrNot {A = A} m old n call key program (Err told) mid → BeginsBy m old n key told mid → StepEnd m mid n told new → Held old new (BeginsNot n key program old new told)
+begin_passes A m n call key program told old mid new next free kept is begun cause ends =
     let at = next_at old n call next in
     let by = begin_told A m n call key program told old mid is begun in
-    passes_in m n key program told old mid new at.caller at.at_caller (free_call old n free at.caller at.at_caller) free kept by.0 call by.1 ends
+    passes_in m n key program told old mid new at.caller at.at_caller (free_call old n free at.caller at.at_caller) free kept by.0 call by.1 (no_conflict_begun m old mid n key told cause) ends
 
 -- ---- another round
 pub again_ok : {S V : Type 0} (m : Meaning S V) (n call most : ℕ) (key : List ℕ) (program : List Clause) (old new : View S V) → HasOpen call (own_part old n) → IsKept old → StepBegin m old n key program new → HasRound new n call → Held old new (GoesOnIn n call most old new)
 again_ok {S} {V} m n call most key program old new has kept by round =
     let o = open_at old n call has in
-    goes_on_in n call most old new o.caller o.open_call o.at_caller o.is_open has kept (again_goes_on m n most key program old new o.caller o.open_call o.at_caller o.is_open by).goes
-    (λ desk at_desk. running (subst (λ (d : DeskView V). IsSome d.round) (at_one new.desks n round.at_desk at_desk) round.is_open))
+    let again = again_goes_on m n most key program old new o.caller o.open_call o.at_caller o.is_open by in
+    let goes = again.round.goes in
+    goes_on_in n call most old new o.caller o.open_call (calls.tried_again o.open_call again.reserved) o.at_caller o.is_open (enters_again o.open_call again.reserved again.met) has kept goes
+    (λ desk at_desk. let some : IsSome desk.round = subst (λ (d : DeskView V). IsSome d.round) (at_one new.desks n round.at_desk at_desk) round.is_open in running some (goes.told desk at_desk some refl) (goes.closed refl))
 
 pub again_told : {S V : Type 0} (A : Type 0) (m : Meaning S V) (n call : ℕ) (key : List ℕ) (program : List Clause) (told : Answer) (old new : View S V) → HasOpen call (own_part old n) → BeginsOrNot {A = A} m old n call key program (Err told) new → StepBegin m old n key program new × WasTold new n call told
 again_told A m n call key program told old new has (inl begun) = (begun.0, begun.1)
@@ -257,13 +329,18 @@ pub again_ends : {S V : Type 0} (A : Type 0) (m : Meaning S V) (n call most : �
 again_ends A m n call most key program told old mid new has kept begun ends =
     let o = open_at old n call has in
     let by = again_told A m n call key program told old mid has begun in
-    ends_in m n call most told old mid new o.caller o.open_call o.at_caller has kept
-    (over_where_told n most old mid o.caller o.open_call call told (again_goes_on m n most key program old mid o.caller o.open_call o.at_caller o.is_open by.0) by.1) ends
+    let again = again_goes_on m n most key program old mid o.caller o.open_call o.at_caller o.is_open by.0 in
+    let entered : CallView = calls.tried_again o.open_call again.reserved in
+    ends_in m n call most told old mid new o.caller o.open_call entered o.at_caller o.is_open (enters_again o.open_call again.reserved again.met) has kept
+    (over_where_told n most old mid o.caller entered call told again.round by.1) ends
 
 -- ---- a turn
 pub turn_ok : {S V : Type 0} (m : Meaning S V) (n call : ℕ) (v : Verdict) (old new : View S V) → HasOpen call (own_part old n) → IsKept old → ((desk : DeskView V) → IsAt old.desks n desk → IsSome desk.round) → StepTurn m old n v new → Held old new (GoesOnIn n call (harm_by v) old new)
 turn_ok m n call v old new has kept was by =
-    goes_on_in n call (harm_by v) old new by.of_call.caller by.of_call.call by.of_call.at_caller by.of_call.is_open has kept (turn_goes_on m n v old new by) (λ desk at_desk. running (turn_running m n v old new was by desk at_desk))
+    let goes = turn_goes_on m n v old new by in
+    let runs = runs_there old n by.of_call.caller by.of_call.call kept by.of_call.at_caller by.of_call.is_open was in
+    goes_on_in n call (harm_by v) old new by.of_call.caller by.of_call.call by.of_call.call by.of_call.at_caller by.of_call.is_open (enters_same by.of_call.call runs.unmet) has kept goes
+    (λ desk at_desk. let some = turn_running m n v old new was by desk at_desk in running some (goes.told desk at_desk some runs.unmet) (goes.closed runs.unclosed))
 
 -- what the caller is told where no memory was found
 pub turn_told : {S V : Type 0} (m : Meaning S V) (n call : ℕ) (proposed : Bool) (old mid : View S V) → HasOpen call (own_part old n) → StepRefuseTurn m old n mid → ((seen : CallerView) → IsAt mid.callers n seen → IfSome seen.call (λ open_call. proposed ≡ is_some open_call.proposed)) → WasTold mid n call (answer.NoMemory proposed)
@@ -284,14 +361,21 @@ turn_told {S} {V} m n call proposed old mid has by says =
     same_callers (frames.stays same) = ap (λ (w : View S V). w.callers) same
     same_callers (frames.kept id acceptor now there finds same) = ap (λ (w : View S V). w.callers) same
 
-pub turn_ends : {S V : Type 0} (m : Meaning S V) (n call most : ℕ) (told : Answer) (old mid new : View S V) → HasOpen call (own_part old n) → IsKept old → StepRefuseTurn m old n mid → WasTold mid n call told → StepEnd m mid n told new → Held old new (EndsIn n call most old new told)
-turn_ends m n call most told old mid new has kept by was ends =
-    ends_in m n call most told old mid new by.of_call.caller by.of_call.call by.of_call.at_caller has kept (over_where_told n most old mid by.of_call.caller by.of_call.call call told (refused_turn_goes_on m n most old mid by) was) ends
+pub turn_ends : {S V : Type 0} (m : Meaning S V) (n call most : ℕ) (told : Answer) (old mid new : View S V) → HasOpen call (own_part old n) → IsKept old → ((desk : DeskView V) → IsAt old.desks n desk → IsSome desk.round) → StepRefuseTurn m old n mid → WasTold mid n call told → StepEnd m mid n told new → Held old new (EndsIn n call most old new told)
+turn_ends m n call most told old mid new has kept running_ by was ends =
+    let runs = runs_there old n by.of_call.caller by.of_call.call kept by.of_call.at_caller by.of_call.is_open running_ in
+    ends_in m n call most told old mid new by.of_call.caller by.of_call.call by.of_call.call by.of_call.at_caller by.of_call.is_open (enters_same by.of_call.call runs.unmet) has kept (over_where_told n most old mid by.of_call.caller by.of_call.call call told (refused_turn_goes_on m n most old mid by) was) ends
 
 -- ---- the end of a prepare phase
+round_runs : {S V : Type 0} (view : View S V) (n : ℕ) (at : OpenRoundAt view n) → IsKept view → IsRunning at.of_call.call
+round_runs view n at kept = running_call view n at.of_call.caller at.of_call.call at.desk kept at.of_call.at_caller at.of_call.is_open at.at_desk (subst IsSome (sym at.is_open) refl)
+
 pub propose_ok : {S V : Type 0} (m : Meaning S V) (n call most : ℕ) (old new : View S V) → HasOpen call (own_part old n) → IsKept old → HasProposed new n → StepPropose m old n new → Held old new (GoesOnIn n call most old new)
 propose_ok m n call most old new has kept proposed by =
-    goes_on_in n call most old new by.at_round.of_call.caller by.at_round.of_call.call by.at_round.of_call.at_caller by.at_round.of_call.is_open has kept (propose_goes_on m n most old new by).goes (λ desk at_desk. running (proposed_running new n proposed desk at_desk))
+    let goes = (propose_goes_on m n most old new by).goes in
+    let runs = round_runs old n by.at_round kept in
+    goes_on_in n call most old new by.at_round.of_call.caller by.at_round.of_call.call by.at_round.of_call.call by.at_round.of_call.at_caller by.at_round.of_call.is_open (enters_same by.at_round.of_call.call runs.unmet) has kept goes
+    (λ desk at_desk. let some = proposed_running new n proposed desk at_desk in running some (goes.told desk at_desk some runs.unmet) (goes.closed runs.unclosed))
 
 pub propose_told : {S V : Type 0} (n call : ℕ) (told : Answer) (old new : View S V) → HasOpen call (own_part old n) → ((caller : CallerView) → slice_get old.callers n ≡ Some caller → WasTold new n caller.number told) → WasTold new n call told
 propose_told n call told old new has tells = let o = open_at old n call has in subst (λ (k : ℕ). WasTold new n k told) o.number (tells o.caller o.at_caller)
@@ -300,23 +384,24 @@ pub propose_is_met : {S V : Type 0} (m : Meaning S V) (n call most : ℕ) (told 
     → Held old new (GoesOnIn n call most old new)
 propose_is_met m n call most told old new has kept unproposed was conflict by =
     let goes = (propose_goes_on m n most old new by).goes in
-    goes_on_in n call most old new by.at_round.of_call.caller by.at_round.of_call.call by.at_round.of_call.at_caller by.at_round.of_call.is_open has kept goes
-    (λ desk at_desk. propose_met m n call told old new unproposed was conflict by (record by.at_round.of_call.caller { call = Some goes.next }) goes.next goes.at_next refl desk at_desk)
+    let runs = round_runs old n by.at_round kept in
+    goes_on_in n call most old new by.at_round.of_call.caller by.at_round.of_call.call by.at_round.of_call.call by.at_round.of_call.at_caller by.at_round.of_call.is_open (enters_same by.at_round.of_call.call runs.unmet) has kept goes
+    (λ desk at_desk. propose_met m n call told old new unproposed was conflict by (record by.at_round.of_call.caller { call = Some goes.next }) goes.next goes.at_next refl (goes.closed runs.unclosed) desk at_desk)
 
 pub propose_ends : {S V : Type 0} (m : Meaning S V) (n call most : ℕ) (told : Answer) (old mid new : View S V) → HasOpen call (own_part old n) → IsKept old → WasTold mid n call told → StepPropose m old n mid → StepEnd m mid n told new → Held old new (EndsIn n call most old new told)
 propose_ends m n call most told old mid new has kept was by ends =
-    ends_in m n call most told old mid new by.at_round.of_call.caller by.at_round.of_call.call by.at_round.of_call.at_caller has kept
+    ends_in m n call most told old mid new by.at_round.of_call.caller by.at_round.of_call.call by.at_round.of_call.call by.at_round.of_call.at_caller by.at_round.of_call.is_open (enters_same by.at_round.of_call.call (round_runs old n by.at_round kept).unmet) has kept
     (over_where_told n most old mid by.at_round.of_call.caller by.at_round.of_call.call call told (propose_goes_on m n most old mid by) was) ends
 
 -- ---- the ends of a call
 pub count_ends : {S V : Type 0} (m : Meaning S V) (n call most : ℕ) (told : Answer) (old mid new : View S V) → HasOpen call (own_part old n) → IsKept old → StepCount m old n mid → StepEnd m mid n told new → Held old new (EndsIn n call most old new told)
 count_ends m n call most told old mid new has kept by ends =
-    ends_in m n call most told old mid new by.at_round.of_call.caller by.at_round.of_call.call by.at_round.of_call.at_caller has kept (count_is_over m n most old mid by) ends
+    ends_in m n call most told old mid new by.at_round.of_call.caller by.at_round.of_call.call by.at_round.of_call.call by.at_round.of_call.at_caller by.at_round.of_call.is_open (enters_same by.at_round.of_call.call (round_runs old n by.at_round kept).unmet) has kept (count_is_over m n most old mid by) ends
 
-pub closed_ends : {S V : Type 0} (m : Meaning S V) (n call most : ℕ) (told : Answer) (old new : View S V) → HasOpen call (own_part old n) → IsKept old → StepEnd m old n told new → Held old new (EndsIn n call most old new told)
-closed_ends m n call most told old new has kept ends =
+pub closed_ends : {S V : Type 0} (m : Meaning S V) (n call most : ℕ) (told : Answer) (old new : View S V) (has : HasOpen call (own_part old n)) → IsKept old → told_conflict (open_at old n call has).open_call.told ≡ false → StepEnd m old n told new → Held old new (EndsIn n call most old new told)
+closed_ends m n call most told old new has kept unmet ends =
     let o = open_at old n call has in
-    ends_in m n call most told old old new o.caller o.open_call o.at_caller has kept (over_at_once n most old o.caller o.open_call o.at_caller o.is_open) ends
+    ends_in m n call most told old old new o.caller o.open_call o.open_call o.at_caller o.is_open (enters_same o.open_call unmet) has kept (over_at_once n most old o.caller o.open_call o.at_caller o.is_open) ends
 
 -- ---- late frames
 pub strays_in : {S V : Type 0} (old new : View S V) → IsKept old → LetsIn old new → Held old new (StraysIn old new)

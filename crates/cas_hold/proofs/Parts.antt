@@ -1,11 +1,13 @@
 -- What a caller's own part tells of what is open, and what becomes of it.
-use Rattle.std.proofs.Common.{◌≡◌, ℕ, zero, suc, List, [], ◌∷◌, ◌++◌, Option, None, Some, slice_get, refl, sym, ap, ap₂, ◌∙◌, append-nil, arith}
+use Rattle.std.proofs.Common.{◌≡◌, ℕ, zero, suc, ◌==◌, Bool, true, false, if◌then◌else◌, is_some, List, [], ◌∷◌, ◌++◌, Option, None, Some, slice_get, refl, sym, ap, ap₂, ◌∙◌, append-nil, arith}
 use Rattle.cas_cluster.specs.Collection.{CollectionView}
 use Rattle.cas_cluster.specs.Council.{ExchangeView, OrderView, PlanView, Council}
+use Rattle.cas_cluster.specs.StepCalls.{one_more}
 use Rattle.cas_cluster.specs.View.{View, CallView, CallerView, IsAt}
 use Rattle.cas_cluster.proofs.Places.{some_is}
 use Rattle.cas_hold.specs.OwnParts.{phase_of, call_part, open_part, caller_part, order_part, exchange_part, plan_part, collection_part, council_part, own_part}
-use Rattle.cas_hold.specs.Open.{IsFree, HasOpen}
+use Rattle.cas_hold.specs.Conflicts.{told_conflict}
+use Rattle.cas_hold.specs.Open.{IsFree, HasOpen, rounds_in, is_met_in, rounds_after}
 
 -- ---- which part stands first
 abbrev first_of : List ℕ → ℕ
@@ -137,3 +139,26 @@ is_open_then old new n call free council caller next at number is = now_open new
 
 pub stays_free : {S V : Type 0} (old new : View S V) (n : ℕ) → IsFree (own_part old n) → new.council ≡ old.council → (caller : CallerView) → IsAt new.callers n caller → caller.call ≡ None → IsFree (own_part new n)
 stays_free old new n free council caller at none = now_free new n free.plan caller at none (rest_same old new n council ∙ (free_parts old n free).0)
+
+-- ---- rounds
+met_phase : (call : CallView) → (phase_of call == 2) ≡ told_conflict call.told
+met_phase call = by_tests (told_conflict call.told) (is_some call.proposed)
+  where
+    by_tests : (met proposed : Bool) → ((if met then 2 else if proposed then 1 else 0) == 2) ≡ met
+    by_tests true proposed = refl
+    by_tests false true = refl
+    by_tests false false = refl
+
+-- of an open call its own part tells the rounds, and whether the last of them ended with a conflict
+module _ {S V : Type 0} (view : View S V) (n : ℕ) (caller : CallerView) (call : CallView) (at : IsAt view.callers n caller) (is : caller.call ≡ Some call) where
+  open_own : own_part view n ≡ call_part caller.number call.rounds (phase_of call) ++ rest_of view n
+  open_own = own_is view n ∙ ap (λ (o : Option CallerView). caller_part o ++ rest_of view n) at ∙ ap (λ (o : Option CallView). open_part caller.number o ++ rest_of view n) is
+
+  pub rounds_part : rounds_in (own_part view n) ≡ call.rounds
+  rounds_part = ap rounds_in open_own
+
+  pub met_part : is_met_in (own_part view n) ≡ told_conflict call.told
+  met_part = ap is_met_in open_own ∙ met_phase call
+
+  pub after_part : rounds_after (own_part view n) ≡ (if told_conflict call.told then one_more call.rounds else call.rounds)
+  after_part = ap₂ (λ (b : Bool) (r : ℕ). if b then one_more r else r) met_part rounds_part

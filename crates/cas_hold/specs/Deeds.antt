@@ -8,19 +8,15 @@ use Rattle.cas_record.specs.declared.answer.Answer.TheVariants as answer
 use Rattle.cas_record.specs.declared.mark.Mark.{Mark}
 use Rattle.cas_record.specs.declared.mark.Mark.TheVariants.{Begun, Ended}
 use Rattle.cas_cluster.specs.View.{View}
+use Rattle.cas_hold.specs.Conflicts.{is_conflict}
 use Rattle.cas_hold.specs.Kept.{Makes}
 use Rattle.cas_hold.specs.Mine.{mine, AreOfCall, losses, wants, wanted_by}
 use Rattle.cas_hold.specs.OwnParts.{own_part}
-use Rattle.cas_hold.specs.Open.{IsFree, HasOpen}
+use Rattle.cas_hold.specs.Open.{IsFree, HasOpen, rounds_in, is_met_in, rounds_after}
 
 -- how many frames one verdict may harm
 abbrev pub harm_by : Verdict → ℕ
 harm_by v = if is_harm v then 1 else 0
-
--- what tells of a conflict
-abbrev pub is_conflict : Answer → Bool
-is_conflict (answer.Conflict met) = true
-is_conflict other = false
 
 -- A late frame strays in: no mark that it makes is anybody's own, and all that callers have open stays.
 pub record StraysIn {S V : Type 0} (old new : View S V) : Type 0 where
@@ -37,15 +33,17 @@ pub record BeginsIn {S V : Type 0} (n call : ℕ) (key : List ℕ) (program : Li
   pub of_call : AreOfCall call (mine n more)
   pub none_lost : losses (mine n more) ≡ 0
   pub is_open : HasOpen call (own_part new n)
+  pub first : rounds_in (own_part new n) ≡ 1
+  pub unmet : is_met_in (own_part new n) ≡ false
   pub wanted : wanted_by n new.marks ≡ Some (wants call key program)
 
 -- why a call is not begun: the record is full, or there is no memory
 abbrev pub IsRefusal : Answer → Type 0
 IsRefusal told = (told ≡ answer.RecordFull) ⊎ (told ≡ answer.NoMemory false)
 
--- a call for this begins and ends at once; or it is not begun, and no mark is made
+-- a call for this begins and ends at once, which is no conflict; or it is not begun, and no mark is made
 pub data BeginsNot {S V : Type 0} (n : ℕ) (key : List ℕ) (program : List Clause) (old new : View S V) (told : Answer) : Type 0 where
-  ends_at_once : (call rounds : ℕ) → Makes n old new (Begun n call key program ∷ Ended n call rounds told ∷ []) → IsFree (own_part new n) → BeginsNot n key program old new told
+  ends_at_once : (call rounds : ℕ) → Makes n old new (Begun n call key program ∷ Ended n call rounds told ∷ []) → IsFree (own_part new n) → is_conflict told ≡ false → BeginsNot n key program old new told
   is_refused : IsRefusal told → Makes n old new [] → IsFree (own_part new n) → BeginsNot n key program old new told
 
 -- the open call of that number goes on, and at most so many losses of its frames are marked
@@ -55,13 +53,13 @@ pub record GoesOnIn {S V : Type 0} (n call most : ℕ) (old new : View S V) : Ty
   pub of_call : AreOfCall call (mine n marks)
   pub few : losses (mine n marks) ≤ most
   pub is_open : HasOpen call (own_part new n)
+  pub rounds : rounds_in (own_part new n) ≡ rounds_after (own_part old n)
   pub wanted : wanted_by n new.marks ≡ wanted_by n old.marks
 
 -- it ends with this answer, which is marked last
 pub record EndsIn {S V : Type 0} (n call most : ℕ) (old new : View S V) (told : Answer) : Type 0 where
   pub marks : List Mark
-  pub rounds : ℕ
-  pub makes : Makes n old new (marks ++ Ended n call rounds told ∷ [])
+  pub makes : Makes n old new (marks ++ Ended n call (rounds_after (own_part old n)) told ∷ [])
   pub of_call : AreOfCall call (mine n marks)
   pub few : losses (mine n marks) ≤ most
   pub is_free : IsFree (own_part new n)

@@ -1,21 +1,22 @@
 -- What the store keeps true between two holds.
-use Rattle.std.specs.Prelude.{◌≡◌, ◌≢◌, ℕ, suc, List, ◌++◌, length, None, Some, IsSome}
+use Rattle.std.specs.Prelude.{◌≡◌, ◌≢◌, ℕ, suc, false, List, ◌++◌, length, None, Some, IsSome}
 use Rattle.cas_proposer.specs.Desk.{DeskView}
 use Rattle.cas_record.specs.declared.mark.Mark.{Mark}
 use Rattle.cas_cluster.specs.StepCalls.{WasMet}
 use Rattle.cas_cluster.specs.View.{View, CallView, CallerView, IsAt}
 use Rattle.cas_turn.specs.Seen.{OnlyOwnedBy}
 use Rattle.cas_world.specs.Readers.{closed_in}
+use Rattle.cas_hold.specs.Conflicts.{told_conflict}
 use Rattle.cas_hold.specs.Mine.{wants, wanted_by}
 use Rattle.cas_hold.specs.Owners.{owner_of, MayAdd}
 use Rattle.cas_hold.specs.OwnParts.{own_part}
 
--- An open call has an open round; or its round ended with a conflict, and nothing was proposed; or another caller closed its round, which
--- it can be told.
+-- An open call has an open round, and no conflict was told; or its round ended with a conflict, and nothing was proposed; or another
+-- caller closed its round, which it can be told.
 pub data IsStaged {V : Type 0} (desk : DeskView V) (call : CallView) : Type 0 where
-  running : IsSome desk.round → IsStaged desk call
-  is_met : desk.round ≡ None → WasMet call.told → call.proposed ≡ None → IsStaged desk call
-  is_closed : desk.round ≡ None → IsSome (closed_in (Some call)) → IsStaged desk call
+  running : IsSome desk.round → told_conflict call.told ≡ false → call.is_closed ≡ false → IsStaged desk call
+  is_met : desk.round ≡ None → WasMet call.told → call.proposed ≡ None → call.is_closed ≡ false → IsStaged desk call
+  is_closed : desk.round ≡ None → IsSome (closed_in (Some call)) → told_conflict call.told ≡ false → IsStaged desk call
 
 -- it was begun by the caller's newest mark that begins one
 abbrev pub IsWanted : ℕ → CallerView → CallView → List Mark → Type 0

@@ -8,15 +8,16 @@ use Rattle.cas_record.specs.declared.operator.Asked.TheVariants as asked
 use Rattle.cas_cluster.specs.Collection.{CollectionView}
 use Rattle.cas_cluster.specs.Council.{Question, Probe, NextKeys, NewAges, Removal, ExchangeView, OrderView, PlanView, Council}
 use Rattle.cas_cluster.specs.View.{View, CallView, CallerView}
+use Rattle.cas_hold.specs.Conflicts.{told_conflict}
 
 -- ---- a call
 -- one part among others: what it is of, how long it is, and what it has
 abbrev pub framed : ℕ → List ℕ → List ℕ
 framed kind part = kind ∷ length part ∷ part
 
--- whether it has proposed something
+-- whether its last round ended with a conflict, or it has proposed something
 abbrev pub phase_of : CallView → ℕ
-phase_of call = if is_some call.proposed then 1 else 0
+phase_of call = if told_conflict call.told then 2 else if is_some call.proposed then 1 else 0
 
 -- its number, how many rounds it had, and its phase
 abbrev pub call_part : ℕ → ℕ → ℕ → List ℕ

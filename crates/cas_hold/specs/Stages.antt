@@ -1,5 +1,5 @@
 -- How far a caller's open call has come, as is read of the world.
-use Rattle.std.specs.Prelude.{◌≡◌, ℕ, length, Option, None, Some, IsSome, option_map, slice_get}
+use Rattle.std.specs.Prelude.{◌≡◌, ℕ, Bool, true, false, length, Option, None, Some, IsSome, option_map, slice_get}
 use Rattle.cas_fate.specs.declared.fate.Leg.{Leg}
 use Rattle.cas_flow.specs.Flow.{queue_at}
 use Rattle.cas_flow.specs.Message.{head_of}
@@ -23,3 +23,8 @@ abbrev pub IsStageOf : {S V : Type 0} → View S V → ℕ → Stage → Type 0
 IsStageOf view n (Waits frame) = IsFirst view n frame
 IsStageOf {S} {V} view n Through = (front_of view n ≡ None) × ((desk : DeskView V) → IsAt view.desks n desk → IsSome desk.round)
 IsStageOf {S} {V} view n Met = (front_of view n ≡ None) × ((desk : DeskView V) → IsAt view.desks n desk → desk.round ≡ None)
+
+-- whether it is the stage behind a conflict
+abbrev pub tells_met : Stage → Bool
+tells_met Met = true
+tells_met other = false

@@ -1,18 +1,19 @@
 //! What one hold does for the call of a caller: one call on the world, with the end of the caller's call where that told its answer.
 
-ghost use Rattle.std.specs.Prelude.{◌≡◌, ◌≢◌, ◌≤◌, ℕ, [], true, None, Some, IsSome, IfSome, IfOk, IfErr, OnOk};
+ghost use Rattle.std.specs.Prelude.{◌≡◌, ◌≢◌, ◌≤◌, ℕ, [], true, false, None, Some, IsSome, IfSome, IfOk, IfErr, OnOk};
 ghost use Rattle.cas_cluster.specs.View.{CallerView, IsAt};
 ghost use Rattle.cas_flow.specs.Flow.{queue_at};
 ghost use Rattle.cas_proposer.specs.Desk.{DeskView};
 ghost use Rattle.cas_world.specs.Beginning.{is_refusal};
 ghost use Rattle.cas_world.specs.Readers.{closed_in};
 ghost use Rattle.cas_world.specs.World.{IsInPhase};
-ghost use Rattle.cas_hold.specs.Deeds.{BeginsIn, BeginsNot, EndsIn, GoesOnIn, StraysIn, harm_by, is_conflict};
+ghost use Rattle.cas_hold.specs.Conflicts.{is_conflict};
+ghost use Rattle.cas_hold.specs.Deeds.{BeginsIn, BeginsNot, EndsIn, GoesOnIn, StraysIn, harm_by};
 ghost use Rattle.cas_hold.specs.Kept.{IsKept};
 ghost use Rattle.cas_hold.specs.Mine.{wanted_by, wants};
 ghost use Rattle.cas_hold.specs.OwnParts.{own_part};
-ghost use Rattle.cas_hold.specs.Open.{HasOpen, IsFree};
-ghost use Rattle.cas_hold.specs.Stages.{IsFirst, IsStageOf, front_of};
+ghost use Rattle.cas_hold.specs.Open.{HasOpen, IsFree, is_met_in};
+ghost use Rattle.cas_hold.specs.Stages.{IsFirst, IsStageOf, front_of, tells_met};
 
 use cas_ballot::AcceptorId;
 use cas_change::{Key, Program};
@@ -110,6 +111,7 @@ pub fn begin<S: Shelf, V: Disk>(
     ensures greatest { world.new.greatest ≡ world.old.greatest }
     ensures begun { IfOk result (λ begun. BeginsIn caller begun.call key.now program.now world.old world.new) }
     ensures stage { IfOk result (λ begun. IsStageOf world.new caller begun.stage) }
+    ensures fresh { IfOk result (λ begun. tells_met begun.stage ≡ false) }
     ensures not_begun { IfErr result (BeginsNot caller key.now program.now world.old world.new) }
 {
     let call = world.next_call(caller);
@@ -125,7 +127,8 @@ pub fn begin<S: Shelf, V: Disk>(
 
 /// Goes on with the caller's open call of that number: another round of it begins; or its first frame has its turn, of which this
 /// becomes; or its phase ends, and the call with it unless something is proposed, or another round may follow. Where another caller
-/// closed the round the call ends. An `Err` is the answer with which it has ended.
+/// closed the round the call ends. An `Err` is the answer with which it has ended. A conflict is that answer only where no other round may
+/// follow it.
 pub fn go_on<S: Shelf, V: Disk>(
     world: &mut World<S, V>,
     caller: u8,
@@ -143,6 +146,9 @@ pub fn go_on<S: Shelf, V: Disk>(
     ensures greatest { world.new.greatest ≡ world.old.greatest }
     ensures goes_on { OnOk result (GoesOnIn caller call (harm_by verdict) world.old world.new) }
     ensures stage { IfOk result (IsStageOf world.new caller) }
+    ensures met { IfOk result (λ stage. is_met_in (own_part world.new caller) ≡ tells_met stage) }
+    ensures repeats { OnOk result (is_met_in (own_part world.new caller) ≡ true → may_repeat ≡ true) }
+    ensures last { IfErr result (λ told. is_conflict told ≡ true → may_repeat ≡ false) }
     ensures ends { IfErr result (EndsIn caller call (harm_by verdict) world.old world.new) }
 {
     if let Some(told) = world.closed(caller) {
@@ -179,6 +185,9 @@ fn begin_again<S: Shelf, V: Disk>(
     ensures greatest { world.new.greatest ≡ world.old.greatest }
     ensures goes_on { (most : ℕ) → OnOk result (GoesOnIn caller call most world.old world.new) }
     ensures stage { IfOk result (IsStageOf world.new caller) }
+    ensures met { IfOk result (λ stage. is_met_in (own_part world.new caller) ≡ tells_met stage) }
+    ensures unmet { OnOk result (is_met_in (own_part world.new caller) ≡ false) }
+    ensures no_conflict { IfErr result (λ told. is_conflict told ≡ false) }
     ensures ends { (most : ℕ) → IfErr result (EndsIn caller call most world.old world.new) }
 {
     match world.begin(caller, call, key, program) {
@@ -203,6 +212,9 @@ fn take_turn<S: Shelf, V: Disk>(
     ensures greatest { world.new.greatest ≡ world.old.greatest }
     ensures goes_on { OnOk result (GoesOnIn caller call (harm_by verdict) world.old world.new) }
     ensures stage { IfOk result (IsStageOf world.new caller) }
+    ensures met { IfOk result (λ stage. is_met_in (own_part world.new caller) ≡ tells_met stage) }
+    ensures unmet { OnOk result (is_met_in (own_part world.new caller) ≡ false) }
+    ensures no_conflict { IfErr result (λ told. is_conflict told ≡ false) }
     ensures ends { IfErr result (EndsIn caller call (harm_by verdict) world.old world.new) }
 {
     match world.turn(caller, verdict) {
@@ -232,6 +244,9 @@ fn propose<S: Shelf, V: Disk>(
     ensures greatest { world.new.greatest ≡ world.old.greatest }
     ensures goes_on { (most : ℕ) → OnOk result (GoesOnIn caller call most world.old world.new) }
     ensures stage { IfOk result (IsStageOf world.new caller) }
+    ensures met { IfOk result (λ stage. is_met_in (own_part world.new caller) ≡ tells_met stage) }
+    ensures repeats { OnOk result (is_met_in (own_part world.new caller) ≡ true → may_repeat ≡ true) }
+    ensures last { IfErr result (λ told. is_conflict told ≡ true → may_repeat ≡ false) }
     ensures ends { (most : ℕ) → IfErr result (EndsIn caller call most world.old world.new) }
 {
     match world.propose(caller) {

@@ -1,9 +1,10 @@
-use Rattle.std.proofs.Common.{sym, subst, arith}
+use Rattle.std.proofs.Common.{◌≡◌, false, sym, subst, arith}
 use Rattle.std.specs.Prelude.{⊤}
+use Rattle.cas_hold.specs.Conflicts.{is_conflict}
 use Rattle.cas_hold.specs.Deeds.{EndsIn}
-use Rattle.cas_hold.proofs.Holds.{again_ok, again_told, again_ends}
+use Rattle.cas_hold.proofs.Holds.{again_ok, again_told, again_ends, again_no_conflict}
 use Rattle.cas_hold.proofs.Parts.{open_quiet}
-use Rattle.cas_hold.proofs.Stages.{may_again}
+use Rattle.cas_hold.proofs.Stages.{may_again, unmet_there, running_tells, round_running}
 use Rattle.cas_hold.proofs.deeds.begin_again.Goals as goal
 
 pub begin-requires-clause-unasked : goal.begin-requires-clause-unasked
@@ -35,3 +36,16 @@ returns-in-Err-clause-greatest g c = (again_ends ⊤ _ c.args.caller c.args.call
 
 pub returns-in-Err-clause-ends : goal.returns-in-Err-clause-ends
 returns-in-Err-clause-ends g c most = subst (EndsIn c.args.caller c.args.call most c.args.world.now c.end.new.self) (sym c.end.ensures.same) (again_ends ⊤ _ c.args.caller c.args.call most c.args.key.now c.args.program.now c.in-Err.told c.args.world.now c.begin.new.self c.end.new.self c.requires.called c.requires.kept c.in-Err.ensures.step c.end.ensures.step).does
+
+pub returns-in-Ok-clause-met : goal.returns-in-Ok-clause-met
+returns-in-Ok-clause-met g c =
+    let held = again_ok _ c.args.caller c.args.call 0 c.args.key.now c.args.program.now c.args.world.now c.begin.new.self c.requires.called c.requires.kept c.in-Ok.ensures.step.0 c.in-Ok.ensures.step.1 in
+    running_tells c.begin.new.self c.args.caller c.args.call c.stage_of.result held.does.is_open held.kept (round_running c.begin.new.self c.args.caller c.args.call c.in-Ok.ensures.step.1) c.stage_of.ensures
+
+pub returns-in-Ok-clause-unmet : goal.returns-in-Ok-clause-unmet
+returns-in-Ok-clause-unmet g c =
+    let held = again_ok _ c.args.caller c.args.call 0 c.args.key.now c.args.program.now c.args.world.now c.begin.new.self c.requires.called c.requires.kept c.in-Ok.ensures.step.0 c.in-Ok.ensures.step.1 in
+    unmet_there c.begin.new.self c.args.caller c.args.call held.does.is_open held.kept (round_running c.begin.new.self c.args.caller c.args.call c.in-Ok.ensures.step.1)
+
+pub returns-in-Err-clause-no_conflict : goal.returns-in-Err-clause-no_conflict
+returns-in-Err-clause-no_conflict g c = subst (λ told. is_conflict told ≡ false) (sym c.end.ensures.same) (again_no_conflict ⊤ _ c.args.caller c.args.call c.args.key.now c.args.program.now c.in-Err.told c.args.world.now c.begin.new.self c.in-Err.ensures.step c.in-Err.ensures.cause)

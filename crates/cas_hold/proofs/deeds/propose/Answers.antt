@@ -1,6 +1,8 @@
 use Rattle.std.proofs.Common.{sym, subst, ◌∙◌, arith}
 use Rattle.cas_hold.specs.Deeds.{EndsIn}
 use Rattle.cas_hold.proofs.Holds.{propose_ok, propose_told, propose_is_met, propose_ends, greatest_proposed}
+use Rattle.cas_hold.proofs.Parts.{open_quiet}
+use Rattle.cas_hold.proofs.Stages.{unmet_there, running_tells, proposed_running, met_tells}
 use Rattle.cas_hold.proofs.deeds.propose.Goals as goal
 
 pub stage_of-requires : goal.stage_of-requires
@@ -38,3 +40,20 @@ returns-else-may_repeat-clause-greatest g c = (propose_ends _ c.args.caller c.ar
 
 pub returns-else-may_repeat-clause-ends : goal.returns-else-may_repeat-clause-ends
 returns-else-may_repeat-clause-ends g c most = subst (EndsIn c.args.caller c.args.call most c.args.world.now c.end.new.self) (sym c.end.ensures.same) (propose_ends _ c.args.caller c.args.call most c.in-Err.told c.args.world.now c.propose.new.self c.end.new.self c.requires.called c.requires.kept (propose_told c.args.caller c.args.call c.in-Err.told c.args.world.now c.propose.new.self c.requires.called c.in-Err.ensures.told) c.in-Err.ensures.step c.end.ensures.step).does
+
+pub returns-in-Ok-clause-met : goal.returns-in-Ok-clause-met
+returns-in-Ok-clause-met g c =
+    let held = propose_ok _ c.args.caller c.args.call 0 c.args.world.now c.propose.new.self c.requires.called c.requires.kept c.in-Ok.ensures.proposed c.in-Ok.ensures.step in
+    running_tells c.propose.new.self c.args.caller c.args.call c.stage_of.result held.does.is_open held.kept (proposed_running c.propose.new.self c.args.caller c.in-Ok.ensures.proposed) c.stage_of.ensures
+
+pub returns-in-Ok-clause-repeats : goal.returns-in-Ok-clause-repeats
+returns-in-Ok-clause-repeats g c met =
+    let held = propose_ok _ c.args.caller c.args.call 0 c.args.world.now c.propose.new.self c.requires.called c.requires.kept c.in-Ok.ensures.proposed c.in-Ok.ensures.step in
+    absurd (cc (unmet_there c.propose.new.self c.args.caller c.args.call held.does.is_open held.kept (proposed_running c.propose.new.self c.args.caller c.in-Ok.ensures.proposed), met))
+
+pub returns-then-is_conflict-clause-met : goal.returns-then-is_conflict-clause-met
+returns-then-is_conflict-clause-met g c =
+    let was = propose_told c.args.caller c.args.call c.in-Err.told c.args.world.now c.propose.new.self c.requires.called c.in-Err.ensures.told in
+    let conflict = sym c.is_conflict.ensures ∙ c.if-is_conflict.true in
+    let held = propose_is_met _ c.args.caller c.args.call 0 c.in-Err.told c.args.world.now c.propose.new.self c.requires.called c.requires.kept c.requires.unproposed was conflict c.in-Err.ensures.step in
+    met_tells _ c.args.caller c.args.call c.in-Err.told c.stage_of-then-is_conflict.result c.args.world.now c.propose.new.self (λ is_first. (open_quiet c.args.world.now c.args.caller c.args.call c.requires.called is_first).exchange) held.does.is_open held.kept was conflict c.in-Err.ensures.step c.stage_of-then-is_conflict.ensures

@@ -4,7 +4,7 @@ use Rattle.cas_hold.specs.Deeds.{GoesOnIn, EndsIn, harm_by}
 use Rattle.cas_hold.specs.Mine.{wanted_by}
 use Rattle.cas_hold.specs.OwnParts.{own_part}
 use Rattle.cas_hold.proofs.Fronts.{wanted_seen}
-use Rattle.cas_board.proofs.Sittings.{was_held, gives_back, held_known, gone_makes, gone_told, ended_told}
+use Rattle.cas_board.proofs.Sittings.{was_held, gives_back, held_known, gone_makes, gone_told, ended_told, rounds_told, met_told, repeats_told}
 use Rattle.cas_board.proofs.board.Board.go_on_once.Goals as goal
 
 pub go_on-stage-requires-clause-known : goal.go_on-stage-requires-clause-known
@@ -35,4 +35,20 @@ pub returns-clause-ends : goal.returns-clause-ends
 returns-clause-ends g c =
     ended_told c.caller_of-caller.result c.args.call (harm_by c.args.verdict) c.hold-shared.result c.go_on-stage.new.world c.args.pass.now c.give_back.new.pass c.go_on-stage.result
     (was_held c.caller_of-caller.result c.hold-shared.result c.go_on-stage.new.world c.args.pass.now c.hold-shared.new.seat c.give_back.new.pass c.hold-shared.ensures.seen c.hold-shared.ensures.seat c.caller_of-caller.ensures c.give_back.ensures.pass)
-    (subst (λ v. IfErr c.go_on-stage.result (EndsIn c.caller_of-caller.result c.args.call (harm_by c.args.verdict) v c.go_on-stage.new.world)) c.shared.view_is c.go_on-stage.ensures.ends)
+    c.hold-shared.ensures.own (subst (λ v. IfErr c.go_on-stage.result (EndsIn c.caller_of-caller.result c.args.call (harm_by c.args.verdict) v c.go_on-stage.new.world)) c.shared.view_is c.go_on-stage.ensures.ends)
+
+pub returns-clause-rounds : goal.returns-clause-rounds
+returns-clause-rounds g c =
+    rounds_told c.caller_of-caller.result c.args.call (harm_by c.args.verdict) c.hold-shared.result c.go_on-stage.new.world c.args.pass.now c.give_back.new.pass c.go_on-stage.result
+    (was_held c.caller_of-caller.result c.hold-shared.result c.go_on-stage.new.world c.args.pass.now c.hold-shared.new.seat c.give_back.new.pass c.hold-shared.ensures.seen c.hold-shared.ensures.seat c.caller_of-caller.ensures c.give_back.ensures.pass)
+    c.hold-shared.ensures.own (subst (λ v. OnOk c.go_on-stage.result (GoesOnIn c.caller_of-caller.result c.args.call (harm_by c.args.verdict) v c.go_on-stage.new.world)) c.shared.view_is c.go_on-stage.ensures.goes_on)
+
+pub returns-clause-met : goal.returns-clause-met
+returns-clause-met g c =
+    met_told c.caller_of-caller.result c.hold-shared.result c.go_on-stage.new.world c.args.pass.now c.give_back.new.pass
+    (was_held c.caller_of-caller.result c.hold-shared.result c.go_on-stage.new.world c.args.pass.now c.hold-shared.new.seat c.give_back.new.pass c.hold-shared.ensures.seen c.hold-shared.ensures.seat c.caller_of-caller.ensures c.give_back.ensures.pass) c.go_on-stage.result c.go_on-stage.ensures.met
+
+pub returns-clause-repeats : goal.returns-clause-repeats
+returns-clause-repeats g c =
+    repeats_told c.caller_of-caller.result c.hold-shared.result c.go_on-stage.new.world c.args.pass.now c.give_back.new.pass
+    (was_held c.caller_of-caller.result c.hold-shared.result c.go_on-stage.new.world c.args.pass.now c.hold-shared.new.seat c.give_back.new.pass c.hold-shared.ensures.seen c.hold-shared.ensures.seat c.caller_of-caller.ensures c.give_back.ensures.pass) c.args.may_repeat c.go_on-stage.result c.go_on-stage.ensures.repeats
