@@ -1,0 +1,4 @@
+pub mod Entries
+pub mod KeysAhead
+pub mod SettledKeys
+pub mod Sheets

@@ -1,0 +1,4 @@
+//! The text of histories, and sheets, over worked rows.
+
+mod histories;
+mod tasks;
