@@ -206,7 +206,7 @@ losses_append (mark.EraEntered proposer number ∷ a) b = losses_append a b
 losses_append (mark.Ended caller call rounds answer ∷ a) b = losses_append a b
 losses_append (mark.Told asked answer ∷ a) b = losses_append a b
 
-few_then : (a b : List Mark) (most more : ℕ) → losses a ≤ most → losses b ≤ more → losses (a ++ b) ≤ most + more
+pub few_then : (a b : List Mark) (most more : ℕ) → losses a ≤ most → losses b ≤ more → losses (a ++ b) ≤ most + more
 few_then a b most more few less = let sum = losses_append a b in omega (arith, sum, few, less)
 
 pub counted_none : (harms : ℕ) → IsCounted 0 harms harms

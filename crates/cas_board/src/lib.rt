@@ -12,6 +12,7 @@ mod board;
 mod change;
 mod fates;
 mod phases;
+mod probing;
 mod shared;
 #[cfg(test)]
 mod tests;

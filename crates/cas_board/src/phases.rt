@@ -38,6 +38,27 @@ impl<D: Disk> Board<D> {
         holds.verdict(fate, frame.leg, frame.peer)
     }
 
+    /// What becomes of the frame of an exchange that waits, if one does.
+    pub(crate) fn verdict_for<R: Wait, F: Fate>(
+        &self,
+        rt: &R,
+        pass: &mut Pass<D>,
+        fate: &mut F,
+        holds: &mut Holds,
+        waits: &Option<Waiting>,
+        again: bool,
+    ) -> Verdict
+        requires pass { IsPassOf self.now.id pass.old }
+        ensures pass { pass.new ≡ record pass.old { seen = pass.new.seen } }
+        ensures front { GoesOn pass.old.number pass.old.seen pass.new.seen [] }
+        ensures counted { IsCounted (harm_by result) (F.harm_count fate.old) (F.harm_count fate.new) }
+    {
+        match waits {
+            Some(frame) => self.verdict_on(rt, pass, fate, holds, frame, again),
+            None => Verdict::Deliver,
+        }
+    }
+
     /// A hold in which a late frame strays in, if the fate names one.
     fn let_in_once<R: Wait, F: Fate>(&self, rt: &R, pass: &mut Pass<D>, fate: &mut F, late: usize)
         requires pass { IsPassOf self.now.id pass.old }

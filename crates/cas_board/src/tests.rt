@@ -4,6 +4,8 @@ ghost use Rattle.std.specs.Prelude.{◌≡◌, ◌<◌, length, vec_len, All, If
 ghost use Rattle.cas_board.specs.Passes.{IsPassOf};
 ghost use Rattle.cas_hold.specs.Open.{IsFree};
 
+mod operating;
+
 use crate::{Board, Pass};
 use cas_ballot::Ballot;
 use cas_change::{Act, Body, Clause, Guard, Key, Program, State, Took};

@@ -50,7 +50,7 @@ pub record Fine (n call most : ℕ) (marks : List Mark) : Type 0 where
   pub few : losses (mine n marks) ≤ most
   pub asks : (before : Option Wanted) → wanted_after n before marks ≡ before
 
-only_one : (n : ℕ) (mark : Mark) → ((m : ℕ) → owner_of mark ≡ Some m → m ≡ n) → OnlyOwnedBy owner_of n (mark ∷ [])
+pub only_one : (n : ℕ) (mark : Mark) → ((m : ℕ) → owner_of mark ≡ Some m → m ≡ n) → OnlyOwnedBy owner_of n (mark ∷ [])
 only_one n mark is = All-cons (λ i. (m : ℕ) → owner_of i ≡ Some m → m ≡ n) mark [] is (All-nil (λ i. (m : ℕ) → owner_of i ≡ Some m → m ≡ n))
 
 one_of_call : (call : ℕ) (mark : Mark) → call_of mark ≡ Some call → AreOfCall call (mark ∷ [])
@@ -105,7 +105,7 @@ fine_proposal n call most p by of =
       asks = λ before. refl;
     }
 
-fine_votes : (n call most : ℕ) (request : Request) (reply : Reply) → Fine n call most (frames.votes_marked request reply)
+pub fine_votes : (n call most : ℕ) (request : Request) (reply : Reply) → Fine n call most (frames.votes_marked request reply)
 fine_votes n call most request reply = by_ask request.to request.ask reply.tell
   where
     by_ask : (to : ℕ) (question : Ask) (told : Tell) → Fine n call most (marks_of (votes_of to question told))
@@ -113,7 +113,7 @@ fine_votes n call most request reply = by_ask request.to request.ask reply.tell
     by_ask to question told = fine_none n call most
 
 -- ---- verdicts
-gone_harms : (again : Bool) (v : Verdict) → fall_of again v ≡ Gone → 1 ≤ harm_by v
+pub gone_harms : (again : Bool) (v : Verdict) → fall_of again v ≡ Gone → 1 ≤ harm_by v
 gone_harms true v e = absurd (cc e)
 gone_harms false verdict.Deliver e = absurd (cc e)
 gone_harms false verdict.Twice e = absurd (cc e)

@@ -3,6 +3,7 @@ pub mod Deeds
 pub mod Kept
 pub mod Mine
 pub mod Open
+pub mod Orders
 pub mod Owners
 pub mod OwnParts
 pub mod Stages

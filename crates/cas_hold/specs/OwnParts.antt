@@ -1,6 +1,6 @@
 -- What of the store is a caller's own: what is kept of its open call and, for the operator's caller 0, of all that is under way. Where
 -- nothing is open it is empty.
-use Rattle.std.specs.Prelude.{ℕ, zero, suc, if◌then◌else◌, List, [], ◌∷◌, ◌++◌, length, Option, None, Some, is_some, slice_get}
+use Rattle.std.specs.Prelude.{ℕ, zero, suc, if◌then◌else◌, List, [], ◌∷◌, ◌++◌, length, map, Option, None, Some, is_some, slice_get}
 use Rattle.cas_collect.specs.declared.collect.CollectStep.{CollectStep}
 use Rattle.cas_collect.specs.declared.collect.CollectStep.TheVariants as collect
 use Rattle.cas_record.specs.declared.operator.Asked.{Asked}
@@ -56,9 +56,13 @@ abbrev pub order_part : Option OrderView → List ℕ
 order_part None = []
 order_part (Some order) = framed 1 ((if is_some order.told then 1 else 0) ∷ asked_part order.asked)
 
+-- those that are asked, in their order
+abbrev pub asked_of : ExchangeView → List ℕ
+asked_of exchange = map (λ probe. probe.acceptor) exchange.told
+
 abbrev pub exchange_part : Option ExchangeView → List ℕ
 exchange_part None = []
-exchange_part (Some exchange) = framed 2 (question_part exchange.question)
+exchange_part (Some exchange) = framed 2 (length (asked_of exchange) ∷ asked_of exchange ++ question_part exchange.question)
 
 abbrev pub plan_part : Option PlanView → List ℕ
 plan_part None = []

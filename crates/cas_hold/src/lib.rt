@@ -5,5 +5,7 @@
 #![tactic(auto)]
 
 mod deeds;
+mod orders;
 
 pub use deeds::{Begun, Stage, Waiting, begin, first_frame, go_on, is_conflict, let_in, stage_of};
+pub use orders::{ProbeOrder, Probing, ask_probe, go_on_probing, order_probe};

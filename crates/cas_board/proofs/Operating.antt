@@ -1,0 +1,175 @@
+-- What caller 0's pass tells of a call of the operator, by what its holds did.
+use Rattle.std.proofs.Common.{◌≡◌, ◌≤◌, ℕ, ◌+◌, true, false, inl, inr, List, [], ◌∷◌, ◌++◌, None, Some, refl, sym, ap, subst, ◌∙◌, append_assoc, append-nil, arith}
+use Rattle.std.specs.Prelude.{◌||◌, All, Result, Ok, Err, IfOk, IfErr, OnOk}
+use Rattle.std.proofs.lemmas.List.Elements.{All-append, All-nil}
+use Rattle.cas_record.specs.declared.answer.Answer.{Answer}
+use Rattle.cas_record.specs.declared.mark.Mark.{Mark}
+use Rattle.cas_record.specs.declared.operator.Asked.{Asked}
+use Rattle.cas_record.specs.declared.operator.OpAnswer.{OpAnswer}
+use Rattle.cas_record.specs.declared.operator.OpAnswer.TheVariants.{Stopped}
+use Rattle.cas_cluster.specs.StepCouncil.{told_marks, everyone}
+use Rattle.cas_cluster.specs.View.{View, era_at}
+use Rattle.cas_turn.specs.Seen.{HasSeen}
+use Rattle.cas_turn.specs.Sitting.{Sitting, TurnId}
+use Rattle.cas_hold.specs.Deeds.{IsRefusal}
+use Rattle.cas_hold.specs.Kept.{Makes, IsHeldBy}
+use Rattle.cas_hold.specs.Mine.{mine, losses, GoesOn}
+use Rattle.cas_hold.specs.Open.{IsFree}
+use Rattle.cas_hold.specs.Orders.{OperatesIn, IsToldIn, IsProbeAnswer, stops_probe}
+use Rattle.cas_ballot.specs.Members.{members_where, has_member, IsMemberSet}
+use Rattle.cas_ballot.proofs.MemberLemmas.{IsMemberSet-members_where}
+use Rattle.cas_hold.specs.Owners.{owner_of}
+use Rattle.cas_hold.specs.OwnParts.{own_part}
+use Rattle.cas_hold.proofs.Fronts.{front_goes_on, goes_on_then, mine_append}
+use Rattle.cas_hold.proofs.Operating.{told_mine}
+use Rattle.cas_board.specs.Changes.{IsCounted}
+use Rattle.cas_board.specs.Operations.{AreLast, HasOperated, WasToldLast, Operates, is_told, is_not_begun}
+use Rattle.cas_board.specs.Passes.{IsPassOf}
+use Rattle.cas_board.proofs.Sittings.{WasHeld, few_then, counted_none, counted_then, counted_less}
+
+-- ---- one hold
+module _ {S V A : Type 0} (before after : View S V) (old new : Sitting A Mark) (was : WasHeld 0 before after old new) where
+  pub operator_made : (marks : List Mark) → Makes 0 before after marks → GoesOn old.number old.seen new.seen (mine 0 marks)
+  operator_made marks makes =
+      subst (λ (k : ℕ). GoesOn k old.seen new.seen (mine 0 marks)) was.number
+      (front_goes_on 0 old.seen before.marks new.seen marks (subst (λ (k : ℕ). HasSeen owner_of k old.seen before.marks) (sym was.number) was.has) (was.seen ∙ makes.made))
+
+  pub operator_own : new.own ≡ own_part after 0
+  operator_own = was.own ∙ ap (own_part after) (sym was.number)
+
+  pub operator_goes_on : (such : Mark → Type 0) (most : ℕ) → OperatesIn such most before after → HasOperated such most old new
+  operator_goes_on such most o = record { marks = mine 0 o.marks; front = operator_made o.marks o.makes; all_such = o.all_such; few = o.few }
+
+  pub operator_told : (asked : Asked) (such : Mark → Type 0) (most : ℕ) (answer : OpAnswer) → IsToldIn asked such most before after answer → WasToldLast asked such most old new answer
+  operator_told asked such most answer t = record {
+    marks = mine 0 t.marks;
+    front = subst (GoesOn old.number old.seen new.seen) (mine_append 0 t.marks (told_marks asked answer) ∙ ap (λ (l : List Mark). mine 0 t.marks ++ l) (told_mine asked answer)) (operator_made (t.marks ++ told_marks asked answer) t.makes);
+    last = record { before = before.marks ++ t.marks; whole = append_assoc before.marks t.marks (told_marks asked answer) ∙ sym t.makes.made ∙ sym was.seen };
+    all_such = t.all_such;
+    few = t.few;
+    is_free = subst IsFree (sym operator_own) t.is_free;
+  }
+
+-- by what a hold answered, it made marks that may be given back
+pub operates_or_tells : {S V T : Type 0} (asked : Asked) (such : Mark → Type 0) (most : ℕ) (before after : View S V) (result : Result T OpAnswer) → OnOk result (OperatesIn such most before after) → IfErr result (IsToldIn asked such most before after) → IsHeldBy 0 before after
+operates_or_tells asked such most before after (Ok value) goes told = (_, goes.makes)
+operates_or_tells asked such most before after (Err answer) goes told = (_, told.makes)
+
+pub asks_or_tells : {S V T : Type 0} (asked : Asked) (such : Mark → Type 0) (most : ℕ) (before after : View S V) (result : Result T OpAnswer) → OnOk result (Makes 0 before after []) → IfErr result (IsToldIn asked such most before after) → IsHeldBy 0 before after
+asks_or_tells asked such most before after (Ok value) makes told = (_, makes)
+asks_or_tells asked such most before after (Err answer) makes told = (_, told.makes)
+
+-- ---- one hold after another
+-- the pass of a call of the operator that has gone on, and what was lost by then
+pub record HasRunOrder {A : Type 0} (such : Mark → Type 0) (harms harms_now : ℕ) (old now : Sitting A Mark) : Type 0 where
+  pub pass : now ≡ record old { seen = now.seen; own = now.own }
+  pub lost : ℕ
+  pub counted : IsCounted lost harms harms_now
+  pub operated : HasOperated such lost old now
+
+pub order_runs : {A : Type 0} (such : Mark → Type 0) (harms : ℕ) (pass : Sitting A Mark) → HasRunOrder such harms harms pass pass
+order_runs such harms pass = record {
+  pass = refl;
+  lost = 0;
+  counted = counted_none harms;
+  operated = record { marks = []; front = record { begins = record { behind = []; whole = append-nil pass.seen }; own_marks = sym (append-nil (mine pass.number pass.seen)) }; all_such = All-nil such; few = omega arith };
+}
+
+module _ {A : Type 0} (such : Mark → Type 0) (harms harms_now : ℕ) (a b c : Sitting A Mark) (run : HasRunOrder such harms harms_now a b) (strayed : c ≡ record b { seen = c.seen }) where
+  number_b : b.number ≡ a.number
+  number_b = ap (λ (s : Sitting A Mark). s.number) run.pass
+
+  pub order_number : c.number ≡ a.number
+  order_number = ap (λ (s : Sitting A Mark). s.number) strayed ∙ number_b
+
+  pub order_pass : (board : TurnId) → IsPassOf board a → IsPassOf board c
+  order_pass board is = record {
+    turn = ap (λ (s : Sitting A Mark). s.turn) strayed ∙ ap (λ (s : Sitting A Mark). s.turn) run.pass ∙ is.turn;
+    idle = ap (λ (s : Sitting A Mark). s.holds) strayed ∙ ap (λ (s : Sitting A Mark). s.holds) run.pass ∙ is.idle;
+    known = let number : c.number ≡ a.number = order_number in omega (arith, number, is.known);
+  }
+
+  pub order_own : c.own ≡ b.own
+  order_own = ap (λ (s : Sitting A Mark). s.own) strayed
+
+  module _ (most harms_then : ℕ) (d : Sitting A Mark) (strays : GoesOn b.number b.seen c.seen []) (counts : IsCounted most harms_now harms_then) (gave : d ≡ record c { seen = d.seen; own = d.own }) where
+    pub order_ran : d ≡ record a { seen = d.seen; own = d.own }
+    order_ran = gave ∙ ap (λ (s : Sitting A Mark). record s { seen = d.seen; own = d.own }) strayed ∙ ap (λ (s : Sitting A Mark). record s { seen = d.seen; own = d.own }) run.pass
+
+    whole_front : (more : List Mark) → GoesOn c.number c.seen d.seen more → GoesOn a.number a.seen d.seen (run.operated.marks ++ more)
+    whole_front more then_ =
+        goes_on_then a.number a.seen b.seen d.seen run.operated.marks more run.operated.front
+        (goes_on_then a.number b.seen c.seen d.seen [] more (subst (λ (k : ℕ). GoesOn k b.seen c.seen []) number_b strays) (subst (λ (k : ℕ). GoesOn k c.seen d.seen more) order_number then_))
+
+    pub order_goes_on : HasOperated such most c d → HasRunOrder such harms harms_then a d
+    order_goes_on then_ = record {
+      pass = order_ran;
+      lost = run.lost + most;
+      counted = counted_then run.lost most harms harms_now harms_then run.counted counts;
+      operated = record {
+        marks = run.operated.marks ++ then_.marks;
+        front = whole_front then_.marks then_.front;
+        all_such = All-append such run.operated.marks then_.marks run.operated.all_such then_.all_such;
+        few = few_then run.operated.marks then_.marks run.lost most run.operated.few then_.few;
+      };
+    }
+
+    pub order_ends : (asked : Asked) (answer : OpAnswer) → WasToldLast asked such most c d answer → (lost : ℕ) × IsCounted lost harms harms_then × WasToldLast asked such lost a d answer
+    order_ends asked answer then_ = (
+      run.lost + most,
+      counted_then run.lost most harms harms_now harms_then run.counted counts,
+      record {
+        marks = run.operated.marks ++ then_.marks;
+        front = subst (GoesOn a.number a.seen d.seen) (sym (append_assoc run.operated.marks then_.marks (told_marks asked answer))) (whole_front (then_.marks ++ told_marks asked answer) then_.front);
+        last = then_.last;
+        all_such = All-append such run.operated.marks then_.marks run.operated.all_such then_.all_such;
+        few = few_then run.operated.marks then_.marks run.lost most run.operated.few then_.few;
+        is_free = then_.is_free;
+      },
+    )
+
+-- ---- the whole
+-- holds that made no mark of caller 0's stood before it
+pub told_behind : {A : Type 0} (asked : Asked) (such : Mark → Type 0) (most : ℕ) (a b c : Sitting A Mark) (answer : OpAnswer) → b.number ≡ a.number → GoesOn a.number a.seen b.seen [] → WasToldLast asked such most b c answer → WasToldLast asked such most a c answer
+told_behind asked such most a b c answer number first told = record {
+  marks = told.marks;
+  front = goes_on_then a.number a.seen b.seen c.seen [] (told.marks ++ told_marks asked answer) first (subst (λ (k : ℕ). GoesOn k b.seen c.seen (told.marks ++ told_marks asked answer)) number told.front);
+  last = told.last;
+  all_such = told.all_such;
+  few = told.few;
+  is_free = told.is_free;
+}
+
+pub operates_told : {A : Type 0} (asked : Asked) (such : Mark → Type 0) (lost harms harms_then : ℕ) (a c : Sitting A Mark) (answer : OpAnswer) → IsCounted lost harms harms_then → WasToldLast asked such lost a c answer → Operates asked such harms harms_then a c answer
+operates_told asked such lost harms harms_then a c answer counted told = is_told told.marks told.front told.last told.all_such (counted_less (losses told.marks) lost harms harms_then told.few counted)
+
+-- ---- by how a result goes
+pub on_ok : {A E P Q : Type 0} (result : Result A E) → (P → Q) → OnOk result P → OnOk result Q
+on_ok (Ok value) then_ p = then_ p
+on_ok (Err told) then_ p = tt
+
+pub if_err : {A E : Type 0} {P Q : E → Type 0} (result : Result A E) → ((told : E) → P told → Q told) → IfErr result P → IfErr result Q
+if_err (Ok value) then_ p = tt
+if_err (Err told) then_ p = then_ told p
+
+-- ---- in a hold of the operator's
+-- what is there of its own is as it was left
+pub operator_part : {S V : Type 0} (n : ℕ) (inside before : View S V) (own : List ℕ) → n ≡ 0 → inside ≡ before → own_part before n ≡ own → own_part inside 0 ≡ own
+operator_part {S} {V} n inside before own is_first same part = ap (λ (v : View S V). own_part v 0) same ∙ ap (own_part before) (sym is_first) ∙ part
+
+-- ---- a probe
+refused_stops : (why : Answer) → IsRefusal why → stops_probe why ≡ true
+refused_stops why (inl full) = ap stops_probe full
+refused_stops why (inr none) = ap stops_probe none
+
+no_members : IsMemberSet (members_where (λ n. false))
+no_members = IsMemberSet-members_where (λ n. false)
+
+pub everyone_set : {S V : Type 0} (view : View S V) → IsMemberSet (everyone view)
+everyone_set view = IsMemberSet-members_where (λ n. has_member (era_at view 0).prep n || has_member (era_at view 0).acc n)
+
+pub answers_any : (key : List ℕ) (told : OpAnswer) → ((members : List ℕ) → IsProbeAnswer key members told) → (members : List ℕ) × IsMemberSet members × IsProbeAnswer key members told
+answers_any key told each = (members_where (λ n. false), no_members, each (members_where (λ n. false)))
+
+pub refused_answers : (key : List ℕ) (why : Answer) → IsRefusal why → (members : List ℕ) × IsMemberSet members × IsProbeAnswer key members (Stopped why)
+refused_answers key why refusal = (members_where (λ n. false), no_members, refused_stops why refusal)

@@ -1,0 +1,35 @@
+use Rattle.std.proofs.Common.{◌≡◌, ℕ, List, sym, ap, subst, ◌∙◌}
+use Rattle.cas_record.specs.declared.operator.Asked.TheVariants as asked
+use Rattle.cas_board.specs.Operations.{WasToldLast}
+use Rattle.cas_hold.specs.Orders.{HasProbe, IsAskingHarm, IsProbeAnswer}
+use Rattle.cas_board.proofs.Sittings.{counted_none}
+use Rattle.cas_board.proofs.Operating.{told_behind, answers_any}
+use Rattle.cas_board.proofs.board.Board.ask_and_probe.Goals as goal
+
+pub run_probe-requires-clause-operator : goal.run_probe-requires-clause-operator
+run_probe-requires-clause-operator g c = ap (λ s. s.number) c.ask_probe_once.ensures.pass ∙ c.requires.operator
+
+pub run_probe-requires-clause-asks : goal.run_probe-requires-clause-asks
+run_probe-requires-clause-asks g c = (c.in-Ok.ensures.asks.0, subst (λ (k : List ℕ). HasProbe k c.in-Ok.ensures.asks.0 c.ask_probe_once.new.pass.own) (sym c.in-Ok.ensures.key) c.in-Ok.ensures.asks.2)
+
+pub returns-in-Ok-clause-told : goal.returns-in-Ok-clause-told
+returns-in-Ok-clause-told g c = (
+  c.run_probe.ensures.told.0,
+  c.run_probe.ensures.told.1,
+  told_behind (asked.Probe c.args.order.key) IsAskingHarm c.run_probe.ensures.told.0 c.args.pass.now c.ask_probe_once.new.pass c.run_probe.new.pass c.run_probe.result (ap (λ s. s.number) c.ask_probe_once.ensures.pass) c.in-Ok.ensures.front
+      (subst (λ (k : List ℕ). WasToldLast (asked.Probe k) IsAskingHarm c.run_probe.ensures.told.0 c.ask_probe_once.new.pass c.run_probe.new.pass c.run_probe.result) c.in-Ok.ensures.key c.run_probe.ensures.told.2),
+)
+
+pub returns-in-Ok-clause-answer : goal.returns-in-Ok-clause-answer
+returns-in-Ok-clause-answer g c = (
+  c.in-Ok.ensures.asks.0,
+  c.in-Ok.ensures.asks.1,
+  subst (λ (k : List ℕ). IsProbeAnswer k c.in-Ok.ensures.asks.0 c.run_probe.result) c.in-Ok.ensures.key
+      (c.run_probe.ensures.answer c.in-Ok.ensures.asks.0 (subst (λ (k : List ℕ). HasProbe k c.in-Ok.ensures.asks.0 c.ask_probe_once.new.pass.own) (sym c.in-Ok.ensures.key) c.in-Ok.ensures.asks.2)),
+)
+
+pub returns-in-Err-clause-told : goal.returns-in-Err-clause-told
+returns-in-Err-clause-told g c = (0, counted_none (g.F.Fate.harm_count c.args.fate.now), c.in-Err.ensures.told)
+
+pub returns-in-Err-clause-answer : goal.returns-in-Err-clause-answer
+returns-in-Err-clause-answer g c = answers_any c.args.order.key c.in-Err.told c.in-Err.ensures.answer

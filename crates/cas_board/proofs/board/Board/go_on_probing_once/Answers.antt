@@ -1,0 +1,32 @@
+use Rattle.std.proofs.Common.{◌≡◌, ℕ, List, [], sym, ap, subst, ◌∙◌}
+use Rattle.std.specs.Prelude.{OnOk, IfErr}
+use Rattle.cas_record.specs.declared.operator.Asked.TheVariants as asked
+use Rattle.cas_record.specs.declared.operator.OpAnswer.{OpAnswer}
+use Rattle.cas_hold.specs.Deeds.{harm_by}
+use Rattle.cas_hold.specs.Orders.{HasProbe, OperatesIn, IsToldIn, IsAskingHarm, IsProbeAnswer}
+use Rattle.cas_hold.specs.OwnParts.{own_part}
+use Rattle.cas_board.proofs.Sittings.{was_held, gives_back}
+use Rattle.cas_board.proofs.Operating.{operator_part, operator_own, operator_goes_on, operator_told, operates_or_tells, on_ok, if_err}
+use Rattle.cas_board.proofs.board.Board.go_on_probing_once.Goals as goal
+
+pub go_on_probing-next-requires-clause-asks : goal.go_on_probing-next-requires-clause-asks
+go_on_probing-next-requires-clause-asks g c = (c.requires.asks.0, subst (HasProbe c.args.probing.key c.requires.asks.0) (sym (operator_part c.args.pass.now.number c.shared.inside.store.world c.hold-shared.result c.args.pass.now.own c.requires.operator c.shared.view_is c.hold-shared.ensures.own)) c.requires.asks.1)
+
+pub give_back-requires-clause-makes : goal.give_back-requires-clause-makes
+give_back-requires-clause-makes g c =
+    gives_back 0 c.hold-shared.result c.go_on_probing-next.new.world c.args.pass.now c.hold-shared.new.seat c.hold-shared.ensures.seat (sym (ap (λ s. s.number) c.hold-shared.ensures.seat ∙ c.requires.operator))
+    (operates_or_tells (asked.Probe c.args.probing.key) IsAskingHarm (harm_by c.args.verdict) c.hold-shared.result c.go_on_probing-next.new.world c.go_on_probing-next.result (subst (λ v. OnOk c.go_on_probing-next.result (OperatesIn IsAskingHarm (harm_by c.args.verdict) v c.go_on_probing-next.new.world)) c.shared.view_is c.go_on_probing-next.ensures.goes_on) (subst (λ v. IfErr c.go_on_probing-next.result (IsToldIn (asked.Probe c.args.probing.key) IsAskingHarm (harm_by c.args.verdict) v c.go_on_probing-next.new.world)) c.shared.view_is c.go_on_probing-next.ensures.told))
+
+pub returns-clause-goes_on : goal.returns-clause-goes_on
+returns-clause-goes_on g c = on_ok c.go_on_probing-next.result (operator_goes_on c.hold-shared.result c.go_on_probing-next.new.world c.args.pass.now c.give_back.new.pass (was_held 0 c.hold-shared.result c.go_on_probing-next.new.world c.args.pass.now c.hold-shared.new.seat c.give_back.new.pass c.hold-shared.ensures.seen c.hold-shared.ensures.seat (sym (ap (λ s. s.number) c.hold-shared.ensures.seat ∙ c.requires.operator)) c.give_back.ensures.pass) IsAskingHarm (harm_by c.args.verdict)) (subst (λ v. OnOk c.go_on_probing-next.result (OperatesIn IsAskingHarm (harm_by c.args.verdict) v c.go_on_probing-next.new.world)) c.shared.view_is c.go_on_probing-next.ensures.goes_on)
+
+pub returns-clause-own : goal.returns-clause-own
+returns-clause-own g c = on_ok c.go_on_probing-next.result (λ same. operator_own c.hold-shared.result c.go_on_probing-next.new.world c.args.pass.now c.give_back.new.pass (was_held 0 c.hold-shared.result c.go_on_probing-next.new.world c.args.pass.now c.hold-shared.new.seat c.give_back.new.pass c.hold-shared.ensures.seen c.hold-shared.ensures.seat (sym (ap (λ s. s.number) c.hold-shared.ensures.seat ∙ c.requires.operator)) c.give_back.ensures.pass) ∙ same ∙ (operator_part c.args.pass.now.number c.shared.inside.store.world c.hold-shared.result c.args.pass.now.own c.requires.operator c.shared.view_is c.hold-shared.ensures.own)) c.go_on_probing-next.ensures.own
+
+pub returns-clause-told : goal.returns-clause-told
+returns-clause-told g c = if_err c.go_on_probing-next.result (operator_told c.hold-shared.result c.go_on_probing-next.new.world c.args.pass.now c.give_back.new.pass (was_held 0 c.hold-shared.result c.go_on_probing-next.new.world c.args.pass.now c.hold-shared.new.seat c.give_back.new.pass c.hold-shared.ensures.seen c.hold-shared.ensures.seat (sym (ap (λ s. s.number) c.hold-shared.ensures.seat ∙ c.requires.operator)) c.give_back.ensures.pass) (asked.Probe c.args.probing.key) IsAskingHarm (harm_by c.args.verdict)) (subst (λ v. IfErr c.go_on_probing-next.result (IsToldIn (asked.Probe c.args.probing.key) IsAskingHarm (harm_by c.args.verdict) v c.go_on_probing-next.new.world)) c.shared.view_is c.go_on_probing-next.ensures.told)
+
+pub returns-clause-answer : goal.returns-clause-answer
+returns-clause-answer g c =
+    if_err {P = λ told. (members : List ℕ) → HasProbe c.args.probing.key members (own_part c.shared.inside.store.world 0) → IsProbeAnswer c.args.probing.key members told} c.go_on_probing-next.result
+    (λ told each members has. each members (subst (HasProbe c.args.probing.key members) (sym (operator_part c.args.pass.now.number c.shared.inside.store.world c.hold-shared.result c.args.pass.now.own c.requires.operator c.shared.view_is c.hold-shared.ensures.own)) has)) c.go_on_probing-next.ensures.answer

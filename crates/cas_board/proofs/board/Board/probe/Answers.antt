@@ -1,0 +1,39 @@
+use Rattle.std.proofs.Common.{◌≡◌, ℕ, List, refl, sym, ap, subst, ◌∙◌}
+use Rattle.cas_record.specs.declared.operator.Asked.TheVariants as asked
+use Rattle.cas_ballot.specs.Members.{IsMemberSet}
+use Rattle.cas_board.specs.Operations.{WasToldLast, is_not_begun}
+use Rattle.cas_hold.specs.Orders.{HasOrder, IsAskingHarm, IsProbeAnswer}
+use Rattle.cas_world.specs.declared.exchange.Exchange.TheVariants as exchange
+use Rattle.cas_board.proofs.Sittings.{counted_none}
+use Rattle.cas_board.proofs.Operating.{told_behind, operates_told, refused_answers}
+use Rattle.cas_board.proofs.board.Board.probe.Goals as goal
+
+pub ask_and_probe-requires-clause-operator : goal.ask_and_probe-requires-clause-operator
+ask_and_probe-requires-clause-operator g c = ap (λ s. s.number) c.order_probe_once.ensures.pass ∙ c.requires.operator
+
+pub ask_and_probe-requires-clause-question : goal.ask_and_probe-requires-clause-question
+ask_and_probe-requires-clause-question g c = c.in-Ok.ensures.question ∙ ap exchange.Probe (sym c.in-Ok.ensures.key)
+
+pub ask_and_probe-requires-clause-ordered : goal.ask_and_probe-requires-clause-ordered
+ask_and_probe-requires-clause-ordered g c = subst (λ (k : List ℕ). HasOrder (asked.Probe k) c.order_probe_once.new.pass.own) (sym c.in-Ok.ensures.key) c.in-Ok.ensures.ordered
+
+pub returns-in-Ok-clause-free : goal.returns-in-Ok-clause-free
+returns-in-Ok-clause-free g c = c.ask_and_probe.ensures.told.2.is_free
+
+pub returns-in-Ok-clause-operates : goal.returns-in-Ok-clause-operates
+returns-in-Ok-clause-operates g c =
+    operates_told (asked.Probe c.args.key.now) IsAskingHarm c.ask_and_probe.ensures.told.0 _ _ c.args.pass.now c.ask_and_probe.new.pass c.ask_and_probe.result c.ask_and_probe.ensures.told.1
+    (told_behind (asked.Probe c.args.key.now) IsAskingHarm c.ask_and_probe.ensures.told.0 c.args.pass.now c.order_probe_once.new.pass c.ask_and_probe.new.pass c.ask_and_probe.result (ap (λ s. s.number) c.order_probe_once.ensures.pass) c.in-Ok.ensures.front
+    (subst (λ (k : List ℕ). WasToldLast (asked.Probe k) IsAskingHarm c.ask_and_probe.ensures.told.0 c.order_probe_once.new.pass c.ask_and_probe.new.pass c.ask_and_probe.result) c.in-Ok.ensures.key c.ask_and_probe.ensures.told.2))
+
+pub returns-in-Ok-clause-answer : goal.returns-in-Ok-clause-answer
+returns-in-Ok-clause-answer g c = subst (λ (k : List ℕ). (members : List ℕ) × IsMemberSet members × IsProbeAnswer k members c.ask_and_probe.result) c.in-Ok.ensures.key c.ask_and_probe.ensures.answer
+
+pub returns-in-Err-clause-free : goal.returns-in-Err-clause-free
+returns-in-Err-clause-free g c = c.in-Err.ensures.refused.1
+
+pub returns-in-Err-clause-operates : goal.returns-in-Err-clause-operates
+returns-in-Err-clause-operates g c = is_not_begun c.in-Err.refusal c.in-Err.ensures.refused.0 refl (counted_none (g.F.Fate.harm_count c.args.fate.now)) c.in-Err.ensures.front
+
+pub returns-in-Err-clause-answer : goal.returns-in-Err-clause-answer
+returns-in-Err-clause-answer g c = refused_answers c.args.key.now c.in-Err.refusal c.in-Err.ensures.refused.0

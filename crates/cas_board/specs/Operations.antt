@@ -1,0 +1,44 @@
+-- What a call of the operator does on a board, as caller 0's pass tells.
+use Rattle.std.specs.Prelude.{◌≡◌, ◌≤◌, ℕ, List, [], ◌++◌, All}
+use Rattle.cas_record.specs.declared.answer.Answer.{Answer}
+use Rattle.cas_record.specs.declared.mark.Mark.{Mark}
+use Rattle.cas_record.specs.declared.operator.Asked.{Asked}
+use Rattle.cas_record.specs.declared.operator.OpAnswer.{OpAnswer}
+use Rattle.cas_record.specs.declared.operator.OpAnswer.TheVariants.{Stopped}
+use Rattle.cas_cluster.specs.StepCouncil.{told_marks}
+use Rattle.cas_turn.specs.Sitting.{Sitting}
+use Rattle.cas_hold.specs.Deeds.{IsRefusal}
+use Rattle.cas_hold.specs.Mine.{losses, GoesOn}
+use Rattle.cas_hold.specs.Open.{IsFree}
+use Rattle.cas_board.specs.Changes.{IsCounted}
+
+-- these are the last marks of the front
+pub record AreLast (front marks : List Mark) : Type 0 where
+  pub before : List Mark
+  pub whole : before ++ marks ≡ front
+
+module _ {V : Type 0} where
+  -- ---- holds
+  -- the operator's call goes on with such marks of caller 0, of which at most so many tell of losses
+  pub record HasOperated (such : Mark → Type 0) (most : ℕ) (old new : Sitting V Mark) : Type 0 where
+    pub marks : List Mark
+    pub front : GoesOn old.number old.seen new.seen marks
+    pub all_such : All such marks
+    pub few : losses marks ≤ most
+
+  -- it has ended with this answer, which the front's last mark tells unless it is what a probe found
+  pub record WasToldLast (asked : Asked) (such : Mark → Type 0) (most : ℕ) (old new : Sitting V Mark) (answer : OpAnswer) : Type 0 where
+    pub marks : List Mark
+    pub front : GoesOn old.number old.seen new.seen (marks ++ told_marks asked answer)
+    pub last : AreLast new.seen (told_marks asked answer)
+    pub all_such : All such marks
+    pub few : losses marks ≤ most
+    pub is_free : IsFree new.own
+
+  -- ---- a call of the operator
+  -- It was begun, and caller 0's marks in it are such marks and then the one that tells the answer; what a probe found is not marked. Or
+  -- it was not begun, and no mark of caller 0 is made.
+  -- So many of them at most tell of frames that were lost or made late as the fate's count of harms rose by.
+  pub data Operates (asked : Asked) (such : Mark → Type 0) (harms harms_then : ℕ) (old new : Sitting V Mark) (answer : OpAnswer) : Type 0 where
+    is_told : (marks : List Mark) → GoesOn old.number old.seen new.seen (marks ++ told_marks asked answer) → AreLast new.seen (told_marks asked answer) → All such marks → IsCounted (losses marks) harms harms_then → Operates asked such harms harms_then old new answer
+    is_not_begun : (why : Answer) → IsRefusal why → answer ≡ Stopped why → IsCounted 0 harms harms_then → GoesOn old.number old.seen new.seen [] → Operates asked such harms harms_then old new answer

@@ -1,0 +1,179 @@
+//! A probe of a key, from the operator's call to its answer.
+
+ghost use Rattle.std.specs.Prelude.{◌≡◌, ◌≤◌, ℕ, List, [], IfOk, IfErr, OnOk, reverse};
+ghost use Rattle.cas_record.specs.Legal.{IsLegal};
+ghost use Rattle.cas_board.specs.Changes.{IsCounted};
+ghost use Rattle.cas_board.specs.Operations.{HasOperated, Operates, WasToldLast};
+ghost use Rattle.cas_board.specs.Passes.{IsPassOf};
+ghost use Rattle.cas_ballot.specs.Members.{IsMemberSet};
+ghost use Rattle.cas_hold.specs.Deeds.{IsRefusal, harm_by};
+ghost use Rattle.cas_hold.specs.Mine.{GoesOn};
+ghost use Rattle.cas_hold.specs.Open.{IsFree};
+ghost use Rattle.cas_hold.specs.Orders.{HasOrder, HasProbe, IsAskingHarm, IsProbeAnswer};
+
+use crate::board::{Board, Pass};
+use crate::fates::Holds;
+use cas_change::Key;
+use cas_disk::Disk;
+use cas_fate::{Fate, Verdict};
+use cas_hold::{ProbeOrder, Probing, ask_probe, go_on_probing, order_probe};
+use cas_record::{Answer, Asked, OpAnswer};
+use cas_world::Exchange;
+use std::sync::Wait;
+
+impl<D: Disk> Board<D> {
+    /// Asks each member what it keeps for the key, as a call of the operator, and gives what the operator is told. The pass is caller 0's.
+    /// What becomes of each frame the fate says, and it is asked while this call does not hold the turn.
+    ///
+    /// A probe is answered with [`OpAnswer::Probed`], which is not marked, or with [`OpAnswer::Stopped`], which is marked last in the front
+    /// that the pass has seen then. One that is refused with [`Answer::RecordFull`], or with [`Answer::NoMemory`], may not have been begun:
+    /// none of caller 0's marks was made then.
+    pub fn probe<R: Wait, F: Fate>(
+        &self,
+        rt: &R,
+        pass: &mut Pass<D>,
+        fate: &mut F,
+        key: &Key,
+    ) -> OpAnswer
+        requires pass { IsPassOf self.now.id pass.old }
+        requires operator { pass.old.number ≡ 0 }
+        requires free { IsFree pass.old.own }
+        ensures pass { pass.new ≡ record pass.old { seen = pass.new.seen; own = pass.new.own } }
+        ensures free { IsFree pass.new.own }
+        ensures operates { Operates (Asked.Probe key.now) IsAskingHarm (F.harm_count fate.old) (F.harm_count fate.new) pass.old pass.new result }
+        ensures answer { (members : List ℕ) × IsMemberSet members × IsProbeAnswer key.now members result }
+        ensures legal { D.tells → IsLegal (reverse pass.new.seen) }
+    {
+        match self.order_probe_once(rt, pass, key) {
+            Ok(order) => self.ask_and_probe(rt, pass, fate, order),
+            Err(refusal) => OpAnswer::Stopped(refusal),
+        }
+    }
+
+    /// Asks the members for the probe that was begun, and goes on until the operator is told.
+    fn ask_and_probe<R: Wait, F: Fate>(
+        &self,
+        rt: &R,
+        pass: &mut Pass<D>,
+        fate: &mut F,
+        order: ProbeOrder,
+    ) -> OpAnswer
+        requires pass { IsPassOf self.now.id pass.old }
+        requires operator { pass.old.number ≡ 0 }
+        requires question { order.question ≡ Exchange.Probe order.key }
+        requires ordered { HasOrder (Asked.Probe order.key) pass.old.own }
+        ensures pass { pass.new ≡ record pass.old { seen = pass.new.seen; own = pass.new.own } }
+        ensures told { (lost : ℕ) × IsCounted lost (F.harm_count fate.old) (F.harm_count fate.new) × WasToldLast (Asked.Probe order.key) IsAskingHarm lost pass.old pass.new result }
+        ensures answer { (members : List ℕ) × IsMemberSet members × IsProbeAnswer order.key members result }
+        ensures legal { D.tells → IsLegal (reverse pass.new.seen) }
+    {
+        match self.ask_probe_once(rt, pass, order) {
+            Ok(probing) => self.run_probe(rt, pass, fate, probing),
+            Err(told) => told,
+        }
+    }
+
+    /// Goes on with the probe, for which the members were asked, until the operator is told.
+    fn run_probe<R: Wait, F: Fate>(
+        &self,
+        rt: &R,
+        pass: &mut Pass<D>,
+        fate: &mut F,
+        first: Probing,
+    ) -> OpAnswer
+        requires pass { IsPassOf self.now.id pass.old }
+        requires operator { pass.old.number ≡ 0 }
+        requires asks { (members : List ℕ) × HasProbe first.key members pass.old.own }
+        ensures pass { pass.new ≡ record pass.old { seen = pass.new.seen; own = pass.new.own } }
+        ensures told { (lost : ℕ) × IsCounted lost (F.harm_count fate.old) (F.harm_count fate.new) × WasToldLast (Asked.Probe first.key) IsAskingHarm lost pass.old pass.new result }
+        ensures answer { (members : List ℕ) → HasProbe first.key members pass.old.own → IsProbeAnswer first.key members result }
+        ensures legal { D.tells → IsLegal (reverse pass.new.seen) }
+    {
+        let mut holds = Holds::new();
+        let mut probing = first;
+        let mut again = false;
+        for _ in rt.forever() {
+            let verdict = self.verdict_for(rt, pass, fate, &mut holds, &probing.waits, again);
+            match self.go_on_probing_once(rt, pass, probing, verdict) {
+                Ok(next) => probing = next,
+                Err(told) => return told,
+            }
+            again = verdict == Verdict::Twice;
+        }
+        unreachable!()
+    }
+
+    /// A hold in which a probe begins.
+    fn order_probe_once<R: Wait>(
+        &self,
+        rt: &R,
+        pass: &mut Pass<D>,
+        key: &Key,
+    ) -> Result<ProbeOrder, Answer>
+        requires pass { IsPassOf self.now.id pass.old }
+        requires operator { pass.old.number ≡ 0 }
+        requires free { IsFree pass.old.own }
+        ensures pass { pass.new ≡ record pass.old { seen = pass.new.seen; own = pass.new.own } }
+        ensures front { GoesOn pass.old.number pass.old.seen pass.new.seen [] }
+        ensures ordered { OnOk result (HasOrder (Asked.Probe key.now) pass.new.own) }
+        ensures question { IfOk result (λ order. order.question ≡ Exchange.Probe key.now) }
+        ensures key { IfOk result (λ order. order.key ≡ key.now) }
+        ensures refused { IfErr result (λ why. IsRefusal why × IsFree pass.new.own) }
+        ensures legal { D.tells → IsLegal (reverse pass.new.seen) }
+    {
+        let mut shared = self.turn.hold(rt, pass);
+        let ordered = order_probe(&mut shared.store.world, key);
+        self.give_back(rt, pass, shared);
+        ordered
+    }
+
+    /// A hold in which the members are asked.
+    fn ask_probe_once<R: Wait>(
+        &self,
+        rt: &R,
+        pass: &mut Pass<D>,
+        order: ProbeOrder,
+    ) -> Result<Probing, OpAnswer>
+        requires pass { IsPassOf self.now.id pass.old }
+        requires operator { pass.old.number ≡ 0 }
+        requires question { order.question ≡ Exchange.Probe order.key }
+        requires ordered { HasOrder (Asked.Probe order.key) pass.old.own }
+        ensures pass { pass.new ≡ record pass.old { seen = pass.new.seen; own = pass.new.own } }
+        ensures front { OnOk result (GoesOn pass.old.number pass.old.seen pass.new.seen []) }
+        ensures asks { OnOk result ((members : List ℕ) × IsMemberSet members × HasProbe order.key members pass.new.own) }
+        ensures key { IfOk result (λ probing. probing.key ≡ order.key) }
+        ensures told { IfErr result (WasToldLast (Asked.Probe order.key) IsAskingHarm 0 pass.old pass.new) }
+        ensures answer { IfErr result (λ told. (members : List ℕ) → IsProbeAnswer order.key members told) }
+        ensures legal { D.tells → IsLegal (reverse pass.new.seen) }
+    {
+        let mut shared = self.turn.hold(rt, pass);
+        let probing = ask_probe(&mut shared.store.world, order);
+        self.give_back(rt, pass, shared);
+        probing
+    }
+
+    /// A hold in which the probe goes on.
+    fn go_on_probing_once<R: Wait>(
+        &self,
+        rt: &R,
+        pass: &mut Pass<D>,
+        probing: Probing,
+        verdict: Verdict,
+    ) -> Result<Probing, OpAnswer>
+        requires pass { IsPassOf self.now.id pass.old }
+        requires operator { pass.old.number ≡ 0 }
+        requires asks { (members : List ℕ) × HasProbe probing.key members pass.old.own }
+        ensures pass { pass.new ≡ record pass.old { seen = pass.new.seen; own = pass.new.own } }
+        ensures goes_on { OnOk result (HasOperated IsAskingHarm (harm_by verdict) pass.old pass.new) }
+        ensures own { OnOk result (pass.new.own ≡ pass.old.own) }
+        ensures key { IfOk result (λ next. next.key ≡ probing.key) }
+        ensures told { IfErr result (WasToldLast (Asked.Probe probing.key) IsAskingHarm (harm_by verdict) pass.old pass.new) }
+        ensures answer { IfErr result (λ told. (members : List ℕ) → HasProbe probing.key members pass.old.own → IsProbeAnswer probing.key members told) }
+        ensures legal { D.tells → IsLegal (reverse pass.new.seen) }
+    {
+        let mut shared = self.turn.hold(rt, pass);
+        let next = go_on_probing(&mut shared.store.world, probing, verdict);
+        self.give_back(rt, pass, shared);
+        next
+    }
+}

@@ -1,0 +1,291 @@
+-- What a hold does for a probe.
+use Rattle.std.proofs.Common.{◌≡◌, ◌≢◌, ℕ, true, false, if◌then◌else◌, List, [], ◌∷◌, map, Option, None, Some, IsSome, is_some, option_map, slice_get, inl, inr, refl, sym, ap, subst, ◌∙◌, append-nil, arith}
+use Rattle.std.specs.Prelude.{◌⊎◌}
+use Rattle.cas_fate.specs.declared.fate.Leg.{Leg}
+use Rattle.cas_fate.specs.declared.fate.Verdict.{Verdict}
+use Rattle.cas_flow.specs.Flow.{queue_at}
+use Rattle.cas_flow.specs.Message.{head_of}
+use Rattle.cas_record.specs.declared.answer.Answer.{Answer}
+use Rattle.cas_record.specs.declared.answer.Answer.TheVariants as answer
+use Rattle.cas_record.specs.declared.operator.Asked.{Asked}
+use Rattle.cas_record.specs.declared.operator.Asked.TheVariants as asked
+use Rattle.cas_record.specs.declared.operator.OpAnswer.{OpAnswer}
+use Rattle.cas_record.specs.declared.operator.OpAnswer.TheVariants as op
+use Rattle.cas_record.specs.declared.operator.Probe.{Probe as ProbeOf}
+use Rattle.cas_record.specs.declared.operator.Probes.{Probes}
+use Rattle.cas_calls.specs.Council.{IsProbed as IsFound}
+use Rattle.cas_calls.specs.declared.council.Gathered.{Gathered}
+use Rattle.cas_calls.specs.declared.council.Gathered.TheVariants as gathered
+use Rattle.cas_cluster.specs.Council.{ExchangeView, Question, Probe, exchange_place, told_so}
+use Rattle.cas_cluster.specs.Safe.{is_of_collection}
+use Rattle.cas_cluster.specs.Step as step
+use Rattle.cas_cluster.specs.Step.{Step}
+use Rattle.cas_cluster.specs.StepCouncil as council
+use Rattle.cas_cluster.specs.StepCouncil.{StepOrder, StepTell, StepAskAll, AsksAll, StepTurnExchange, StepRefuseTurnExchange, StepGather, Gathers, SaysTheSame, everyone}
+use Rattle.cas_cluster.specs.View.{Meaning, View, CallerView, IsAt}
+use Rattle.cas_cluster.proofs.Places.{some_is}
+use Rattle.cas_cluster.proofs.SafeParts.{at_low}
+use Rattle.cas_world.specs.Beginning.{HasNoCall}
+use Rattle.cas_world.specs.Exchange as world
+use Rattle.cas_world.specs.declared.exchange.Exchange.{Exchange}
+use Rattle.cas_world.specs.declared.exchange.Exchange.TheVariants as exchange
+use Rattle.cas_world.specs.Exchange.{MayAsk, MayAskThis, asking_of, MayGather, HasGathered, WasToldOrder, asks_as, place_of, turn_of, refusal_of, gathering_by, gathering_of}
+use Rattle.cas_hold.specs.Deeds.{harm_by}
+use Rattle.cas_hold.specs.Kept.{IsKept, Makes}
+use Rattle.cas_hold.specs.Open.{IsFree}
+use Rattle.cas_hold.specs.Orders.{new_order, HasOrder, HasProbe, OperatesIn, IsToldIn, IsAskingHarm, IsProbeAnswer, named_in}
+use Rattle.cas_hold.specs.OwnParts.{asked_of, own_part}
+use Rattle.cas_hold.proofs.Councils.{IsOrdered, IsProbed, has_order, is_ordered, has_probe, is_probed, free_idle}
+use Rattle.cas_hold.proofs.Holds.{Held}
+use Rattle.cas_hold.proofs.Stages.{some_waits, none_waits}
+use Rattle.cas_hold.proofs.Operating.{Leaves, leaves_desks, leaves_others, none_then, silently, operates, tells_in, turns_asking, own_kept, refuses_asking, says_same, was_told_so}
+
+-- ---- its order
+pub order_held : {S V : Type 0} (old new : View S V) (asked : Asked) → IsFree (own_part old 0) → IsKept old → StepOrder old asked new → Held old new (Makes 0 old new [] × HasOrder asked (own_part new 0))
+order_held {S} {V} old new asked free kept by =
+    let idle = free_idle old free in
+    let leaves : Leaves old new [] = leaves_desks old _ new [] by.view refl refl refl (sym (append-nil old.marks)) in
+    let held = silently old new leaves kept idle.no_call in
+    record {
+      does = (
+        held.does,
+        has_order new asked (record {
+          no_call = none_then old new [] leaves idle.no_call;
+          order = ap (λ (w : View S V). w.council.order) by.view;
+          exchange = ap (λ (w : View S V). w.council.exchange) by.view ∙ idle.exchange;
+          collection = ap (λ (w : View S V). w.council.collection) by.view ∙ idle.collection;
+        }),
+      );
+      kept = held.kept;
+      greatest = held.greatest;
+    }
+
+-- it is refused, or no memory was found for it
+pub unordered : {S V : Type 0} (old new : View S V) → new ≡ old → IsFree (own_part old 0) → IsKept old → Held old new (Makes 0 old new [])
+unordered old new same free kept = silently old new (leaves_desks old old new [] same refl refl refl (sym (append-nil old.marks))) kept (free_idle old free).no_call
+
+pub free_still : {S V : Type 0} (old new : View S V) → new ≡ old → IsFree (own_part old 0) → IsFree (own_part new 0)
+free_still {S} {V} old new same free = subst (λ (w : View S V). IsFree (own_part w 0)) (sym same) free
+
+-- ---- its question
+no_call_at : {S V : Type 0} (view : View S V) → IsKept view → ((caller : CallerView) → IsAt view.callers 0 caller → caller.call ≡ None) → HasNoCall view 0
+no_call_at view kept none = let there = at_low view.callers 0 (let long = kept.places.callers in omega (arith, long)) in record { caller = there.0; at_caller = there.1; none_open = none there.0 there.1 }
+
+pub may_probe : {S V : Type 0} (view : View S V) (key : List ℕ) → IsKept view → HasOrder (asked.Probe key) (own_part view 0) → MayAsk view (Probe key)
+may_probe view key kept has =
+    let is = is_ordered view (asked.Probe key) has in
+    record { order = new_order (asked.Probe key); is_open = is.order; is_for = refl; none_open = is.exchange; idle = no_call_at view kept is.no_call }
+
+-- the members are asked, or the operator is told why not
+record AsksOrTells {S V : Type 0} (old new : View S V) (key : List ℕ) : Type 0 where
+  leaves : Leaves old new []
+  order : new.council.order ≡ Some (new_order (asked.Probe key))
+  exchange : ExchangeView
+  is_open : new.council.exchange ≡ Some exchange
+  question : exchange.question ≡ Probe key
+  everyone : asked_of exchange ≡ everyone old
+
+record IsStopped {S V : Type 0} (old new : View S V) (key : List ℕ) : Type 0 where
+  leaves : Leaves old new []
+  why : Answer
+  order : new.council.order ≡ Some (told_so (op.Stopped why) (new_order (asked.Probe key)))
+  exchange : new.council.exchange ≡ None
+  stops : (members : List ℕ) → IsProbeAnswer key members (op.Stopped why)
+
+names_each : (members : List ℕ) → map (λ (p : ProbeOf). p.acceptor) (map (λ member. record { acceptor = member; told = None }) members) ≡ members
+names_each [] = refl
+names_each (member ∷ members) = ap (λ (l : List ℕ). member ∷ l) (names_each members)
+
+asks_or_not : {S V : Type 0} (m : Meaning S V) (old new : View S V) (key : List ℕ) → IsOrdered old (asked.Probe key) → StepAskAll m old (Probe key) new → AsksOrTells old new key ⊎ IsStopped old new key
+asks_or_not {S} {V} m old new key was by = by_case by.asks
+  where
+    stopped : (why : Answer) → Leaves old new [] → new.council.order ≡ option_map (told_so (op.Stopped why)) old.council.order → new.council.exchange ≡ old.council.exchange → ((members : List ℕ) → IsProbeAnswer key members (op.Stopped why)) → AsksOrTells old new key ⊎ IsStopped old new key
+    stopped why leaves order exchange stops = inr (record { leaves = leaves; why = why; order = order ∙ ap (option_map (told_so (op.Stopped why))) was.order; exchange = exchange ∙ was.exchange; stops = stops })
+
+    by_case : AsksAll m old (Probe key) by.desk new → AsksOrTells old new key ⊎ IsStopped old new key
+    by_case (council.asks now tag flow up room drawn is_now sends is) = inl (record {
+      leaves = leaves_others old _ new now [] is refl refl refl (sym (append-nil old.marks));
+      order = ap (λ (w : View S V). w.council.order) is ∙ was.order;
+      exchange = council.new_exchange (Probe key) tag (everyone old);
+      is_open = ap (λ (w : View S V). w.council.exchange) is;
+      question = refl;
+      everyone = names_each (everyone old);
+    })
+    by_case (council.is_down down is) = stopped answer.Down (leaves_desks old _ new [] is refl refl refl (sym (append-nil old.marks))) (ap (λ (w : View S V). w.council.order) is) (ap (λ (w : View S V). w.council.exchange) is) (λ members. refl)
+    by_case (council.is_full up full is) = stopped answer.RecordFull (leaves_desks old _ new [] is refl refl refl (sym (append-nil old.marks))) (ap (λ (w : View S V). w.council.order) is) (ap (λ (w : View S V). w.council.exchange) is) (λ members. refl)
+    by_case (council.is_spent now up spent kept is_now is) = stopped answer.Spent (leaves_others old _ new now [] is refl refl refl (sym (append-nil old.marks))) (ap (λ (w : View S V). w.council.order) is) (ap (λ (w : View S V). w.council.exchange) is) (λ members. refl)
+    by_case (council.fails now up fault is) = stopped answer.VaultFault (leaves_others old _ new now [] is refl refl refl (sym (append-nil old.marks))) (ap (λ (w : View S V). w.council.order) is) (ap (λ (w : View S V). w.council.exchange) is) (λ members. refl)
+    by_case (council.no_memory now tag up loss is) = stopped (answer.NoMemory false) (leaves_others old _ new now [] is refl refl refl (sym (append-nil old.marks))) (ap (λ (w : View S V). w.council.order) is) (ap (λ (w : View S V). w.council.exchange) is) (λ members. refl)
+
+-- the step of the store by which the members are asked
+asks_by : {S V : Type 0} (m : Meaning S V) (old new : View S V) (what : Exchange) (key : List ℕ) → what ≡ exchange.Probe key → Step m old (asking_of old what) new → StepAskAll m old (Probe key) new
+asks_by {S} {V} m old new what key is by = subst (λ (e : Exchange). Step m old (asking_of old e) new) is by
+
+pub may_ask : {S V : Type 0} (view : View S V) (what : Exchange) (key : List ℕ) → what ≡ exchange.Probe key → IsKept view → HasOrder (asked.Probe key) (own_part view 0) → MayAskThis view what
+may_ask view what key is kept has = subst (MayAskThis view) (sym is) (may_probe view key kept has)
+
+pub ask_held : {S V : Type 0} (m : Meaning S V) (old new : View S V) (what : Exchange) (key : List ℕ) → what ≡ exchange.Probe key → HasOrder (asked.Probe key) (own_part old 0) → IsKept old → Step m old (asking_of old what) new → IsSome new.council.exchange → Held old new (Makes 0 old new [] × HasProbe key (everyone old) (own_part new 0))
+ask_held {S} {V} m old new what key is has kept by_what some = elim (asks_or_not m old new key was (asks_by m old new what key is by_what)) [
+  | inl asks ↦ let held = silently old new asks.leaves kept was.no_call in record {
+    does = (held.does, has_probe new key (everyone old) (record { no_call = none_then old new [] asks.leaves was.no_call; order = asks.order; exchange = asks.exchange; is_open = asks.is_open; question = asks.question; asks = asks.everyone }));
+    kept = held.kept;
+    greatest = held.greatest;
+  }
+  | inr stopped ↦ absurd (cc (subst (λ (o : Option ExchangeView). IsSome o) stopped.exchange some))
+]
+  where
+    was : IsOrdered old (asked.Probe key)
+    was = is_ordered old (asked.Probe key) has
+
+-- what a stop says is what the operator is told
+stopped_says : (key members : List ℕ) (why : Answer) (told : OpAnswer) → IsProbeAnswer key members (op.Stopped why) → SaysTheSame (op.Stopped why) told → IsProbeAnswer key members told
+stopped_says key members why told stops same = subst (IsProbeAnswer key members) same stops
+
+pub ask_told : {S V : Type 0} (m : Meaning S V) (old mid new : View S V) (what : Exchange) (key : List ℕ) (told : OpAnswer) → what ≡ exchange.Probe key → HasOrder (asked.Probe key) (own_part old 0) → IsKept old → Step m old (asking_of old what) mid → mid.council.exchange ≡ None → WasToldOrder mid told → StepTell mid told new
+    → Held old new (IsToldIn (asked.Probe key) IsAskingHarm 0 old new told × ((members : List ℕ) → IsProbeAnswer key members told))
+ask_told {S} {V} m old mid new what key told is has kept by_what none said ends = elim (asks_or_not m old mid key was (asks_by m old mid what key is by_what)) [
+  | inl asks ↦ absurd (cc (sym none ∙ asks.is_open))
+  | inr stopped ↦ let held = tells_in IsAskingHarm 0 old mid new (asked.Probe key) told (told_so (op.Stopped stopped.why) (new_order (asked.Probe key))) stopped.leaves stopped.order refl ends kept was.no_call in record {
+    does = (held.does, λ members. stopped_says key members stopped.why told (stopped.stops members) (says_same mid (new_order (asked.Probe key)) (op.Stopped stopped.why) told stopped.order said));
+    kept = held.kept;
+    greatest = held.greatest;
+  }
+]
+  where
+    was : IsOrdered old (asked.Probe key)
+    was = is_ordered old (asked.Probe key) has
+
+-- ---- its frames
+-- those that wait are of its exchange
+pub asking_place : {S V : Type 0} (view : View S V) (key members : List ℕ) → HasProbe key members (own_part view 0) → place_of view 0 ≡ exchange_place
+asking_place view key members has = let is = is_probed view key members has in ap (λ (o : Option ExchangeView). if asks_as o 0 then exchange_place else 0) is.is_open
+
+pub frame_waits : {S V : Type 0} (view : View S V) (key members : List ℕ) → HasProbe key members (own_part view 0) → (queue_at view.flow exchange_place).messages ≢ [] → (queue_at view.flow (place_of view 0)).messages ≢ []
+frame_waits view key members has waits = subst (λ (p : ℕ). (queue_at view.flow p).messages ≢ []) (sym (asking_place view key members has)) waits
+
+-- whether one waits
+pub one_waits : {S V : Type 0} (view : View S V) (key members : List ℕ) (front : Option (Leg × ℕ)) → HasProbe key members (own_part view 0) → front ≡ option_map head_of (slice_get (queue_at view.flow (place_of view 0)).messages 0) → is_some front ≡ true → (queue_at view.flow exchange_place).messages ≢ []
+one_waits view key members front has shown some = some_waits (queue_at view.flow exchange_place).messages front (subst (λ (p : ℕ). front ≡ option_map head_of (slice_get (queue_at view.flow p).messages 0)) (asking_place view key members has) shown) some
+
+pub no_frame_waits : {S V : Type 0} (view : View S V) (key members : List ℕ) (front : Option (Leg × ℕ)) → HasProbe key members (own_part view 0) → front ≡ option_map head_of (slice_get (queue_at view.flow (place_of view 0)).messages 0) → is_some front ≡ false → (queue_at view.flow exchange_place).messages ≡ []
+no_frame_waits view key members front has shown none = none_waits (queue_at view.flow exchange_place).messages front (subst (λ (p : ℕ). front ≡ option_map head_of (slice_get (queue_at view.flow p).messages 0)) (asking_place view key members has) shown) none
+
+turn_is : {S V : Type 0} (view : View S V) (key members : List ℕ) (v : Verdict) → HasProbe key members (own_part view 0) → turn_of view 0 v ≡ step.TurnExchange v
+turn_is view key members v has = let is = is_probed view key members has in ap (λ (o : Option ExchangeView). if asks_as o 0 then step.TurnExchange v else step.Turn 0 v) is.is_open
+
+refusal_is : {S V : Type 0} (view : View S V) (key members : List ℕ) → HasProbe key members (own_part view 0) → refusal_of view 0 ≡ step.RefuseTurnExchange
+refusal_is view key members has = let is = is_probed view key members has in ap (λ (o : Option ExchangeView). if asks_as o 0 then step.RefuseTurnExchange else step.RefuseTurn 0) is.is_open
+
+pub turn_held : {S V : Type 0} (m : Meaning S V) (old new : View S V) (key members : List ℕ) (v : Verdict) → HasProbe key members (own_part old 0) → IsKept old → Step m old (turn_of old 0 v) new → Held old new (OperatesIn IsAskingHarm (harm_by v) old new × (own_part new 0 ≡ own_part old 0))
+turn_held {S} {V} m old new key members v has kept step_ =
+    let by : StepTurnExchange m old v new = subst (λ (e : step.Event). Step m old e new) (turn_is old key members v has) step_ in
+    let was = is_probed old key members has in
+    let turns = turns_asking m v old new by in
+    let held = operates (harm_by v) old new turns.marks turns.leaves turns.of_asking kept was.no_call in
+    record { does = (held.does, own_kept (harm_by v) old new by.at.exchange by.at.is_open turns was.no_call); kept = held.kept; greatest = held.greatest }
+
+pub turn_may_tell : {S V : Type 0} (m : Meaning S V) (old mid : View S V) (key members : List ℕ) → HasProbe key members (own_part old 0) → Step m old (refusal_of old 0) mid → WasToldOrder mid (op.Stopped (answer.NoMemory false))
+turn_may_tell {S} {V} m old mid key members has step_ =
+    let by : StepRefuseTurnExchange m old mid = subst (λ (e : step.Event). Step m old e mid) (refusal_is old key members has) step_ in
+    let was = is_probed old key members has in
+    was_told_so mid (new_order (asked.Probe key)) (op.Stopped (answer.NoMemory false)) (refuses_asking m old mid (new_order (asked.Probe key)) was.order by).1 refl
+
+pub turn_told : {S V : Type 0} (m : Meaning S V) (most : ℕ) (old mid new : View S V) (key members : List ℕ) (told : OpAnswer) → HasProbe key members (own_part old 0) → IsKept old → Step m old (refusal_of old 0) mid → StepTell mid told new → Held old new (IsToldIn (asked.Probe key) IsAskingHarm most old new told)
+turn_told {S} {V} m most old mid new key members told has kept step_ ends =
+    let by : StepRefuseTurnExchange m old mid = subst (λ (e : step.Event). Step m old e mid) (refusal_is old key members has) step_ in
+    let was = is_probed old key members has in
+    let refuses = refuses_asking m old mid (new_order (asked.Probe key)) was.order by in
+    tells_in IsAskingHarm most old mid new (asked.Probe key) told (told_so (op.Stopped (answer.NoMemory false)) (new_order (asked.Probe key))) refuses.0 refuses.1 refl ends kept was.no_call
+
+-- ---- what it found
+pub may_gather : {S V : Type 0} (view : View S V) (key members : List ℕ) → HasProbe key members (own_part view 0) → (queue_at view.flow exchange_place).messages ≡ [] → MayGather view
+may_gather view key members has none =
+    let is = is_probed view key members has in
+    world.members (record { order = new_order (asked.Probe key); is_order = is.order; exchange = is.exchange; is_open = is.is_open; beside = ap is_of_collection is.question; none_waits = none })
+
+gathering_is : {S V : Type 0} (view : View S V) (key members : List ℕ) → HasProbe key members (own_part view 0) → gathering_of view ≡ step.Gather
+gathering_is view key members has =
+    let is = is_probed view key members has in
+    ap gathering_by is.is_open ∙ ap (λ (q : Question). if is_of_collection q then step.GatherCollect else step.Gather) is.question
+
+-- it tells what was found, with its key, or that it stops
+record GathersProbe {S V : Type 0} (old new : View S V) (key members : List ℕ) : Type 0 where
+  leaves : Leaves old new []
+  said : OpAnswer
+  order : new.council.order ≡ Some (told_so said (new_order (asked.Probe key)))
+  answer : (told : OpAnswer) → SaysTheSame said told → IsProbeAnswer key members told
+
+-- what says the same of what was found is such an answer, too
+found_says : (key members : List ℕ) (found : Probes) (told : OpAnswer) → named_in found ≡ members → SaysTheSame (op.Probed key found) told → IsProbeAnswer key members told
+found_says key members found (op.Probed other seen) names same = (sym same.0, ap (map (λ (p : ProbeOf). p.acceptor)) (sym same.1) ∙ names)
+found_says key members found (op.Joined id era rescanned) names same = absurd (cc same)
+found_says key members found (op.Left id era rescanned) names same = absurd (cc same)
+found_says key members found (op.Refused fault) names same = absurd (cc same)
+found_says key members found (op.Busy era) names same = absurd (cc same)
+found_says key members found (op.Collected other ballot removed kept) names same = absurd (cc same)
+found_says key members found (op.NotEmpty version) names same = absurd (cc same)
+found_says key members found (op.Absent acceptor) names same = absurd (cc same)
+found_says key members found (op.ProposerDown proposer) names same = absurd (cc same)
+found_says key members found (op.Stopped why) names same = absurd (cc same)
+
+gathers_probe : {S V : Type 0} (old new : View S V) (key members : List ℕ) → IsProbed old key members → StepGather old new → GathersProbe old new key members
+gathers_probe {S} {V} old new key members was by = by_case by.gathers
+  where
+    same_exchange : by.at.exchange ≡ was.exchange
+    same_exchange = some_is (sym by.at.is_open ∙ was.is_open)
+
+    asks : by.at.exchange.question ≡ Probe key
+    asks = ap (λ (x : ExchangeView). x.question) same_exchange ∙ was.question
+
+    leaves : (changed : View S V) → new ≡ changed → changed.greatest ≡ old.greatest → changed.desks ≡ old.desks → changed.callers ≡ old.callers → changed.marks ≡ old.marks → Leaves old new []
+    leaves changed is greatest desks callers marks = leaves_desks old changed new [] is greatest desks callers (marks ∙ sym (append-nil old.marks))
+
+    stopped : (why : Answer) → Leaves old new [] → new.council.order ≡ option_map (told_so (op.Stopped why)) old.council.order → IsProbeAnswer key members (op.Stopped why) → GathersProbe old new key members
+    stopped why left order stops = record { leaves = left; said = op.Stopped why; order = order ∙ ap (option_map (told_so (op.Stopped why))) was.order; answer = λ told same. stopped_says key members why told stops same }
+
+    by_case : Gathers old by.at.exchange new → GathersProbe old new key members
+    by_case (council.crashed down is) = stopped answer.Crashed (leaves _ is refl refl refl refl) (ap (λ (w : View S V). w.council.order) is) refl
+    by_case (council.probed other found up question keeps is) =
+        let same_key : other ≡ key = cc (sym question ∙ asks) in
+        record {
+          leaves = leaves _ is refl refl refl refl;
+          said = op.Probed other found;
+          order = ap (λ (w : View S V). w.council.order) is ∙ ap (option_map (told_so (op.Probed other found))) was.order;
+          answer = λ told same. found_says key members found told (ap (map (λ (p : ProbeOf). p.acceptor)) keeps ∙ ap asked_of same_exchange ∙ was.asks) (subst (λ (k : List ℕ). SaysTheSame (op.Probed k found) told) same_key same);
+        }
+    by_case (council.lists of listing up enough on is) = absurd (cc (sym asks ∙ of.question))
+    by_case (council.is_short of short up few is) = absurd (cc (sym asks ∙ of.question))
+    by_case (council.no_memory up is) = stopped (answer.NoMemory false) (leaves _ is refl refl refl refl) (ap (λ (w : View S V). w.council.order) is) refl
+
+pub gather_told : {S V : Type 0} (m : Meaning S V) (most : ℕ) (old mid new : View S V) (key members : List ℕ) (told : OpAnswer) → HasProbe key members (own_part old 0) → IsKept old → Step m old (gathering_of old) mid → WasToldOrder mid told → StepTell mid told new
+    → Held old new (IsToldIn (asked.Probe key) IsAskingHarm most old new told × IsProbeAnswer key members told)
+gather_told {S} {V} m most old mid new key members told has kept step_ said ends =
+    let by : StepGather old mid = subst (λ (e : step.Event). Step m old e mid) (gathering_is old key members has) step_ in
+    let was = is_probed old key members has in
+    let gathers = gathers_probe old mid key members was by in
+    let held = tells_in IsAskingHarm most old mid new (asked.Probe key) told (told_so gathers.said (new_order (asked.Probe key))) gathers.leaves gathers.order refl ends kept was.no_call in
+    record { does = (held.does, gathers.answer told (says_same mid (new_order (asked.Probe key)) gathers.said told gathers.order said)); kept = held.kept; greatest = held.greatest }
+
+-- the members' answers were gathered
+record FindsProbe {S V : Type 0} (new : View S V) (key : List ℕ) (result : Gathered) : Type 0 where
+  found : Probes
+  is : result ≡ gathered.Probed found
+  told : WasToldOrder new (op.Probed key found)
+
+finds_probe : {S V : Type 0} (old new : View S V) (key members : List ℕ) (result : Gathered) → IsProbed old key members → HasGathered old result new → FindsProbe new key result
+finds_probe {S} {V} old new key members result was (world.probed exchange other found is_open question is keeps told) =
+    let same_key : other ≡ key = cc (sym question ∙ ap (λ (x : ExchangeView). x.question) (some_is (sym is_open ∙ was.is_open)) ∙ was.question) in
+    record { found = found; is = is; told = subst (λ (k : List ℕ). WasToldOrder new (op.Probed k found)) same_key told }
+finds_probe {S} {V} old new key members result was (world.lists exchange places plan listing is_open question is_plan is next) = absurd (cc (sym question ∙ ap (λ (x : ExchangeView). x.question) (some_is (sym is_open ∙ was.is_open)) ∙ was.question))
+finds_probe old new key members result was (world.acknowledged collection none is_collection is next) = absurd (cc (sym none ∙ was.is_open))
+finds_probe {S} {V} old new key members result was (world.confirmed exchange collection removed kept is_open of_it is_collection is next) =
+    absurd (cc (sym of_it ∙ ap (λ (x : ExchangeView). is_of_collection x.question) (some_is (sym is_open ∙ was.is_open)) ∙ ap is_of_collection was.question))
+
+pub is_found : {S V : Type 0} (old new : View S V) (key members : List ℕ) (result : Gathered) → HasProbe key members (own_part old 0) → HasGathered old result new → IsFound result
+is_found old new key members result has by = let finds = finds_probe old new key members result (is_probed old key members has) by in subst IsFound (sym finds.is) tt
+
+pub found_told : {S V : Type 0} (old new : View S V) (key members : List ℕ) (result : Gathered) (found : Probes) → HasProbe key members (own_part old 0) → HasGathered old result new → result ≡ gathered.Probed found → WasToldOrder new (op.Probed key found)
+found_told {S} {V} old new key members result found has by is =
+    let finds = finds_probe old new key members result (is_probed old key members has) by in
+    let same : finds.found ≡ found = cc (sym finds.is ∙ is) in
+    subst (λ (f : Probes). WasToldOrder new (op.Probed key f)) same finds.told

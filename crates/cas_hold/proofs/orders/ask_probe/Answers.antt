@@ -1,0 +1,32 @@
+use Rattle.cas_hold.proofs.Probes.{may_ask, ask_held, ask_told}
+use Rattle.std.proofs.Common.{sym, subst}
+use Rattle.cas_record.specs.declared.operator.Asked.TheVariants as asked
+use Rattle.cas_hold.specs.Orders.{IsToldIn, IsAskingHarm, IsProbeAnswer}
+use Rattle.cas_hold.proofs.orders.ask_probe.Goals as goal
+
+pub ask_all-requires : goal.ask_all-requires
+ask_all-requires g c = may_ask c.args.world.now c.args.order.question c.args.order.key c.requires.question c.requires.kept c.requires.ordered
+
+pub returns-in-Ok-clause-kept : goal.returns-in-Ok-clause-kept
+returns-in-Ok-clause-kept g c = (ask_held _ c.args.world.now c.ask_all.new.self c.args.order.question c.args.order.key c.requires.question c.requires.ordered c.requires.kept c.in-Ok.ensures.step c.in-Ok.ensures.ok).kept
+
+pub returns-in-Ok-clause-greatest : goal.returns-in-Ok-clause-greatest
+returns-in-Ok-clause-greatest g c = (ask_held _ c.args.world.now c.ask_all.new.self c.args.order.question c.args.order.key c.requires.question c.requires.ordered c.requires.kept c.in-Ok.ensures.step c.in-Ok.ensures.ok).greatest
+
+pub returns-in-Ok-clause-makes : goal.returns-in-Ok-clause-makes
+returns-in-Ok-clause-makes g c = (ask_held _ c.args.world.now c.ask_all.new.self c.args.order.question c.args.order.key c.requires.question c.requires.ordered c.requires.kept c.in-Ok.ensures.step c.in-Ok.ensures.ok).does.0
+
+pub returns-in-Ok-clause-asks : goal.returns-in-Ok-clause-asks
+returns-in-Ok-clause-asks g c = (ask_held _ c.args.world.now c.ask_all.new.self c.args.order.question c.args.order.key c.requires.question c.requires.ordered c.requires.kept c.in-Ok.ensures.step c.in-Ok.ensures.ok).does.1
+
+pub returns-in-Err-clause-kept : goal.returns-in-Err-clause-kept
+returns-in-Err-clause-kept g c = (ask_told _ c.args.world.now c.ask_all.new.self c.tell.new.self c.args.order.question c.args.order.key c.in-Err.told c.requires.question c.requires.ordered c.requires.kept c.in-Err.ensures.step c.in-Err.ensures.none c.in-Err.ensures.err c.tell.ensures.step).kept
+
+pub returns-in-Err-clause-greatest : goal.returns-in-Err-clause-greatest
+returns-in-Err-clause-greatest g c = (ask_told _ c.args.world.now c.ask_all.new.self c.tell.new.self c.args.order.question c.args.order.key c.in-Err.told c.requires.question c.requires.ordered c.requires.kept c.in-Err.ensures.step c.in-Err.ensures.none c.in-Err.ensures.err c.tell.ensures.step).greatest
+
+pub returns-in-Err-clause-told : goal.returns-in-Err-clause-told
+returns-in-Err-clause-told g c = subst (IsToldIn (asked.Probe c.args.order.key) IsAskingHarm 0 c.args.world.now c.tell.new.self) (sym c.tell.ensures.same) (ask_told _ c.args.world.now c.ask_all.new.self c.tell.new.self c.args.order.question c.args.order.key c.in-Err.told c.requires.question c.requires.ordered c.requires.kept c.in-Err.ensures.step c.in-Err.ensures.none c.in-Err.ensures.err c.tell.ensures.step).does.0
+
+pub returns-in-Err-clause-answer : goal.returns-in-Err-clause-answer
+returns-in-Err-clause-answer g c members = subst (IsProbeAnswer c.args.order.key members) (sym c.tell.ensures.same) ((ask_told _ c.args.world.now c.ask_all.new.self c.tell.new.self c.args.order.question c.args.order.key c.in-Err.told c.requires.question c.requires.ordered c.requires.kept c.in-Err.ensures.step c.in-Err.ensures.none c.in-Err.ensures.err c.tell.ensures.step).does.1 members)

@@ -1,0 +1,30 @@
+use Rattle.cas_hold.proofs.Councils.{free_idle}
+use Rattle.cas_hold.proofs.Probes.{order_held, unordered, free_still}
+use Rattle.cas_hold.proofs.orders.open_order.Goals as goal
+
+pub order-requires : goal.order-requires
+order-requires g c = (free_idle c.args.world.now c.requires.free).order
+
+pub returns-in-Ok-clause-kept : goal.returns-in-Ok-clause-kept
+returns-in-Ok-clause-kept g c = (order_held c.args.world.now c.order.new.self c.args.asked.now c.requires.free c.requires.kept c.in-Ok.ensures.ok).kept
+
+pub returns-in-Ok-clause-greatest : goal.returns-in-Ok-clause-greatest
+returns-in-Ok-clause-greatest g c = (order_held c.args.world.now c.order.new.self c.args.asked.now c.requires.free c.requires.kept c.in-Ok.ensures.ok).greatest
+
+pub returns-in-Ok-clause-makes : goal.returns-in-Ok-clause-makes
+returns-in-Ok-clause-makes g c = (order_held c.args.world.now c.order.new.self c.args.asked.now c.requires.free c.requires.kept c.in-Ok.ensures.ok).does.0
+
+pub returns-in-Ok-clause-ordered : goal.returns-in-Ok-clause-ordered
+returns-in-Ok-clause-ordered g c = (order_held c.args.world.now c.order.new.self c.args.asked.now c.requires.free c.requires.kept c.in-Ok.ensures.ok).does.1
+
+pub returns-in-Err-clause-kept : goal.returns-in-Err-clause-kept
+returns-in-Err-clause-kept g c = (unordered c.args.world.now c.order.new.self c.in-Err.ensures.err c.requires.free c.requires.kept).kept
+
+pub returns-in-Err-clause-greatest : goal.returns-in-Err-clause-greatest
+returns-in-Err-clause-greatest g c = (unordered c.args.world.now c.order.new.self c.in-Err.ensures.err c.requires.free c.requires.kept).greatest
+
+pub returns-in-Err-clause-makes : goal.returns-in-Err-clause-makes
+returns-in-Err-clause-makes g c = (unordered c.args.world.now c.order.new.self c.in-Err.ensures.err c.requires.free c.requires.kept).does
+
+pub returns-in-Err-clause-refused : goal.returns-in-Err-clause-refused
+returns-in-Err-clause-refused g c = (c.in-Err.ensures.cause, free_still c.args.world.now c.order.new.self c.in-Err.ensures.err c.requires.free)

@@ -1,0 +1,83 @@
+-- What a hold does for a call of the operator, whose marks are caller 0's, and what of caller 0's own part tells of it.
+use Rattle.std.specs.Prelude.{◌≡◌, ◌≤◌, ℕ, Bool, true, false, List, ◌++◌, map, All, None, Some}
+use Rattle.cas_record.specs.declared.answer.Answer.{Answer}
+use Rattle.cas_record.specs.declared.answer.Answer.TheVariants as answer
+use Rattle.cas_record.specs.declared.mark.Mark.{Mark}
+use Rattle.cas_record.specs.declared.mark.Mark.TheVariants.{Harmed}
+use Rattle.cas_record.specs.declared.operator.Asked.{Asked}
+use Rattle.cas_record.specs.declared.operator.Asked.TheVariants as asked
+use Rattle.cas_record.specs.declared.operator.OpAnswer.{OpAnswer}
+use Rattle.cas_record.specs.declared.operator.OpAnswer.TheVariants as told
+use Rattle.cas_record.specs.declared.operator.Probes.{Probes}
+use Rattle.cas_cluster.specs.Council.{Probe, ExchangeView, OrderView, Council}
+use Rattle.cas_cluster.specs.StepCouncil.{told_marks}
+use Rattle.cas_cluster.specs.View.{View}
+use Rattle.cas_hold.specs.Kept.{Makes}
+use Rattle.cas_hold.specs.Mine.{mine, losses}
+use Rattle.cas_hold.specs.Open.{IsFree}
+use Rattle.cas_hold.specs.OwnParts.{asked_of, council_part, own_part}
+
+-- ---- what is open
+-- a call of the operator that was told nothing
+abbrev pub new_order : Asked → OrderView
+new_order asked = record { asked = asked; told = None }
+
+-- the operator's call for this is open, and no exchange, no collection and no caller's call beside it
+pub record HasOrder (asked : Asked) (own : List ℕ) : Type 0 where
+  pub council : Council
+  pub is : own ≡ council_part council
+  pub order : council.order ≡ Some (new_order asked)
+  pub exchange : council.exchange ≡ None
+  pub collection : council.collection ≡ None
+
+-- a probe of the key is open, for which these were asked
+pub record HasProbe (key members own : List ℕ) : Type 0 where
+  pub council : Council
+  pub is : own ≡ council_part council
+  pub order : council.order ≡ Some (new_order (asked.Probe key))
+  pub exchange : ExchangeView
+  pub is_open : council.exchange ≡ Some exchange
+  pub question : exchange.question ≡ Probe key
+  pub asks : asked_of exchange ≡ members
+
+-- ---- what a hold does
+-- the operator's call goes on: it makes such marks, and marks at most so many losses
+pub record OperatesIn {S V : Type 0} (such : Mark → Type 0) (most : ℕ) (old new : View S V) : Type 0 where
+  pub marks : List Mark
+  pub makes : Makes 0 old new marks
+  pub all_such : All such (mine 0 marks)
+  pub few : losses (mine 0 marks) ≤ most
+
+-- it ends, and is told this, which is marked last but for what a probe found
+pub record IsToldIn {S V : Type 0} (asked : Asked) (such : Mark → Type 0) (most : ℕ) (old new : View S V) (answer : OpAnswer) : Type 0 where
+  pub marks : List Mark
+  pub makes : Makes 0 old new (marks ++ told_marks asked answer)
+  pub all_such : All such (mine 0 marks)
+  pub few : losses (mine 0 marks) ≤ most
+  pub is_free : IsFree (own_part new 0)
+
+-- ---- a probe
+-- it tells of a frame that was harmed within an exchange, which is of no caller's call
+abbrev pub IsAskingHarm : Mark → Type 0
+IsAskingHarm (Harmed caller call down) = call ≡ 0
+IsAskingHarm other = ⊥
+
+-- what may stop it
+abbrev pub stops_probe : Answer → Bool
+stops_probe answer.Down = true
+stops_probe answer.Crashed = true
+stops_probe answer.Spent = true
+stops_probe answer.VaultFault = true
+stops_probe answer.RecordFull = true
+stops_probe (answer.NoMemory proposed) = true
+stops_probe other = false
+
+-- whom probes name, in their order
+abbrev pub named_in : Probes → List ℕ
+named_in found = map (λ probe. probe.acceptor) found.probes.items
+
+-- it is answered with what each of the members told of the key, or with what stopped it
+abbrev pub IsProbeAnswer : List ℕ → List ℕ → OpAnswer → Type 0
+IsProbeAnswer key members (told.Probed other found) = (other ≡ key) × (named_in found ≡ members)
+IsProbeAnswer key members (told.Stopped why) = stops_probe why ≡ true
+IsProbeAnswer key members other = ⊥
