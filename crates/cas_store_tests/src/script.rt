@@ -259,14 +259,18 @@ fn collects_keys(rt: HostRuntime) -> Result<(), Fail> {
 fn collects_a_key_again_and_again(rt: HostRuntime) -> Result<(), Fail> {
     let alloc = rt.alloc();
     let mut script = opened(alloc, EIGHT_TRIES)?;
-    for _time in 0..10u32 {
+    for drawn in [0u32, 4, 8, 12, 16, 20, 24, 28, 32, 36] {
         let written = play(
             alloc,
             &mut script,
             b"1 set a x\n1 del a\nop collect a\nshow 1 a\n",
         )?;
-        let text = written.as_slice();
-        assert_eq!(rt; text.ends_with(b" removed 5 kept 0\n1 a: none\n"), true);
+        let drawn = u64::from(drawn);
+        let (set, deleted, collected) = (drawn + 1, drawn + 2, drawn + 4);
+        let want = format!(in alloc;
+            "1: done v0 text x at {set}.1\n1: done empty at {deleted}.1\nop: collected a at {collected}.0 removed 5 kept 0\n1 a: none\n"
+        )?;
+        assert_eq!(rt; written.as_slice(), want.as_bytes());
     }
     Ok(())
 }
