@@ -1,6 +1,6 @@
 -- What caller 0's pass tells of a call of the operator, by what its holds did.
-use Rattle.std.proofs.Common.{◌≡◌, ◌≤◌, ℕ, ◌+◌, true, false, inl, inr, List, [], ◌∷◌, ◌++◌, None, Some, refl, sym, ap, subst, ◌∙◌, append_assoc, append-nil, arith}
-use Rattle.std.specs.Prelude.{◌||◌, All, Result, Ok, Err, IfOk, IfErr, OnOk}
+use Rattle.std.proofs.Common.{◌≡◌, ℕ, ◌+◌, true, false, inl, inr, List, [], ◌++◌, refl, sym, ap, subst, ◌∙◌, append_assoc, append-nil, arith}
+use Rattle.std.specs.Prelude.{◌||◌, Result, Ok, Err, IfErr, OnOk}
 use Rattle.std.proofs.lemmas.List.Elements.{All-append, All-nil}
 use Rattle.cas_record.specs.declared.answer.Answer.{Answer}
 use Rattle.cas_record.specs.declared.mark.Mark.{Mark}
@@ -23,7 +23,7 @@ use Rattle.cas_hold.specs.OwnParts.{own_part}
 use Rattle.cas_hold.proofs.Fronts.{front_goes_on, goes_on_then, mine_append}
 use Rattle.cas_hold.proofs.Operating.{told_mine}
 use Rattle.cas_board.specs.Changes.{IsCounted}
-use Rattle.cas_board.specs.Operations.{AreLast, HasOperated, WasToldLast, Operates, is_told, is_not_begun}
+use Rattle.cas_board.specs.Operations.{HasOperated, WasToldLast, Operates, is_told}
 use Rattle.cas_board.specs.Passes.{IsPassOf}
 use Rattle.cas_board.proofs.Sittings.{WasHeld, few_then, counted_none, counted_then, counted_less}
 

@@ -36,6 +36,9 @@ use Rattle.cas_hold.specs.Open.{IsFree}
 use Rattle.cas_hold.specs.Orders.{new_order, HasOrder, HasProbe, OperatesIn, IsToldIn, IsAskingHarm, IsProbeAnswer, named_in}
 use Rattle.cas_hold.specs.OwnParts.{asked_of, own_part}
 use Rattle.cas_hold.proofs.Councils.{IsOrdered, IsProbed, has_order, is_ordered, has_probe, is_probed, free_idle}
+use Rattle.cas_hold.specs.Stages.{IsFirst, HasFirst, front_of}
+use Rattle.cas_hold.specs.declared.deeds.Waiting.{Waiting}
+use Rattle.std.specs.Prelude.{IfSome}
 use Rattle.cas_hold.proofs.Holds.{Held}
 use Rattle.cas_hold.proofs.Stages.{some_waits, none_waits}
 use Rattle.cas_hold.proofs.Operating.{Leaves, leaves_desks, leaves_others, none_then, silently, operates, tells_in, turns_asking, own_kept, refuses_asking, says_same, was_told_so}
@@ -162,6 +165,11 @@ asking_place view key members has = let is = is_probed view key members has in a
 
 pub frame_waits : {S V : Type 0} (view : View S V) (key members : List ℕ) → HasProbe key members (own_part view 0) → (queue_at view.flow exchange_place).messages ≢ [] → (queue_at view.flow (place_of view 0)).messages ≢ []
 frame_waits view key members has waits = subst (λ (p : ℕ). (queue_at view.flow p).messages ≢ []) (sym (asking_place view key members has)) waits
+
+-- what is read of them
+pub has_first : {S V : Type 0} (view : View S V) (n : ℕ) (waits : Option Waiting) → IfSome waits (IsFirst view n) → (waits ≡ None → front_of view n ≡ None) → HasFirst view n waits
+has_first view n None some none = none refl
+has_first view n (Some frame) some none = some
 
 -- whether one waits
 pub one_waits : {S V : Type 0} (view : View S V) (key members : List ℕ) (front : Option (Leg × ℕ)) → HasProbe key members (own_part view 0) → front ≡ option_map head_of (slice_get (queue_at view.flow (place_of view 0)).messages 0) → is_some front ≡ true → (queue_at view.flow exchange_place).messages ≢ []

@@ -18,6 +18,11 @@ front_of view n = option_map head_of (slice_get (queue_at view.flow (place_of vi
 abbrev pub IsFirst : {S V : Type 0} → View S V → ℕ → Waiting → Type 0
 IsFirst view n frame = (front_of view n ≡ Some (frame.leg, frame.peer)) × (frame.late ≡ length view.flow.late)
 
+-- it is this one, or none waits
+abbrev pub HasFirst : {S V : Type 0} → View S V → ℕ → Option Waiting → Type 0
+HasFirst view n None = front_of view n ≡ None
+HasFirst view n (Some frame) = IsFirst view n frame
+
 -- the first frame of its round waits; or none does, and its round is open or not
 abbrev pub IsStageOf : {S V : Type 0} → View S V → ℕ → Stage → Type 0
 IsStageOf view n (Waits frame) = IsFirst view n frame

@@ -9,6 +9,7 @@ ghost use Rattle.cas_hold.specs.Kept.{IsKept, Makes};
 ghost use Rattle.cas_hold.specs.Open.{IsFree};
 ghost use Rattle.cas_hold.specs.Orders.{HasOrder, HasProbe, IsAskingHarm, IsProbeAnswer, IsToldIn, OperatesIn};
 ghost use Rattle.cas_hold.specs.OwnParts.{own_part};
+ghost use Rattle.cas_hold.specs.Stages.{HasFirst};
 
 use crate::deeds::{Waiting, first_frame};
 use cas_calls::council::no_memory;
@@ -103,6 +104,7 @@ pub fn ask_probe<S: Shelf, V: Disk>(
     ensures makes { OnOk result (Makes 0 world.old world.new []) }
     ensures asks { OnOk result (HasProbe order.key (everyone world.old) (own_part world.new 0)) }
     ensures key { IfOk result (λ probing. probing.key ≡ order.key) }
+    ensures waits { IfOk result (λ probing. HasFirst world.new 0 probing.waits) }
     ensures told { IfErr result (IsToldIn (Asked.Probe order.key) IsAskingHarm 0 world.old world.new) }
     ensures answer { IfErr result (λ told. (members : List ℕ) → IsProbeAnswer order.key members told) }
 {
@@ -130,6 +132,7 @@ pub fn go_on_probing<S: Shelf, V: Disk>(
     ensures goes_on { OnOk result (OperatesIn IsAskingHarm (harm_by verdict) world.old world.new) }
     ensures own { OnOk result (own_part world.new 0 ≡ own_part world.old 0) }
     ensures key { IfOk result (λ next. next.key ≡ probing.key) }
+    ensures waits { IfOk result (λ next. HasFirst world.new 0 next.waits) }
     ensures told { IfErr result (IsToldIn (Asked.Probe probing.key) IsAskingHarm (harm_by verdict) world.old world.new) }
     ensures answer { IfErr result (λ told. (members : List ℕ) → HasProbe probing.key members (own_part world.old 0) → IsProbeAnswer probing.key members told) }
 {
@@ -157,6 +160,7 @@ fn take_probe_turn<S: Shelf, V: Disk>(
     ensures greatest { world.new.greatest ≡ world.old.greatest }
     ensures goes_on { OnOk result (OperatesIn IsAskingHarm (harm_by verdict) world.old world.new) }
     ensures own { OnOk result (own_part world.new 0 ≡ own_part world.old 0) }
+    ensures first { IfOk result (HasFirst world.new 0) }
     ensures told { IfErr result (IsToldIn (Asked.Probe key.now) IsAskingHarm (harm_by verdict) world.old world.new) }
     ensures answer { IfErr result (λ told. (members : List ℕ) → IsProbeAnswer key.now members told) }
 {

@@ -1,4 +1,4 @@
-use Rattle.cas_hold.proofs.Probes.{may_ask, ask_held, ask_told}
+use Rattle.cas_hold.proofs.Probes.{may_ask, ask_held, ask_told, has_first}
 use Rattle.std.proofs.Common.{sym, subst}
 use Rattle.cas_record.specs.declared.operator.Asked.TheVariants as asked
 use Rattle.cas_hold.specs.Orders.{IsToldIn, IsAskingHarm, IsProbeAnswer}
@@ -30,3 +30,6 @@ returns-in-Err-clause-told g c = subst (IsToldIn (asked.Probe c.args.order.key) 
 
 pub returns-in-Err-clause-answer : goal.returns-in-Err-clause-answer
 returns-in-Err-clause-answer g c members = subst (IsProbeAnswer c.args.order.key members) (sym c.tell.ensures.same) ((ask_told _ c.args.world.now c.ask_all.new.self c.tell.new.self c.args.order.question c.args.order.key c.in-Err.told c.requires.question c.requires.ordered c.requires.kept c.in-Err.ensures.step c.in-Err.ensures.none c.in-Err.ensures.err c.tell.ensures.step).does.1 members)
+
+pub returns-in-Ok-clause-waits : goal.returns-in-Ok-clause-waits
+returns-in-Ok-clause-waits g c = has_first c.ask_all.new.self 0 c.first_frame.result c.first_frame.ensures.first c.first_frame.ensures.none

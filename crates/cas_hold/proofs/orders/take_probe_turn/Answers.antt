@@ -3,7 +3,7 @@ use Rattle.cas_record.specs.declared.operator.Asked.TheVariants as asked
 use Rattle.cas_world.specs.Plans.{MayTell, was_told}
 use Rattle.cas_hold.specs.Deeds.{harm_by}
 use Rattle.cas_hold.specs.Orders.{IsToldIn, IsAskingHarm}
-use Rattle.cas_hold.proofs.Probes.{frame_waits, turn_held, turn_may_tell, turn_told}
+use Rattle.cas_hold.proofs.Probes.{frame_waits, turn_held, turn_may_tell, turn_told, has_first}
 use Rattle.cas_hold.proofs.orders.take_probe_turn.Goals as goal
 
 pub turn-requires-clause-waits : goal.turn-requires-clause-waits
@@ -32,3 +32,6 @@ returns-in-Err-clause-greatest g c = (turn_told _ (harm_by c.args.verdict) c.arg
 
 pub returns-in-Err-clause-told : goal.returns-in-Err-clause-told
 returns-in-Err-clause-told g c = subst (IsToldIn (asked.Probe c.args.key.now) IsAskingHarm (harm_by c.args.verdict) c.args.world.now c.tell.new.self) (sym c.tell.ensures.same) (turn_told _ (harm_by c.args.verdict) c.args.world.now c.turn.new.self c.tell.new.self c.args.key.now c.requires.asks.0 c.no_memory.result c.requires.asks.1 c.requires.kept c.in-Err.ensures.err c.tell.ensures.step).does
+
+pub returns-in-Ok-clause-first : goal.returns-in-Ok-clause-first
+returns-in-Ok-clause-first g c = has_first c.turn.new.self 0 c.first_frame.result c.first_frame.ensures.first c.first_frame.ensures.none

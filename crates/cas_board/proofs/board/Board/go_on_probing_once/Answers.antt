@@ -1,7 +1,6 @@
-use Rattle.std.proofs.Common.{◌≡◌, ℕ, List, [], sym, ap, subst, ◌∙◌}
+use Rattle.std.proofs.Common.{ℕ, List, sym, ap, subst, ◌∙◌}
 use Rattle.std.specs.Prelude.{OnOk, IfErr}
 use Rattle.cas_record.specs.declared.operator.Asked.TheVariants as asked
-use Rattle.cas_record.specs.declared.operator.OpAnswer.{OpAnswer}
 use Rattle.cas_hold.specs.Deeds.{harm_by}
 use Rattle.cas_hold.specs.Orders.{HasProbe, OperatesIn, IsToldIn, IsAskingHarm, IsProbeAnswer}
 use Rattle.cas_hold.specs.OwnParts.{own_part}

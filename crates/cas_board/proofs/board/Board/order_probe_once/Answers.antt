@@ -1,5 +1,4 @@
-use Rattle.std.proofs.Common.{◌≡◌, ℕ, List, [], sym, ap, subst, ◌∙◌}
-use Rattle.cas_record.specs.declared.answer.Answer.{Answer}
+use Rattle.std.proofs.Common.{[], sym, ap, subst, ◌∙◌}
 use Rattle.cas_record.specs.declared.operator.Asked.TheVariants as asked
 use Rattle.cas_hold.specs.Deeds.{IsRefusal}
 use Rattle.cas_hold.specs.Kept.{Makes}
