@@ -1,3 +1,4 @@
 mod Opened
 mod Operating
 mod Sittings
+mod Steps

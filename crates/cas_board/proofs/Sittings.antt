@@ -1,5 +1,5 @@
 -- What a pass tells of a hold, by what the hold did.
-use Rattle.std.proofs.Common.{◌≡◌, ◌≤◌, ◌<◌, ℕ, zero, suc, ◌+◌, ◌-◌, ◌^◌, Bool, if◌then◌else◌, ap₂, List, [], ◌∷◌, ◌++◌, length, None, Some, slice_get, true, false, refl, sym, ap, subst, ◌∙◌, append_assoc, append-nil, arith}
+use Rattle.std.proofs.Common.{◌≡◌, ◌≤◌, ◌<◌, ℕ, zero, suc, ◌+◌, ◌-◌, ◌^◌, Bool, if◌then◌else◌, ap₂, List, [], ◌∷◌, ◌++◌, length, None, Some, slice_get, true, false, refl, sym, ap, subst, ◌∙◌, append_assoc, append-nil, arith, inr}
 use Rattle.std.specs.Prelude.{Result, Ok, Err, IfOk, IfErr, OnOk}
 use Rattle.std.proofs.lemmas.List.Elements.{All-append, All-nil}
 use Rattle.std.proofs.Math.Nat.{min-le_left}
@@ -24,11 +24,13 @@ use Rattle.cas_hold.specs.Mine.{mine, call_of, losses, wanted_by, GoesOn, IsLast
 use Rattle.cas_hold.specs.Owners.{owner_of, MayAdd}
 use Rattle.cas_hold.specs.OwnParts.{own_part}
 use Rattle.cas_hold.specs.Conflicts.{is_conflict}
-use Rattle.cas_hold.specs.Open.{IsFree, HasOpen, rounds_in, is_met_in, rounds_after}
+use Rattle.cas_hold.specs.Open.{IsFree, HasOpen, beside_in, rounds_in, is_met_in, rounds_after}
 use Rattle.cas_hold.specs.Stages.{tells_met}
 use Rattle.cas_hold.specs.declared.deeds.Stage.{Stage}
 use Rattle.cas_hold.proofs.Fronts.{added_is, mine_append, mine_own, front_goes_on, goes_on_then, wanted_seen}
-use Rattle.cas_hold.proofs.Parts.{open_at}
+use Rattle.cas_hold.proofs.Parts.{open_at, free_is_idle}
+use Rattle.cas_cluster.specs.StepCalls as calls
+use Rattle.cas_record.specs.declared.answer.Answer.TheVariants as answer
 
 -- ---- what may be given back
 module _ {S V : Type 0} (n : ℕ) (before after : View S V) (marks : List Mark) (makes : Makes n before after marks) where
@@ -68,8 +70,8 @@ module _ {S V A : Type 0} (before after : View S V) (old new : Sitting A Mark) (
   last_then : (marks : List Mark) (mark : Mark) → Makes old.number before after (marks ++ mark ∷ []) → IsLast new.seen mark
   last_then marks mark makes = record { before = before.marks ++ marks; whole = append_assoc before.marks marks (mark ∷ []) ∙ sym makes.made ∙ sym seen }
 
-  pub pass_begins : (call : ℕ) (key : List ℕ) (program : List Clause) → BeginsIn old.number call key program before after → HasBegun call key program old new
-  pass_begins call key program b = record {
+  pub pass_begins : (call : ℕ) (key : List ℕ) (program : List Clause) → own_part before old.number ≡ old.own → BeginsIn old.number call key program before after → HasBegun call key program old new
+  pass_begins call key program own_was b = record {
     more = mine old.number b.more;
     front = front_is (Begun old.number call key program ∷ b.more) (Begun old.number call key program ∷ mine old.number b.more) b.makes (mine_own old.number (Begun old.number call key program) b.more refl);
     of_call = b.of_call;
@@ -77,30 +79,32 @@ module _ {S V A : Type 0} (before after : View S V) (old new : Sitting A Mark) (
     is_open = open_then call b.is_open;
     first = ap rounds_in own ∙ b.first;
     unmet = ap is_met_in own ∙ b.unmet;
+    beside = ap beside_in own ∙ b.beside ∙ own_was;
     wanted = ap (wanted_by old.number) seen ∙ b.wanted;
   }
 
-  pub pass_begins_not : (key : List ℕ) (program : List Clause) (told : Answer) → BeginsNot old.number key program before after told → HasNotBegun key program old new told
-  pass_begins_not key program told (deeds.ends_at_once call rounds makes free no_conflict) =
+  pub pass_begins_not : (key : List ℕ) (program : List Clause) (told : Answer) → IsFree (own_part before old.number) → BeginsNot old.number key program before after told → HasNotBegun key program old new told
+  pass_begins_not key program told free (deeds.ends_at_once call rounds makes leaves no_conflict) =
       let n : ℕ = old.number in
       let begun : Mark = Begun n call key program in
       let ended : Mark = Ended n call rounds told in
       changes.ends_at_once call rounds (front_is (begun ∷ ended ∷ []) (begun ∷ ended ∷ []) makes (mine_own n begun (ended ∷ []) refl ∙ ap (λ (l : List Mark). begun ∷ l) (mine_own n ended [] refl)))
-      (last_then (begun ∷ []) ended makes) (free_then free) no_conflict
-  pass_begins_not key program told (deeds.is_refused refusal makes free) = changes.is_refused refusal (front_of [] makes) (free_then free)
+      (last_then (begun ∷ []) ended makes) (free_then (leaves.is_free free)) no_conflict
+  pass_begins_not key program told free (deeds.is_refused refusal makes leaves) = changes.is_refused refusal (front_of [] makes) (free_then (leaves.is_free free))
 
-  pub pass_goes_on : (call most : ℕ) → GoesOnIn old.number call most before after → HasGoneOn call most old new
-  pass_goes_on call most g = record {
+  pub pass_goes_on : (call most : ℕ) → own_part before old.number ≡ old.own → GoesOnIn old.number call most before after → HasGoneOn call most old new
+  pass_goes_on call most own_was g = record {
     marks = mine old.number g.marks;
     front = front_of g.marks g.makes;
     of_call = g.of_call;
     few = g.few;
     is_open = open_then call g.is_open;
+    beside = ap beside_in own ∙ g.beside ∙ ap beside_in own_was;
     wanted = ap (wanted_by old.number) seen ∙ g.wanted ∙ wanted_seen old.number old.seen before.marks has;
   }
 
-  pub pass_ends : (call most : ℕ) (told : Answer) → EndsIn old.number call most before after told → HasEnded call (rounds_after (own_part before old.number)) most old new told
-  pass_ends call most told e =
+  pub pass_ends : (call most : ℕ) (told : Answer) → IsFree (beside_in (own_part before old.number)) → EndsIn old.number call most before after told → HasEnded call (rounds_after (own_part before old.number)) most old new told
+  pass_ends call most told alone e =
       let ended : Mark = Ended old.number call (rounds_after (own_part before old.number)) told in
       record {
         marks = mine old.number e.marks;
@@ -108,7 +112,7 @@ module _ {S V A : Type 0} (before after : View S V) (old new : Sitting A Mark) (
         last = last_then e.marks ended e.makes;
         of_call = e.of_call;
         few = e.few;
-        is_free = free_then e.is_free;
+        is_free = free_then (e.is_free alone);
       }
 
   pub pass_strays : StraysIn before after → GoesOn old.number old.seen new.seen []
@@ -148,17 +152,17 @@ held_known n number call before own same part has kept = open_known before n cal
 module _ {S V : Type 0} (n : ℕ) (before after : View S V) (key : List ℕ) (program : List Clause) where
   pub begun_makes : (result : Result Opened Answer) → IfOk result (λ begun. BeginsIn n begun.call key program before after) → IfErr result (BeginsNot n key program before after) → IsHeldBy n before after
   begun_makes (Ok begun) b e = (_, b.makes)
-  begun_makes (Err told) b (deeds.ends_at_once call rounds makes free no_conflict) = (_, makes)
-  begun_makes (Err told) b (deeds.is_refused refusal makes free) = (_, makes)
+  begun_makes (Err told) b (deeds.ends_at_once call rounds makes leaves no_conflict) = (_, makes)
+  begun_makes (Err told) b (deeds.is_refused refusal makes leaves) = (_, makes)
 
 module _ {S V A : Type 0} (n : ℕ) (before after : View S V) (key : List ℕ) (program : List Clause) where
-  pub begun_told : (old new : Sitting A Mark) (result : Result Opened Answer) → WasHeld n before after old new → IfOk result (λ begun. BeginsIn n begun.call key program before after) → IfOk result (λ begun. HasBegun begun.call key program old new)
-  begun_told old new (Ok begun) was b = pass_begins before after old new was.has was.seen was.own begun.call key program (subst (λ (k : ℕ). BeginsIn k begun.call key program before after) was.number b)
-  begun_told old new (Err told) was b = tt
+  pub begun_told : (old new : Sitting A Mark) (result : Result Opened Answer) → WasHeld n before after old new → own_part before old.number ≡ old.own → IfOk result (λ begun. BeginsIn n begun.call key program before after) → IfOk result (λ begun. HasBegun begun.call key program old new)
+  begun_told old new (Ok begun) was own_was b = pass_begins before after old new was.has was.seen was.own begun.call key program own_was (subst (λ (k : ℕ). BeginsIn k begun.call key program before after) was.number b)
+  begun_told old new (Err told) was own_was b = tt
 
-  pub refused_told : (old new : Sitting A Mark) (result : Result Opened Answer) → WasHeld n before after old new → IfErr result (BeginsNot n key program before after) → IfErr result (HasNotBegun key program old new)
-  refused_told old new (Ok begun) was e = tt
-  refused_told old new (Err told) was e = pass_begins_not before after old new was.has was.seen was.own key program told (subst (λ (k : ℕ). BeginsNot k key program before after told) was.number e)
+  pub refused_told : (old new : Sitting A Mark) (result : Result Opened Answer) → WasHeld n before after old new → IsFree (own_part before old.number) → IfErr result (BeginsNot n key program before after) → IfErr result (HasNotBegun key program old new)
+  refused_told old new (Ok begun) was free e = tt
+  refused_told old new (Err told) was free e = pass_begins_not before after old new was.has was.seen was.own key program told free (subst (λ (k : ℕ). BeginsNot k key program before after told) was.number e)
 
 module _ {S V Stage : Type 0} (n call most : ℕ) (before after : View S V) where
   pub gone_makes : (result : Result Stage Answer) → OnOk result (GoesOnIn n call most before after) → IfErr result (EndsIn n call most before after) → IsHeldBy n before after
@@ -166,15 +170,15 @@ module _ {S V Stage : Type 0} (n call most : ℕ) (before after : View S V) wher
   gone_makes (Err told) g e = (_, e.makes)
 
 module _ {S V A Stage : Type 0} (n call most : ℕ) (before after : View S V) where
-  pub gone_told : (old new : Sitting A Mark) (result : Result Stage Answer) → WasHeld n before after old new → OnOk result (GoesOnIn n call most before after) → OnOk result (HasGoneOn call most old new)
-  gone_told old new (Ok stage) was g = pass_goes_on before after old new was.has was.seen was.own call most (subst (λ (k : ℕ). GoesOnIn k call most before after) was.number g)
-  gone_told old new (Err told) was g = tt
+  pub gone_told : (old new : Sitting A Mark) (result : Result Stage Answer) → WasHeld n before after old new → own_part before old.number ≡ old.own → OnOk result (GoesOnIn n call most before after) → OnOk result (HasGoneOn call most old new)
+  gone_told old new (Ok stage) was own_was g = pass_goes_on before after old new was.has was.seen was.own call most own_was (subst (λ (k : ℕ). GoesOnIn k call most before after) was.number g)
+  gone_told old new (Err told) was own_was g = tt
 
-  pub ended_told : (old new : Sitting A Mark) (result : Result Stage Answer) → WasHeld n before after old new → own_part before old.number ≡ old.own → IfErr result (EndsIn n call most before after) → IfErr result (HasEnded call (rounds_after old.own) most old new)
-  ended_told old new (Ok stage) was own_was e = tt
-  ended_told old new (Err told) was own_was e =
+  pub ended_told : (old new : Sitting A Mark) (result : Result Stage Answer) → WasHeld n before after old new → own_part before old.number ≡ old.own → IsFree (beside_in old.own) → IfErr result (EndsIn n call most before after) → IfErr result (HasEnded call (rounds_after old.own) most old new)
+  ended_told old new (Ok stage) was own_was alone e = tt
+  ended_told old new (Err told) was own_was alone e =
       subst (λ (own : List ℕ). HasEnded call (rounds_after own) most old new told) own_was
-      (pass_ends before after old new was.has was.seen was.own call most told (subst (λ (k : ℕ). EndsIn k call most before after told) was.number e))
+      (pass_ends before after old new was.has was.seen was.own call most told (subst (λ (l : List ℕ). IsFree (beside_in l)) (sym own_was) alone) (subst (λ (k : ℕ). EndsIn k call most before after told) was.number e))
 
   pub rounds_told : (old new : Sitting A Mark) (result : Result Stage Answer) → WasHeld n before after old new → own_part before old.number ≡ old.own → OnOk result (GoesOnIn n call most before after) → OnOk result (rounds_in new.own ≡ rounds_after old.own)
   rounds_told old new (Ok stage) was own_was g = ap rounds_in was.own ∙ (subst (λ (k : ℕ). GoesOnIn k call most before after) was.number g).rounds ∙ ap rounds_after own_was
@@ -237,6 +241,7 @@ module _ {A : Type 0} (call lost most : ℕ) (a b c d : Sitting A Mark) (number 
     of_call = All-append (λ mark. call_of mark ≡ Some call) first.marks then_.marks first.of_call then_.of_call;
     few = few_then first.marks then_.marks lost most first.few then_.few;
     is_open = then_.is_open;
+    beside = then_.beside ∙ ap (λ (s : Sitting A Mark). beside_in s.own) asked ∙ first.beside;
     wanted = ap (λ (k : ℕ). wanted_by k d.seen) (sym at_first) ∙ then_.wanted ∙ ap (λ (k : ℕ). wanted_by k c.seen) (at_first ∙ sym number) ∙ wants_same ∙ ap (λ (k : ℕ). wanted_by k b.seen) number ∙ first.wanted;
   }
 
@@ -259,6 +264,7 @@ goes_on_none call pass has = record {
   of_call = All-nil (λ mark. call_of mark ≡ Some call);
   few = omega arith;
   is_open = has;
+  beside = refl;
   wanted = refl;
 }
 
@@ -290,6 +296,9 @@ module _ {A : Type 0} (call harms harms_now : ℕ) (a b c : Sitting A Mark) (run
 
   pub asked_open : HasOpen call c.own
   asked_open = subst (HasOpen call) (sym (ap (λ (s : Sitting A Mark). s.own) asked)) run.gone.is_open
+
+  pub asked_alone : IsFree (beside_in a.own) → IsFree (beside_in c.own)
+  asked_alone alone = subst IsFree (sym (ap (λ (s : Sitting A Mark). beside_in s.own) asked ∙ run.gone.beside)) alone
 
   number_b : b.number ≡ a.number
   number_b = ap (λ (s : Sitting A Mark). s.number) run.pass
@@ -369,3 +378,9 @@ module _ {A : Type 0} (key : List ℕ) (program : List Clause) (harms harms_then
   pub change_refused : (tries : ℕ) (a c : Sitting A Mark) (told : Answer) → IsCounted 0 harms harms_then → HasNotBegun key program a c told → Answers key program tries harms harms_then a c told
   change_refused tries a c told counted (changes.ends_at_once call rounds front last free no_conflict) = changes.is_answered call rounds [] front (All-nil (λ mark. call_of mark ≡ Some call)) counted last (λ conflict. absurd (cc (no_conflict, conflict)))
   change_refused tries a c told counted (changes.is_refused refusal front free) = changes.is_not_begun refusal counted front
+
+-- one that the store does not know begins nothing
+pub never_begun : {S V : Type 0} (n : ℕ) (key : List ℕ) (program : List Clause) (view : View S V) → 0 < n → IsFree (own_part view n) → BeginsNot n key program view view (answer.NoMemory false)
+never_begun n key program view some free = deeds.is_refused (inr refl)
+    (record { made = sym (append-nil view.marks); may_add = tt; owned = All-nil (λ i. (m : ℕ) → owner_of i ≡ Some m → m ≡ n); others = λ m other. refl })
+    (record { rescans = calls.is_none (λ of. absurd (let first_ : n ≡ 0 = of.by_operator in omega (arith, first_, some))) refl; is_idle = free_is_idle (own_part view n) free; is_free = λ still. still })

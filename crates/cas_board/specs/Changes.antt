@@ -8,7 +8,7 @@ use Rattle.cas_turn.specs.Sitting.{Sitting}
 use Rattle.cas_hold.specs.Conflicts.{is_conflict}
 use Rattle.cas_hold.specs.Deeds.{IsRefusal}
 use Rattle.cas_hold.specs.Mine.{AreOfCall, losses, wants, wanted_by, GoesOn, IsLast}
-use Rattle.cas_hold.specs.Open.{IsFree, HasOpen, rounds_in, is_met_in}
+use Rattle.cas_hold.specs.Open.{IsFree, HasOpen, beside_in, rounds_in, is_met_in}
 
 -- ---- harms
 -- a fate's count of harms did not fall, and rose by at least so much unless it stands at the greatest u64
@@ -27,6 +27,7 @@ module _ {V : Type 0} where
     pub is_open : HasOpen call new.own
     pub first : rounds_in new.own ≡ 1
     pub unmet : is_met_in new.own ≡ false
+    pub beside : beside_in new.own ≡ old.own
     pub wanted : wanted_by old.number new.seen ≡ Some (wants call key program)
 
   -- a call for this begins and ends at once, which is no conflict; or it is not begun, and no mark is made
@@ -41,6 +42,7 @@ module _ {V : Type 0} where
     pub of_call : AreOfCall call marks
     pub few : losses marks ≤ most
     pub is_open : HasOpen call new.own
+    pub beside : beside_in new.own ≡ beside_in old.own
     pub wanted : wanted_by old.number new.seen ≡ wanted_by old.number old.seen
 
   -- it has ended after so many rounds with this answer, which the front's last mark tells

@@ -26,6 +26,8 @@ use std::marker::Model;
 /// A board is not dropped: [`Board::close`] takes it apart.
 pub struct Board<D: Disk> {
     pub(crate) turn: Turn<Shared<D>>,
+    /// What the memory of the operator's calls comes from.
+    pub(crate) alloc: Global,
 }
 
 impl<D: Disk> Model for Board<D> {
@@ -78,7 +80,7 @@ impl<D: Disk> Board<D> {
         };
         let callers = u32::from(config.proposers) + 1;
         match Turn::new(alloc, shared, callers) {
-            Ok((turn, passes)) => Ok((Board { turn }, passes)),
+            Ok((turn, passes)) => Ok((Board { turn, alloc }, passes)),
             Err((_, shared)) => Err((OpenFault::NoMemory, shared.into_closed().rack)),
         }
     }
@@ -121,7 +123,7 @@ impl<D: Disk> Board<D> {
         ensures all_acceptors { vec_len result.rack.acceptors ≡ 64 }
         ensures all_vaults { vec_len result.rack.vaults ≡ 17 }
     {
-        let Board { turn } = self;
+        let Board { turn, alloc: _ } = self;
         turn.close(passes).into_closed()
     }
 }

@@ -8,7 +8,7 @@ ghost use Rattle.cas_hold.specs.Deeds.{BeginsIn, BeginsNot, harm_by};
 ghost use Rattle.cas_hold.specs.Mine.{GoesOn, wanted_by, wants};
 ghost use Rattle.cas_hold.specs.OwnParts.{own_part};
 ghost use Rattle.cas_hold.specs.Conflicts.{is_conflict};
-ghost use Rattle.cas_hold.specs.Open.{HasOpen, IsFree, is_met_in, rounds_after, rounds_in};
+ghost use Rattle.cas_hold.specs.Open.{HasOpen, IsFree, is_met_in, rounds_after, rounds_in, beside_in};
 ghost use Rattle.cas_hold.specs.Stages.{tells_met};
 ghost use Rattle.cas_board.specs.Passes.{IsPassOf};
 
@@ -68,6 +68,7 @@ impl<D: Disk> Board<D> {
     ) -> Answer
         requires pass { IsPassOf self.now.id pass.old }
         requires called { HasOpen begun.call pass.old.own }
+        requires alone { IsFree (beside_in pass.old.own) }
         requires wanted { wanted_by pass.old.number pass.old.seen ≡ Some (wants begun.call key.now program.now) }
         requires some { 1 ≤ tries }
         requires first { rounds_in pass.old.own ≡ 1 }
@@ -94,7 +95,7 @@ impl<D: Disk> Board<D> {
     }
 
     /// What becomes of the frame that waits, if one does.
-    fn verdict_at<R: Wait, F: Fate>(
+    pub(crate) fn verdict_at<R: Wait, F: Fate>(
         &self,
         rt: &R,
         pass: &mut Pass<D>,
@@ -150,6 +151,7 @@ impl<D: Disk> Board<D> {
     ) -> Result<Stage, Answer>
         requires pass { IsPassOf self.now.id pass.old }
         requires called { HasOpen call pass.old.own }
+        requires alone { IsFree (beside_in pass.old.own) }
         requires wanted { wanted_by pass.old.number pass.old.seen ≡ Some (wants call key.now program.now) }
         ensures pass { pass.new ≡ record pass.old { seen = pass.new.seen; own = pass.new.own } }
         ensures goes_on { OnOk result (HasGoneOn call (harm_by verdict) pass.old pass.new) }
@@ -188,7 +190,7 @@ fn begin_known<D: Disk>(
 }
 
 /// How many rounds the call has had once it goes on from that stage.
-fn rounds_with(rounds: u32, stage: &Stage) -> u32
+pub(crate) fn rounds_with(rounds: u32, stage: &Stage) -> u32
     ensures { result ≡ (if tells_met stage.now then one_more rounds else rounds) }
 {
     match stage {

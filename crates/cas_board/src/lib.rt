@@ -11,6 +11,7 @@
 mod board;
 mod change;
 mod fates;
+mod membership;
 mod phases;
 mod probing;
 mod shared;

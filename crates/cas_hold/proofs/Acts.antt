@@ -79,6 +79,17 @@ part_same old new (suc m) callers council = ap caller_part callers
 pub makes_of : {S V : Type 0} (n : ℕ) (old new : View S V) (marks : List Mark) → Acts n old new marks → MayAdd marks → OnlyOwnedBy owner_of n marks → Makes n old new marks
 makes_of n old new marks acts may only = record { made = acts.made; may_add = may; owned = only; others = λ m other. part_same old new m (acts.callers.others m other) acts.council }
 
+-- where it changes what the operator has under way, that is as if it had been so before
+pub acts_aside : {S V : Type 0} (n : ℕ) (old new : View S V) (council : Council) (marks : List Mark) → Acts n old new marks → Acts n (record old { council = council }) (record new { council = council }) marks
+acts_aside n old new council marks acts = record { greatest = acts.greatest; desks = acts.desks; callers = acts.callers; council = refl; made = acts.made }
+
+pub makes_aside : {S V : Type 0} (n : ℕ) (old new : View S V) (marks : List Mark) → Acts n (record old { council = new.council }) new marks → MayAdd marks → OnlyOwnedBy owner_of n marks → (n ≢ 0 → new.council ≡ old.council) → Makes n old new marks
+makes_aside {S} {V} n old new marks acts may only council = record { made = acts.made; may_add = may; owned = only; others = others }
+  where
+    others : (m : ℕ) → m ≢ n → own_part new m ≡ own_part old m
+    others zero other = part_same old new zero (acts.callers.others zero other) (council (λ is. other (sym is)))
+    others (suc m) other = ap caller_part (acts.callers.others (suc m) other)
+
 -- ---- what is kept
 -- what is kept of the caller itself
 pub record OwnKept {S V : Type 0} (n : ℕ) (view : View S V) : Type 0 where
@@ -135,3 +146,7 @@ kept_by {S} {V} n old new marks acts only was own = record {
       | inl same ↦ subst (λ (p : ℕ). IsWanted p caller call new.marks) (sym same) (own.wanted caller call (subst (λ (p : ℕ). IsAt new.callers p caller) same at_caller) is_call)
       | inr other ↦ wanted_of_others n id old.marks new.marks marks other acts.made only ∙ was.wanted id caller call (sym (acts.callers.others id other) ∙ at_caller) is_call
     ]
+
+pub kept_aside : {S V : Type 0} (n : ℕ) (old new : View S V) (marks : List Mark) → Acts n (record old { council = new.council }) new marks → OnlyOwnedBy owner_of n marks → IsKept old → OwnKept n new → IsKept new
+kept_aside n old new marks acts only was own =
+    kept_by n (record old { council = new.council }) new marks acts only (record { places = record { desks = was.places.desks; callers = was.places.callers }; staged = was.staged; wanted = was.wanted }) own

@@ -3,11 +3,12 @@ use Rattle.std.proofs.Common.{◌≡◌, ◌≢◌, ℕ, if◌then◌else◌, Li
 use Rattle.cas_record.specs.declared.operator.Asked.{Asked}
 use Rattle.cas_record.specs.declared.operator.Asked.TheVariants as asked
 use Rattle.cas_record.specs.declared.operator.OpAnswer.{OpAnswer}
+use Rattle.cas_calls.specs.Council.{due_key}
 use Rattle.cas_cluster.specs.Collection.{CollectionView}
-use Rattle.cas_cluster.specs.Council.{Question, Probe, NextKeys, NewAges, Removal, ExchangeView, OrderView, PlanView, Council}
+use Rattle.cas_cluster.specs.Council.{MemberPlace, Question, Probe, NextKeys, NewAges, Removal, ExchangeView, OrderView, PlanView, Council}
 use Rattle.cas_cluster.specs.View.{View, CallView, CallerView, IsAt}
 use Rattle.cas_cluster.proofs.Places.{some_is}
-use Rattle.cas_hold.specs.OwnParts.{framed, open_part, caller_part, asked_part, question_part, asked_of, order_part, exchange_part, plan_part, collection_part, council_part, own_part}
+use Rattle.cas_hold.specs.OwnParts.{framed, open_part, caller_part, asked_part, due_part, question_part, asked_of, order_part, exchange_part, plan_part, collection_part, council_part, own_part}
 use Rattle.cas_hold.specs.Open.{IsFree}
 use Rattle.cas_hold.specs.Orders.{new_order, HasOrder, HasProbe}
 
@@ -32,7 +33,7 @@ body_same : (kind : ℕ) (p q : List ℕ) → framed kind p ≡ framed kind q �
 body_same kind p q e = cc e
 
 -- which part stands first, if any does
-abbrev kind_of : List ℕ → ℕ
+abbrev pub kind_of : List ℕ → ℕ
 kind_of [] = 9
 kind_of (x ∷ xs) = x
 
@@ -65,7 +66,7 @@ exchange_as_part None = refl
 exchange_as_part (Some exchange) = refl
 
 plan_body : PlanView → List ℕ
-plan_body plan = length plan.progress.left ∷ plan.entered ∷ asked_part plan.asked
+plan_body plan = length plan.progress.left ∷ plan.entered ∷ length (asked_part plan.asked) ∷ asked_part plan.asked ++ due_part (due_key plan)
 
 plan_as_part : (p : Option PlanView) → plan_part p ≡ part_of 3 (option_map plan_body p)
 unfolding plan_body
@@ -179,6 +180,33 @@ exchange_told (Some now) exchange e =
     let both = append_same (asked_of now) (asked_of exchange) (question_part now.question) (question_part exchange.question) long (cc body) in
     record { now = now; is_open = refl; asked = both.0; question = both.1 }
 
+-- a change of membership for the same, with the same key due
+pub record IsLikePlan (open_ : Option PlanView) (plan : PlanView) : Type 0 where
+  pub now : PlanView
+  pub is_plan : open_ ≡ Some now
+  pub asked : now.asked ≡ plan.asked
+  pub due : due_key now ≡ due_key plan
+
+due_same : (a b : Option (List ℕ)) → due_part a ≡ due_part b → a ≡ b
+due_same None None e = refl
+due_same None (Some b) e = absurd (cc e)
+due_same (Some a) None e = absurd (cc e)
+due_same (Some a) (Some b) e = let same : a ≡ b = cc e in ap (λ (k : List ℕ). Some k) same
+
+pub plan_told : (p : Option PlanView) (plan : PlanView) → plan_part p ≡ plan_part (Some plan) → IsLikePlan p plan
+plan_told None plan e = absurd (let h : 9 ≡ 3 = ap kind_of e in omega (arith, h))
+plan_told (Some now) plan e =
+    let body : length now.progress.left ∷ now.entered ∷ length (asked_part now.asked) ∷ asked_part now.asked ++ due_part (due_key now) ≡ length plan.progress.left ∷ plan.entered ∷ length (asked_part plan.asked) ∷ asked_part plan.asked ++ due_part (due_key plan) = body_same 3 _ _ e in
+    let long : length (asked_part now.asked) ≡ length (asked_part plan.asked) = cc body in
+    let both = append_same (asked_part now.asked) (asked_part plan.asked) (due_part (due_key now)) (due_part (due_key plan)) long (cc body) in
+    record { now = now; is_plan = refl; asked = asked_same now.asked plan.asked both.0; due = due_same (due_key now) (due_key plan) both.1 }
+
+pub listing_told : (q : Question) → question_part q ≡ 1 ∷ [] → (places : List MemberPlace) × (q ≡ NextKeys places)
+listing_told (Probe k) e = absurd (let h : 0 ≡ 1 = ap kind_of e in omega (arith, h))
+listing_told (NextKeys places) e = (places, refl)
+listing_told (NewAges k least) e = absurd (let h : 2 ≡ 1 = ap kind_of e in omega (arith, h))
+listing_told (Removal k) e = absurd (let h : 3 ≡ 1 = ap kind_of e in omega (arith, h))
+
 pub probe_told : (q : Question) (key : List ℕ) → question_part q ≡ 0 ∷ key → q ≡ Probe key
 probe_told (Probe k) key e = let same : k ≡ key = cc e in ap Probe same
 probe_told (NextKeys places) key e = absurd (let h : 1 ≡ 0 = ap kind_of e in omega (arith, h))
@@ -186,7 +214,7 @@ probe_told (NewAges k least) key e = absurd (let h : 2 ≡ 0 = ap kind_of e in o
 probe_told (Removal k) key e = absurd (let h : 3 ≡ 0 = ap kind_of e in omega (arith, h))
 
 -- ---- caller 0's own part
-no_call_kind : (c : Council) → kind_of (council_part c) ≢ 0
+pub no_call_kind : (c : Council) → kind_of (council_part c) ≢ 0
 no_call_kind c e = by_parts c.order c.exchange c.plan c.collection e
   where
     by_parts : (o : Option OrderView) (x : Option ExchangeView) (p : Option PlanView) (k : Option CollectionView) → kind_of (order_part o ++ exchange_part x ++ plan_part p ++ collection_part k) ≡ 0 → ⊥
@@ -205,7 +233,7 @@ no_call_in : (number : ℕ) (call : Option CallView) (rest : List ℕ) (council 
 no_call_in number None rest council e = (refl, e)
 no_call_in number (Some call) rest council e = absurd (no_call_kind council (sym (ap kind_of e)))
 
-no_call_of : (o : Option CallerView) (rest : List ℕ) (council : Council) → caller_part o ++ rest ≡ council_part council → ((caller : CallerView) → o ≡ Some caller → caller.call ≡ None) × (rest ≡ council_part council)
+pub no_call_of : (o : Option CallerView) (rest : List ℕ) (council : Council) → caller_part o ++ rest ≡ council_part council → ((caller : CallerView) → o ≡ Some caller → caller.call ≡ None) × (rest ≡ council_part council)
 no_call_of None rest council e = (λ caller is. absurd (cc is), e)
 no_call_of (Some one) rest council e = let parts = no_call_in one.number one.call rest council e in (λ caller is. ap (λ (c : CallerView). c.call) (sym (some_is is)) ∙ parts.0, parts.1)
 
@@ -221,7 +249,7 @@ pub own_is_council : {S V : Type 0} (view : View S V) → ((caller : CallerView)
 own_is_council view none = own_alone (slice_get view.callers 0) (council_part view.council) none
 
 -- ---- nothing is open
-abbrev with_plan : Option PlanView → Council
+abbrev pub with_plan : Option PlanView → Council
 with_plan plan = record { order = None; exchange = None; plan = plan; collection = None; used = [] }
 
 pub record IsIdle {S V : Type 0} (view : View S V) : Type 0 where

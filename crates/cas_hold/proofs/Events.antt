@@ -178,10 +178,10 @@ goes_on_set {S} {V} n most old new caller call next marks at greatest desks call
   told = λ desk at_desk some unmet. told desk at_desk some;
 }
 
-desks_same : {S V : Type 0} (n : ℕ) (old new : View S V) → new.desks ≡ old.desks → SparesRounds n old.desks new.desks
+pub desks_same : {S V : Type 0} (n : ℕ) (old new : View S V) → new.desks ≡ old.desks → SparesRounds n old.desks new.desks
 desks_same n old new same = spares_rounds n old.desks new.desks (spares_same n old.desks new.desks same)
 
-desks_set : {S V : Type 0} (n : ℕ) (old new : View S V) (now : DeskView V) → new.desks ≡ slice_set old.desks n now → SparesRounds n old.desks new.desks
+pub desks_set : {S V : Type 0} (n : ℕ) (old new : View S V) (now : DeskView V) → new.desks ≡ slice_set old.desks n now → SparesRounds n old.desks new.desks
 desks_set n old new now same = spares_rounds n old.desks new.desks (spares_set n old.desks new.desks now same)
 
 -- a turn of its first frame
@@ -299,20 +299,28 @@ count_is_over {S} {V} m n most old new by = in_phase by.at_round.of_call by.at_r
         }
 
 -- ---- a call ends
--- the operator has no call open, of which this could be a step
-quiet_rescans : (id : ℕ) (old new : Council) (key : List ℕ) (told : Answer) → (id ≡ 0 → old.order ≡ None) → calls.Rescans old id key told new → new ≡ old
+-- where the operator has no call open this is no step of it, nor where it is not caller 0's
+pub quiet_rescans : (id : ℕ) (old new : Council) (key : List ℕ) (told : Answer) → (id ≡ 0 → old.order ≡ None) → calls.Rescans old id key told new → new ≡ old
 quiet_rescans id old new key told quiet (calls.rescans of done same) = absurd (cc (sym (quiet of.by_operator) ∙ of.is_open))
 quiet_rescans id old new key told quiet (calls.stops of not_done same) = absurd (cc (sym (quiet of.by_operator) ∙ of.is_open))
 quiet_rescans id old new key told quiet (calls.is_none none same) = same
 
+-- no exchange begins or ends by it
+pub rescans_unasked : (id : ℕ) (old new : Council) (key : List ℕ) (told : Answer) → calls.Rescans old id key told new → new.exchange ≡ old.exchange
+rescans_unasked id old new key told (calls.rescans of done same) = ap (λ (k : Council). k.exchange) same
+rescans_unasked id old new key told (calls.stops of not_done same) = ap (λ (k : Council). k.exchange) same
+rescans_unasked id old new key told (calls.is_none none same) = ap (λ (k : Council). k.exchange) same
+
 pub record CallEnds {S V : Type 0} (n : ℕ) (old new : View S V) (caller : CallerView) (call : CallView) (told : Answer) : Type 0 where
-  pub acts : Acts n old new (Ended n caller.number call.rounds told ∷ [])
+  pub acts : Acts n (record old { council = new.council }) new (Ended n caller.number call.rounds told ∷ [])
+  pub rescans : calls.Rescans old.council n call.key told new.council
   pub at_next : IsAt new.callers n (record caller { call = None })
 
-pub end_ends : {S V : Type 0} (m : Meaning S V) (n : ℕ) (told : Answer) (old new : View S V) → (n ≡ 0 → old.council.order ≡ None) → (by : StepEnd m old n told new) → CallEnds n old new by.of_call.caller by.of_call.call told
-end_ends {S} {V} m n told old new quiet by = record {
-  acts = acts_set n old new (record by.of_call.caller { call = None }) _ (ap (λ (w : View S V). w.greatest) by.ends.view) (desks_set n old new by.ends.now (ap (λ (w : View S V). w.desks) by.ends.view)) (ap (λ (w : View S V). w.callers) by.ends.view)
-      (ap (λ (w : View S V). w.council) by.ends.view ∙ quiet_rescans n old.council by.ends.council by.of_call.call.key told quiet by.ends.rescans) (ap (λ (w : View S V). w.marks) by.ends.view);
+pub end_ends : {S V : Type 0} (m : Meaning S V) (n : ℕ) (told : Answer) (old new : View S V) (by : StepEnd m old n told new) → CallEnds n old new by.of_call.caller by.of_call.call told
+end_ends {S} {V} m n told old new by = record {
+  acts = acts_set n (record old { council = new.council }) new (record by.of_call.caller { call = None }) _ (ap (λ (w : View S V). w.greatest) by.ends.view) (desks_set n (record old { council = new.council }) new by.ends.now (ap (λ (w : View S V). w.desks) by.ends.view)) (ap (λ (w : View S V). w.callers) by.ends.view)
+      refl (ap (λ (w : View S V). w.marks) by.ends.view);
+  rescans = subst (calls.Rescans old.council n by.of_call.call.key told) (sym (ap (λ (w : View S V). w.council) by.ends.view)) by.ends.rescans;
   at_next = subst (λ (w : View S V). IsAt w.callers n (record by.of_call.caller { call = None })) (sym by.ends.view) (at_set old.callers n by.of_call.caller (record by.of_call.caller { call = None }) by.of_call.at_caller);
 }
 
@@ -521,23 +529,23 @@ again_goes_on {S} {V} m n most key program old new caller call at is by = by_ope
         }
 
 -- a call is not begun
-pub refused_acts : {S V : Type 0} (m : Meaning S V) (n : ℕ) (key : List ℕ) (old new : View S V) → (n ≡ 0 → old.council.order ≡ None) → calls.RefusesCall m old n key new → Acts n old new [] × (new.callers ≡ old.callers)
-refused_acts {S} {V} m n key old new quiet (calls.stays told council refusal anew same) = (
+pub refused_acts : {S V : Type 0} (m : Meaning S V) (n : ℕ) (key : List ℕ) (old new : View S V) → calls.RefusesCall m old n key new → Acts n (record old { council = new.council }) new [] × (new.callers ≡ old.callers)
+refused_acts {S} {V} m n key old new (calls.stays told council refusal anew same) = (
   record {
     greatest = ap (λ (w : View S V). w.greatest) same;
     desks = desks_same n old new (ap (λ (w : View S V). w.desks) same);
     callers = spares_same n old.callers new.callers (ap (λ (w : View S V). w.callers) same);
-    council = ap (λ (w : View S V). w.council) same ∙ quiet_rescans n old.council council key told quiet anew;
+    council = refl;
     made = ap (λ (w : View S V). w.marks) same ∙ sym (append-nil old.marks);
   },
   ap (λ (w : View S V). w.callers) same,
 )
-refused_acts {S} {V} m n key old new quiet (calls.loses caller desk now ballot council at_caller at_desk no_round up loses anew same) = (
+refused_acts {S} {V} m n key old new (calls.loses caller desk now ballot council at_caller at_desk no_round up loses anew same) = (
   record {
     greatest = ap (λ (w : View S V). w.greatest) same;
     desks = desks_set n old new now (ap (λ (w : View S V). w.desks) same);
     callers = spares_same n old.callers new.callers (ap (λ (w : View S V). w.callers) same);
-    council = ap (λ (w : View S V). w.council) same ∙ quiet_rescans n old.council council key (answer.NoMemory false) quiet anew;
+    council = refl;
     made = ap (λ (w : View S V). w.marks) same ∙ sym (append-nil old.marks);
   },
   ap (λ (w : View S V). w.callers) same,

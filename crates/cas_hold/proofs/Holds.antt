@@ -1,5 +1,5 @@
 -- What a hold does for a caller's call, by what its calls on the world do.
-use Rattle.std.proofs.Common.{◌≡◌, ◌≤◌, ℕ, suc, Bool, true, false, if◌then◌else◌, List, [], ◌∷◌, ◌++◌, Option, None, Some, IsSome, slice_get, slice_set, length, inl, inr, refl, sym, ap, ap₂, subst, ◌∙◌, append-nil, arith}
+use Rattle.std.proofs.Common.{◌≡◌, ◌≤◌, ℕ, zero, suc, Bool, true, false, if◌then◌else◌, List, [], ◌∷◌, ◌++◌, Option, None, Some, IsSome, slice_get, slice_set, length, inl, inr, refl, sym, ap, ap₂, subst, ◌∙◌, append-nil, arith}
 use Rattle.std.specs.Prelude.{IfSome, option_map, is_some, Result, Ok, Err, OnOk, OnErr, IfErr}
 use Rattle.std.proofs.lemmas.List.Elements.{All-append, All-nil, All-cons, All-head}
 use Rattle.cas_change.specs.declared.program.Clause.{Clause}
@@ -24,16 +24,17 @@ use Rattle.cas_world.specs.Readers.{next_number}
 use Rattle.cas_world.specs.Reading.{HasProposed}
 use Rattle.cas_world.specs.World.{WasTold}
 use Rattle.cas_hold.specs.Conflicts.{is_conflict, told_conflict}
-use Rattle.cas_hold.specs.Deeds.{BeginsIn, IsRefusal, BeginsNot, ends_at_once, is_refused, GoesOnIn, EndsIn, StraysIn, harm_by}
+use Rattle.cas_hold.specs.Deeds.{BeginsIn, IsRefusal, LeavesIdle, BeginsNot, ends_at_once, is_refused, GoesOnIn, EndsIn, StraysIn, harm_by}
 use Rattle.cas_hold.specs.Kept.{IsStaged, running, IsKept, Makes}
 use Rattle.cas_hold.specs.Mine.{mine, call_of, AreOfCall, losses, Wanted, wants, wanted_after, wanted_by}
 use Rattle.cas_hold.specs.Owners.{owner_of}
-use Rattle.cas_hold.specs.OwnParts.{own_part}
-use Rattle.cas_hold.specs.Open.{IsFree, HasOpen, rounds_after}
-use Rattle.cas_hold.proofs.Acts.{Acts, acts_then, spares_same, spares_rounds, part_same, makes_of, OwnKept, was_desk, staged_same, kept_by}
-use Rattle.cas_hold.proofs.Events.{Fine, fine_none, CallGoesOn, CallIsOver, LetsIn, end_ends, stray_lets_in, refused_stray_lets_in, first_begins, again_goes_on, over_where_told, turn_goes_on, refused_turn_goes_on, propose_goes_on, count_is_over, refused_acts}
+use Rattle.cas_hold.specs.OwnParts.{plan_part, council_part, own_part}
+use Rattle.cas_hold.specs.Open.{IsFree, IsIdle, HasOpen, rounds_after}
+use Rattle.cas_hold.proofs.Acts.{Acts, acts_then, acts_aside, makes_aside, kept_aside, spares_same, spares_rounds, part_same, makes_of, OwnKept, was_desk, staged_same, kept_by}
+use Rattle.cas_hold.proofs.Events.{Fine, fine_none, CallGoesOn, CallIsOver, LetsIn, quiet_rescans, rescans_unasked, end_ends, stray_lets_in, refused_stray_lets_in, first_begins, again_goes_on, over_where_told, turn_goes_on, refused_turn_goes_on, propose_goes_on, count_is_over, refused_acts}
 use Rattle.cas_hold.proofs.Fronts.{wanted_append}
-use Rattle.cas_hold.proofs.Parts.{open_at, open_quiet, free_quiet, free_call, stays_open, is_open_then, is_closed_then, stays_free, rounds_part, met_part, after_part}
+use Rattle.cas_hold.proofs.Councils.{is_like, no_order, with_plan}
+use Rattle.cas_hold.proofs.Parts.{rest_of, rest_same, open_at, open_quiet, idle_quiet, idle_call, stays_open, is_open_then, own_closed, now_idle, now_free, beside_part, rounds_part, met_part, after_part}
 use Rattle.cas_hold.proofs.Stages.{NextAt, next_at, IsRunning, running_call, runs_there, met_told, turn_running, proposed_running, propose_met}
 
 -- ---- calls that go on
@@ -76,6 +77,8 @@ goes_on_in {S} {V} n call most old new caller was entered at is enters has kept 
         few = goes.fine.few;
         is_open = stays_open old new n call has goes.acts.council next_caller goes.next goes.at_next number refl;
         rounds = rounds_part new n next_caller goes.next goes.at_next refl ∙ goes.rounds ∙ enters.rounds ∙ sym (after_part old n caller was at is);
+        beside = beside_part new n next_caller goes.next goes.at_next refl ∙ rest_same old new n goes.acts.council ∙ sym (beside_part old n caller was at is);
+        council = goes.acts.council;
         wanted = wanted;
       };
       kept = kept_by n old new goes.marks goes.acts goes.fine.only kept (record {
@@ -109,6 +112,13 @@ over_at_once n most old caller was at is = record {
   may_end = λ rounds told. (tt, tt);
 }
 
+-- the end of a call leaves nothing open where nothing was beside it
+free_rest : {S V : Type 0} (n : ℕ) (key : List ℕ) (told : Answer) (old new : View S V) → calls.Rescans old.council n key told new.council → IsFree (rest_of old n) → IsFree (rest_of new n)
+free_rest zero key told old new then_ free =
+    let none : old.council.order ≡ None = no_order old.council.order (is_like old.council (with_plan free.plan) (free.is ∙ sym (append-nil (plan_part free.plan)))).order in
+    record { plan = free.plan; is = ap council_part (quiet_rescans 0 old.council new.council key told (λ first_. none) then_) ∙ free.is }
+free_rest (suc n) key told old new then_ free = record { plan = None; is = refl }
+
 -- a caller with no open call has nothing of its own to keep
 pub idle_kept : {S V : Type 0} (n : ℕ) (view : View S V) (caller : CallerView) → IsAt view.callers n caller → caller.call ≡ None → OwnKept n view
 idle_kept {S} {V} n view caller at none = record {
@@ -125,25 +135,31 @@ ends_in {S} {V} m n call most told old mid new caller was entered at is enters h
     let number : caller.number ≡ call = number_of old n call has caller at in
     let next_caller : CallerView = record caller { call = Some over.goes.next } in
     let same : by.of_call.caller ≡ next_caller = at_one mid.callers n by.of_call.at_caller over.goes.at_next in
-    let ended = end_ends m n told mid new (λ is_first. ap (λ (k : Council). k.order) over.goes.acts.council ∙ (open_quiet old n call has is_first).order) by in
+    let ended = end_ends m n told mid new by in
+    let next_none : CallerView = record by.of_call.caller { call = None } in
     let rounds : ℕ = by.of_call.call.rounds in
     let same_call : by.of_call.call ≡ over.goes.next = some_is (sym by.of_call.is_open ∙ ap (λ (c : CallerView). c.call) same) in
     let same_rounds : rounds ≡ rounds_after (own_part old n) = ap (λ (c : CallView). c.rounds) same_call ∙ over.goes.rounds ∙ enters.rounds ∙ sym (after_part old n caller was at is) in
     let same_number : by.of_call.caller.number ≡ caller.number = ap (λ (c : CallerView). c.number) same in
-    let acts_end : Acts n mid new (Ended n caller.number rounds told ∷ []) = subst (λ (k : ℕ). Acts n mid new (Ended n k rounds told ∷ [])) same_number ended.acts in
+    let acts_end : Acts n (record mid { council = new.council }) new (Ended n caller.number rounds told ∷ []) = subst (λ (k : ℕ). Acts n (record mid { council = new.council }) new (Ended n k rounds told ∷ [])) same_number ended.acts in
+    let then_ : calls.Rescans old.council n was.key told new.council =
+    subst (λ (k : Council). calls.Rescans k n was.key told new.council) over.goes.acts.council
+    (subst (λ (k : List ℕ). calls.Rescans mid.council n k told new.council) (ap (λ (c : CallView). c.key) same_call ∙ over.goes.key ∙ enters.key) ended.rescans) in
     let all : List Mark = over.goes.marks ++ Ended n caller.number rounds told ∷ [] in
-    let acts : Acts n old new all = acts_then n old mid new over.goes.marks (Ended n caller.number rounds told ∷ []) over.goes.acts acts_end in
+    let acts : Acts n (record old { council = new.council }) new all = acts_then n (record old { council = new.council }) (record mid { council = new.council }) new over.goes.marks (Ended n caller.number rounds told ∷ []) (acts_aside n old mid new.council over.goes.marks over.goes.acts) acts_end in
     let only : OnlyOwnedBy owner_of n all = All-append (λ i. (m : ℕ) → owner_of i ≡ Some m → m ≡ n) over.goes.marks (Ended n caller.number rounds told ∷ []) over.goes.fine.only (only_ended n caller.number rounds told) in
     record {
       does = record {
         marks = over.goes.marks;
         makes = subst (λ (k : ℕ). Makes n old new (over.goes.marks ++ Ended n k (rounds_after (own_part old n)) told ∷ [])) number
-            (subst (λ (r : ℕ). Makes n old new (over.goes.marks ++ Ended n caller.number r told ∷ [])) same_rounds (makes_of n old new all acts (over.may_end rounds told) only));
+            (subst (λ (r : ℕ). Makes n old new (over.goes.marks ++ Ended n caller.number r told ∷ [])) same_rounds (makes_aside n old new all acts (over.may_end rounds told) only (λ not_first. quiet_rescans n old.council new.council was.key told (λ first_. absurd (not_first first_)) then_)));
         of_call = subst (λ (k : ℕ). AreOfCall k (mine n over.goes.marks)) number over.goes.fine.of_call;
         few = over.goes.fine.few;
-        is_free = is_closed_then old new n call has acts.council (record by.of_call.caller { call = None }) ended.at_next refl;
+        rescans = λ one one_was at_one_ one_is. subst (λ (k : List ℕ). calls.Rescans old.council n k told new.council) (ap (λ (c : CallView). c.key) (some_is (sym is ∙ ap (λ (c : CallerView). c.call) (at_one old.callers n at at_one_) ∙ one_is))) then_;
+        is_idle = now_idle new n next_none ended.at_next refl (λ is_first. rescans_unasked n old.council new.council was.key told then_ ∙ (open_quiet old n call has is_first).exchange);
+        is_free = λ free. now_free new n next_none ended.at_next refl (free_rest n was.key told old new then_ (subst IsFree (beside_part old n caller was at is) free));
       };
-      kept = kept_by n old new all acts only kept (idle_kept n new (record by.of_call.caller { call = None }) ended.at_next refl);
+      kept = kept_aside n old new all acts only kept (idle_kept n new next_none ended.at_next refl);
       greatest = acts.greatest;
     }
 
@@ -157,9 +173,9 @@ wanted_begun n number key program old more asks =
     ∙ ap (λ (t : Bool). wanted_after n (if t then Some (wants number key program) else wanted_by n old) more) (nat_is {a = n} {b = n} refl)
     ∙ asks (Some (wants number key program))
 
-pub begins_in : {S V : Type 0} (m : Meaning S V) (n : ℕ) (key : List ℕ) (program : List Clause) (old new : View S V) (caller : CallerView) → IsAt old.callers n caller → caller.call ≡ None → IsFree (own_part old n) → IsKept old → StepBegin m old n key program new → HasRound new n (suc caller.number)
+pub begins_in : {S V : Type 0} (m : Meaning S V) (n : ℕ) (key : List ℕ) (program : List Clause) (old new : View S V) (caller : CallerView) → IsAt old.callers n caller → caller.call ≡ None → IsIdle (own_part old n) → IsKept old → StepBegin m old n key program new → HasRound new n (suc caller.number)
     → Held old new (BeginsIn n (suc caller.number) key program old new)
-begins_in {S} {V} m n key program old new caller at none free kept by has =
+begins_in {S} {V} m n key program old new caller at none idle kept by has =
     let number : ℕ = suc caller.number in
     let b = first_begins m n 0 key program old new caller at none by in
     let next_caller : CallerView = record { number = number; call = Some b.next } in
@@ -173,9 +189,11 @@ begins_in {S} {V} m n key program old new caller at none free kept by has =
         makes = makes_of n old new all b.acts (tt, b.fine.may_add) only;
         of_call = b.fine.of_call;
         none_lost = omega (arith, few);
-        is_open = is_open_then old new n number free b.acts.council next_caller b.next b.at_next refl refl;
+        is_open = is_open_then old new n number idle b.acts.council next_caller b.next b.at_next refl refl;
         first = rounds_part new n next_caller b.next b.at_next refl ∙ b.rounds_is;
         unmet = met_part new n next_caller b.next b.at_next refl ∙ b.told has.desk has.at_desk has.is_open;
+        beside = beside_part new n next_caller b.next b.at_next refl ∙ rest_same old new n b.acts.council ∙ sym (own_closed old n caller at none);
+        council = b.acts.council;
         wanted = wanted;
       };
       kept = kept_by n old new all b.acts only kept (record {
@@ -192,37 +210,52 @@ begins_in {S} {V} m n key program old new caller at none free kept by has =
       greatest = b.acts.greatest;
     }
 
+-- no call is open behind one that is not begun, or ends at once
+leaves_idle : {S V : Type 0} (n : ℕ) (key : List ℕ) (told : Answer) (old new : View S V) (caller next : CallerView) → IsAt old.callers n caller → caller.call ≡ None → IsIdle (own_part old n) → IsAt new.callers n next → next.call ≡ None → calls.Rescans old.council n key told new.council → LeavesIdle n key told old new
+leaves_idle n key told old new caller next at none idle at_next next_none then_ = record {
+  rescans = then_;
+  is_idle = now_idle new n next at_next next_none (λ is_first. rescans_unasked n old.council new.council key told then_ ∙ (idle_quiet old n idle is_first).exchange);
+  is_free = λ free. now_free new n next at_next next_none (free_rest n key told old new then_ (subst IsFree (own_closed old n caller at none) free));
+}
+
 -- it is told why no round begins, and ends at once
-pub passes_in : {S V : Type 0} (m : Meaning S V) (n : ℕ) (key : List ℕ) (program : List Clause) (told : Answer) (old mid new : View S V) (caller : CallerView) → IsAt old.callers n caller → caller.call ≡ None → IsFree (own_part old n) → IsKept old → StepBegin m old n key program mid
+pub passes_in : {S V : Type 0} (m : Meaning S V) (n : ℕ) (key : List ℕ) (program : List Clause) (told : Answer) (old mid new : View S V) (caller : CallerView) → IsAt old.callers n caller → caller.call ≡ None → IsIdle (own_part old n) → IsKept old → StepBegin m old n key program mid
     → (number : ℕ) → WasTold mid n number told → is_conflict told ≡ false → StepEnd m mid n told new → Held old new (BeginsNot n key program old new told)
-passes_in {S} {V} m n key program told old mid new caller at none free kept by number was no_conflict ends =
+passes_in {S} {V} m n key program told old mid new caller at none idle kept by number was no_conflict ends =
     let call : ℕ = suc caller.number in
     let b = first_begins m n 0 key program old mid caller at none by in
     let next_caller : CallerView = record { number = call; call = Some b.next } in
     let same : ends.of_call.caller ≡ next_caller = at_one mid.callers n ends.of_call.at_caller b.at_next in
-    let ended = end_ends m n told mid new (λ is_first. ap (λ (k : Council). k.order) b.acts.council ∙ (free_quiet old n free is_first).order) ends in
+    let ended = end_ends m n told mid new ends in
+    let next_none : CallerView = record ends.of_call.caller { call = None } in
     let rounds : ℕ = ends.of_call.call.rounds in
-    let acts_end : Acts n mid new (Ended n call rounds told ∷ []) = subst (λ (k : ℕ). Acts n mid new (Ended n k rounds told ∷ [])) (ap (λ (c : CallerView). c.number) same) ended.acts in
+    let acts_end : Acts n (record mid { council = new.council }) new (Ended n call rounds told ∷ []) = subst (λ (k : ℕ). Acts n (record mid { council = new.council }) new (Ended n k rounds told ∷ [])) (ap (λ (c : CallerView). c.number) same) ended.acts in
+    let same_call : ends.of_call.call ≡ b.next = some_is (sym ends.of_call.is_open ∙ ap (λ (c : CallerView). c.call) same) in
+    let then_ : calls.Rescans old.council n key told new.council =
+    subst (λ (k : Council). calls.Rescans k n key told new.council) b.acts.council
+    (subst (λ (k : List ℕ). calls.Rescans mid.council n k told new.council) (ap (λ (c : CallView). c.key) same_call ∙ b.key_is) ended.rescans) in
     let opens : Acts n old mid (Begun n call key program ∷ []) = subst (λ (l : List Mark). Acts n old mid (Begun n call key program ∷ l)) (b.silent number told was) b.acts in
     let all : List Mark = Begun n call key program ∷ Ended n call rounds told ∷ [] in
-    let acts : Acts n old new all = acts_then n old mid new (Begun n call key program ∷ []) (Ended n call rounds told ∷ []) opens acts_end in
+    let acts : Acts n (record old { council = new.council }) new all = acts_then n (record old { council = new.council }) (record mid { council = new.council }) new (Begun n call key program ∷ []) (Ended n call rounds told ∷ []) (acts_aside n old mid new.council (Begun n call key program ∷ []) opens) acts_end in
     let only : OnlyOwnedBy owner_of n all = begun_only n call key program (Ended n call rounds told ∷ []) (only_ended n call rounds told) in
     record {
-      does = ends_at_once call rounds (makes_of n old new all acts (tt, (tt, tt)) only) (stays_free old new n free acts.council (record ends.of_call.caller { call = None }) ended.at_next refl) no_conflict;
-      kept = kept_by n old new all acts only kept (idle_kept n new (record ends.of_call.caller { call = None }) ended.at_next refl);
+      does = ends_at_once call rounds (makes_aside n old new all acts (tt, (tt, tt)) only (λ not_first. quiet_rescans n old.council new.council key told (λ first_. absurd (not_first first_)) then_))
+          (leaves_idle n key told old new caller next_none at none idle ended.at_next refl then_) no_conflict;
+      kept = kept_aside n old new all acts only kept (idle_kept n new next_none ended.at_next refl);
       greatest = acts.greatest;
     }
 
 -- it is not begun
-pub refused_in : {S V : Type 0} (m : Meaning S V) (n : ℕ) (key : List ℕ) (told : Answer) (old new : View S V) (program : List Clause) (caller : CallerView) → IsAt old.callers n caller → caller.call ≡ None → IsFree (own_part old n) → IsKept old → IsRefusal told → calls.RefusesCall m old n key new
+pub refused_in : {S V : Type 0} (m : Meaning S V) (n : ℕ) (key : List ℕ) (told : Answer) (old new : View S V) (program : List Clause) (caller : CallerView) → IsAt old.callers n caller → caller.call ≡ None → IsIdle (own_part old n) → IsKept old → IsRefusal told → calls.RefusesCall m old n key new → calls.Rescans old.council n key told new.council
     → Held old new (BeginsNot n key program old new told)
-refused_in {S} {V} m n key told old new program caller at none free kept refusal by =
-    let done = refused_acts m n key old new (λ is_first. (free_quiet old n free is_first).order) by in
+refused_in {S} {V} m n key told old new program caller at none idle kept refusal by then_ =
+    let done = refused_acts m n key old new by in
     let at_new : IsAt new.callers n caller = subst (λ (l : List CallerView). IsAt l n caller) (sym done.1) at in
     let fine = fine_none n 0 0 in
     record {
-      does = is_refused refusal (makes_of n old new [] done.0 tt fine.only) (stays_free old new n free done.0.council caller at_new none);
-      kept = kept_by n old new [] done.0 fine.only kept (idle_kept n new caller at_new none);
+      does = is_refused refusal (makes_aside n old new [] done.0 tt fine.only (λ not_first. quiet_rescans n old.council new.council key told (λ first_. absurd (not_first first_)) then_))
+          (leaves_idle n key told old new caller caller at none idle at_new none then_);
+      kept = kept_aside n old new [] done.0 fine.only kept (idle_kept n new caller at_new none);
       greatest = done.0.greatest;
     }
 
@@ -272,27 +305,27 @@ no_conflict_counted view n answer.RecordFull cause = refl
 no_conflict_counted view n (answer.NoMemory proposed) cause = refl
 
 -- a caller with nothing open has no call
-no_call_of : {S V : Type 0} (old : View S V) (n call : ℕ) → NextAt old n call → IsFree (own_part old n) → HasNoCall old n
-no_call_of old n call at free = record { caller = at.caller; at_caller = at.at_caller; none_open = free_call old n free at.caller at.at_caller }
+no_call_of : {S V : Type 0} (old : View S V) (n call : ℕ) → NextAt old n call → IsIdle (own_part old n) → HasNoCall old n
+no_call_of old n call at idle = record { caller = at.caller; at_caller = at.at_caller; none_open = idle_call old n idle at.caller at.at_caller }
 
-pub begin_may : {S V : Type 0} (old : View S V) (n call : ℕ) (key : List ℕ) (program : List Clause) → option_map next_number (slice_get old.callers n) ≡ Some call → IsFree (own_part old n) → MayBegin old n call key program
-begin_may old n call key program next free =
+pub begin_may : {S V : Type 0} (old : View S V) (n call : ℕ) (key : List ℕ) (program : List Clause) → option_map next_number (slice_get old.callers n) ≡ Some call → IsIdle (own_part old n) → MayBegin old n call key program
+begin_may old n call key program next idle =
     let at = next_at old n call next in
-    first at.caller at.at_caller (free_call old n free at.caller at.at_caller) (let k : suc at.caller.number ≡ call = at.number in omega (arith, k))
+    first at.caller at.at_caller (idle_call old n idle at.caller at.at_caller) (let k : suc at.caller.number ≡ call = at.number in omega (arith, k))
 
-pub begin_ok : {S V : Type 0} (m : Meaning S V) (n call : ℕ) (key : List ℕ) (program : List Clause) (old new : View S V) → option_map next_number (slice_get old.callers n) ≡ Some call → IsFree (own_part old n) → IsKept old → StepBegin m old n key program new → HasRound new n call
+pub begin_ok : {S V : Type 0} (m : Meaning S V) (n call : ℕ) (key : List ℕ) (program : List Clause) (old new : View S V) → option_map next_number (slice_get old.callers n) ≡ Some call → IsIdle (own_part old n) → IsKept old → StepBegin m old n key program new → HasRound new n call
     → Held old new (BeginsIn n call key program old new)
-begin_ok m n call key program old new next free kept by has =
+begin_ok m n call key program old new next idle kept by has =
     let at = next_at old n call next in
     subst (λ (k : ℕ). Held old new (BeginsIn n k key program old new)) at.number
-    (begins_in m n key program old new at.caller at.at_caller (free_call old n free at.caller at.at_caller) free kept by (subst (λ (k : ℕ). HasRound new n k) (sym at.number) has))
+    (begins_in m n key program old new at.caller at.at_caller (idle_call old n idle at.caller at.at_caller) idle kept by (subst (λ (k : ℕ). HasRound new n k) (sym at.number) has))
 
-pub begin_refused : {S V : Type 0} (A : Type 0) (m : Meaning S V) (n call : ℕ) (key : List ℕ) (program : List Clause) (told : Answer) (old new : View S V) → option_map next_number (slice_get old.callers n) ≡ Some call → IsFree (own_part old n) → IsKept old → is_refusal told ≡ true
+pub begin_refused : {S V : Type 0} (A : Type 0) (m : Meaning S V) (n call : ℕ) (key : List ℕ) (program : List Clause) (told : Answer) (old new : View S V) → option_map next_number (slice_get old.callers n) ≡ Some call → IsIdle (own_part old n) → IsKept old → is_refusal told ≡ true
     → BeginsOrNot {A = A} m old n call key program (Err told) new → Held old new (BeginsNot n key program old new told)
-begin_refused A m n call key program told old new next free kept refusal (inl begun) = absurd (cc (begun.2 (no_call_of old n call (next_at old n call next) free), refusal))
-begin_refused A m n call key program told old new next free kept refusal (inr not_begun) =
+begin_refused A m n call key program told old new next idle kept refusal (inl begun) = absurd (cc (begun.2 (no_call_of old n call (next_at old n call next) idle), refusal))
+begin_refused A m n call key program told old new next idle kept refusal (inr not_begun) =
     let at = next_at old n call next in
-    refused_in m n key told old new program at.caller at.at_caller (free_call old n free at.caller at.at_caller) free kept not_begun.2 not_begun.0
+    refused_in m n key told old new program at.caller at.at_caller (idle_call old n idle at.caller at.at_caller) idle kept not_begun.2 not_begun.0 not_begun.3
 
 -- it was told why no round begins
 pub begin_told : {S V : Type 0} (A : Type 0) (m : Meaning S V) (n call : ℕ) (key : List ℕ) (program : List Clause) (told : Answer) (old new : View S V) → is_refusal told ≡ false → BeginsOrNot {A = A} m old n call key program (Err told) new → StepBegin m old n key program new × WasTold new n call told
@@ -302,12 +335,12 @@ begin_told A m n call key program told old new is (inr not_begun) = absurd (elim
   | inr none_is ↦ cc (ap is_refusal none_is, is)
 ])
 
-pub begin_passes : {S V : Type 0} (A : Type 0) (m : Meaning S V) (n call : ℕ) (key : List ℕ) (program : List Clause) (told : Answer) (old mid new : View S V) → option_map next_number (slice_get old.callers n) ≡ Some call → IsFree (own_part old n) → IsKept old → is_refusal told ≡ false
+pub begin_passes : {S V : Type 0} (A : Type 0) (m : Meaning S V) (n call : ℕ) (key : List ℕ) (program : List Clause) (told : Answer) (old mid new : View S V) → option_map next_number (slice_get old.callers n) ≡ Some call → IsIdle (own_part old n) → IsKept old → is_refusal told ≡ false
     → BeginsOrNot {A = A} m old n call key program (Err told) mid → BeginsBy m old n key told mid → StepEnd m mid n told new → Held old new (BeginsNot n key program old new told)
-begin_passes A m n call key program told old mid new next free kept is begun cause ends =
+begin_passes A m n call key program told old mid new next idle kept is begun cause ends =
     let at = next_at old n call next in
     let by = begin_told A m n call key program told old mid is begun in
-    passes_in m n key program told old mid new at.caller at.at_caller (free_call old n free at.caller at.at_caller) free kept by.0 call by.1 (no_conflict_begun m old mid n key told cause) ends
+    passes_in m n key program told old mid new at.caller at.at_caller (idle_call old n idle at.caller at.at_caller) idle kept by.0 call by.1 (no_conflict_begun m old mid n key told cause) ends
 
 -- ---- another round
 pub again_ok : {S V : Type 0} (m : Meaning S V) (n call most : ℕ) (key : List ℕ) (program : List Clause) (old new : View S V) → HasOpen call (own_part old n) → IsKept old → StepBegin m old n key program new → HasRound new n call → Held old new (GoesOnIn n call most old new)

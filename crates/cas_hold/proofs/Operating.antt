@@ -2,7 +2,7 @@
 use Rattle.std.proofs.Common.{◌≡◌, ◌≢◌, ◌≤◌, ℕ, zero, suc, Bool, true, false, if◌then◌else◌, List, [], ◌∷◌, ◌++◌, length, map, get_or, Option, None, Some, option_map, inl, inr, refl, sym, ap, ap₂, subst, ◌∙◌, append-nil, append_assoc, arith}
 use Rattle.std.specs.Prelude.{◌⊎◌, ◌==◌, All, is_none, position, slice_set}
 use Rattle.std.specs.Option.{option_map_or}
-use Rattle.std.proofs.lemmas.List.Elements.{All-nil, All-cons}
+use Rattle.std.proofs.lemmas.List.Elements.{All-append, All-nil, All-cons}
 use Rattle.std.proofs.lemmas.List.Quantifiers.{position-Some}
 use Rattle.cas_ballot.specs.Members.{has_member}
 use Rattle.cas_base.proofs.Bools.{and_left}
@@ -107,6 +107,32 @@ operates most old new marks leaves of kept none = record {
   greatest = leaves.greatest;
 }
 
+-- ---- what one call after another does
+pub record Deed {S V : Type 0} (old new : View S V) (marks : List Mark) : Type 0 where
+  pub makes : Makes 0 old new marks
+  pub kept : IsKept new
+  pub greatest : new.greatest ≡ old.greatest
+  pub none : (caller : CallerView) → IsAt new.callers 0 caller → caller.call ≡ None
+
+pub deed_of : {S V : Type 0} (old new : View S V) (marks : List Mark) → Leaves old new marks → MayAdd marks → OnlyOwnedBy owner_of 0 marks → IsKept old → ((caller : CallerView) → IsAt old.callers 0 caller → caller.call ≡ None) → Deed old new marks
+deed_of old new marks leaves may only kept none =
+    let none_now = none_then old new marks leaves none in
+    record { makes = makes_by old new marks leaves may only; kept = kept_then old new marks leaves only kept none_now; greatest = leaves.greatest; none = none_now }
+
+pub quiet_deed : {S V : Type 0} (old new : View S V) → Leaves old new [] → IsKept old → ((caller : CallerView) → IsAt old.callers 0 caller → caller.call ≡ None) → Deed old new []
+quiet_deed old new leaves kept none = let fine = fine_none 0 0 0 in deed_of old new [] leaves fine.may_add fine.only kept none
+
+pub makes_then : {S V : Type 0} (a b c : View S V) (marks more : List Mark) → Makes 0 a b marks → Makes 0 b c more → MayAdd (marks ++ more) → Makes 0 a c (marks ++ more)
+makes_then a b c marks more first then_ may = record {
+  made = then_.made ∙ ap (λ (l : List Mark). l ++ more) first.made ∙ append_assoc a.marks marks more;
+  may_add = may;
+  owned = All-append (λ i. (m : ℕ) → owner_of i ≡ Some m → m ≡ 0) marks more first.owned then_.owned;
+  others = λ m other. then_.others m other ∙ first.others m other;
+}
+
+pub deed_then : {S V : Type 0} (a b c : View S V) (marks more : List Mark) → Deed a b marks → Deed b c more → MayAdd (marks ++ more) → Deed a c (marks ++ more)
+deed_then a b c marks more first then_ may = record { makes = makes_then a b c marks more first.makes then_.makes may; kept = then_.kept; greatest = then_.greatest ∙ first.greatest; none = then_.none }
+
 -- ---- the operator is told
 told_some : (asks : Asked) (told : OpAnswer) → (told_marks asks told ≡ []) ⊎ (told_marks asks told ≡ Told asks told ∷ [])
 told_some asks (op.Probed key found) = inl refl
@@ -164,25 +190,29 @@ tells_of {S} {V} old new asks told order is_order is_asked by = by_case by
     by_case (council.finishes other is_other finished is) = over (with_council old (record old.council { plan = None })) other is_other refl refl refl refl is
     by_case (council.collects other is_other collected is) = over old other is_other refl refl refl refl is
 
--- a call told the operator its answer, with no mark, and its call ends
+-- what was done told the operator its answer, and its call ends
+pub tells_after : {S V : Type 0} (such : Mark → Type 0) (most : ℕ) (old mid new : View S V) (marks : List Mark) (asks : Asked) (told : OpAnswer) (order : OrderView) → Deed old mid marks → All such (mine 0 marks) → losses (mine 0 marks) ≤ most → MayAdd (marks ++ told_marks asks told)
+    → mid.council.order ≡ Some order → order.asked ≡ asks → StepTell mid told new → Held old new (IsToldIn asks such most old new told)
+tells_after such most old mid new marks asks told order deed all_such few may is_order is_asked by =
+    let t = tells_of mid new asks told order is_order is_asked by in
+    let tells = deed_of mid new (told_marks asks told) t.leaves (told_may_add asks told) (told_only asks told) deed.kept deed.none in
+    let all = deed_then old mid new marks (told_marks asks told) deed tells may in
+    record {
+      does = record {
+        marks = marks;
+        makes = all.makes;
+        all_such = all_such;
+        few = few;
+        is_free = idle_free new (record { no_call = all.none; order = t.order; exchange = t.exchange; collection = t.collection });
+      };
+      kept = all.kept;
+      greatest = all.greatest;
+    }
+
 pub tells_in : {S V : Type 0} (such : Mark → Type 0) (most : ℕ) (old mid new : View S V) (asks : Asked) (told : OpAnswer) (order : OrderView) → Leaves old mid [] → mid.council.order ≡ Some order → order.asked ≡ asks → StepTell mid told new → IsKept old
     → ((caller : CallerView) → IsAt old.callers 0 caller → caller.call ≡ None) → Held old new (IsToldIn asks such most old new told)
 tells_in such most old mid new asks told order leaves is_order is_asked by kept none =
-    let t = tells_of mid new asks told order is_order is_asked by in
-    let all : Leaves old new (told_marks asks told) = leaves_then old mid new [] (told_marks asks told) leaves t.leaves in
-    let none_now = none_then old new (told_marks asks told) all none in
-    let only = told_only asks told in
-    record {
-      does = record {
-        marks = [];
-        makes = makes_by old new (told_marks asks told) all (told_may_add asks told) only;
-        all_such = All-nil such;
-        few = omega arith;
-        is_free = idle_free new (record { no_call = none_now; order = t.order; exchange = t.exchange; collection = t.collection });
-      };
-      kept = kept_then old new (told_marks asks told) all only kept none_now;
-      greatest = all.greatest;
-    }
+    tells_after such most old mid new [] asks told order (quiet_deed old mid leaves kept none) (All-nil such) (omega arith) (told_may_add asks told) is_order is_asked by
 
 -- ---- a turn of an exchange
 of_none : (most : ℕ) → IsOfAsking most []

@@ -71,7 +71,7 @@ pub free_still : {S V : Type 0} (old new : View S V) → new ≡ old → IsFree 
 free_still {S} {V} old new same free = subst (λ (w : View S V). IsFree (own_part w 0)) (sym same) free
 
 -- ---- its question
-no_call_at : {S V : Type 0} (view : View S V) → IsKept view → ((caller : CallerView) → IsAt view.callers 0 caller → caller.call ≡ None) → HasNoCall view 0
+pub no_call_at : {S V : Type 0} (view : View S V) → IsKept view → ((caller : CallerView) → IsAt view.callers 0 caller → caller.call ≡ None) → HasNoCall view 0
 no_call_at view kept none = let there = at_low view.callers 0 (let long = kept.places.callers in omega (arith, long)) in record { caller = there.0; at_caller = there.1; none_open = none there.0 there.1 }
 
 pub may_probe : {S V : Type 0} (view : View S V) (key : List ℕ) → IsKept view → HasOrder (asked.Probe key) (own_part view 0) → MayAsk view (Probe key)

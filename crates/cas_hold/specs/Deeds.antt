@@ -7,12 +7,13 @@ use Rattle.cas_record.specs.declared.answer.Answer.{Answer}
 use Rattle.cas_record.specs.declared.answer.Answer.TheVariants as answer
 use Rattle.cas_record.specs.declared.mark.Mark.{Mark}
 use Rattle.cas_record.specs.declared.mark.Mark.TheVariants.{Begun, Ended}
-use Rattle.cas_cluster.specs.View.{View}
+use Rattle.cas_cluster.specs.StepCalls.{Rescans}
+use Rattle.cas_cluster.specs.View.{View, CallView, CallerView, IsAt}
 use Rattle.cas_hold.specs.Conflicts.{is_conflict}
 use Rattle.cas_hold.specs.Kept.{Makes}
 use Rattle.cas_hold.specs.Mine.{mine, AreOfCall, losses, wants, wanted_by}
 use Rattle.cas_hold.specs.OwnParts.{own_part}
-use Rattle.cas_hold.specs.Open.{IsFree, HasOpen, rounds_in, is_met_in, rounds_after}
+use Rattle.cas_hold.specs.Open.{IsFree, IsIdle, HasOpen, beside_in, rounds_in, is_met_in, rounds_after}
 
 -- how many frames one verdict may harm
 abbrev pub harm_by : Verdict → ℕ
@@ -35,16 +36,24 @@ pub record BeginsIn {S V : Type 0} (n call : ℕ) (key : List ℕ) (program : Li
   pub is_open : HasOpen call (own_part new n)
   pub first : rounds_in (own_part new n) ≡ 1
   pub unmet : is_met_in (own_part new n) ≡ false
+  pub beside : beside_in (own_part new n) ≡ own_part old n
+  pub council : new.council ≡ old.council
   pub wanted : wanted_by n new.marks ≡ Some (wants call key program)
 
 -- why a call is not begun: the record is full, or there is no memory
 abbrev pub IsRefusal : Answer → Type 0
 IsRefusal told = (told ≡ answer.RecordFull) ⊎ (told ≡ answer.NoMemory false)
 
+-- no call is open then, and of the operator's call is told what the end of this one tells; nothing is open where nothing was
+pub record LeavesIdle {S V : Type 0} (n : ℕ) (key : List ℕ) (told : Answer) (old new : View S V) : Type 0 where
+  pub rescans : Rescans old.council n key told new.council
+  pub is_idle : IsIdle (own_part new n)
+  pub is_free : IsFree (own_part old n) → IsFree (own_part new n)
+
 -- a call for this begins and ends at once, which is no conflict; or it is not begun, and no mark is made
 pub data BeginsNot {S V : Type 0} (n : ℕ) (key : List ℕ) (program : List Clause) (old new : View S V) (told : Answer) : Type 0 where
-  ends_at_once : (call rounds : ℕ) → Makes n old new (Begun n call key program ∷ Ended n call rounds told ∷ []) → IsFree (own_part new n) → is_conflict told ≡ false → BeginsNot n key program old new told
-  is_refused : IsRefusal told → Makes n old new [] → IsFree (own_part new n) → BeginsNot n key program old new told
+  ends_at_once : (call rounds : ℕ) → Makes n old new (Begun n call key program ∷ Ended n call rounds told ∷ []) → LeavesIdle n key told old new → is_conflict told ≡ false → BeginsNot n key program old new told
+  is_refused : IsRefusal told → Makes n old new [] → LeavesIdle n key told old new → BeginsNot n key program old new told
 
 -- the open call of that number goes on, and at most so many losses of its frames are marked
 pub record GoesOnIn {S V : Type 0} (n call most : ℕ) (old new : View S V) : Type 0 where
@@ -54,6 +63,8 @@ pub record GoesOnIn {S V : Type 0} (n call most : ℕ) (old new : View S V) : Ty
   pub few : losses (mine n marks) ≤ most
   pub is_open : HasOpen call (own_part new n)
   pub rounds : rounds_in (own_part new n) ≡ rounds_after (own_part old n)
+  pub beside : beside_in (own_part new n) ≡ beside_in (own_part old n)
+  pub council : new.council ≡ old.council
   pub wanted : wanted_by n new.marks ≡ wanted_by n old.marks
 
 -- it ends with this answer, which is marked last
@@ -62,4 +73,6 @@ pub record EndsIn {S V : Type 0} (n call most : ℕ) (old new : View S V) (told 
   pub makes : Makes n old new (marks ++ Ended n call (rounds_after (own_part old n)) told ∷ [])
   pub of_call : AreOfCall call (mine n marks)
   pub few : losses (mine n marks) ≤ most
-  pub is_free : IsFree (own_part new n)
+  pub rescans : (caller : CallerView) (call_was : CallView) → IsAt old.callers n caller → caller.call ≡ Some call_was → Rescans old.council n call_was.key told new.council
+  pub is_idle : IsIdle (own_part new n)
+  pub is_free : IsFree (beside_in (own_part old n)) → IsFree (own_part new n)

@@ -1,6 +1,7 @@
 pub mod Conflicts
 pub mod Deeds
 pub mod Kept
+pub mod Membership
 pub mod Mine
 pub mod Open
 pub mod Orders

@@ -2,7 +2,7 @@
 use Rattle.std.specs.Prelude.{◌≡◌, ℕ, ◌==◌, ◌+◌, Bool, false, if◌then◌else◌, List, [], ◌∷◌, ◌++◌, All, Option, None, Some}
 use Rattle.cas_change.specs.declared.program.Clause.{Clause}
 use Rattle.cas_record.specs.declared.mark.Mark.{Mark}
-use Rattle.cas_record.specs.declared.mark.Mark.TheVariants.{Begun, Proposed, Ended, Harmed}
+use Rattle.cas_record.specs.declared.mark.Mark.TheVariants.{Begun, Proposed, Harmed}
 use Rattle.cas_turn.specs.Seen.{Begins}
 use Rattle.cas_hold.specs.Owners.{owner_of}
 
@@ -15,15 +15,13 @@ abbrev pub mine : ℕ → List Mark → List Mark
 mine n [] = []
 mine n (mark ∷ later) = if is_owner n (owner_of mark) then mark ∷ mine n later else mine n later
 
--- the call that a mark bears
+-- the call within which a mark stands, of which it is neither the beginning nor the end
 abbrev pub call_of : Mark → Option ℕ
-call_of (Begun caller call key program) = Some call
 call_of (Proposed p) = Some p.call
-call_of (Ended caller call rounds answer) = Some call
 call_of (Harmed caller call down) = Some call
 call_of other = None
 
--- all of them are of that call
+-- all of them stand within that call
 abbrev pub AreOfCall : ℕ → List Mark → Type 0
 AreOfCall call marks = All (λ mark. call_of mark ≡ Some call) marks
 

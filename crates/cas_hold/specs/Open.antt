@@ -1,20 +1,32 @@
 -- What a caller's own part tells of what it has open.
-use Rattle.std.specs.Prelude.{◌≡◌, ℕ, ◌==◌, Bool, false, if◌then◌else◌, List, ◌∷◌, ◌++◌, Option}
-use Rattle.cas_cluster.specs.Council.{PlanView}
+use Rattle.std.specs.Prelude.{◌≡◌, ℕ, ◌==◌, Bool, false, if◌then◌else◌, List, [], ◌∷◌, ◌++◌, Option, None}
+use Rattle.cas_cluster.specs.Council.{Council, PlanView}
 use Rattle.cas_cluster.specs.StepCalls.{one_more}
-use Rattle.cas_hold.specs.OwnParts.{call_part, plan_part}
+use Rattle.cas_hold.specs.OwnParts.{call_part, plan_part, council_part}
 
 -- nothing is open, but a change of membership may be
 pub record IsFree (own : List ℕ) : Type 0 where
   pub plan : Option PlanView
   pub is : own ≡ plan_part plan
 
--- the call of that number is open
+-- no call of the caller is open, and no exchange; of the operator all else may be under way
+pub record IsIdle (own : List ℕ) : Type 0 where
+  pub council : Council
+  pub unasked : council.exchange ≡ None
+  pub is : own ≡ council_part council
+
+-- the call of that number is open, and no exchange
 pub record HasOpen (call : ℕ) (own : List ℕ) : Type 0 where
   pub rounds : ℕ
   pub phase : ℕ
-  pub plan : Option PlanView
-  pub is : own ≡ call_part call rounds phase ++ plan_part plan
+  pub council : Council
+  pub unasked : council.exchange ≡ None
+  pub is : own ≡ call_part call rounds phase ++ council_part council
+
+-- what stands beside its open call
+abbrev pub beside_in : List ℕ → List ℕ
+beside_in (kind ∷ size ∷ number ∷ rounds ∷ phase ∷ later) = later
+beside_in other = []
 
 -- ---- rounds
 -- how many rounds its open call had, and whether the last of them ended with a conflict

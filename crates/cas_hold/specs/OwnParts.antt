@@ -5,6 +5,7 @@ use Rattle.cas_collect.specs.declared.collect.CollectStep.{CollectStep}
 use Rattle.cas_collect.specs.declared.collect.CollectStep.TheVariants as collect
 use Rattle.cas_record.specs.declared.operator.Asked.{Asked}
 use Rattle.cas_record.specs.declared.operator.Asked.TheVariants as asked
+use Rattle.cas_calls.specs.Council.{due_key}
 use Rattle.cas_cluster.specs.Collection.{CollectionView}
 use Rattle.cas_cluster.specs.Council.{Question, Probe, NextKeys, NewAges, Removal, ExchangeView, OrderView, PlanView, Council}
 use Rattle.cas_cluster.specs.View.{View, CallView, CallerView}
@@ -64,9 +65,14 @@ abbrev pub exchange_part : Option ExchangeView → List ℕ
 exchange_part None = []
 exchange_part (Some exchange) = framed 2 (length (asked_of exchange) ∷ asked_of exchange ++ question_part exchange.question)
 
+-- the key that it is to propose anew, if one is due
+abbrev pub due_part : Option (List ℕ) → List ℕ
+due_part None = []
+due_part (Some key) = 1 ∷ key
+
 abbrev pub plan_part : Option PlanView → List ℕ
 plan_part None = []
-plan_part (Some plan) = framed 3 (length plan.progress.left ∷ plan.entered ∷ asked_part plan.asked)
+plan_part (Some plan) = framed 3 (length plan.progress.left ∷ plan.entered ∷ length (asked_part plan.asked) ∷ asked_part plan.asked ++ due_part (due_key plan))
 
 abbrev pub collection_part : Option CollectionView → List ℕ
 collection_part None = []

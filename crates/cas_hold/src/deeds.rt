@@ -12,7 +12,7 @@ ghost use Rattle.cas_hold.specs.Deeds.{BeginsIn, BeginsNot, EndsIn, GoesOnIn, St
 ghost use Rattle.cas_hold.specs.Kept.{IsKept};
 ghost use Rattle.cas_hold.specs.Mine.{wanted_by, wants};
 ghost use Rattle.cas_hold.specs.OwnParts.{own_part};
-ghost use Rattle.cas_hold.specs.Open.{HasOpen, IsFree, is_met_in};
+ghost use Rattle.cas_hold.specs.Open.{HasOpen, IsIdle, is_met_in};
 ghost use Rattle.cas_hold.specs.Stages.{IsFirst, IsStageOf, front_of, tells_met};
 
 use cas_ballot::AcceptorId;
@@ -106,7 +106,7 @@ pub fn begin<S: Shelf, V: Disk>(
 ) -> Result<Begun, Answer>
     requires known { caller ≤ world.old.greatest }
     requires kept { IsKept world.old }
-    requires free { IsFree (own_part world.old caller) }
+    requires idle { IsIdle (own_part world.old caller) }
     ensures kept { IsKept world.new }
     ensures greatest { world.new.greatest ≡ world.old.greatest }
     ensures begun { IfOk result (λ begun. BeginsIn caller begun.call key.now program.now world.old world.new) }

@@ -5,7 +5,12 @@
 #![tactic(auto)]
 
 mod deeds;
+mod membership;
 mod orders;
 
 pub use deeds::{Begun, Stage, Waiting, begin, first_frame, go_on, is_conflict, let_in, stage_of};
+pub use membership::{
+    Aim, Listing, MembersStep, Rescan, Rescanning, advance, list_on, order_members, rescan_on,
+    take_up,
+};
 pub use orders::{ProbeOrder, Probing, ask_probe, go_on_probing, order_probe};

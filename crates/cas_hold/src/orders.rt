@@ -39,7 +39,10 @@ pub struct Probing {
 }
 
 /// Begins a call of the operator for this. After an `Err`, which is [`Answer::RecordFull`] or [`Answer::NoMemory`], it was not begun.
-fn open_order<S: Shelf, V: Disk>(world: &mut World<S, V>, asked: &Asked) -> Result<(), Answer>
+pub(crate) fn open_order<S: Shelf, V: Disk>(
+    world: &mut World<S, V>,
+    asked: &Asked,
+) -> Result<(), Answer>
     requires kept { IsKept world.old }
     requires free { IsFree (own_part world.old 0) }
     ensures kept { IsKept world.new }

@@ -1,6 +1,10 @@
-use Rattle.std.proofs.Common.{ap}
+use Rattle.std.proofs.Common.{ap, sym, subst}
+use Rattle.cas_hold.specs.Open.{IsFree}
 use Rattle.cas_board.proofs.Sittings.{counted_none, change_answered, change_refused}
 use Rattle.cas_board.proofs.board.Board.change.Goals as goal
+
+pub run_call-requires-clause-alone : goal.run_call-requires-clause-alone
+run_call-requires-clause-alone g c = subst IsFree (sym c.in-Ok.ensures.begun.beside) c.requires.free
 
 pub returns-in-Ok-clause-answers : goal.returns-in-Ok-clause-answers
 returns-in-Ok-clause-answers g c =

@@ -2,7 +2,7 @@ use Rattle.std.proofs.Common.{sym, ◌∙◌}
 use Rattle.std.proofs.lemmas.Bool.{ltb-true, ltb-false}
 use Rattle.cas_hold.specs.Deeds.{harm_by}
 use Rattle.cas_hold.specs.Stages.{tells_met}
-use Rattle.cas_board.proofs.Sittings.{run_begins, still_pass, asked_pass, asked_open, asked_wanted, run_pass, run_goes_on, run_ends, rounds_spent, tried_asked, tried_on}
+use Rattle.cas_board.proofs.Sittings.{run_begins, still_pass, asked_pass, asked_open, asked_alone, asked_wanted, run_pass, run_goes_on, run_ends, rounds_spent, tried_asked, tried_on}
 use Rattle.cas_board.proofs.board.Board.run_call.Goals as goal
 
 pub loop-init : goal.loop-init
@@ -19,6 +19,9 @@ go_on_once-requires-clause-pass g c = asked_pass c.args.begun.call _ _ c.args.pa
 
 pub go_on_once-requires-clause-called : goal.go_on_once-requires-clause-called
 go_on_once-requires-clause-called g c = asked_open c.args.begun.call _ _ c.args.pass.now c.loop.pass c.verdict_at-verdict.new.pass c.loop.invariant.0 c.verdict_at-verdict.ensures.pass
+
+pub go_on_once-requires-clause-alone : goal.go_on_once-requires-clause-alone
+go_on_once-requires-clause-alone g c = asked_alone c.args.begun.call _ _ c.args.pass.now c.loop.pass c.verdict_at-verdict.new.pass c.loop.invariant.0 c.verdict_at-verdict.ensures.pass c.requires.alone
 
 pub go_on_once-requires-clause-wanted : goal.go_on_once-requires-clause-wanted
 go_on_once-requires-clause-wanted g c = asked_wanted c.args.begun.call _ _ c.args.pass.now c.loop.pass c.verdict_at-verdict.new.pass c.loop.invariant.0 c.verdict_at-verdict.ensures.pass _ c.verdict_at-verdict.ensures.wanted c.requires.wanted

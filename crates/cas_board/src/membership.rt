@@ -1,0 +1,427 @@
+//! A change of membership, from the operator's call to its answer.
+
+ghost use Rattle.std.specs.Prelude.{◌≡◌, ◌≢◌, ◌≤◌, ℕ, [], Some, IfOk, IfErr, OnOk, reverse};
+ghost use Rattle.cas_record.specs.Legal.{IsLegal};
+ghost use Rattle.cas_cluster.specs.StepCollect.{keep_always};
+ghost use Rattle.cas_world.specs.Plans.{asked_to};
+ghost use Rattle.cas_board.specs.Changes.{IsCounted};
+ghost use Rattle.cas_board.specs.Operations.{HasOperated, Operates, WasToldLast};
+ghost use Rattle.cas_board.specs.Passes.{IsPassOf};
+ghost use Rattle.cas_hold.specs.Deeds.{IsRefusal, harm_by};
+ghost use Rattle.cas_hold.specs.Membership.{HasListing, HasPlan, HasRescan, IsListedTo, IsMembersAnswer, IsRescanMark, IsRescannedTo, StandsAt};
+ghost use Rattle.cas_hold.specs.Mine.{GoesOn, wanted_by, wants};
+ghost use Rattle.cas_hold.specs.Open.{IsFree};
+ghost use Rattle.cas_hold.specs.Orders.{HasOrder};
+
+use crate::board::{Board, Pass};
+use crate::change::rounds_with;
+use crate::fates::Holds;
+use cas_ballot::AcceptorId;
+use cas_change::{Key, Program};
+use cas_disk::Disk;
+use cas_fate::{Fate, Verdict};
+use cas_hold::{
+    Aim, Begun, Listing, MembersStep, Rescan, Rescanning, Waiting, advance, list_on, order_members,
+    rescan_on, take_up,
+};
+use cas_record::{Answer, Asked, OpAnswer};
+use cas_world::PlanKind;
+use std::sync::Wait;
+
+impl<D: Disk> Board<D> {
+    /// The acceptor joins, as a call of the operator; gives what the operator is told. A join of it that stopped before goes on. Each key
+    /// that is proposed anew has so many rounds at most, from 1, as a change has. The pass is caller 0's. What becomes of each frame the
+    /// fate says, and it is asked while this call does not hold the turn.
+    ///
+    /// What the operator is told is marked last in the front that the pass has seen then: [`OpAnswer::Joined`], [`OpAnswer::Refused`] where
+    /// the acceptor may not join, [`OpAnswer::Busy`], [`OpAnswer::ProposerDown`], or [`OpAnswer::Stopped`]. A call that is refused with
+    /// [`Answer::RecordFull`], or with [`Answer::NoMemory`], may not have been begun: none of caller 0's marks was made then.
+    pub fn join_member<R: Wait, F: Fate>(
+        &self,
+        rt: &R,
+        pass: &mut Pass<D>,
+        fate: &mut F,
+        id: AcceptorId,
+        tries: u32,
+    ) -> OpAnswer
+        requires pass { IsPassOf self.now.id pass.old }
+        requires operator { pass.old.number ≡ 0 }
+        requires free { IsFree pass.old.own }
+        requires some { 1 ≤ tries }
+        ensures pass { pass.new ≡ record pass.old { seen = pass.new.seen; own = pass.new.own } }
+        ensures free { IsFree pass.new.own }
+        ensures operates { Operates (Asked.Join id) IsRescanMark (F.harm_count fate.old) (F.harm_count fate.new) pass.old pass.new result }
+        ensures answer { IsMembersAnswer (Asked.Join id) result }
+        ensures legal { D.tells → IsLegal (reverse pass.new.seen) }
+    {
+        let aim = Aim {
+            kind: PlanKind::Join,
+            id,
+        };
+        self.change_members(rt, pass, fate, &aim, tries)
+    }
+
+    /// The acceptor leaves, as a call of the operator; gives what the operator is told. All else is as for [`Board::join_member`], but that it is
+    /// [`OpAnswer::Left`] that tells of its end.
+    pub fn leave_member<R: Wait, F: Fate>(
+        &self,
+        rt: &R,
+        pass: &mut Pass<D>,
+        fate: &mut F,
+        id: AcceptorId,
+        tries: u32,
+    ) -> OpAnswer
+        requires pass { IsPassOf self.now.id pass.old }
+        requires operator { pass.old.number ≡ 0 }
+        requires free { IsFree pass.old.own }
+        requires some { 1 ≤ tries }
+        ensures pass { pass.new ≡ record pass.old { seen = pass.new.seen; own = pass.new.own } }
+        ensures free { IsFree pass.new.own }
+        ensures operates { Operates (Asked.Leave id) IsRescanMark (F.harm_count fate.old) (F.harm_count fate.new) pass.old pass.new result }
+        ensures answer { IsMembersAnswer (Asked.Leave id) result }
+        ensures legal { D.tells → IsLegal (reverse pass.new.seen) }
+    {
+        let aim = Aim {
+            kind: PlanKind::Leave,
+            id,
+        };
+        self.change_members(rt, pass, fate, &aim, tries)
+    }
+
+    /// Runs a change of membership as a call of the operator.
+    fn change_members<R: Wait, F: Fate>(
+        &self,
+        rt: &R,
+        pass: &mut Pass<D>,
+        fate: &mut F,
+        aim: &Aim,
+        tries: u32,
+    ) -> OpAnswer
+        requires pass { IsPassOf self.now.id pass.old }
+        requires operator { pass.old.number ≡ 0 }
+        requires free { IsFree pass.old.own }
+        ensures pass { pass.new ≡ record pass.old { seen = pass.new.seen; own = pass.new.own } }
+        ensures free { IsFree pass.new.own }
+        ensures operates { Operates (asked_to aim.now.kind aim.now.id) IsRescanMark (F.harm_count fate.old) (F.harm_count fate.new) pass.old pass.new result }
+        ensures answer { IsMembersAnswer (asked_to aim.now.kind aim.now.id) result }
+        ensures legal { D.tells → IsLegal (reverse pass.new.seen) }
+    {
+        match self.order_members_once(rt, pass, aim) {
+            Ok(program) => self.carry_out(rt, pass, fate, aim, &program, tries),
+            Err(refusal) => OpAnswer::Stopped(refusal),
+        }
+    }
+
+    /// Begins the change unless it is under way, and takes its steps until the operator is told.
+    fn carry_out<R: Wait, F: Fate>(
+        &self,
+        rt: &R,
+        pass: &mut Pass<D>,
+        fate: &mut F,
+        aim: &Aim,
+        program: &Program,
+        tries: u32,
+    ) -> OpAnswer
+        requires pass { IsPassOf self.now.id pass.old }
+        requires operator { pass.old.number ≡ 0 }
+        requires ordered { HasOrder (asked_to aim.now.kind aim.now.id) pass.old.own }
+        requires program { program.now ≡ keep_always }
+        ensures pass { pass.new ≡ record pass.old { seen = pass.new.seen; own = pass.new.own } }
+        ensures told { (lost : ℕ) × IsCounted lost (F.harm_count fate.old) (F.harm_count fate.new) × WasToldLast (asked_to aim.now.kind aim.now.id) IsRescanMark lost pass.old pass.new result }
+        ensures answer { IsMembersAnswer (asked_to aim.now.kind aim.now.id) result }
+        ensures legal { D.tells → IsLegal (reverse pass.new.seen) }
+    {
+        match self.take_up_once(rt, pass, aim) {
+            Ok(()) => self.take_steps(rt, pass, fate, aim, program, tries),
+            Err(told) => told,
+        }
+    }
+
+    /// Takes the steps of the change until the operator is told.
+    fn take_steps<R: Wait, F: Fate>(
+        &self,
+        rt: &R,
+        pass: &mut Pass<D>,
+        fate: &mut F,
+        aim: &Aim,
+        program: &Program,
+        tries: u32,
+    ) -> OpAnswer
+        requires pass { IsPassOf self.now.id pass.old }
+        requires operator { pass.old.number ≡ 0 }
+        requires planned { HasPlan (asked_to aim.now.kind aim.now.id) pass.old.own }
+        requires program { program.now ≡ keep_always }
+        ensures pass { pass.new ≡ record pass.old { seen = pass.new.seen; own = pass.new.own } }
+        ensures told { (lost : ℕ) × IsCounted lost (F.harm_count fate.old) (F.harm_count fate.new) × WasToldLast (asked_to aim.now.kind aim.now.id) IsRescanMark lost pass.old pass.new result }
+        ensures answer { IsMembersAnswer (asked_to aim.now.kind aim.now.id) result }
+        ensures legal { D.tells → IsLegal (reverse pass.new.seen) }
+    {
+        let mut holds = Holds::new();
+        for _ in rt.forever() {
+            match self.take_step(rt, pass, fate, &mut holds, aim, program, tries) {
+                Ok(()) => {}
+                Err(told) => return told,
+            }
+        }
+        unreachable!()
+    }
+
+    /// Takes the next step of the change. An `Err` is what the operator was told, and its call is over.
+    fn take_step<R: Wait, F: Fate>(
+        &self,
+        rt: &R,
+        pass: &mut Pass<D>,
+        fate: &mut F,
+        holds: &mut Holds,
+        aim: &Aim,
+        program: &Program,
+        tries: u32,
+    ) -> Result<(), OpAnswer>
+        requires pass { IsPassOf self.now.id pass.old }
+        requires operator { pass.old.number ≡ 0 }
+        requires planned { HasPlan (asked_to aim.now.kind aim.now.id) pass.old.own }
+        requires program { program.now ≡ keep_always }
+        ensures pass { pass.new ≡ record pass.old { seen = pass.new.seen; own = pass.new.own } }
+        ensures goes_on { OnOk result ((lost : ℕ) × IsCounted lost (F.harm_count fate.old) (F.harm_count fate.new) × HasOperated IsRescanMark lost pass.old pass.new) }
+        ensures planned { OnOk result (HasPlan (asked_to aim.now.kind aim.now.id) pass.new.own) }
+        ensures told { IfErr result (λ told. (lost : ℕ) × IsCounted lost (F.harm_count fate.old) (F.harm_count fate.new) × WasToldLast (asked_to aim.now.kind aim.now.id) IsRescanMark lost pass.old pass.new told) }
+        ensures answer { IfErr result (IsMembersAnswer (asked_to aim.now.kind aim.now.id)) }
+        ensures legal { D.tells → IsLegal (reverse pass.new.seen) }
+    {
+        match self.advance_once(rt, pass, aim, program) {
+            Ok(step) => self.finish_step(rt, pass, fate, holds, aim, step, program, tries),
+            Err(told) => Err(told),
+        }
+    }
+
+    /// Runs the step that has begun to its end. An `Err` is what the operator was told, and its call is over.
+    fn finish_step<R: Wait, F: Fate>(
+        &self,
+        rt: &R,
+        pass: &mut Pass<D>,
+        fate: &mut F,
+        holds: &mut Holds,
+        aim: &Aim,
+        step: MembersStep,
+        program: &Program,
+        tries: u32,
+    ) -> Result<(), OpAnswer>
+        requires pass { IsPassOf self.now.id pass.old }
+        requires operator { pass.old.number ≡ 0 }
+        requires stands { StandsAt (asked_to aim.now.kind aim.now.id) pass.old.own (wanted_by 0 pass.old.seen) step }
+        requires legal { D.tells → IsLegal (reverse pass.old.seen) }
+        requires program { program.now ≡ keep_always }
+        ensures pass { pass.new ≡ record pass.old { seen = pass.new.seen; own = pass.new.own } }
+        ensures goes_on { OnOk result ((lost : ℕ) × IsCounted lost (F.harm_count fate.old) (F.harm_count fate.new) × HasOperated IsRescanMark lost pass.old pass.new) }
+        ensures planned { OnOk result (HasPlan (asked_to aim.now.kind aim.now.id) pass.new.own) }
+        ensures told { IfErr result (λ told. (lost : ℕ) × IsCounted lost (F.harm_count fate.old) (F.harm_count fate.new) × WasToldLast (asked_to aim.now.kind aim.now.id) IsRescanMark lost pass.old pass.new told) }
+        ensures answer { IfErr result (IsMembersAnswer (asked_to aim.now.kind aim.now.id)) }
+        ensures legal { D.tells → IsLegal (reverse pass.new.seen) }
+    {
+        match step {
+            MembersStep::Next => Ok(()),
+            MembersStep::Lists(waits) => self.run_listing(rt, pass, fate, holds, aim, waits),
+            MembersStep::Rescans(rescan) => {
+                self.run_rescan(rt, pass, fate, holds, aim, rescan, program, tries)
+            }
+        }
+    }
+
+    /// Goes on with asking the members for their next keys until what they told is gathered. An `Err` is what the operator was told, and
+    /// its call is over.
+    fn run_listing<R: Wait, F: Fate>(
+        &self,
+        rt: &R,
+        pass: &mut Pass<D>,
+        fate: &mut F,
+        holds: &mut Holds,
+        aim: &Aim,
+        first: Option<Waiting>,
+    ) -> Result<(), OpAnswer>
+        requires pass { IsPassOf self.now.id pass.old }
+        requires operator { pass.old.number ≡ 0 }
+        requires lists { HasListing (asked_to aim.now.kind aim.now.id) pass.old.own }
+        ensures pass { pass.new ≡ record pass.old { seen = pass.new.seen; own = pass.new.own } }
+        ensures goes_on { OnOk result ((lost : ℕ) × IsCounted lost (F.harm_count fate.old) (F.harm_count fate.new) × HasOperated IsRescanMark lost pass.old pass.new) }
+        ensures planned { OnOk result (HasPlan (asked_to aim.now.kind aim.now.id) pass.new.own) }
+        ensures told { IfErr result (λ told. (lost : ℕ) × IsCounted lost (F.harm_count fate.old) (F.harm_count fate.new) × WasToldLast (asked_to aim.now.kind aim.now.id) IsRescanMark lost pass.old pass.new told) }
+        ensures answer { IfErr result (IsMembersAnswer (asked_to aim.now.kind aim.now.id)) }
+        ensures legal { D.tells → IsLegal (reverse pass.new.seen) }
+    {
+        let mut waits = first;
+        let mut again = false;
+        for _ in rt.forever() {
+            let verdict = self.verdict_for(rt, pass, fate, holds, &waits, again);
+            match self.list_on_once(rt, pass, aim, verdict) {
+                Ok(Listing::Waits(next)) => waits = next,
+                Ok(Listing::Over) => return Ok(()),
+                Err(told) => return Err(told),
+            }
+            again = verdict == Verdict::Twice;
+        }
+        unreachable!()
+    }
+
+    /// Goes on with the call that proposes a key anew until it is done. A conflict may be followed by another round until there were
+    /// `tries`. An `Err` is what the operator was told, and its call is over.
+    fn run_rescan<R: Wait, F: Fate>(
+        &self,
+        rt: &R,
+        pass: &mut Pass<D>,
+        fate: &mut F,
+        holds: &mut Holds,
+        aim: &Aim,
+        rescan: Rescan,
+        program: &Program,
+        tries: u32,
+    ) -> Result<(), OpAnswer>
+        requires pass { IsPassOf self.now.id pass.old }
+        requires operator { pass.old.number ≡ 0 }
+        requires rescans { HasRescan (asked_to aim.now.kind aim.now.id) rescan.begun.call rescan.key pass.old.own }
+        requires wanted { wanted_by 0 pass.old.seen ≡ Some (wants rescan.begun.call rescan.key program.now) }
+        ensures pass { pass.new ≡ record pass.old { seen = pass.new.seen; own = pass.new.own } }
+        ensures goes_on { OnOk result ((lost : ℕ) × IsCounted lost (F.harm_count fate.old) (F.harm_count fate.new) × HasOperated IsRescanMark lost pass.old pass.new) }
+        ensures planned { OnOk result (HasPlan (asked_to aim.now.kind aim.now.id) pass.new.own) }
+        ensures told { IfErr result (λ told. (lost : ℕ) × IsCounted lost (F.harm_count fate.old) (F.harm_count fate.new) × WasToldLast (asked_to aim.now.kind aim.now.id) IsRescanMark lost pass.old pass.new told) }
+        ensures answer { IfErr result (IsMembersAnswer (asked_to aim.now.kind aim.now.id)) }
+        ensures legal { D.tells → IsLegal (reverse pass.new.seen) }
+    {
+        let Rescan { key, begun } = rescan;
+        let Begun { call, mut stage } = begun;
+        let mut rounds = 1;
+        let mut again = false;
+        for _ in rt.forever() {
+            let verdict = self.verdict_at(rt, pass, fate, holds, &stage, again);
+            rounds = rounds_with(rounds, &stage);
+            let more = rounds < tries;
+            match self.rescan_on_once(rt, pass, aim, call, &key, program, verdict, more) {
+                Ok(Rescanning::Goes(next)) => stage = next,
+                Ok(Rescanning::Counted) => return Ok(()),
+                Err(told) => return Err(told),
+            }
+            again = verdict == Verdict::Twice;
+        }
+        unreachable!()
+    }
+
+    /// A hold in which a change of membership begins as a call of the operator.
+    fn order_members_once<R: Wait>(
+        &self,
+        rt: &R,
+        pass: &mut Pass<D>,
+        aim: &Aim,
+    ) -> Result<Program, Answer>
+        requires pass { IsPassOf self.now.id pass.old }
+        requires operator { pass.old.number ≡ 0 }
+        requires free { IsFree pass.old.own }
+        ensures pass { pass.new ≡ record pass.old { seen = pass.new.seen; own = pass.new.own } }
+        ensures front { GoesOn pass.old.number pass.old.seen pass.new.seen [] }
+        ensures program { IfOk result (λ program. program ≡ keep_always) }
+        ensures ordered { OnOk result (HasOrder (asked_to aim.now.kind aim.now.id) pass.new.own) }
+        ensures refused { IfErr result (λ why. IsRefusal why × IsFree pass.new.own) }
+        ensures legal { D.tells → IsLegal (reverse pass.new.seen) }
+    {
+        let mut shared = self.turn.hold(rt, pass);
+        let ordered = order_members(self.alloc, &mut shared.store.world, aim);
+        self.give_back(rt, pass, shared);
+        ordered
+    }
+
+    /// A hold in which the change of membership begins, unless it is under way.
+    fn take_up_once<R: Wait>(&self, rt: &R, pass: &mut Pass<D>, aim: &Aim) -> Result<(), OpAnswer>
+        requires pass { IsPassOf self.now.id pass.old }
+        requires operator { pass.old.number ≡ 0 }
+        requires ordered { HasOrder (asked_to aim.now.kind aim.now.id) pass.old.own }
+        ensures pass { pass.new ≡ record pass.old { seen = pass.new.seen; own = pass.new.own } }
+        ensures front { OnOk result (GoesOn pass.old.number pass.old.seen pass.new.seen []) }
+        ensures planned { OnOk result (HasPlan (asked_to aim.now.kind aim.now.id) pass.new.own) }
+        ensures told { IfErr result (WasToldLast (asked_to aim.now.kind aim.now.id) IsRescanMark 0 pass.old pass.new) }
+        ensures answer { IfErr result (IsMembersAnswer (asked_to aim.now.kind aim.now.id)) }
+        ensures legal { D.tells → IsLegal (reverse pass.new.seen) }
+    {
+        let mut shared = self.turn.hold(rt, pass);
+        let taken_up = take_up(&mut shared.store.world, aim);
+        self.give_back(rt, pass, shared);
+        taken_up
+    }
+
+    /// A hold in which the next step of the change begins.
+    fn advance_once<R: Wait>(
+        &self,
+        rt: &R,
+        pass: &mut Pass<D>,
+        aim: &Aim,
+        program: &Program,
+    ) -> Result<MembersStep, OpAnswer>
+        requires pass { IsPassOf self.now.id pass.old }
+        requires operator { pass.old.number ≡ 0 }
+        requires planned { HasPlan (asked_to aim.now.kind aim.now.id) pass.old.own }
+        requires program { program.now ≡ keep_always }
+        ensures pass { pass.new ≡ record pass.old { seen = pass.new.seen; own = pass.new.own } }
+        ensures goes_on { OnOk result (HasOperated IsRescanMark 0 pass.old pass.new) }
+        ensures step { IfOk result (StandsAt (asked_to aim.now.kind aim.now.id) pass.new.own (wanted_by 0 pass.new.seen)) }
+        ensures told { IfErr result (WasToldLast (asked_to aim.now.kind aim.now.id) IsRescanMark 0 pass.old pass.new) }
+        ensures answer { IfErr result (IsMembersAnswer (asked_to aim.now.kind aim.now.id)) }
+        ensures legal { D.tells → IsLegal (reverse pass.new.seen) }
+    {
+        let mut shared = self.turn.hold(rt, pass);
+        let step = advance(&mut shared.store.world, aim, program);
+        self.give_back(rt, pass, shared);
+        step
+    }
+
+    /// A hold in which members are asked for their next keys, or what they told is gathered.
+    fn list_on_once<R: Wait>(
+        &self,
+        rt: &R,
+        pass: &mut Pass<D>,
+        aim: &Aim,
+        verdict: Verdict,
+    ) -> Result<Listing, OpAnswer>
+        requires pass { IsPassOf self.now.id pass.old }
+        requires operator { pass.old.number ≡ 0 }
+        requires lists { HasListing (asked_to aim.now.kind aim.now.id) pass.old.own }
+        ensures pass { pass.new ≡ record pass.old { seen = pass.new.seen; own = pass.new.own } }
+        ensures goes_on { OnOk result (HasOperated IsRescanMark (harm_by verdict) pass.old pass.new) }
+        ensures listed { IfOk result (IsListedTo (asked_to aim.now.kind aim.now.id) pass.new.own) }
+        ensures told { IfErr result (WasToldLast (asked_to aim.now.kind aim.now.id) IsRescanMark (harm_by verdict) pass.old pass.new) }
+        ensures answer { IfErr result (IsMembersAnswer (asked_to aim.now.kind aim.now.id)) }
+        ensures legal { D.tells → IsLegal (reverse pass.new.seen) }
+    {
+        let mut shared = self.turn.hold(rt, pass);
+        let listing = list_on(&mut shared.store.world, aim, verdict);
+        self.give_back(rt, pass, shared);
+        listing
+    }
+
+    /// A hold in which the call that proposes a key anew goes on.
+    fn rescan_on_once<R: Wait>(
+        &self,
+        rt: &R,
+        pass: &mut Pass<D>,
+        aim: &Aim,
+        call: u32,
+        key: &Key,
+        program: &Program,
+        verdict: Verdict,
+        may_repeat: bool,
+    ) -> Result<Rescanning, OpAnswer>
+        requires pass { IsPassOf self.now.id pass.old }
+        requires operator { pass.old.number ≡ 0 }
+        requires rescans { HasRescan (asked_to aim.now.kind aim.now.id) call key.now pass.old.own }
+        requires wanted { wanted_by 0 pass.old.seen ≡ Some (wants call key.now program.now) }
+        ensures pass { pass.new ≡ record pass.old { seen = pass.new.seen; own = pass.new.own } }
+        ensures goes_on { OnOk result (HasOperated IsRescanMark (harm_by verdict) pass.old pass.new) }
+        ensures wanted { IfOk result (λ now. now ≢ Rescanning.Counted → wanted_by 0 pass.new.seen ≡ wanted_by 0 pass.old.seen) }
+        ensures rescans { IfOk result (IsRescannedTo (asked_to aim.now.kind aim.now.id) call key.now pass.new.own) }
+        ensures told { IfErr result (WasToldLast (asked_to aim.now.kind aim.now.id) IsRescanMark (harm_by verdict) pass.old pass.new) }
+        ensures answer { IfErr result (IsMembersAnswer (asked_to aim.now.kind aim.now.id)) }
+        ensures legal { D.tells → IsLegal (reverse pass.new.seen) }
+    {
+        let mut shared = self.turn.hold(rt, pass);
+        let world = &mut shared.store.world;
+        let rescanning = rescan_on(world, aim, call, key, program, verdict, may_repeat);
+        self.give_back(rt, pass, shared);
+        rescanning
+    }
+}
