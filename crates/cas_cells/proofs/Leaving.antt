@@ -1,17 +1,18 @@
 -- What the steps of a change leave of a disk.
 use Rattle.std.specs.Prelude.{OnOk}
-use Rattle.std.proofs.Common.{Result, Ok, Err, ◌≡◌, inl, inr, ⊎_elim, ℕ, ◌*◌, true, false, Option, Some, List, [], ◌∷◌, length, get_or, drop, refl, sym, ◌∙◌, ap, subst, arith}
+use Rattle.std.proofs.Common.{Result, Ok, Err, ◌≡◌, ◌⊎◌, inl, inr, ⊎_elim, ℕ, ◌+◌, ◌*◌, ◌<◌, ◌≤◌, ◌++◌, true, false, Option, Some, List, [], ◌∷◌, length, get_or, drop, refl, sym, ◌∙◌, ap, subst, arith}
 use Rattle.cas_disk.specs.Disk.{Only, Keeps, ContinuesOnly}
 use Rattle.cas_disk.proofs.Moments.{weaker, then_on}
 use Rattle.cas_cells.specs.Format.{frame_at, frame_size, half_size, next, IsPayload}
 use Rattle.cas_cells.specs.Torn.{Others, GateTorn, TailTorn}
-use Rattle.cas_cells.specs.Held.{tail_of, IsShut, FramesHeld, CellHeld, HoldsTail, payload_held, frame_of, other, Leaves, MayOpen, Shuts, Opens, Still}
+use Rattle.cas_cells.specs.Held.{tail_of, IsShut, FramesHeld, CellHeld, HoldsTail, payload_held, frame_of, other, Leaves, MayOpen, IsAsBefore, Shuts, Writes, Opens, Still}
 use Rattle.cas_cells.specs.declared.cell.Side.{Side}
 use Rattle.cas_cells.specs.declared.cell.Side.TheVariants.{First, Second}
 use Rattle.cas_cells.specs.declared.cell.Cell.{Cell}
 use Rattle.cas_cells.proofs.Turning.{held_shut, spare_size, while_closing, while_writing, while_opening, held_with, opened_held, closed_held, shut_frame}
 use Rattle.cas_cells.proofs.Places.{sized, size_of_side}
 use Rattle.cas_cells.proofs.Rows.{sound_from, cell_sound, sides_apart}
+use Rattle.cas_cells.proofs.Zeros.{zero_past, zero_further, covered}
 
 -- two facts of a call that succeeded
 pub on_ok_both : {T E : Type 0} {P Q R : Type 0} (r : Result T E) → (P → Q → R) → OnOk r P → OnOk r Q → OnOk r R
@@ -100,18 +101,30 @@ module _ (narrow : ℕ) where
         let long : length (frame_at narrow new k) ≡ half_size narrow i = ap length is ∙ zero_tail spare spare_whole in
         let gate : get_or (frame_at narrow new k) 0 0 ≡ 0 = ap (λ (l : List ℕ). get_or l 0 0) is in
         let shut : IsShut (half_size narrow i) (frame_at narrow new k) = shut_frame (half_size narrow i) (sized narrow (2 * i)) (frame_at narrow new k) long (λ one. let zero_one : 0 ≡ 1 = sym gate ∙ one in absurd (omega arith)) in
-        subst (λ (f : List ℕ). FramesHeld (half_size narrow i) cell' f (frame_at narrow new k)) (sym same) (closed_held (half_size narrow i) (sized narrow (2 * i)) cell cell' current spare (frame_at narrow new k) held shut opened shuts)
+        subst (λ (f : List ℕ). FramesHeld (half_size narrow i) cell' f (frame_at narrow new k)) (sym same) (closed_held (half_size narrow i) (sized narrow (2 * i)) cell cell' current spare (frame_at narrow new k) held shut opened shuts (ap (λ (l : List ℕ). drop 1 l) is))
       where
         zero_tail : (f : List ℕ) → length f ≡ half_size narrow i → length (0 ∷ drop 1 f) ≡ half_size narrow i
         zero_tail [] none = absurd (omega (arith, none, (sized narrow (2 * i)).least))
         zero_tail (g ∷ f) some = some
 
-    -- the tail of the closed spare was written
-    pub held_tail : (new : List ℕ) → cell.spare_open ≡ false → TailTorn narrow k old new → CellHeld narrow new i cell
-    held_tail new closed torn =
+    -- the spare ends behind the bytes that were written
+    pub spare_covered : (new p tail : List ℕ) (reach : ℕ) → IsPayload (reach + 1) p → reach < half_size narrow i → (cell.spare_used ≤ reach) ⊎ (half_size narrow i ≡ reach + 1) → tail ≡ tail_of (reach + 1) (next cell.number) p → drop 1 (frame_at narrow new k) ≡ tail ++ drop (length tail + 1) spare → drop 1 (frame_at narrow new k) ≡ tail_of (half_size narrow i) (next cell.number) p
+    spare_covered new p tail reach fits within used made is =
+        is ∙ covered (half_size narrow i) reach (next cell.number) p tail spare fits within spare_whole
+        (⊎_elim (λ low. zero_further cell.spare_used reach spare low held.in_rest) (λ all. zero_past reach spare (let e : length spare ≤ reach + 1 = omega (arith, all, spare_whole) in e)) used) made
+
+    -- a payload was written into the closed spare
+    pub held_tail : (cell' : Cell) (new p : List ℕ) → cell.spare_open ≡ false → TailTorn narrow k old new → Writes p cell cell' → drop 1 (frame_at narrow new k) ≡ tail_of (half_size narrow i) (next cell.number) p → CellHeld narrow new i cell'
+    held_tail cell' new p closed torn writes tail =
         let same : frame_at narrow new (frame_of i cell.side) ≡ current = torn.others (frame_of i cell.side) (sides_apart i cell.side) in
-        subst (λ (f : List ℕ). FramesHeld (half_size narrow i) cell f (frame_at narrow new k)) (sym same)
-        (held_with (half_size narrow i) (sized narrow (2 * i)) cell current spare (frame_at narrow new k) held closed (while_writing (half_size narrow i) (sized narrow (2 * i)) cell current spare (frame_at narrow new k) held closed torn.gate (torn.size ∙ size_of_side narrow i (other cell.side))))
+        subst (λ (s : Side). FramesHeld (half_size narrow i) cell' (frame_at narrow new (frame_of i s)) (frame_at narrow new (frame_of i (other s)))) (sym writes.same.side)
+        (subst (λ (f : List ℕ). FramesHeld (half_size narrow i) cell' f (frame_at narrow new k)) (sym same)
+        (held_with (half_size narrow i) (sized narrow (2 * i)) cell cell' p current spare (frame_at narrow new k) held closed (while_writing (half_size narrow i) (sized narrow (2 * i)) cell current spare (frame_at narrow new k) held closed torn.gate (torn.size ∙ size_of_side narrow i (other cell.side))) writes tail))
+
+    -- it stands there under the number that follows
+    pub stands_written : (cell' : Cell) (new p : List ℕ) → IsAsBefore cell cell' → drop 1 (frame_at narrow new k) ≡ tail_of (half_size narrow i) (next cell.number) p → HoldsTail narrow new i cell' p
+    stands_written cell' new p same tail =
+        ap (λ (s : Side). drop 1 (frame_at narrow new (frame_of i (other s)))) same.side ∙ tail ∙ ap (λ (n : ℕ). tail_of (half_size narrow i) (next n) p) (sym same.number)
 
     -- the spare was opened
     pub held_opened : (after : Cell) (new payload : List ℕ) → IsPayload (half_size narrow i) payload → drop 1 spare ≡ tail_of (half_size narrow i) (next cell.number) payload → Others narrow k old new → frame_at narrow new k ≡ 1 ∷ drop 1 spare → Opens payload cell after → CellHeld narrow new i after
@@ -126,22 +139,18 @@ module _ (narrow : ℕ) where
         twice First = refl
         twice Second = refl
 
-  -- the bytes that were made for a cell stand in its spare after that was closed
-  module _ {read made shown p : List ℕ} {n size : ℕ} {cell cell1 : Cell} where
-    pub tail_stands : (disk : List ℕ) (i : ℕ) → Shuts cell cell1 → drop 1 (frame_at narrow disk (frame_of i (other cell1.side))) ≡ read → read ≡ made → made ≡ tail_of size n shown → size ≡ half_size narrow i → n ≡ next cell.number → shown ≡ p → HoldsTail narrow disk i cell1 p
-    tail_stands disk i shuts stands is_made makes sized_is follows is_p =
-        stands ∙ is_made ∙ makes ∙ ap (λ (m : ℕ). tail_of m n shown) sized_is ∙ ap (λ (m : ℕ). tail_of (half_size narrow i) m shown) (follows ∙ ap next (sym shuts.number)) ∙ ap (λ (l : List ℕ). tail_of (half_size narrow i) (next cell1.number) l) is_p
-
   -- the three steps of one cell after one another, in which a crash leaves its old payload or the new
-  module _ {D : Type 0} {moment : D → ℕ} {left_since : D → ℕ → List ℕ → Type 0} {d0 d1 d2 d3 : D} {old mid1 mid2 p : List ℕ} {i j : ℕ} {cell cell1 : Cell} where
-    pub three_steps : Shuts cell cell1 → ContinuesOnly moment left_since d0 d1 (Leaves narrow (frame_of i (other cell.side)) old i (payload_held cell)) → ContinuesOnly moment left_since d1 d2 (Leaves narrow (frame_of i (other cell1.side)) mid1 i (payload_held cell1)) → ContinuesOnly moment left_since d2 d3 (GateTorn narrow j mid2)
-        → CellHeld narrow mid2 i cell1 → IsPayload (half_size narrow i) p → HoldsTail narrow mid2 i cell1 p → j ≡ frame_of i (other cell1.side) → Others narrow (frame_of i (other cell.side)) old mid1 → Others narrow (frame_of i (other cell1.side)) mid1 mid2
+  module _ {D : Type 0} {moment : D → ℕ} {left_since : D → ℕ → List ℕ → Type 0} {d0 d1 d2 d3 : D} {old mid1 mid2 p : List ℕ} {i j : ℕ} {cell cell1 cell2 : Cell} where
+    pub three_steps : Shuts cell cell1 → IsAsBefore cell1 cell2 → ContinuesOnly moment left_since d0 d1 (Leaves narrow (frame_of i (other cell.side)) old i (payload_held cell)) → ContinuesOnly moment left_since d1 d2 (Leaves narrow (frame_of i (other cell1.side)) mid1 i (payload_held cell1)) → ContinuesOnly moment left_since d2 d3 (GateTorn narrow j mid2)
+        → CellHeld narrow mid2 i cell2 → IsPayload (half_size narrow i) p → HoldsTail narrow mid2 i cell2 p → j ≡ frame_of i (other cell2.side) → Others narrow (frame_of i (other cell.side)) old mid1 → Others narrow (frame_of i (other cell1.side)) mid1 mid2
         → ContinuesOnly moment left_since d0 d3 (MayOpen narrow (frame_of i (other cell.side)) old i (payload_held cell) p)
-    three_steps shuts first second third held fits staged is_j others1 others2 =
+    three_steps shuts stays first second third held fits staged is_j others1 others2 =
         let k = frame_of i (other cell.side) in
         let k1 = frame_of i (other cell1.side) in
         let pay = payload_held cell in
+        let k2 = frame_of i (other cell2.side) in
         let same : k1 ≡ k = ap (λ (s : Side). frame_of i (other s)) shuts.side in
+        let same2 : k2 ≡ k = ap (λ (s : Side). frame_of i (other s)) stays.side ∙ same in
         let others2' : Others narrow k mid1 mid2 = subst (λ (n : ℕ). Others narrow n mid1 mid2) same others2 in
         let old_mid2 : Others narrow k old mid2 = others_from k old mid1 mid2 others1 others2' in
         then_on moment left_since d0 d2 d3 (MayOpen narrow k old i pay p)
@@ -152,5 +161,5 @@ module _ (narrow : ℕ) where
         (subst (λ (n : ℕ). Leaves narrow n mid1 i pay image) same (subst (λ (o : Option (List ℕ)). Leaves narrow k1 mid1 i o image) shuts.held leaves)))) second))
         (weaker moment left_since d2 d3 (GateTorn narrow j mid2) (MayOpen narrow k old i pay p)
         (λ image torn. opens_from k i pay p old mid2 image old_mid2
-        (subst (λ (n : ℕ). MayOpen narrow n mid2 i pay p image) same (subst (λ (o : Option (List ℕ)). MayOpen narrow k1 mid2 i o p image) shuts.held
-        (may_open cell1 mid2 i held image p fits staged (subst (λ (n : ℕ). GateTorn narrow n mid2 image) is_j torn))))) third)
+        (subst (λ (n : ℕ). MayOpen narrow n mid2 i pay p image) same2 (subst (λ (o : Option (List ℕ)). MayOpen narrow k2 mid2 i o p image) (stays.held ∙ shuts.held)
+        (may_open cell2 mid2 i held image p fits staged (subst (λ (n : ℕ). GateTorn narrow n mid2 image) is_j torn))))) third)

@@ -3,6 +3,7 @@ mod Frames
 mod Growing
 mod Leaving
 pub mod Lengths
+mod Lists
 pub mod Places
 mod Placing
 mod Recovering
@@ -13,3 +14,4 @@ pub mod Survival
 mod Tearing
 mod Turning
 mod Using
+mod Zeros

@@ -4,7 +4,7 @@ use Rattle.std.proofs.Common.{◌≡◌, ◌≢◌, ℕ, ◌+◌, ◌-◌, ◌*�
 use Rattle.std.proofs.lemmas.List.{length-map, take_min, drop_min, take-take, drop-take, drop-drop}
 use Rattle.std.proofs.lemmas.Bool.Decides.{nat_tests}
 use Rattle.cas_cells.specs.Format.{frame_at, cell_place, half_size, narrow_told, wide_told, narrow_in, head_in, IsPayload, is_open, number_of, payload_in, next, is_wrong_number, first_wrong, wrong_in_cell, wrong_at, payload_at, wrong_from, foreign_at, count_told}
-use Rattle.cas_cells.specs.Held.{IsFrame, IsShut, IsOlder, IsBlank, FramesHeld, HeldIn, CellHeld, SoundAt, OnDisk, IsRow, HoldsWithin, payload_held, frame_of, other, on}
+use Rattle.cas_cells.specs.Held.{IsFrame, IsShut, IsOlder, IsBlank, IsNew, FramesHeld, HeldIn, CellHeld, SoundAt, OnDisk, IsRow, HoldsWithin, payload_held, frame_of, other, on}
 use Rattle.cas_cells.specs.declared.cell.Side.{Side}
 use Rattle.cas_cells.specs.declared.cell.Side.TheVariants.{First, Second}
 use Rattle.cas_cells.specs.declared.cell.Cell.{Cell}
@@ -14,6 +14,7 @@ use Rattle.cas_disk.specs.Disk.{Keeps, ContinuesOnly}
 use Rattle.cas_disk.proofs.Moments.{weaker, then_on}
 use Rattle.cas_cells.specs.Reading.{OnlyRead}
 use Rattle.cas_cells.proofs.Rows.{cell_sound}
+use Rattle.cas_cells.proofs.Zeros.{zero_past}
 use Rattle.cas_cells.proofs.Growing.{split_whole, get_some}
 
 module _ (size : ℕ) (fit : IsSize size) where
@@ -89,19 +90,21 @@ module _ (size : ℕ) (fit : IsSize size) where
         go false is = second_shut is
 
   -- a cell in memory of these frames, with this current one
-  pub held_current : (cell : Cell) (p current spare : List ℕ) (n : ℕ) (o : Bool) → payload_held cell ≡ Some p → cell.number ≡ n → cell.spare_open ≡ o → IsFrame size n p current → MatchBool o (IsOlder size n spare) (IsShut size spare) → FramesHeld size cell current spare
-  held_current cell p current spare n o pay number spare_is frame there = record {
+  pub held_current : (cell : Cell) (p current spare : List ℕ) (n : ℕ) (o : Bool) → payload_held cell ≡ Some p → cell.number ≡ n → cell.spare_open ≡ o → IsFrame size n p current → MatchBool o (IsOlder size n spare) (IsShut size spare) → length spare ≤ cell.spare_used → FramesHeld size cell current spare
+  held_current cell p current spare n o pay number spare_is frame there used = record {
     in_current = subst (λ (x : Option (List ℕ)). MatchOption x (IsBlank cell × IsShut size current) (λ q. IsFrame size cell.number q current)) (sym pay) (subst (λ (m : ℕ). IsFrame size m p current) (sym number) frame);
     in_spare = subst (λ (x : Bool). MatchBool x (IsOlder size cell.number spare) (IsShut size spare)) (sym spare_is) (subst (λ (m : ℕ). MatchBool o (IsOlder size m spare) (IsShut size spare)) (sym number) there);
+    in_rest = zero_past cell.spare_used spare (omega (arith, used));
   }
 
   pub held_on : (cell : Cell) (side : Side) (f g : List ℕ) → cell.side ≡ side → FramesHeld size cell (on side f g) (on (other side) f g) → HeldIn size f g cell
   held_on cell side f g is held = subst (λ (s : Side). FramesHeld size cell (on s f g) (on (other s) f g)) (sym is) held
 
-  pub held_blank : (cell : Cell) (f g : List ℕ) → IsBlank cell → payload_held cell ≡ None → IsShut size f → IsShut size g → HeldIn size f g cell
-  held_blank cell f g blank none f_shut g_shut = held_on cell Second f g blank.side (record {
+  pub held_blank : (cell : Cell) (f g : List ℕ) → IsNew cell → payload_held cell ≡ None → IsShut size f → IsShut size g → HeldIn size f g cell
+  held_blank cell f g new none f_shut g_shut = let blank = new.blank in held_on cell Second f g blank.side (record {
     in_current = subst (λ (x : Option (List ℕ)). MatchOption x (IsBlank cell × IsShut size g) (λ q. IsFrame size cell.number q g)) (sym none) (blank, g_shut);
     in_spare = subst (λ (x : Bool). MatchBool x (IsOlder size cell.number f) (IsShut size f)) (sym blank.spare) f_shut;
+    in_rest = zero_past cell.spare_used f (omega (arith, f_shut.whole, fit.most, new.used));
   })
 
 module _ (narrow : ℕ) where
@@ -177,10 +180,10 @@ row_read (cell ∷ cells) first head n w one held within narrow wide long =
     }
 
 -- a cell that was made with these parts
-pub made : {E : Type 0} (r : Result Cell E) (Q : Cell → Type 0) (p : List ℕ) (side : Side) (n : ℕ) (o : Bool) → IfOk r (λ c. payload_held c ≡ Some p) → IfOk r (λ c. c.side ≡ side) → IfOk r (λ c. c.number ≡ n) → IfOk r (λ c. c.spare_open ≡ o)
-    → ((cell : Cell) → payload_held cell ≡ Some p → cell.side ≡ side → cell.number ≡ n → cell.spare_open ≡ o → Q cell) → IfOk r Q
-made (Ok cell) Q p side n o pay is_side number spare make = make cell pay is_side number spare
-made (Err e) Q p side n o pay is_side number spare make = pay
+pub made : {E : Type 0} (r : Result Cell E) (Q : Cell → Type 0) (p : List ℕ) (side : Side) (n : ℕ) (o : Bool) (size : ℕ) → IfOk r (λ c. payload_held c ≡ Some p) → IfOk r (λ c. c.side ≡ side) → IfOk r (λ c. c.number ≡ n) → IfOk r (λ c. c.spare_open ≡ o) → IfOk r (λ c. c.spare_used ≡ size)
+    → ((cell : Cell) → payload_held cell ≡ Some p → cell.side ≡ side → cell.number ≡ n → cell.spare_open ≡ o → cell.spare_used ≡ size → Q cell) → IfOk r Q
+made (Ok cell) Q p side n o size pay is_side number spare used make = make cell pay is_side number spare used
+made (Err e) Q p side n o size pay is_side number spare used make = pay
 
 -- one read more
 pub read_more : {D : Type 0} (moment : D → ℕ) (left_since : D → ℕ → List ℕ → Type 0) (seen : D → List ℕ) (may_leave : D → List ℕ → Type 0) (old mid new : D) → OnlyRead moment left_since seen may_leave old mid → Keeps (seen mid) (seen new) (may_leave mid) (may_leave new) → ContinuesOnly moment left_since mid new (λ c. c ≡ seen mid)

@@ -8,7 +8,7 @@ use Rattle.cas_cells.specs.Format.{frame_at, cell_place, half_size, narrow_in, w
 use Rattle.cas_cells.specs.Length.{NotLonger}
 use Rattle.cas_cells.specs.Torn.{SameBelow}
 use Rattle.cas_cells.specs.UnderWay.{change_held, staged_in}
-use Rattle.cas_cells.specs.Held.{Leaves, MayOpen, IsBlank, IsShut, IsRow, OnDisk, payload_held, frame_of, other}
+use Rattle.cas_cells.specs.Held.{Leaves, MayOpen, IsNew, IsShut, IsRow, OnDisk, payload_held, frame_of, other}
 use Rattle.cas_cells.specs.Cells.{cells_of, Stands, Agrees, staged_of}
 use Rattle.cas_cells.specs.declared.cell.Cell.{Cell}
 use Rattle.cas_cells.specs.declared.cells.Cells.{Cells}
@@ -111,7 +111,7 @@ module _ {D : Type 0} {tells : Type 0} {moment : D → ℕ} {left_since : D → 
 
 module _ {D : Type 0} {moment : D → ℕ} {left_since : D → ℕ → List ℕ → Type 0} {may_leave : D → List ℕ → Type 0} {old mid new : D} {seen : List ℕ} {cell : Cell} {head : List ℕ} where
   -- zeros are written over cell 0, which is then changed
-  pub formatting_length : IsBlank cell → payload_held cell ≡ None → IsShut (half_size 0 0) (frame_at 0 seen (2 * 0)) × IsShut (half_size 0 0) (frame_at 0 seen (2 * 0 + 1)) → ((c : List ℕ) → moment old ≤ moment mid → may_leave mid c → left_since mid (moment old) c) → may_leave mid seen
+  pub formatting_length : IsNew cell → payload_held cell ≡ None → IsShut (half_size 0 0) (frame_at 0 seen (2 * 0)) × IsShut (half_size 0 0) (frame_at 0 seen (2 * 0 + 1)) → ((c : List ℕ) → moment old ≤ moment mid → may_leave mid c → left_since mid (moment old) c) → may_leave mid seen
       → NotLonger moment left_since may_leave old mid (cell_place 0 0 + 2 * half_size 0 0) → ContinuesOnly moment left_since mid new (MayOpen 0 (frame_of 0 (other cell.side)) seen 0 (payload_held cell) head) → NotLonger moment left_since may_leave old new 1024
   formatting_length blank none shut counts stays blanking run =
       let ends : cell_place 0 0 + 2 * half_size 0 0 ≡ 1024 = omega (arith, first_place 0, first_size 0) in

@@ -1,5 +1,5 @@
 -- What a torn write into one frame leaves of the frames of a disk.
-use Rattle.std.proofs.Common.{◌≡◌, ◌≢◌, ⊎_elim, ℕ, ◌+◌, ◌-◌, ◌*◌, ◌<◌, ◌≤◌, List, [], ◌∷◌, ◌++◌, length, get_or, take, drop, refl, sym, ◌∙◌, ap, arith, length-append, length-take, length-drop}
+use Rattle.std.proofs.Common.{◌≡◌, ◌≢◌, ⊎_elim, ℕ, suc, ◌+◌, ◌-◌, ◌*◌, ◌<◌, ◌≤◌, List, [], ◌∷◌, ◌++◌, length, get_or, take, drop, refl, sym, ◌∙◌, ap, arith, length-append, length-take, length-drop}
 use Rattle.std.proofs.lemmas.List.{take_at, drop_at, drop-drop, drop-take, take-take, take-append-le, length-take-le, get_or-take, get_or-drop}
 use Rattle.std.proofs.lemmas.Bool.{cases_lt}
 use Rattle.cas_disk.specs.Disk.{Holds, Torn}
@@ -7,6 +7,7 @@ use Rattle.cas_cells.specs.Format.{frame_at, frame_place, frame_size, cell_place
 use Rattle.cas_cells.specs.Torn.{GateTorn, TailTorn, SameBelow}
 use Rattle.cas_cells.specs.Held.{IsShut}
 use Rattle.cas_cells.proofs.Places.{sized, place_below, place_second, size_second}
+use Rattle.cas_cells.proofs.Lists.{regroup}
 
 -- what a write does as a whole it may do in part
 pub holds_torn : (old new bytes : List ℕ) (at : ℕ) → at ≤ length old → Holds old at bytes new → Torn at (length bytes) old new
@@ -21,18 +22,20 @@ holds_torn old new bytes at within holds =
       no_longer = omega (arith, long);
     }
 
--- what was written stands there
+-- what was written stands there, and behind it what stood there
+held_behind : (old new bytes : List ℕ) (at : ℕ) → at ≤ length old → Holds old at bytes new → drop at new ≡ bytes ++ drop (at + length bytes) old
+held_behind old new bytes at within holds =
+    let rest = drop (at + length bytes) old in
+    ap (λ (l : List ℕ). drop at l) (holds ∙ regroup (take at old) bytes rest)
+    ∙ drop_at (take at old) (bytes ++ rest) at (length-take-le at old within)
+
 pub held_bytes : (old new bytes : List ℕ) (at : ℕ) → at ≤ length old → Holds old at bytes new → take (length bytes) (drop at new) ≡ bytes
 held_bytes old new bytes at within holds =
-    let rest = drop (at + length bytes) old in
-    let behind : drop at new ≡ bytes ++ rest =
-    ap (λ (l : List ℕ). drop at l) (holds ∙ append_regroup (take at old) bytes rest)
-    ∙ drop_at (take at old) (bytes ++ rest) at (length-take-le at old within) in
-    ap (λ (l : List ℕ). take (length bytes) l) behind ∙ take_at bytes rest (length bytes) refl
-  where
-    append_regroup : (a b c : List ℕ) → (a ++ b) ++ c ≡ a ++ (b ++ c)
-    append_regroup [] b c = refl
-    append_regroup (x ∷ a) b c = ap (λ (l : List ℕ). x ∷ l) (append_regroup a b c)
+    ap (λ (l : List ℕ). take (length bytes) l) (held_behind old new bytes at within holds) ∙ take_at bytes (drop (at + length bytes) old) (length bytes) refl
+
+take_more : (a b : List ℕ) (m : ℕ) → take (length a + m) (a ++ b) ≡ a ++ take m b
+take_more [] b m = ap (λ (k : ℕ). take k b) (let e : 0 + m ≡ m = omega arith in e)
+take_more (x ∷ a) b m = ap (λ (k : ℕ). take k (x ∷ a ++ b)) (let e : length (x ∷ a) + m ≡ suc (length a + m) = omega arith in e) ∙ ap (λ (l : List ℕ). x ∷ l) (take_more a b m)
 
 -- what lies below a torn range stays
 below : (old c : List ℕ) (at n p m : ℕ) → Torn at n old c → p + m ≤ at → take m (drop p c) ≡ take m (drop p old)
@@ -109,7 +112,7 @@ module _ (narrow : ℕ) where
         size = frame_length c k (omega (arith, torn.no_shorter, within));
       }
 
-  pub tail_torn : (k : ℕ) (old c : List ℕ) → length (frame_at narrow old k) ≡ frame_size narrow k → (n : ℕ) → n + 1 ≡ frame_size narrow k → Torn (frame_place narrow k + 1) n old c → TailTorn narrow k old c
+  pub tail_torn : (k : ℕ) (old c : List ℕ) → length (frame_at narrow old k) ≡ frame_size narrow k → (n : ℕ) → n + 1 ≤ frame_size narrow k → Torn (frame_place narrow k + 1) n old c → TailTorn narrow k old c
   tail_torn k old c whole n rest torn =
       let within : frame_place narrow k + frame_size narrow k ≤ length old = frame_within old k whole in
       let before : frame_place narrow k < frame_place narrow k + 1 = omega arith in
@@ -132,11 +135,20 @@ module _ (narrow : ℕ) where
       let gate : get_or (frame_at narrow new k) 0 0 ≡ g = gate_of new k ∙ head_at new (frame_place narrow k) g (held_bytes old new (g ∷ []) (frame_place narrow k) within holds) in
       gate_tail (frame_at narrow new k) (omega (arith, torn.size, (sized narrow k).least)) ∙ (λ i. gate i ∷ torn.tail i)
 
-  -- a tail was written
-  pub tail_held : (k : ℕ) (tail old new : List ℕ) → length (frame_at narrow old k) ≡ frame_size narrow k → length tail + 1 ≡ frame_size narrow k → Holds old (frame_place narrow k + 1) tail new → drop 1 (frame_at narrow new k) ≡ tail
+  -- a front of a tail was written
+  pub tail_held : (k : ℕ) (tail old new : List ℕ) → length (frame_at narrow old k) ≡ frame_size narrow k → length tail + 1 ≤ frame_size narrow k → Holds old (frame_place narrow k + 1) tail new → drop 1 (frame_at narrow new k) ≡ tail ++ drop (length tail + 1) (frame_at narrow old k)
   tail_held k tail old new whole long holds =
       let within : frame_place narrow k + 1 ≤ length old = omega (arith, frame_within old k whole, (sized narrow k).least) in
-      tail_at new k (length tail) long ∙ held_bytes old new tail (frame_place narrow k + 1) within holds
+      let place = frame_place narrow k in
+      let n = length tail in
+      let m : ℕ = frame_size narrow k - (n + 1) in
+      let all : (n + m) + 1 ≡ frame_size narrow k = omega (arith, long) in
+      let front : (n + 1) + m ≡ frame_size narrow k = omega (arith, long) in
+      let stayed : drop (n + 1) (frame_at narrow old k) ≡ take m (drop (place + 1 + n) old) =
+      ap (λ (s : ℕ). drop (n + 1) (take s (drop place old))) (sym front) ∙ drop-take (n + 1) m (drop place old)
+      ∙ ap (λ (l : List ℕ). take m l) (drop-drop (n + 1) place old) ∙ ap (λ (p : ℕ). take m (drop p old)) (let e : place + (n + 1) ≡ place + 1 + n = omega arith in e) in
+      tail_at new k (n + m) all ∙ ap (λ (l : List ℕ). take (n + m) l) (held_behind old new tail (place + 1) within holds)
+      ∙ take_more tail (drop (place + 1 + n) old) m ∙ ap (λ (l : List ℕ). tail ++ l) (sym stayed)
 
   -- the frames below a cell stay while the cell is written
   pub same_below : (i n : ℕ) (old c : List ℕ) → Torn (cell_place narrow i) n old c → SameBelow narrow (2 * i) old c

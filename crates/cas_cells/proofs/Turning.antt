@@ -6,7 +6,7 @@ use Rattle.std.proofs.Common.{◌≡◌, ◌≢◌, ◌⊎◌, inl, inr, ℕ, �
 use Rattle.std.proofs.lemmas.Bool.{cases_eq}
 use Rattle.std.proofs.lemmas.Bool.Decides.{nat_tests}
 use Rattle.cas_cells.specs.Format.{next, IsPayload}
-use Rattle.cas_cells.specs.Held.{on, tail_of, IsFrame, IsShut, IsOlder, IsBlank, FramesHeld, payload_held, other, Opens, Shuts}
+use Rattle.cas_cells.specs.Held.{on, tail_of, IsFrame, IsShut, IsOlder, IsBlank, IsZeroBehind, used_by, FramesHeld, payload_held, other, IsAsBefore, Writes, Opens, Shuts}
 use Rattle.cas_cells.specs.declared.cell.Side.{Side}
 use Rattle.cas_cells.specs.declared.cell.Side.TheVariants.{First, Second}
 use Rattle.cas_cells.specs.declared.cell.Cell.{Cell}
@@ -14,6 +14,7 @@ use Rattle.cas_cells.proofs.Places.{IsSize}
 use Rattle.cas_cells.proofs.Frames.{frame_whole}
 use Rattle.cas_cells.proofs.Sound.{IsSound, sound}
 use Rattle.cas_cells.proofs.Tearing.{gate_tail}
+use Rattle.cas_cells.proofs.Zeros.{zero_past, zero_gate, zero_tail, zero_frame}
 
 module _ (size : ℕ) (fit : IsSize size) where
   pub weaken : (o : Option (List ℕ)) (P Q : Type 0) (F : List ℕ → Type 0) → (P → Q) → MatchOption o P F → MatchOption o Q F
@@ -71,11 +72,20 @@ module _ (size : ℕ) (fit : IsSize size) where
       let shut = in_shut cell.spare_open cell.number spare closed held.in_spare in
       shut_frame spare' long (λ opened. shut.closed (sym gate ∙ opened))
 
-  -- with another closed spare the cell in memory still says what stands there
-  pub held_with : (cell : Cell) (current spare spare' : List ℕ) → FramesHeld size cell current spare → cell.spare_open ≡ false → IsShut size spare' → FramesHeld size cell current spare'
-  held_with cell current spare spare' held closed shut = record {
-    in_current = held.in_current;
-    in_spare = subst (λ (o : Bool). MatchBool o (IsOlder size cell.number spare') (IsShut size spare')) (sym closed) shut;
+  -- what a blank cell says of its current frame, and any other, it says as long as that stays
+  current_stays : (cell cell' : Cell) (current : List ℕ) → IsAsBefore cell cell' → MatchOption (payload_held cell) (IsBlank cell × IsShut size current) (λ p. IsFrame size cell.number p current) → MatchOption (payload_held cell') (IsBlank cell' × IsShut size current) (λ p. IsFrame size cell'.number p current)
+  current_stays cell cell' current same held =
+      subst (λ (o : Option (List ℕ)). MatchOption o (IsBlank cell' × IsShut size current) (λ p. IsFrame size cell'.number p current)) (sym same.held)
+      (subst (λ (n : ℕ). MatchOption (payload_held cell) (IsBlank cell' × IsShut size current) (λ p. IsFrame size n p current)) (sym same.number)
+      (weaken (payload_held cell) (IsBlank cell × IsShut size current) (IsBlank cell' × IsShut size current) (λ p. IsFrame size cell.number p current)
+      (λ blank. (record { side = same.side ∙ blank.0.side; number = same.number ∙ blank.0.number; spare = same.spare ∙ blank.0.spare }, blank.1)) held))
+
+  -- once a payload was written into the closed spare, the cell in memory says what stands there
+  pub held_with : (cell cell' : Cell) (p current spare spare' : List ℕ) → FramesHeld size cell current spare → cell.spare_open ≡ false → IsShut size spare' → Writes p cell cell' → drop 1 spare' ≡ tail_of size (next cell.number) p → FramesHeld size cell' current spare'
+  held_with cell cell' p current spare spare' held closed shut writes tail = record {
+    in_current = current_stays cell cell' current writes.same held.in_current;
+    in_spare = subst (λ (o : Bool). MatchBool o (IsOlder size cell'.number spare') (IsShut size spare')) (sym (writes.same.spare ∙ closed)) shut;
+    in_rest = subst (λ (n : ℕ). IsZeroBehind n spare') (sym writes.used) (zero_tail size (next cell.number) p spare' tail shut.whole);
   }
 
   next_small : (n : ℕ) → n < 3 → next n < 3
@@ -109,6 +119,14 @@ module _ (size : ℕ) (fit : IsSize size) where
     | inr shut ↦ inl (held_shut cell current spare spare' held (shut_frame spare' long shut))
   ]
 
+  -- behind what is in use of the current frame there are zeros
+  current_used : (cell : Cell) (pay : Option (List ℕ)) (current : List ℕ) → pay ≡ payload_held cell → MatchOption (payload_held cell) (IsBlank cell × IsShut size current) (λ q. IsFrame size cell.number q current) → IsZeroBehind (used_by pay) current
+  current_used cell None current is held =
+      let shut = (subst (λ (o : Option (List ℕ)). MatchOption o (IsBlank cell × IsShut size current) (λ q. IsFrame size cell.number q current)) (sym is) held).1 in
+      zero_past 4608 current (omega (arith, shut.whole, fit.most))
+  current_used cell (Some q) current is held =
+      zero_frame size fit cell.number q current (subst (λ (o : Option (List ℕ)). MatchOption o (IsBlank cell × IsShut size current) (λ q. IsFrame size cell.number q current)) (sym is) held)
+
   map_some : (o : Option (Vec ℕ Global)) → is_some (option_map (λ (v : Vec ℕ Global). v.items) o) ≡ is_some o
   map_some None = refl
   map_some (Some v) = refl
@@ -123,14 +141,16 @@ module _ (size : ℕ) (fit : IsSize size) where
       record {
         in_current = subst (λ (o : Option (List ℕ)). MatchOption o (IsBlank cell' × IsShut size spare') (λ q. IsFrame size cell'.number q spare')) (sym opens.held) (subst (λ (n : ℕ). IsFrame size n p spare') (sym opens.number) frame);
         in_spare = subst (λ (o : Bool). MatchBool o (IsOlder size cell'.number current) (IsShut size current)) (is_some_map cell ∙ sym opens.spare) (older_or_shut cell (payload_held cell) cell'.number current refl held.in_current (sym opens.number));
+        in_rest = subst (λ (n : ℕ). IsZeroBehind n current) (sym opens.used) (current_used cell (payload_held cell) current refl held.in_current);
       }
 
   -- once it is closed, the cell in memory says so
-  pub closed_held : (cell cell' : Cell) (current spare spare' : List ℕ) → FramesHeld size cell current spare → IsShut size spare' → cell.spare_open ≡ true → Shuts cell cell' → FramesHeld size cell' current spare'
-  closed_held cell cell' current spare spare' held shut opened closes = record {
+  pub closed_held : (cell cell' : Cell) (current spare spare' : List ℕ) → FramesHeld size cell current spare → IsShut size spare' → cell.spare_open ≡ true → Shuts cell cell' → drop 1 spare' ≡ drop 1 spare → FramesHeld size cell' current spare'
+  closed_held cell cell' current spare spare' held shut opened closes tail = record {
     in_current =
         subst (λ (o : Option (List ℕ)). MatchOption o (IsBlank cell' × IsShut size current) (λ p. IsFrame size cell'.number p current)) (sym closes.held)
         (subst (λ (n : ℕ). MatchOption (payload_held cell) (IsBlank cell' × IsShut size current) (λ p. IsFrame size n p current)) (sym closes.number)
         (weaken (payload_held cell) (IsBlank cell × IsShut size current) (IsBlank cell' × IsShut size current) (λ p. IsFrame size cell.number p current) (λ blank. absurd (cc (blank.0.spare, opened))) held.in_current));
     in_spare = subst (λ (o : Bool). MatchBool o (IsOlder size cell'.number spare') (IsShut size spare')) (sym closes.spare) shut;
+    in_rest = subst (λ (n : ℕ). IsZeroBehind n spare') (sym closes.used) (zero_gate cell.spare_used spare spare' tail (shut.whole ∙ sym (spare_size cell current spare held)) held.in_rest);
   }

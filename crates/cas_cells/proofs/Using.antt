@@ -10,7 +10,7 @@ use Rattle.cas_disk.specs.declared.disk.DiskFault.TheVariants.{Failed, NoMemory 
 use Rattle.cas_cells.specs.FaultOf.{fault_of}
 use Rattle.cas_cells.specs.Format.{frame_at, half_size, count_in, narrow_in, head_in, IsPayload, TellsSame, StandsFor}
 use Rattle.cas_cells.specs.declared.cell.Side.{Side}
-use Rattle.cas_cells.specs.Held.{IsBlank, IsShut, IsFrame, IsOlder, FramesHeld, Leaves, MayOpen, CellHeld, OnDisk, IsRow, payload_held, frame_of, other}
+use Rattle.cas_cells.specs.Held.{IsBlank, IsNew, IsShut, IsFrame, IsOlder, FramesHeld, Leaves, MayOpen, CellHeld, OnDisk, IsRow, payload_held, frame_of, other}
 use Rattle.cas_cells.specs.Cells.{Stands, IsUnderWay, Agrees}
 use Rattle.cas_cells.specs.UnderWay.{change_held, payload_staged}
 use Rattle.cas_cells.specs.declared.cell.Cell.{Cell}
@@ -19,8 +19,9 @@ use Rattle.cas_cells.specs.declared.change.Change.{Change}
 use Rattle.cas_cells.specs.declared.fault.CellFault.{CellFault}
 use Rattle.cas_cells.specs.declared.fault.CellFault.TheVariants.{NoMemory}
 use Rattle.cas_cells.proofs.Counting.{row_length}
-use Rattle.cas_cells.proofs.Places.{first_size}
+use Rattle.cas_cells.proofs.Places.{sized, first_size}
 use Rattle.cas_cells.proofs.Rows.{map_set, all_sound, row_kept, row_set, stands}
+use Rattle.cas_cells.proofs.Zeros.{zero_past}
 
 -- the disk's want of memory is the only one that the cells tell
 pub no_memory_of_disk : (e : DiskFault) → fault_of e ≡ NoMemory → e ≡ NoMemoryOfDisk
@@ -125,12 +126,14 @@ module _ (narrow : ℕ) where
   same_cell cells i cell cell' is is' = let both : Some cell ≡ Some cell' = sym is ∙ is' in cc
 
   -- a blank cell in memory stands where both frames are closed
-  pub blank_stands : (disk : List ℕ) (i : ℕ) (cell : Cell) → IsBlank cell → payload_held cell ≡ None → IsShut (half_size narrow i) (frame_at narrow disk (2 * i)) → IsShut (half_size narrow i) (frame_at narrow disk (2 * i + 1)) → CellHeld narrow disk i cell
-  blank_stands disk i cell blank none first second =
+  pub blank_stands : (disk : List ℕ) (i : ℕ) (cell : Cell) → IsNew cell → payload_held cell ≡ None → IsShut (half_size narrow i) (frame_at narrow disk (2 * i)) → IsShut (half_size narrow i) (frame_at narrow disk (2 * i + 1)) → CellHeld narrow disk i cell
+  blank_stands disk i cell new none first second =
+      let blank = new.blank in
       subst (λ (s : Side). FramesHeld (half_size narrow i) cell (frame_at narrow disk (frame_of i s)) (frame_at narrow disk (frame_of i (other s)))) (sym blank.side)
       (record {
         in_current = subst (λ (o : Option (List ℕ)). MatchOption o (IsBlank cell × IsShut (half_size narrow i) (frame_at narrow disk (2 * i + 1))) (λ p. IsFrame (half_size narrow i) cell.number p (frame_at narrow disk (2 * i + 1)))) (sym none) (blank, second);
         in_spare = subst (λ (o : Bool). MatchBool o (IsOlder (half_size narrow i) cell.number (frame_at narrow disk (2 * i))) (IsShut (half_size narrow i) (frame_at narrow disk (2 * i)))) (sym blank.spare) first;
+        in_rest = zero_past cell.spare_used (frame_at narrow disk (2 * i)) (omega (arith, first.whole, (sized narrow (2 * i)).most, new.used));
       })
 
   -- a row of one cell

@@ -1,5 +1,5 @@
 -- What the cells in memory say of the frames on a disk.
-use Rattle.std.specs.Prelude.{◌≡◌, ◌≢◌, ◌⊎◌, ℕ, ◌+◌, ◌-◌, ◌*◌, ◌/◌, ◌%◌, ◌<◌, false, List, [], ◌∷◌, ◌++◌, length, drop, slice_index, slice_get, replicate, Option, Some, None, MatchOption, MatchBool, is_some}
+use Rattle.std.specs.Prelude.{◌≡◌, ◌≢◌, ◌⊎◌, ℕ, ◌+◌, ◌-◌, ◌*◌, ◌/◌, ◌%◌, ◌<◌, ◌≤◌, false, List, [], ◌∷◌, ◌++◌, length, drop, slice_index, slice_get, replicate, Option, Some, None, MatchOption, MatchBool, is_some}
 use Rattle.std.specs.Option.{option_map}
 use Rattle.cas_cells.specs.Format.{frame_at, half_size, next, IsPayload, count_told, wrong_at, payload_at}
 use Rattle.cas_disk.specs.Disk.{Only}
@@ -41,10 +41,26 @@ pub record IsBlank (cell : Cell) : Type 0 where
   pub number : cell.number ≡ 2
   pub spare : cell.spare_open ≡ false
 
--- the cell in memory says what stands in its current frame and in its spare, which have this size
+-- and of a new one nothing is known of the bytes of that frame
+pub record IsNew (cell : Cell) : Type 0 where
+  pub blank : IsBlank cell
+  pub used : 4608 ≤ cell.spare_used
+
+-- behind the gate of a frame and so many bytes there are zeros alone
+abbrev pub IsZeroBehind : ℕ → List ℕ → Type 0
+IsZeroBehind n frame = drop (n + 1) frame ≡ replicate (length frame - (n + 1)) 0
+
+-- how many bytes behind its gate may be other than zero: of a frame with that payload, and of a closed one, in which any may stand
+abbrev pub used_by : Option (List ℕ) → ℕ
+used_by None = 4608
+used_by (Some payload) = length payload + 3
+
+-- the cell in memory says what stands in its current frame and in its spare, which have this size, and how much of the spare may be
+-- other than zero
 pub record FramesHeld (size : ℕ) (cell : Cell) (current spare : List ℕ) : Type 0 where
   pub in_current : MatchOption (payload_held cell) (IsBlank cell × IsShut size current) (λ p. IsFrame size cell.number p current)
   pub in_spare : MatchBool cell.spare_open (IsOlder size cell.number spare) (IsShut size spare)
+  pub in_rest : IsZeroBehind cell.spare_used spare
 
 abbrev pub other : Side → Side
 other First = Second
@@ -104,6 +120,19 @@ pub record Shuts (cell cell' : Cell) : Type 0 where
   pub side : cell'.side ≡ cell.side
   pub number : cell'.number ≡ cell.number
   pub spare : cell'.spare_open ≡ false
+  pub used : cell'.spare_used ≡ cell.spare_used
+
+-- the cell says the same of its current frame and of the spare's gate
+pub record IsAsBefore (cell cell' : Cell) : Type 0 where
+  pub held : payload_held cell' ≡ payload_held cell
+  pub side : cell'.side ≡ cell.side
+  pub number : cell'.number ≡ cell.number
+  pub spare : cell'.spare_open ≡ cell.spare_open
+
+-- what a cell says once a payload was written into its closed spare
+pub record Writes (payload : List ℕ) (cell cell' : Cell) : Type 0 where
+  pub same : IsAsBefore cell cell'
+  pub used : cell'.spare_used ≡ length payload + 3
 
 -- what a cell says once its spare is open: the spare is current
 pub record Opens (payload : List ℕ) (cell cell' : Cell) : Type 0 where
@@ -111,6 +140,7 @@ pub record Opens (payload : List ℕ) (cell cell' : Cell) : Type 0 where
   pub side : cell'.side ≡ other cell.side
   pub number : cell'.number ≡ next cell.number
   pub spare : cell'.spare_open ≡ is_some cell.payload
+  pub used : cell'.spare_used ≡ used_by (payload_held cell)
 
 -- this payload stands in the spare of cell i, under the number that follows the current one
 abbrev pub HoldsTail : ℕ → List ℕ → ℕ → Cell → List ℕ → Type 0

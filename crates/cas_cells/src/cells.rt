@@ -6,7 +6,7 @@ ghost use Rattle.cas_cells.specs.Fault.{HasCellCause, IsFaultOfDisk};
 ghost use Rattle.cas_cells.specs.Format.{narrow_in, narrow_told, wide_in, wide_told, count_in, count_told, is_head, head_in, with_count, grown, foreign_at, cell_place, payload_place, IsPayload, FitsCell, TellsSame, StandsFor, IsBeforeOrAfter};
 ghost use Rattle.cas_cells.specs.Length.{NotLonger};
 ghost use Rattle.cas_cells.specs.Reading.{OnlyRead};
-ghost use Rattle.cas_cells.specs.Held.{payload_held, IsBlank};
+ghost use Rattle.cas_cells.specs.Held.{payload_held, IsNew};
 ghost use Rattle.cas_cells.specs.declared.cell.Cell.{Cell};
 
 use crate::cell::Cell;
@@ -162,13 +162,11 @@ impl<D: Disk> Cells<D> {
         ensures length { D.tells → NotLonger D.moment D.left_since D.may_leave (disk_of self.old) (disk_of self.new) 0 }
         ensures cause { IsFaultOfDisk result (D.fault_count (disk_of self.old)) (D.fault_count (disk_of self.new)) }
     {
-        let held = &self.cells[cell as usize];
-        let size = frame::half_size(self.narrow, cell);
-        let tail = frame::tail_of(self.alloc, size, frame::next(held.number), payload)?;
-        let payload = payload.to_vec(self.alloc)?;
-        steps::write_spare(&mut self.disk, held, self.narrow, cell, &tail)?;
+        let staged = payload.to_vec(self.alloc)?;
+        let held = &mut self.cells[cell as usize];
+        steps::write_spare(&mut self.disk, self.alloc, held, self.narrow, cell, payload)?;
         let step = Step::Written(Staged {
-            payload,
+            payload: staged,
             kept: true,
         });
         self.change = Some(Change { cell, step });
@@ -192,7 +190,7 @@ impl<D: Disk> Cells<D> {
         ensures cause { IsFaultOfDisk result (D.fault_count (disk_of self.old)) (D.fault_count (disk_of self.new)) }
     {
         let mut staged = take_staged(&mut self.change, cell);
-        let held = &self.cells[cell as usize];
+        let held = &mut self.cells[cell as usize];
         let answer = steps::open_spare(
             &mut self.disk,
             self.alloc,
@@ -207,7 +205,7 @@ impl<D: Disk> Cells<D> {
             self.change = Some(Change { cell, step });
             return Err(CellFault::from(fault));
         }
-        steps::turn(&mut self.cells[cell as usize], staged.payload);
+        steps::turn(held, staged.payload);
         Ok(())
     }
 
@@ -353,7 +351,7 @@ impl<D: Disk> Cells<D> {
 /// Appends a blank cell, for which there is room.
 fn push_blank(cells: &mut Vec<Cell>)
     requires { vec_len cells.old < vec_capacity cells.old }
-    ensures { (cell : Cell) × (cells.new.items ≡ cells.old.items ++ cell ∷ []) × IsBlank cell × (payload_held cell ≡ None) }
+    ensures { (cell : Cell) × (cells.new.items ≡ cells.old.items ++ cell ∷ []) × IsNew cell × (payload_held cell ≡ None) }
 {
     push_cell(cells, blank());
 }

@@ -30,6 +30,7 @@ fn current(
     ensures side { IfOk result (λ cell. cell.side ≡ side) }
     ensures number { IfOk result (λ cell. cell.number ≡ number_of frame.now) }
     ensures spare { IfOk result (λ cell. cell.spare_open ≡ spare_open) }
+    ensures used { IfOk result (λ cell. cell.spare_used ≡ size) }
 {
     let payload = frame[4..4 + length_told(frame)].to_vec(alloc)?;
     Ok(Cell {
@@ -37,6 +38,7 @@ fn current(
         side,
         number: number_of(frame),
         spare_open,
+        spare_used: size,
     })
 }
 

@@ -1,5 +1,5 @@
 //! Writes that are on the disk when they return: some bytes, the gate of a frame, and what stands behind a gate.
-ghost use Rattle.std.specs.Prelude.{◌≡◌, ◌≤◌, ◌+◌, ◌*◌, ◌^◌, ◌<◌, ◌∷◌, [], ℕ, length, drop, slice_index, OnOk, IsErrOf};
+ghost use Rattle.std.specs.Prelude.{◌≡◌, ◌≤◌, ◌+◌, ◌*◌, ◌^◌, ◌<◌, ◌∷◌, ◌++◌, [], ℕ, length, drop, slice_index, OnOk, IsErrOf};
 ghost use Rattle.cas_disk.specs.Disk.{Holds, Torn, Only, Keeps, ContinuesOnly, HasCause};
 ghost use Rattle.cas_disk.specs.declared.disk.DiskFault.TheVariants.{NoMemory};
 ghost use Rattle.cas_cells.specs.Format.{frame_at, frame_size, cell_place, half_size};
@@ -40,7 +40,7 @@ pub fn write_gate<D: Disk>(disk: &mut D, narrow: u32, frame: u64, gate: u8) -> R
     put(disk, frame_place(narrow, frame), &[gate])
 }
 
-/// Writes what stands behind the gate of a frame and syncs.
+/// Writes a front of what stands behind the gate of a frame and syncs. Behind that the frame stays.
 pub fn write_tail<D: Disk>(
     disk: &mut D,
     narrow: u32,
@@ -48,10 +48,10 @@ pub fn write_tail<D: Disk>(
     tail: &[u8],
 ) -> Result<(), DiskFault>
     requires small { frame < 2 ^ 34 }
-    requires size { length tail.now + 1 ≡ frame_size narrow frame }
+    requires size { length tail.now + 1 ≤ frame_size narrow frame }
     requires whole { D.tells → length (frame_at narrow (D.seen disk.old) frame) ≡ frame_size narrow frame }
     requires durable { D.tells → Only (D.seen disk.old) (D.may_leave disk.old) }
-    ensures held { D.tells → OnOk result (drop 1 (frame_at narrow (D.seen disk.new) frame) ≡ tail.now) }
+    ensures held { D.tells → OnOk result (drop 1 (frame_at narrow (D.seen disk.new) frame) ≡ tail.now ++ drop (length tail.now + 1) (frame_at narrow (D.seen disk.old) frame)) }
     ensures torn { D.tells → OnOk result (TailTorn narrow frame (D.seen disk.old) (D.seen disk.new)) }
     ensures durable { D.tells → OnOk result (Only (D.seen disk.new) (D.may_leave disk.new)) }
     ensures any_moment { D.tells → ContinuesOnly D.moment D.left_since disk.old disk.new (TailTorn narrow frame (D.seen disk.old)) }

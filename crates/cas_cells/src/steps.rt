@@ -1,13 +1,13 @@
 //! The three steps of a change of one cell, on the disk and in memory.
-ghost use Rattle.std.specs.Prelude.{◌≡◌, ◌<◌, ◌≤◌, ◌+◌, ◌^◌, true, false, length, drop, OnOk, OnErr, IsErrOf, is_some, Some, None};
+ghost use Rattle.std.specs.Prelude.{◌≡◌, ◌<◌, ◌≤◌, ◌+◌, ◌^◌, ◌⊎◌, true, false, drop, OnOk, OnErr, IsErrOf, is_some, Some, None};
 ghost use Rattle.cas_disk.specs.Disk.{Only, Keeps, ContinuesOnly, HasCause};
 ghost use Rattle.cas_disk.specs.declared.disk.DiskFault.TheVariants.{NoMemory};
 ghost use Rattle.cas_cells.specs.Format.{frame_at, half_size, next, IsPayload};
 ghost use Rattle.cas_cells.specs.Torn.{Others};
-ghost use Rattle.cas_cells.specs.Held.{frame_of, place_on, other, payload_held, IsBlank, CellHeld, HoldsTail, Shuts, Opens, Leaves, MayOpen, Still};
+ghost use Rattle.cas_cells.specs.Held.{frame_of, place_on, other, payload_held, IsNew, CellHeld, HoldsTail, Shuts, Writes, IsAsBefore, Opens, Leaves, MayOpen, Still};
 
 use crate::cell::{Cell, Side};
-use crate::frame::{half_size, next, tail_of};
+use crate::frame::{WIDE_FRAME, half_size, next, tail_of};
 use crate::settled::{write_gate, write_tail};
 use cas_disk::{Disk, DiskFault};
 use std::alloc::Global;
@@ -62,49 +62,69 @@ pub fn shut_spare<D: Disk>(
     Ok(())
 }
 
-/// Writes what stands behind the gate of a closed spare.
+/// Writes a payload into the closed spare of a cell, behind its gate, and zeros behind that as far as other bytes may stand there.
 pub fn write_spare<D: Disk>(
     disk: &mut D,
-    cell: &Cell,
+    alloc: Global,
+    cell: &mut Cell,
     narrow: u32,
     index: u32,
-    tail: &[u8],
+    payload: &[u8],
 ) -> Result<(), DiskFault>
-    requires size { length tail.now + 1 ≡ half_size narrow index }
-    requires held { D.tells → CellHeld narrow (D.seen disk.old) index cell.now }
-    requires shut { D.tells → cell.now.spare_open ≡ false }
+    requires fits { IsPayload (half_size narrow index) payload.now }
+    requires held { D.tells → CellHeld narrow (D.seen disk.old) index cell.old }
+    requires shut { D.tells → cell.old.spare_open ≡ false }
     requires durable { D.tells → Only (D.seen disk.old) (D.may_leave disk.old) }
-    ensures held { D.tells → OnOk result (CellHeld narrow (D.seen disk.new) index cell.now) }
-    ensures others { D.tells → OnOk result (Others narrow (frame_of index (other cell.now.side)) (D.seen disk.old) (D.seen disk.new)) }
-    ensures tail { D.tells → OnOk result (drop 1 (frame_at narrow (D.seen disk.new) (frame_of index (other cell.now.side))) ≡ tail.now) }
+    ensures written { OnOk result (Writes payload.now cell.old cell.new) }
+    ensures same { OnErr result (cell.new ≡ cell.old) }
+    ensures held { D.tells → OnOk result (CellHeld narrow (D.seen disk.new) index cell.new) }
+    ensures others { D.tells → OnOk result (Others narrow (frame_of index (other cell.old.side)) (D.seen disk.old) (D.seen disk.new)) }
+    ensures staged { D.tells → OnOk result (HoldsTail narrow (D.seen disk.new) index cell.new payload.now) }
     ensures durable { D.tells → OnOk result (Only (D.seen disk.new) (D.may_leave disk.new)) }
-    ensures any_moment { D.tells → ContinuesOnly D.moment D.left_since disk.old disk.new (Leaves narrow (frame_of index (other cell.now.side)) (D.seen disk.old) index (payload_held cell.now)) }
+    ensures any_moment { D.tells → ContinuesOnly D.moment D.left_since disk.old disk.new (Leaves narrow (frame_of index (other cell.old.side)) (D.seen disk.old) index (payload_held cell.old)) }
     ensures unchanged { D.tells → IsErrOf result NoMemory → Keeps (D.seen disk.old) (D.seen disk.new) (D.may_leave disk.old) (D.may_leave disk.new) }
     ensures cause { HasCause result (D.fault_count disk.old) (D.fault_count disk.new) }
 {
-    write_tail(disk, narrow, spare_frame(cell, index), tail)
+    let used = payload.len() + 3;
+    let reach = reach(half_size(narrow, index), cell.spare_used, used);
+    let tail = tail_of(alloc, reach + 1, next(cell.number), payload)?;
+    write_tail(disk, narrow, spare_frame(cell, index), &tail)?;
+    cell.spare_used = used;
+    Ok(())
+}
+
+/// How many bytes are written behind the gate of a spare of this size, where so many may be other than zero and so many are to be.
+fn reach(size: usize, used: usize, needed: usize) -> usize
+    requires fits { needed < size }
+    ensures needed { needed ≤ result }
+    ensures within { result < size }
+    ensures used { (used ≤ result) ⊎ (size ≡ result + 1) }
+{
+    used.max(needed).min(size - 1)
 }
 
 /// Writes a payload into the closed spare of a cell again, where it was not kept there.
 pub fn keep_staged<D: Disk>(
     disk: &mut D,
     alloc: Global,
-    cell: &Cell,
+    cell: &mut Cell,
     narrow: u32,
     index: u32,
     payload: &[u8],
     kept: &mut bool,
 ) -> Result<(), DiskFault>
     requires fits { IsPayload (half_size narrow index) payload.now }
-    requires held { D.tells → CellHeld narrow (D.seen disk.old) index cell.now }
-    requires shut { D.tells → cell.now.spare_open ≡ false }
-    requires staged { D.tells → kept.old ≡ true → HoldsTail narrow (D.seen disk.old) index cell.now payload.now }
+    requires held { D.tells → CellHeld narrow (D.seen disk.old) index cell.old }
+    requires shut { D.tells → cell.old.spare_open ≡ false }
+    requires staged { D.tells → kept.old ≡ true → HoldsTail narrow (D.seen disk.old) index cell.old payload.now }
     requires durable { D.tells → Only (D.seen disk.old) (D.may_leave disk.old) }
-    ensures held { D.tells → OnOk result (CellHeld narrow (D.seen disk.new) index cell.now) }
-    ensures others { D.tells → OnOk result (Others narrow (frame_of index (other cell.now.side)) (D.seen disk.old) (D.seen disk.new)) }
-    ensures staged { D.tells → OnOk result (HoldsTail narrow (D.seen disk.new) index cell.now payload.now) }
+    ensures stays { IsAsBefore cell.old cell.new }
+    ensures same { OnErr result (cell.new ≡ cell.old) }
+    ensures held { D.tells → OnOk result (CellHeld narrow (D.seen disk.new) index cell.new) }
+    ensures others { D.tells → OnOk result (Others narrow (frame_of index (other cell.old.side)) (D.seen disk.old) (D.seen disk.new)) }
+    ensures staged { D.tells → OnOk result (HoldsTail narrow (D.seen disk.new) index cell.new payload.now) }
     ensures durable { D.tells → OnOk result (Only (D.seen disk.new) (D.may_leave disk.new)) }
-    ensures any_moment { D.tells → ContinuesOnly D.moment D.left_since disk.old disk.new (Leaves narrow (frame_of index (other cell.now.side)) (D.seen disk.old) index (payload_held cell.now)) }
+    ensures any_moment { D.tells → ContinuesOnly D.moment D.left_since disk.old disk.new (Leaves narrow (frame_of index (other cell.old.side)) (D.seen disk.old) index (payload_held cell.old)) }
     ensures unchanged { D.tells → IsErrOf result NoMemory → Keeps (D.seen disk.old) (D.seen disk.new) (D.may_leave disk.old) (D.may_leave disk.new) }
     ensures kept { OnErr result (kept.new ≡ kept.old) }
     ensures cause { HasCause result (D.fault_count disk.old) (D.fault_count disk.new) }
@@ -112,8 +132,7 @@ pub fn keep_staged<D: Disk>(
     if *kept {
         return Ok(());
     }
-    let tail = tail_of(alloc, half_size(narrow, index), next(cell.number), payload)?;
-    write_spare(disk, cell, narrow, index, &tail)?;
+    write_spare(disk, alloc, cell, narrow, index, payload)?;
     *kept = true;
     Ok(())
 }
@@ -122,23 +141,24 @@ pub fn keep_staged<D: Disk>(
 pub fn open_spare<D: Disk>(
     disk: &mut D,
     alloc: Global,
-    cell: &Cell,
+    cell: &mut Cell,
     narrow: u32,
     index: u32,
     payload: &[u8],
     kept: &mut bool,
 ) -> Result<(), DiskFault>
     requires fits { IsPayload (half_size narrow index) payload.now }
-    requires held { D.tells → CellHeld narrow (D.seen disk.old) index cell.now }
-    requires shut { D.tells → cell.now.spare_open ≡ false }
-    requires staged { D.tells → kept.old ≡ true → HoldsTail narrow (D.seen disk.old) index cell.now payload.now }
+    requires held { D.tells → CellHeld narrow (D.seen disk.old) index cell.old }
+    requires shut { D.tells → cell.old.spare_open ≡ false }
+    requires staged { D.tells → kept.old ≡ true → HoldsTail narrow (D.seen disk.old) index cell.old payload.now }
     requires durable { D.tells → Only (D.seen disk.old) (D.may_leave disk.old) }
-    ensures opened { D.tells → OnOk result ((after : Cell) → Opens payload.now cell.now after → CellHeld narrow (D.seen disk.new) index after) }
-    ensures others { D.tells → OnOk result (Others narrow (frame_of index (other cell.now.side)) (D.seen disk.old) (D.seen disk.new)) }
+    ensures stays { IsAsBefore cell.old cell.new }
+    ensures opened { D.tells → OnOk result ((after : Cell) → Opens payload.now cell.new after → CellHeld narrow (D.seen disk.new) index after) }
+    ensures others { D.tells → OnOk result (Others narrow (frame_of index (other cell.old.side)) (D.seen disk.old) (D.seen disk.new)) }
     ensures durable { D.tells → OnOk result (Only (D.seen disk.new) (D.may_leave disk.new)) }
-    ensures any_moment { D.tells → ContinuesOnly D.moment D.left_since disk.old disk.new (MayOpen narrow (frame_of index (other cell.now.side)) (D.seen disk.old) index (payload_held cell.now) payload.now) }
-    ensures still { D.tells → IsErrOf result NoMemory → Still narrow (D.seen disk.old) (D.seen disk.new) (D.may_leave disk.new) index cell.now cell.now }
-    ensures staged { D.tells → IsErrOf result NoMemory → kept.new ≡ true → HoldsTail narrow (D.seen disk.new) index cell.now payload.now }
+    ensures any_moment { D.tells → ContinuesOnly D.moment D.left_since disk.old disk.new (MayOpen narrow (frame_of index (other cell.old.side)) (D.seen disk.old) index (payload_held cell.old) payload.now) }
+    ensures still { D.tells → IsErrOf result NoMemory → Still narrow (D.seen disk.old) (D.seen disk.new) (D.may_leave disk.new) index cell.old cell.new }
+    ensures staged { D.tells → IsErrOf result NoMemory → kept.new ≡ true → HoldsTail narrow (D.seen disk.new) index cell.new payload.now }
     ensures cause { HasCause result (D.fault_count disk.old) (D.fault_count disk.new) }
 {
     keep_staged(disk, alloc, cell, narrow, index, payload, kept)?;
@@ -167,9 +187,8 @@ pub fn change_cell<D: Disk>(
     ensures still { D.tells → IsErrOf result NoMemory → Still narrow (D.seen disk.old) (D.seen disk.new) (D.may_leave disk.new) index cell.old cell.new }
     ensures cause { HasCause result (D.fault_count disk.old) (D.fault_count disk.new) }
 {
-    let tail = tail_of(alloc, half_size(narrow, index), next(cell.number), &payload)?;
     shut_spare(disk, cell, narrow, index)?;
-    write_spare(disk, cell, narrow, index, &tail)?;
+    write_spare(disk, alloc, cell, narrow, index, &payload)?;
     write_gate(disk, narrow, spare_frame(cell, index), 1)?;
     turn(cell, payload);
     Ok(())
@@ -181,6 +200,10 @@ pub fn turn(cell: &mut Cell, payload: Vec<u8>)
     ensures { Opens payload.items cell.old cell.new }
 {
     let spare_open = cell.payload.is_some();
+    let spare_used = match &cell.payload {
+        Some(payload) => payload.len() + 3,
+        None => WIDE_FRAME,
+    };
     let side = match cell.side {
         Side::First => Side::Second,
         Side::Second => Side::First,
@@ -190,12 +213,13 @@ pub fn turn(cell: &mut Cell, payload: Vec<u8>)
         side,
         number: next(cell.number),
         spare_open,
+        spare_used,
     };
 }
 
 /// A blank cell.
 pub fn blank() -> Cell
-    ensures blank { IsBlank result }
+    ensures new { IsNew result }
     ensures none { payload_held result ≡ None }
 {
     Cell {
@@ -203,5 +227,6 @@ pub fn blank() -> Cell
         side: Side::Second,
         number: 2,
         spare_open: false,
+        spare_used: WIDE_FRAME,
     }
 }

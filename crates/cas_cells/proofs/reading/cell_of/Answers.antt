@@ -35,8 +35,8 @@ returns-in-Some-First c =
     let w : Whole size fit f h = record { whole = c.requires.sound; f_short = c.requires.first_size; g_short = c.requires.second_size; f_byte = omega (arith, c.type_inv.first 3); g_byte = omega (arith, c.type_inv.second 3) } in
     let is_first : c.current_side.result ≡ Some First = cc in
     let facts = c.current_side.ensures.first is_first in
-    made c.current.result (HeldIn size f h) (payload_in f) First (number_of f) c.is_open.result c.current.ensures.payload c.current.ensures.side c.current.ensures.number c.current.ensures.spare
-    (λ cell pay side number spare. held_on size fit cell First f h side (held_current size fit cell (payload_in f) f h (number_of f) (is_open h) pay number (spare ∙ c.is_open.ensures) (first_frame size fit f h w facts.0) (second_spare size fit f h w facts.0 facts.1)))
+    made c.current.result (HeldIn size f h) (payload_in f) First (number_of f) c.is_open.result size c.current.ensures.payload c.current.ensures.side c.current.ensures.number c.current.ensures.spare c.current.ensures.used
+    (λ cell pay side number spare used. held_on size fit cell First f h side (held_current size fit cell (payload_in f) f h (number_of f) (is_open h) pay number (spare ∙ c.is_open.ensures) (first_frame size fit f h w facts.0) (second_spare size fit f h w facts.0 facts.1) (omega (arith, used, c.requires.second_size))))
 
 pub returns-in-Some-Second : goal.returns-in-Some-Second
 returns-in-Some-Second c =
@@ -48,5 +48,5 @@ returns-in-Some-Second c =
     let is_second : c.current_side.result ≡ Some Second = cc in
     let facts = c.current_side.ensures.second is_second in
     let follows : (is_open f ≡ true) → number_of h ≡ next (number_of f) = λ (opened : is_open f ≡ true). let test = facts.1 opened in eqb-true (number_of h) (next (number_of f)) test in
-    made c.current-in-Some-Second.result (HeldIn size f h) (payload_in h) Second (number_of h) c.is_open-in-Some-Second.result c.current-in-Some-Second.ensures.payload c.current-in-Some-Second.ensures.side c.current-in-Some-Second.ensures.number c.current-in-Some-Second.ensures.spare
-    (λ cell pay side number spare. held_on size fit cell Second f h side (held_current size fit cell (payload_in h) h f (number_of h) (is_open f) pay number (spare ∙ c.is_open-in-Some-Second.ensures) (second_frame size fit f h w facts.0) (first_spare size fit f h w facts.0 follows)))
+    made c.current-in-Some-Second.result (HeldIn size f h) (payload_in h) Second (number_of h) c.is_open-in-Some-Second.result size c.current-in-Some-Second.ensures.payload c.current-in-Some-Second.ensures.side c.current-in-Some-Second.ensures.number c.current-in-Some-Second.ensures.spare c.current-in-Some-Second.ensures.used
+    (λ cell pay side number spare used. held_on size fit cell Second f h side (held_current size fit cell (payload_in h) h f (number_of h) (is_open f) pay number (spare ∙ c.is_open-in-Some-Second.ensures) (second_frame size fit f h w facts.0) (first_spare size fit f h w facts.0 follows) (omega (arith, used, c.requires.first_size))))

@@ -1,25 +1,14 @@
-use Rattle.std.proofs.Common.{◌≡◌, ◌+◌, length, List, ◌∷◌, drop, refl, sym, ◌∙◌, ap, subst, arith, Err, ℕ}
+use Rattle.std.proofs.Common.{◌≡◌, List, ◌∷◌, drop, refl, sym, ◌∙◌, ap, subst, arith, Err, ℕ}
 use Rattle.std.proofs.lemmas.Grind.{common_steps}
-use Rattle.cas_disk.proofs.Moments.{at_rest}
-use Rattle.cas_cells.specs.Format.{frame_at, IsPayload}
+use Rattle.cas_cells.specs.Format.{frame_at, half_size, IsPayload}
 use Rattle.cas_cells.specs.Torn.{Others}
-use Rattle.cas_cells.specs.Held.{MayOpen, CellHeld, HoldsTail, payload_held, frame_of, other}
+use Rattle.cas_cells.specs.Held.{CellHeld, HoldsTail}
 use Rattle.cas_cells.specs.declared.cell.Cell.{Cell}
 use Rattle.cas_disk.specs.declared.disk.DiskFault.{DiskFault}
 use Rattle.cas_disk.specs.declared.disk.DiskFault.TheVariants.{NoMemory}
-use Rattle.cas_cells.proofs.Frames.{length-tail_of}
 use Rattle.cas_cells.proofs.Places.{payload_within}
-use Rattle.cas_cells.proofs.Leaving.{whole_at, leaves_same, leaves_opens, still_after, held_opened, three_steps, tail_stands}
+use Rattle.cas_cells.proofs.Leaving.{whole_at, still_after, held_opened, three_steps}
 use Rattle.cas_cells.proofs.steps.change_cell.Goals as goal
-
-pub returns-in_err-tail-clause-any_moment : goal.returns-in_err-tail-clause-any_moment
-returns-in_err-tail-clause-any_moment g c tells =
-    let disk = c.args.disk.now in
-    let cell = c.args.cell.now in
-    let k = frame_of c.args.index (other cell.side) in
-    let old = g.D.Disk.seen disk in
-    at_rest g.D.Disk.moment g.D.Disk.left_since disk old (g.D.Disk.may_leave disk) (MayOpen c.args.narrow k old c.args.index (payload_held cell) c.args.payload.items)
-    (λ image left. g.met.D.Disk.only_now disk image tells left) (c.requires.durable tells) (leaves_opens c.args.narrow k c.args.index (payload_held cell) c.args.payload.items old old (leaves_same c.args.narrow cell old c.args.index (c.requires.held tells)))
 
 pub returns-in_err-shut_spare-clause-still : goal.returns-in_err-shut_spare-clause-still
 returns-in_err-shut_spare-clause-still g c tells no_memory =
@@ -33,41 +22,32 @@ returns-in_err-shut_spare-clause-still g c tells no_memory =
 
 pub returns-in_err-write_gate-clause-any_moment : goal.returns-in_err-write_gate-clause-any_moment
 returns-in_err-write_gate-clause-any_moment g c tells =
-    three_steps c.args.narrow c.in_ok-shut_spare.ensures.shut (c.shut_spare.ensures.any_moment tells) (c.write_spare.ensures.any_moment tells) (c.write_gate.ensures.any_moment tells) (c.in_ok-write_spare.ensures.held tells) c.requires.fits
-    (tail_stands c.args.narrow (g.D.Disk.seen c.write_spare.new.disk) c.args.index c.in_ok-shut_spare.ensures.shut (c.in_ok-write_spare.ensures.tail tells) c.deref-2.ensures.value c.in_ok-tail.ensures c.half_size.ensures.size c.next.ensures.value c.deref.ensures.value)
+    three_steps c.args.narrow c.in_ok-shut_spare.ensures.shut c.in_ok-write_spare.ensures.written.same (c.shut_spare.ensures.any_moment tells) (c.write_spare.ensures.any_moment tells) (c.write_gate.ensures.any_moment tells) (c.in_ok-write_spare.ensures.held tells) c.requires.fits
+    (subst (λ (l : List ℕ). HoldsTail c.args.narrow (g.D.Disk.seen c.write_spare.new.disk) c.args.index c.write_spare.new.cell l) c.deref.ensures.value (c.in_ok-write_spare.ensures.staged tells))
     c.spare_frame.ensures.frame (c.in_ok-shut_spare.ensures.others tells) (c.in_ok-write_spare.ensures.others tells)
 
 pub returns-clause-any_moment : goal.returns-clause-any_moment
 returns-clause-any_moment g c tells =
-    three_steps c.args.narrow c.in_ok-shut_spare.ensures.shut (c.shut_spare.ensures.any_moment tells) (c.write_spare.ensures.any_moment tells) (c.write_gate.ensures.any_moment tells) (c.in_ok-write_spare.ensures.held tells) c.requires.fits
-    (tail_stands c.args.narrow (g.D.Disk.seen c.write_spare.new.disk) c.args.index c.in_ok-shut_spare.ensures.shut (c.in_ok-write_spare.ensures.tail tells) c.deref-2.ensures.value c.in_ok-tail.ensures c.half_size.ensures.size c.next.ensures.value c.deref.ensures.value)
+    three_steps c.args.narrow c.in_ok-shut_spare.ensures.shut c.in_ok-write_spare.ensures.written.same (c.shut_spare.ensures.any_moment tells) (c.write_spare.ensures.any_moment tells) (c.write_gate.ensures.any_moment tells) (c.in_ok-write_spare.ensures.held tells) c.requires.fits
+    (subst (λ (l : List ℕ). HoldsTail c.args.narrow (g.D.Disk.seen c.write_spare.new.disk) c.args.index c.write_spare.new.cell l) c.deref.ensures.value (c.in_ok-write_spare.ensures.staged tells))
     c.spare_frame.ensures.frame (c.in_ok-shut_spare.ensures.others tells) (c.in_ok-write_spare.ensures.others tells)
 
 pub returns-clause-held : goal.returns-clause-held
 returns-clause-held g c tells =
     let i = c.args.index in
-    let cell1 = c.shut_spare.new.cell in
+    let cell1 = c.write_spare.new.cell in
     let mid2 = g.D.Disk.seen c.write_spare.new.disk in
     let new = g.D.Disk.seen c.write_gate.new.disk in
-    let staged : HoldsTail c.args.narrow mid2 i cell1 c.args.payload.items =
-    tail_stands c.args.narrow mid2 i c.in_ok-shut_spare.ensures.shut (c.in_ok-write_spare.ensures.tail tells) c.deref-2.ensures.value c.in_ok-tail.ensures c.half_size.ensures.size c.next.ensures.value c.deref.ensures.value in
+    let staged : HoldsTail c.args.narrow mid2 i cell1 c.args.payload.items = subst (λ (l : List ℕ). HoldsTail c.args.narrow mid2 i cell1 l) c.deref.ensures.value (c.in_ok-write_spare.ensures.staged tells) in
     held_opened c.args.narrow cell1 mid2 i (c.in_ok-write_spare.ensures.held tells) c.turn.new.cell new c.args.payload.items c.requires.fits staged
     (subst (λ (k : ℕ). Others c.args.narrow k mid2 new) c.spare_frame.ensures.frame (c.in_ok-write_gate.ensures.others tells))
     (subst (λ (k : ℕ). frame_at c.args.narrow new k ≡ 1 ∷ drop 1 (frame_at c.args.narrow mid2 k)) c.spare_frame.ensures.frame (c.in_ok-write_gate.ensures.held tells)) c.turn.ensures
 
-fits_tail : (size half : ℕ) (p q : List ℕ) → size ≡ half → q ≡ p → IsPayload half p → IsPayload size q
-fits_tail size half p q same is fits = subst (λ (n : ℕ). IsPayload n q) (sym same) (subst (λ (l : List ℕ). IsPayload half l) (sym is) fits)
-
-pub tail_of-requires-clause-fits : goal.tail_of-requires-clause-fits
-tail_of-requires-clause-fits g c = fits_tail _ _ _ _ c.half_size.ensures.size c.deref.ensures.value c.requires.fits
-
-pub write_spare-requires-clause-size : goal.write_spare-requires-clause-size
-write_spare-requires-clause-size g c =
-    let fits = fits_tail _ _ _ _ c.half_size.ensures.size c.deref.ensures.value c.requires.fits in
-    ap (λ (l : List ℕ). length l + 1) (c.deref-2.ensures.value ∙ c.in_ok-tail.ensures) ∙ length-tail_of c.half_size.result c.next.result c.deref.result.now fits ∙ c.half_size.ensures.size
+pub write_spare-requires-clause-fits : goal.write_spare-requires-clause-fits
+write_spare-requires-clause-fits g c = subst (λ (l : List ℕ). IsPayload (half_size c.args.narrow c.args.index) l) (sym c.deref.ensures.value) c.requires.fits
 
 pub write_gate-requires-clause-whole : goal.write_gate-requires-clause-whole
-write_gate-requires-clause-whole g c tells = whole_at c.args.narrow c.shut_spare.new.cell (g.D.Disk.seen c.write_spare.new.disk) c.args.index (c.in_ok-write_spare.ensures.held tells) c.spare_frame.result c.spare_frame.ensures.frame
+write_gate-requires-clause-whole g c tells = whole_at c.args.narrow c.write_spare.new.cell (g.D.Disk.seen c.write_spare.new.disk) c.args.index (c.in_ok-write_spare.ensures.held tells) c.spare_frame.result c.spare_frame.ensures.frame
 
 pub turn-requires : goal.turn-requires
 turn-requires g c = payload_within c.args.narrow c.args.index c.args.payload.items c.requires.fits

@@ -33,7 +33,7 @@ returns-clause-held g c tells =
     let opened : cell.spare_open ≡ true = grind (arith, common_steps) in
     let others : Others c.args.narrow (frame_of c.args.index (other cell.side)) old new = subst (λ (k : ℕ). Others c.args.narrow k old new) c.spare_frame.ensures.frame (c.in_ok-write_gate.ensures.others tells) in
     let gate : frame_at c.args.narrow new (frame_of c.args.index (other cell.side)) ≡ 0 ∷ drop 1 (frame_at c.args.narrow old (frame_of c.args.index (other cell.side))) = subst (λ (k : ℕ). frame_at c.args.narrow new k ≡ 0 ∷ drop 1 (frame_at c.args.narrow old k)) c.spare_frame.ensures.frame (c.in_ok-write_gate.ensures.held tells) in
-    held_closed c.args.narrow cell old c.args.index (c.requires.held tells) _ new opened (record { held = refl; side = refl; number = refl; spare = refl }) others gate
+    held_closed c.args.narrow cell old c.args.index (c.requires.held tells) _ new opened (record { held = refl; side = refl; number = refl; spare = refl; used = refl }) others gate
 
 pub write_gate-requires-clause-whole : goal.write_gate-requires-clause-whole
 write_gate-requires-clause-whole g c tells = whole_at c.args.narrow c.args.cell.now (g.D.Disk.seen c.args.disk.now) c.args.index (c.requires.held tells) c.spare_frame.result c.spare_frame.ensures.frame

@@ -12,7 +12,7 @@ use Rattle.cas_cells.proofs.cells.Cells.format.Goals as goal
 pub change_cell-requires-clause-held : goal.change_cell-requires-clause-held
 change_cell-requires-clause-held g c tells =
     let shut = c.in_ok-write_blank.ensures.blank tells in
-    blank_stands 0 (g.D.Disk.seen c.write_blank.new.disk) 0 c.blank-cell.result c.blank-cell.ensures.blank c.blank-cell.ensures.none shut.0 shut.1
+    blank_stands 0 (g.D.Disk.seen c.write_blank.new.disk) 0 c.blank-cell.result c.blank-cell.ensures.new c.blank-cell.ensures.none shut.0 shut.1
 
 pub returns-clause-stands : goal.returns-clause-stands
 returns-clause-stands g c =
@@ -35,13 +35,13 @@ returns-clause-stands g c =
 pub returns-in_err-change_cell-clause-length : goal.returns-in_err-change_cell-clause-length
 returns-in_err-change_cell-clause-length g c tells =
     let mid = c.write_blank.new.disk in
-    formatting_length c.blank-cell.ensures.blank c.blank-cell.ensures.none (c.in_ok-write_blank.ensures.blank tells) (λ image later left. g.met.D.Disk.counts_now mid (g.D.Disk.moment c.args.self.now.disk) image tells later left)
+    formatting_length c.blank-cell.ensures.new c.blank-cell.ensures.none (c.in_ok-write_blank.ensures.blank tells) (λ image later left. g.met.D.Disk.counts_now mid (g.D.Disk.moment c.args.self.now.disk) image tells later left)
     (g.met.D.Disk.seen_may_stay mid tells) (c.write_blank.ensures.length tells) (c.change_cell.ensures.any_moment tells)
 
 pub returns-clause-length : goal.returns-clause-length
 returns-clause-length g c tells =
     let mid = c.write_blank.new.disk in
-    formatting_length c.blank-cell.ensures.blank c.blank-cell.ensures.none (c.in_ok-write_blank.ensures.blank tells) (λ image later left. g.met.D.Disk.counts_now mid (g.D.Disk.moment c.args.self.now.disk) image tells later left)
+    formatting_length c.blank-cell.ensures.new c.blank-cell.ensures.none (c.in_ok-write_blank.ensures.blank tells) (λ image later left. g.met.D.Disk.counts_now mid (g.D.Disk.moment c.args.self.now.disk) image tells later left)
     (g.met.D.Disk.seen_may_stay mid tells) (c.write_blank.ensures.length tells) (c.change_cell.ensures.any_moment tells)
 
 pub write_blank-requires : goal.write_blank-requires

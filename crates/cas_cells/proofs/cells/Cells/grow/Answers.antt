@@ -1,4 +1,4 @@
-use Rattle.std.proofs.Common.{◌≡◌, inl, ◌+◌, ◌*◌, ◌<◌, ◌≤◌, ◌++◌, ◌∷◌, [], Some, Err, Option, map, length, refl, sym, ◌∙◌, ap, subst, arith, ℕ, List}
+use Rattle.std.proofs.Common.{◌≡◌, inl, ◌+◌, ◌*◌, ◌<◌, ◌≤◌, ◌++◌, ◌∷◌, [], Some, None, Err, Option, map, length, refl, sym, ◌∙◌, ap, subst, arith, ℕ, List}
 use Rattle.std.proofs.Math.ListN.{set, length-set}
 use Rattle.std.proofs.lemmas.List.{map-append}
 use Rattle.cas_disk.specs.declared.disk.DiskFault.{DiskFault}
@@ -103,6 +103,23 @@ returns-clause-any_moment g c tells =
     let read = reads c.requires.stands.row c.count-behind.ensures c.wide_count.ensures.count c.in_ok-head.ensures.head c.reserve.ensures.items c.index_mut-first.ensures.value in
     growth_stands s tells read (c.change_cell.ensures.any_moment tells) (c.in_ok-write_blank.ensures.below tells) c.requires.head c.requires.room (c.in_ok-write_blank.ensures.blank tells) (c.write_blank.ensures.any_moment tells (s.durable tells))
 
+-- what the cells show with another head and a blank cell behind them
+grown_with : (cells : List Cell) (first blank : Cell) → IsRow (map payload_held cells) → payload_held first ≡ Some (with_count (head_in (map payload_held cells)) (wide_in (map payload_held cells) + 1)) → payload_held blank ≡ None → map payload_held (set cells 0 first ++ blank ∷ []) ≡ grown (map payload_held cells)
+grown_with cells first blank row changed none =
+    let view = map payload_held cells in
+    map-append payload_held (set cells 0 first) (blank ∷ [])
+    ∙ ap (λ (v : List (Option (List ℕ))). v ++ payload_held blank ∷ []) (map_set payload_held cells 0 first ∙ ap (λ (o : Option (List ℕ)). set view 0 o) changed)
+    ∙ ap (λ (o : Option (List ℕ)). set view 0 (Some (with_count (head_in view) (wide_in view + 1))) ++ o ∷ []) none
+    ∙ sym (grown_is view row)
+
+pub returns-clause-grown : goal.returns-clause-grown
+returns-clause-grown g c =
+    let cells = c.args.self.now.cells.items in
+    let read = reads c.requires.stands.row c.count-behind.ensures c.wide_count.ensures.count c.in_ok-head.ensures.head c.reserve.ensures.items c.index_mut-first.ensures.value in
+    let pushed = c.push_blank.ensures in
+    ap (λ (l : List Cell). map payload_held l) (pushed.1 ∙ ap (λ (l : List Cell). set l 0 c.change_cell.new.cell ++ pushed.0 ∷ []) c.reserve.ensures.items)
+    ∙ grown_with cells c.change_cell.new.cell pushed.0 c.requires.stands.row (c.in_ok-change_cell.ensures.changed ∙ ap (λ (l : List ℕ). Some l) read.told) pushed.3
+
 pub returns-clause-stands : goal.returns-clause-stands
 returns-clause-stands g c =
     let s = c.requires.stands in
@@ -121,11 +138,7 @@ returns-clause-stands g c =
     let within : 0 < length cells = omega (arith, read.behind) in
     let changed : payload_held m1 ≡ Some head = c.in_ok-change_cell.ensures.changed ∙ ap (λ (l : List ℕ). Some l) read.told in
     let cells_is : c.push_blank.new.cells.items ≡ set cells 0 m1 ++ blank ∷ [] = pushed.1 ∙ ap (λ (l : List Cell). set l 0 m1 ++ blank ∷ []) items in
-    let view_is : map payload_held (set cells 0 m1 ++ blank ∷ []) ≡ grown view =
-    map-append payload_held (set cells 0 m1) (blank ∷ [])
-    ∙ ap (λ (v : List (Option (List ℕ))). v ++ payload_held blank ∷ []) (map_set payload_held cells 0 m1 ∙ ap (λ (o : Option (List ℕ)). set view 0 o) changed)
-    ∙ ap (λ (o : Option (List ℕ)). set view 0 (Some head) ++ o ∷ []) pushed.3
-    ∙ sym (grown_is view s.row) in
+    let view_is : map payload_held (set cells 0 m1 ++ blank ∷ []) ≡ grown view = grown_with cells m1 blank s.row changed pushed.3 in
     record {
       row = subst (λ (l : List Cell). IsRow (map payload_held l)) (sym cells_is) (subst IsRow (sym view_is) (grown_row view s.row c.requires.head c.requires.room));
       narrow = s.narrow ∙ sym (grown_narrow view c.requires.head c.requires.room) ∙ ap narrow_in (sym view_is) ∙ ap (λ (l : List Cell). narrow_in (map payload_held l)) (sym cells_is);

@@ -1,4 +1,4 @@
-use Rattle.std.proofs.Common.{◌*◌, ◌∙◌, ap, arith, ℕ}
+use Rattle.std.proofs.Common.{◌*◌, ◌∙◌, ap, ℕ}
 use Rattle.cas_cells.specs.Format.{frame_place, cell_place}
 use Rattle.cas_cells.proofs.cells.Cells.place.Goals as goal
 
