@@ -104,11 +104,16 @@ done_kept {S} {V} m tells view a is stands above = record {
       | inr none ↦ absurd (some (nothing_holds a.key a.ballot (subst (λ (c : Contents). BallotAtMost a.ballot (accepted_ballot (accepted_at c a.key))) (of.not_started none) (holds id member (is.followed.logged.global.kept id) (inl refl)).at_least)))
     ]
 
+    contents_left : (id : ℕ) (kept : Contents) (left : Left) → IsLeft log id kept left → (contents : Contents) × (left ≡ Ok contents)
+    contents_left id kept left (inl same) = (kept, same)
+    contents_left id kept left (inr (new, done, same)) = (new, same)
+
     kept_by : (id : ℕ) (acceptor : AcceptorView S) → has_member a.by id ≡ true → IsAcceptorTrue m log id (is.followed.logged.global.kept id) acceptor → IsKeptBy m (reverse view.marks) a.key a.ballot acceptor
     kept_by id acceptor member of =
         let has_started = started id acceptor member of in
         record {
           started = has_started;
+          whole = λ left may. contents_left id (is.followed.logged.global.kept id) left (left_of m log id (is.followed.logged.global.kept id) acceptor tells of has_started left may);
           at_least = λ left may. (holds id member left (left_of m log id (is.followed.logged.global.kept id) acceptor tells of has_started (Ok left) may)).at_least;
           begins = λ left may. subst (λ (l : List Mark). IsPrefix (chain_of a.key a.ballot l) (chain_of a.key (accepted_ballot (accepted_at left a.key)) l)) is.followed.logged.agrees.marks
               (holds id member left (left_of m log id (is.followed.logged.global.kept id) acceptor tells of has_started (Ok left) may)).begins;

@@ -5,6 +5,7 @@ use Rattle.cas_ballot.specs.Ballot.{BallotAtMost, BallotLess}
 use Rattle.cas_ballot.specs.Members.{has_member}
 use Rattle.cas_quorum.specs.Era.{holds_acc}
 use Rattle.cas_slot.specs.Contents.{Contents}
+use Rattle.cas_slot.specs.Shelf.{Left}
 use Rattle.cas_slot.specs.Slot.{accepted_ballot}
 use Rattle.cas_slot.specs.Table.{accepted_at}
 use Rattle.cas_acceptor.specs.Acceptor.{AcceptorView}
@@ -41,10 +42,11 @@ StepsAreRemembered {S} {V} m = m.shelves.tells → m.disks.tells → (old : View
 abbrev pub HistoriesAreLegal : {S V : Type 0} → Meaning S V → Type 0
 HistoriesAreLegal {S} {V} m = m.shelves.tells → m.disks.tells → (members : List ℕ) (view : View S V) → History m members view → IsRemembered m view × IsLegal (reverse view.marks)
 
--- The acceptor has started, and whatever a crash now leaves on its shelf, what is kept of the key is at or above the ballot, and its
--- history goes on from the ballot's.
+-- The acceptor has started, and whatever a crash now leaves on its shelf has contents, in which what is kept of the key is at or above
+-- the ballot, and its history goes on from the ballot's.
 pub record IsKeptBy {S V : Type 0} (m : Meaning S V) (marks : List Mark) (key : List ℕ) (ballot : Ballot) (acceptor : AcceptorView S) : Type 0 where
   pub started : acceptor.started ≡ true
+  pub whole : (left : Left) → m.shelves.may_leave acceptor.shelf left → (contents : Contents) × (left ≡ Ok contents)
   pub at_least : (left : Contents) → m.shelves.may_leave acceptor.shelf (Ok left) → BallotAtMost ballot (accepted_ballot (accepted_at left key))
   pub begins : (left : Contents) → m.shelves.may_leave acceptor.shelf (Ok left) → IsPrefix (chain_of key ballot marks) (chain_of key (accepted_ballot (accepted_at left key)) marks)
 

@@ -19,7 +19,7 @@ use Rattle.cas_rack.specs.Store.{acceptor_disks, AreReached, OneFails, StaysClos
 use Rattle.cas_rack.specs.Store as store
 
 -- ---- lists by their places
-at_mapped : {A B : Type 0} (f : A → B) (xs : List A) (place : ℕ) (y : B) → IsAt (map f xs) place y → (x : A) × IsAt xs place x × (f x ≡ y)
+pub at_mapped : {A B : Type 0} (f : A → B) (xs : List A) (place : ℕ) (y : B) → IsAt (map f xs) place y → (x : A) × IsAt xs place x × (f x ≡ y)
 at_mapped f [] place y at = absurd (cc at)
 at_mapped f (x ∷ xs) zero y at = (x, refl, some_is at)
 at_mapped f (x ∷ xs) (suc place) y at = at_mapped f xs place y at

@@ -8,6 +8,7 @@ ghost use Rattle.cas_disk_shelf.specs.Shelf.{disk_of};
 ghost use Rattle.cas_record.specs.Legal.{IsLegal};
 ghost use Rattle.cas_world.specs.Opening.{members_to, disks_of, AreDesksBelow};
 ghost use Rattle.cas_calls.specs.Proposing.{disks as disks_like};
+ghost use Rattle.cas_rack.specs.Kept.{AreKept};
 ghost use Rattle.cas_rack.specs.Store.{acceptor_disks, AreReached, StaysClosed};
 
 use crate::rack::{ACCEPTORS, Rack};
@@ -80,10 +81,12 @@ impl<D: Disk> Store<D> {
     }
 
     /// Hands back the record and the rack, with each disk in its place. It takes no memory. The record is legal, as that of
-    /// [`World::record`].
+    /// [`World::record`]; and what is acknowledged in it stands on the disks of the acceptors that confirmed it, whatever a crash of them
+    /// leaves, until a floor is made at or above it.
     pub fn close(self) -> (Record, Rack<D>)
         ensures marks { result.0.marks ≡ self.world.marks }
         ensures legal { D.tells → IsLegal (reverse result.0.marks) }
+        ensures kept { D.tells → AreKept D.may_leave (reverse result.0.marks) result.1.acceptors.items }
         ensures acceptors { result.1.acceptors.items ≡ acceptor_disks self.world.acceptors }
         ensures vaults { take (self.world.greatest + 1) result.1.vaults.items ≡ disks_of self.world.desks }
         ensures all_acceptors { vec_len result.1.acceptors ≡ 64 }

@@ -5,6 +5,7 @@ ghost use Rattle.cas_acceptor.specs.Acceptor.{AcceptorView};
 ghost use Rattle.cas_cluster.specs.SafeLaws.{HasPlaces};
 ghost use Rattle.cas_cluster.specs.Step.{IsOpening};
 ghost use Rattle.cas_cluster.specs.View.{CallerView, IsAt, era_at, meaning};
+ghost use Rattle.cas_cluster.specs.ViewLaws.{IsKept};
 ghost use Rattle.cas_ballot.specs.Members.{union_of};
 ghost use Rattle.cas_cluster.specs.Openings.{AreOpenings, IsOpeningOn};
 ghost use Rattle.cas_cluster.specs.StepCalls.{most_marks};
@@ -18,7 +19,11 @@ ghost use Rattle.cas_flow.specs.Flow.{queue_at};
 ghost use Rattle.cas_flow.specs.Message.{head_of};
 ghost use Rattle.cas_proposer.specs.Desk.{DeskView};
 ghost use Rattle.cas_slot.specs.Contents.{kept_at};
+ghost use Rattle.cas_record.specs.declared.mark.Acknowledgment.{Acknowledgment as AnAcknowledgment};
+ghost use Rattle.cas_record.specs.declared.mark.Mark.TheVariants.{Acked};
 ghost use Rattle.cas_record.specs.Legal.{IsLegal};
+ghost use Rattle.cas_record.specs.Orderly.{IsAboveFloors};
+ghost use Rattle.cas_record.specs.Places.{Stands};
 
 use crate::fault::OpenFault;
 use crate::open::{Lists, Setup, first_members, give_disks, give_shelves, start, take_shelves};
@@ -209,7 +214,8 @@ impl<S: Shelf, V: Disk> World<S, V> {
     }
 
     /// Hands back the record, the shelves and the disks of the vaults, each at the place of its number. The record is legal, as that of
-    /// [`World::record`].
+    /// [`World::record`], and what is acknowledged in it stands on the shelves of those that confirmed it, whatever a crash then leaves,
+    /// until a floor is made at or above it.
     pub fn parts(self) -> (Record, Vec<S>, Vec<V>)
         ensures marks { result.0.marks ≡ self.marks }
         ensures legal { S.tells → V.tells → IsLegal (reverse result.0.marks) }
@@ -217,6 +223,7 @@ impl<S: Shelf, V: Disk> World<S, V> {
         ensures all_shelves { vec_len result.1 ≡ 64 }
         ensures disks { take (self.greatest + 1) result.2.items ≡ disks_of self.desks }
         ensures all { vec_len result.2 ≡ 17 }
+        ensures kept { S.tells → V.tells → (a : AnAcknowledgment) → Stands (Acked a) (reverse self.marks) → IsAboveFloors (reverse self.marks) a.key a.ballot → IsKept (meaning S.contents S.tells S.may_leave S.fault_count V.tells V.may_leave V.fault_count) self a }
     {
         let World {
             config,

@@ -1,10 +1,24 @@
-use Rattle.std.proofs.Common.{List, length, ap, ◌∙◌}
+use Rattle.std.proofs.Common.{◌≡◌, List, length, reverse, subst, ap, ◌∙◌}
 use Rattle.std.proofs.lemmas.List.{length-map}
+use Rattle.cas_record.specs.declared.mark.Acknowledgment.{Acknowledgment}
+use Rattle.cas_record.specs.declared.mark.Mark.TheVariants.{Acked}
+use Rattle.cas_record.specs.Orderly.{IsAboveFloors}
+use Rattle.cas_record.specs.Places.{Stands}
+use Rattle.cas_cluster.specs.History.{IsRemembered}
+use Rattle.cas_cluster.specs.View.{Meaning, View}
+use Rattle.cas_cluster.specs.ViewLaws.{IsKept}
 use Rattle.cas_cluster.proofs.Opens.{remembered_legal}
+use Rattle.cas_cluster.proofs.ViewLaws.{done_kept}
 use Rattle.cas_world.proofs.world.World.parts.Goals as goal
 
 pub returns-clause-legal : goal.returns-clause-legal
 returns-clause-legal g c shelves vaults = remembered_legal _ _ (c.self.invariant.remembered shelves vaults)
+
+kept_now : {S V : Type 0} (m : Meaning S V) {inside now : View S V} → inside ≡ now → m.shelves.tells → IsRemembered m inside → (a : Acknowledgment) → Stands (Acked a) (reverse now.marks) → IsAboveFloors (reverse now.marks) a.key a.ballot → IsKept m now a
+kept_now {S} {V} m {inside} {now} same tells is a stands above = done_kept m tells now a (subst (λ (v : View S V). IsRemembered m v) same is) stands above
+
+pub returns-clause-kept : goal.returns-clause-kept
+returns-clause-kept g c shelves vaults a stands above = kept_now _ c.self.view_is shelves (c.self.invariant.remembered shelves vaults) a stands above
 
 pub returns-clause-all_shelves : goal.returns-clause-all_shelves
 returns-clause-all_shelves g c =
