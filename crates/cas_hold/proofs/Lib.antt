@@ -1,5 +1,11 @@
 mod Acts
+mod BurialCalls
+mod BurialEnds
+mod BurialStages
+mod Burials
 mod Closing
+mod Collecting
+mod CollectSteps
 pub mod Councils
 mod Events
 pub mod Fronts
@@ -8,5 +14,6 @@ pub mod Operating
 pub mod Parts
 mod Plans
 mod Probes
+mod Renewals
 mod Rescans
 mod Stages

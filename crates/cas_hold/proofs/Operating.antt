@@ -165,13 +165,13 @@ told_mine asks told = elim (told_some asks told) [
 ]
 
 -- what is left then
-record TellsOf {S V : Type 0} (old new : View S V) (asks : Asked) (told : OpAnswer) : Type 0 where
-  leaves : Leaves old new (told_marks asks told)
-  order : new.council.order ≡ None
-  exchange : new.council.exchange ≡ None
-  collection : new.council.collection ≡ None
+pub record TellsOf {S V : Type 0} (old new : View S V) (asks : Asked) (told : OpAnswer) : Type 0 where
+  pub leaves : Leaves old new (told_marks asks told)
+  pub order : new.council.order ≡ None
+  pub exchange : new.council.exchange ≡ None
+  pub collection : new.council.collection ≡ None
 
-tells_of : {S V : Type 0} (old new : View S V) (asks : Asked) (told : OpAnswer) (order : OrderView) → old.council.order ≡ Some order → order.asked ≡ asks → StepTell old told new → TellsOf old new asks told
+pub tells_of : {S V : Type 0} (old new : View S V) (asks : Asked) (told : OpAnswer) (order : OrderView) → old.council.order ≡ Some order → order.asked ≡ asks → StepTell old told new → TellsOf old new asks told
 tells_of {S} {V} old new asks told order is_order is_asked by = by_case by
   where
     same_asked : (other : OrderView) → old.council.order ≡ Some other → other.asked ≡ asks

@@ -1,3 +1,4 @@
+pub mod Collecting
 pub mod Conflicts
 pub mod Deeds
 pub mod Kept

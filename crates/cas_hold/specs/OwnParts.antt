@@ -1,6 +1,7 @@
 -- What of the store is a caller's own: what is kept of its open call and, for the operator's caller 0, of all that is under way. Where
 -- nothing is open it is empty.
 use Rattle.std.specs.Prelude.{ℕ, zero, suc, if◌then◌else◌, List, [], ◌∷◌, ◌++◌, length, map, Option, None, Some, is_some, slice_get}
+use Rattle.cas_calls.specs.Collecting.{is_sought}
 use Rattle.cas_collect.specs.declared.collect.CollectStep.{CollectStep}
 use Rattle.cas_collect.specs.declared.collect.CollectStep.TheVariants as collect
 use Rattle.cas_record.specs.declared.operator.Asked.{Asked}
@@ -74,9 +75,13 @@ abbrev pub plan_part : Option PlanView → List ℕ
 plan_part None = []
 plan_part (Some plan) = framed 3 (length plan.progress.left ∷ plan.entered ∷ length (asked_part plan.asked) ∷ asked_part plan.asked ++ due_part (due_key plan))
 
+-- whether the call of its round is open, or it is over, and whether it is known then what became of it
+abbrev pub round_part : CollectionView → ℕ
+round_part collection = if collection.calling then 0 else if is_sought collection.tombstone then 1 else 2
+
 abbrev pub collection_part : Option CollectionView → List ℕ
 collection_part None = []
-collection_part (Some collection) = framed 4 (length (step_part collection.course.step) ∷ step_part collection.course.step ++ collection.course.key)
+collection_part (Some collection) = framed 4 (length (step_part collection.course.step) ∷ step_part collection.course.step ++ round_part collection ∷ collection.course.key)
 
 abbrev pub council_part : Council → List ℕ
 council_part council = order_part council.order ++ exchange_part council.exchange ++ plan_part council.plan ++ collection_part council.collection

@@ -88,7 +88,7 @@ pub fn order_members<S: Shelf, V: Disk>(
 }
 
 /// The program that leaves each state as it is.
-fn always_keep(alloc: Global) -> Result<Program, AllocError>
+pub(crate) fn always_keep(alloc: Global) -> Result<Program, AllocError>
     ensures { IfOk result (λ program. program ≡ keep_always) }
 {
     let mut clauses = Vec::with_capacity(alloc, 1)?;

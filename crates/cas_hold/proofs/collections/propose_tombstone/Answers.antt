@@ -1,0 +1,54 @@
+use Rattle.std.proofs.Common.{sym, subst, ap, ◌∙◌}
+use Rattle.std.specs.Prelude.{Ok, Err}
+use Rattle.cas_hold.specs.Collecting.{CollectsIn}
+use Rattle.cas_hold.proofs.BurialCalls.{calling_there, proposed_held, met_held, propose_stops, propose_told, propose_calling, propose_undone}
+use Rattle.cas_hold.proofs.BurialEnds.{read_held}
+use Rattle.cas_hold.proofs.collections.propose_tombstone.Goals as goal
+
+pub propose_tombstone-requires-clause-calling : goal.propose_tombstone-requires-clause-calling
+propose_tombstone-requires-clause-calling g c = calling_there c.args.world.now c.args.key.now c.args.call c.requires.at c.requires.kept
+
+pub stop-requires-clause-told : goal.stop-requires-clause-told
+stop-requires-clause-told g c = (propose_told c.args.world.now c.propose_tombstone.new.self c.args.key.now c.args.call c.in-Err.told c.requires.at c.in-Err.ensures.told)
+
+pub stop-requires-clause-undone : goal.stop-requires-clause-undone
+stop-requires-clause-undone g c = propose_undone _ c.args.call c.args.world.now c.propose_tombstone.new.self c.in-Err.told c.in-Err.ensures.err (propose_told c.args.world.now c.propose_tombstone.new.self c.args.key.now c.args.call c.in-Err.told c.requires.at c.in-Err.ensures.told)
+
+pub stop-requires-clause-calling : goal.stop-requires-clause-calling
+stop-requires-clause-calling g c = propose_calling _ c.args.world.now c.propose_tombstone.new.self c.args.key.now c.args.call c.in-Err.told c.requires.at c.requires.kept c.in-Err.ensures.err (propose_told c.args.world.now c.propose_tombstone.new.self c.args.key.now c.args.call c.in-Err.told c.requires.at c.in-Err.ensures.told)
+
+pub returns-in-Ok-Empty-clause-kept : goal.returns-in-Ok-Empty-clause-kept
+returns-in-Ok-Empty-clause-kept g c = (proposed_held _ c.args.key.now c.args.call 0 c.args.world.now c.propose_tombstone.new.self c.requires.at c.requires.kept (c.in-Ok-Empty.ensures.empty (ap Ok c.in-Ok-Empty.field-0-is)).1 (c.in-Ok-Empty.ensures.empty (ap Ok c.in-Ok-Empty.field-0-is)).0).kept
+
+pub returns-in-Ok-Empty-clause-greatest : goal.returns-in-Ok-Empty-clause-greatest
+returns-in-Ok-Empty-clause-greatest g c = (proposed_held _ c.args.key.now c.args.call 0 c.args.world.now c.propose_tombstone.new.self c.requires.at c.requires.kept (c.in-Ok-Empty.ensures.empty (ap Ok c.in-Ok-Empty.field-0-is)).1 (c.in-Ok-Empty.ensures.empty (ap Ok c.in-Ok-Empty.field-0-is)).0).greatest
+
+pub returns-in-Ok-Empty-clause-collects : goal.returns-in-Ok-Empty-clause-collects
+returns-in-Ok-Empty-clause-collects g c most = (proposed_held _ c.args.key.now c.args.call most c.args.world.now c.propose_tombstone.new.self c.requires.at c.requires.kept (c.in-Ok-Empty.ensures.empty (ap Ok c.in-Ok-Empty.field-0-is)).1 (c.in-Ok-Empty.ensures.empty (ap Ok c.in-Ok-Empty.field-0-is)).0).does
+
+pub returns-in-Ok-Held-clause-kept : goal.returns-in-Ok-Held-clause-kept
+returns-in-Ok-Held-clause-kept g c = (read_held _ c.args.key.now c.args.call 0 c.args.world.now c.propose_tombstone.new.self c.requires.at c.requires.kept (c.in-Ok-Held.ensures.held _ (ap Ok c.in-Ok-Held.field-0-is))).kept
+
+pub returns-in-Ok-Held-clause-greatest : goal.returns-in-Ok-Held-clause-greatest
+returns-in-Ok-Held-clause-greatest g c = (read_held _ c.args.key.now c.args.call 0 c.args.world.now c.propose_tombstone.new.self c.requires.at c.requires.kept (c.in-Ok-Held.ensures.held _ (ap Ok c.in-Ok-Held.field-0-is))).greatest
+
+pub returns-in-Ok-Held-clause-collects : goal.returns-in-Ok-Held-clause-collects
+returns-in-Ok-Held-clause-collects g c most = (read_held _ c.args.key.now c.args.call most c.args.world.now c.propose_tombstone.new.self c.requires.at c.requires.kept (c.in-Ok-Held.ensures.held _ (ap Ok c.in-Ok-Held.field-0-is))).does
+
+pub returns-then-is_conflict-clause-kept : goal.returns-then-is_conflict-clause-kept
+returns-then-is_conflict-clause-kept g c = (met_held _ c.args.key.now c.args.call 0 c.args.world.now c.propose_tombstone.new.self c.in-Err.told c.requires.at c.requires.kept c.requires.unproposed (propose_told c.args.world.now c.propose_tombstone.new.self c.args.key.now c.args.call c.in-Err.told c.requires.at c.in-Err.ensures.told) (sym c.is_conflict.ensures ∙ c.if-is_conflict.true) c.in-Err.ensures.err).kept
+
+pub returns-then-is_conflict-clause-greatest : goal.returns-then-is_conflict-clause-greatest
+returns-then-is_conflict-clause-greatest g c = (met_held _ c.args.key.now c.args.call 0 c.args.world.now c.propose_tombstone.new.self c.in-Err.told c.requires.at c.requires.kept c.requires.unproposed (propose_told c.args.world.now c.propose_tombstone.new.self c.args.key.now c.args.call c.in-Err.told c.requires.at c.in-Err.ensures.told) (sym c.is_conflict.ensures ∙ c.if-is_conflict.true) c.in-Err.ensures.err).greatest
+
+pub returns-then-is_conflict-clause-collects : goal.returns-then-is_conflict-clause-collects
+returns-then-is_conflict-clause-collects g c most = (met_held _ c.args.key.now c.args.call most c.args.world.now c.propose_tombstone.new.self c.in-Err.told c.requires.at c.requires.kept c.requires.unproposed (propose_told c.args.world.now c.propose_tombstone.new.self c.args.key.now c.args.call c.in-Err.told c.requires.at c.in-Err.ensures.told) (sym c.is_conflict.ensures ∙ c.if-is_conflict.true) c.in-Err.ensures.err).does
+
+pub returns-else-rounds-tries-clause-kept : goal.returns-else-rounds-tries-clause-kept
+returns-else-rounds-tries-clause-kept g c = (propose_stops _ c.args.key.now c.args.call 0 c.args.world.now c.propose_tombstone.new.self c.stop.new.world c.in-Err.told c.requires.at c.requires.kept c.in-Err.ensures.err (propose_told c.args.world.now c.propose_tombstone.new.self c.args.key.now c.args.call c.in-Err.told c.requires.at c.in-Err.ensures.told) (propose_undone _ c.args.call c.args.world.now c.propose_tombstone.new.self c.in-Err.told c.in-Err.ensures.err (propose_told c.args.world.now c.propose_tombstone.new.self c.args.key.now c.args.call c.in-Err.told c.requires.at c.in-Err.ensures.told)) c.stop.ensures.stops).kept
+
+pub returns-else-rounds-tries-clause-greatest : goal.returns-else-rounds-tries-clause-greatest
+returns-else-rounds-tries-clause-greatest g c = (propose_stops _ c.args.key.now c.args.call 0 c.args.world.now c.propose_tombstone.new.self c.stop.new.world c.in-Err.told c.requires.at c.requires.kept c.in-Err.ensures.err (propose_told c.args.world.now c.propose_tombstone.new.self c.args.key.now c.args.call c.in-Err.told c.requires.at c.in-Err.ensures.told) (propose_undone _ c.args.call c.args.world.now c.propose_tombstone.new.self c.in-Err.told c.in-Err.ensures.err (propose_told c.args.world.now c.propose_tombstone.new.self c.args.key.now c.args.call c.in-Err.told c.requires.at c.in-Err.ensures.told)) c.stop.ensures.stops).greatest
+
+pub returns-else-rounds-tries-clause-collects : goal.returns-else-rounds-tries-clause-collects
+returns-else-rounds-tries-clause-collects g c most = subst (λ a. CollectsIn c.args.key.now most c.args.world.now c.stop.new.world (Err a)) (sym c.stop.ensures.same) (propose_stops _ c.args.key.now c.args.call most c.args.world.now c.propose_tombstone.new.self c.stop.new.world c.in-Err.told c.requires.at c.requires.kept c.in-Err.ensures.err (propose_told c.args.world.now c.propose_tombstone.new.self c.args.key.now c.args.call c.in-Err.told c.requires.at c.in-Err.ensures.told) (propose_undone _ c.args.call c.args.world.now c.propose_tombstone.new.self c.in-Err.told c.in-Err.ensures.err (propose_told c.args.world.now c.propose_tombstone.new.self c.args.key.now c.args.call c.in-Err.told c.requires.at c.in-Err.ensures.told)) c.stop.ensures.stops).does
