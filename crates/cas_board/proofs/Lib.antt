@@ -1,3 +1,4 @@
+mod Collections
 mod Opened
 mod Operating
 mod Sittings

@@ -9,6 +9,7 @@ ghost use Rattle.cas_hold.specs.Kept.{IsHeldBy};
 ghost use Rattle.cas_hold.specs.Mine.{mine};
 ghost use Rattle.cas_hold.specs.Open.{IsFree};
 ghost use Rattle.cas_hold.specs.OwnParts.{own_part};
+ghost use Rattle.cas_rack.specs.Kept.{AreKept};
 ghost use Rattle.cas_rack.specs.Store.{StaysClosed};
 ghost use Rattle.cas_board.specs.Passes.{IsPassOf};
 
@@ -112,7 +113,8 @@ impl<D: Disk> Board<D> {
         self.turn.meet(a, b);
     }
 
-    /// Takes the board apart, with all its passes. It takes no memory, and waits for nobody.
+    /// Takes the board apart, with all its passes. It takes no memory, and waits for nobody. What is acknowledged in the record stands on
+    /// the disks of the acceptors that confirmed it, whatever a crash of them leaves, until a floor is made at or above it.
     pub fn close(self, passes: Vec<Pass<D>>) -> Closed<D>
         requires turn { All (λ p. p.turn ≡ self.id) passes.items }
         requires all { vec_len passes ≡ self.seats }
@@ -120,6 +122,7 @@ impl<D: Disk> Board<D> {
         ensures legal { D.tells → IsLegal (reverse result.book.marks) }
         ensures fronts { All (λ p. Begins p.seen result.book.marks) passes.items }
         ensures mine { All (λ p. mine p.number result.book.marks ≡ mine p.number p.seen) passes.items }
+        ensures kept { D.tells → AreKept D.may_leave (reverse result.book.marks) result.rack.acceptors.items }
         ensures all_acceptors { vec_len result.rack.acceptors ≡ 64 }
         ensures all_vaults { vec_len result.rack.vaults ≡ 17 }
     {
@@ -133,6 +136,7 @@ impl<D: Disk> Shared<D> {
     fn into_closed(self) -> Closed<D>
         ensures marks { result.book.marks ≡ self.marks }
         ensures legal { D.tells → IsLegal (reverse result.book.marks) }
+        ensures kept { D.tells → AreKept D.may_leave (reverse result.book.marks) result.rack.acceptors.items }
         ensures all_acceptors { vec_len result.rack.acceptors ≡ 64 }
         ensures all_vaults { vec_len result.rack.vaults ≡ 17 }
     {

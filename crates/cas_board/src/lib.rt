@@ -10,6 +10,7 @@
 
 mod board;
 mod change;
+mod collecting;
 mod fates;
 mod membership;
 mod phases;

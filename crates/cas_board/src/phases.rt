@@ -51,6 +51,7 @@ impl<D: Disk> Board<D> {
         requires pass { IsPassOf self.now.id pass.old }
         ensures pass { pass.new ≡ record pass.old { seen = pass.new.seen } }
         ensures front { GoesOn pass.old.number pass.old.seen pass.new.seen [] }
+        ensures wanted { wanted_by pass.old.number pass.new.seen ≡ wanted_by pass.old.number pass.old.seen }
         ensures counted { IsCounted (harm_by result) (F.harm_count fate.old) (F.harm_count fate.new) }
     {
         match waits {

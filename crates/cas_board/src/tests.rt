@@ -4,6 +4,7 @@ ghost use Rattle.std.specs.Prelude.{◌≡◌, ◌<◌, length, vec_len, All, If
 ghost use Rattle.cas_board.specs.Passes.{IsPassOf};
 ghost use Rattle.cas_hold.specs.Open.{IsFree};
 
+mod collecting;
 mod operating;
 
 use crate::{Board, Pass};
@@ -41,17 +42,22 @@ fn rack(alloc: Global) -> Result<Rack<MemoryDisk>, AllocError>
     Ok(Rack { acceptors, vaults })
 }
 
-/// The program that always adds this.
-fn adds(alloc: Global, number: i64) -> Result<Program, AllocError> {
+/// The program that always acts so.
+fn always(alloc: Global, act: Act) -> Result<Program, AllocError> {
     let mut clauses = Vec::new(alloc);
     clauses.push(Clause {
         guard: Guard::Always,
-        act: Act::Add(number),
+        act,
     })?;
     match Program::new(clauses) {
         Ok(program) => Ok(program),
         Err(_) => Err(AllocError),
     }
+}
+
+/// The program that always adds this.
+fn adds(alloc: Global, number: i64) -> Result<Program, AllocError> {
+    always(alloc, Act::Add(number))
 }
 
 /// What each caller asks for, and how often.
@@ -132,16 +138,19 @@ fn record_of<R: Threads + Wait + Sync>(
     Ok(board.close(passes).book)
 }
 
-/// Done by the first clause, with this number held then.
-fn done(version: u64, number: i64, ballot: Ballot) -> Answer {
+/// Done by the first clause, with this state then.
+fn done_with(state: State, ballot: Ballot) -> Answer {
     Answer::Done {
-        state: State::Held {
-            version,
-            body: Body::Number(number),
-        },
+        state,
         took: Took::Clause(0),
         ballot,
     }
+}
+
+/// Done by the first clause, with this number held then.
+fn done(version: u64, number: i64, ballot: Ballot) -> Answer {
+    let body = Body::Number(number);
+    done_with(State::Held { version, body }, ballot)
 }
 
 /// Whether these are the answers that the record tells, in order.

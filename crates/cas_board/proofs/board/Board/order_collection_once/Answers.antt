@@ -1,0 +1,31 @@
+use Rattle.std.proofs.Common.{[], sym, ap, subst, ◌∙◌}
+use Rattle.cas_hold.specs.Deeds.{IsRefusal}
+use Rattle.cas_hold.specs.Kept.{Makes}
+use Rattle.cas_hold.specs.Open.{IsFree}
+use Rattle.cas_hold.specs.OwnParts.{own_part}
+use Rattle.cas_board.proofs.Sittings.{was_held, gives_back}
+use Rattle.cas_board.proofs.Operating.{operator_part, operator_made, operator_own, if_err}
+use Rattle.cas_board.proofs.Collections.{course_then}
+use Rattle.cas_board.proofs.board.Board.order_collection_once.Goals as goal
+
+pub order_collection-ordered-requires-clause-free : goal.order_collection-ordered-requires-clause-free
+order_collection-ordered-requires-clause-free g c =
+    subst IsFree (sym (operator_part c.args.pass.now.number c.shared.inside.store.world c.hold-shared.result c.args.pass.now.own c.requires.operator c.shared.view_is c.hold-shared.ensures.own)) c.requires.free
+
+pub give_back-requires-clause-makes : goal.give_back-requires-clause-makes
+give_back-requires-clause-makes g c =
+    gives_back 0 c.hold-shared.result c.order_collection-ordered.new.world c.args.pass.now c.hold-shared.new.seat c.hold-shared.ensures.seat (sym (ap (λ s. s.number) c.hold-shared.ensures.seat ∙ c.requires.operator))
+    ([], subst (λ v. Makes 0 v c.order_collection-ordered.new.world []) c.shared.view_is c.order_collection-ordered.ensures.makes)
+
+pub returns-clause-front : goal.returns-clause-front
+returns-clause-front g c =
+    operator_made c.hold-shared.result c.order_collection-ordered.new.world c.args.pass.now c.give_back.new.pass (was_held 0 c.hold-shared.result c.order_collection-ordered.new.world c.args.pass.now c.hold-shared.new.seat c.give_back.new.pass c.hold-shared.ensures.seen c.hold-shared.ensures.seat (sym (ap (λ s. s.number) c.hold-shared.ensures.seat ∙ c.requires.operator)) c.give_back.ensures.pass) [] (subst (λ v. Makes 0 v c.order_collection-ordered.new.world []) c.shared.view_is c.order_collection-ordered.ensures.makes)
+
+pub returns-clause-ordered : goal.returns-clause-ordered
+returns-clause-ordered g c =
+    course_then c.args.key.now c.order_collection-ordered.result _ _ _ _ (operator_own c.hold-shared.result c.order_collection-ordered.new.world c.args.pass.now c.give_back.new.pass (was_held 0 c.hold-shared.result c.order_collection-ordered.new.world c.args.pass.now c.hold-shared.new.seat c.give_back.new.pass c.hold-shared.ensures.seen c.hold-shared.ensures.seat (sym (ap (λ s. s.number) c.hold-shared.ensures.seat ∙ c.requires.operator)) c.give_back.ensures.pass)) (was_held 0 c.hold-shared.result c.order_collection-ordered.new.world c.args.pass.now c.hold-shared.new.seat c.give_back.new.pass c.hold-shared.ensures.seen c.hold-shared.ensures.seat (sym (ap (λ s. s.number) c.hold-shared.ensures.seat ∙ c.requires.operator)) c.give_back.ensures.pass).seen c.order_collection-ordered.ensures.ordered
+
+pub returns-clause-refused : goal.returns-clause-refused
+returns-clause-refused g c =
+    if_err {P = λ why. IsRefusal why × IsFree (own_part c.order_collection-ordered.new.world 0)} c.order_collection-ordered.result
+    (λ why is. (is.0, subst IsFree (sym (operator_own c.hold-shared.result c.order_collection-ordered.new.world c.args.pass.now c.give_back.new.pass (was_held 0 c.hold-shared.result c.order_collection-ordered.new.world c.args.pass.now c.hold-shared.new.seat c.give_back.new.pass c.hold-shared.ensures.seen c.hold-shared.ensures.seat (sym (ap (λ s. s.number) c.hold-shared.ensures.seat ∙ c.requires.operator)) c.give_back.ensures.pass))) is.1)) c.order_collection-ordered.ensures.refused
