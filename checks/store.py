@@ -1,6 +1,6 @@
 """What checks of the built program share: where it is, what a script's lines may be answered, and what stands on a disk.
 
-The answers are those of README.md, and the disks those of docs/FORMATS.md; both are read here after those pages alone.
+The answers are those of docs/LANGUAGE.md, and the disks those of docs/FORMATS.md; both are read here after those pages alone.
 """
 import os
 import re

@@ -30,9 +30,9 @@ safe_done meant tells tries P input old new world back status.NoMemory safe by =
 safe_done meant tells tries P input old new world back (status.Endless line) safe by = runs_are_done meant tries (opening_state world) by.last by.wrote.lines by.wrote.answers safe by.wrote.run
 
 -- a run over a new world
-pub ran_over : {D : Type 0} {meant : Meaning (DiskShelf D) D} {m : RackMeaning D} {words : List (List ℕ)} {P : List (List ℕ) → Type 0} {input old new : Option (List ℕ)} {rack asked back : Rack D} {result : Status} (options : Options) (world : View (DiskShelf D) D) → AreWords words (request.Script options) → IsAllEmpty m rack asked
-    → IsNewOver meant options.acceptors options.proposers asked world → Ran meant m.tells options.tries P input old new world result back → Wrote meant m words P input old new rack result back
-ran_over {D} {meant} {m} {words} {P} {input} {old} {new} {rack} {asked} {back} {result} options world are empty over by =
+pub ran_over : {D : Type 0} {meant : Meaning (DiskShelf D) D} {m : RackMeaning D} {words : List (List ℕ)} {P : List (List ℕ) → Type 0} {input old new : Option (List ℕ)} {harms harms_then : List ℕ} {rack asked back : Rack D} {result : Status} (options : Options) (world : View (DiskShelf D) D) → AreWords words (request.Script options) → IsAllEmpty m rack asked
+    → IsNewOver meant options.acceptors options.proposers asked world → Ran meant m.tells options.tries P input old new world result back → Wrote meant m words P input old new harms harms_then rack result back
+ran_over {D} {meant} {m} {words} {P} {input} {old} {new} {harms} {harms_then} {rack} {asked} {back} {result} options world are empty over by =
     ran options world are empty over by (safe_done meant m.tells options.tries P input old new world back result (opens_are_safe meant (members_to options.acceptors) world over.opening over.places) by)
 
 -- ---- the world that was asked for

@@ -13,9 +13,14 @@ use Rattle.cas_world.specs.declared.fault.OpenFault.{OpenFault}
 use Rattle.cas_world.specs.declared.fault.OpenFault.TheVariants as opening
 use Rattle.cas_script.specs.Script.{State}
 use Rattle.cas_script.specs.declared.load.Load.{Load}
-use Rattle.casreg.specs.Causes.{IsDisk, of_acceptor, of_vault, AreDisksToBlame, WroteIn, Wrote, wrong_words, no_words_read, not_empty, not_opened, ran, loaded, WroteSummary, whole, sink_failed, no_text, broke_off}
+use Rattle.casreg.specs.Causes.{IsDisk, of_acceptor, of_vault, AreDisksToBlame, WroteIn, Wrote, wrong_words, no_words_read, not_empty, not_opened, ran, loaded, no_board, raced, WroteSummary, whole, sink_failed, no_text, broke_off}
 use Rattle.casreg.specs.Words.{acceptors_of, proposers_of}
-use Rattle.casreg.specs.Status.{status_of_rack, status_of_opening}
+use Rattle.std.specs.Prelude.{Result, Ok, Err}
+use Rattle.cas_lines.specs.declared.lines.LineFault.TheVariants as fault
+use Rattle.cas_race.specs.declared.race.RaceFault.{RaceFault}
+use Rattle.cas_race.specs.declared.race.RaceFault.TheVariants as race
+use Rattle.cas_tasks.specs.declared.histories.HistoryFault.TheVariants as text
+use Rattle.casreg.specs.Status.{status_of_rack, status_of_opening, status_of_race}
 use Rattle.casreg.specs.declared.status.Status.{Status}
 use Rattle.casreg.specs.declared.status.Status.TheVariants as status
 
@@ -114,10 +119,22 @@ load_blamed meant m load old new world last rack back result (sink_failed summar
 load_blamed meant m load old new world last rack back result (no_text summary sums same) = tt
 load_blamed meant m load old new world last rack back result (broke_off breaks same) = tt
 
-pub blamed : {D : Type 0} (meant : Meaning (DiskShelf D) D) (m : RackMeaning D) (words : List (List ℕ)) (P : List (List ℕ) → Type 0) (input old new : Option (List ℕ)) (rack : Rack D) (result : Status) (back : Rack D) → Wrote meant m words P input old new rack result back → AreDisksToBlame m rack back result
-blamed meant m words P input old new rack result back (wrong_words same) = tt
-blamed meant m words P input old new rack result back (no_words_read same) = tt
-blamed meant m words P input old new rack result back (not_empty fault is same) = rack_blamed m rack back fault is
-blamed meant m words P input old new rack result back (not_opened {asked = asked} request fault are empty closed same) = opening_blamed m (acceptors_of request) (proposers_of request) rack asked back fault empty closed
-blamed meant m words P input old new rack result back (ran options world are empty over run done) = ran_blamed meant m options.tries P input old new _ run.last rack back result run.wrote
-blamed meant m words P input old new rack result back (loaded load world are empty over run) = load_blamed meant m load old new world run.last rack back result run.wrote
+-- and so does a race
+race_blamed : {D : Type 0} (m : RackMeaning D) (rack back : Rack D) (ended : Result (Unit {0}) RaceFault) → AreDisksToBlame m rack back (status_of_race ended)
+race_blamed m rack back (Ok done) = tt
+race_blamed m rack back (Err (race.NotRun fault.ReadFault)) = tt
+race_blamed m rack back (Err (race.NotRun fault.TooManyLines)) = tt
+race_blamed m rack back (Err (race.NotRun (fault.Endless line))) = tt
+race_blamed m rack back (Err (race.NotRun fault.NoMemory)) = tt
+race_blamed m rack back (Err (race.CutOff text.WriteFault)) = tt
+race_blamed m rack back (Err (race.CutOff text.NoMemory)) = tt
+
+pub blamed : {D : Type 0} (meant : Meaning (DiskShelf D) D) (m : RackMeaning D) (words : List (List ℕ)) (P : List (List ℕ) → Type 0) (input old new : Option (List ℕ)) (harms harms_then : List ℕ) (rack : Rack D) (result : Status) (back : Rack D) → Wrote meant m words P input old new harms harms_then rack result back → AreDisksToBlame m rack back result
+blamed meant m words P input old new harms harms_then rack result back (wrong_words same) = tt
+blamed meant m words P input old new harms harms_then rack result back (no_words_read same) = tt
+blamed meant m words P input old new harms harms_then rack result back (not_empty fault is same) = rack_blamed m rack back fault is
+blamed meant m words P input old new harms harms_then rack result back (not_opened {asked = asked} request fault are empty closed same) = opening_blamed m (acceptors_of request) (proposers_of request) rack asked back fault empty closed
+blamed meant m words P input old new harms harms_then rack result back (ran options world are empty over run done) = ran_blamed meant m options.tries P input old new _ run.last rack back result run.wrote
+blamed meant m words P input old new harms harms_then rack result back (loaded load world are empty over run) = load_blamed meant m load old new world run.last rack back result run.wrote
+blamed meant m words P input old new harms harms_then rack result back (no_board options are empty same) = tt
+blamed meant m words P input old new harms harms_then rack result back (raced options are empty over) = subst (λ (s : Status). AreDisksToBlame m rack back s) (sym over.is) (race_blamed m rack back over.ended)

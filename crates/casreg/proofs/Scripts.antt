@@ -1,4 +1,4 @@
--- The options of a script and of a load, where clap takes the words.
+-- The options of a script, of a race and of a load, where clap takes the words.
 use Rattle.std.proofs.Common.{◌≡◌, ℕ, Bool, true, false, cond, List, [], Option, Some, None, is_some, refl, sym, ap, subst, inl, inr, codes, find}
 use Rattle.std.specs.Prelude.{◌⊎◌, option_map, slice_get, unwrap_or}
 use Rattle.clap.specs.declared.builder.value_parser.ValueParser.TheVariants.{Unsigned}
@@ -109,9 +109,24 @@ leaf words none =
     let last : with_default (third (settled rules end).rows each) help ≡ third (settled rules end).rows each = default_none help (third (settled rules end).rows each) refl in
     (subst HasOptions (sym last) (numbers (settled rules end).rows each), inl refl)
 
+-- ---- the options of a race, whose rules are those of a script
+abbrev racing : Shape
+racing = unwrap_or (slice_get (built casreg).subs 1) (new_shape [])
+
+race_leaf : (words : List Text) → level_fault racing [] nothing_held words false [] ≡ [] → HasCommand (Some (rows_at racing words))
+unfolding clap_on_literals
+race_leaf words none =
+    let end = (walk rules [] nothing_held words).held in
+    let parts = neither (walk_fault racing [] (walk_from nothing_held) words) _ none in
+    let settles = neither (settle_fault rules racing.args_override_self end) _ parts.1 in
+    let rows = walk_each rules known racing refl no_places [] words (walk_from nothing_held) parts.0 tt in
+    let each = settled_each rules known racing.args_override_self end settles.0 rows in
+    let last : with_default (third (settled rules end).rows each) help ≡ third (settled rules end).rows each = default_none help (third (settled rules end).rows each) refl in
+    (subst HasOptions (sym last) (numbers (settled rules end).rows each), inr (inl refl))
+
 -- ---- the options of a load
 abbrev loading : Shape
-loading = unwrap_or (slice_get (built casreg).subs 1) (new_shape [])
+loading = unwrap_or (slice_get (built casreg).subs 2) (new_shape [])
 
 abbrev load_rules : List Rule
 load_rules = loading.rules
@@ -235,12 +250,12 @@ load_leaf words none =
     let each = settled_each load_rules load_known loading.args_override_self end settles.0 rows in
     let last : with_default (with_five (settled load_rules end).rows each) load_help ≡ with_five (settled load_rules end).rows each = default_none load_help (with_five (settled load_rules end).rows each) refl in
     let both = subst (λ (l : List Row). HasOptions l × HasDrawing l) (sym last) (load_numbers (settled load_rules end).rows each) in
-    (both.0, inr (refl, both.1))
+    (both.0, inr (inr (refl, both.1)))
 
 -- ---- the program
 -- the names of its subcommands
 abbrev IsCommand : Text → Type 0
-IsCommand name = (name ≡ codes "script") ⊎ (name ≡ codes "load")
+IsCommand name = (name ≡ codes "script") ⊎ (name ≡ codes "race") ⊎ (name ≡ codes "load")
 
 only : (waiting : Waiting) (word name : Text) → subcommand_met (names_of (built casreg)) waiting word ≡ Some name → IsCommand name ⊎ (name ≡ codes "help")
 unfolding clap_on_literals
@@ -249,7 +264,7 @@ only idle word name is = go (find (answers_to word) (names_of (built casreg))) r
     go : (o : Option (Text × List Text)) → find (answers_to word) (names_of (built casreg)) ≡ o → option_map (λ (n : Text × List Text). n.0) o ≡ Some name → IsCommand name ⊎ (name ≡ codes "help")
     go None found e = absurd (cc e)
     go (Some n) found e =
-        let one = found_each (λ (n : Text × List Text). IsCommand n.0 ⊎ (n.0 ≡ codes "help")) (answers_to word) (names_of (built casreg)) n (inl (inl refl), (inl (inr refl), (inr refl, tt))) found in
+        let one = found_each (λ (n : Text × List Text). IsCommand n.0 ⊎ (n.0 ≡ codes "help")) (answers_to word) (names_of (built casreg)) n (inl (inl refl), (inl (inr (inl refl)), (inl (inr (inr refl)), (inr refl, tt)))) found in
         let same : n.0 ≡ name = cc e in
         subst (λ (t : Text). IsCommand t ⊎ (t ≡ codes "help")) same one
 only (option id) word name is = absurd (cc is)
@@ -261,13 +276,14 @@ unfolding clap_on_literals
 wanted rows true none = refl
 wanted rows false none = absurd (cc none)
 
-met : (stop : Option (Text × List Text)) → IsNamed IsCommand stop → is_some (entered (built casreg) stop) ≡ true → (words : List Text) × ((stop ≡ Some (codes "script", words)) ⊎ (stop ≡ Some (codes "load", words)))
+met : (stop : Option (Text × List Text)) → IsNamed IsCommand stop → is_some (entered (built casreg) stop) ≡ true → (words : List Text) × ((stop ≡ Some (codes "script", words)) ⊎ (stop ≡ Some (codes "race", words)) ⊎ (stop ≡ Some (codes "load", words)))
 met None named is = absurd (cc is)
 met (Some p) named is = (
   p.1,
   elim (named p refl) [
     | inl script ↦ inl (ap (λ (n : Text). Some (n, p.1)) script)
-    | inr load ↦ inr (ap (λ (n : Text). Some (n, p.1)) load)
+    | inr (inl race) ↦ inr (inl (ap (λ (n : Text). Some (n, p.1)) race))
+    | inr (inr load) ↦ inr (inr (ap (λ (n : Text). Some (n, p.1)) load))
   ],
 )
 
@@ -289,7 +305,10 @@ has_command words none =
       | inl script ↦
           let below : level_fault taken [] nothing_held there.0 false [] ≡ [] = subst (λ (o : Option (Text × List Text)). entered_fault (built casreg) o ≡ []) script enters.0 in
           subst (λ (o : Option (Text × List Text)). HasCommand (entered (built casreg) o)) (sym script) (leaf there.0 below)
-      | inr load ↦
+      | inr (inl race) ↦
+          let below : level_fault racing [] nothing_held there.0 false [] ≡ [] = subst (λ (o : Option (Text × List Text)). entered_fault (built casreg) o ≡ []) race enters.0 in
+          subst (λ (o : Option (Text × List Text)). HasCommand (entered (built casreg) o)) (sym race) (race_leaf there.0 below)
+      | inr (inr load) ↦
           let below : level_fault loading [] nothing_held there.0 false [] ≡ [] = subst (λ (o : Option (Text × List Text)). entered_fault (built casreg) o ≡ []) load enters.0 in
           subst (λ (o : Option (Text × List Text)). HasCommand (entered (built casreg) o)) (sym load) (load_leaf there.0 below)
     ]

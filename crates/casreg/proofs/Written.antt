@@ -20,18 +20,22 @@ use Rattle.cas_record.specs.declared.mark.Mark.{Mark}
 use Rattle.cas_cluster.specs.View.{View}
 use Rattle.cas_world.specs.Opening.{disks_of}
 use Rattle.cas_world.specs.declared.fault.OpenFault.{OpenFault}
+use Rattle.cas_world.specs.declared.fault.OpenFault.TheVariants as opening
+use Rattle.cas_rack.specs.Kept.{AreKept}
 use Rattle.cas_rack.specs.Rack.{RackMeaning, IsAllEmpty, IsNotEmpty}
 use Rattle.cas_rack.specs.Store.{acceptor_disks, StaysClosed}
 use Rattle.cas_rack.specs.declared.rack.RackFault.{RackFault}
 use Rattle.cas_rack.specs.declared.rack.Rack.{Rack}
 use Rattle.cas_script.specs.Stage.{Stage}
 use Rattle.cas_script.specs.declared.load.Load.{Load}
-use Rattle.casreg.specs.Causes.{AnswersTo, AreFirstLines, WroteIn, EndsIn, IsOfDisk, IsRackOf, Ran, Loaded, WroteSummary, Wrote, not_empty, not_opened, status_of, LoadEnds, whole, sink_failed, no_text, broke_off}
+use Rattle.casreg.specs.Causes.{AnswersTo, AreFirstLines, WroteIn, EndsIn, IsOfDisk, IsRackOf, Ran, Loaded, WroteSummary, Wrote, not_empty, not_opened, no_board, status_of, LoadEnds, whole, sink_failed, no_text, broke_off}
 use Rattle.cas_cluster.specs.View.{Meaning}
 use Rattle.cas_script.specs.Script.{State, opening_state, AnswersLine, RanOrNot, not_run, ran, one_more, text_of, transcript_of}
 use Rattle.casreg.specs.Status.{status_of_fault, status_of_rack, status_of_opening}
 use Rattle.casreg.specs.Words.{AreWords, acceptors_of, proposers_of}
+use Rattle.casreg.specs.declared.words.Options.{Options}
 use Rattle.casreg.specs.declared.words.Request.{Request}
+use Rattle.casreg.specs.declared.words.Request.TheVariants as request
 use Rattle.casreg.proofs.Runs.{IsMidway, IsMidwayIn, IsNextLine, appends_both, transcript_more, midway-too_many, midway-endless}
 
 -- what holds of the error holds of the result that has it
@@ -222,36 +226,47 @@ ends_whole input ends (TooLong line) is = absurd (cc is)
 
 -- ---- the store is taken apart
 pub ran_from : {D : Type 0} (meant : Meaning (DiskShelf D) D) (tells : Type 0) (tries made : ℕ) (P : List (List ℕ) → Type 0) (input old new : Option (List ℕ)) (world closed : View (DiskShelf D) D) (stage : Stage (DiskShelf D) D) (marks : List Mark) (result : Status) (back : Rack D) → made ≡ tries
-    → closed ≡ stage.world → EndsIn meant made P input old new (opening_state world) stage result → marks ≡ closed.marks → (tells → IsLegal (reverse marks)) → back.acceptors.items ≡ acceptor_disks closed.acceptors
+    → closed ≡ stage.world → EndsIn meant made P input old new (opening_state world) stage result → marks ≡ closed.marks → (tells → IsLegal (reverse marks)) → (tells → AreKept meant.disks.may_leave (reverse marks) back.acceptors.items) → back.acceptors.items ≡ acceptor_disks closed.acceptors
     → take (closed.greatest + 1) back.vaults.items ≡ disks_of closed.desks → Ran meant tells tries P input old new world result back
-ran_from {D} meant tells tries made P input old new world closed stage marks result back tries_are is ends marks_are legal acceptors vaults =
+ran_from {D} meant tells tries made P input old new world closed stage marks result back tries_are is ends marks_are legal kept acceptors vaults =
     let e : EndsIn meant tries P input old new (opening_state world) stage result = subst (λ (n : ℕ). EndsIn meant n P input old new (opening_state world) stage result) tries_are ends in
     let same : closed ≡ e.last.world = is ∙ e.is_in.world in
     record {
       last = e.last;
       wrote = e.wrote;
       legal = λ tell. subst (λ (w : View (DiskShelf D) D). IsLegal (reverse w.marks)) same (subst (λ (l : List Mark). IsLegal (reverse l)) marks_are (legal tell));
+      kept = λ tell. subst (λ (w : View (DiskShelf D) D). AreKept meant.disks.may_leave (reverse w.marks) back.acceptors.items) same (subst (λ (l : List Mark). AreKept meant.disks.may_leave (reverse l) back.acceptors.items) marks_are (kept tell));
       rack = subst (λ (w : View (DiskShelf D) D). IsRackOf w back) same (record { acceptors = acceptors; vaults = vaults });
     }
 
 -- the same of a load
 pub loaded_from : {D : Type 0} (meant : Meaning (DiskShelf D) D) (tells : Type 0) (load : Load) (old new : Option (List ℕ)) (world closed : View (DiskShelf D) D) (marks : List Mark) (result : Status) (back : Rack D) → WroteSummary meant load old new world closed result → marks ≡ closed.marks → (tells → IsLegal (reverse marks))
-    → back.acceptors.items ≡ acceptor_disks closed.acceptors → take (closed.greatest + 1) back.vaults.items ≡ disks_of closed.desks → Loaded meant tells load old new world result back
-loaded_from meant tells load old new world closed marks result back wrote marks_are legal acceptors vaults = record {
+    → (tells → AreKept meant.disks.may_leave (reverse marks) back.acceptors.items) → back.acceptors.items ≡ acceptor_disks closed.acceptors → take (closed.greatest + 1) back.vaults.items ≡ disks_of closed.desks → Loaded meant tells load old new world result back
+loaded_from meant tells load old new world closed marks result back wrote marks_are legal kept acceptors vaults = record {
   last = closed;
   wrote = wrote;
   legal = λ tell. subst (λ (l : List Mark). IsLegal (reverse l)) marks_are (legal tell);
+  kept = λ tell. subst (λ (l : List Mark). AreKept meant.disks.may_leave (reverse l) back.acceptors.items) marks_are (kept tell);
   rack = record { acceptors = acceptors; vaults = vaults };
 }
 
 -- ---- nothing was run
-pub wrote_not_empty : {D : Type 0} (meant : Meaning (DiskShelf D) D) (m : RackMeaning D) (words : List (List ℕ)) (P : List (List ℕ) → Type 0) (input old : Option (List ℕ)) (rack back : Rack D) (fault : RackFault) (result : Status) → result ≡ status_of_rack fault → IsNotEmpty m rack fault back
-    → Wrote meant m words P input old old rack result back
-wrote_not_empty meant m words P input old rack back fault result is not = subst (λ (s : Status). Wrote meant m words P input old old rack s back) (sym is) (not_empty fault not refl)
+pub wrote_not_empty : {D : Type 0} (meant : Meaning (DiskShelf D) D) (m : RackMeaning D) (words : List (List ℕ)) (P : List (List ℕ) → Type 0) (input old : Option (List ℕ)) (harms harms_then : List ℕ) (rack back : Rack D) (fault : RackFault) (result : Status) → result ≡ status_of_rack fault → IsNotEmpty m rack fault back
+    → Wrote meant m words P input old old harms harms_then rack result back
+wrote_not_empty meant m words P input old harms harms_then rack back fault result is not = subst (λ (s : Status). Wrote meant m words P input old old harms harms_then rack s back) (sym is) (not_empty fault not refl)
 
-pub wrote_not_opened : {D : Type 0} (meant : Meaning (DiskShelf D) D) (m : RackMeaning D) (words : List (List ℕ)) (P : List (List ℕ) → Type 0) (input old : Option (List ℕ)) (rack asked back : Rack D) (request : Request) (fault : OpenFault) (result : Status) (acceptors proposers : ℕ) → acceptors ≡ acceptors_of request → proposers ≡ proposers_of request
-    → result ≡ status_of_opening fault → AreWords words request → IsAllEmpty m rack asked → StaysClosed m.faults acceptors proposers asked.acceptors.items asked.vaults.items fault back.acceptors.items back.vaults.items → Wrote meant m words P input old old rack result back
-wrote_not_opened meant m words P input old rack asked back request fault result acceptors proposers are_acceptors are_proposers is are empty closed =
+pub wrote_not_opened : {D : Type 0} (meant : Meaning (DiskShelf D) D) (m : RackMeaning D) (words : List (List ℕ)) (P : List (List ℕ) → Type 0) (input old : Option (List ℕ)) (harms harms_then : List ℕ) (rack asked back : Rack D) (request : Request) (fault : OpenFault) (result : Status) (acceptors proposers : ℕ) → acceptors ≡ acceptors_of request → proposers ≡ proposers_of request
+    → result ≡ status_of_opening fault → AreWords words request → IsAllEmpty m rack asked → StaysClosed m.faults acceptors proposers asked.acceptors.items asked.vaults.items fault back.acceptors.items back.vaults.items → Wrote meant m words P input old old harms harms_then rack result back
+wrote_not_opened meant m words P input old harms harms_then rack asked back request fault result acceptors proposers are_acceptors are_proposers is are empty closed =
     let by_acceptors = subst (λ (n : ℕ). StaysClosed m.faults n proposers asked.acceptors.items asked.vaults.items fault back.acceptors.items back.vaults.items) are_acceptors closed in
     let by_both = subst (λ (n : ℕ). StaysClosed m.faults (acceptors_of request) n asked.acceptors.items asked.vaults.items fault back.acceptors.items back.vaults.items) are_proposers by_acceptors in
-    subst (λ (s : Status). Wrote meant m words P input old old rack s back) (sym is) (not_opened request fault are empty by_both refl)
+    subst (λ (s : Status). Wrote meant m words P input old old harms harms_then rack s back) (sym is) (not_opened request fault are empty by_both refl)
+
+-- the board of a race did not open, or there was no memory for it
+pub wrote_no_board : {D : Type 0} (meant : Meaning (DiskShelf D) D) (m : RackMeaning D) (words : List (List ℕ)) (P : List (List ℕ) → Type 0) (input old : Option (List ℕ)) (harms harms_then : List ℕ) (rack asked back : Rack D) (asks : Request) (options : Options) (fault : OpenFault) (result : Status) (acceptors proposers : ℕ) → acceptors ≡ acceptors_of asks → proposers ≡ proposers_of asks
+    → asks ≡ request.Race options → result ≡ status_of_opening fault → AreWords words asks → IsAllEmpty m rack asked → (fault ≡ opening.NoMemory) ⊎ StaysClosed m.faults acceptors proposers asked.acceptors.items asked.vaults.items fault back.acceptors.items back.vaults.items
+    → Wrote meant m words P input old old harms harms_then rack result back
+wrote_no_board meant m words P input old harms harms_then rack asked back asks options fault result acceptors proposers are_acceptors are_proposers is_race is are empty (inl none) =
+    subst (λ (s : Status). Wrote meant m words P input old old harms harms_then rack s back) (sym (is ∙ ap status_of_opening none)) (no_board options (subst (AreWords words) is_race are) empty refl)
+wrote_no_board meant m words P input old harms harms_then rack asked back asks options fault result acceptors proposers are_acceptors are_proposers is_race is are empty (inr closed) =
+    wrote_not_opened meant m words P input old harms harms_then rack asked back asks fault result acceptors proposers are_acceptors are_proposers is are empty closed

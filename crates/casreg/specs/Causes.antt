@@ -1,15 +1,19 @@
 -- When each status comes, and what was written by then.
-use Rattle.std.specs.Prelude.{◌≡◌, ◌≢◌, [], ◌⊎◌, ◌+◌, ℕ, suc, List, ◌++◌, ⊤, length, reverse, take, Option, IfSome}
+use Rattle.std.specs.Prelude.{◌≡◌, ◌≢◌, [], ◌⊎◌, ◌+◌, ℕ, suc, List, ◌++◌, ⊤, length, reverse, take, Option, IfSome, Result}
 use Rattle.std.specs.Io.KnownBytes.{Appends}
 use Rattle.cas_base.specs.Faults.{Rose}
 use Rattle.cas_disk_shelf.specs.declared.shelf.DiskShelf.{DiskShelf}
 use Rattle.cas_lines.specs.declared.lines.TheConstants.{MOST_LINES}
 use Rattle.cas_lines.specs.Lines.{lines_of, Ending, Whole, TooMany, TooLong, ending_of}
 use Rattle.cas_record.specs.Legal.{IsLegal}
+use Rattle.cas_record.specs.declared.mark.Mark.{Mark}
+use Rattle.cas_race.specs.Race.{WroteRace}
+use Rattle.cas_race.specs.declared.race.RaceFault.{RaceFault}
 use Rattle.cas_cluster.specs.SafeLaws.{HasPlaces}
 use Rattle.cas_cluster.specs.Step.{IsOpening}
 use Rattle.cas_world.specs.Opening.{members_to, disks_of, AreDesksBelow}
 use Rattle.cas_world.specs.declared.fault.OpenFault.{OpenFault}
+use Rattle.cas_rack.specs.Kept.{AreKept}
 use Rattle.cas_rack.specs.Rack.{RackMeaning, IsAllEmpty, IsNotEmpty}
 use Rattle.cas_rack.specs.Store.{acceptor_disks, AreReached, StaysClosed}
 use Rattle.cas_rack.specs.declared.rack.Rack.{Rack}
@@ -21,7 +25,7 @@ use Rattle.cas_undisturbed.specs.Runs.{AreDoneWhereReady}
 use Rattle.casreg.specs.declared.status.Status.{Status}
 use Rattle.casreg.specs.declared.status.Status.TheVariants as status
 use Rattle.casreg.specs.declared.words.Options.{Options}
-use Rattle.casreg.specs.Status.{status_of_rack, status_of_opening}
+use Rattle.casreg.specs.Status.{status_of_rack, status_of_opening, status_of_race}
 use Rattle.cas_lines.specs.Sink.{AppendsFront}
 use Rattle.cas_lines.specs.Summary.{summary_line}
 use Rattle.cas_lines.specs.declared.summary.Summary.{Summary}
@@ -50,6 +54,12 @@ LoadEnds status.TooManyLines = ⊥
 LoadEnds status.NoMemory = ⊤
 LoadEnds (status.Endless line) = ⊥
 
+-- a command that reads lines
+abbrev pub ReadsLines : Request → Type 0
+ReadsLines (request.Script options) = ⊤
+ReadsLines (request.Race options) = ⊤
+ReadsLines (request.Load load) = ⊥
+
 -- a status that names a disk
 abbrev pub IsOfDisk : Status → Type 0
 IsOfDisk (status.NotEmpty disk) = ⊤
@@ -62,11 +72,11 @@ pub record Causes (words : List (List ℕ)) (input : Option (List ℕ)) (source_
   pub no_words : ((request : Request) → AreWords words request → ⊥) → (result ≡ status.Usage) ⊎ (result ≡ status.NoMemory)
   pub read_fault : result ≡ status.ReadFault → Rose source_old source_new
   pub write_fault : result ≡ status.WriteFault → Rose sink_old sink_new
-  -- of a script 0, 7 and 9 come by where the input ends alone
-  pub ends : (options : Options) → AreWords words (request.Script options) → (ending : Ending) → result ≡ status_of ending → IfSome input (λ bytes. ending_of bytes ≡ ending)
+  -- of a script or a race 0, 7 and 9 come by where the input ends alone
+  pub ends : (asked : Request) → ReadsLines asked → AreWords words asked → (ending : Ending) → result ≡ status_of ending → IfSome input (λ bytes. ending_of bytes ≡ ending)
   -- with the right words and no fault of source and sink one of these comes, unless there is no memory, or a disk is not empty or fails
   -- as the store is opened
-  pub completes : (options : Options) → AreWords words (request.Script options) → (Rose source_old source_new → ⊥) → (Rose sink_old sink_new → ⊥)
+  pub completes : (asked : Request) → ReadsLines asked → AreWords words asked → (Rose source_old source_new → ⊥) → (Rose sink_old sink_new → ⊥)
       → IfSome input (λ bytes. (result ≡ status_of (ending_of bytes)) ⊎ (result ≡ status.NoMemory) ⊎ IsOfDisk result)
   -- and so does 0 of a load, which reads nothing
   pub load_completes : (load : Load) → AreWords words (request.Load load) → (Rose sink_old sink_new → ⊥) → (result ≡ status.Ok) ⊎ (result ≡ status.NoMemory) ⊎ IsOfDisk result
@@ -157,11 +167,12 @@ pub record IsRackOf {D : Type 0} (world : View (DiskShelf D) D) (rack : Rack D) 
   pub vaults : take (world.greatest + 1) rack.vaults.items ≡ disks_of world.desks
 
 -- what a script wrote that ran from this world on, whose record was legal then, where disks tell what they keep, and the rack that comes
--- back
+-- back, on which what is acknowledged stands
 pub record Ran {D : Type 0} (meant : Meaning (DiskShelf D) D) (tells : Type 0) (tries : ℕ) (HadEnded : List (List ℕ) → Type 0) (input old new : Option (List ℕ)) (world : View (DiskShelf D) D) (result : Status) (back : Rack D) : Type 0 where
   pub last : State (DiskShelf D) D
   pub wrote : WroteIn meant tries HadEnded input old new (opening_state world) last result
   pub legal : tells → IsLegal (reverse last.world.marks)
+  pub kept : tells → AreKept meant.disks.may_leave (reverse last.world.marks) back.acceptors.items
   pub rack : IsRackOf last.world back
 
 -- ---- a load
@@ -173,12 +184,25 @@ pub data WroteSummary {S V : Type 0} (meant : Meaning S V) (load : Load) (old ne
   no_text : (summary : Summary) → SumsUp meant load world summary last → new ≡ old → WroteSummary meant load old new world last status.NoMemory
   broke_off : BreaksOff meant load world last → new ≡ old → WroteSummary meant load old new world last status.NoMemory
 
--- what a load wrote that ran from this world on, whose record was legal then, where disks tell what they keep, and the rack that comes back
+-- what a load wrote that ran from this world on, whose record was legal then, where disks tell what they keep, and the rack that comes
+-- back, on which what is acknowledged stands
 pub record Loaded {D : Type 0} (meant : Meaning (DiskShelf D) D) (tells : Type 0) (load : Load) (old new : Option (List ℕ)) (world : View (DiskShelf D) D) (result : Status) (back : Rack D) : Type 0 where
   pub last : View (DiskShelf D) D
   pub wrote : WroteSummary meant load old new world last result
   pub legal : tells → IsLegal (reverse last.marks)
+  pub kept : tells → AreKept meant.disks.may_leave (reverse last.marks) back.acceptors.items
   pub rack : IsRackOf last back
+
+-- ---- a race
+-- what a race did whose record was legal, where disks tell what they keep, and what it wrote; what is acknowledged in that stands on the
+-- disks that come back
+pub record RacedOver {D : Type 0} (m : RackMeaning D) (options : Options) (input old new : Option (List ℕ)) (harms harms_then : List ℕ) (result : Status) (back : Rack D) : Type 0 where
+  pub marks : List Mark
+  pub ended : Result (Unit {0}) RaceFault
+  pub is : result ≡ status_of_race ended
+  pub legal : m.tells → IsLegal (reverse marks)
+  pub kept : m.tells → AreKept m.may_leave (reverse marks) back.acceptors.items
+  pub wrote : WroteRace options.tries options.proposers input old new harms harms_then marks ended
 
 -- ---- a script along its lines
 -- Along the run whose answers, or a front of them, were written, each change line that nothing stood against was answered done, or that
@@ -197,14 +221,16 @@ AreDoneAlong {meant = meant} (status.Endless line) by = AreDoneWhereReady meant 
 -- ---- all of it
 -- What was written by the end, and the rack that comes back: nothing, where the words are none of a command, where there was no memory,
 -- where a disk is not known to be empty, or where the store did not open; or what a script or a load wrote, from a new world over the rack on
--- to one whose record is legal, and along a script was done what nothing stood against.
-pub data Wrote {D : Type 0} (meant : Meaning (DiskShelf D) D) (m : RackMeaning D) (words : List (List ℕ)) (HadEnded : List (List ℕ) → Type 0) (input old new : Option (List ℕ)) (rack : Rack D) : Status → Rack D → Type 0 where
-  wrong_words : new ≡ old → Wrote meant m words HadEnded input old new rack status.Usage rack
-  no_words_read : new ≡ old → Wrote meant m words HadEnded input old new rack status.NoMemory rack
-  not_empty : {back : Rack D} (fault : RackFault) → IsNotEmpty m rack fault back → new ≡ old → Wrote meant m words HadEnded input old new rack (status_of_rack fault) back
+-- to one whose record is legal, and along a script was done what nothing stood against; or what a race wrote, over disks that were empty.
+pub data Wrote {D : Type 0} (meant : Meaning (DiskShelf D) D) (m : RackMeaning D) (words : List (List ℕ)) (HadEnded : List (List ℕ) → Type 0) (input old new : Option (List ℕ)) (harms harms_then : List ℕ) (rack : Rack D) : Status → Rack D → Type 0 where
+  wrong_words : new ≡ old → Wrote meant m words HadEnded input old new harms harms_then rack status.Usage rack
+  no_words_read : new ≡ old → Wrote meant m words HadEnded input old new harms harms_then rack status.NoMemory rack
+  not_empty : {back : Rack D} (fault : RackFault) → IsNotEmpty m rack fault back → new ≡ old → Wrote meant m words HadEnded input old new harms harms_then rack (status_of_rack fault) back
   not_opened : {asked back : Rack D} (request : Request) (fault : OpenFault) → AreWords words request → IsAllEmpty m rack asked
-      → StaysClosed m.faults (acceptors_of request) (proposers_of request) asked.acceptors.items asked.vaults.items fault back.acceptors.items back.vaults.items → new ≡ old → Wrote meant m words HadEnded input old new rack (status_of_opening fault) back
+      → StaysClosed m.faults (acceptors_of request) (proposers_of request) asked.acceptors.items asked.vaults.items fault back.acceptors.items back.vaults.items → new ≡ old → Wrote meant m words HadEnded input old new harms harms_then rack (status_of_opening fault) back
   ran : {asked back : Rack D} {result : Status} (options : Options) (world : View (DiskShelf D) D) → AreWords words (request.Script options) → IsAllEmpty m rack asked → IsNewOver meant options.acceptors options.proposers asked world
-      → (by : Ran meant m.tells options.tries HadEnded input old new world result back) → AreDoneAlong result by → Wrote meant m words HadEnded input old new rack result back
+      → (by : Ran meant m.tells options.tries HadEnded input old new world result back) → AreDoneAlong result by → Wrote meant m words HadEnded input old new harms harms_then rack result back
   loaded : {asked back : Rack D} {result : Status} (load : Load) (world : View (DiskShelf D) D) → AreWords words (request.Load load) → IsAllEmpty m rack asked → IsNewOver meant load.acceptors load.proposers asked world
-      → Loaded meant m.tells load old new world result back → Wrote meant m words HadEnded input old new rack result back
+      → Loaded meant m.tells load old new world result back → Wrote meant m words HadEnded input old new harms harms_then rack result back
+  no_board : {asked back : Rack D} (options : Options) → AreWords words (request.Race options) → IsAllEmpty m rack asked → new ≡ old → Wrote meant m words HadEnded input old new harms harms_then rack status.NoMemory back
+  raced : {asked back : Rack D} {result : Status} (options : Options) → AreWords words (request.Race options) → IsAllEmpty m rack asked → RacedOver m options input old new harms harms_then result back → Wrote meant m words HadEnded input old new harms harms_then rack result back

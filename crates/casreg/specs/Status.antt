@@ -1,7 +1,10 @@
 -- How a run of the program ends.
-use Rattle.std.specs.Prelude.{ℕ}
+use Rattle.std.specs.Prelude.{ℕ, Result, Ok, Err}
 use Rattle.cas_lines.specs.declared.lines.LineFault.{LineFault}
 use Rattle.cas_lines.specs.declared.lines.LineFault.TheVariants as fault
+use Rattle.cas_race.specs.declared.race.RaceFault.{RaceFault}
+use Rattle.cas_race.specs.declared.race.RaceFault.TheVariants as race
+use Rattle.cas_tasks.specs.declared.histories.HistoryFault.TheVariants as text
 use Rattle.cas_rack.specs.declared.rack.RackFault.{RackFault}
 use Rattle.cas_rack.specs.declared.rack.RackFault.TheVariants as rack
 use Rattle.cas_world.specs.declared.fault.OpenFault.{OpenFault}
@@ -40,3 +43,10 @@ status_of_opening (opening.DiskFault disk) = status.DiskFault disk
 status_of_opening (opening.Foreign disk at) = status.NotEmpty disk
 status_of_opening (opening.Spent disk) = status.NotEmpty disk
 status_of_opening opening.NoMemory = status.NoMemory
+
+-- how a run ends that was a race
+abbrev pub status_of_race : Result (Unit {0}) RaceFault → Status
+status_of_race (Ok done) = status.Ok
+status_of_race (Err (race.NotRun fault)) = status_of_fault fault
+status_of_race (Err (race.CutOff text.WriteFault)) = status.WriteFault
+status_of_race (Err (race.CutOff text.NoMemory)) = status.NoMemory

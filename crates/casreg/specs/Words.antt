@@ -35,6 +35,10 @@ over_cluster name = with_rule (with_rule (with_rule (new_app name) (option_of (c
 abbrev pub script : App
 script = over_cluster (codes "script")
 
+-- a race
+abbrev pub race : App
+race = over_cluster (codes "race")
+
 -- a load by a seed, of up to 100,000 lines
 abbrev pub load : App
 load = with_rule (with_rule (over_cluster (codes "load")) (option_of (codes "seed") (Unsigned 0 18446744073709551615) (codes "1")))
@@ -45,7 +49,7 @@ abbrev pub bare : App
 bare = let app = new_app (codes "casreg") in record app { top = record app.top { subcommand_required = true } }
 
 abbrev pub casreg : App
-casreg = with_subcommand (with_subcommand bare script.top) load.top
+casreg = with_subcommand (with_subcommand (with_subcommand bare script.top) race.top) load.top
 
 -- ---- what clap makes of the words
 -- the words behind the name of the program
@@ -83,11 +87,11 @@ HasOptions rows = IsNumberIn 1 9 (one_of (codes "acceptors") rows) × IsNumberIn
 abbrev pub HasDrawing : List Row → Type 0
 HasDrawing rows = IsNumberIn 0 18446744073709551615 (one_of (codes "seed") rows) × IsNumberIn 0 100000 (one_of (codes "lines") rows)
 
--- a script or a load was met, with all of its options
+-- a script, a race or a load was met, with all of its options
 abbrev pub HasCommand : Option (Text × List Row) → Type 0
-HasCommand given = IsSomeAnd given (λ found. HasOptions found.1 × ((found.0 ≡ codes "script") ⊎ ((found.0 ≡ codes "load") × HasDrawing found.1)))
+HasCommand given = IsSomeAnd given (λ found. HasOptions found.1 × ((found.0 ≡ codes "script") ⊎ (found.0 ≡ codes "race") ⊎ ((found.0 ≡ codes "load") × HasDrawing found.1)))
 
--- the numbers that the options of a script have
+-- the numbers that the options of a script or a race have
 pub record HasNumbers (given : Option (Text × List Row)) (options : Options) : Type 0 where
   pub acceptors : number_of (codes "acceptors") given ≡ Some options.acceptors
   pub proposers : number_of (codes "proposers") given ≡ Some options.proposers
@@ -104,6 +108,7 @@ pub record HasLoad (given : Option (Text × List Row)) (load : Load) : Type 0 wh
 -- the subcommand that was met asks for that
 abbrev pub AsksFor : Option (Text × List Row) → Request → Type 0
 AsksFor given (request.Script options) = IsNamed (codes "script") given × HasNumbers given options
+AsksFor given (request.Race options) = IsNamed (codes "race") given × HasNumbers given options
 AsksFor given (request.Load load) = IsNamed (codes "load") given × HasLoad given load
 
 -- The words are those of a command that asks for this: clap finds nothing wrong, and the options have these numbers.
@@ -127,13 +132,16 @@ pub record IsLoadInRange (load : Load) : Type 0 where
 
 abbrev pub IsInRange : Request → Type 0
 IsInRange (request.Script options) = AreOptionsInRange options
+IsInRange (request.Race options) = AreOptionsInRange options
 IsInRange (request.Load load) = IsLoadInRange load
 
 -- how large a cluster is asked for
 abbrev pub acceptors_of : Request → ℕ
 acceptors_of (request.Script options) = options.acceptors
+acceptors_of (request.Race options) = options.acceptors
 acceptors_of (request.Load load) = load.acceptors
 
 abbrev pub proposers_of : Request → ℕ
 proposers_of (request.Script options) = options.proposers
+proposers_of (request.Race options) = options.proposers
 proposers_of (request.Load load) = load.proposers

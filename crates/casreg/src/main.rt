@@ -1,12 +1,13 @@
 //! casreg, a store of replicated registers: the program.
 //!
-//! All that it does is in [`cluster::cluster`]. Here stand the real words, input and output, and the disks.
+//! All that it does is in [`cluster::cluster`]. Here stand the real words, input and output, the disks, and the callers' fates.
 #![tactic(auto)]
 
 ghost use Rattle.std.specs.Prelude.{◌≡◌, vec_len, IfOk};
 
 mod cluster;
 mod load;
+mod race;
 mod status;
 #[cfg(test)]
 mod tests;
@@ -15,6 +16,7 @@ mod words;
 use crate::cluster::cluster;
 use crate::status::Status;
 use cas_disk::{FileDisk, Image, MemoryDisk};
+use cas_fate::Seeded;
 use cas_lines::sink::StdSink;
 use cas_lines::source::StdSource;
 use cas_rack::{ACCEPTORS, Rack, VAULTS};
@@ -24,6 +26,8 @@ use std::fs::{File, OpenOptions};
 use std::io::{self, ErrorKind};
 use std::process::ExitCode;
 use std::rt::{Env, Files};
+use std::sync::Wait;
+use std::thread::Threads;
 
 fn main(rt: HostRuntime) -> ExitCode {
     let status = match run(&rt) {
@@ -37,21 +41,35 @@ fn main(rt: HostRuntime) -> ExitCode {
 
 /// Runs the command that the program's words name, over its input and output. Where the first two words are `--files` and a folder,
 /// the disks are files in that folder, and the words behind them name the command; else the disks are in memory.
-fn run(rt: &(impl Env + Input + Print + Files<File = File> + AllocGlobal)) -> io::Result<Status> {
+fn run(
+    rt: &(impl Env + Input + Print + Files<File = File> + AllocGlobal + Threads + Wait + Sync),
+) -> io::Result<Status> {
     let alloc = rt.alloc();
     let words: Vec<String> = env::args(rt)?.skip(1).collect(alloc)?;
     let mut source = StdSource::over(rt.reader());
     let mut sink = StdSink::over(io::writer(rt));
+    let mut fates = seeded_fates(alloc)?;
     match words.as_slice() {
         [first, folder, command @ ..] if first.as_str() == "--files" => {
             let rack = file_rack(rt, alloc, folder)?;
-            Ok(cluster(rt, alloc, command, &mut source, &mut sink, rack).0)
+            Ok(cluster(rt, alloc, command, &mut source, &mut sink, rack, &mut fates).0)
         }
         command => {
             let rack = memory_rack(alloc)?;
-            Ok(cluster(rt, alloc, command, &mut source, &mut sink, rack).0)
+            Ok(cluster(rt, alloc, command, &mut source, &mut sink, rack, &mut fates).0)
         }
     }
+}
+
+/// The fates of the callers: that of each is drawn by its number.
+fn seeded_fates(alloc: Global) -> Result<Vec<Seeded>, AllocError>
+    ensures { IfOk result (λ fates. vec_len fates ≡ 17) }
+{
+    let mut fates = Vec::with_capacity(alloc, usize::from(VAULTS))?;
+    for caller in 0..VAULTS {
+        fates.push(Seeded::new(u64::from(caller)))?;
+    }
+    Ok(fates)
 }
 
 /// Empty disks in memory.

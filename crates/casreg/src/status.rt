@@ -6,7 +6,9 @@ ghost use Rattle.casreg.specs.declared.status.Status.TheVariants.{WriteFault, No
 
 use cas_lines::lines::LineFault;
 use cas_lines::source::Failed;
+use cas_race::RaceFault;
 use cas_rack::RackFault;
+use cas_tasks::histories::HistoryFault;
 use cas_world::OpenFault;
 use std::alloc::AllocError;
 
@@ -17,7 +19,7 @@ pub enum Status {
     Ok,
     /// The words are not those of a command. Nothing was read or written.
     Usage,
-    /// The source failed. The answers to the lines before were written.
+    /// The source failed. The answers to the lines before were written; of a race nothing was.
     ReadFault,
     /// The sink failed. It has a front of the answers.
     WriteFault,
@@ -26,11 +28,11 @@ pub enum Status {
     NotEmpty { disk: u8 },
     /// The disk of this number failed as the store was opened, numbered likewise. Nothing was read or written.
     DiskFault { disk: u8 },
-    /// The input has more than 1,000,000 lines. The answers to that many were written.
+    /// The input has more than 1,000,000 lines. The answers to that many were written; of a race nothing was.
     TooManyLines,
     /// There was no memory. The sink has a front of the answers.
     NoMemory,
-    /// The line of this number has more than 65,536 bytes. The answers to the lines before were written.
+    /// The line of this number has more than 65,536 bytes. The answers to the lines before were written; of a race nothing was.
     Endless { line: u32 },
 }
 
@@ -65,6 +67,22 @@ impl From<LineFault> for Status {
             LineFault::TooManyLines => Status::TooManyLines,
             LineFault::Endless { line } => Status::Endless { line },
             LineFault::NoMemory => Status::NoMemory,
+        }
+    }
+}
+
+/// Why a race did not end well.
+impl From<RaceFault> for Status {
+    ghost use Rattle.std.specs.Prelude.{◌≡◌, Err};
+    ghost use Rattle.casreg.specs.Status.{status_of_race};
+
+    ghost from_gives = { λ fault status. status ≡ status_of_race (Err fault) };
+
+    fn from(fault: RaceFault) -> Status {
+        match fault {
+            RaceFault::NotRun(fault) => Status::from(fault),
+            RaceFault::CutOff(HistoryFault::WriteFault) => Status::WriteFault,
+            RaceFault::CutOff(HistoryFault::NoMemory) => Status::NoMemory,
         }
     }
 }

@@ -3,15 +3,19 @@
 ghost use Rattle.std.specs.Prelude.{◌≡◌, vec_len, IfOk};
 
 mod faults;
+mod racing;
 
 use crate::cluster::cluster;
 use crate::status::Status;
 use cas_disk::{Image, MemoryDisk, Trouble};
+use cas_fate::{Fate, Links};
 use cas_lines::sink::MemorySink;
 use cas_lines::source::MemorySource;
 use cas_rack::{ACCEPTORS, Rack, VAULTS};
 use std::alloc::{AllocError, Global};
+use std::sync::Wait;
 use std::test::Fail;
+use std::thread::Threads;
 
 const SCRIPT: &str = "script --acceptors 3 --proposers 1";
 
@@ -91,13 +95,30 @@ const FINE: Outside<'static> = Outside {
     odd_vault: NONE_ODD,
 };
 
-/// Runs the words over the input.
-fn run(
-    rt: &HostRuntime,
+/// Runs the words over the input. Every frame is delivered.
+fn run<R: AllocGlobal + Threads + Wait + Sync>(
+    rt: &R,
     words: &str,
     input: &[u8],
     outside: Outside<'_>,
 ) -> Result<Finished, AllocError> {
+    let mut fates = Vec::new(rt.alloc());
+    for _caller in 0..VAULTS {
+        fates.push(Links::new())?;
+    }
+    run_with(rt, words, input, outside, &mut fates)
+}
+
+/// Runs the words over the input, with these fates, which are 17.
+fn run_with<R: AllocGlobal + Threads + Wait + Sync, F: Fate + Send>(
+    rt: &R,
+    words: &str,
+    input: &[u8],
+    outside: Outside<'_>,
+    fates: &mut Vec<F>,
+) -> Result<Finished, AllocError>
+    requires { vec_len fates.old ≡ 17 }
+{
     let alloc = rt.alloc();
     let mut list = Vec::new(alloc);
     for word in words.split_whitespace() {
@@ -108,7 +129,7 @@ fn run(
     let mut source = MemorySource::new(bytes, piece, [outside.source_fails].to_vec(alloc)?);
     let mut sink = MemorySink::new(alloc, piece, [outside.sink_fails].to_vec(alloc)?);
     let rack = rack(alloc, &outside.odd, &outside.odd_vault)?;
-    let (status, rack) = cluster(rt, alloc, &list, &mut source, &mut sink, rack);
+    let (status, rack) = cluster(rt, alloc, &list, &mut source, &mut sink, rack, fates);
     let mut lengths = Vec::new(alloc);
     for disk in &rack.acceptors {
         lengths.push(disk.bytes().len())?;

@@ -5,7 +5,7 @@ ghost use Rattle.clap.specs.Matches.{found_of};
 ghost use Rattle.clap.specs.Simple.{app_of, subcommand_rows_of};
 ghost use Rattle.clap.specs.Walk.{one_of, rows_of, rule_of};
 ghost use Rattle.clap.specs.declared.builder.command.Command.TheViews.{out-Command};
-ghost use Rattle.casreg.specs.Words.{option_of, over_cluster, script, load, casreg, command_line, faults_of, number_in, IsNumberIn, HasOptions, HasDrawing, HasCommand, AsksFor, AreWords, AreOptionsInRange, IsLoadInRange, IsInRange};
+ghost use Rattle.casreg.specs.Words.{option_of, over_cluster, script, race, load, casreg, command_line, faults_of, number_in, IsNumberIn, HasOptions, HasDrawing, HasCommand, AsksFor, AreWords, AreOptionsInRange, IsLoadInRange, IsInRange};
 ghost use Rattle.casreg.specs.declared.words.Request.{Request as ARequest};
 
 use cas_script::Load;
@@ -28,13 +28,15 @@ pub struct Options {
 /// What the words ask for.
 #[derive(Clone, Copy, Debug, PartialEq, Eq)]
 pub enum Request {
-    /// `script`: to run the lines of the input.
+    /// `script`: to run the lines of the input, one after another.
     Script(Options),
+    /// `race`: to run the lines of the input, each caller's in a thread of its own.
+    Race(Options),
     /// `load`: to run lines that are drawn.
     Load(Load),
 }
 
-/// What the words ask for: the command `script` or `load`, whose options `--acceptors` (1 to 9, or 3 where it is not given),
+/// What the words ask for: the command `script`, `race` or `load`, whose options `--acceptors` (1 to 9, or 3 where it is not given),
 /// `--proposers` (1 to 16, or 1) and `--tries` (1 to 64, or 1), and of `load` `--seed` (any `u64`, or 1) and `--lines` (up to 100,000,
 /// or 1,000), may stand once each, in any order. `None` comes exactly where the words are none of a command; a request for help is none.
 /// Only memory can fail.
@@ -62,12 +64,14 @@ fn request_of(matches: &ArgMatches<'_>) -> Request
     let (name, given) = matches.subcommand().unwrap();
     if name == "load" {
         Request::Load(load_of(given))
+    } else if name == "race" {
+        Request::Race(options_of(given))
     } else {
         Request::Script(options_of(given))
     }
 }
 
-/// The options of `script`.
+/// The options of `script` or `race`.
 fn options_of(given: &ArgMatches<'_>) -> Options
     requires { HasOptions (rows_of (found_of given.now)) }
     ensures acceptors { option_map number_in (one_of (codes "acceptors") (rows_of (found_of given.now))) ≡ Some result.acceptors }
@@ -151,7 +155,9 @@ fn casreg<'a>(alloc: Global) -> Result<Command<'a>, AllocError>
     ensures { IfOk result (λ command. app_of command ≡ casreg) }
 {
     let bare = Command::new(alloc, "casreg").subcommand_required(true);
-    bare.subcommand(script(alloc)?)?.subcommand(load(alloc)?)
+    bare.subcommand(script(alloc)?)?
+        .subcommand(race(alloc)?)?
+        .subcommand(load(alloc)?)
 }
 
 /// The subcommand `script`.
@@ -160,6 +166,14 @@ fn script<'a>(alloc: Global) -> Result<Command<'a>, AllocError>
     ensures local { IfOk result (λ command. (out-Command command).has_globals ≡ false) }
 {
     over_cluster(alloc, "script")
+}
+
+/// The subcommand `race`.
+fn race<'a>(alloc: Global) -> Result<Command<'a>, AllocError>
+    ensures app { IfOk result (λ command. app_of command ≡ race) }
+    ensures local { IfOk result (λ command. (out-Command command).has_globals ≡ false) }
+{
+    over_cluster(alloc, "race")
 }
 
 /// The subcommand `load`.
@@ -222,6 +236,15 @@ mod tests {
         }))
     }
 
+    /// A race with these options is asked for.
+    fn races(acceptors: u8, proposers: u8, tries: u8) -> Option<Request> {
+        Some(Request::Race(Options {
+            acceptors,
+            proposers,
+            tries,
+        }))
+    }
+
     /// A load with these options is asked for.
     fn loads(acceptors: u8, proposers: u8, tries: u8, seed: u64, lines: u32) -> Option<Request> {
         Some(Request::Load(Load {
@@ -269,7 +292,16 @@ mod tests {
             ("load --seed 1 --seed 1", None),
             ("load 3", None),
             ("load script", None),
-            ("race", None),
+            ("race", races(3, 1, 1)),
+            (
+                "race --tries 64 --acceptors=9 --proposers 16",
+                races(9, 16, 64),
+            ),
+            ("race --proposers 17", None),
+            ("race --tries 8 --tries 8", None),
+            ("race --seed 1", None),
+            ("race script", None),
+            ("races", None),
             ("help", None),
             ("", None),
         ] {

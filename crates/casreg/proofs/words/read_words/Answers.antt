@@ -1,4 +1,4 @@
-use Rattle.std.proofs.Common.{◌≡◌, ◌∷◌, [], ℕ, List, Option, Some, None, true, false, refl, map, string_bytes, sym, ap, ap₂, subst, ◌∙◌, inl, inr, codes}
+use Rattle.std.proofs.Common.{◌≡◌, ◌∷◌, [], ℕ, List, Option, Some, None, true, false, refl, map, string_bytes, sym, ap, ap₂, subst, ◌∙◌, inl, inr, codes, get_or, arith}
 use Rattle.clap.specs.Faults.{fault_of, is_simple_and_free}
 use denote.Enum.Bare.{sameb}
 use Rattle.clap.specs.contracts.error.kind.ErrorKind.{the_type}
@@ -87,15 +87,29 @@ same_load given a b x y =
     ∙ ap (λ (n : ℕ). record { acceptors = b.acceptors; proposers = b.proposers; tries = b.tries; seed = b.seed; lines = n }) (same_number _ _ _ x.lines y.lines)
 
 -- a subcommand has one name
-not_both_names : (given : Option (Text × List Row)) (A : Type 0) → IsNamed (codes "script") given → IsNamed (codes "load") given → A
-not_both_names None A is other = absurd is
-not_both_names (Some found) A is other = let differ : codes "script" ≡ codes "load" = sym is ∙ other in absurd (cc differ)
+one_name : (given : Option (Text × List Row)) (name other : Text) (A : Type 0) → (name ≡ other → ⊥) → IsNamed name given → IsNamed other given → A
+one_name None name other A differ is also = absurd is
+one_name (Some found) name other A differ is also = absurd (differ (sym is ∙ also))
+
+script_or_race : codes "script" ≡ codes "race" → ⊥
+script_or_race same = cc same
+
+script_or_load : codes "script" ≡ codes "load" → ⊥
+script_or_load same = cc same
+
+race_or_load : codes "race" ≡ codes "load" → ⊥
+race_or_load same = let first : 114 ≡ 108 = ap (λ (l : Text). get_or l 0 0) same in omega (arith, first)
 
 same_request : (given : Option (Text × List Row)) (a b : Request) → AsksFor given a → AsksFor given b → a ≡ b
 same_request given (request.Script a) (request.Script b) x y = ap (λ (o : Options). request.Script o) (same_options given a b x.1 y.1)
+same_request given (request.Race a) (request.Race b) x y = ap (λ (o : Options). request.Race o) (same_options given a b x.1 y.1)
 same_request given (request.Load a) (request.Load b) x y = ap (λ (l : Load). request.Load l) (same_load given a b x.1 y.1)
-same_request given (request.Script a) (request.Load b) x y = not_both_names given _ x.0 y.0
-same_request given (request.Load a) (request.Script b) x y = not_both_names given _ y.0 x.0
+same_request given (request.Script a) (request.Race b) x y = one_name given _ _ _ script_or_race x.0 y.0
+same_request given (request.Race a) (request.Script b) x y = one_name given _ _ _ script_or_race y.0 x.0
+same_request given (request.Script a) (request.Load b) x y = one_name given _ _ _ script_or_load x.0 y.0
+same_request given (request.Load a) (request.Script b) x y = one_name given _ _ _ script_or_load y.0 x.0
+same_request given (request.Race a) (request.Load b) x y = one_name given _ _ _ race_or_load x.0 y.0
+same_request given (request.Load a) (request.Race b) x y = one_name given _ _ _ race_or_load y.0 x.0
 
 pub returns-in-Ok-clause-only : goal.returns-in-Ok-clause-only
 returns-in-Ok-clause-only c other are = ap (λ (o : Request). Some o) (same_request _ c.request_of.result other (returns-in-Ok-clause-words c).asks are.asks)

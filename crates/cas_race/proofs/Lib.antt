@@ -1,0 +1,6 @@
+mod Closed
+mod Lined
+mod Meant
+mod Racing
+mod Rooms
+mod Written

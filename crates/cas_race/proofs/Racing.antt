@@ -1,0 +1,115 @@
+-- What a caller of a race has run, task by task.
+use Rattle.std.proofs.Common.{◌≡◌, ◌+◌, ℕ, true, false, List, [], ◌∷◌, ◌++◌, Some, refl, sym, ap, subst, ◌∙◌, append-nil, arith}
+use Rattle.cas_change.specs.declared.program.Clause.{Clause}
+use Rattle.cas_record.specs.declared.answer.Answer.{Answer}
+use Rattle.cas_record.specs.declared.mark.Mark.{Mark}
+use Rattle.cas_record.specs.declared.mark.Mark.TheVariants as mark
+use Rattle.cas_record.specs.declared.operator.Asked.{Asked}
+use Rattle.cas_record.specs.declared.operator.OpAnswer.{OpAnswer}
+use Rattle.cas_record.specs.declared.operator.OpAnswer.TheVariants as op
+use Rattle.cas_cluster.specs.StepCouncil.{told_marks}
+use Rattle.cas_turn.specs.Sitting.{Sitting, TurnId}
+use Rattle.cas_hold.specs.Mine.{mine, losses, GoesOn}
+use Rattle.cas_hold.specs.Open.{IsFree}
+use Rattle.cas_hold.proofs.Fronts.{goes_on_then}
+use Rattle.cas_board.specs.Changes.{IsCounted, Answers}
+use Rattle.cas_board.specs.Changes.Answers.{is_answered, is_not_begun}
+use Rattle.cas_board.specs.Operations.{Operates}
+use Rattle.cas_board.specs.Operations as operations
+use Rattle.cas_board.specs.Passes.{IsPassOf}
+use Rattle.cas_tasks.specs.declared.tasks.Task.{Task}
+use Rattle.cas_tasks.specs.declared.tasks.Task.TheVariants as task
+use Rattle.cas_race.specs.declared.told.Told.{Told}
+use Rattle.cas_race.specs.declared.told.Told.TheVariants as said
+use Rattle.cas_race.specs.Runs.{asked_by, IsOrderMark, AnswersOrder, IsReady, IsChange, IsAnswered, HasRun, HasRunTask, HasRaced}
+use Rattle.cas_race.specs.Runs as runs
+use Rattle.cas_race.specs.Runs.IsChange.{is_called, is_turned_away}
+use Rattle.cas_race.specs.Runs.IsAnswered.{is_change, is_operated}
+use Rattle.cas_race.specs.Runs.HasRun.{nothing, one_more}
+
+-- ---- losses
+losses_append : (a b : List Mark) → losses (a ++ b) ≡ losses a + losses b
+losses_append [] b = omega arith
+losses_append (mark.Harmed caller call false ∷ a) b = let rest = losses_append a b in omega (arith, rest)
+losses_append (mark.Harmed caller call true ∷ a) b = losses_append a b
+losses_append (mark.Begun caller call key program ∷ a) b = losses_append a b
+losses_append (mark.Proposed p ∷ a) b = losses_append a b
+losses_append (mark.Voted acceptor key ballot ∷ a) b = losses_append a b
+losses_append (mark.Acked x ∷ a) b = losses_append a b
+losses_append (mark.Floor key ballot state ∷ a) b = losses_append a b
+losses_append (mark.EraEntered proposer number ∷ a) b = losses_append a b
+losses_append (mark.Ended caller call rounds answer ∷ a) b = losses_append a b
+losses_append (mark.Told asked answer ∷ a) b = losses_append a b
+
+counted_then : (most more a b c : ℕ) → IsCounted most a b → IsCounted more b c → IsCounted (most + more) a c
+counted_then most more a b c first then_ = record {
+  never_falls = let x = first.never_falls in let y = then_.never_falls in omega (arith, x, y);
+  counted = λ below. let y = then_.never_falls in let late = then_.counted below in let soon = first.counted (omega (arith, below, y)) in omega (arith, soon, late);
+}
+
+-- the mark that tells an answer tells of no loss
+told_none : (asked : Asked) (told : OpAnswer) → losses (told_marks asked told) ≡ 0
+told_none asked (op.Probed key found) = refl
+told_none asked told = refl
+
+-- ---- one task
+module _ {V : Type 0} (tries harms harms_then : ℕ) (old new : Sitting V Mark) where
+  as_asked : (asked : Task) (key : List ℕ) (program : List Clause) (told : Answer) (own : List Mark) → asked ≡ task.Change key program → IsChange tries old.number key program told own → IsAnswered tries old.number asked (said.Change told) own
+  as_asked asked key program told own is change = subst (λ (t : Task). IsAnswered tries old.number t (said.Change told) own) (sym is) (is_change change)
+
+  pub change_ran : (asked : Task) (key : List ℕ) (program : List Clause) (told : Answer) → asked ≡ task.Change key program → Answers key program tries harms harms_then old new told → HasRunTask tries harms harms_then asked (said.Change told) old new
+  change_ran asked key program told is (is_answered call rounds between front of_call counted last tried) = record {
+    own = mark.Begun old.number call key program ∷ between ++ mark.Ended old.number call rounds told ∷ [];
+    front = front;
+    answered = as_asked asked key program told _ is (is_called call rounds between of_call tried);
+    counted = subst (λ (k : ℕ). IsCounted k harms harms_then) (sym (losses_append between (mark.Ended old.number call rounds told ∷ []) ∙ (let none : losses between + 0 ≡ losses between = omega arith in none))) counted;
+  }
+  change_ran asked key program told is (is_not_begun refusal counted front) = record { own = []; front = front; answered = as_asked asked key program told [] is (is_turned_away refusal); counted = counted }
+
+  pub order_ran : (order : Task) (asked : Asked) (told : OpAnswer) → asked_by order ≡ Some asked → AnswersOrder asked told → Operates asked (IsOrderMark asked) harms harms_then old new told → HasRunTask tries harms harms_then order (said.Operator told) old new
+  order_ran order asked told is answers (operations.is_told marks front last all_such counted) = record {
+    own = marks ++ told_marks asked told;
+    front = front;
+    answered = is_operated is (runs.is_told marks all_such) answers;
+    counted = subst (λ (k : ℕ). IsCounted k harms harms_then) (sym (losses_append marks (told_marks asked told) ∙ (let none = told_none asked told in let e : losses marks + losses (told_marks asked told) ≡ losses marks = omega (arith, none) in e))) counted;
+  }
+  order_ran order asked told is answers (operations.is_not_begun why refusal stopped counted front) = record { own = []; front = front; answered = is_operated is (runs.is_not_begun why refusal stopped) answers; counted = counted }
+
+-- ---- task by task
+pub still_pass : {V : Type 0} (board : TurnId) (old new : Sitting V Mark) → IsPassOf board old → new ≡ record old { seen = new.seen; own = new.own } → IsPassOf board new
+still_pass {V} board old new is same = record {
+  turn = ap (λ (s : Sitting V Mark). s.turn) same ∙ is.turn;
+  idle = ap (λ (s : Sitting V Mark). s.holds) same ∙ is.idle;
+  known = let number : new.number ≡ old.number = ap (λ (s : Sitting V Mark). s.number) same in omega (arith, number, is.known);
+}
+
+module _ {V : Type 0} (tries : ℕ) where
+  pub raced_none : (harms : ℕ) (board : TurnId) (pass : Sitting V Mark) (tasks : List Task) (told : List Told) (room : ℕ) → IsReady board pass tasks told room → HasRaced tries harms harms [] told pass pass
+  raced_none harms board pass tasks told room ready = record {
+    pass = refl;
+    free = ready.free;
+    own = [];
+    front = record { begins = record { behind = []; whole = append-nil pass.seen }; own_marks = sym (append-nil (mine pass.number pass.seen)) };
+    run = subst (λ (l : List Told). HasRun tries pass.number [] l []) (sym ready.untold) nothing;
+    counted = record { never_falls = omega arith; counted = λ below. omega arith };
+  }
+
+  pub raced_more : (harms harms_now harms_then : ℕ) (tasks : List Task) (asked : Task) (told : List Told) (answer : Told) (a b c : Sitting V Mark) → HasRaced tries harms harms_now tasks told a b
+      → c ≡ record b { seen = c.seen; own = c.own } → IsFree c.own → HasRunTask tries harms_now harms_then asked answer b c → HasRaced tries harms harms_then (tasks ++ asked ∷ []) (told ++ answer ∷ []) a c
+  raced_more harms harms_now harms_then tasks asked told answer a b c first same free then_ =
+      let number : b.number ≡ a.number = ap (λ (s : Sitting V Mark). s.number) first.pass in
+      record {
+        pass = same ∙ ap (λ (s : Sitting V Mark). record s { seen = c.seen; own = c.own }) first.pass;
+        free = free;
+        own = first.own ++ then_.own;
+        front = goes_on_then a.number a.seen b.seen c.seen first.own then_.own first.front (subst (λ (k : ℕ). GoesOn k b.seen c.seen then_.own) number then_.front);
+        run = one_more first.run (subst (λ (k : ℕ). IsAnswered tries k asked answer then_.own) number then_.answered);
+        counted = subst (λ (k : ℕ). IsCounted k harms harms_then) (sym (losses_append first.own then_.own)) (counted_then (losses first.own) (losses then_.own) harms harms_now harms_then first.counted then_.counted);
+      }
+
+  -- the same with what was read and noted
+  pub raced_next : (harms harms_now harms_then : ℕ) (all tasks : List Task) (asked : Task) (noted told : List Told) (answer : Told) (a b c : Sitting V Mark) → all ≡ tasks ++ asked ∷ [] → noted ≡ told ++ answer ∷ []
+      → HasRaced tries harms harms_now tasks told a b → c ≡ record b { seen = c.seen; own = c.own } → IsFree c.own → HasRunTask tries harms_now harms_then asked answer b c → HasRaced tries harms harms_then all noted a c
+  raced_next harms harms_now harms_then all tasks asked noted told answer a b c read notes first same free then_ =
+      subst (λ (l : List Told). HasRaced tries harms harms_then all l a c) (sym notes)
+      (subst (λ (l : List Task). HasRaced tries harms harms_then l (told ++ answer ∷ []) a c) (sym read) (raced_more harms harms_now harms_then tasks asked told answer a b c first same free then_))

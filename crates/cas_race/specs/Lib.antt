@@ -1,0 +1,3 @@
+pub mod Race
+pub mod Runs
+pub mod Texts

@@ -1,0 +1,122 @@
+-- What the callers of a race are asked and answered, and what of their own marks tells it.
+use Rattle.std.specs.Prelude.{◌≡◌, ◌≤◌, ℕ, suc, true, List, [], ◌∷◌, ◌++◌, length, All, Option, Some, None, IfSome, slice_get}
+use Rattle.cas_ballot.specs.Members.{IsMemberSet}
+use Rattle.cas_change.specs.declared.program.Clause.{Clause}
+use Rattle.cas_record.specs.declared.answer.Answer.{Answer}
+use Rattle.cas_record.specs.declared.mark.Mark.{Mark}
+use Rattle.cas_record.specs.declared.mark.Mark.TheVariants.{Begun, Ended}
+use Rattle.cas_record.specs.declared.operator.Asked.{Asked}
+use Rattle.cas_record.specs.declared.operator.Asked.TheVariants as ask
+use Rattle.cas_record.specs.declared.operator.OpAnswer.{OpAnswer}
+use Rattle.cas_record.specs.declared.operator.OpAnswer.TheVariants.{Stopped}
+use Rattle.cas_cluster.specs.StepCouncil.{told_marks}
+use Rattle.cas_turn.specs.Sitting.{Sitting, TurnId}
+use Rattle.cas_hold.specs.Collecting.{IsCollectingMark, IsCollectAnswer}
+use Rattle.cas_hold.specs.Conflicts.{is_conflict}
+use Rattle.cas_hold.specs.Deeds.{IsRefusal}
+use Rattle.cas_hold.specs.Membership.{IsMembersAnswer, IsRescanMark}
+use Rattle.cas_hold.specs.Mine.{mine, AreOfCall, losses, GoesOn}
+use Rattle.cas_hold.specs.Open.{IsFree}
+use Rattle.cas_hold.specs.Orders.{IsAskingHarm, IsProbeAnswer}
+use Rattle.cas_board.specs.Changes.{IsCounted}
+use Rattle.cas_board.specs.Passes.{IsPassOf}
+use Rattle.cas_tasks.specs.Tasks.{tasks_of}
+use Rattle.cas_tasks.specs.declared.tasks.Task.{Task}
+use Rattle.cas_tasks.specs.declared.tasks.Task.TheVariants as task
+use Rattle.cas_race.specs.declared.told.Told.{Told}
+use Rattle.cas_race.specs.declared.told.Told.TheVariants as said
+
+-- ---- what is asked
+-- what a task asks the operator for
+abbrev pub asked_by : Task → Option Asked
+asked_by (task.Change key program) = None
+asked_by (task.Join id) = Some (ask.Join id)
+asked_by (task.Leave id) = Some (ask.Leave id)
+asked_by (task.Collect key) = Some (ask.Collect key)
+asked_by (task.Probe key) = Some (ask.Probe key)
+
+-- the operator, who is caller 0, alone is asked for what is an operator's
+abbrev pub IsMeantFor : ℕ → Task → Type 0
+IsMeantFor n asked = IfSome (asked_by asked) (λ other. n ≡ 0)
+
+-- ---- what the marks tell
+-- The caller's marks of one change: those of one call, of which the first tells what it is for and the last what it was answered; one that
+-- ended with a conflict had all its tries. Or there is none, and the change was refused before it was begun.
+pub data IsChange (tries n : ℕ) (key : List ℕ) (program : List Clause) (answered : Answer) : List Mark → Type 0 where
+  is_called : (call rounds : ℕ) (between : List Mark) → AreOfCall call between → (is_conflict answered ≡ true → rounds ≡ tries) → IsChange tries n key program answered (Begun n call key program ∷ between ++ Ended n call rounds answered ∷ [])
+  is_turned_away : IsRefusal answered → IsChange tries n key program answered []
+
+-- a mark of the operator's that a call for this may make before the one that tells its answer
+abbrev pub IsOrderMark : Asked → Mark → Type 0
+IsOrderMark (ask.Join id) = IsRescanMark
+IsOrderMark (ask.Leave id) = IsRescanMark
+IsOrderMark (ask.Collect key) = IsCollectingMark key
+IsOrderMark (ask.Probe key) = IsAskingHarm
+
+-- The operator's marks of one call: such marks, and last the one that bears what was asked and what was answered; what a probe found is not
+-- marked. Or there is none, and the call was refused before it was begun.
+pub data IsOperated (asked : Asked) (answered : OpAnswer) : List Mark → Type 0 where
+  is_told : (before : List Mark) → All (IsOrderMark asked) before → IsOperated asked answered (before ++ told_marks asked answered)
+  is_not_begun : (why : Answer) → IsRefusal why → answered ≡ Stopped why → IsOperated asked answered []
+
+-- The answer names the acceptor or the key that was asked for, or says what stopped the call. A probe asked all members for the key, and tells
+-- what each of them told.
+abbrev pub AnswersOrder : Asked → OpAnswer → Type 0
+AnswersOrder (ask.Join id) answered = IsMembersAnswer (ask.Join id) answered
+AnswersOrder (ask.Leave id) answered = IsMembersAnswer (ask.Leave id) answered
+AnswersOrder (ask.Collect key) answered = IsCollectAnswer key answered
+AnswersOrder (ask.Probe key) answered = (members : List ℕ) × IsMemberSet members × IsProbeAnswer key members answered
+
+-- the caller's marks of one task, with what it was answered
+pub data IsAnswered (tries n : ℕ) : Task → Told → List Mark → Type 0 where
+  is_change : {key : List ℕ} {program : List Clause} {answered : Answer} {own : List Mark} → IsChange tries n key program answered own → IsAnswered tries n (task.Change key program) (said.Change answered) own
+  is_operated : {asked : Asked} {order : Task} {answered : OpAnswer} {own : List Mark} → asked_by order ≡ Some asked → IsOperated asked answered own → AnswersOrder asked answered → IsAnswered tries n order (said.Operator answered) own
+
+-- the caller's marks of its tasks, one after another, with these answers
+pub data HasRun (tries n : ℕ) : List Task → List Told → List Mark → Type 0 where
+  nothing : HasRun tries n [] [] []
+  one_more : {tasks : List Task} {answers : List Told} {marks own : List Mark} {asked : Task} {told : Told} → HasRun tries n tasks answers marks → IsAnswered tries n asked told own → HasRun tries n (tasks ++ asked ∷ []) (answers ++ told ∷ []) (marks ++ own)
+
+-- ---- callers in their threads
+module _ {V : Type 0} where
+  -- a caller can begin with these tasks, and has room for so many answers
+  pub record IsReady (board : TurnId) (pass : Sitting V Mark) (tasks : List Task) (told : List Told) (room : ℕ) : Type 0 where
+    pub is_pass : IsPassOf board pass
+    pub free : IsFree pass.own
+    pub meant : All (IsMeantFor pass.number) tasks
+    pub untold : told ≡ []
+    pub enough : length tasks ≤ room
+
+  -- it has run this task
+  pub record HasRunTask (tries harms harms_then : ℕ) (asked : Task) (told : Told) (old new : Sitting V Mark) : Type 0 where
+    pub own : List Mark
+    pub front : GoesOn old.number old.seen new.seen own
+    pub answered : IsAnswered tries old.number asked told own
+    pub counted : IsCounted (losses own) harms harms_then
+
+  -- It has run these tasks: the front that it has seen goes on with their marks, of which at most as many tell of frames that were lost or
+  -- made late as its fate's count of harms rose by.
+  pub record HasRaced (tries harms harms_then : ℕ) (tasks : List Task) (told : List Told) (old new : Sitting V Mark) : Type 0 where
+    pub pass : new ≡ record old { seen = new.seen; own = new.own }
+    pub free : IsFree new.own
+    pub own : List Mark
+    pub front : GoesOn old.number old.seen new.seen own
+    pub run : HasRun tries old.number tasks told own
+    pub counted : IsCounted (losses own) harms harms_then
+
+  -- ---- all callers
+  -- a pass of the board for the operator and for each caller, at the place of its number
+  pub record ArePassesOf (board : TurnId) (proposers : ℕ) (passes : List (Sitting V Mark)) : Type 0 where
+    pub count : length passes ≡ suc proposers
+    pub each : (n : ℕ) (pass : Sitting V Mark) → slice_get passes n ≡ Some pass → IsPassOf board pass × (pass.number ≡ n)
+
+  -- the callers of these passes have run what the lines ask them for, with these answers, and as their fates count their harms
+  pub record AreRaced (tries proposers : ℕ) (lines : List (List ℕ)) (harms harms_then : List ℕ) (answers : List (List Told)) (passes : List (Sitting V Mark)) : Type 0 where
+    pub callers : length answers ≡ suc proposers
+    pub runs : (n : ℕ) (pass : Sitting V Mark) (of_caller : List Told) → slice_get passes n ≡ Some pass → slice_get answers n ≡ Some of_caller → HasRun tries n (tasks_of proposers n lines) of_caller (mine n pass.seen)
+    pub counted : (n before after : ℕ) (pass : Sitting V Mark) → slice_get passes n ≡ Some pass → slice_get harms n ≡ Some before → slice_get harms_then n ≡ Some after → IsCounted (losses (mine n pass.seen)) before after
+
+-- no answer yet, and room for one to each of the tasks
+pub record HasRoomFor (tasks : List Task) (told : List Told) (room : ℕ) : Type 0 where
+  pub none : told ≡ []
+  pub enough : length tasks ≤ room
