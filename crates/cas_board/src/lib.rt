@@ -16,8 +16,6 @@ mod membership;
 mod phases;
 mod probing;
 mod shared;
-#[cfg(test)]
-mod tests;
 
 pub use board::{Board, Closed, Pass};
 pub use shared::Shared;

@@ -4,8 +4,8 @@ ghost use Rattle.std.specs.Prelude.{◌≡◌, All};
 ghost use Rattle.cas_board.specs.Passes.{IsPassOf};
 ghost use Rattle.cas_hold.specs.Open.{IsFree};
 
-use super::{always, ballot, done_with, rack};
-use crate::{Board, Pass};
+use crate::callers::{always, ballot, done_with, rack};
+use cas_board::{Board, Pass};
 use cas_change::{Act, Body, Key, State, Text};
 use cas_disk::MemoryDisk;
 use cas_disk_shelf::DiskShelf;

@@ -4,9 +4,9 @@ ghost use Rattle.std.specs.Prelude.{◌≡◌, All};
 ghost use Rattle.cas_board.specs.Passes.{IsPassOf};
 ghost use Rattle.cas_hold.specs.Open.{IsFree};
 
-use super::{Asked as Wanted, adds, ballot, change_in_threads, rack};
-use crate::{Board, Pass};
+use crate::callers::{Asked as Wanted, adds, ballot, change_in_threads, rack};
 use cas_ballot::{AcceptorId, Ballot};
+use cas_board::{Board, Pass};
 use cas_change::Key;
 use cas_disk::MemoryDisk;
 use cas_fate::Links;

@@ -4,11 +4,8 @@ ghost use Rattle.std.specs.Prelude.{◌≡◌, ◌<◌, length, vec_len, All, If
 ghost use Rattle.cas_board.specs.Passes.{IsPassOf};
 ghost use Rattle.cas_hold.specs.Open.{IsFree};
 
-mod collecting;
-mod operating;
-
-use crate::{Board, Pass};
 use cas_ballot::Ballot;
+use cas_board::{Board, Pass};
 use cas_change::{Act, Body, Clause, Guard, Key, Program, State, Took};
 use cas_disk::{Image, MemoryDisk};
 use cas_fate::Links;
@@ -33,7 +30,7 @@ fn disks(alloc: Global, count: u8) -> Result<Vec<MemoryDisk>, AllocError>
 }
 
 /// Empty disks for all acceptors and vaults.
-fn rack(alloc: Global) -> Result<Rack<MemoryDisk>, AllocError>
+pub fn rack(alloc: Global) -> Result<Rack<MemoryDisk>, AllocError>
     ensures acceptors { IfOk result (λ rack. vec_len rack.acceptors ≡ 64) }
     ensures vaults { IfOk result (λ rack. vec_len rack.vaults ≡ 17) }
 {
@@ -43,7 +40,7 @@ fn rack(alloc: Global) -> Result<Rack<MemoryDisk>, AllocError>
 }
 
 /// The program that always acts so.
-fn always(alloc: Global, act: Act) -> Result<Program, AllocError> {
+pub fn always(alloc: Global, act: Act) -> Result<Program, AllocError> {
     let mut clauses = Vec::new(alloc);
     clauses.push(Clause {
         guard: Guard::Always,
@@ -56,16 +53,16 @@ fn always(alloc: Global, act: Act) -> Result<Program, AllocError> {
 }
 
 /// The program that always adds this.
-fn adds(alloc: Global, number: i64) -> Result<Program, AllocError> {
+pub fn adds(alloc: Global, number: i64) -> Result<Program, AllocError> {
     always(alloc, Act::Add(number))
 }
 
 /// What each caller asks for, and how often.
 #[derive(Clone, Copy)]
-struct Asked<'a> {
-    key: &'a Key,
-    program: &'a Program,
-    changes: u32,
+pub struct Asked<'a> {
+    pub key: &'a Key,
+    pub program: &'a Program,
+    pub changes: u32,
 }
 
 /// So many changes of one caller, over links that deliver.
@@ -86,7 +83,7 @@ fn change_often<R: Wait>(
 }
 
 /// The changes of all callers but the operator's, in so many threads.
-fn change_in_threads<R: Threads + Wait + Sync>(
+pub fn change_in_threads<R: Threads + Wait + Sync>(
     rt: &R,
     board: &Board<MemoryDisk>,
     passes: &mut [Pass<MemoryDisk>],
@@ -139,7 +136,7 @@ fn record_of<R: Threads + Wait + Sync>(
 }
 
 /// Done by the first clause, with this state then.
-fn done_with(state: State, ballot: Ballot) -> Answer {
+pub fn done_with(state: State, ballot: Ballot) -> Answer {
     Answer::Done {
         state,
         took: Took::Clause(0),
@@ -167,7 +164,7 @@ fn tells(book: &Record, wanted: &[Answer]) -> bool {
     told == wanted.len()
 }
 
-fn ballot(counter: u64, proposer: u8) -> Ballot {
+pub fn ballot(counter: u64, proposer: u8) -> Ballot {
     Ballot { counter, proposer }
 }
 
