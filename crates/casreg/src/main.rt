@@ -1,22 +1,12 @@
 //! casreg, a store of replicated registers: the program.
 //!
-//! All that it does is in [`cluster::cluster`]. Here stand the real words, input and output, the disks, and the callers' fates.
+//! All that it does is in [`cluster`] of `cas_command`. Here stand the real words, input and output, and the disks.
 #![tactic(auto)]
 
 ghost use Rattle.std.specs.Prelude.{◌≡◌, vec_len, IfOk};
 
-mod cluster;
-mod load;
-mod race;
-mod status;
-#[cfg(test)]
-mod tests;
-mod words;
-
-use crate::cluster::cluster;
-use crate::status::Status;
+use cas_command::{Status, cluster, seeded_fates};
 use cas_disk::{FileDisk, Image, MemoryDisk};
-use cas_fate::Seeded;
 use cas_lines::sink::StdSink;
 use cas_lines::source::StdSource;
 use cas_rack::{ACCEPTORS, Rack, VAULTS};
@@ -59,17 +49,6 @@ fn run(
             Ok(cluster(rt, alloc, command, &mut source, &mut sink, rack, &mut fates).0)
         }
     }
-}
-
-/// The fates of the callers: that of each is drawn by its number.
-fn seeded_fates(alloc: Global) -> Result<Vec<Seeded>, AllocError>
-    ensures { IfOk result (λ fates. vec_len fates ≡ 17) }
-{
-    let mut fates = Vec::with_capacity(alloc, usize::from(VAULTS))?;
-    for caller in 0..VAULTS {
-        fates.push(Seeded::new(u64::from(caller)))?;
-    }
-    Ok(fates)
 }
 
 /// Empty disks in memory.
