@@ -27,10 +27,11 @@ enum Part {
     Quick,
 }
 
-/// A fate that holds frames back until another fate was asked about a certain frame.
+/// A fate that holds frames back until another fate was asked about a certain frame, but so often at most.
 #[derive(Drop)]
 struct Waiting<'a> {
     part: Part,
+    most: u64,
     /// Set once the slow caller's fate was asked about an accept.
     proposed: &'a AtomicBool,
     /// Set once the quick caller's fate was asked about a reply behind its accepts.
@@ -48,7 +49,7 @@ impl Fate for Waiting<'_> {
             Part::Slow => self.holds_slow(leg),
             Part::Quick => self.holds_quick(leg),
         };
-        if held {
+        if held && self.harms < self.most {
             self.harms = raised(self.harms);
             Verdict::Hold
         } else {
@@ -90,11 +91,12 @@ impl Waiting<'_> {
     }
 }
 
-/// A fate for each caller: that of caller 1 is slow, that of caller 2 quick.
+/// A fate for each caller, which holds frames back so often at most: that of caller 1 is slow, that of caller 2 quick.
 fn waiting_fates<'a>(
     alloc: Global,
     proposed: &'a AtomicBool,
     voted: &'a AtomicBool,
+    most: u64,
 ) -> Result<Vec<Waiting<'a>>, AllocError>
     ensures { IfOk result (λ fates. vec_len fates ≡ 17) }
 {
@@ -107,6 +109,7 @@ fn waiting_fates<'a>(
         };
         fates.push(Waiting {
             part,
+            most,
             proposed,
             voted,
             accepts: 0,
@@ -116,6 +119,9 @@ fn waiting_fates<'a>(
     Ok(fates)
 }
 
+/// A line of each of two callers.
+const TWO_ADDS: &[u8] = b"1 add a 5\n2 add a 1\n";
+
 /// Caller 2 overtakes what caller 1 has proposed.
 const OVERTAKEN: &str =
     "1: unsettled met 2.2\n2: done v0 num 1 at 1.2\nhistory a 1\n2.1 always add 1 -> v0 num 1\n";
@@ -123,9 +129,8 @@ const OVERTAKEN: &str =
 #[test]
 fn a_proposal_is_overtaken(rt: HostRuntime) -> Result<(), Fail> {
     let (proposed, voted) = (AtomicBool::new(false), AtomicBool::new(false));
-    let mut fates = waiting_fates(rt.alloc(), &proposed, &voted)?;
-    let lines = b"1 add a 5\n2 add a 1\n";
-    let run = run_with(&rt, "race --proposers 2", lines, FINE, &mut fates)?;
+    let mut fates = waiting_fates(rt.alloc(), &proposed, &voted, u64::MAX)?;
+    let run = run_with(&rt, "race --proposers 2", TWO_ADDS, FINE, &mut fates)?;
     assert_eq!(rt; run.status, Status::Ok);
     assert_eq!(rt; run.written.as_slice(), OVERTAKEN.as_bytes());
     // The fates come back in their places: the slow one surely had to wait.
@@ -133,6 +138,21 @@ fn a_proposal_is_overtaken(rt: HostRuntime) -> Result<(), Fail> {
         .iter()
         .position(|fate| fate.part == Part::Slow && fate.harms() > 0);
     assert_eq!(rt; slow, Some(1));
+    Ok(())
+}
+
+#[test]
+fn callers_who_wait_a_thousand_times_at_most_end(rt: HostRuntime) -> Result<(), Fail> {
+    let (proposed, voted) = (AtomicBool::new(false), AtomicBool::new(false));
+    let mut fates = waiting_fates(rt.alloc(), &proposed, &voted, 1_000)?;
+    let run = run_with(&rt, "race --proposers 2", TWO_ADDS, FINE, &mut fates)?;
+    assert_eq!(rt; run.status, Status::Ok);
+    let text = str::from_utf8(&run.written).expect(&rt, "it is a text");
+    assert_eq!(rt; lines_with(text, ": "), 2);
+    let (done, standing) = (lines_with(text, ": done "), lines_with(text, " -> "));
+    assert!(rt; done <= standing, "{done} are done, and {standing} stand");
+    let longest = fates.iter().map(|fate| fate.harms()).max();
+    assert!(rt; longest <= Some(1_000), "one waited more than 1,000 times");
     Ok(())
 }
 
@@ -176,7 +196,7 @@ const ROWS: [(&str, &str); 8] = [
     ),
     (
         "op collect a\nop probe a\n",
-        "op: collected a at 1.0 removed 3 kept 0\nop: probe a 1=none 2=none 3=none\n",
+        "op: collected a at 1.0 removed 3 kept 0\nop: probe a 1=none 2=none 3=none\nhistory a 1\n0.1 always keep -> empty\n",
     ),
 ];
 
