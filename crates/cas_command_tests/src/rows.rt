@@ -2,7 +2,8 @@
 
 ghost use Rattle.std.specs.Prelude.{◌≡◌, vec_len, IfOk};
 
-use cas_command::{Status, cluster};
+use cas_command::Status;
+use cas_command::cluster::cluster;
 use cas_disk::{Image, MemoryDisk, Trouble};
 use cas_fate::{Fate, Links};
 use cas_lines::sink::MemorySink;

@@ -5,7 +5,8 @@
 
 ghost use Rattle.std.specs.Prelude.{◌≡◌, vec_len, IfOk};
 
-use cas_command::{Status, cluster, seeded_fates};
+use cas_command::cluster::cluster;
+use cas_command::{Status, seeded_fates};
 use cas_disk::{FileDisk, Image, MemoryDisk};
 use cas_lines::sink::StdSink;
 use cas_lines::source::StdSource;
