@@ -1,7 +1,7 @@
 -- What caller 0's pass tells of a call of the operator, by what its holds did.
 use Rattle.std.proofs.Common.{◌≡◌, ℕ, ◌+◌, true, false, inl, inr, List, [], ◌++◌, refl, sym, ap, subst, ◌∙◌, append_assoc, append-nil, arith}
 use Rattle.std.specs.Prelude.{◌||◌, Result, Ok, Err, IfErr, OnOk}
-use Rattle.std.proofs.lemmas.List.Elements.{All-append, All-nil}
+use Rattle.std.proofs.lemmas.List.Elements.{All-append, All-nil, All-weaker}
 use Rattle.cas_record.specs.declared.answer.Answer.{Answer}
 use Rattle.cas_record.specs.declared.mark.Mark.{Mark}
 use Rattle.cas_record.specs.declared.operator.Asked.{Asked}
@@ -51,9 +51,9 @@ module _ {S V A : Type 0} (before after : View S V) (old new : Sitting A Mark) (
   }
 
 -- by what a hold answered, it made marks that may be given back
-pub operates_or_tells : {S V T : Type 0} (asked : Asked) (such : Mark → Type 0) (most : ℕ) (before after : View S V) (result : Result T OpAnswer) → OnOk result (OperatesIn such most before after) → IfErr result (IsToldIn asked such most before after) → IsHeldBy 0 before after
-operates_or_tells asked such most before after (Ok value) goes told = (_, goes.makes)
-operates_or_tells asked such most before after (Err answer) goes told = (_, told.makes)
+pub operates_or_tells : {S V T : Type 0} (asked : Asked) (such such_last : Mark → Type 0) (most : ℕ) (before after : View S V) (result : Result T OpAnswer) → OnOk result (OperatesIn such most before after) → IfErr result (IsToldIn asked such_last most before after) → IsHeldBy 0 before after
+operates_or_tells asked such such_last most before after (Ok value) goes told = (_, goes.makes)
+operates_or_tells asked such such_last most before after (Err answer) goes told = (_, told.makes)
 
 pub asks_or_tells : {S V T : Type 0} (asked : Asked) (such : Mark → Type 0) (most : ℕ) (before after : View S V) (result : Result T OpAnswer) → OnOk result (Makes 0 before after []) → IfErr result (IsToldIn asked such most before after) → IsHeldBy 0 before after
 asks_or_tells asked such most before after (Ok value) makes told = (_, makes)
@@ -127,6 +127,17 @@ module _ {A : Type 0} (such : Mark → Type 0) (harms harms_now : ℕ) (a b c : 
         is_free = then_.is_free;
       },
     )
+
+-- ---- marks of which less is known
+module _ {A : Type 0} (such less : Mark → Type 0) (weaker : (mark : Mark) → such mark → less mark) where
+  pub operated_less : (most : ℕ) (old new : Sitting A Mark) → HasOperated such most old new → HasOperated less most old new
+  operated_less most old new o = record { marks = o.marks; front = o.front; all_such = All-weaker such less weaker o.marks o.all_such; few = o.few }
+
+  pub told_less : (asked : Asked) (most : ℕ) (old new : Sitting A Mark) (answer : OpAnswer) → WasToldLast asked such most old new answer → WasToldLast asked less most old new answer
+  told_less asked most old new answer t = record { marks = t.marks; front = t.front; last = t.last; all_such = All-weaker such less weaker t.marks t.all_such; few = t.few; is_free = t.is_free }
+
+  pub run_less : (harms harms_now : ℕ) (old now : Sitting A Mark) → HasRunOrder such harms harms_now old now → HasRunOrder less harms harms_now old now
+  run_less harms harms_now old now run = record { pass = run.pass; lost = run.lost; counted = run.counted; operated = operated_less run.lost old now run.operated }
 
 -- ---- the whole
 -- holds that made no mark of caller 0's stood before it

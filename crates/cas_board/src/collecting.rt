@@ -6,7 +6,7 @@ ghost use Rattle.cas_cluster.specs.StepCollect.{keep_always};
 ghost use Rattle.cas_board.specs.Changes.{IsCounted};
 ghost use Rattle.cas_board.specs.Operations.{HasOperated, Operates, WasToldLast};
 ghost use Rattle.cas_board.specs.Passes.{IsPassOf};
-ghost use Rattle.cas_hold.specs.Collecting.{HasCourse, IsCollectAnswer, IsCollectingMark};
+ghost use Rattle.cas_hold.specs.Collecting.{HasCourse, IsBurialMark, IsCollectAnswer, IsCollectingMark, most_rounds};
 ghost use Rattle.cas_hold.specs.Deeds.{IsRefusal, harm_by};
 ghost use Rattle.cas_hold.specs.Mine.{GoesOn};
 ghost use Rattle.cas_hold.specs.Open.{IsFree};
@@ -22,8 +22,8 @@ use std::sync::Wait;
 
 impl<D: Disk> Board<D> {
     /// Collects the key, which was deleted, as a call of the operator; gives what the operator is told. The call that buries the key, by a
-    /// tombstone, has so many rounds at most, from 1, as a change has. The pass is caller 0's. What becomes of each frame the fate says, and
-    /// it is asked while this call does not hold the turn.
+    /// tombstone, has so many rounds at most, from 1, as a change has, and just so many where it ends with a conflict. The pass is caller 0's.
+    /// What becomes of each frame the fate says, and it is asked while this call does not hold the turn.
     ///
     /// What the operator is told is marked last in the front that the pass has seen then: [`OpAnswer::Collected`], [`OpAnswer::NotEmpty`]
     /// where the key holds a state, [`OpAnswer::Busy`] while a change of membership is under way, [`OpAnswer::Absent`],
@@ -43,7 +43,7 @@ impl<D: Disk> Board<D> {
         requires some { 1 ≤ tries }
         ensures pass { pass.new ≡ record pass.old { seen = pass.new.seen; own = pass.new.own } }
         ensures free { IsFree pass.new.own }
-        ensures operates { Operates (Asked.Collect key.now) (IsCollectingMark key.now) (F.harm_count fate.old) (F.harm_count fate.new) pass.old pass.new result }
+        ensures operates { Operates (Asked.Collect key.now) (IsCollectingMark key.now tries) (F.harm_count fate.old) (F.harm_count fate.new) pass.old pass.new result }
         ensures answer { IsCollectAnswer key.now result }
         ensures legal { D.tells → IsLegal (reverse pass.new.seen) }
     {
@@ -64,9 +64,9 @@ impl<D: Disk> Board<D> {
         requires pass { IsPassOf self.now.id pass.old }
         requires operator { pass.old.number ≡ 0 }
         requires keeps { first.program ≡ keep_always }
-        requires at { HasCourse first.key first.course pass.old.own pass.old.seen }
+        requires at { HasCourse first.key (most_rounds first.tries) first.course pass.old.own pass.old.seen }
         ensures pass { pass.new ≡ record pass.old { seen = pass.new.seen; own = pass.new.own } }
-        ensures told { (lost : ℕ) × IsCounted lost (F.harm_count fate.old) (F.harm_count fate.new) × WasToldLast (Asked.Collect first.key) (IsCollectingMark first.key) lost pass.old pass.new result }
+        ensures told { (lost : ℕ) × IsCounted lost (F.harm_count fate.old) (F.harm_count fate.new) × WasToldLast (Asked.Collect first.key) (IsCollectingMark first.key (most_rounds first.tries)) lost pass.old pass.new result }
         ensures answer { IsCollectAnswer first.key result }
         ensures legal { D.tells → IsLegal (reverse pass.new.seen) }
     {
@@ -99,7 +99,8 @@ impl<D: Disk> Board<D> {
         ensures front { GoesOn pass.old.number pass.old.seen pass.new.seen [] }
         ensures key { IfOk result (λ collecting. collecting.key ≡ key.now) }
         ensures keeps { IfOk result (λ collecting. collecting.program ≡ keep_always) }
-        ensures ordered { IfOk result (λ collecting. HasCourse key.now collecting.course pass.new.own pass.new.seen) }
+        ensures tries { IfOk result (λ collecting. collecting.tries ≡ tries) }
+        ensures ordered { IfOk result (λ collecting. HasCourse key.now (most_rounds tries) collecting.course pass.new.own pass.new.seen) }
         ensures refused { IfErr result (λ why. IsRefusal why × IsFree pass.new.own) }
         ensures legal { D.tells → IsLegal (reverse pass.new.seen) }
     {
@@ -120,13 +121,14 @@ impl<D: Disk> Board<D> {
         requires pass { IsPassOf self.now.id pass.old }
         requires operator { pass.old.number ≡ 0 }
         requires keeps { collecting.program ≡ keep_always }
-        requires at { HasCourse collecting.key collecting.course pass.old.own pass.old.seen }
+        requires at { HasCourse collecting.key (most_rounds collecting.tries) collecting.course pass.old.own pass.old.seen }
         ensures pass { pass.new ≡ record pass.old { seen = pass.new.seen; own = pass.new.own } }
-        ensures goes_on { OnOk result (HasOperated (IsCollectingMark collecting.key) (harm_by verdict) pass.old pass.new) }
+        ensures goes_on { OnOk result (HasOperated (IsBurialMark collecting.key) (harm_by verdict) pass.old pass.new) }
         ensures key { IfOk result (λ next. next.key ≡ collecting.key) }
+        ensures tries { IfOk result (λ next. next.tries ≡ collecting.tries) }
         ensures keeps { IfOk result (λ next. next.program ≡ keep_always) }
-        ensures at { IfOk result (λ next. HasCourse collecting.key next.course pass.new.own pass.new.seen) }
-        ensures told { IfErr result (WasToldLast (Asked.Collect collecting.key) (IsCollectingMark collecting.key) (harm_by verdict) pass.old pass.new) }
+        ensures at { IfOk result (λ next. HasCourse collecting.key (most_rounds collecting.tries) next.course pass.new.own pass.new.seen) }
+        ensures told { IfErr result (WasToldLast (Asked.Collect collecting.key) (IsCollectingMark collecting.key (most_rounds collecting.tries)) (harm_by verdict) pass.old pass.new) }
         ensures answer { IfErr result (IsCollectAnswer collecting.key) }
         ensures legal { D.tells → IsLegal (reverse pass.new.seen) }
     {

@@ -1,6 +1,6 @@
 //! A change of membership, from the operator's call to its answer.
 
-ghost use Rattle.std.specs.Prelude.{◌≡◌, ◌≢◌, ◌≤◌, ℕ, [], Some, IfOk, IfErr, OnOk, reverse};
+ghost use Rattle.std.specs.Prelude.{◌≡◌, ◌≢◌, ◌≤◌, ℕ, false, [], Some, IfOk, IfErr, OnOk, reverse};
 ghost use Rattle.cas_record.specs.Legal.{IsLegal};
 ghost use Rattle.cas_cluster.specs.StepCollect.{keep_always};
 ghost use Rattle.cas_world.specs.Plans.{asked_to};
@@ -8,9 +8,9 @@ ghost use Rattle.cas_board.specs.Changes.{IsCounted};
 ghost use Rattle.cas_board.specs.Operations.{HasOperated, Operates, WasToldLast};
 ghost use Rattle.cas_board.specs.Passes.{IsPassOf};
 ghost use Rattle.cas_hold.specs.Deeds.{IsRefusal, harm_by};
-ghost use Rattle.cas_hold.specs.Membership.{HasListing, HasPlan, HasRescan, IsListedTo, IsMembersAnswer, IsRescanMark, IsRescannedTo, StandsAt};
+ghost use Rattle.cas_hold.specs.Membership.{HasListing, HasPlan, HasRescan, HasRounds, IsFirstRound, IsListedTo, IsMembersAnswer, IsPlanMark, IsRescanMark, IsRescannedTo, StandsAt};
 ghost use Rattle.cas_hold.specs.Mine.{GoesOn, wanted_by, wants};
-ghost use Rattle.cas_hold.specs.Open.{IsFree};
+ghost use Rattle.cas_hold.specs.Open.{IsFree, rounds_after};
 ghost use Rattle.cas_hold.specs.Orders.{HasOrder};
 
 use crate::board::{Board, Pass};
@@ -30,8 +30,8 @@ use std::sync::Wait;
 
 impl<D: Disk> Board<D> {
     /// The acceptor joins, as a call of the operator; gives what the operator is told. A join of it that stopped before goes on. Each key
-    /// that is proposed anew has so many rounds at most, from 1, as a change has. The pass is caller 0's. What becomes of each frame the
-    /// fate says, and it is asked while this call does not hold the turn.
+    /// that is proposed anew has so many rounds at most, from 1, as a change has, and just so many where that ends with a conflict. The pass
+    /// is caller 0's. What becomes of each frame the fate says, and it is asked while this call does not hold the turn.
     ///
     /// What the operator is told is marked last in the front that the pass has seen then: [`OpAnswer::Joined`], [`OpAnswer::Refused`] where
     /// the acceptor may not join, [`OpAnswer::Busy`], [`OpAnswer::ProposerDown`], or [`OpAnswer::Stopped`]. A call that is refused with
@@ -50,7 +50,7 @@ impl<D: Disk> Board<D> {
         requires some { 1 ≤ tries }
         ensures pass { pass.new ≡ record pass.old { seen = pass.new.seen; own = pass.new.own } }
         ensures free { IsFree pass.new.own }
-        ensures operates { Operates (Asked.Join id) IsRescanMark (F.harm_count fate.old) (F.harm_count fate.new) pass.old pass.new result }
+        ensures operates { Operates (Asked.Join id) (IsRescanMark tries) (F.harm_count fate.old) (F.harm_count fate.new) pass.old pass.new result }
         ensures answer { IsMembersAnswer (Asked.Join id) result }
         ensures legal { D.tells → IsLegal (reverse pass.new.seen) }
     {
@@ -77,7 +77,7 @@ impl<D: Disk> Board<D> {
         requires some { 1 ≤ tries }
         ensures pass { pass.new ≡ record pass.old { seen = pass.new.seen; own = pass.new.own } }
         ensures free { IsFree pass.new.own }
-        ensures operates { Operates (Asked.Leave id) IsRescanMark (F.harm_count fate.old) (F.harm_count fate.new) pass.old pass.new result }
+        ensures operates { Operates (Asked.Leave id) (IsRescanMark tries) (F.harm_count fate.old) (F.harm_count fate.new) pass.old pass.new result }
         ensures answer { IsMembersAnswer (Asked.Leave id) result }
         ensures legal { D.tells → IsLegal (reverse pass.new.seen) }
     {
@@ -100,9 +100,10 @@ impl<D: Disk> Board<D> {
         requires pass { IsPassOf self.now.id pass.old }
         requires operator { pass.old.number ≡ 0 }
         requires free { IsFree pass.old.own }
+        requires some { 1 ≤ tries }
         ensures pass { pass.new ≡ record pass.old { seen = pass.new.seen; own = pass.new.own } }
         ensures free { IsFree pass.new.own }
-        ensures operates { Operates (asked_to aim.now.kind aim.now.id) IsRescanMark (F.harm_count fate.old) (F.harm_count fate.new) pass.old pass.new result }
+        ensures operates { Operates (asked_to aim.now.kind aim.now.id) (IsRescanMark tries) (F.harm_count fate.old) (F.harm_count fate.new) pass.old pass.new result }
         ensures answer { IsMembersAnswer (asked_to aim.now.kind aim.now.id) result }
         ensures legal { D.tells → IsLegal (reverse pass.new.seen) }
     {
@@ -126,8 +127,9 @@ impl<D: Disk> Board<D> {
         requires operator { pass.old.number ≡ 0 }
         requires ordered { HasOrder (asked_to aim.now.kind aim.now.id) pass.old.own }
         requires program { program.now ≡ keep_always }
+        requires some { 1 ≤ tries }
         ensures pass { pass.new ≡ record pass.old { seen = pass.new.seen; own = pass.new.own } }
-        ensures told { (lost : ℕ) × IsCounted lost (F.harm_count fate.old) (F.harm_count fate.new) × WasToldLast (asked_to aim.now.kind aim.now.id) IsRescanMark lost pass.old pass.new result }
+        ensures told { (lost : ℕ) × IsCounted lost (F.harm_count fate.old) (F.harm_count fate.new) × WasToldLast (asked_to aim.now.kind aim.now.id) (IsRescanMark tries) lost pass.old pass.new result }
         ensures answer { IsMembersAnswer (asked_to aim.now.kind aim.now.id) result }
         ensures legal { D.tells → IsLegal (reverse pass.new.seen) }
     {
@@ -151,8 +153,9 @@ impl<D: Disk> Board<D> {
         requires operator { pass.old.number ≡ 0 }
         requires planned { HasPlan (asked_to aim.now.kind aim.now.id) pass.old.own }
         requires program { program.now ≡ keep_always }
+        requires some { 1 ≤ tries }
         ensures pass { pass.new ≡ record pass.old { seen = pass.new.seen; own = pass.new.own } }
-        ensures told { (lost : ℕ) × IsCounted lost (F.harm_count fate.old) (F.harm_count fate.new) × WasToldLast (asked_to aim.now.kind aim.now.id) IsRescanMark lost pass.old pass.new result }
+        ensures told { (lost : ℕ) × IsCounted lost (F.harm_count fate.old) (F.harm_count fate.new) × WasToldLast (asked_to aim.now.kind aim.now.id) (IsRescanMark tries) lost pass.old pass.new result }
         ensures answer { IsMembersAnswer (asked_to aim.now.kind aim.now.id) result }
         ensures legal { D.tells → IsLegal (reverse pass.new.seen) }
     {
@@ -181,10 +184,11 @@ impl<D: Disk> Board<D> {
         requires operator { pass.old.number ≡ 0 }
         requires planned { HasPlan (asked_to aim.now.kind aim.now.id) pass.old.own }
         requires program { program.now ≡ keep_always }
+        requires some { 1 ≤ tries }
         ensures pass { pass.new ≡ record pass.old { seen = pass.new.seen; own = pass.new.own } }
-        ensures goes_on { OnOk result ((lost : ℕ) × IsCounted lost (F.harm_count fate.old) (F.harm_count fate.new) × HasOperated IsRescanMark lost pass.old pass.new) }
+        ensures goes_on { OnOk result ((lost : ℕ) × IsCounted lost (F.harm_count fate.old) (F.harm_count fate.new) × HasOperated IsPlanMark lost pass.old pass.new) }
         ensures planned { OnOk result (HasPlan (asked_to aim.now.kind aim.now.id) pass.new.own) }
-        ensures told { IfErr result (λ told. (lost : ℕ) × IsCounted lost (F.harm_count fate.old) (F.harm_count fate.new) × WasToldLast (asked_to aim.now.kind aim.now.id) IsRescanMark lost pass.old pass.new told) }
+        ensures told { IfErr result (λ told. (lost : ℕ) × IsCounted lost (F.harm_count fate.old) (F.harm_count fate.new) × WasToldLast (asked_to aim.now.kind aim.now.id) (IsRescanMark tries) lost pass.old pass.new told) }
         ensures answer { IfErr result (IsMembersAnswer (asked_to aim.now.kind aim.now.id)) }
         ensures legal { D.tells → IsLegal (reverse pass.new.seen) }
     {
@@ -211,10 +215,11 @@ impl<D: Disk> Board<D> {
         requires stands { StandsAt (asked_to aim.now.kind aim.now.id) pass.old.own (wanted_by 0 pass.old.seen) step }
         requires legal { D.tells → IsLegal (reverse pass.old.seen) }
         requires program { program.now ≡ keep_always }
+        requires some { 1 ≤ tries }
         ensures pass { pass.new ≡ record pass.old { seen = pass.new.seen; own = pass.new.own } }
-        ensures goes_on { OnOk result ((lost : ℕ) × IsCounted lost (F.harm_count fate.old) (F.harm_count fate.new) × HasOperated IsRescanMark lost pass.old pass.new) }
+        ensures goes_on { OnOk result ((lost : ℕ) × IsCounted lost (F.harm_count fate.old) (F.harm_count fate.new) × HasOperated IsPlanMark lost pass.old pass.new) }
         ensures planned { OnOk result (HasPlan (asked_to aim.now.kind aim.now.id) pass.new.own) }
-        ensures told { IfErr result (λ told. (lost : ℕ) × IsCounted lost (F.harm_count fate.old) (F.harm_count fate.new) × WasToldLast (asked_to aim.now.kind aim.now.id) IsRescanMark lost pass.old pass.new told) }
+        ensures told { IfErr result (λ told. (lost : ℕ) × IsCounted lost (F.harm_count fate.old) (F.harm_count fate.new) × WasToldLast (asked_to aim.now.kind aim.now.id) (IsRescanMark tries) lost pass.old pass.new told) }
         ensures answer { IfErr result (IsMembersAnswer (asked_to aim.now.kind aim.now.id)) }
         ensures legal { D.tells → IsLegal (reverse pass.new.seen) }
     {
@@ -242,9 +247,9 @@ impl<D: Disk> Board<D> {
         requires operator { pass.old.number ≡ 0 }
         requires lists { HasListing (asked_to aim.now.kind aim.now.id) pass.old.own }
         ensures pass { pass.new ≡ record pass.old { seen = pass.new.seen; own = pass.new.own } }
-        ensures goes_on { OnOk result ((lost : ℕ) × IsCounted lost (F.harm_count fate.old) (F.harm_count fate.new) × HasOperated IsRescanMark lost pass.old pass.new) }
+        ensures goes_on { OnOk result ((lost : ℕ) × IsCounted lost (F.harm_count fate.old) (F.harm_count fate.new) × HasOperated IsPlanMark lost pass.old pass.new) }
         ensures planned { OnOk result (HasPlan (asked_to aim.now.kind aim.now.id) pass.new.own) }
-        ensures told { IfErr result (λ told. (lost : ℕ) × IsCounted lost (F.harm_count fate.old) (F.harm_count fate.new) × WasToldLast (asked_to aim.now.kind aim.now.id) IsRescanMark lost pass.old pass.new told) }
+        ensures told { IfErr result (λ told. (lost : ℕ) × IsCounted lost (F.harm_count fate.old) (F.harm_count fate.new) × WasToldLast (asked_to aim.now.kind aim.now.id) IsPlanMark lost pass.old pass.new told) }
         ensures answer { IfErr result (IsMembersAnswer (asked_to aim.now.kind aim.now.id)) }
         ensures legal { D.tells → IsLegal (reverse pass.new.seen) }
     {
@@ -279,10 +284,12 @@ impl<D: Disk> Board<D> {
         requires operator { pass.old.number ≡ 0 }
         requires rescans { HasRescan (asked_to aim.now.kind aim.now.id) rescan.begun.call rescan.key pass.old.own }
         requires wanted { wanted_by 0 pass.old.seen ≡ Some (wants rescan.begun.call rescan.key program.now) }
+        requires some { 1 ≤ tries }
+        requires first { IsFirstRound rescan.begun.stage pass.old.own }
         ensures pass { pass.new ≡ record pass.old { seen = pass.new.seen; own = pass.new.own } }
-        ensures goes_on { OnOk result ((lost : ℕ) × IsCounted lost (F.harm_count fate.old) (F.harm_count fate.new) × HasOperated IsRescanMark lost pass.old pass.new) }
+        ensures goes_on { OnOk result ((lost : ℕ) × IsCounted lost (F.harm_count fate.old) (F.harm_count fate.new) × HasOperated IsPlanMark lost pass.old pass.new) }
         ensures planned { OnOk result (HasPlan (asked_to aim.now.kind aim.now.id) pass.new.own) }
-        ensures told { IfErr result (λ told. (lost : ℕ) × IsCounted lost (F.harm_count fate.old) (F.harm_count fate.new) × WasToldLast (asked_to aim.now.kind aim.now.id) IsRescanMark lost pass.old pass.new told) }
+        ensures told { IfErr result (λ told. (lost : ℕ) × IsCounted lost (F.harm_count fate.old) (F.harm_count fate.new) × WasToldLast (asked_to aim.now.kind aim.now.id) (IsRescanMark tries) lost pass.old pass.new told) }
         ensures answer { IfErr result (IsMembersAnswer (asked_to aim.now.kind aim.now.id)) }
         ensures legal { D.tells → IsLegal (reverse pass.new.seen) }
     {
@@ -335,7 +342,7 @@ impl<D: Disk> Board<D> {
         ensures pass { pass.new ≡ record pass.old { seen = pass.new.seen; own = pass.new.own } }
         ensures front { OnOk result (GoesOn pass.old.number pass.old.seen pass.new.seen []) }
         ensures planned { OnOk result (HasPlan (asked_to aim.now.kind aim.now.id) pass.new.own) }
-        ensures told { IfErr result (WasToldLast (asked_to aim.now.kind aim.now.id) IsRescanMark 0 pass.old pass.new) }
+        ensures told { IfErr result (WasToldLast (asked_to aim.now.kind aim.now.id) IsPlanMark 0 pass.old pass.new) }
         ensures answer { IfErr result (IsMembersAnswer (asked_to aim.now.kind aim.now.id)) }
         ensures legal { D.tells → IsLegal (reverse pass.new.seen) }
     {
@@ -358,9 +365,9 @@ impl<D: Disk> Board<D> {
         requires planned { HasPlan (asked_to aim.now.kind aim.now.id) pass.old.own }
         requires program { program.now ≡ keep_always }
         ensures pass { pass.new ≡ record pass.old { seen = pass.new.seen; own = pass.new.own } }
-        ensures goes_on { OnOk result (HasOperated IsRescanMark 0 pass.old pass.new) }
+        ensures goes_on { OnOk result (HasOperated IsPlanMark 0 pass.old pass.new) }
         ensures step { IfOk result (StandsAt (asked_to aim.now.kind aim.now.id) pass.new.own (wanted_by 0 pass.new.seen)) }
-        ensures told { IfErr result (WasToldLast (asked_to aim.now.kind aim.now.id) IsRescanMark 0 pass.old pass.new) }
+        ensures told { IfErr result (WasToldLast (asked_to aim.now.kind aim.now.id) IsPlanMark 0 pass.old pass.new) }
         ensures answer { IfErr result (IsMembersAnswer (asked_to aim.now.kind aim.now.id)) }
         ensures legal { D.tells → IsLegal (reverse pass.new.seen) }
     {
@@ -382,9 +389,9 @@ impl<D: Disk> Board<D> {
         requires operator { pass.old.number ≡ 0 }
         requires lists { HasListing (asked_to aim.now.kind aim.now.id) pass.old.own }
         ensures pass { pass.new ≡ record pass.old { seen = pass.new.seen; own = pass.new.own } }
-        ensures goes_on { OnOk result (HasOperated IsRescanMark (harm_by verdict) pass.old pass.new) }
+        ensures goes_on { OnOk result (HasOperated IsPlanMark (harm_by verdict) pass.old pass.new) }
         ensures listed { IfOk result (IsListedTo (asked_to aim.now.kind aim.now.id) pass.new.own) }
-        ensures told { IfErr result (WasToldLast (asked_to aim.now.kind aim.now.id) IsRescanMark (harm_by verdict) pass.old pass.new) }
+        ensures told { IfErr result (WasToldLast (asked_to aim.now.kind aim.now.id) IsPlanMark (harm_by verdict) pass.old pass.new) }
         ensures answer { IfErr result (IsMembersAnswer (asked_to aim.now.kind aim.now.id)) }
         ensures legal { D.tells → IsLegal (reverse pass.new.seen) }
     {
@@ -411,10 +418,11 @@ impl<D: Disk> Board<D> {
         requires rescans { HasRescan (asked_to aim.now.kind aim.now.id) call key.now pass.old.own }
         requires wanted { wanted_by 0 pass.old.seen ≡ Some (wants call key.now program.now) }
         ensures pass { pass.new ≡ record pass.old { seen = pass.new.seen; own = pass.new.own } }
-        ensures goes_on { OnOk result (HasOperated IsRescanMark (harm_by verdict) pass.old pass.new) }
+        ensures goes_on { OnOk result (HasOperated IsPlanMark (harm_by verdict) pass.old pass.new) }
         ensures wanted { IfOk result (λ now. now ≢ Rescanning.Counted → wanted_by 0 pass.new.seen ≡ wanted_by 0 pass.old.seen) }
         ensures rescans { IfOk result (IsRescannedTo (asked_to aim.now.kind aim.now.id) call key.now pass.new.own) }
-        ensures told { IfErr result (WasToldLast (asked_to aim.now.kind aim.now.id) IsRescanMark (harm_by verdict) pass.old pass.new) }
+        ensures rounds { IfOk result (HasRounds may_repeat pass.old.own pass.new.own) }
+        ensures told { (tries : ℕ) → (may_repeat ≡ false → rounds_after pass.old.own ≡ tries) → IfErr result (WasToldLast (asked_to aim.now.kind aim.now.id) (IsRescanMark tries) (harm_by verdict) pass.old pass.new) }
         ensures answer { IfErr result (IsMembersAnswer (asked_to aim.now.kind aim.now.id)) }
         ensures legal { D.tells → IsLegal (reverse pass.new.seen) }
     {

@@ -1,7 +1,8 @@
 -- What each call on the world for the call of a collection's round does.
-use Rattle.std.proofs.Common.{◌≡◌, ◌≢◌, ◌≤◌, ℕ, suc, Bool, true, false, if◌then◌else◌, List, [], ◌∷◌, ◌++◌, Option, None, Some, IsSome, is_some, option_map, slice_get, slice_set, refl, sym, ap, ap₂, subst, ◌∙◌, append-nil, arith}
+use Rattle.std.proofs.Common.{◌≡◌, ◌≢◌, ◌≤◌, ◌<◌, ◌+◌, ◌-◌, ◌^◌, ℕ, suc, Bool, true, false, if◌then◌else◌, List, [], ◌∷◌, ◌++◌, Option, None, Some, IsSome, is_some, option_map, slice_get, slice_set, refl, sym, ap, ap₂, subst, ◌∙◌, append-nil, arith}
 use Rattle.std.specs.Prelude.{All, IfSome}
 use Rattle.std.proofs.lemmas.List.Elements.{All-cons}
+use Rattle.std.proofs.Math.Nat.{min-le_left}
 use Rattle.cas_change.specs.declared.program.Clause.{Clause}
 use Rattle.cas_collect.specs.declared.collect.CollectStep.TheVariants as step
 use Rattle.cas_fate.specs.declared.fate.Verdict.{Verdict}
@@ -23,6 +24,7 @@ use Rattle.cas_cluster.specs.Council.{Council, OrderView, told_so}
 use Rattle.cas_cluster.specs.Protocol.{is_done}
 use Rattle.cas_cluster.specs.Step.{Step, StepBegin, StepTurn, StepRefuseTurn, StepPropose, StepCount, StepEnd}
 use Rattle.cas_cluster.specs.StepCalls as calls
+use Rattle.cas_cluster.specs.StepCalls.{one_more}
 use Rattle.cas_cluster.specs.StepFrames as frames
 use Rattle.cas_cluster.specs.StepCollect as collect
 use Rattle.cas_cluster.specs.StepCollect.{keep_always, stopped_by, IsCollecting, StepBeginCollect, BeginsCollection, StepCountCollect, StepEndCollect}
@@ -38,11 +40,12 @@ use Rattle.cas_world.specs.Readers.{closed_in, next_number}
 use Rattle.cas_world.specs.Reading.{HasProposed}
 use Rattle.cas_world.specs.World.{WasTold}
 use Rattle.cas_hold.specs.Collecting as collecting_
-use Rattle.cas_hold.specs.Collecting.{CollectsAt, HasBurial, IsCollectingMark, IsCollectAnswer, IsRefusedBurial, TellsRefusal, Stops}
-use Rattle.cas_hold.specs.Conflicts.{is_conflict}
+use Rattle.cas_hold.specs.Collecting.{CollectsAt, HasBurial, IsBurialMark, IsCollectAnswer, IsCollectingMark, IsRefusedBurial, IsWithin, TellsRefusal, Stops}
+use Rattle.cas_hold.specs.Conflicts.{is_conflict, told_conflict}
 use Rattle.cas_hold.specs.Deeds.{harm_by}
 use Rattle.cas_hold.specs.Kept.{IsStaged, running, is_met, is_closed, IsKept}
 use Rattle.cas_hold.specs.Mine.{mine, losses, Wanted, wants, wanted_after, wanted_by}
+use Rattle.cas_hold.specs.Open.{rounds_in, is_met_in}
 use Rattle.cas_hold.specs.Orders.{new_order, HasOrder, OperatesIn, IsToldIn}
 use Rattle.cas_hold.specs.Owners.{owner_of, MayAdd}
 use Rattle.cas_hold.specs.OwnParts.{round_part, own_part}
@@ -50,11 +53,14 @@ use Rattle.cas_hold.proofs.Burials.{Leads, leads_acts, leads_council, makes_led,
 use Rattle.cas_hold.proofs.Collecting.{IsBurying, is_burying, has_burial, IsKeeping, is_keeping}
 use Rattle.cas_hold.proofs.CollectSteps.{stopped_held, no_call_at}
 use Rattle.cas_hold.proofs.Councils.{IsOrdered, is_ordered}
-use Rattle.cas_hold.proofs.Events.{CallBegins, CallGoesOn, CallIsOver, over_where_told, first_begins, again_goes_on, turn_goes_on, refused_turn_goes_on, propose_goes_on, count_is_over, told_in}
+use Rattle.cas_hold.proofs.Events.{CallBegins, CallGoesOn, CallIsOver, over_where_told, count_unmet, first_begins, again_goes_on, turn_goes_on, refused_turn_goes_on, propose_goes_on, count_is_over, told_in}
 use Rattle.cas_hold.proofs.Fronts.{mine_own, wanted_append}
 use Rattle.cas_hold.proofs.Holds.{Held, over_at_once}
 use Rattle.cas_hold.proofs.Operating.{Leaves, leaves_desks, leaves_others}
-use Rattle.cas_hold.proofs.Stages.{next_at, desk_of, running_call, runs_there, turn_running, proposed_running, propose_met, waits_there, as_turn, as_refusal}
+use Rattle.cas_hold.proofs.Parts.{rounds_part, met_part}
+use Rattle.cas_hold.proofs.Stages.{next_at, desk_of, running_call, runs_there, unmet_there, turn_running, proposed_running, propose_met, met_told, waits_there, as_turn, as_refusal}
+use Rattle.cas_hold.proofs.Tries.{burial_within}
+use Rattle.cas_hold.proofs.BurialStages.{burial_open}
 
 -- ---- what its calls ask
 calling_is : (c : CollectionView) → round_part c ≡ 0 → c.calling ≡ true
@@ -117,8 +123,8 @@ new_at key council order c asks none due same calling = record {
 begun_marks : (number : ℕ) (key : List ℕ) (more : List Mark) → OnlyOwnedBy owner_of 0 more → OnlyOwnedBy owner_of 0 (kinds.Begun 0 number key keep_always ∷ more)
 begun_marks number key more only = All-cons (λ i. (m : ℕ) → owner_of i ≡ Some m → m ≡ 0) (kinds.Begun 0 number key keep_always) more (λ m e. sym (some_is e)) only
 
-begun_such : (number : ℕ) (key : List ℕ) (more : List Mark) → All (IsCollectingMark key) (mine 0 more) → All (IsCollectingMark key) (mine 0 (kinds.Begun 0 number key keep_always ∷ more))
-begun_such number key more such = subst (All (IsCollectingMark key)) (sym (mine_own 0 (kinds.Begun 0 number key keep_always) more refl)) (All-cons (IsCollectingMark key) (kinds.Begun 0 number key keep_always) (mine 0 more) (refl, refl) such)
+begun_such : (number : ℕ) (key : List ℕ) (more : List Mark) → All (IsBurialMark key) (mine 0 more) → All (IsBurialMark key) (mine 0 (kinds.Begun 0 number key keep_always ∷ more))
+begun_such number key more such = subst (All (IsBurialMark key)) (sym (mine_own 0 (kinds.Begun 0 number key keep_always) more refl)) (All-cons (IsBurialMark key) (kinds.Begun 0 number key keep_always) (mine 0 more) (refl, refl) such)
 
 begun_few : (number most : ℕ) (key : List ℕ) (more : List Mark) → losses (mine 0 more) ≤ most → losses (mine 0 (kinds.Begun 0 number key keep_always ∷ more)) ≤ most
 begun_few number most key more few = subst (λ (l : List Mark). losses l ≤ most) (sym (mine_own 0 (kinds.Begun 0 number key keep_always) more refl)) few
@@ -161,13 +167,13 @@ begins_burial {S} {V} m key old new was by = by_case by.begins
     by_case (collect.goes_on middle call is_it open_ begun is) = absurd (cc (sym (was.no_call by.caller by.may.at_caller) ∙ open_))
 
 pub begun_held : {S V : Type 0} (m : Meaning S V) (key : List ℕ) (call most : ℕ) (old new : View S V) → option_map next_number (slice_get old.callers 0) ≡ Some call → HasOrder (asked.Collect key) (own_part old 0) → IsKept old → StepBeginCollect m (λ before after. StepBegin m before 0 key keep_always after) old key new → HasCollected new call key
-    → Held old new (OperatesIn (IsCollectingMark key) most old new × HasBurial key call (own_part new 0) new.marks)
+    → Held old new (OperatesIn (IsBurialMark key) most old new × HasBurial key call (own_part new 0) new.marks)
 begun_held {S} {V} m key call most old new next has kept by round = by_case (begins_burial m key old new was by)
   where
     was : IsOrdered old (asked.Collect key)
     was = is_ordered old (asked.Collect key) has
 
-    by_case : BeginsBurial m key old new → Held old new (OperatesIn (IsCollectingMark key) most old new × HasBurial key call (own_part new 0) new.marks)
+    by_case : BeginsBurial m key old new → Held old new (OperatesIn (IsBurialMark key) most old new × HasBurial key call (own_part new 0) new.marks)
     by_case (refuses leaves said order answers) = absurd (cc (sym (was.no_call round.of_round.caller (subst (λ (l : List CallerView). IsAt l 0 round.of_round.caller) leaves.callers round.of_round.at_caller)) ∙ round.of_round.is_call))
     by_case (begins caller at_old middle b council is at none_asked) =
         let there = next_at old 0 call next in
@@ -214,6 +220,10 @@ refused_burial {S} {V} m key call old new told kept has by (is_told said is undo
         let same_call : b.next ≡ was.call = some_is (ap (λ (c : CallerView). c.call) (at_one new.callers 0 at_next was.at_caller) ∙ was.is_open) in
         collecting_.begun said is (fresh (no_call_at old kept ordered.no_call)) undone was (told_call new call key said was (ap (λ (c : CallView). c.key) (sym same_call) ∙ b.key_is) is_it)
 
+-- what it was told is no conflict where its call says none
+no_conflict_where : {S V : Type 0} (view : View S V) (call : ℕ) (said : Answer) → WasTold view 0 call said → (caller : CallerView) (one : CallView) → IsAt view.callers 0 caller → caller.call ≡ Some one → told_conflict one.told ≡ false → is_conflict said ≡ false
+no_conflict_where view call said was caller one at is unmet = ap told_conflict (sym (told_in view 0 call said was caller one at is)) ∙ unmet
+
 -- the call that was begun is told something at once
 reaches_begun : {S V : Type 0} (key : List ℕ) (call most : ℕ) (old middle mid : View S V) (caller : CallerView) (council : Council) (said : Answer) → suc caller.number ≡ call → (b : CallBegins 0 0 old middle (suc caller.number) key keep_always) → mid ≡ record middle { council = council } → WasTold mid 0 call said → Reaches key call most old mid
 reaches_begun {S} {V} key call most old middle mid caller council said number b is was =
@@ -233,14 +243,14 @@ reaches_begun {S} {V} key call most old middle mid caller council said number b 
     }
 
 pub refusal_held : {S V : Type 0} (m : Meaning S V) (key : List ℕ) (call most : ℕ) (old mid new : View S V) (told : OpAnswer) → option_map next_number (slice_get old.callers 0) ≡ Some call → HasOrder (asked.Collect key) (own_part old 0) → IsKept old → StepBeginCollect m (λ before after. StepBegin m before 0 key keep_always after) old key mid → CollectsNot old mid call key told → TellsRefusal m mid told new
-    → Held old new (IsToldIn (asked.Collect key) (IsCollectingMark key) most old new told × IsCollectAnswer key told)
+    → Held old new (IsToldIn (asked.Collect key) (IsBurialMark key) most old new told × IsCollectAnswer key told)
 refusal_held {S} {V} m key call most old mid new told next has kept by not ends = by_case not (begins_burial m key old mid was by)
   where
     was : IsOrdered old (asked.Collect key)
     was = is_ordered old (asked.Collect key) has
 
     Answered : Type 0
-    Answered = Held old new (IsToldIn (asked.Collect key) (IsCollectingMark key) most old new told × IsCollectAnswer key told)
+    Answered = Held old new (IsToldIn (asked.Collect key) (IsBurialMark key) most old new told × IsCollectAnswer key told)
 
     tell_held : leaves_no_call told ≡ true → TellsRefusal m mid told new → StepTell mid told new
     tell_held leaves (collecting_.tells is_yes tells) = tells
@@ -250,7 +260,7 @@ refusal_held {S} {V} m key call most old mid new told next has kept by not ends 
     stop_held is_no said is (collecting_.tells is_yes tells) = absurd (cc (is_yes, is_no))
     stop_held is_no said is (collecting_.stops other is_other leaves stops) = let same : other ≡ said = cc (sym is_other ∙ is) in subst (λ (a : Answer). Stops m mid a new) same stops
 
-    by_case : CollectsNot old mid call key told → BeginsBurial m key old mid → Held old new (IsToldIn (asked.Collect key) (IsCollectingMark key) most old new told × IsCollectAnswer key told)
+    by_case : CollectsNot old mid call key told → BeginsBurial m key old mid → Held old new (IsToldIn (asked.Collect key) (IsBurialMark key) most old new told × IsCollectAnswer key told)
     by_case (is_refused none_old none_new said leaves) (refuses left what order answers) = stopped_held key most old mid new told (record { leaves = left; said = what; order = order; answers = answers }) said (tell_held leaves ends) kept was.no_call
     by_case (is_refused none_old none_new said leaves) (begins caller at_old middle b council is at none_asked) =
         absurd (cc (sym none_new.none_open ∙ ap (λ (c : CallerView). c.call) (at_one mid.callers 0 none_new.at_caller (subst (λ (w : View S V). IsAt w.callers 0 (record { number = suc caller.number; call = Some b.next })) (sym is) b.at_next))))
@@ -258,8 +268,9 @@ refusal_held {S} {V} m key call most old mid new told next has kept by not ends 
     by_case (is_told said is undone fresh told_ of_it) (begins caller at_old middle b council same at none_asked) =
         let there = next_at old 0 call next in
         let number : suc caller.number ≡ call = ap (λ (c : CallerView). suc c.number) (at_one old.callers 0 at_old there.at_caller) ∙ there.number in
-        subst (λ (a : OpAnswer). Held old new (IsToldIn (asked.Collect key) (IsCollectingMark key) most old new a × IsCollectAnswer key a)) (sym is)
-        (stops_held m key call most old mid new said (reaches_begun key call most old middle mid caller council said number b same told_)
+        subst (λ (a : OpAnswer). Held old new (IsToldIn (asked.Collect key) (IsBurialMark key) most old new a × IsCollectAnswer key a)) (sym is)
+        (stops_held (IsBurialMark key) m key call most old mid new said (λ mark such. such) (no_conflict_where mid call said told_ (record { number = suc caller.number; call = Some b.next }) b.next (subst (λ (w : View S V). IsAt w.callers 0 (record { number = suc caller.number; call = Some b.next })) (sym same) b.at_next) refl b.unmet)
+        (reaches_begun key call most old middle mid caller council said number b same told_)
         (λ order is_order. ap (λ (o : OrderView). o.asked) (some_is (sym is_order ∙ ap (λ (w : View S V). w.council.order) same ∙ at.order))) undone kept (stop_held (fresh (no_call_at old kept was.no_call)) said is ends))
 
 -- ---- another round of it
@@ -280,7 +291,7 @@ again_begins {S} {V} m key call old new was by = by_case by.begins
     by_case (collect.goes_on middle one is_it open_ begun is) = (middle, begun, _, is, λ same. (new_at key middle.council by.may.order is_it.at.collection by.may.is_for (ap (λ (c : Council). c.plan) same ∙ was.at.none_planned) is_it.is_due is_it.same_key is_it.calling, ap (λ (c : Council). c.exchange) same ∙ was.none_asked))
 
 pub again_held : {S V : Type 0} (m : Meaning S V) (key : List ℕ) (call most : ℕ) (old new : View S V) → HasBurial key call (own_part old 0) old.marks → IsKept old → StepBeginCollect m (λ before after. StepBegin m before 0 key keep_always after) old key new → HasCollected new call key
-    → Held old new (OperatesIn (IsCollectingMark key) most old new × HasBurial key call (own_part new 0) new.marks)
+    → Held old new (OperatesIn (IsBurialMark key) most old new × HasBurial key call (own_part new 0) new.marks)
 again_held {S} {V} m key call most old new has kept by round =
     let was = is_burying old key call old.marks has in
     let keeping = is_keeping old key call was has.wanted kept in
@@ -293,7 +304,7 @@ again_held {S} {V} m key call most old new has kept by round =
 
 -- where no round of it begins, its call was told why
 pub again_stops : {S V : Type 0} (m : Meaning S V) (key : List ℕ) (call most : ℕ) (old mid new : View S V) (said : Answer) → HasBurial key call (own_part old 0) old.marks → IsKept old → StepBeginCollect m (λ before after. StepBegin m before 0 key keep_always after) old key mid → WasTold mid 0 call said → is_done said ≡ false → Stops m mid said new
-    → Held old new (IsToldIn (asked.Collect key) (IsCollectingMark key) most old new (op.Stopped said) × IsCollectAnswer key (op.Stopped said))
+    → Held old new (IsToldIn (asked.Collect key) (IsBurialMark key) most old new (op.Stopped said) × IsCollectAnswer key (op.Stopped said))
 again_stops {S} {V} m key call most old mid new said has kept by told undone ends =
     let was = is_burying old key call old.marks has in
     let parts = again_begins m key call old mid was by in
@@ -302,7 +313,7 @@ again_stops {S} {V} m key call most old mid new said has kept by told undone end
     let at_middle : IsAt parts.0.callers 0 told.caller = subst (λ (l : List CallerView). IsAt l 0 told.caller) (ap (λ (w : View S V). w.callers) is) told.at_caller in
     let over = over_where_told 0 most old parts.0 was.caller (calls.tried_again was.open_call again.reserved) call said again.round (record { caller = told.caller; at_caller = at_middle; same_number = told.same_number; call = told.call; is_open = told.is_open; told = told.told }) in
     let reaches = reaches_over key call most old parts.0 was.caller (calls.tried_again was.open_call again.reserved) was.number over in
-    stops_held m key call most old mid new said (record {
+    stops_held (IsBurialMark key) m key call most old mid new said (λ mark such. such) (no_conflict_where mid call said told (record was.caller { call = Some again.round.goes.next }) again.round.goes.next (subst (λ (w : View S V). IsAt w.callers 0 (record was.caller { call = Some again.round.goes.next })) (sym is) again.round.goes.at_next) refl again.unmet) (record {
       marks = reaches.marks;
       leads = leads_council old parts.0 mid reaches.marks parts.2 reaches.leads is;
       only = reaches.only;
@@ -319,7 +330,7 @@ same_council : {S V : Type 0} (old mid : View S V) → mid.council ≡ old.counc
 same_council {S} {V} old mid same = ap (λ (c : Council). record mid { council = c }) same
 
 pub turn_held : {S V : Type 0} (m : Meaning S V) (key : List ℕ) (call : ℕ) (v : Verdict) (old new : View S V) → HasBurial key call (own_part old 0) old.marks → IsKept old → ((desk : DeskView V) → IsAt old.desks 0 desk → IsSome desk.round) → StepTurn m old 0 v new
-    → Held old new (OperatesIn (IsCollectingMark key) (harm_by v) old new × HasBurial key call (own_part new 0) new.marks)
+    → Held old new (OperatesIn (IsBurialMark key) (harm_by v) old new × HasBurial key call (own_part new 0) new.marks)
 turn_held {S} {V} m key call v old new has kept was by =
     let is = is_burying old key call old.marks has in
     let same : by.of_call.caller ≡ is.caller = at_one old.callers 0 by.of_call.at_caller is.at_caller in
@@ -354,36 +365,43 @@ stops_by {S} {V} m old mid new told said same by tells = (mid, by, subst (λ (a 
 
 -- its phases end
 -- where the operator's collection stays
-burial_over : {S V : Type 0} (m : Meaning S V) (key : List ℕ) (call most : ℕ) (old mid new : View S V) (said : Answer) (caller : CallerView) (one : CallView) → HasBurial key call (own_part old 0) old.marks → IsAt old.callers 0 caller → CallIsOver 0 most old mid caller one → IsKept old → is_done said ≡ false → Stops m mid said new
-    → Held old new (IsToldIn (asked.Collect key) (IsCollectingMark key) most old new (op.Stopped said) × IsCollectAnswer key (op.Stopped said))
-burial_over m key call most old mid new said caller one has at over kept undone ends =
+burial_over : {S V : Type 0} (such : Mark → Type 0) (m : Meaning S V) (key : List ℕ) (call most : ℕ) (old mid new : View S V) (said : Answer) (caller : CallerView) (one : CallView) → ((mark : Mark) → IsBurialMark key mark → such mark) → such (kinds.Ended 0 call (rounds_in (own_part mid 0)) said) → HasBurial key call (own_part old 0) old.marks → IsAt old.callers 0 caller → CallIsOver 0 most old mid caller one → IsKept old → is_done said ≡ false → Stops m mid said new
+    → Held old new (IsToldIn (asked.Collect key) such most old new (op.Stopped said) × IsCollectAnswer key (op.Stopped said))
+burial_over such m key call most old mid new said caller one weaker last has at over kept undone ends =
     let is = is_burying old key call old.marks has in
-    stops_held m key call most old mid new said (reaches_over key call most old mid caller one (ap (λ (c : CallerView). c.number) (at_one old.callers 0 at is.at_caller) ∙ is.number) over) (asks_there key old mid call is over.goes.acts.council) undone kept ends
+    stops_held such m key call most old mid new said weaker last (reaches_over key call most old mid caller one (ap (λ (c : CallerView). c.number) (at_one old.callers 0 at is.at_caller) ∙ is.number) over) (asks_there key old mid call is over.goes.acts.council) undone kept ends
 
-pub turn_stops : {S V : Type 0} (m : Meaning S V) (key : List ℕ) (call most : ℕ) (old mid new : View S V) (said : Answer) → HasBurial key call (own_part old 0) old.marks → IsKept old → StepRefuseTurn m old 0 mid → WasTold mid 0 call said → is_done said ≡ false → Stops m mid said new
-    → Held old new (IsToldIn (asked.Collect key) (IsCollectingMark key) most old new (op.Stopped said) × IsCollectAnswer key (op.Stopped said))
-turn_stops m key call most old mid new said has kept by was undone ends =
-    burial_over m key call most old mid new said by.of_call.caller by.of_call.call has by.of_call.at_caller (over_where_told 0 most old mid by.of_call.caller by.of_call.call call said (refused_turn_goes_on m 0 most old mid by) was) kept undone ends
+pub turn_stops : {S V : Type 0} (m : Meaning S V) (key : List ℕ) (call most : ℕ) (old mid new : View S V) (said : Answer) → HasBurial key call (own_part old 0) old.marks → IsKept old → StepRefuseTurn m old 0 mid → WasTold mid 0 call said → is_done said ≡ false → is_conflict said ≡ false → Stops m mid said new
+    → Held old new (IsToldIn (asked.Collect key) (IsBurialMark key) most old new (op.Stopped said) × IsCollectAnswer key (op.Stopped said))
+turn_stops m key call most old mid new said has kept by was undone no_conflict ends =
+    burial_over (IsBurialMark key) m key call most old mid new said by.of_call.caller by.of_call.call (λ mark such. such) no_conflict has by.of_call.at_caller (over_where_told 0 most old mid by.of_call.caller by.of_call.call call said (refused_turn_goes_on m 0 most old mid by) was) kept undone ends
 
-pub propose_stops : {S V : Type 0} (m : Meaning S V) (key : List ℕ) (call most : ℕ) (old mid new : View S V) (said : Answer) → HasBurial key call (own_part old 0) old.marks → IsKept old → StepPropose m old 0 mid → WasTold mid 0 call said → is_done said ≡ false → Stops m mid said new
-    → Held old new (IsToldIn (asked.Collect key) (IsCollectingMark key) most old new (op.Stopped said) × IsCollectAnswer key (op.Stopped said))
-propose_stops m key call most old mid new said has kept by was undone ends =
-    burial_over m key call most old mid new said by.at_round.of_call.caller by.at_round.of_call.call has by.at_round.of_call.at_caller (over_where_told 0 most old mid by.at_round.of_call.caller by.at_round.of_call.call call said (propose_goes_on m 0 most old mid by) was) kept undone ends
+-- a turn, or the end of a phase, leaves it the rounds that it had
+same_rounds : {S V : Type 0} (most : ℕ) (old new : View S V) (caller : CallerView) (one : CallView) → IsAt old.callers 0 caller → caller.call ≡ Some one → (goes : CallGoesOn 0 most old new caller one) → rounds_in (own_part new 0) ≡ rounds_in (own_part old 0)
+same_rounds most old new caller one at is goes = rounds_part new 0 (record caller { call = Some goes.next }) goes.next goes.at_next refl ∙ goes.rounds ∙ sym (rounds_part old 0 caller one at is)
 
-pub count_stops : {S V : Type 0} (m : Meaning S V) (key : List ℕ) (call most : ℕ) (old mid new : View S V) (said : Answer) → HasBurial key call (own_part old 0) old.marks → IsKept old → StepCount m old 0 mid → is_done said ≡ false → Stops m mid said new
-    → Held old new (IsToldIn (asked.Collect key) (IsCollectingMark key) most old new (op.Stopped said) × IsCollectAnswer key (op.Stopped said))
-count_stops m key call most old mid new said has kept by undone ends =
-    burial_over m key call most old mid new said by.at_round.of_call.caller by.at_round.of_call.call has by.at_round.of_call.at_caller (count_is_over m 0 most old mid by) kept undone ends
+propose_rounds : {S V : Type 0} (m : Meaning S V) (old new : View S V) → StepPropose m old 0 new → rounds_in (own_part new 0) ≡ rounds_in (own_part old 0)
+propose_rounds m old new by = same_rounds 0 old new by.at_round.of_call.caller by.at_round.of_call.call by.at_round.of_call.at_caller by.at_round.of_call.is_open (propose_goes_on m 0 0 old new by).goes
 
-pub closed_stops : {S V : Type 0} (m : Meaning S V) (key : List ℕ) (call most : ℕ) (old new : View S V) (said : Answer) → HasBurial key call (own_part old 0) old.marks → IsKept old → is_done said ≡ false → Stops m old said new
-    → Held old new (IsToldIn (asked.Collect key) (IsCollectingMark key) most old new (op.Stopped said) × IsCollectAnswer key (op.Stopped said))
-closed_stops m key call most old new said has kept undone ends =
+pub propose_stops : {S V : Type 0} (tries : ℕ) (m : Meaning S V) (key : List ℕ) (call most : ℕ) (old mid new : View S V) (said : Answer) → (is_conflict said ≡ true → rounds_in (own_part old 0) ≡ tries) → HasBurial key call (own_part old 0) old.marks → IsKept old → StepPropose m old 0 mid → WasTold mid 0 call said → is_done said ≡ false → Stops m mid said new
+    → Held old new (IsToldIn (asked.Collect key) (IsCollectingMark key tries) most old new (op.Stopped said) × IsCollectAnswer key (op.Stopped said))
+propose_stops tries m key call most old mid new said spent has kept by was undone ends =
+    burial_over (IsCollectingMark key tries) m key call most old mid new said by.at_round.of_call.caller by.at_round.of_call.call (burial_within key tries) (λ conflict. propose_rounds m old mid by ∙ spent conflict) has by.at_round.of_call.at_caller (over_where_told 0 most old mid by.at_round.of_call.caller by.at_round.of_call.call call said (propose_goes_on m 0 most old mid by) was) kept undone ends
+
+pub count_stops : {S V : Type 0} (m : Meaning S V) (key : List ℕ) (call most : ℕ) (old mid new : View S V) (said : Answer) → HasBurial key call (own_part old 0) old.marks → IsKept old → StepCount m old 0 mid → WasTold mid 0 call said → is_done said ≡ false → Stops m mid said new
+    → Held old new (IsToldIn (asked.Collect key) (IsBurialMark key) most old new (op.Stopped said) × IsCollectAnswer key (op.Stopped said))
+count_stops m key call most old mid new said has kept by was undone ends =
+    burial_over (IsBurialMark key) m key call most old mid new said by.at_round.of_call.caller by.at_round.of_call.call (λ mark such. such) (no_conflict_where mid call said was was.caller was.call was.at_caller was.is_open (count_unmet m 0 old mid by was.caller was.call was.at_caller was.is_open)) has by.at_round.of_call.at_caller (count_is_over m 0 most old mid by) kept undone ends
+
+pub closed_stops : {S V : Type 0} (m : Meaning S V) (key : List ℕ) (call most : ℕ) (old new : View S V) (said : Answer) → HasBurial key call (own_part old 0) old.marks → IsKept old → is_done said ≡ false → is_conflict said ≡ false → Stops m old said new
+    → Held old new (IsToldIn (asked.Collect key) (IsBurialMark key) most old new (op.Stopped said) × IsCollectAnswer key (op.Stopped said))
+closed_stops m key call most old new said has kept undone no_conflict ends =
     let is = is_burying old key call old.marks has in
-    burial_over m key call most old old new said is.caller is.open_call has is.at_caller (over_at_once 0 most old is.caller is.open_call is.at_caller is.is_open) kept undone ends
+    burial_over (IsBurialMark key) m key call most old old new said is.caller is.open_call (λ mark such. such) no_conflict has is.at_caller (over_at_once 0 most old is.caller is.open_call is.at_caller is.is_open) kept undone ends
 
 -- the tombstone is proposed, or another round may follow a conflict
 pub proposed_held : {S V : Type 0} (m : Meaning S V) (key : List ℕ) (call most : ℕ) (old new : View S V) → HasBurial key call (own_part old 0) old.marks → IsKept old → HasProposed new 0 → StepPropose m old 0 new
-    → Held old new (OperatesIn (IsCollectingMark key) most old new × HasBurial key call (own_part new 0) new.marks)
+    → Held old new (OperatesIn (IsBurialMark key) most old new × HasBurial key call (own_part new 0) new.marks)
 proposed_held {S} {V} m key call most old new has kept proposed by =
     let is = is_burying old key call old.marks has in
     let at = by.at_round.of_call in
@@ -396,7 +414,7 @@ proposed_held {S} {V} m key call most old new has kept proposed by =
     (λ desk at_desk. let some = proposed_running new 0 proposed desk at_desk in running some (goes.told desk at_desk some runs.unmet) (goes.closed runs.unclosed)) kept
 
 pub met_held : {S V : Type 0} (m : Meaning S V) (key : List ℕ) (call most : ℕ) (old new : View S V) (said : Answer) → HasBurial key call (own_part old 0) old.marks → IsKept old → ((caller : CallerView) → IsAt old.callers 0 caller → IfSome caller.call (λ one. one.proposed ≡ None)) → WasTold new 0 call said → is_conflict said ≡ true → StepPropose m old 0 new
-    → Held old new (OperatesIn (IsCollectingMark key) most old new × HasBurial key call (own_part new 0) new.marks)
+    → Held old new (OperatesIn (IsBurialMark key) most old new × HasBurial key call (own_part new 0) new.marks)
 met_held {S} {V} m key call most old new said has kept unproposed was conflict by =
     let is = is_burying old key call old.marks has in
     let at = by.at_round.of_call in
@@ -535,3 +553,60 @@ done_calling {S} {V} m old new key call said has kept by was =
       calling = same.1 ∙ calling;
       same_key = ap (λ o. o.key) same.0 ∙ key_;
     }
+
+-- ---- its rounds
+pub keeps_within : (tries rounds : ℕ) (own now : List ℕ) → rounds_in now ≡ rounds_in own → (is_met_in now ≡ true → rounds < tries) → IsWithin tries rounds own → IsWithin tries rounds now
+keeps_within tries rounds own now same more w = record { counted = same ∙ w.counted; some = w.some; within = w.within; more = more }
+
+pub begun_within : {S V : Type 0} (m : Meaning S V) (key : List ℕ) (call tries : ℕ) (old new : View S V) → HasOrder (asked.Collect key) (own_part old 0) → StepBeginCollect m (λ before after. StepBegin m before 0 key keep_always after) old key new → HasCollected new call key → 1 ≤ tries → IsWithin tries 1 (own_part new 0)
+begun_within {S} {V} m key call tries old new has by round some = by_case (begins_burial m key old new was by)
+  where
+    was : IsOrdered old (asked.Collect key)
+    was = is_ordered old (asked.Collect key) has
+
+    by_case : BeginsBurial m key old new → IsWithin tries 1 (own_part new 0)
+    by_case (refuses leaves said order answers) = absurd (cc (sym (was.no_call round.of_round.caller (subst (λ (l : List CallerView). IsAt l 0 round.of_round.caller) leaves.callers round.of_round.at_caller)) ∙ round.of_round.is_call))
+    by_case (begins caller at_old middle b council is at none_asked) =
+        let now : CallerView = record { number = suc caller.number; call = Some b.next } in
+        let at_next : IsAt new.callers 0 now = subst (λ (w : View S V). IsAt w.callers 0 now) (sym is) b.at_next in
+        let unmet : is_met_in (own_part new 0) ≡ false = met_part new 0 now b.next at_next refl ∙ b.unmet in
+        record { counted = rounds_part new 0 now b.next at_next refl ∙ b.rounds_is; some = omega arith; within = some; more = λ met. absurd (cc (unmet, met)) }
+
+one_more_some : (n : ℕ) → 1 ≤ one_more n
+one_more_some n = omega arith
+
+pub again_within : {S V : Type 0} (m : Meaning S V) (key : List ℕ) (call tries rounds now : ℕ) (old new : View S V) → HasBurial key call (own_part old 0) old.marks → StepBeginCollect m (λ before after. StepBegin m before 0 key keep_always after) old key new → now ≡ one_more rounds → IsWithin tries rounds (own_part old 0) → IsWithin tries now (own_part new 0)
+again_within {S} {V} m key call tries rounds now old new has by is_now w =
+    let was = is_burying old key call old.marks has in
+    let parts = again_begins m key call old new was by in
+    let again = again_goes_on m 0 0 key keep_always old parts.0 was.caller was.open_call was.at_caller was.is_open parts.1 in
+    let goes = again.round.goes in
+    let next : CallerView = record was.caller { call = Some goes.next } in
+    let at_next : IsAt new.callers 0 next = subst (λ (v : View S V). IsAt v.callers 0 next) (sym parts.3) goes.at_next in
+    let had : was.open_call.rounds ≡ rounds = sym (rounds_part old 0 was.caller was.open_call was.at_caller was.is_open) ∙ w.counted in
+    let met : is_met_in (own_part old 0) ≡ true = met_part old 0 was.caller was.open_call was.at_caller was.is_open ∙ met_told was.open_call.told again.met in
+    let unmet : is_met_in (own_part new 0) ≡ false = met_part new 0 next goes.next at_next refl ∙ again.unmet in
+    let low : rounds < tries = w.more met in
+    let few : one_more rounds ≤ rounds + 1 = min-le_left (rounds + 1) (2 ^ 32 - 1) in
+    let many : 1 ≤ one_more rounds = one_more_some rounds in
+    record {
+      counted = rounds_part new 0 next goes.next at_next refl ∙ goes.rounds ∙ ap one_more had ∙ sym is_now;
+      some = omega (arith, is_now, many);
+      within = omega (arith, is_now, few, low);
+      more = λ now_met. absurd (cc (unmet, now_met));
+    }
+
+pub turn_within : {S V : Type 0} (m : Meaning S V) (key : List ℕ) (call tries rounds : ℕ) (v : Verdict) (old new : View S V) → HasBurial key call (own_part old 0) old.marks → IsKept old → ((desk : DeskView V) → IsAt old.desks 0 desk → IsSome desk.round) → StepTurn m old 0 v new → IsWithin tries rounds (own_part old 0) → IsWithin tries rounds (own_part new 0)
+turn_within {S} {V} m key call tries rounds v old new has kept was by w =
+    let held = turn_held m key call v old new has kept was by in
+    let unmet = unmet_there new 0 call (burial_open key call (own_part new 0) new.marks held.does.1) held.kept (turn_running m 0 v old new was by) in
+    keeps_within tries rounds (own_part old 0) (own_part new 0) (same_rounds (harm_by v) old new by.of_call.caller by.of_call.call by.of_call.at_caller by.of_call.is_open (turn_goes_on m 0 v old new by)) (λ met. absurd (cc (unmet, met))) w
+
+pub proposed_within : {S V : Type 0} (m : Meaning S V) (key : List ℕ) (call tries rounds : ℕ) (old new : View S V) → HasBurial key call (own_part old 0) old.marks → IsKept old → HasProposed new 0 → StepPropose m old 0 new → IsWithin tries rounds (own_part old 0) → IsWithin tries rounds (own_part new 0)
+proposed_within m key call tries rounds old new has kept proposed by w =
+    let held = proposed_held m key call 0 old new has kept proposed by in
+    let unmet = unmet_there new 0 call (burial_open key call (own_part new 0) new.marks held.does.1) held.kept (proposed_running new 0 proposed) in
+    keeps_within tries rounds (own_part old 0) (own_part new 0) (propose_rounds m old new by) (λ met. absurd (cc (unmet, met))) w
+
+pub met_within : {S V : Type 0} (m : Meaning S V) (tries rounds : ℕ) (old new : View S V) → StepPropose m old 0 new → rounds < tries → IsWithin tries rounds (own_part old 0) → IsWithin tries rounds (own_part new 0)
+met_within m tries rounds old new by low w = keeps_within tries rounds (own_part old 0) (own_part new 0) (propose_rounds m old new by) (λ met. low) w

@@ -20,7 +20,7 @@ use Rattle.cas_cluster.specs.View.{Meaning, View, CallView, CallerView, IsAt}
 use Rattle.cas_cluster.proofs.Places.{at_one, at_set, some_is}
 use Rattle.cas_turn.specs.Seen.{OnlyOwnedBy}
 use Rattle.cas_world.specs.Collect.{CountsTombstone}
-use Rattle.cas_hold.specs.Collecting.{CollectsAt, HasBurial, HasStep, IsCollectingMark}
+use Rattle.cas_hold.specs.Collecting.{CollectsAt, HasBurial, HasStep, IsBurialMark}
 use Rattle.cas_hold.specs.Kept.{IsKept}
 use Rattle.cas_hold.specs.Orders.{new_order, OperatesIn}
 use Rattle.cas_hold.specs.Owners.{owner_of}
@@ -30,6 +30,7 @@ use Rattle.cas_hold.proofs.Burials.{Leads, leads_council, leads_then, makes_led,
 use Rattle.cas_hold.proofs.Collecting.{is_burying, has_step}
 use Rattle.cas_hold.proofs.Events.{count_is_over}
 use Rattle.cas_hold.proofs.Holds.{Held}
+use Rattle.cas_hold.proofs.Tries.{done_no_conflict}
 
 -- it is known then what became of it
 over_at : (key : List ℕ) (council : Council) (order : OrderView) (c : CollectionView) → order ≡ new_order (asked.Collect key) → council.plan ≡ None → c.course.step ≡ step.Round → c.course.key ≡ key → c.calling ≡ false → is_sought c.tombstone ≡ false
@@ -44,7 +45,7 @@ over_at key council order c asks none due same over known = record {
   round_is = ap (λ (b : Bool). if b then 0 else if is_sought c.tombstone then 1 else 2) over ∙ ap (λ (b : Bool). if b then 1 else 2) known;
 }
 
-pub read_held : {S V : Type 0} (m : Meaning S V) (key : List ℕ) (call most : ℕ) (old new : View S V) → HasBurial key call (own_part old 0) old.marks → IsKept old → StepReadHeld m old new → Held old new (OperatesIn (IsCollectingMark key) most old new × HasStep key step.Round (own_part new 0))
+pub read_held : {S V : Type 0} (m : Meaning S V) (key : List ℕ) (call most : ℕ) (old new : View S V) → HasBurial key call (own_part old 0) old.marks → IsKept old → StepReadHeld m old new → Held old new (OperatesIn (IsBurialMark key) most old new × HasStep key step.Round (own_part new 0))
 read_held {S} {V} m key call most old new has kept by =
     let is = is_burying old key call old.marks has in
     let next : CallerView = record by.of_call.caller { call = None } in
@@ -61,7 +62,7 @@ read_held {S} {V} m key call most old new has kept by =
     let at : CollectsAt key step.Round 2 _ = over_at key old.council by.is.at.order (record (called by.is.at.collection) { tombstone = cluster.FoundHeld by.version }) (some_is (sym by.is.at.is_open ∙ is.at.order)) is.at.none_planned by.is.is_due (ap (λ (c : CollectionView). c.course.key) same ∙ is.at.same_key) refl refl in
     record {
       does = (
-        record { marks = []; makes = makes_led old new [] leads tt only; all_such = All-nil (IsCollectingMark key); few = omega arith },
+        record { marks = []; makes = makes_led old new [] leads tt only; all_such = All-nil (IsBurialMark key); few = omega arith },
         has_step new key step.Round (record { no_call = none; at = subst (λ (w : View S V). CollectsAt key step.Round 2 w.council) (sym by.view) at; none_asked = ap (λ (w : View S V). w.council.exchange) by.view ∙ is.none_asked }),
       );
       kept = kept_led old new [] leads only kept (none_kept new none);
@@ -130,7 +131,7 @@ none_rescanned key told old council none (calls.is_none not same) = same
 
 -- it is done, and its call ends
 pub done_held : {S V : Type 0} (m : Meaning S V) (key : List ℕ) (call most : ℕ) (old mid new : View S V) (told : Answer) → HasBurial key call (own_part old 0) old.marks → IsKept old → is_done told ≡ true → CountsTombstone m old told mid → StepEndCollect (λ before after. StepEnd m before 0 told after) mid told new
-    → Held old new (OperatesIn (IsCollectingMark key) most old new × HasStep key step.Round (own_part new 0))
+    → Held old new (OperatesIn (IsBurialMark key) most old new × HasStep key step.Round (own_part new 0))
 done_held {S} {V} m key call most old mid new told has kept done counts by =
     let is = is_burying old key call old.marks has in
     let c = counted_done m old mid told done counts in
@@ -160,7 +161,7 @@ done_held {S} {V} m key call most old mid new told has kept done counts by =
     let silent : new ≡ collect.collecting by.middle by.is.at.order None (called by.is.at.collection) = by.view ∙ ap (λ (o : _). collect.collecting by.middle by.is.at.order o (called by.is.at.collection)) (stopped_none told done) in
     record {
       does = (
-        record { marks = all; makes = makes_led old new all leads (reaches.may_end rounds told) only; all_such = such_ended key call rounds told reaches.marks reaches.such; few = few_ended call rounds most told reaches.marks reaches.few },
+        record { marks = all; makes = makes_led old new all leads (reaches.may_end rounds told) only; all_such = such_ended (IsBurialMark key) key call rounds told reaches.marks (λ mark such. such) (done_no_conflict told done) reaches.such; few = few_ended call rounds most told reaches.marks reaches.few },
         has_step new key step.Round (record { no_call = none; at = subst (λ (w : View S V). CollectsAt key step.Round 2 w.council) (sym silent) at_now; none_asked = ap (λ (w : View S V). w.council.exchange) silent ∙ ap (λ (k : Council). k.exchange) second ∙ ap (λ (w : View S V). w.council.exchange) c.view ∙ ap (λ (k : Council). k.exchange) first_council ∙ is.none_asked }),
       );
       kept = kept_led old new all leads only kept (none_kept new none);

@@ -1,7 +1,7 @@
 -- What a hold does for the call of a collection's round.
 use Rattle.std.proofs.Common.{◌≡◌, ◌≢◌, ◌≤◌, ℕ, zero, suc, ◌+◌, ◌==◌, Bool, true, false, if◌then◌else◌, List, [], ◌∷◌, ◌++◌, None, Some, slice_set, refl, sym, ap, ap₂, subst, ◌∙◌, append_assoc}
 use Rattle.std.specs.Prelude.{All}
-use Rattle.std.proofs.lemmas.List.Elements.{All-append, All-nil, All-cons, All-head, All-tail}
+use Rattle.std.proofs.lemmas.List.Elements.{All-append, All-nil, All-cons, All-head, All-tail, All-weaker}
 use Rattle.cas_change.specs.declared.program.Clause.{Clause}
 use Rattle.cas_collect.specs.declared.collect.CollectStep.TheVariants as step
 use Rattle.cas_proposer.specs.Desk.{DeskView}
@@ -20,9 +20,10 @@ use Rattle.cas_cluster.specs.StepCouncil.{told_marks}
 use Rattle.cas_cluster.specs.View.{Meaning, View, CallView, CallerView, IsAt}
 use Rattle.cas_cluster.proofs.Places.{at_one, at_set, some_is}
 use Rattle.cas_turn.specs.Seen.{OnlyOwnedBy}
-use Rattle.cas_hold.specs.Collecting.{CollectsAt, HasBurial, IsCollectingMark, IsCollectAnswer, Stops}
+use Rattle.cas_hold.specs.Collecting.{CollectsAt, HasBurial, IsBurialMark, IsCollectAnswer, Stops}
 use Rattle.cas_hold.specs.Kept.{IsStaged, IsKept, Makes}
 use Rattle.cas_hold.specs.Mine.{mine, call_of, losses, Wanted, wants, wanted_after, wanted_by}
+use Rattle.cas_hold.specs.Open.{rounds_in}
 use Rattle.cas_hold.specs.Orders.{OperatesIn, IsToldIn}
 use Rattle.cas_hold.specs.Owners.{owner_of, is_answer, MayFollow, MayAdd}
 use Rattle.cas_hold.specs.OwnParts.{own_part}
@@ -33,6 +34,7 @@ use Rattle.cas_hold.proofs.Events.{CallGoesOn, CallIsOver}
 use Rattle.cas_hold.proofs.Fronts.{mine_append, mine_own, wanted_append}
 use Rattle.cas_hold.proofs.Holds.{Held}
 use Rattle.cas_hold.proofs.Operating.{Leaves, tells_of, told_only}
+use Rattle.cas_hold.proofs.Parts.{rounds_part}
 
 -- ---- marks
 -- once caller 0 asked for something, it has asked for it
@@ -53,21 +55,26 @@ asked_once w (kinds.Harmed caller call down ∷ l) e = asked_once w l e
 asked_once w (kinds.Told asks told ∷ l) e = asked_once w l e
 
 -- such a mark stands in front of others, where it is caller 0's
-such_if : (key : List ℕ) (call : ℕ) (b : Bool) (mark : Mark) (l : List Mark) → IsCollectingMark key mark → (All (λ m. call_of m ≡ Some call) l → All (IsCollectingMark key) l) → All (λ m. call_of m ≡ Some call) (if b then mark ∷ l else l) → All (IsCollectingMark key) (if b then mark ∷ l else l)
-such_if key call true mark l such rest of_ = All-cons (IsCollectingMark key) mark l such (rest (All-tail (λ m. call_of m ≡ Some call) mark l of_))
+such_if : (key : List ℕ) (call : ℕ) (b : Bool) (mark : Mark) (l : List Mark) → IsBurialMark key mark → (All (λ m. call_of m ≡ Some call) l → All (IsBurialMark key) l) → All (λ m. call_of m ≡ Some call) (if b then mark ∷ l else l) → All (IsBurialMark key) (if b then mark ∷ l else l)
+such_if key call true mark l such rest of_ = All-cons (IsBurialMark key) mark l such (rest (All-tail (λ m. call_of m ≡ Some call) mark l of_))
 such_if key call false mark l such rest of_ = rest of_
 
 -- the marks of a call that begin none are such marks
-pub such_marks : (key : List ℕ) (call : ℕ) (l : List Mark) → All (λ mark. call_of mark ≡ Some call) (mine 0 l) → wanted_after 0 None l ≡ None → All (IsCollectingMark key) (mine 0 l)
-such_marks key call [] of_call none = All-nil (IsCollectingMark key)
+pub such_marks : (key : List ℕ) (call : ℕ) (l : List Mark) → All (λ mark. call_of mark ≡ Some call) (mine 0 l) → wanted_after 0 None l ≡ None → All (IsBurialMark key) (mine 0 l)
+such_marks key call [] of_call none = All-nil (IsBurialMark key)
 such_marks key call (kinds.Begun caller number other program ∷ l) of_call none = by_test (caller == 0) (such_marks key call l) of_call none
   where
-    by_test : (b : Bool) → (All (λ mark. call_of mark ≡ Some call) (mine 0 l) → wanted_after 0 None l ≡ None → All (IsCollectingMark key) (mine 0 l)) → All (λ mark. call_of mark ≡ Some call) (if b then kinds.Begun caller number other program ∷ mine 0 l else mine 0 l)
-        → wanted_after 0 (if b then Some (wants number other program) else None) l ≡ None → All (IsCollectingMark key) (if b then kinds.Begun caller number other program ∷ mine 0 l else mine 0 l)
+    by_test : (b : Bool) → (All (λ mark. call_of mark ≡ Some call) (mine 0 l) → wanted_after 0 None l ≡ None → All (IsBurialMark key) (mine 0 l)) → All (λ mark. call_of mark ≡ Some call) (if b then kinds.Begun caller number other program ∷ mine 0 l else mine 0 l)
+        → wanted_after 0 (if b then Some (wants number other program) else None) l ≡ None → All (IsBurialMark key) (if b then kinds.Begun caller number other program ∷ mine 0 l else mine 0 l)
     by_test true rest of_ is = absurd (asked_once (wants number other program) l is)
     by_test false rest of_ is = rest of_ is
 such_marks key call (kinds.Proposed p ∷ l) of_call none = such_if key call (p.caller == 0) (kinds.Proposed p) (mine 0 l) tt (λ rest. such_marks key call l rest none) of_call
-such_marks key call (kinds.Ended caller number rounds told ∷ l) of_call none = such_if key call (caller == 0) (kinds.Ended caller number rounds told) (mine 0 l) tt (λ rest. such_marks key call l rest none) of_call
+such_marks key call (kinds.Ended caller number rounds told ∷ l) of_call none = by_test (caller == 0) (λ rest. such_marks key call l rest none) of_call
+  where
+    by_test : (b : Bool) → (All (λ mark. call_of mark ≡ Some call) (mine 0 l) → All (IsBurialMark key) (mine 0 l)) → All (λ mark. call_of mark ≡ Some call) (if b then kinds.Ended caller number rounds told ∷ mine 0 l else mine 0 l)
+        → All (IsBurialMark key) (if b then kinds.Ended caller number rounds told ∷ mine 0 l else mine 0 l)
+    by_test true rest of_ = absurd (cc (All-head (λ mark. call_of mark ≡ Some call) (kinds.Ended caller number rounds told) (mine 0 l) of_))
+    by_test false rest of_ = rest of_
 such_marks key call (kinds.Harmed caller number down ∷ l) of_call none = such_if key call (caller == 0) (kinds.Harmed caller number down) (mine 0 l) tt (λ rest. such_marks key call l rest none) of_call
 such_marks key call (kinds.Voted acceptor other ballot ∷ l) of_call none = such_marks key call l of_call none
 such_marks key call (kinds.Acked a ∷ l) of_call none = such_marks key call l of_call none
@@ -157,7 +164,7 @@ pub record Reaches {S V : Type 0} (key : List ℕ) (call most : ℕ) (old mid : 
   pub marks : List Mark
   pub leads : Leads old mid marks
   pub only : OnlyOwnedBy owner_of 0 marks
-  pub such : All (IsCollectingMark key) (mine 0 marks)
+  pub such : All (IsBurialMark key) (mine 0 marks)
   pub few : losses (mine 0 marks) ≤ most
   pub caller : CallerView
   pub at_caller : IsAt mid.callers 0 caller
@@ -187,10 +194,10 @@ ends_last {S} {V} m told old new by =
 pub only_ended : (number rounds : ℕ) (told : Answer) → OnlyOwnedBy owner_of 0 (kinds.Ended 0 number rounds told ∷ [])
 only_ended number rounds told = All-cons (λ i. (m : ℕ) → owner_of i ≡ Some m → m ≡ 0) (kinds.Ended 0 number rounds told) [] (λ m e. sym (some_is e)) (All-nil (λ i. (m : ℕ) → owner_of i ≡ Some m → m ≡ 0))
 
-pub such_ended : (key : List ℕ) (number rounds : ℕ) (told : Answer) (l : List Mark) → All (IsCollectingMark key) (mine 0 l) → All (IsCollectingMark key) (mine 0 (l ++ kinds.Ended 0 number rounds told ∷ []))
-such_ended key number rounds told l such =
-    subst (All (IsCollectingMark key)) (sym (mine_append 0 l (kinds.Ended 0 number rounds told ∷ []) ∙ ap (λ (k : List Mark). mine 0 l ++ k) (mine_own 0 (kinds.Ended 0 number rounds told) [] refl)))
-    (All-append (IsCollectingMark key) (mine 0 l) (kinds.Ended 0 number rounds told ∷ []) such (All-cons (IsCollectingMark key) (kinds.Ended 0 number rounds told) [] tt (All-nil (IsCollectingMark key))))
+pub such_ended : (such : Mark → Type 0) (key : List ℕ) (number rounds : ℕ) (told : Answer) (l : List Mark) → ((mark : Mark) → IsBurialMark key mark → such mark) → such (kinds.Ended 0 number rounds told) → All (IsBurialMark key) (mine 0 l) → All such (mine 0 (l ++ kinds.Ended 0 number rounds told ∷ []))
+such_ended such key number rounds told l weaker last all =
+    subst (All such) (sym (mine_append 0 l (kinds.Ended 0 number rounds told ∷ []) ∙ ap (λ (k : List Mark). mine 0 l ++ k) (mine_own 0 (kinds.Ended 0 number rounds told) [] refl)))
+    (All-append such (mine 0 l) (kinds.Ended 0 number rounds told ∷ []) (All-weaker (IsBurialMark key) such weaker (mine 0 l) all) (All-cons such (kinds.Ended 0 number rounds told) [] last (All-nil such)))
 
 losses_ended : (number rounds most : ℕ) (told : Answer) (l : List Mark) → losses l ≤ most → losses (l ++ kinds.Ended 0 number rounds told ∷ []) ≤ most
 losses_ended number rounds most told l few = subst (λ (k : ℕ). k ≤ most) (sym (same l)) few
@@ -213,9 +220,9 @@ few_ended number rounds most told l few =
     subst (λ (k : List Mark). losses k ≤ most) (sym (mine_append 0 l (kinds.Ended 0 number rounds told ∷ []) ∙ ap (λ (k : List Mark). mine 0 l ++ k) (mine_own 0 (kinds.Ended 0 number rounds told) [] refl))) (losses_ended number rounds most told (mine 0 l) few)
 
 -- it ends, and the operator is told that it stopped
-pub stops_held : {S V : Type 0} (m : Meaning S V) (key : List ℕ) (call most : ℕ) (old mid new : View S V) (told : Answer) → Reaches key call most old mid → ((order : OrderView) → mid.council.order ≡ Some order → order.asked ≡ asked.Collect key) → is_done told ≡ false → IsKept old → Stops m mid told new
-    → Held old new (IsToldIn (asked.Collect key) (IsCollectingMark key) most old new (op.Stopped told) × IsCollectAnswer key (op.Stopped told))
-stops_held {S} {V} m key call most old mid new told reaches asks undone kept (after, by, tells) =
+pub stops_held : {S V : Type 0} (such : Mark → Type 0) (m : Meaning S V) (key : List ℕ) (call most : ℕ) (old mid new : View S V) (told : Answer) → ((mark : Mark) → IsBurialMark key mark → such mark) → such (kinds.Ended 0 call (rounds_in (own_part mid 0)) told) → Reaches key call most old mid → ((order : OrderView) → mid.council.order ≡ Some order → order.asked ≡ asked.Collect key) → is_done told ≡ false → IsKept old → Stops m mid told new
+    → Held old new (IsToldIn (asked.Collect key) such most old new (op.Stopped told) × IsCollectAnswer key (op.Stopped told))
+stops_held {S} {V} such m key call most old mid new told weaker last reaches asks undone kept (after, by, tells) =
     let ends = ends_last m told mid by.middle by.ends in
     let rounds : ℕ = by.ends.of_call.call.rounds in
     let number : by.ends.of_call.caller.number ≡ call = ap (λ (c : CallerView). c.number) (at_one mid.callers 0 by.ends.of_call.at_caller reaches.at_caller) ∙ reaches.number in
@@ -233,7 +240,7 @@ stops_held {S} {V} m key call most old mid new told reaches asks undone kept (af
         record {
           marks = reaches.marks ++ ended;
           makes = makes_led old new all leads may only;
-          all_such = such_ended key call rounds told reaches.marks reaches.such;
+          all_such = such_ended such key call rounds told reaches.marks weaker (subst (λ (k : ℕ). such (kinds.Ended 0 call k told)) (rounds_part mid 0 by.ends.of_call.caller by.ends.of_call.call by.ends.of_call.at_caller by.ends.of_call.is_open) last) reaches.such;
           few = few_ended call rounds most told reaches.marks reaches.few;
           is_free = idle_free new (record { no_call = none; order = t.order; exchange = t.exchange; collection = t.collection });
         },
@@ -264,7 +271,7 @@ asks_there key old mid call was same order is = ap (λ (o : OrderView). o.asked)
 
 -- the call goes on with another state of it, and what the operator has under way is this
 pub burial_held : {S V : Type 0} (key : List ℕ) (call most : ℕ) (old mid new : View S V) (caller : CallerView) (was : CallView) (council : Council) → caller.number ≡ call → (goes : CallGoesOn 0 most old mid caller was) → new ≡ record mid { council = council } → CollectsAt key step.Round 0 council → council.exchange ≡ None
-    → IsKeeping was key → wanted_by 0 old.marks ≡ Some (wants call key keep_always) → ((desk : DeskView V) → IsAt mid.desks 0 desk → IsStaged desk goes.next) → IsKept old → Held old new (OperatesIn (IsCollectingMark key) most old new × HasBurial key call (own_part new 0) new.marks)
+    → IsKeeping was key → wanted_by 0 old.marks ≡ Some (wants call key keep_always) → ((desk : DeskView V) → IsAt mid.desks 0 desk → IsStaged desk goes.next) → IsKept old → Held old new (OperatesIn (IsBurialMark key) most old new × HasBurial key call (own_part new 0) new.marks)
 burial_held {S} {V} key call most old mid new caller was council number goes is at none_asked keeping wanted staged kept =
     let next : CallerView = record caller { call = Some goes.next } in
     let leads : Leads old new goes.marks = leads_council old mid new goes.marks council (leads_acts old mid goes.marks goes.acts) is in

@@ -279,6 +279,14 @@ propose_goes_on {S} {V} m n most old new by = in_phase by.at_round.of_call by.at
     in_phase at desk there round (calls.fails now fails same) = over at now answer.VaultFault (λ one at_one_ some. refl) same
     in_phase at desk there round (calls.loses now ballot loses same) = over at now (answer.NoMemory false) (λ one at_one_ some. refl) same
 
+-- a call that is set so was told no conflict
+set_unmet : {S V : Type 0} (n : ℕ) (old new : View S V) (caller : CallerView) (next : CallView) → IsAt old.callers n caller → new.callers ≡ slice_set old.callers n (record caller { call = Some next }) → told_conflict next.told ≡ false
+    → (one : CallerView) (call : CallView) → IsAt new.callers n one → one.call ≡ Some call → told_conflict call.told ≡ false
+set_unmet {S} {V} n old new caller next at callers unmet one call at_one_ is =
+    let at_next : IsAt new.callers n (record caller { call = Some next }) = subst (λ (l : List CallerView). IsAt l n (record caller { call = Some next })) (sym callers) (at_set old.callers n caller (record caller { call = Some next }) at) in
+    let same : next ≡ call = some_is (ap (λ (c : CallerView). c.call) (at_one new.callers n at_next at_one_) ∙ is) in
+    subst (λ (c : CallView). told_conflict c.told ≡ false) same unmet
+
 -- the end of its accept phase
 pub count_is_over : {S V : Type 0} (m : Meaning S V) (n most : ℕ) (old new : View S V) (by : StepCount m old n new) → CallIsOver n most old new by.at_round.of_call.caller by.at_round.of_call.call
 unfolding goes_on_set
@@ -297,6 +305,14 @@ count_is_over {S} {V} m n most old new by = in_phase by.at_round.of_call by.at_r
           goes = goes_on_set n most old new at.caller at.call (calls.over at.call (answer.Unsettled why)) [] at.at_caller (ap (λ (w : View S V). w.greatest) same) (desks_set n old new now (ap (λ (w : View S V). w.desks) same))
               (ap (λ (w : View S V). w.callers) same) (ap (λ (w : View S V). w.council) same) (ap (λ (w : View S V). w.marks) same ∙ sym (append-nil old.marks)) (fine_none n at.caller.number most) refl refl refl refl (λ desk_ at_desk some. refl);
         }
+
+-- which is told no conflict
+pub count_unmet : {S V : Type 0} (m : Meaning S V) (n : ℕ) (old new : View S V) → StepCount m old n new → (one : CallerView) (now : CallView) → IsAt new.callers n one → one.call ≡ Some now → told_conflict now.told ≡ false
+count_unmet {S} {V} m n old new by = in_phase by.at_round.of_call by.at_round.desk by.at_round.round by.counts
+  where
+    in_phase : (at : OpenCallAt old n) (desk : DeskView V) (round : Round) → calls.CountsOrEnds m old n desk round at.caller at.call new → (one : CallerView) (now : CallView) → IsAt new.callers n one → one.call ≡ Some now → told_conflict now.told ≡ false
+    in_phase at desk round (calls.counts now by_ outcome quorum confirmers proposed ends same) = set_unmet n old new at.caller (calls.over at.call _) at.at_caller (ap (λ (w : View S V). w.callers) same) refl
+    in_phase at desk round (calls.ends now v why is cause ends same) = set_unmet n old new at.caller (calls.over at.call (answer.Unsettled why)) at.at_caller (ap (λ (w : View S V). w.callers) same) refl
 
 -- ---- a call ends
 -- where the operator has no call open this is no step of it, nor where it is not caller 0's
@@ -439,6 +455,18 @@ begins_goes_on {S} {V} m n most old new caller call at is (calls.loses desk now 
   silent = λ number told was. refl;
 }
 
+-- it is told no conflict then
+begins_unmet : {S V : Type 0} (m : Meaning S V) (n : ℕ) (old new : View S V) (caller : CallerView) (call : CallView) → IsAt old.callers n caller → caller.call ≡ Some call → calls.BeginsRound m old n caller call new → told_conflict call.told ≡ false
+    → (one : CallerView) (now : CallView) → IsAt new.callers n one → one.call ≡ Some now → told_conflict now.told ≡ false
+begins_unmet {S} {V} m n old new caller call at is (calls.prepares desk now ballot round flow at_desk up few begins sends same) unmet one now_ at_one_ is_now =
+    let same_caller_ : caller ≡ one = at_one old.callers n at (subst (λ (l : List CallerView). IsAt l n one) (ap (λ (w : View S V). w.callers) same) at_one_) in
+    subst (λ (c : CallView). told_conflict c.told ≡ false) (some_is (sym is ∙ ap (λ (c : CallerView). c.call) same_caller_ ∙ is_now)) unmet
+begins_unmet {S} {V} m n old new caller call at is (calls.proposes desk now ready ride round outcome flow at_desk up few begins made sends same) unmet one now_ at_one_ is_one = set_unmet n old new caller (calls.proposing call outcome) at (ap (λ (w : View S V). w.callers) same) refl one now_ at_one_ is_one
+begins_unmet {S} {V} m n old new caller call at is (calls.stays told none no_round full same) unmet one now_ at_one_ is_one = set_unmet n old new caller (calls.over call told) at (ap (λ (w : View S V). w.callers) same) (none_begun told none) one now_ at_one_ is_one
+begins_unmet {S} {V} m n old new caller call at is (calls.spent desk now at_desk none up no_promise spent kept is_now same) unmet one now_ at_one_ is_one = set_unmet n old new caller (calls.over call answer.Spent) at (ap (λ (w : View S V). w.callers) same) refl one now_ at_one_ is_one
+begins_unmet {S} {V} m n old new caller call at is (calls.fails desk now at_desk none up fails same) unmet one now_ at_one_ is_one = set_unmet n old new caller (calls.over call answer.VaultFault) at (ap (λ (w : View S V). w.callers) same) refl one now_ at_one_ is_one
+begins_unmet {S} {V} m n old new caller call at is (calls.loses desk now ballot at_desk none up loses same) unmet one now_ at_one_ is_one = set_unmet n old new caller (calls.over call (answer.NoMemory false)) at (ap (λ (w : View S V). w.callers) same) refl one now_ at_one_ is_one
+
 -- a call begins, with its mark
 pub record CallBegins {S V : Type 0} (n most : ℕ) (old new : View S V) (number : ℕ) (key : List ℕ) (program : List Clause) : Type 0 where
   pub next : CallView
@@ -451,6 +479,7 @@ pub record CallBegins {S V : Type 0} (n most : ℕ) (old new : View S V) (number
   pub rounds_is : next.rounds ≡ 1
   pub closed : next.is_closed ≡ false
   pub told : (desk : DeskView V) → IsAt new.desks n desk → IsSome desk.round → told_conflict next.told ≡ false
+  pub unmet : told_conflict next.told ≡ false
   pub silent : (k : ℕ) (told : Answer) → WasTold new n k told → more ≡ []
 
 pub first_begins : {S V : Type 0} (m : Meaning S V) (n most : ℕ) (key : List ℕ) (program : List Clause) (old new : View S V) (caller : CallerView) → IsAt old.callers n caller → caller.call ≡ None → StepBegin m old n key program new → CallBegins n most old new (suc caller.number) key program
@@ -481,6 +510,7 @@ first_begins {S} {V} m n most key program old new caller at none by = by_opens b
           rounds_is = goes.rounds ∙ ap (λ (c : CallView). c.rounds) is_made;
           closed = goes.closed (ap (λ (c : CallView). c.is_closed) is_made);
           told = λ desk at_desk some. goes.told desk at_desk some (ap (λ (c : CallView). told_conflict c.told) is_made);
+          unmet = begins_unmet m n by.middle new by.caller by.call by.at_caller by.is_open by.begins (ap (λ (c : CallView). told_conflict c.told) is_made) (record by.caller { call = Some goes.next }) goes.next goes.at_next refl;
         }
     by_opens (calls.again was open_call reserved at_was is_call key_is program_is none_ met no_round room some same) = absurd (cc (sym none ∙ ap (λ (c : CallerView). c.call) (at_one old.callers n at at_was) ∙ is_call))
 
@@ -489,6 +519,7 @@ pub record TriesAgain {S V : Type 0} (n most : ℕ) (old new : View S V) (caller
   pub reserved : ℕ
   pub met : calls.WasMet call.told
   pub round : SilentGoesOn n most old new caller (calls.tried_again call reserved)
+  pub unmet : told_conflict round.goes.next.told ≡ false
 
 pub again_goes_on : {S V : Type 0} (m : Meaning S V) (n most : ℕ) (key : List ℕ) (program : List Clause) (old new : View S V) (caller : CallerView) (call : CallView) → IsAt old.callers n caller → caller.call ≡ Some call → StepBegin m old n key program new → TriesAgain n most old new caller call
 again_goes_on {S} {V} m n most key program old new caller call at is by = by_opens by.opens
@@ -511,6 +542,7 @@ again_goes_on {S} {V} m n most key program old new caller call at is by = by_ope
         record {
           reserved = reserved;
           met = subst (λ (c : CallView). calls.WasMet c.told) same_call met;
+          unmet = begins_unmet m n by.middle new by.caller by.call by.at_caller by.is_open by.begins (ap (λ (c : CallView). told_conflict c.told) is_tried) (record by.caller { call = Some goes.next }) goes.next goes.at_next refl;
           round = record {
             silent = round.silent;
             goes = record {

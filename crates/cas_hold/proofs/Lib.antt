@@ -17,3 +17,4 @@ mod Probes
 mod Renewals
 mod Rescans
 mod Stages
+pub mod Tries

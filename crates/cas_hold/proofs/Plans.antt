@@ -44,7 +44,7 @@ use Rattle.cas_world.specs.Plans.{IsFor, IsUnderWay, IsPartial, MayEnter, MayOpe
 use Rattle.cas_cluster.specs.Course.{next_era}
 use Rattle.cas_hold.specs.Deeds.{harm_by}
 use Rattle.cas_hold.specs.Kept.{IsKept, Makes}
-use Rattle.cas_hold.specs.Membership.{HasPlan, HasListing, IsRescanMark, IsMembersAnswer}
+use Rattle.cas_hold.specs.Membership.{HasPlan, HasListing, IsPlanMark, IsMembersAnswer}
 use Rattle.cas_hold.specs.Mine.{mine, losses, wanted_by}
 use Rattle.cas_hold.specs.Orders.{new_order, HasOrder, OperatesIn, IsToldIn, IsAskingHarm}
 use Rattle.cas_hold.specs.OwnParts.{exchange_part, question_part, order_part, plan_part, caller_part, own_part}
@@ -123,7 +123,7 @@ under_way view asked none unasked is = record {
 }
 
 -- ---- marks
-harm_of_rescan : (mark : Mark) → IsAskingHarm mark → IsRescanMark mark
+harm_of_rescan : (mark : Mark) → IsAskingHarm mark → IsPlanMark mark
 harm_of_rescan (Harmed caller call down) is = tt
 harm_of_rescan (Begun caller call key program) is = absurd is
 harm_of_rescan (Proposed p) is = absurd is
@@ -134,8 +134,8 @@ harm_of_rescan (EraEntered proposer number) is = absurd is
 harm_of_rescan (Ended caller call rounds told) is = absurd is
 harm_of_rescan (Told asked told) is = absurd is
 
-pub harms_of_rescan : (marks : List Mark) → All IsAskingHarm marks → All IsRescanMark marks
-harms_of_rescan marks all = All-weaker IsAskingHarm IsRescanMark harm_of_rescan marks all
+pub harms_of_rescan : (marks : List Mark) → All IsAskingHarm marks → All IsPlanMark marks
+harms_of_rescan marks all = All-weaker IsAskingHarm IsPlanMark harm_of_rescan marks all
 
 -- ---- it is taken up
 -- it is under way already
@@ -199,12 +199,12 @@ open_held m old new asked has kept by up =
     record { does = (deed.makes, has_plan new asked (under_way new asked deed.none opens.unasked up)); kept = deed.kept; greatest = deed.greatest }
 
 pub open_told : {S V : Type 0} (m : Meaning S V) (old mid new : View S V) (asked : Asked) (told : OpAnswer) → HasOrder asked (own_part old 0) → IsKept old → StepOpenPlan m old mid → WasToldOrder mid told → StepTell mid told new
-    → Held old new (IsToldIn asked IsRescanMark 0 old new told × IsMembersAnswer asked told)
+    → Held old new (IsToldIn asked IsPlanMark 0 old new told × IsMembersAnswer asked told)
 open_told m old mid new asked told has kept by said ends =
     let was = is_ordered old asked has in
     let opens = opens_or_tells m old mid asked was by in
     let tells = opens.tells told said in
-    let held = tells_in IsRescanMark 0 old mid new asked told tells.0 opens.leaves tells.1 tells.2 ends kept was.no_call in
+    let held = tells_in IsPlanMark 0 old mid new asked told tells.0 opens.leaves tells.1 tells.2 ends kept was.no_call in
     record { does = (held.does, tells.3); kept = held.kept; greatest = held.greatest }
 
 -- ---- a proposer enters the next era
@@ -220,7 +220,7 @@ record EntersOrTells {S V : Type 0} (old new : View S V) (asked : Asked) : Type 
   marks : List Mark
   deed : Deed old new marks
   may_tell : (told : OpAnswer) → MayAdd (marks ++ told_marks asked told)
-  such : All IsRescanMark (mine 0 marks)
+  such : All IsPlanMark (mine 0 marks)
   none_lost : losses (mine 0 marks) ≡ 0
   unasked : new.council.exchange ≡ None
   asks : (order : OrderView) → new.council.order ≡ Some order → order.asked ≡ asked
@@ -250,7 +250,7 @@ tells_nothing {S} {V} old middle new asked said deed order unasked is answers =
       marks = [];
       deed = deed_told old middle (council.told_view middle said) new deed is refl refl refl refl;
       may_tell = λ told. told_may_add asked told;
-      such = All-nil IsRescanMark;
+      such = All-nil IsPlanMark;
       none_lost = refl;
       unasked = ap (λ (w : View S V). w.council.exchange) is ∙ unasked;
       asks = λ one is_one. ap (λ (o : OrderView). o.asked) (some_is (sym is_one ∙ order_now));
@@ -329,14 +329,14 @@ enters_or_tells {S} {V} m old new asked proposer was kept by = by_case by.enters
           marks = marked;
           deed = deed_then old middle new [] marked deed marks_deed (tt, tt);
           may_tell = λ told. (tt, told_may_add asked told);
-          such = All-nil IsRescanMark;
+          such = All-nil IsPlanMark;
           none_lost = refl;
           unasked = ap (λ (w : View S V). w.council.exchange) is ∙ ap (λ (k : Council). k.exchange) closes.council ∙ was.unasked;
           asks = λ one is_one. ap (λ (o : OrderView). o.asked) (some_is (sym is_one ∙ order_now));
           tells = λ told said. absurd (cc (sym (ap (λ (o : OrderView). o.told) (some_is (sym said.is_open ∙ order_now))) ∙ said.was_said));
         }
 
-pub enter_held : {S V : Type 0} (m : Meaning S V) (old new : View S V) (asked : Asked) (proposer : ℕ) → HasPlan asked (own_part old 0) → IsKept old → StepEnterEra m old proposer new → IsUnderWay new asked → Held old new (OperatesIn IsRescanMark 0 old new × HasPlan asked (own_part new 0))
+pub enter_held : {S V : Type 0} (m : Meaning S V) (old new : View S V) (asked : Asked) (proposer : ℕ) → HasPlan asked (own_part old 0) → IsKept old → StepEnterEra m old proposer new → IsUnderWay new asked → Held old new (OperatesIn IsPlanMark 0 old new × HasPlan asked (own_part new 0))
 enter_held m old new asked proposer has kept by up =
     let enters = enters_or_tells m old new asked proposer (is_changing old asked has) kept by in
     record {
@@ -346,17 +346,17 @@ enter_held m old new asked proposer has kept by up =
     }
 
 pub enter_told : {S V : Type 0} (m : Meaning S V) (old mid new : View S V) (asked : Asked) (proposer : ℕ) (told : OpAnswer) → HasPlan asked (own_part old 0) → IsKept old → StepEnterEra m old proposer mid → WasToldOrder mid told → StepTell mid told new
-    → Held old new (IsToldIn asked IsRescanMark 0 old new told × IsMembersAnswer asked told)
+    → Held old new (IsToldIn asked IsPlanMark 0 old new told × IsMembersAnswer asked told)
 enter_told m old mid new asked proposer told has kept by said ends =
     let enters = enters_or_tells m old mid asked proposer (is_changing old asked has) kept by in
-    let held = tells_after IsRescanMark 0 old mid new enters.marks asked told said.order enters.deed (enters.such) (let none = enters.none_lost in omega (arith, none)) (enters.may_tell told) said.is_open (enters.asks said.order said.is_open) ends in
+    let held = tells_after IsPlanMark 0 old mid new enters.marks asked told said.order enters.deed (enters.such) (let none = enters.none_lost in omega (arith, none)) (enters.may_tell told) said.is_open (enters.asks said.order said.is_open) ends in
     record { does = (held.does, enters.tells told said); kept = held.kept; greatest = held.greatest }
 
 -- it was at its end already
-pub finishes : {S V : Type 0} (old new : View S V) (asked : Asked) (told : OpAnswer) → HasPlan asked (own_part old 0) → IsKept old → StepTell old told new → Held old new (IsToldIn asked IsRescanMark 0 old new told)
+pub finishes : {S V : Type 0} (old new : View S V) (asked : Asked) (told : OpAnswer) → HasPlan asked (own_part old 0) → IsKept old → StepTell old told new → Held old new (IsToldIn asked IsPlanMark 0 old new told)
 finishes old new asked told has kept ends =
     let was = is_changing old asked has in
-    tells_in IsRescanMark 0 old old new asked told (new_order asked) (same_view old) was.order refl ends kept was.no_call
+    tells_in IsPlanMark 0 old old new asked told (new_order asked) (same_view old) was.order refl ends kept was.no_call
 
 -- ---- members are asked for their next keys
 pub may_list : {S V : Type 0} (view : View S V) (asked : Asked) → IsKept view → HasPlan asked (own_part view 0) → step_of view.council.plan ≡ Some Settle → IsPartial view.council.plan → MayAsk view (question_in view query.List)
@@ -428,11 +428,11 @@ list_held m old new asked has kept by some =
     record { does = (deed.makes, has_listing new asked (lists.opens some deed.none)); kept = deed.kept; greatest = deed.greatest }
 
 pub list_told : {S V : Type 0} (m : Meaning S V) (old mid new : View S V) (asked : Asked) (told : OpAnswer) → HasPlan asked (own_part old 0) → IsKept old → StepAskAll m old (question_in old query.List) mid → WasToldOrder mid told → StepTell mid told new
-    → Held old new (IsToldIn asked IsRescanMark 0 old new told × IsMembersAnswer asked told)
+    → Held old new (IsToldIn asked IsPlanMark 0 old new told × IsMembersAnswer asked told)
 list_told m old mid new asked told has kept by said ends =
     let was = is_changing old asked has in
     let lists = lists_or_tells m old mid asked _ was by in
-    let held = tells_in IsRescanMark 0 old mid new asked told lists.order lists.leaves lists.is_order lists.asks ends kept was.no_call in
+    let held = tells_in IsPlanMark 0 old mid new asked told lists.order lists.leaves lists.is_order lists.asks ends kept was.no_call in
     record { does = (held.does, lists.tells told said); kept = held.kept; greatest = held.greatest }
 
 -- ---- a turn of that
@@ -445,7 +445,7 @@ listing_refusal view asked has = let is = is_listing view asked has in ap (λ (o
 pub listing_place : {S V : Type 0} (view : View S V) (asked : Asked) → HasListing asked (own_part view 0) → place_of view 0 ≡ exchange_place
 listing_place view asked has = let is = is_listing view asked has in ap (λ (o : Option ExchangeView). if asks_as o 0 then exchange_place else 0) is.is_open
 
-pub list_turn_held : {S V : Type 0} (m : Meaning S V) (old new : View S V) (asked : Asked) (v : Verdict) → HasListing asked (own_part old 0) → IsKept old → Step m old (turn_of old 0 v) new → Held old new (OperatesIn IsRescanMark (harm_by v) old new × (own_part new 0 ≡ own_part old 0))
+pub list_turn_held : {S V : Type 0} (m : Meaning S V) (old new : View S V) (asked : Asked) (v : Verdict) → HasListing asked (own_part old 0) → IsKept old → Step m old (turn_of old 0 v) new → Held old new (OperatesIn IsPlanMark (harm_by v) old new × (own_part new 0 ≡ own_part old 0))
 list_turn_held {S} {V} m old new asked v has kept step_ =
     let by : StepTurnExchange m old v new = subst (λ (e : step.Event). Step m old e new) (listing_turn old asked v has) step_ in
     let was = is_listing old asked has in
@@ -463,12 +463,12 @@ list_turn_may_tell {S} {V} m old mid asked has step_ =
     let was = is_listing old asked has in
     was_told_so mid (new_order asked) (op.Stopped (answer.NoMemory false)) (refuses_asking m old mid (new_order asked) was.order by).1 refl
 
-pub list_turn_told : {S V : Type 0} (m : Meaning S V) (most : ℕ) (old mid new : View S V) (asked : Asked) (told : OpAnswer) → HasListing asked (own_part old 0) → IsKept old → Step m old (refusal_of old 0) mid → StepTell mid told new → Held old new (IsToldIn asked IsRescanMark most old new told)
+pub list_turn_told : {S V : Type 0} (m : Meaning S V) (most : ℕ) (old mid new : View S V) (asked : Asked) (told : OpAnswer) → HasListing asked (own_part old 0) → IsKept old → Step m old (refusal_of old 0) mid → StepTell mid told new → Held old new (IsToldIn asked IsPlanMark most old new told)
 list_turn_told {S} {V} m most old mid new asked told has kept step_ ends =
     let by : StepRefuseTurnExchange m old mid = subst (λ (e : step.Event). Step m old e mid) (listing_refusal old asked has) step_ in
     let was = is_listing old asked has in
     let refuses = refuses_asking m old mid (new_order asked) was.order by in
-    tells_in IsRescanMark most old mid new asked told (told_so (op.Stopped (answer.NoMemory false)) (new_order asked)) refuses.0 refuses.1 refl ends kept was.no_call
+    tells_in IsPlanMark most old mid new asked told (told_so (op.Stopped (answer.NoMemory false)) (new_order asked)) refuses.0 refuses.1 refl ends kept was.no_call
 
 -- ---- what they told
 pub may_gather_list : {S V : Type 0} (view : View S V) (asked : Asked) → HasListing asked (own_part view 0) → (queue_at view.flow exchange_place).messages ≡ [] → MayGather view
@@ -549,12 +549,12 @@ gather_list_held {S} {V} m old new asked result has kept step_ gathered_ =
         absurd (cc (sym of_it ∙ ap (λ (x : ExchangeView). is_of_collection x.question) (some_is (sym is_open ∙ was.is_open)) ∙ ap is_of_collection was.question))
 
 pub gather_list_told : {S V : Type 0} (m : Meaning S V) (most : ℕ) (old mid new : View S V) (asked : Asked) (told : OpAnswer) → HasListing asked (own_part old 0) → IsKept old → Step m old (gathering_of old) mid → WasToldOrder mid told → StepTell mid told new
-    → Held old new (IsToldIn asked IsRescanMark most old new told × IsMembersAnswer asked told)
+    → Held old new (IsToldIn asked IsPlanMark most old new told × IsMembersAnswer asked told)
 gather_list_told {S} {V} m most old mid new asked told has kept step_ said ends =
     let by : StepGather old mid = subst (λ (e : step.Event). Step m old e mid) (gathering_list old asked has) step_ in
     let was = is_listing old asked has in
     let gathers = gathers_list old mid asked was by in
-    let held = tells_in IsRescanMark most old mid new asked told gathers.order gathers.leaves gathers.is_order gathers.asks ends kept was.no_call in
+    let held = tells_in IsPlanMark most old mid new asked told gathers.order gathers.leaves gathers.is_order gathers.asks ends kept was.no_call in
     record { does = (held.does, gathers.tells told said); kept = held.kept; greatest = held.greatest }
 
 -- ---- what the world asks
@@ -596,22 +596,22 @@ up_held view asked has kept for_it =
     record { does = (deed.makes, up_already view asked has for_it); kept = deed.kept; greatest = deed.greatest }
 
 -- nothing is done
-pub nothing_done : {S V : Type 0} (view : View S V) (asked : Asked) → HasPlan asked (own_part view 0) → IsKept view → OperatesIn IsRescanMark 0 view view
+pub nothing_done : {S V : Type 0} (view : View S V) (asked : Asked) → HasPlan asked (own_part view 0) → IsKept view → OperatesIn IsPlanMark 0 view view
 nothing_done view asked has kept =
     let deed = quiet_deed view view (same_view view) kept (is_changing view asked has).no_call in
-    record { marks = []; makes = deed.makes; all_such = All-nil IsRescanMark; few = omega arith }
+    record { marks = []; makes = deed.makes; all_such = All-nil IsPlanMark; few = omega arith }
 
-pub made_nothing : {S V : Type 0} (old new : View S V) → Makes 0 old new [] → OperatesIn IsRescanMark 0 old new
-made_nothing old new makes = record { marks = []; makes = makes; all_such = All-nil IsRescanMark; few = omega arith }
+pub made_nothing : {S V : Type 0} (old new : View S V) → Makes 0 old new [] → OperatesIn IsPlanMark 0 old new
+made_nothing old new makes = record { marks = []; makes = makes; all_such = All-nil IsPlanMark; few = omega arith }
 
 -- no memory was found for the key that is due
 pub key_may_tell : {S V : Type 0} (old mid new : View S V) (asked : Asked) (told : OpAnswer) → HasPlan asked (own_part old 0) → IsKept old → StepRefuseKey old mid → WasToldOrder mid told → StepTell mid told new
-    → Held old new (IsToldIn asked IsRescanMark 0 old new told × IsMembersAnswer asked told)
+    → Held old new (IsToldIn asked IsPlanMark 0 old new told × IsMembersAnswer asked told)
 key_may_tell {S} {V} old mid new asked told has kept by said ends =
     let was = is_changing old asked has in
     let leaves : Leaves old mid [] = leaves_desks old _ mid [] by.view refl refl refl (sym (append-nil old.marks)) in
     let order_now : mid.council.order ≡ Some (told_so (op.Stopped (answer.NoMemory false)) (new_order asked)) = ap (λ (w : View S V). w.council.order) by.view ∙ ap (option_map (told_so (op.Stopped (answer.NoMemory false)))) was.order in
-    let held = tells_in IsRescanMark 0 old mid new asked told (told_so (op.Stopped (answer.NoMemory false)) (new_order asked)) leaves order_now refl ends kept was.no_call in
+    let held = tells_in IsPlanMark 0 old mid new asked told (told_so (op.Stopped (answer.NoMemory false)) (new_order asked)) leaves order_now refl ends kept was.no_call in
     record { does = (held.does, subst (IsMembersAnswer asked) (says_same mid (new_order asked) (op.Stopped (answer.NoMemory false)) told order_now said) tt); kept = held.kept; greatest = held.greatest }
 
 pub none_settled : {A : Type 0} {P : Type 0} (o : Option A) → is_some o ≡ false → IfNone o P → P
@@ -631,8 +631,8 @@ list_through view asked front has shown none = none_waits (queue_at view.flow ex
 pub still_listing : {S V : Type 0} (old new : View S V) (asked : Asked) → HasListing asked (own_part old 0) → own_part new 0 ≡ own_part old 0 → HasListing asked (own_part new 0)
 still_listing old new asked has same = subst (HasListing asked) (sym same) has
 
-pub made_none : {S V : Type 0} (most : ℕ) (old new : View S V) → Makes 0 old new [] → OperatesIn IsRescanMark most old new
-made_none most old new makes = record { marks = []; makes = makes; all_such = All-nil IsRescanMark; few = omega arith }
+pub made_none : {S V : Type 0} (most : ℕ) (old new : View S V) → Makes 0 old new [] → OperatesIn IsPlanMark most old new
+made_none most old new makes = record { marks = []; makes = makes; all_such = All-nil IsPlanMark; few = omega arith }
 
 pub ordered_still : {S V : Type 0} (view : View S V) (asked : Asked) → HasPlan asked (own_part view 0) → IsSome view.council.order
 ordered_still view asked has = subst (λ (o : Option OrderView). IsSome o) (sym (is_changing view asked has).order) refl

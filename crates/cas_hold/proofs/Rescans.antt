@@ -20,10 +20,11 @@ use Rattle.cas_cluster.specs.StepCouncil.{StepTell, told_marks}
 use Rattle.cas_cluster.specs.View.{View, CallerView, IsAt}
 use Rattle.cas_cluster.proofs.Places.{some_is}
 use Rattle.cas_world.specs.Exchange.{WasToldOrder}
+use Rattle.cas_hold.specs.Conflicts.{is_conflict}
 use Rattle.cas_hold.specs.Deeds as deeds
 use Rattle.cas_hold.specs.Deeds.{BeginsIn, BeginsNot, LeavesIdle, GoesOnIn, EndsIn}
 use Rattle.cas_hold.specs.Kept.{IsKept, Makes}
-use Rattle.cas_hold.specs.Membership.{HasPlan, IsDue, HasRescan, IsRescanMark}
+use Rattle.cas_hold.specs.Membership.{HasPlan, IsDue, HasRescan, IsPlanMark, IsRescanMark}
 use Rattle.cas_hold.specs.Mine.{mine, losses, call_of, AreOfCall, Wanted, wants, wanted_by}
 use Rattle.cas_hold.specs.Open.{IsIdle, rounds_after}
 use Rattle.cas_hold.specs.Orders.{new_order, OperatesIn, IsToldIn}
@@ -35,9 +36,10 @@ use Rattle.cas_hold.proofs.Holds.{Held}
 use Rattle.cas_hold.proofs.Plans.{IsChanging, has_plan, is_changing, with_asked}
 use Rattle.cas_hold.proofs.Operating.{tells_after, told_may_add}
 use Rattle.cas_hold.proofs.Parts.{open_at, idle_call, beside_part}
+use Rattle.cas_hold.proofs.Tries.{done_no_conflict, rescan_within}
 
 -- ---- marks
-of_rescan : (call : ℕ) (mark : Mark) → call_of mark ≡ Some call → IsRescanMark mark
+of_rescan : (call : ℕ) (mark : Mark) → call_of mark ≡ Some call → IsPlanMark mark
 of_rescan call (Proposed p) is = tt
 of_rescan call (Harmed caller one down) is = tt
 of_rescan call (Begun caller one key program) is = absurd (cc is)
@@ -48,8 +50,8 @@ of_rescan call (EraEntered proposer number) is = absurd (cc is)
 of_rescan call (Ended caller one rounds told) is = absurd (cc is)
 of_rescan call (Told asked told) is = absurd (cc is)
 
-call_of_rescan : (call : ℕ) (marks : List Mark) → AreOfCall call marks → All IsRescanMark marks
-call_of_rescan call marks all = All-weaker (λ mark. call_of mark ≡ Some call) IsRescanMark (of_rescan call) marks all
+call_of_rescan : (call : ℕ) (marks : List Mark) → AreOfCall call marks → All IsPlanMark marks
+call_of_rescan call marks all = All-weaker (λ mark. call_of mark ≡ Some call) IsPlanMark (of_rescan call) marks all
 
 -- behind the end of a call the operator may be told
 told_behind_end : (n call rounds : ℕ) (told : Answer) (asked : Asked) (said : OpAnswer) (marks : List Mark) → MayAdd (marks ++ Ended n call rounds told ∷ []) → MayAdd ((marks ++ Ended n call rounds told ∷ []) ++ told_marks asked said)
@@ -130,28 +132,28 @@ due_there view asked key has due =
     let is = is_changing view asked has in
     record { order = is.order; unasked = is.unasked; plan = is.plan; is_plan = is.is_plan; is_for = is.is_for; due = sym (ap due_in is.is_plan) ∙ due }
 
-pub rescan_begins : {S V : Type 0} (call : ℕ) (old new : View S V) (asked : Asked) (key : List ℕ) → HasPlan asked (own_part old 0) → due_in old.council.plan ≡ Some key → BeginsIn 0 call key keep_always old new → OperatesIn IsRescanMark 0 old new × HasRescan asked call key (own_part new 0)
+pub rescan_begins : {S V : Type 0} (call : ℕ) (old new : View S V) (asked : Asked) (key : List ℕ) → HasPlan asked (own_part old 0) → due_in old.council.plan ≡ Some key → BeginsIn 0 call key keep_always old new → OperatesIn IsPlanMark 0 old new × HasRescan asked call key (own_part new 0)
 rescan_begins call old new asked key has due b = (
   record {
     marks = Begun 0 call key keep_always ∷ b.more;
     makes = b.makes;
-    all_such = subst (All IsRescanMark) (sym (mine_own 0 (Begun 0 call key keep_always) b.more refl)) (All-cons IsRescanMark (Begun 0 call key keep_always) (mine 0 b.more) refl (call_of_rescan call (mine 0 b.more) b.of_call));
+    all_such = subst (All IsPlanMark) (sym (mine_own 0 (Begun 0 call key keep_always) b.more refl)) (All-cons IsPlanMark (Begun 0 call key keep_always) (mine 0 b.more) refl (call_of_rescan call (mine 0 b.more) b.of_call));
     few = subst (λ (l : List Mark). losses l ≤ 0) (sym (mine_own 0 (Begun 0 call key keep_always) b.more refl)) (let none = b.none_lost in omega (arith, none));
   },
   record { called = b.is_open; due = subst (IsDue asked key) (sym b.beside) (is_due old asked key has due) },
 )
 
 -- what was made, where the end of the call leaves nothing open
-record EndsRescan {S V : Type 0} (most : ℕ) (old mid : View S V) (asked : Asked) (told : Answer) : Type 0 where
+record EndsRescan {S V : Type 0} (such : Mark → Type 0) (most : ℕ) (old mid : View S V) (asked : Asked) (told : Answer) : Type 0 where
   marks : List Mark
   makes : Makes 0 old mid marks
   may_tell : (said : OpAnswer) → MayAdd (marks ++ told_marks asked said)
-  all_such : All IsRescanMark (mine 0 marks)
+  all_such : All such (mine 0 marks)
   few : losses (mine 0 marks) ≤ most
   none : (caller : CallerView) → IsAt mid.callers 0 caller → caller.call ≡ None
   becomes : Rescanned mid asked told
 
-begins_not : {S V : Type 0} (old mid : View S V) (asked : Asked) (key : List ℕ) (told : Answer) → HasPlan asked (own_part old 0) → due_in old.council.plan ≡ Some key → BeginsNot 0 key keep_always old mid told → EndsRescan 0 old mid asked told
+begins_not : {S V : Type 0} (old mid : View S V) (asked : Asked) (key : List ℕ) (told : Answer) → HasPlan asked (own_part old 0) → due_in old.council.plan ≡ Some key → BeginsNot 0 key keep_always old mid told → EndsRescan IsPlanMark 0 old mid asked told
 begins_not old mid asked key told has due (deeds.ends_at_once call rounds makes leaves no_conflict) =
     let begun : Mark = Begun 0 call key keep_always in
     let ended : Mark = Ended 0 call rounds told in
@@ -161,7 +163,7 @@ begins_not old mid asked key told has due (deeds.ends_at_once call rounds makes 
       marks = begun ∷ ended ∷ [];
       makes = makes;
       may_tell = λ said. (tt, (tt, told_may_add asked said));
-      all_such = subst (All IsRescanMark) (sym own) (All-cons IsRescanMark begun (ended ∷ []) refl (All-cons IsRescanMark ended [] tt (All-nil IsRescanMark)));
+      all_such = subst (All IsPlanMark) (sym own) (All-cons IsPlanMark begun (ended ∷ []) refl (All-cons IsPlanMark ended [] no_conflict (All-nil IsPlanMark)));
       few = subst (λ (l : List Mark). losses l ≤ 0) (sym own) (omega arith);
       none = none;
       becomes = rescanned old mid asked key told (due_there old asked key has due) leaves.rescans none;
@@ -172,14 +174,14 @@ begins_not old mid asked key told has due (deeds.is_refused refusal makes leaves
       marks = [];
       makes = makes;
       may_tell = λ said. told_may_add asked said;
-      all_such = All-nil IsRescanMark;
+      all_such = All-nil IsPlanMark;
       few = omega arith;
       none = none;
       becomes = rescanned old mid asked key told (due_there old asked key has due) leaves.rescans none;
     }
 
 -- ---- it goes on, and ends
-pub rescan_goes_on : {S V : Type 0} (call most : ℕ) (old new : View S V) (asked : Asked) (key : List ℕ) → HasRescan asked call key (own_part old 0) → GoesOnIn 0 call most old new → OperatesIn IsRescanMark most old new × HasRescan asked call key (own_part new 0)
+pub rescan_goes_on : {S V : Type 0} (call most : ℕ) (old new : View S V) (asked : Asked) (key : List ℕ) → HasRescan asked call key (own_part old 0) → GoesOnIn 0 call most old new → OperatesIn IsPlanMark most old new × HasRescan asked call key (own_part new 0)
 rescan_goes_on call most old new asked key has g = (
   record { marks = g.marks; makes = g.makes; all_such = call_of_rescan call (mine 0 g.marks) g.of_call; few = g.few },
   record { called = g.is_open; due = subst (IsDue asked key) (sym g.beside) has.due },
@@ -198,9 +200,9 @@ losses_end (EraEntered proposer number ∷ marks) n call rounds told = losses_en
 losses_end (Ended caller one some answer_ ∷ marks) n call rounds told = losses_end marks n call rounds told
 losses_end (Told what answer_ ∷ marks) n call rounds told = losses_end marks n call rounds told
 
-ends_rescan : {S V : Type 0} (call most : ℕ) (old mid : View S V) (asked : Asked) (key : List ℕ) (program : List Clause) (told : Answer) → HasRescan asked call key (own_part old 0) → IsKept old → wanted_by 0 old.marks ≡ Some (wants call key program) → EndsIn 0 call most old mid told
-    → EndsRescan most old mid asked told
-ends_rescan {S} {V} call most old mid asked key program told has kept wanted e =
+ends_rescan : {S V : Type 0} (such : Mark → Type 0) (call most : ℕ) (old mid : View S V) (asked : Asked) (key : List ℕ) (program : List Clause) (told : Answer) → ((mark : Mark) → IsPlanMark mark → such mark) → such (Ended 0 call (rounds_after (own_part old 0)) told)
+    → HasRescan asked call key (own_part old 0) → IsKept old → wanted_by 0 old.marks ≡ Some (wants call key program) → EndsIn 0 call most old mid told → EndsRescan such most old mid asked told
+ends_rescan {S} {V} such call most old mid asked key program told weaker such_end has kept wanted e =
     let o = open_at old 0 call has.called in
     let rounds : ℕ = rounds_after (own_part old 0) in
     let ended : Mark = Ended 0 call rounds told in
@@ -212,14 +214,14 @@ ends_rescan {S} {V} call most old mid asked key program told has kept wanted e =
       marks = e.marks ++ ended ∷ [];
       makes = e.makes;
       may_tell = λ said. told_behind_end 0 call rounds told asked said e.marks e.makes.may_add;
-      all_such = subst (All IsRescanMark) (sym own) (All-append IsRescanMark (mine 0 e.marks) (ended ∷ []) (call_of_rescan call (mine 0 e.marks) e.of_call) (All-cons IsRescanMark ended [] tt (All-nil IsRescanMark)));
+      all_such = subst (All such) (sym own) (All-append such (mine 0 e.marks) (ended ∷ []) (All-weaker IsPlanMark such weaker (mine 0 e.marks) (call_of_rescan call (mine 0 e.marks) e.of_call)) (All-cons such ended [] such_end (All-nil such)));
       few = subst (λ (l : List Mark). losses l ≤ most) (sym own) (let same = losses_end (mine 0 e.marks) 0 call rounds told in let low = e.few in omega (arith, same, low));
       none = none;
       becomes = rescanned old mid asked key told due (subst (λ (k : List ℕ). Rescans old.council 0 k told mid.council) same_key (e.rescans o.caller o.open_call o.at_caller o.is_open)) none;
     }
 
 -- the key is counted, and the change of membership goes on
-counted_on : {S V : Type 0} (most : ℕ) (old mid : View S V) (asked : Asked) (told : Answer) → EndsRescan most old mid asked told → is_done told ≡ true → OperatesIn IsRescanMark most old mid × HasPlan asked (own_part mid 0)
+counted_on : {S V : Type 0} (most : ℕ) (old mid : View S V) (asked : Asked) (told : Answer) → EndsRescan IsPlanMark most old mid asked told → is_done told ≡ true → OperatesIn IsPlanMark most old mid × HasPlan asked (own_part mid 0)
 counted_on {S} {V} most old mid asked told e done = (record { marks = e.marks; makes = e.makes; all_such = e.all_such; few = e.few }, has_plan mid asked (by_case e.becomes))
   where
     by_case : Rescanned mid asked told → IsChanging mid asked
@@ -231,31 +233,34 @@ stopped_order : {S V : Type 0} (mid : View S V) (asked : Asked) (told : Answer) 
 stopped_order mid asked told (is_counted done is) undone = absurd (cc (done, undone))
 stopped_order mid asked told (is_stopped did order) undone = order
 
-may_stop : {S V : Type 0} (most : ℕ) (old mid : View S V) (asked : Asked) (told : Answer) → EndsRescan most old mid asked told → is_done told ≡ false → WasToldOrder mid (op.Stopped told)
-may_stop most old mid asked told e undone = record { order = told_so (op.Stopped told) (new_order asked); is_open = stopped_order mid asked told e.becomes undone; said = op.Stopped told; was_said = refl; same = refl }
+may_stop : {S V : Type 0} (such : Mark → Type 0) (most : ℕ) (old mid : View S V) (asked : Asked) (told : Answer) → EndsRescan such most old mid asked told → is_done told ≡ false → WasToldOrder mid (op.Stopped told)
+may_stop such most old mid asked told e undone = record { order = told_so (op.Stopped told) (new_order asked); is_open = stopped_order mid asked told e.becomes undone; said = op.Stopped told; was_said = refl; same = refl }
 
-stops_so : {S V : Type 0} (most : ℕ) (old mid new : View S V) (asked : Asked) (told : Answer) → EndsRescan most old mid asked told → IsKept mid → mid.greatest ≡ old.greatest → is_done told ≡ false → StepTell mid (op.Stopped told) new → Held old new (IsToldIn asked IsRescanMark most old new (op.Stopped told))
-stops_so most old mid new asked told e kept greatest undone ends =
-    tells_after IsRescanMark most old mid new e.marks asked (op.Stopped told) (told_so (op.Stopped told) (new_order asked)) (record { makes = e.makes; kept = kept; greatest = greatest; none = e.none }) e.all_such e.few (e.may_tell (op.Stopped told)) (stopped_order mid asked told e.becomes undone) refl ends
+stops_so : {S V : Type 0} (such : Mark → Type 0) (most : ℕ) (old mid new : View S V) (asked : Asked) (told : Answer) → EndsRescan such most old mid asked told → IsKept mid → mid.greatest ≡ old.greatest → is_done told ≡ false → StepTell mid (op.Stopped told) new → Held old new (IsToldIn asked such most old new (op.Stopped told))
+stops_so such most old mid new asked told e kept greatest undone ends =
+    tells_after such most old mid new e.marks asked (op.Stopped told) (told_so (op.Stopped told) (new_order asked)) (record { makes = e.makes; kept = kept; greatest = greatest; none = e.none }) e.all_such e.few (e.may_tell (op.Stopped told)) (stopped_order mid asked told e.becomes undone) refl ends
 
 -- ---- by how it began
 module _ {S V : Type 0} (old mid : View S V) (asked : Asked) (key : List ℕ) (told : Answer) (has : HasPlan asked (own_part old 0)) (due : due_in old.council.plan ≡ Some key) (begun : BeginsNot 0 key keep_always old mid told) where
-  pub not_begun_counted : is_done told ≡ true → OperatesIn IsRescanMark 0 old mid × HasPlan asked (own_part mid 0)
+  pub not_begun_counted : is_done told ≡ true → OperatesIn IsPlanMark 0 old mid × HasPlan asked (own_part mid 0)
   not_begun_counted = counted_on 0 old mid asked told (begins_not old mid asked key told has due begun)
 
   pub not_begun_may_stop : is_done told ≡ false → WasToldOrder mid (op.Stopped told)
-  not_begun_may_stop = may_stop 0 old mid asked told (begins_not old mid asked key told has due begun)
+  not_begun_may_stop = may_stop IsPlanMark 0 old mid asked told (begins_not old mid asked key told has due begun)
 
-  pub not_begun_stops : (new : View S V) → IsKept mid → mid.greatest ≡ old.greatest → is_done told ≡ false → StepTell mid (op.Stopped told) new → Held old new (IsToldIn asked IsRescanMark 0 old new (op.Stopped told))
-  not_begun_stops new = stops_so 0 old mid new asked told (begins_not old mid asked key told has due begun)
+  pub not_begun_stops : (new : View S V) → IsKept mid → mid.greatest ≡ old.greatest → is_done told ≡ false → StepTell mid (op.Stopped told) new → Held old new (IsToldIn asked IsPlanMark 0 old new (op.Stopped told))
+  not_begun_stops new = stops_so IsPlanMark 0 old mid new asked told (begins_not old mid asked key told has due begun)
 
 -- ---- by how it ended
 module _ {S V : Type 0} (call most : ℕ) (old mid : View S V) (asked : Asked) (key : List ℕ) (program : List Clause) (told : Answer) (has : HasRescan asked call key (own_part old 0)) (kept : IsKept old) (wanted : wanted_by 0 old.marks ≡ Some (wants call key program)) (ended : EndsIn 0 call most old mid told) where
-  pub ended_counted : is_done told ≡ true → OperatesIn IsRescanMark most old mid × HasPlan asked (own_part mid 0)
-  ended_counted = counted_on most old mid asked told (ends_rescan call most old mid asked key program told has kept wanted ended)
+  pub ended_counted : is_done told ≡ true → OperatesIn IsPlanMark most old mid × HasPlan asked (own_part mid 0)
+  ended_counted done = counted_on most old mid asked told (ends_rescan IsPlanMark call most old mid asked key program told (λ mark such. such) (done_no_conflict told done) has kept wanted ended) done
+
+  ends_within : (tries : ℕ) → (is_conflict told ≡ true → rounds_after (own_part old 0) ≡ tries) → EndsRescan (IsRescanMark tries) most old mid asked told
+  ends_within tries spent = ends_rescan (IsRescanMark tries) call most old mid asked key program told (rescan_within tries) spent has kept wanted ended
 
   pub ended_may_stop : is_done told ≡ false → WasToldOrder mid (op.Stopped told)
-  ended_may_stop = may_stop most old mid asked told (ends_rescan call most old mid asked key program told has kept wanted ended)
+  ended_may_stop = may_stop (IsRescanMark (rounds_after (own_part old 0))) most old mid asked told (ends_within (rounds_after (own_part old 0)) (λ conflict. refl))
 
-  pub ended_stops : (new : View S V) → IsKept mid → mid.greatest ≡ old.greatest → is_done told ≡ false → StepTell mid (op.Stopped told) new → Held old new (IsToldIn asked IsRescanMark most old new (op.Stopped told))
-  ended_stops new = stops_so most old mid new asked told (ends_rescan call most old mid asked key program told has kept wanted ended)
+  pub ended_stops : (tries : ℕ) → (is_conflict told ≡ true → rounds_after (own_part old 0) ≡ tries) → (new : View S V) → IsKept mid → mid.greatest ≡ old.greatest → is_done told ≡ false → StepTell mid (op.Stopped told) new → Held old new (IsToldIn asked (IsRescanMark tries) most old new (op.Stopped told))
+  ended_stops tries spent new = stops_so (IsRescanMark tries) most old mid new asked told (ends_within tries spent)

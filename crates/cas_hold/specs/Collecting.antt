@@ -1,5 +1,5 @@
 -- How far a collection of the operator has come, as caller 0's own part tells, and what a hold does for it.
-use Rattle.std.specs.Prelude.{◌≡◌, ◌⊎◌, ⊤, ℕ, true, false, List, ◌++◌, Result, Ok, Err, None, Some}
+use Rattle.std.specs.Prelude.{◌≡◌, ◌⊎◌, ◌≤◌, ◌<◌, ⊤, ℕ, zero, suc, true, false, List, ◌++◌, Result, Ok, Err, None, Some}
 use Rattle.cas_collect.specs.declared.collect.CollectStep.{CollectStep}
 use Rattle.cas_collect.specs.declared.collect.CollectStep.TheVariants as step
 use Rattle.cas_record.specs.declared.mark.Mark.{Mark}
@@ -18,7 +18,9 @@ use Rattle.cas_cluster.specs.Protocol.{is_done}
 use Rattle.cas_world.specs.Collect.{IsCollectingCall, leaves_no_call}
 use Rattle.cas_world.specs.Exchange.{WasToldOrder}
 use Rattle.cas_world.specs.World.{WasTold}
+use Rattle.cas_hold.specs.Conflicts.{is_conflict}
 use Rattle.cas_hold.specs.Mine.{wants, wanted_by}
+use Rattle.cas_hold.specs.Open.{rounds_in, is_met_in}
 use Rattle.cas_hold.specs.Orders.{new_order, HasOrder, OperatesIn, IsToldIn}
 use Rattle.cas_hold.specs.OwnParts.{call_part, round_part, council_part, own_part}
 use Rattle.cas_hold.specs.declared.collections.Course.{Course}
@@ -46,6 +48,18 @@ pub record HasBurial (key : List ℕ) (call : ℕ) (own : List ℕ) (marks : Lis
   pub none_asked : council.exchange ≡ None
   pub wanted : wanted_by 0 marks ≡ Some (wants call key keep_always)
 
+-- how many rounds it has at most that may have so many: one at least
+abbrev pub most_rounds : ℕ → ℕ
+most_rounds zero = 1
+most_rounds (suc n) = suc n
+
+-- it has had so many rounds, which are not too many; behind a conflict there is another
+pub record IsWithin (tries rounds : ℕ) (own : List ℕ) : Type 0 where
+  pub counted : rounds_in own ≡ rounds
+  pub some : 1 ≤ rounds
+  pub within : rounds ≤ tries
+  pub more : is_met_in own ≡ true → rounds < tries
+
 -- that step is due, and no exchange is open
 pub record HasStep (key : List ℕ) (due : CollectStep) (own : List ℕ) : Type 0 where
   pub council : Council
@@ -62,25 +76,33 @@ pub record HasQuestion (key : List ℕ) (due : CollectStep) (own : List ℕ) : T
   pub is_open : council.exchange ≡ Some exchange
   pub of_it : is_of_collection exchange.question ≡ true
 
--- the collection of the key has come so far
-abbrev pub HasCourse : List ℕ → Course → List ℕ → List Mark → Type 0
-HasCourse key course.Ordered own marks = HasOrder (asked.Collect key) own
-HasCourse key (course.Buries call rounds) own marks = HasBurial key call own marks
-HasCourse key course.Buried own marks = HasStep key step.Round own
-HasCourse key course.Renews own marks = HasStep key step.Ages own ⊎ ((proposer : ℕ) × HasStep key (step.Renew proposer) own)
-HasCourse key course.HearsAges own marks = HasQuestion key step.Ages own
-HasCourse key course.Floors own marks = HasStep key step.Floor own
-HasCourse key course.Removes own marks = HasStep key step.Remove own
-HasCourse key course.HearsRemovals own marks = HasQuestion key step.Remove own
+-- the collection of the key has come so far, whose call may have so many rounds
+abbrev pub HasCourse : List ℕ → ℕ → Course → List ℕ → List Mark → Type 0
+HasCourse key tries course.Ordered own marks = HasOrder (asked.Collect key) own
+HasCourse key tries (course.Buries call rounds) own marks = HasBurial key call own marks × IsWithin tries rounds own
+HasCourse key tries course.Buried own marks = HasStep key step.Round own
+HasCourse key tries course.Renews own marks = HasStep key step.Ages own ⊎ ((proposer : ℕ) × HasStep key (step.Renew proposer) own)
+HasCourse key tries course.HearsAges own marks = HasQuestion key step.Ages own
+HasCourse key tries course.Floors own marks = HasStep key step.Floor own
+HasCourse key tries course.Removes own marks = HasStep key step.Remove own
+HasCourse key tries course.HearsRemovals own marks = HasQuestion key step.Remove own
 
 -- ---- what a hold does
--- It is of the call of the key's round, which changes no state; or it tells of a frame that was harmed.
-abbrev pub IsCollectingMark : List ℕ → Mark → Type 0
-IsCollectingMark key (Begun caller call other program) = (other ≡ key) × (program ≡ keep_always)
-IsCollectingMark key (Proposed p) = ⊤
-IsCollectingMark key (Ended caller call rounds answer) = ⊤
-IsCollectingMark key (Harmed caller call down) = ⊤
-IsCollectingMark key other = ⊥
+-- It is of the call of the key's round, which changes no state and ends with no conflict; or it tells of a frame that was harmed.
+abbrev pub IsBurialMark : List ℕ → Mark → Type 0
+IsBurialMark key (Begun caller call other program) = (other ≡ key) × (program ≡ keep_always)
+IsBurialMark key (Proposed p) = ⊤
+IsBurialMark key (Ended caller call rounds answer) = is_conflict answer ≡ false
+IsBurialMark key (Harmed caller call down) = ⊤
+IsBurialMark key other = ⊥
+
+-- the same, but that call may end with a conflict once it has had so many rounds
+abbrev pub IsCollectingMark : List ℕ → ℕ → Mark → Type 0
+IsCollectingMark key tries (Begun caller call other program) = (other ≡ key) × (program ≡ keep_always)
+IsCollectingMark key tries (Proposed p) = ⊤
+IsCollectingMark key tries (Ended caller call rounds answer) = is_conflict answer ≡ true → rounds ≡ tries
+IsCollectingMark key tries (Harmed caller call down) = ⊤
+IsCollectingMark key tries other = ⊥
 
 -- it is answered that the key is collected, or why it is not
 abbrev pub IsCollectAnswer : List ℕ → OpAnswer → Type 0
@@ -94,9 +116,9 @@ IsCollectAnswer key other = ⊥
 
 -- The collection of the key goes on, and so far it has come then; or the operator was told its answer, and it is over. Such marks are
 -- made, and so many losses at most are marked.
-abbrev pub CollectsIn : {S V : Type 0} → List ℕ → ℕ → View S V → View S V → Result Course OpAnswer → Type 0
-CollectsIn key most old new (Ok course) = OperatesIn (IsCollectingMark key) most old new × HasCourse key course (own_part new 0) new.marks
-CollectsIn key most old new (Err answer) = IsToldIn (asked.Collect key) (IsCollectingMark key) most old new answer × IsCollectAnswer key answer
+abbrev pub CollectsIn : {S V : Type 0} → List ℕ → ℕ → ℕ → View S V → View S V → Result Course OpAnswer → Type 0
+CollectsIn key tries most old new (Ok course) = OperatesIn (IsBurialMark key) most old new × HasCourse key tries course (own_part new 0) new.marks
+CollectsIn key tries most old new (Err answer) = IsToldIn (asked.Collect key) (IsCollectingMark key tries) most old new answer × IsCollectAnswer key answer
 
 -- its call ends with that, and the operator is told that it stopped, and why
 abbrev pub Stops : {S V : Type 0} → Meaning S V → View S V → Answer → View S V → Type 0

@@ -1,7 +1,7 @@
 -- What a hold does for a change of membership, and what of caller 0's own part tells of it.
-use Rattle.std.specs.Prelude.{◌≡◌, ⊤, ℕ, List, Option, None, Some}
+use Rattle.std.specs.Prelude.{◌≡◌, ⊤, ℕ, Bool, true, false, List, Option, None, Some}
 use Rattle.cas_record.specs.declared.mark.Mark.{Mark}
-use Rattle.cas_record.specs.declared.mark.Mark.TheVariants.{Begun, Told}
+use Rattle.cas_record.specs.declared.mark.Mark.TheVariants.{Begun, Ended, Told}
 use Rattle.cas_record.specs.declared.operator.Asked.{Asked}
 use Rattle.cas_record.specs.declared.operator.Asked.TheVariants as asked
 use Rattle.cas_record.specs.declared.operator.OpAnswer.{OpAnswer}
@@ -9,8 +9,11 @@ use Rattle.cas_record.specs.declared.operator.OpAnswer.TheVariants as told
 use Rattle.cas_calls.specs.Council.{due_key}
 use Rattle.cas_cluster.specs.Council.{MemberPlace, NextKeys, ExchangeView, PlanView, Council}
 use Rattle.cas_cluster.specs.StepCollect.{keep_always}
+use Rattle.cas_hold.specs.Conflicts.{is_conflict}
 use Rattle.cas_hold.specs.Mine.{Wanted, wants}
-use Rattle.cas_hold.specs.Open.{HasOpen, beside_in}
+use Rattle.cas_hold.specs.Open.{HasOpen, beside_in, rounds_in, is_met_in, rounds_after}
+use Rattle.cas_hold.specs.Stages.{tells_met}
+use Rattle.cas_hold.specs.declared.deeds.Stage.{Stage}
 use Rattle.cas_hold.specs.declared.membership.Listing.{Listing}
 use Rattle.cas_hold.specs.declared.membership.Listing.TheVariants as listing
 use Rattle.cas_hold.specs.declared.membership.Rescanning.{Rescanning}
@@ -54,12 +57,33 @@ pub record HasRescan (asked : Asked) (call : ℕ) (key own : List ℕ) : Type 0 
   pub called : HasOpen call own
   pub due : IsDue asked key (beside_in own)
 
+-- ---- its rounds
+-- its first round is open, and no conflict ended one
+pub record IsFirstRound (stage : Stage) (own : List ℕ) : Type 0 where
+  pub first : rounds_in own ≡ 1
+  pub unmet : is_met_in own ≡ false
+  pub fresh : tells_met stage ≡ false
+
+-- behind a hold it has had so many, and its stage tells whether a conflict ended the last one, behind which there is to be another
+pub record KeepsRounds (may_repeat : Bool) (was own : List ℕ) (stage : Stage) : Type 0 where
+  pub rounds : rounds_in own ≡ rounds_after was
+  pub met : is_met_in own ≡ tells_met stage
+  pub repeats : is_met_in own ≡ true → may_repeat ≡ true
+
 -- ---- what it marks
--- a call that it begins has the program that leaves its state as it is, and the operator is told nothing yet
-abbrev pub IsRescanMark : Mark → Type 0
-IsRescanMark (Begun caller call key program) = program ≡ keep_always
-IsRescanMark (Told asked answer) = ⊥
-IsRescanMark other = ⊤
+-- a call that it begins has the program that leaves its state as it is, none ends with a conflict, and the operator is told nothing yet
+abbrev pub IsPlanMark : Mark → Type 0
+IsPlanMark (Begun caller call key program) = program ≡ keep_always
+IsPlanMark (Ended caller call rounds answer) = is_conflict answer ≡ false
+IsPlanMark (Told asked answer) = ⊥
+IsPlanMark other = ⊤
+
+-- the same, but a call may end with a conflict once it has had so many rounds
+abbrev pub IsRescanMark : ℕ → Mark → Type 0
+IsRescanMark tries (Begun caller call key program) = program ≡ keep_always
+IsRescanMark tries (Ended caller call rounds answer) = is_conflict answer ≡ true → rounds ≡ tries
+IsRescanMark tries (Told asked answer) = ⊥
+IsRescanMark tries other = ⊤
 
 -- ---- what is told
 -- it names the acceptor that was to join or to leave, or says why not
@@ -77,7 +101,7 @@ IsMembersAnswer what other = ⊥
 abbrev pub StandsAt : Asked → List ℕ → Option Wanted → MembersStep → Type 0
 StandsAt what own wanted step.Next = HasPlan what own
 StandsAt what own wanted (step.Lists waits) = HasListing what own
-StandsAt what own wanted (step.Rescans rescan) = HasRescan what rescan.begun.call rescan.key own × (wanted ≡ Some (wants rescan.begun.call rescan.key keep_always))
+StandsAt what own wanted (step.Rescans rescan) = HasRescan what rescan.begun.call rescan.key own × (wanted ≡ Some (wants rescan.begun.call rescan.key keep_always)) × IsFirstRound rescan.begun.stage own
 
 -- members are asked still, or the change goes on
 abbrev pub IsListedTo : Asked → List ℕ → Listing → Type 0
@@ -88,3 +112,8 @@ IsListedTo what own listing.Over = HasPlan what own
 abbrev pub IsRescannedTo : Asked → ℕ → List ℕ → List ℕ → Rescanning → Type 0
 IsRescannedTo what call key own (rescanning.Goes stage) = HasRescan what call key own
 IsRescannedTo what call key own rescanning.Counted = HasPlan what own
+
+-- while it is open its rounds are kept so
+abbrev pub HasRounds : Bool → List ℕ → List ℕ → Rescanning → Type 0
+HasRounds may_repeat was own (rescanning.Goes stage) = KeepsRounds may_repeat was own stage
+HasRounds may_repeat was own rescanning.Counted = ⊤

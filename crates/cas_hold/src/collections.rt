@@ -8,7 +8,7 @@ ghost use Rattle.cas_cluster.specs.StepCollect.{keep_always};
 ghost use Rattle.cas_cluster.specs.View.{CallerView, IsAt, meaning};
 ghost use Rattle.cas_collect.specs.declared.collect.CollectStep.TheVariants as step;
 ghost use Rattle.cas_flow.specs.Flow.{queue_at};
-ghost use Rattle.cas_hold.specs.Collecting.{CollectsIn, HasBurial, HasCourse, HasQuestion, HasStep, IsCollectAnswer, IsCollectingMark, IsRefusedBurial, Stops, TellsRefusal};
+ghost use Rattle.cas_hold.specs.Collecting.{CollectsIn, HasBurial, HasCourse, HasQuestion, HasStep, IsBurialMark, IsCollectAnswer, IsCollectingMark, IsRefusedBurial, IsWithin, Stops, TellsRefusal, most_rounds};
 ghost use Rattle.cas_hold.specs.Deeds.{IsRefusal, harm_by};
 ghost use Rattle.cas_hold.specs.Kept.{IsKept, Makes};
 ghost use Rattle.cas_hold.specs.Open.{IsFree};
@@ -82,7 +82,8 @@ pub fn order_collection<S: Shelf, V: Disk>(
     ensures makes { Makes 0 world.old world.new [] }
     ensures key { IfOk result (λ collecting. collecting.key ≡ key.now) }
     ensures keeps { IfOk result (λ collecting. collecting.program ≡ keep_always) }
-    ensures ordered { IfOk result (λ collecting. HasCourse key.now collecting.course (own_part world.new 0) world.new.marks) }
+    ensures tries { IfOk result (λ collecting. collecting.tries ≡ tries) }
+    ensures ordered { IfOk result (λ collecting. HasCourse key.now (most_rounds tries) collecting.course (own_part world.new 0) world.new.marks) }
     ensures refused { IfErr result (λ why. IsRefusal why × IsFree (own_part world.new 0)) }
 {
     match prepare(alloc, key, tries) {
@@ -99,6 +100,7 @@ fn prepare(alloc: Global, key: &Key, tries: u32) -> Result<(Asked, KeyCollection
     ensures asked { IfOk result (λ both. both.0 ≡ asked.Collect key.now) }
     ensures key { IfOk result (λ both. both.1.key ≡ key.now) }
     ensures keeps { IfOk result (λ both. both.1.program ≡ keep_always) }
+    ensures tries { IfOk result (λ both. both.1.tries ≡ tries) }
     ensures course { IfOk result (λ both. both.1.course ≡ Course.Ordered) }
 {
     let asked = Asked::Collect(key.copy()?);
@@ -123,14 +125,15 @@ pub fn go_on_collecting<S: Shelf, V: Disk>(
 ) -> Result<KeyCollection, OpAnswer>
     requires kept { IsKept world.old }
     requires keeps { collecting.program ≡ keep_always }
-    requires at { HasCourse collecting.key collecting.course (own_part world.old 0) world.old.marks }
+    requires at { HasCourse collecting.key (most_rounds collecting.tries) collecting.course (own_part world.old 0) world.old.marks }
     ensures kept { IsKept world.new }
     ensures greatest { world.new.greatest ≡ world.old.greatest }
     ensures key { IfOk result (λ next. next.key ≡ collecting.key) }
     ensures keeps { IfOk result (λ next. next.program ≡ keep_always) }
-    ensures goes_on { OnOk result (OperatesIn (IsCollectingMark collecting.key) (harm_by verdict) world.old world.new) }
-    ensures at { IfOk result (λ next. HasCourse collecting.key next.course (own_part world.new 0) world.new.marks) }
-    ensures told { IfErr result (IsToldIn (asked.Collect collecting.key) (IsCollectingMark collecting.key) (harm_by verdict) world.old world.new) }
+    ensures tries { IfOk result (λ next. next.tries ≡ collecting.tries) }
+    ensures goes_on { OnOk result (OperatesIn (IsBurialMark collecting.key) (harm_by verdict) world.old world.new) }
+    ensures at { IfOk result (λ next. HasCourse collecting.key (most_rounds collecting.tries) next.course (own_part world.new 0) world.new.marks) }
+    ensures told { IfErr result (IsToldIn (asked.Collect collecting.key) (IsCollectingMark collecting.key (most_rounds collecting.tries)) (harm_by verdict) world.old world.new) }
     ensures answer { IfErr result (IsCollectAnswer collecting.key) }
 {
     let KeyCollection {
@@ -176,11 +179,11 @@ fn take_step<S: Shelf, V: Disk>(
 ) -> Result<Course, OpAnswer>
     requires kept { IsKept world.old }
     requires keeps { program.now ≡ keep_always }
-    requires at { HasCourse key.now course (own_part world.old 0) world.old.marks }
+    requires at { HasCourse key.now (most_rounds tries) course (own_part world.old 0) world.old.marks }
     requires waits { course ≡ Course.HearsRemovals → (queue_at world.old.flow exchange_place).messages ≢ [] }
     ensures kept { IsKept world.new }
     ensures greatest { world.new.greatest ≡ world.old.greatest }
-    ensures collects { CollectsIn key.now (harm_by verdict) world.old world.new result }
+    ensures collects { CollectsIn key.now (most_rounds tries) (harm_by verdict) world.old world.new result }
 {
     match course {
         Course::Ordered => begin_burial(world, key, program),
@@ -207,7 +210,7 @@ fn begin_burial<S: Shelf, V: Disk>(
     requires at { HasOrder (asked.Collect key.now) (own_part world.old 0) }
     ensures kept { IsKept world.new }
     ensures greatest { world.new.greatest ≡ world.old.greatest }
-    ensures collects { (most : ℕ) → CollectsIn key.now most world.old world.new result }
+    ensures collects { (tries most : ℕ) → 1 ≤ tries → CollectsIn key.now tries most world.old world.new result }
 {
     let call = world.next_call(0);
     match world.begin_collect(call, key, program) {
@@ -251,9 +254,10 @@ fn go_on_burying<S: Shelf, V: Disk>(
     requires kept { IsKept world.old }
     requires keeps { program.now ≡ keep_always }
     requires at { HasBurial key.now call (own_part world.old 0) world.old.marks }
+    requires within { IsWithin (most_rounds tries) rounds (own_part world.old 0) }
     ensures kept { IsKept world.new }
     ensures greatest { world.new.greatest ≡ world.old.greatest }
-    ensures collects { CollectsIn key.now (harm_by verdict) world.old world.new result }
+    ensures collects { CollectsIn key.now (most_rounds tries) (harm_by verdict) world.old world.new result }
 {
     if let Some(told) = world.closed(0) {
         return Err(stop(world, call, told));
@@ -285,7 +289,7 @@ fn bury_again<S: Shelf, V: Disk>(
     requires unclosed { (seen : CallerView) → IsAt world.old.callers 0 seen → closed_in seen.call ≡ None }
     ensures kept { IsKept world.new }
     ensures greatest { world.new.greatest ≡ world.old.greatest }
-    ensures collects { (most : ℕ) → CollectsIn key.now most world.old world.new result }
+    ensures collects { (tries most : ℕ) → IsWithin tries rounds (own_part world.old 0) → CollectsIn key.now tries most world.old world.new result }
 {
     match world.begin_collect(call, key, program) {
         Ok(()) => Ok(Course::Buries {
@@ -311,7 +315,7 @@ fn take_burial_turn<S: Shelf, V: Disk>(
     requires waits { (queue_at world.old.flow 0).messages ≢ [] }
     ensures kept { IsKept world.new }
     ensures greatest { world.new.greatest ≡ world.old.greatest }
-    ensures collects { CollectsIn key.now (harm_by verdict) world.old world.new result }
+    ensures collects { (tries : ℕ) → IsWithin tries rounds (own_part world.old 0) → CollectsIn key.now tries (harm_by verdict) world.old world.new result }
 {
     match world.turn(0, verdict) {
         Ok(()) => Ok(Course::Buries { call, rounds }),
@@ -333,11 +337,12 @@ fn propose_tombstone<S: Shelf, V: Disk>(
 ) -> Result<Course, OpAnswer>
     requires kept { IsKept world.old }
     requires at { HasBurial key.now call (own_part world.old 0) world.old.marks }
+    requires within { IsWithin (most_rounds tries) rounds (own_part world.old 0) }
     requires preparing { IsInPhase world.old 0 true }
     requires unproposed { (seen : CallerView) → IsAt world.old.callers 0 seen → IfSome seen.call (λ open_call. open_call.proposed ≡ None) }
     ensures kept { IsKept world.new }
     ensures greatest { world.new.greatest ≡ world.old.greatest }
-    ensures collects { (most : ℕ) → CollectsIn key.now most world.old world.new result }
+    ensures collects { (most : ℕ) → CollectsIn key.now (most_rounds tries) most world.old world.new result }
 {
     match world.propose_tombstone() {
         Ok(Reading::Empty) => Ok(Course::Buries { call, rounds }),
@@ -362,7 +367,7 @@ fn count_tombstone<S: Shelf, V: Disk>(
     requires counting { IsInPhase world.old 0 false }
     ensures kept { IsKept world.new }
     ensures greatest { world.new.greatest ≡ world.old.greatest }
-    ensures collects { (most : ℕ) → CollectsIn key.now most world.old world.new result }
+    ensures collects { (tries most : ℕ) → CollectsIn key.now tries most world.old world.new result }
 {
     let told = world.count_tombstone();
     if is_done(&told) {
@@ -390,7 +395,7 @@ fn gather_round<S: Shelf, V: Disk>(world: &mut World<S, V>, key: &Key) -> Result
     requires at { HasStep key.now step.Round (own_part world.old 0) }
     ensures kept { IsKept world.new }
     ensures greatest { world.new.greatest ≡ world.old.greatest }
-    ensures collects { (most : ℕ) → CollectsIn key.now most world.old world.new result }
+    ensures collects { (tries most : ℕ) → CollectsIn key.now tries most world.old world.new result }
 {
     match world.gather() {
         Ok(_) => Ok(Course::Renews),
@@ -404,7 +409,7 @@ fn renew<S: Shelf, V: Disk>(world: &mut World<S, V>, key: &Key) -> Result<Course
     requires at { HasStep key.now step.Ages (own_part world.old 0) ⊎ ((proposer : ℕ) × HasStep key.now (step.Renew proposer) (own_part world.old 0)) }
     ensures kept { IsKept world.new }
     ensures greatest { world.new.greatest ≡ world.old.greatest }
-    ensures collects { (most : ℕ) → CollectsIn key.now most world.old world.new result }
+    ensures collects { (tries most : ℕ) → CollectsIn key.now tries most world.old world.new result }
 {
     match world.renew_next() {
         Some(proposer) => renew_proposer(world, key, proposer),
@@ -423,7 +428,7 @@ fn renew_proposer<S: Shelf, V: Disk>(
     requires at { HasStep key.now (step.Renew proposer) (own_part world.old 0) }
     ensures kept { IsKept world.new }
     ensures greatest { world.new.greatest ≡ world.old.greatest }
-    ensures collects { (most : ℕ) → CollectsIn key.now most world.old world.new result }
+    ensures collects { (tries most : ℕ) → CollectsIn key.now tries most world.old world.new result }
 {
     match world.renew(proposer) {
         Ok(_) => Ok(Course::Renews),
@@ -437,7 +442,7 @@ fn ask_ages<S: Shelf, V: Disk>(world: &mut World<S, V>, key: &Key) -> Result<Cou
     requires at { HasStep key.now step.Ages (own_part world.old 0) }
     ensures kept { IsKept world.new }
     ensures greatest { world.new.greatest ≡ world.old.greatest }
-    ensures collects { (most : ℕ) → CollectsIn key.now most world.old world.new result }
+    ensures collects { (tries most : ℕ) → CollectsIn key.now tries most world.old world.new result }
 {
     match world.ask_all(Exchange::Ages) {
         Ok(()) => Ok(Course::HearsAges),
@@ -451,7 +456,7 @@ fn ask_removals<S: Shelf, V: Disk>(world: &mut World<S, V>, key: &Key) -> Result
     requires at { HasStep key.now step.Remove (own_part world.old 0) }
     ensures kept { IsKept world.new }
     ensures greatest { world.new.greatest ≡ world.old.greatest }
-    ensures collects { (most : ℕ) → CollectsIn key.now most world.old world.new result }
+    ensures collects { (tries most : ℕ) → CollectsIn key.now tries most world.old world.new result }
 {
     match world.ask_all(Exchange::Remove) {
         Ok(()) => Ok(Course::HearsRemovals),
@@ -470,7 +475,7 @@ fn hear_ages<S: Shelf, V: Disk>(
     requires at { HasQuestion key.now step.Ages (own_part world.old 0) }
     ensures kept { IsKept world.new }
     ensures greatest { world.new.greatest ≡ world.old.greatest }
-    ensures collects { CollectsIn key.now (harm_by verdict) world.old world.new result }
+    ensures collects { (tries : ℕ) → CollectsIn key.now tries (harm_by verdict) world.old world.new result }
 {
     if world.front(0).is_none() {
         return gather_ages(world, key);
@@ -488,7 +493,7 @@ fn gather_ages<S: Shelf, V: Disk>(world: &mut World<S, V>, key: &Key) -> Result<
     requires through { (queue_at world.old.flow exchange_place).messages ≡ [] }
     ensures kept { IsKept world.new }
     ensures greatest { world.new.greatest ≡ world.old.greatest }
-    ensures collects { (most : ℕ) → CollectsIn key.now most world.old world.new result }
+    ensures collects { (tries most : ℕ) → CollectsIn key.now tries most world.old world.new result }
 {
     match world.gather() {
         Ok(_) => Ok(Course::Floors),
@@ -502,7 +507,7 @@ fn floor<S: Shelf, V: Disk>(world: &mut World<S, V>, key: &Key) -> Course
     requires at { HasStep key.now step.Floor (own_part world.old 0) }
     ensures kept { IsKept world.new }
     ensures greatest { world.new.greatest ≡ world.old.greatest }
-    ensures collects { (most : ℕ) → CollectsIn key.now most world.old world.new (Ok result) }
+    ensures collects { (tries most : ℕ) → CollectsIn key.now tries most world.old world.new (Ok result) }
 {
     world.floor();
     Course::Removes
@@ -519,7 +524,7 @@ fn hear_removals<S: Shelf, V: Disk>(
     requires waits { (queue_at world.old.flow exchange_place).messages ≢ [] }
     ensures kept { IsKept world.new }
     ensures greatest { world.new.greatest ≡ world.old.greatest }
-    ensures collects { CollectsIn key.now (harm_by verdict) world.old world.new result }
+    ensures collects { (tries : ℕ) → CollectsIn key.now tries (harm_by verdict) world.old world.new result }
 {
     match world.turn(0, verdict) {
         Ok(()) => Ok(Course::HearsRemovals),
@@ -534,7 +539,7 @@ fn gather_removals<S: Shelf, V: Disk>(world: &mut World<S, V>, key: Key) -> OpAn
     requires through { (queue_at world.old.flow exchange_place).messages ≡ [] }
     ensures kept { IsKept world.new }
     ensures greatest { world.new.greatest ≡ world.old.greatest }
-    ensures collects { (most : ℕ) → CollectsIn key most world.old world.new (Err result) }
+    ensures collects { (tries most : ℕ) → CollectsIn key tries most world.old world.new (Err result) }
 {
     match world.gather() {
         Ok(_) => {

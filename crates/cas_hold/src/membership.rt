@@ -1,7 +1,7 @@
 //! What one hold does for a change of membership: one call on the world, with the end of caller 0's call or of the operator's where that
 //! told its answer.
 
-ghost use Rattle.std.specs.Prelude.{◌≡◌, ◌↔◌, ◌≢◌, ℕ, [], Some, IsTrue, IfOk, IfErr, OnOk};
+ghost use Rattle.std.specs.Prelude.{◌≡◌, ◌↔◌, ◌≢◌, ℕ, false, [], Some, IsTrue, IfOk, IfErr, OnOk};
 ghost use Rattle.cas_calls.specs.Council.{due_in};
 ghost use Rattle.cas_cluster.specs.Council.{exchange_place};
 ghost use Rattle.cas_cluster.specs.StepCollect.{keep_always};
@@ -10,9 +10,9 @@ ghost use Rattle.cas_members.specs.declared.plan.PlanStep.TheVariants as step;
 ghost use Rattle.cas_world.specs.Plans.{HasFinished, IsAtEnd, IsFor, IsPartial, IsUnderWay, asked_to, step_of};
 ghost use Rattle.cas_hold.specs.Deeds.{IsRefusal, harm_by};
 ghost use Rattle.cas_hold.specs.Kept.{IsKept, Makes};
-ghost use Rattle.cas_hold.specs.Membership.{HasListing, HasPlan, HasRescan, IsListedTo, IsRescannedTo, IsMembersAnswer, IsRescanMark, StandsAt};
+ghost use Rattle.cas_hold.specs.Membership.{HasListing, HasPlan, HasRescan, HasRounds, IsListedTo, IsMembersAnswer, IsPlanMark, IsRescanMark, IsRescannedTo, StandsAt};
 ghost use Rattle.cas_hold.specs.Mine.{wanted_by, wants};
-ghost use Rattle.cas_hold.specs.Open.{IsFree};
+ghost use Rattle.cas_hold.specs.Open.{IsFree, rounds_after};
 ghost use Rattle.cas_hold.specs.Orders.{HasOrder, IsToldIn, OperatesIn};
 ghost use Rattle.cas_hold.specs.OwnParts.{own_part};
 
@@ -110,7 +110,7 @@ pub fn take_up<S: Shelf, V: Disk>(world: &mut World<S, V>, aim: &Aim) -> Result<
     ensures greatest { world.new.greatest ≡ world.old.greatest }
     ensures makes { OnOk result (Makes 0 world.old world.new []) }
     ensures planned { OnOk result (HasPlan (asked_to aim.now.kind aim.now.id) (own_part world.new 0)) }
-    ensures told { IfErr result (IsToldIn (asked_to aim.now.kind aim.now.id) IsRescanMark 0 world.old world.new) }
+    ensures told { IfErr result (IsToldIn (asked_to aim.now.kind aim.now.id) IsPlanMark 0 world.old world.new) }
     ensures answer { IfErr result (IsMembersAnswer (asked_to aim.now.kind aim.now.id)) }
 {
     if is_under_way(world, aim) {
@@ -128,9 +128,9 @@ fn enter<S: Shelf, V: Disk>(world: &mut World<S, V>, aim: &Aim) -> Result<(), Op
     requires planned { HasPlan (asked_to aim.now.kind aim.now.id) (own_part world.old 0) }
     ensures kept { IsKept world.new }
     ensures greatest { world.new.greatest ≡ world.old.greatest }
-    ensures goes_on { OnOk result (OperatesIn IsRescanMark 0 world.old world.new) }
+    ensures goes_on { OnOk result (OperatesIn IsPlanMark 0 world.old world.new) }
     ensures planned { OnOk result (HasPlan (asked_to aim.now.kind aim.now.id) (own_part world.new 0)) }
-    ensures told { IfErr result (IsToldIn (asked_to aim.now.kind aim.now.id) IsRescanMark 0 world.old world.new) }
+    ensures told { IfErr result (IsToldIn (asked_to aim.now.kind aim.now.id) IsPlanMark 0 world.old world.new) }
     ensures answer { IfErr result (IsMembersAnswer (asked_to aim.now.kind aim.now.id)) }
 {
     let Some(proposer) = world.enter_next() else {
@@ -152,7 +152,7 @@ fn list<S: Shelf, V: Disk>(world: &mut World<S, V>, aim: &Aim) -> Result<Option<
     ensures greatest { world.new.greatest ≡ world.old.greatest }
     ensures makes { OnOk result (Makes 0 world.old world.new []) }
     ensures lists { OnOk result (HasListing (asked_to aim.now.kind aim.now.id) (own_part world.new 0)) }
-    ensures told { IfErr result (IsToldIn (asked_to aim.now.kind aim.now.id) IsRescanMark 0 world.old world.new) }
+    ensures told { IfErr result (IsToldIn (asked_to aim.now.kind aim.now.id) IsPlanMark 0 world.old world.new) }
     ensures answer { IfErr result (IsMembersAnswer (asked_to aim.now.kind aim.now.id)) }
 {
     match world.ask_all(Exchange::List) {
@@ -168,7 +168,7 @@ fn finish<S: Shelf, V: Disk>(world: &mut World<S, V>, aim: &Aim) -> OpAnswer
     requires end { IsAtEnd world.old }
     ensures kept { IsKept world.new }
     ensures greatest { world.new.greatest ≡ world.old.greatest }
-    ensures told { IsToldIn (asked_to aim.now.kind aim.now.id) IsRescanMark 0 world.old world.new result }
+    ensures told { IsToldIn (asked_to aim.now.kind aim.now.id) IsPlanMark 0 world.old world.new result }
     ensures answer { IsMembersAnswer (asked_to aim.now.kind aim.now.id) result }
 {
     let answer = finished(world, aim);
@@ -204,9 +204,9 @@ fn begin_rescan<S: Shelf, V: Disk>(
     requires program { program.now ≡ keep_always }
     ensures kept { IsKept world.new }
     ensures greatest { world.new.greatest ≡ world.old.greatest }
-    ensures goes_on { OnOk result (OperatesIn IsRescanMark 0 world.old world.new) }
+    ensures goes_on { OnOk result (OperatesIn IsPlanMark 0 world.old world.new) }
     ensures step { IfOk result (StandsAt (asked_to aim.now.kind aim.now.id) (own_part world.new 0) (wanted_by 0 world.new.marks)) }
-    ensures told { IfErr result (IsToldIn (asked_to aim.now.kind aim.now.id) IsRescanMark 0 world.old world.new) }
+    ensures told { IfErr result (IsToldIn (asked_to aim.now.kind aim.now.id) IsPlanMark 0 world.old world.new) }
     ensures answer { IfErr result (IsMembersAnswer (asked_to aim.now.kind aim.now.id)) }
 {
     match begin(world, 0, &key, program) {
@@ -233,9 +233,9 @@ fn begin_due<S: Shelf, V: Disk>(
     requires program { program.now ≡ keep_always }
     ensures kept { IsKept world.new }
     ensures greatest { world.new.greatest ≡ world.old.greatest }
-    ensures goes_on { OnOk result (OperatesIn IsRescanMark 0 world.old world.new) }
+    ensures goes_on { OnOk result (OperatesIn IsPlanMark 0 world.old world.new) }
     ensures step { IfOk result (StandsAt (asked_to aim.now.kind aim.now.id) (own_part world.new 0) (wanted_by 0 world.new.marks)) }
-    ensures told { IfErr result (IsToldIn (asked_to aim.now.kind aim.now.id) IsRescanMark 0 world.old world.new) }
+    ensures told { IfErr result (IsToldIn (asked_to aim.now.kind aim.now.id) IsPlanMark 0 world.old world.new) }
     ensures answer { IfErr result (IsMembersAnswer (asked_to aim.now.kind aim.now.id)) }
 {
     match due {
@@ -255,9 +255,9 @@ fn take_key<S: Shelf, V: Disk>(
     requires program { program.now ≡ keep_always }
     ensures kept { IsKept world.new }
     ensures greatest { world.new.greatest ≡ world.old.greatest }
-    ensures goes_on { OnOk result (OperatesIn IsRescanMark 0 world.old world.new) }
+    ensures goes_on { OnOk result (OperatesIn IsPlanMark 0 world.old world.new) }
     ensures step { IfOk result (StandsAt (asked_to aim.now.kind aim.now.id) (own_part world.new 0) (wanted_by 0 world.new.marks)) }
-    ensures told { IfErr result (IsToldIn (asked_to aim.now.kind aim.now.id) IsRescanMark 0 world.old world.new) }
+    ensures told { IfErr result (IsToldIn (asked_to aim.now.kind aim.now.id) IsPlanMark 0 world.old world.new) }
     ensures answer { IfErr result (IsMembersAnswer (asked_to aim.now.kind aim.now.id)) }
 {
     match world.due_key() {
@@ -279,9 +279,9 @@ fn settle<S: Shelf, V: Disk>(
     requires program { program.now ≡ keep_always }
     ensures kept { IsKept world.new }
     ensures greatest { world.new.greatest ≡ world.old.greatest }
-    ensures goes_on { OnOk result (OperatesIn IsRescanMark 0 world.old world.new) }
+    ensures goes_on { OnOk result (OperatesIn IsPlanMark 0 world.old world.new) }
     ensures step { IfOk result (StandsAt (asked_to aim.now.kind aim.now.id) (own_part world.new 0) (wanted_by 0 world.new.marks)) }
-    ensures told { IfErr result (IsToldIn (asked_to aim.now.kind aim.now.id) IsRescanMark 0 world.old world.new) }
+    ensures told { IfErr result (IsToldIn (asked_to aim.now.kind aim.now.id) IsPlanMark 0 world.old world.new) }
     ensures answer { IfErr result (IsMembersAnswer (asked_to aim.now.kind aim.now.id)) }
 {
     if world.settle_key().is_some() {
@@ -305,9 +305,9 @@ pub fn advance<S: Shelf, V: Disk>(
     requires program { program.now ≡ keep_always }
     ensures kept { IsKept world.new }
     ensures greatest { world.new.greatest ≡ world.old.greatest }
-    ensures goes_on { OnOk result (OperatesIn IsRescanMark 0 world.old world.new) }
+    ensures goes_on { OnOk result (OperatesIn IsPlanMark 0 world.old world.new) }
     ensures step { IfOk result (StandsAt (asked_to aim.now.kind aim.now.id) (own_part world.new 0) (wanted_by 0 world.new.marks)) }
-    ensures told { IfErr result (IsToldIn (asked_to aim.now.kind aim.now.id) IsRescanMark 0 world.old world.new) }
+    ensures told { IfErr result (IsToldIn (asked_to aim.now.kind aim.now.id) IsPlanMark 0 world.old world.new) }
     ensures answer { IfErr result (IsMembersAnswer (asked_to aim.now.kind aim.now.id)) }
 {
     match world.plan_step() {
@@ -340,9 +340,9 @@ pub fn list_on<S: Shelf, V: Disk>(
     requires lists { HasListing (asked_to aim.now.kind aim.now.id) (own_part world.old 0) }
     ensures kept { IsKept world.new }
     ensures greatest { world.new.greatest ≡ world.old.greatest }
-    ensures goes_on { OnOk result (OperatesIn IsRescanMark (harm_by verdict) world.old world.new) }
+    ensures goes_on { OnOk result (OperatesIn IsPlanMark (harm_by verdict) world.old world.new) }
     ensures listed { IfOk result (IsListedTo (asked_to aim.now.kind aim.now.id) (own_part world.new 0)) }
-    ensures told { IfErr result (IsToldIn (asked_to aim.now.kind aim.now.id) IsRescanMark (harm_by verdict) world.old world.new) }
+    ensures told { IfErr result (IsToldIn (asked_to aim.now.kind aim.now.id) IsPlanMark (harm_by verdict) world.old world.new) }
     ensures answer { IfErr result (IsMembersAnswer (asked_to aim.now.kind aim.now.id)) }
 {
     if world.front(0).is_none() {
@@ -364,9 +364,9 @@ fn gather_list<S: Shelf, V: Disk>(world: &mut World<S, V>, aim: &Aim) -> Result<
     requires through { (queue_at world.old.flow exchange_place).messages ≡ [] }
     ensures kept { IsKept world.new }
     ensures greatest { world.new.greatest ≡ world.old.greatest }
-    ensures goes_on { (most : ℕ) → OnOk result (OperatesIn IsRescanMark most world.old world.new) }
+    ensures goes_on { (most : ℕ) → OnOk result (OperatesIn IsPlanMark most world.old world.new) }
     ensures planned { OnOk result (HasPlan (asked_to aim.now.kind aim.now.id) (own_part world.new 0)) }
-    ensures told { (most : ℕ) → IfErr result (IsToldIn (asked_to aim.now.kind aim.now.id) IsRescanMark most world.old world.new) }
+    ensures told { (most : ℕ) → IfErr result (IsToldIn (asked_to aim.now.kind aim.now.id) IsPlanMark most world.old world.new) }
     ensures answer { IfErr result (IsMembersAnswer (asked_to aim.now.kind aim.now.id)) }
 {
     match world.gather() {
@@ -387,9 +387,9 @@ fn turn_list<S: Shelf, V: Disk>(
     requires waits { (queue_at world.old.flow exchange_place).messages ≢ [] }
     ensures kept { IsKept world.new }
     ensures greatest { world.new.greatest ≡ world.old.greatest }
-    ensures goes_on { OnOk result (OperatesIn IsRescanMark (harm_by verdict) world.old world.new) }
+    ensures goes_on { OnOk result (OperatesIn IsPlanMark (harm_by verdict) world.old world.new) }
     ensures lists { OnOk result (HasListing (asked_to aim.now.kind aim.now.id) (own_part world.new 0)) }
-    ensures told { IfErr result (IsToldIn (asked_to aim.now.kind aim.now.id) IsRescanMark (harm_by verdict) world.old world.new) }
+    ensures told { IfErr result (IsToldIn (asked_to aim.now.kind aim.now.id) IsPlanMark (harm_by verdict) world.old world.new) }
     ensures answer { IfErr result (IsMembersAnswer (asked_to aim.now.kind aim.now.id)) }
 {
     match world.turn(0, verdict) {
@@ -407,7 +407,7 @@ pub enum Rescanning {
 }
 
 /// Goes on with the call of that number, which proposes the key anew, as with any other. An `Err` is what the operator was told, and its
-/// call is over.
+/// call is over. The call ends with a conflict only where no other round may follow it.
 pub fn rescan_on<S: Shelf, V: Disk>(
     world: &mut World<S, V>,
     aim: &Aim,
@@ -422,10 +422,11 @@ pub fn rescan_on<S: Shelf, V: Disk>(
     requires wanted { wanted_by 0 world.old.marks ≡ Some (wants call key.now program.now) }
     ensures kept { IsKept world.new }
     ensures greatest { world.new.greatest ≡ world.old.greatest }
-    ensures goes_on { OnOk result (OperatesIn IsRescanMark (harm_by verdict) world.old world.new) }
+    ensures goes_on { OnOk result (OperatesIn IsPlanMark (harm_by verdict) world.old world.new) }
     ensures wanted { IfOk result (λ now. now ≢ Rescanning.Counted → wanted_by 0 world.new.marks ≡ wanted_by 0 world.old.marks) }
     ensures rescans { IfOk result (IsRescannedTo (asked_to aim.now.kind aim.now.id) call key.now (own_part world.new 0)) }
-    ensures told { IfErr result (IsToldIn (asked_to aim.now.kind aim.now.id) IsRescanMark (harm_by verdict) world.old world.new) }
+    ensures rounds { IfOk result (HasRounds may_repeat (own_part world.old 0) (own_part world.new 0)) }
+    ensures told { (tries : ℕ) → (may_repeat ≡ false → rounds_after (own_part world.old 0) ≡ tries) → IfErr result (IsToldIn (asked_to aim.now.kind aim.now.id) (IsRescanMark tries) (harm_by verdict) world.old world.new) }
     ensures answer { IfErr result (IsMembersAnswer (asked_to aim.now.kind aim.now.id)) }
 {
     match go_on(world, 0, call, key, program, verdict, may_repeat) {

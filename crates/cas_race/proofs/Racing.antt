@@ -66,7 +66,7 @@ module _ {V : Type 0} (tries harms harms_then : ℕ) (old new : Sitting V Mark) 
   }
   change_ran asked key program told is (is_not_begun refusal counted front) = record { own = []; front = front; answered = as_asked asked key program told [] is (is_turned_away refusal); counted = counted }
 
-  pub order_ran : (order : Task) (asked : Asked) (told : OpAnswer) → asked_by order ≡ Some asked → AnswersOrder asked told → Operates asked (IsOrderMark asked) harms harms_then old new told → HasRunTask tries harms harms_then order (said.Operator told) old new
+  pub order_ran : (order : Task) (asked : Asked) (told : OpAnswer) → asked_by order ≡ Some asked → AnswersOrder asked told → Operates asked (IsOrderMark tries asked) harms harms_then old new told → HasRunTask tries harms harms_then order (said.Operator told) old new
   order_ran order asked told is answers (operations.is_told marks front last all_such counted) = record {
     own = marks ++ told_marks asked told;
     front = front;

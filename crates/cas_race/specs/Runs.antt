@@ -46,18 +46,19 @@ pub data IsChange (tries n : ℕ) (key : List ℕ) (program : List Clause) (answ
   is_called : (call rounds : ℕ) (between : List Mark) → AreOfCall call between → (is_conflict answered ≡ true → rounds ≡ tries) → IsChange tries n key program answered (Begun n call key program ∷ between ++ Ended n call rounds answered ∷ [])
   is_turned_away : IsRefusal answered → IsChange tries n key program answered []
 
--- a mark of the operator's that a call for this may make before the one that tells its answer
-abbrev pub IsOrderMark : Asked → Mark → Type 0
-IsOrderMark (ask.Join id) = IsRescanMark
-IsOrderMark (ask.Leave id) = IsRescanMark
-IsOrderMark (ask.Collect key) = IsCollectingMark key
-IsOrderMark (ask.Probe key) = IsAskingHarm
+-- A mark of the operator's that a call for this may make before the one that tells its answer. Where it ends a caller's call with a conflict,
+-- that had all its tries.
+abbrev pub IsOrderMark : ℕ → Asked → Mark → Type 0
+IsOrderMark tries (ask.Join id) = IsRescanMark tries
+IsOrderMark tries (ask.Leave id) = IsRescanMark tries
+IsOrderMark tries (ask.Collect key) = IsCollectingMark key tries
+IsOrderMark tries (ask.Probe key) = IsAskingHarm
 
 -- The operator's marks of one call: such marks, and last the one that bears what was asked and what was answered; what a probe found is not
 -- marked. Or there is none, and the call was refused before it was begun.
-pub data IsOperated (asked : Asked) (answered : OpAnswer) : List Mark → Type 0 where
-  is_told : (before : List Mark) → All (IsOrderMark asked) before → IsOperated asked answered (before ++ told_marks asked answered)
-  is_not_begun : (why : Answer) → IsRefusal why → answered ≡ Stopped why → IsOperated asked answered []
+pub data IsOperated (tries : ℕ) (asked : Asked) (answered : OpAnswer) : List Mark → Type 0 where
+  is_told : (before : List Mark) → All (IsOrderMark tries asked) before → IsOperated tries asked answered (before ++ told_marks asked answered)
+  is_not_begun : (why : Answer) → IsRefusal why → answered ≡ Stopped why → IsOperated tries asked answered []
 
 -- The answer names the acceptor or the key that was asked for, or says what stopped the call. A probe asked all members for the key, and tells
 -- what each of them told.
@@ -70,7 +71,7 @@ AnswersOrder (ask.Probe key) answered = (members : List ℕ) × IsMemberSet memb
 -- the caller's marks of one task, with what it was answered
 pub data IsAnswered (tries n : ℕ) : Task → Told → List Mark → Type 0 where
   is_change : {key : List ℕ} {program : List Clause} {answered : Answer} {own : List Mark} → IsChange tries n key program answered own → IsAnswered tries n (task.Change key program) (said.Change answered) own
-  is_operated : {asked : Asked} {order : Task} {answered : OpAnswer} {own : List Mark} → asked_by order ≡ Some asked → IsOperated asked answered own → AnswersOrder asked answered → IsAnswered tries n order (said.Operator answered) own
+  is_operated : {asked : Asked} {order : Task} {answered : OpAnswer} {own : List Mark} → asked_by order ≡ Some asked → IsOperated tries asked answered own → AnswersOrder asked answered → IsAnswered tries n order (said.Operator answered) own
 
 -- the caller's marks of its tasks, one after another, with these answers
 pub data HasRun (tries n : ℕ) : List Task → List Told → List Mark → Type 0 where

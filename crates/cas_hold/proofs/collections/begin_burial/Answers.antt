@@ -1,7 +1,8 @@
 use Rattle.std.proofs.Common.{sym, subst}
 use Rattle.std.specs.Prelude.{Err}
 use Rattle.cas_hold.specs.Collecting.{CollectsIn}
-use Rattle.cas_hold.proofs.BurialCalls.{may_first, first_may, begun_held, refused_burial, refusal_held}
+use Rattle.cas_hold.proofs.BurialCalls.{may_first, first_may, begun_held, begun_within, refused_burial, refusal_held}
+use Rattle.cas_hold.proofs.Tries.{told_within}
 use Rattle.cas_hold.proofs.collections.begin_burial.Goals as goal
 
 pub begin_collect-requires-clause-asked : goal.begin_collect-requires-clause-asked
@@ -20,7 +21,9 @@ pub returns-in-Ok-clause-greatest : goal.returns-in-Ok-clause-greatest
 returns-in-Ok-clause-greatest g c = (begun_held _ c.args.key.now c.next_call-call.result 0 c.args.world.now c.begin_collect.new.self c.next_call-call.ensures c.requires.at c.requires.kept c.begin_collect.ensures.step c.in-Ok.ensures.ok).greatest
 
 pub returns-in-Ok-clause-collects : goal.returns-in-Ok-clause-collects
-returns-in-Ok-clause-collects g c most = (begun_held _ c.args.key.now c.next_call-call.result most c.args.world.now c.begin_collect.new.self c.next_call-call.ensures c.requires.at c.requires.kept c.begin_collect.ensures.step c.in-Ok.ensures.ok).does
+returns-in-Ok-clause-collects g c tries most some =
+    let does = (begun_held _ c.args.key.now c.next_call-call.result most c.args.world.now c.begin_collect.new.self c.next_call-call.ensures c.requires.at c.requires.kept c.begin_collect.ensures.step c.in-Ok.ensures.ok).does in
+    (does.0, (does.1, begun_within _ c.args.key.now c.next_call-call.result tries c.args.world.now c.begin_collect.new.self c.requires.at c.begin_collect.ensures.step c.in-Ok.ensures.ok some))
 
 pub returns-in-Err-clause-kept : goal.returns-in-Err-clause-kept
 returns-in-Err-clause-kept g c = (refusal_held _ c.args.key.now c.next_call-call.result 0 c.args.world.now c.begin_collect.new.self c.refuse_burial.new.world c.in-Err.refusal c.next_call-call.ensures c.requires.at c.requires.kept c.begin_collect.ensures.step c.in-Err.ensures.err c.refuse_burial.ensures.stops).kept
@@ -29,4 +32,4 @@ pub returns-in-Err-clause-greatest : goal.returns-in-Err-clause-greatest
 returns-in-Err-clause-greatest g c = (refusal_held _ c.args.key.now c.next_call-call.result 0 c.args.world.now c.begin_collect.new.self c.refuse_burial.new.world c.in-Err.refusal c.next_call-call.ensures c.requires.at c.requires.kept c.begin_collect.ensures.step c.in-Err.ensures.err c.refuse_burial.ensures.stops).greatest
 
 pub returns-in-Err-clause-collects : goal.returns-in-Err-clause-collects
-returns-in-Err-clause-collects g c most = subst (λ a. CollectsIn c.args.key.now most c.args.world.now c.refuse_burial.new.world (Err a)) (sym c.refuse_burial.ensures.same) (refusal_held _ c.args.key.now c.next_call-call.result most c.args.world.now c.begin_collect.new.self c.refuse_burial.new.world c.in-Err.refusal c.next_call-call.ensures c.requires.at c.requires.kept c.begin_collect.ensures.step c.in-Err.ensures.err c.refuse_burial.ensures.stops).does
+returns-in-Err-clause-collects g c tries most some = subst (λ a. CollectsIn c.args.key.now tries most c.args.world.now c.refuse_burial.new.world (Err a)) (sym c.refuse_burial.ensures.same) (told_within c.args.key.now tries (refusal_held _ c.args.key.now c.next_call-call.result most c.args.world.now c.begin_collect.new.self c.refuse_burial.new.world c.in-Err.refusal c.next_call-call.ensures c.requires.at c.requires.kept c.begin_collect.ensures.step c.in-Err.ensures.err c.refuse_burial.ensures.stops).does)

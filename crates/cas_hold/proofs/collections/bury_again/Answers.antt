@@ -1,7 +1,8 @@
 use Rattle.std.proofs.Common.{sym, subst}
 use Rattle.std.specs.Prelude.{Err}
 use Rattle.cas_hold.specs.Collecting.{CollectsIn}
-use Rattle.cas_hold.proofs.BurialCalls.{may_again, again_may, again_held, again_stops, again_told, again_calling}
+use Rattle.cas_hold.proofs.BurialCalls.{may_again, again_may, again_held, again_within, again_stops, again_told, again_calling}
+use Rattle.cas_hold.proofs.Tries.{told_within}
 use Rattle.cas_hold.proofs.collections.bury_again.Goals as goal
 
 pub begin_collect-requires-clause-asked : goal.begin_collect-requires-clause-asked
@@ -17,7 +18,9 @@ pub returns-in-Ok-clause-greatest : goal.returns-in-Ok-clause-greatest
 returns-in-Ok-clause-greatest g c = (again_held _ c.args.key.now c.args.call 0 c.args.world.now c.begin_collect.new.self c.requires.at c.requires.kept c.begin_collect.ensures.step c.in-Ok.ensures.ok).greatest
 
 pub returns-in-Ok-clause-collects : goal.returns-in-Ok-clause-collects
-returns-in-Ok-clause-collects g c most = (again_held _ c.args.key.now c.args.call most c.args.world.now c.begin_collect.new.self c.requires.at c.requires.kept c.begin_collect.ensures.step c.in-Ok.ensures.ok).does
+returns-in-Ok-clause-collects g c tries most within =
+    let does = (again_held _ c.args.key.now c.args.call most c.args.world.now c.begin_collect.new.self c.requires.at c.requires.kept c.begin_collect.ensures.step c.in-Ok.ensures.ok).does in
+    (does.0, (does.1, again_within _ c.args.key.now c.args.call tries c.args.rounds c.saturating_add.result c.args.world.now c.begin_collect.new.self c.requires.at c.begin_collect.ensures.step c.saturating_add.ensures within))
 
 pub stop-requires-clause-told : goal.stop-requires-clause-told
 stop-requires-clause-told g c = (again_told c.args.world.now c.begin_collect.new.self c.args.key.now c.args.call c.in-Err-Stopped.field-0 c.in-Err-Stopped.told c.requires.at c.in-Err-Stopped.ensures.err c.in-Err-Stopped.field-0-is).was
@@ -35,4 +38,4 @@ pub returns-in-Err-Stopped-clause-greatest : goal.returns-in-Err-Stopped-clause-
 returns-in-Err-Stopped-clause-greatest g c = (again_stops _ c.args.key.now c.args.call 0 c.args.world.now c.begin_collect.new.self c.stop.new.world c.in-Err-Stopped.told c.requires.at c.requires.kept c.begin_collect.ensures.step (again_told c.args.world.now c.begin_collect.new.self c.args.key.now c.args.call c.in-Err-Stopped.field-0 c.in-Err-Stopped.told c.requires.at c.in-Err-Stopped.ensures.err c.in-Err-Stopped.field-0-is).was (again_told c.args.world.now c.begin_collect.new.self c.args.key.now c.args.call c.in-Err-Stopped.field-0 c.in-Err-Stopped.told c.requires.at c.in-Err-Stopped.ensures.err c.in-Err-Stopped.field-0-is).undone c.stop.ensures.stops).greatest
 
 pub returns-in-Err-Stopped-clause-collects : goal.returns-in-Err-Stopped-clause-collects
-returns-in-Err-Stopped-clause-collects g c most = subst (λ a. CollectsIn c.args.key.now most c.args.world.now c.stop.new.world (Err a)) (sym c.stop.ensures.same) (again_stops _ c.args.key.now c.args.call most c.args.world.now c.begin_collect.new.self c.stop.new.world c.in-Err-Stopped.told c.requires.at c.requires.kept c.begin_collect.ensures.step (again_told c.args.world.now c.begin_collect.new.self c.args.key.now c.args.call c.in-Err-Stopped.field-0 c.in-Err-Stopped.told c.requires.at c.in-Err-Stopped.ensures.err c.in-Err-Stopped.field-0-is).was (again_told c.args.world.now c.begin_collect.new.self c.args.key.now c.args.call c.in-Err-Stopped.field-0 c.in-Err-Stopped.told c.requires.at c.in-Err-Stopped.ensures.err c.in-Err-Stopped.field-0-is).undone c.stop.ensures.stops).does
+returns-in-Err-Stopped-clause-collects g c tries most within = subst (λ a. CollectsIn c.args.key.now tries most c.args.world.now c.stop.new.world (Err a)) (sym c.stop.ensures.same) (told_within c.args.key.now tries (again_stops _ c.args.key.now c.args.call most c.args.world.now c.begin_collect.new.self c.stop.new.world c.in-Err-Stopped.told c.requires.at c.requires.kept c.begin_collect.ensures.step (again_told c.args.world.now c.begin_collect.new.self c.args.key.now c.args.call c.in-Err-Stopped.field-0 c.in-Err-Stopped.told c.requires.at c.in-Err-Stopped.ensures.err c.in-Err-Stopped.field-0-is).was (again_told c.args.world.now c.begin_collect.new.self c.args.key.now c.args.call c.in-Err-Stopped.field-0 c.in-Err-Stopped.told c.requires.at c.in-Err-Stopped.ensures.err c.in-Err-Stopped.field-0-is).undone c.stop.ensures.stops).does)

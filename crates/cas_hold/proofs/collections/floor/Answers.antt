@@ -12,4 +12,4 @@ pub returns-clause-greatest : goal.returns-clause-greatest
 returns-clause-greatest g c = (floor_held c.args.key.now 0 c.args.world.now c.floor.new.self c.requires.at c.requires.kept c.floor.ensures.step).greatest
 
 pub returns-clause-collects : goal.returns-clause-collects
-returns-clause-collects g c most = (floor_held c.args.key.now most c.args.world.now c.floor.new.self c.requires.at c.requires.kept c.floor.ensures.step).does
+returns-clause-collects g c tries most = (floor_held c.args.key.now most c.args.world.now c.floor.new.self c.requires.at c.requires.kept c.floor.ensures.step).does

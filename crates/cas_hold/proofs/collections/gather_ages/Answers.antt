@@ -4,6 +4,7 @@ use Rattle.cas_collect.specs.declared.collect.CollectStep.TheVariants as step
 use Rattle.cas_world.specs.Plans.{was_told}
 use Rattle.cas_hold.specs.Collecting.{CollectsIn}
 use Rattle.cas_hold.proofs.CollectSteps.{may_gather, gather_held, gather_told}
+use Rattle.cas_hold.proofs.Tries.{told_within}
 use Rattle.cas_hold.proofs.collections.gather_ages.Goals as goal
 
 pub gather-requires : goal.gather-requires
@@ -19,7 +20,7 @@ pub returns-in-Ok-clause-greatest : goal.returns-in-Ok-clause-greatest
 returns-in-Ok-clause-greatest g c = (gather_held _ c.args.key.now step.Ages step.Floor 0 c.args.world.now c.gather.new.self _ (λ p. refl) c.requires.at c.requires.kept c.in-Ok.ensures.step c.in-Ok.ensures.ok).greatest
 
 pub returns-in-Ok-clause-collects : goal.returns-in-Ok-clause-collects
-returns-in-Ok-clause-collects g c most = (gather_held _ c.args.key.now step.Ages step.Floor most c.args.world.now c.gather.new.self _ (λ p. refl) c.requires.at c.requires.kept c.in-Ok.ensures.step c.in-Ok.ensures.ok).does
+returns-in-Ok-clause-collects g c tries most = (gather_held _ c.args.key.now step.Ages step.Floor most c.args.world.now c.gather.new.self _ (λ p. refl) c.requires.at c.requires.kept c.in-Ok.ensures.step c.in-Ok.ensures.ok).does
 
 pub returns-clause-kept : goal.returns-clause-kept
 returns-clause-kept g c = (gather_told _ c.args.key.now step.Ages step.Floor 0 c.args.world.now c.gather.new.self c.tell.new.self c.in-Err.told (λ p. refl) c.requires.at c.requires.kept c.in-Err.ensures.step c.in-Err.ensures.err c.tell.ensures.step).kept
@@ -28,4 +29,4 @@ pub returns-clause-greatest : goal.returns-clause-greatest
 returns-clause-greatest g c = (gather_told _ c.args.key.now step.Ages step.Floor 0 c.args.world.now c.gather.new.self c.tell.new.self c.in-Err.told (λ p. refl) c.requires.at c.requires.kept c.in-Err.ensures.step c.in-Err.ensures.err c.tell.ensures.step).greatest
 
 pub returns-clause-collects : goal.returns-clause-collects
-returns-clause-collects g c most = subst (λ a. CollectsIn c.args.key.now most c.args.world.now c.tell.new.self (Err a)) (sym c.tell.ensures.same) (gather_told _ c.args.key.now step.Ages step.Floor most c.args.world.now c.gather.new.self c.tell.new.self c.in-Err.told (λ p. refl) c.requires.at c.requires.kept c.in-Err.ensures.step c.in-Err.ensures.err c.tell.ensures.step).does
+returns-clause-collects g c tries most = subst (λ a. CollectsIn c.args.key.now tries most c.args.world.now c.tell.new.self (Err a)) (sym c.tell.ensures.same) (told_within c.args.key.now tries (gather_told _ c.args.key.now step.Ages step.Floor most c.args.world.now c.gather.new.self c.tell.new.self c.in-Err.told (λ p. refl) c.requires.at c.requires.kept c.in-Err.ensures.step c.in-Err.ensures.err c.tell.ensures.step).does)

@@ -3,6 +3,7 @@ use Rattle.std.specs.Prelude.{Err}
 use Rattle.cas_world.specs.Plans.{was_told}
 use Rattle.cas_hold.specs.Collecting.{CollectsIn}
 use Rattle.cas_hold.proofs.CollectSteps.{may_gather_round, round_held, round_told}
+use Rattle.cas_hold.proofs.Tries.{told_within}
 use Rattle.cas_hold.proofs.collections.gather_round.Goals as goal
 
 pub gather-requires : goal.gather-requires
@@ -18,7 +19,7 @@ pub returns-in-Ok-clause-greatest : goal.returns-in-Ok-clause-greatest
 returns-in-Ok-clause-greatest g c = (round_held _ c.args.key.now 0 c.args.world.now c.gather.new.self _ c.requires.at c.requires.kept c.in-Ok.ensures.step c.in-Ok.ensures.ok).greatest
 
 pub returns-in-Ok-clause-collects : goal.returns-in-Ok-clause-collects
-returns-in-Ok-clause-collects g c most =
+returns-in-Ok-clause-collects g c tries most =
     let held = round_held _ c.args.key.now most c.args.world.now c.gather.new.self _ c.requires.at c.requires.kept c.in-Ok.ensures.step c.in-Ok.ensures.ok in
     (held.does.0, inr (0, held.does.1))
 
@@ -29,6 +30,6 @@ pub returns-clause-greatest : goal.returns-clause-greatest
 returns-clause-greatest g c = (round_told _ c.args.key.now 0 c.args.world.now c.gather.new.self c.tell.new.self c.in-Err.told c.requires.at c.requires.kept c.in-Err.ensures.step c.in-Err.ensures.err c.tell.ensures.step).greatest
 
 pub returns-clause-collects : goal.returns-clause-collects
-returns-clause-collects g c most =
-    subst (λ a. CollectsIn c.args.key.now most c.args.world.now c.tell.new.self (Err a)) (sym c.tell.ensures.same)
-    (round_told _ c.args.key.now most c.args.world.now c.gather.new.self c.tell.new.self c.in-Err.told c.requires.at c.requires.kept c.in-Err.ensures.step c.in-Err.ensures.err c.tell.ensures.step).does
+returns-clause-collects g c tries most =
+    subst (λ a. CollectsIn c.args.key.now tries most c.args.world.now c.tell.new.self (Err a)) (sym c.tell.ensures.same)
+    (told_within c.args.key.now tries (round_told _ c.args.key.now most c.args.world.now c.gather.new.self c.tell.new.self c.in-Err.told c.requires.at c.requires.kept c.in-Err.ensures.step c.in-Err.ensures.err c.tell.ensures.step).does)

@@ -1,5 +1,4 @@
 use Rattle.std.proofs.Common.{sym, subst, ap, ◌∙◌}
-use Rattle.cas_record.specs.declared.operator.OpAnswer.TheVariants as op
 use Rattle.cas_world.specs.Collect.{leaves_no_call}
 use Rattle.cas_world.specs.Plans.{MayTell, was_told}
 use Rattle.cas_hold.specs.Collecting.{tells}

@@ -3,7 +3,8 @@ use Rattle.std.specs.Prelude.{Err}
 use Rattle.cas_record.specs.declared.answer.Answer.TheVariants as answer
 use Rattle.cas_hold.specs.Collecting.{CollectsIn}
 use Rattle.cas_hold.specs.Deeds.{harm_by}
-use Rattle.cas_hold.proofs.BurialCalls.{burial_waits, burial_turn, burial_refusal, turn_held, turn_said, turn_calling, turn_stops}
+use Rattle.cas_hold.proofs.BurialCalls.{burial_waits, burial_turn, burial_refusal, turn_held, turn_within, turn_said, turn_calling, turn_stops}
+use Rattle.cas_hold.proofs.Tries.{told_within}
 use Rattle.cas_hold.proofs.collections.take_burial_turn.Goals as goal
 
 pub turn-requires-clause-waits : goal.turn-requires-clause-waits
@@ -16,7 +17,10 @@ pub returns-in-Ok-clause-greatest : goal.returns-in-Ok-clause-greatest
 returns-in-Ok-clause-greatest g c = (turn_held _ c.args.key.now c.args.call c.args.verdict c.args.world.now c.turn.new.self c.requires.at c.requires.kept c.requires.running (burial_turn _ c.args.world.now c.turn.new.self c.args.key.now c.args.call c.args.verdict c.requires.at c.in-Ok.ensures.ok)).greatest
 
 pub returns-in-Ok-clause-collects : goal.returns-in-Ok-clause-collects
-returns-in-Ok-clause-collects g c = (turn_held _ c.args.key.now c.args.call c.args.verdict c.args.world.now c.turn.new.self c.requires.at c.requires.kept c.requires.running (burial_turn _ c.args.world.now c.turn.new.self c.args.key.now c.args.call c.args.verdict c.requires.at c.in-Ok.ensures.ok)).does
+returns-in-Ok-clause-collects g c tries within =
+    let by = burial_turn _ c.args.world.now c.turn.new.self c.args.key.now c.args.call c.args.verdict c.requires.at c.in-Ok.ensures.ok in
+    let does = (turn_held _ c.args.key.now c.args.call c.args.verdict c.args.world.now c.turn.new.self c.requires.at c.requires.kept c.requires.running by).does in
+    (does.0, (does.1, turn_within _ c.args.key.now c.args.call tries c.args.rounds c.args.verdict c.args.world.now c.turn.new.self c.requires.at c.requires.kept c.requires.running by within))
 
 pub stop-requires-clause-told : goal.stop-requires-clause-told
 stop-requires-clause-told g c = (turn_said _ c.args.world.now c.turn.new.self c.args.key.now c.args.call c.has_proposed-proposed.result c.requires.at (burial_refusal _ c.args.world.now c.turn.new.self c.args.key.now c.args.call c.requires.at c.in-Err.ensures.err) c.has_proposed-proposed.ensures.proposed)
@@ -25,10 +29,10 @@ pub stop-requires-clause-calling : goal.stop-requires-clause-calling
 stop-requires-clause-calling g c = turn_calling _ c.args.world.now c.turn.new.self c.args.key.now c.args.call (answer.NoMemory c.has_proposed-proposed.result) c.requires.at c.requires.kept (burial_refusal _ c.args.world.now c.turn.new.self c.args.key.now c.args.call c.requires.at c.in-Err.ensures.err) (turn_said _ c.args.world.now c.turn.new.self c.args.key.now c.args.call c.has_proposed-proposed.result c.requires.at (burial_refusal _ c.args.world.now c.turn.new.self c.args.key.now c.args.call c.requires.at c.in-Err.ensures.err) c.has_proposed-proposed.ensures.proposed)
 
 pub returns-in-Err-clause-kept : goal.returns-in-Err-clause-kept
-returns-in-Err-clause-kept g c = (turn_stops _ c.args.key.now c.args.call (harm_by c.args.verdict) c.args.world.now c.turn.new.self c.stop.new.world (answer.NoMemory c.has_proposed-proposed.result) c.requires.at c.requires.kept (burial_refusal _ c.args.world.now c.turn.new.self c.args.key.now c.args.call c.requires.at c.in-Err.ensures.err) (turn_said _ c.args.world.now c.turn.new.self c.args.key.now c.args.call c.has_proposed-proposed.result c.requires.at (burial_refusal _ c.args.world.now c.turn.new.self c.args.key.now c.args.call c.requires.at c.in-Err.ensures.err) c.has_proposed-proposed.ensures.proposed) refl c.stop.ensures.stops).kept
+returns-in-Err-clause-kept g c = (turn_stops _ c.args.key.now c.args.call (harm_by c.args.verdict) c.args.world.now c.turn.new.self c.stop.new.world (answer.NoMemory c.has_proposed-proposed.result) c.requires.at c.requires.kept (burial_refusal _ c.args.world.now c.turn.new.self c.args.key.now c.args.call c.requires.at c.in-Err.ensures.err) (turn_said _ c.args.world.now c.turn.new.self c.args.key.now c.args.call c.has_proposed-proposed.result c.requires.at (burial_refusal _ c.args.world.now c.turn.new.self c.args.key.now c.args.call c.requires.at c.in-Err.ensures.err) c.has_proposed-proposed.ensures.proposed) refl refl c.stop.ensures.stops).kept
 
 pub returns-in-Err-clause-greatest : goal.returns-in-Err-clause-greatest
-returns-in-Err-clause-greatest g c = (turn_stops _ c.args.key.now c.args.call (harm_by c.args.verdict) c.args.world.now c.turn.new.self c.stop.new.world (answer.NoMemory c.has_proposed-proposed.result) c.requires.at c.requires.kept (burial_refusal _ c.args.world.now c.turn.new.self c.args.key.now c.args.call c.requires.at c.in-Err.ensures.err) (turn_said _ c.args.world.now c.turn.new.self c.args.key.now c.args.call c.has_proposed-proposed.result c.requires.at (burial_refusal _ c.args.world.now c.turn.new.self c.args.key.now c.args.call c.requires.at c.in-Err.ensures.err) c.has_proposed-proposed.ensures.proposed) refl c.stop.ensures.stops).greatest
+returns-in-Err-clause-greatest g c = (turn_stops _ c.args.key.now c.args.call (harm_by c.args.verdict) c.args.world.now c.turn.new.self c.stop.new.world (answer.NoMemory c.has_proposed-proposed.result) c.requires.at c.requires.kept (burial_refusal _ c.args.world.now c.turn.new.self c.args.key.now c.args.call c.requires.at c.in-Err.ensures.err) (turn_said _ c.args.world.now c.turn.new.self c.args.key.now c.args.call c.has_proposed-proposed.result c.requires.at (burial_refusal _ c.args.world.now c.turn.new.self c.args.key.now c.args.call c.requires.at c.in-Err.ensures.err) c.has_proposed-proposed.ensures.proposed) refl refl c.stop.ensures.stops).greatest
 
 pub returns-in-Err-clause-collects : goal.returns-in-Err-clause-collects
-returns-in-Err-clause-collects g c = subst (λ a. CollectsIn c.args.key.now (harm_by c.args.verdict) c.args.world.now c.stop.new.world (Err a)) (sym c.stop.ensures.same) (turn_stops _ c.args.key.now c.args.call (harm_by c.args.verdict) c.args.world.now c.turn.new.self c.stop.new.world (answer.NoMemory c.has_proposed-proposed.result) c.requires.at c.requires.kept (burial_refusal _ c.args.world.now c.turn.new.self c.args.key.now c.args.call c.requires.at c.in-Err.ensures.err) (turn_said _ c.args.world.now c.turn.new.self c.args.key.now c.args.call c.has_proposed-proposed.result c.requires.at (burial_refusal _ c.args.world.now c.turn.new.self c.args.key.now c.args.call c.requires.at c.in-Err.ensures.err) c.has_proposed-proposed.ensures.proposed) refl c.stop.ensures.stops).does
+returns-in-Err-clause-collects g c tries within = subst (λ a. CollectsIn c.args.key.now tries (harm_by c.args.verdict) c.args.world.now c.stop.new.world (Err a)) (sym c.stop.ensures.same) (told_within c.args.key.now tries (turn_stops _ c.args.key.now c.args.call (harm_by c.args.verdict) c.args.world.now c.turn.new.self c.stop.new.world (answer.NoMemory c.has_proposed-proposed.result) c.requires.at c.requires.kept (burial_refusal _ c.args.world.now c.turn.new.self c.args.key.now c.args.call c.requires.at c.in-Err.ensures.err) (turn_said _ c.args.world.now c.turn.new.self c.args.key.now c.args.call c.has_proposed-proposed.result c.requires.at (burial_refusal _ c.args.world.now c.turn.new.self c.args.key.now c.args.call c.requires.at c.in-Err.ensures.err) c.has_proposed-proposed.ensures.proposed) refl refl c.stop.ensures.stops).does)

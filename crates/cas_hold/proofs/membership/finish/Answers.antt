@@ -1,6 +1,6 @@
 use Rattle.std.proofs.Common.{sym, subst}
 use Rattle.cas_world.specs.Plans.{asked_to, has_finished}
-use Rattle.cas_hold.specs.Membership.{IsRescanMark, IsMembersAnswer}
+use Rattle.cas_hold.specs.Membership.{IsPlanMark, IsMembersAnswer}
 use Rattle.cas_hold.specs.Orders.{IsToldIn}
 use Rattle.cas_hold.proofs.Plans.{is_under_way, finishes}
 use Rattle.cas_hold.proofs.membership.finish.Goals as goal
@@ -18,7 +18,7 @@ pub returns-clause-greatest : goal.returns-clause-greatest
 returns-clause-greatest g c = (finishes c.args.world.now c.tell.new.self (asked_to c.args.aim.now.kind c.args.aim.now.id) c.finished-answer.result c.requires.planned c.requires.kept c.tell.ensures.step).greatest
 
 pub returns-clause-told : goal.returns-clause-told
-returns-clause-told g c = subst (IsToldIn (asked_to c.args.aim.now.kind c.args.aim.now.id) IsRescanMark 0 c.args.world.now c.tell.new.self) (sym c.tell.ensures.same) (finishes c.args.world.now c.tell.new.self (asked_to c.args.aim.now.kind c.args.aim.now.id) c.finished-answer.result c.requires.planned c.requires.kept c.tell.ensures.step).does
+returns-clause-told g c = subst (IsToldIn (asked_to c.args.aim.now.kind c.args.aim.now.id) IsPlanMark 0 c.args.world.now c.tell.new.self) (sym c.tell.ensures.same) (finishes c.args.world.now c.tell.new.self (asked_to c.args.aim.now.kind c.args.aim.now.id) c.finished-answer.result c.requires.planned c.requires.kept c.tell.ensures.step).does
 
 pub returns-clause-answer : goal.returns-clause-answer
 returns-clause-answer g c = subst (IsMembersAnswer (asked_to c.args.aim.now.kind c.args.aim.now.id)) (sym c.tell.ensures.same) c.finished-answer.ensures.answer

@@ -1,6 +1,6 @@
 use Rattle.std.proofs.Common.{sym, subst}
 use Rattle.cas_world.specs.Plans.{asked_to}
-use Rattle.cas_hold.specs.Membership.{IsRescanMark, IsMembersAnswer}
+use Rattle.cas_hold.specs.Membership.{IsPlanMark, IsMembersAnswer}
 use Rattle.cas_hold.specs.Orders.{IsToldIn}
 use Rattle.cas_hold.proofs.Plans.{may_gather_list, gather_list_held, gather_list_told, made_none}
 use Rattle.cas_hold.proofs.membership.gather_list.Goals as goal
@@ -27,7 +27,7 @@ pub returns-clause-greatest : goal.returns-clause-greatest
 returns-clause-greatest g c = (gather_list_told _ 0 c.args.world.now c.gather.new.self c.tell.new.self (asked_to c.args.aim.now.kind c.args.aim.now.id) c.in-Err.told c.requires.lists c.requires.kept c.in-Err.ensures.step c.in-Err.ensures.err c.tell.ensures.step).greatest
 
 pub returns-clause-told : goal.returns-clause-told
-returns-clause-told g c most = subst (IsToldIn (asked_to c.args.aim.now.kind c.args.aim.now.id) IsRescanMark most c.args.world.now c.tell.new.self) (sym c.tell.ensures.same) (gather_list_told _ most c.args.world.now c.gather.new.self c.tell.new.self (asked_to c.args.aim.now.kind c.args.aim.now.id) c.in-Err.told c.requires.lists c.requires.kept c.in-Err.ensures.step c.in-Err.ensures.err c.tell.ensures.step).does.0
+returns-clause-told g c most = subst (IsToldIn (asked_to c.args.aim.now.kind c.args.aim.now.id) IsPlanMark most c.args.world.now c.tell.new.self) (sym c.tell.ensures.same) (gather_list_told _ most c.args.world.now c.gather.new.self c.tell.new.self (asked_to c.args.aim.now.kind c.args.aim.now.id) c.in-Err.told c.requires.lists c.requires.kept c.in-Err.ensures.step c.in-Err.ensures.err c.tell.ensures.step).does.0
 
 pub returns-clause-answer : goal.returns-clause-answer
 returns-clause-answer g c = subst (IsMembersAnswer (asked_to c.args.aim.now.kind c.args.aim.now.id)) (sym c.tell.ensures.same) (gather_list_told _ 0 c.args.world.now c.gather.new.self c.tell.new.self (asked_to c.args.aim.now.kind c.args.aim.now.id) c.in-Err.told c.requires.lists c.requires.kept c.in-Err.ensures.step c.in-Err.ensures.err c.tell.ensures.step).does.1

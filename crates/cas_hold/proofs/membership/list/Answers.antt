@@ -1,6 +1,6 @@
 use Rattle.std.proofs.Common.{sym, subst}
 use Rattle.cas_world.specs.Plans.{asked_to}
-use Rattle.cas_hold.specs.Membership.{IsRescanMark, IsMembersAnswer}
+use Rattle.cas_hold.specs.Membership.{IsPlanMark, IsMembersAnswer}
 use Rattle.cas_hold.specs.Orders.{IsToldIn}
 use Rattle.cas_hold.proofs.Plans.{may_list, list_held, list_told}
 use Rattle.cas_hold.proofs.membership.list.Goals as goal
@@ -27,7 +27,7 @@ pub returns-in-Err-clause-greatest : goal.returns-in-Err-clause-greatest
 returns-in-Err-clause-greatest g c = (list_told _ c.args.world.now c.ask_all.new.self c.tell.new.self (asked_to c.args.aim.now.kind c.args.aim.now.id) c.in-Err.told c.requires.planned c.requires.kept c.in-Err.ensures.step c.in-Err.ensures.err c.tell.ensures.step).greatest
 
 pub returns-in-Err-clause-told : goal.returns-in-Err-clause-told
-returns-in-Err-clause-told g c = subst (IsToldIn (asked_to c.args.aim.now.kind c.args.aim.now.id) IsRescanMark 0 c.args.world.now c.tell.new.self) (sym c.tell.ensures.same) (list_told _ c.args.world.now c.ask_all.new.self c.tell.new.self (asked_to c.args.aim.now.kind c.args.aim.now.id) c.in-Err.told c.requires.planned c.requires.kept c.in-Err.ensures.step c.in-Err.ensures.err c.tell.ensures.step).does.0
+returns-in-Err-clause-told g c = subst (IsToldIn (asked_to c.args.aim.now.kind c.args.aim.now.id) IsPlanMark 0 c.args.world.now c.tell.new.self) (sym c.tell.ensures.same) (list_told _ c.args.world.now c.ask_all.new.self c.tell.new.self (asked_to c.args.aim.now.kind c.args.aim.now.id) c.in-Err.told c.requires.planned c.requires.kept c.in-Err.ensures.step c.in-Err.ensures.err c.tell.ensures.step).does.0
 
 pub returns-in-Err-clause-answer : goal.returns-in-Err-clause-answer
 returns-in-Err-clause-answer g c = subst (IsMembersAnswer (asked_to c.args.aim.now.kind c.args.aim.now.id)) (sym c.tell.ensures.same) (list_told _ c.args.world.now c.ask_all.new.self c.tell.new.self (asked_to c.args.aim.now.kind c.args.aim.now.id) c.in-Err.told c.requires.planned c.requires.kept c.in-Err.ensures.step c.in-Err.ensures.err c.tell.ensures.step).does.1

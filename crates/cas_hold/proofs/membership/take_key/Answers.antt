@@ -3,7 +3,7 @@ use Rattle.std.specs.Prelude.{OnOk, IfErr}
 use Rattle.cas_calls.specs.Council.{due_in}
 use Rattle.cas_world.specs.Plans.{asked_to}
 use Rattle.cas_hold.specs.Kept.{IsKept}
-use Rattle.cas_hold.specs.Membership.{HasPlan, IsRescanMark, IsMembersAnswer}
+use Rattle.cas_hold.specs.Membership.{HasPlan, IsPlanMark, IsMembersAnswer}
 use Rattle.cas_hold.specs.Orders.{OperatesIn, IsToldIn}
 use Rattle.cas_hold.specs.OwnParts.{own_part}
 use Rattle.cas_hold.proofs.Plans.{ordered_still, key_may_tell}
@@ -25,10 +25,10 @@ pub returns-in-Ok-clause-greatest : goal.returns-in-Ok-clause-greatest
 returns-in-Ok-clause-greatest g c = c.begin_due.ensures.greatest ∙ ap (λ v. v.greatest) c.in-Ok.ensures.unchanged
 
 pub returns-in-Ok-clause-goes_on : goal.returns-in-Ok-clause-goes_on
-returns-in-Ok-clause-goes_on g c = subst (λ v. OnOk c.begin_due.result (OperatesIn IsRescanMark 0 v c.begin_due.new.world)) c.in-Ok.ensures.unchanged c.begin_due.ensures.goes_on
+returns-in-Ok-clause-goes_on g c = subst (λ v. OnOk c.begin_due.result (OperatesIn IsPlanMark 0 v c.begin_due.new.world)) c.in-Ok.ensures.unchanged c.begin_due.ensures.goes_on
 
 pub returns-in-Ok-clause-told : goal.returns-in-Ok-clause-told
-returns-in-Ok-clause-told g c = subst (λ v. IfErr c.begin_due.result (IsToldIn (asked_to c.args.aim.now.kind c.args.aim.now.id) IsRescanMark 0 v c.begin_due.new.world)) c.in-Ok.ensures.unchanged c.begin_due.ensures.told
+returns-in-Ok-clause-told g c = subst (λ v. IfErr c.begin_due.result (IsToldIn (asked_to c.args.aim.now.kind c.args.aim.now.id) IsPlanMark 0 v c.begin_due.new.world)) c.in-Ok.ensures.unchanged c.begin_due.ensures.told
 
 pub returns-in-Err-clause-kept : goal.returns-in-Err-clause-kept
 returns-in-Err-clause-kept g c = (key_may_tell c.args.world.now c.due_key.new.self c.tell.new.self (asked_to c.args.aim.now.kind c.args.aim.now.id) c.in-Err.told c.requires.planned c.requires.kept c.in-Err.ensures.step c.in-Err.ensures.told c.tell.ensures.step).kept
@@ -37,7 +37,7 @@ pub returns-in-Err-clause-greatest : goal.returns-in-Err-clause-greatest
 returns-in-Err-clause-greatest g c = (key_may_tell c.args.world.now c.due_key.new.self c.tell.new.self (asked_to c.args.aim.now.kind c.args.aim.now.id) c.in-Err.told c.requires.planned c.requires.kept c.in-Err.ensures.step c.in-Err.ensures.told c.tell.ensures.step).greatest
 
 pub returns-in-Err-clause-told : goal.returns-in-Err-clause-told
-returns-in-Err-clause-told g c = subst (IsToldIn (asked_to c.args.aim.now.kind c.args.aim.now.id) IsRescanMark 0 c.args.world.now c.tell.new.self) (sym c.tell.ensures.same) (key_may_tell c.args.world.now c.due_key.new.self c.tell.new.self (asked_to c.args.aim.now.kind c.args.aim.now.id) c.in-Err.told c.requires.planned c.requires.kept c.in-Err.ensures.step c.in-Err.ensures.told c.tell.ensures.step).does.0
+returns-in-Err-clause-told g c = subst (IsToldIn (asked_to c.args.aim.now.kind c.args.aim.now.id) IsPlanMark 0 c.args.world.now c.tell.new.self) (sym c.tell.ensures.same) (key_may_tell c.args.world.now c.due_key.new.self c.tell.new.self (asked_to c.args.aim.now.kind c.args.aim.now.id) c.in-Err.told c.requires.planned c.requires.kept c.in-Err.ensures.step c.in-Err.ensures.told c.tell.ensures.step).does.0
 
 pub returns-in-Err-clause-answer : goal.returns-in-Err-clause-answer
 returns-in-Err-clause-answer g c = subst (IsMembersAnswer (asked_to c.args.aim.now.kind c.args.aim.now.id)) (sym c.tell.ensures.same) (key_may_tell c.args.world.now c.due_key.new.self c.tell.new.self (asked_to c.args.aim.now.kind c.args.aim.now.id) c.in-Err.told c.requires.planned c.requires.kept c.in-Err.ensures.step c.in-Err.ensures.told c.tell.ensures.step).does.1

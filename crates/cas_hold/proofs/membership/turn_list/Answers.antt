@@ -1,7 +1,7 @@
 use Rattle.std.proofs.Common.{sym, subst, ◌∙◌}
 use Rattle.cas_world.specs.Plans.{MayTell, asked_to, was_told}
 use Rattle.cas_hold.specs.Deeds.{harm_by}
-use Rattle.cas_hold.specs.Membership.{IsRescanMark, IsMembersAnswer}
+use Rattle.cas_hold.specs.Membership.{IsPlanMark, IsMembersAnswer}
 use Rattle.cas_hold.specs.Orders.{IsToldIn}
 use Rattle.cas_hold.proofs.Plans.{list_frame_waits, list_turn_held, list_turn_may_tell, list_turn_told, still_listing}
 use Rattle.cas_hold.proofs.membership.turn_list.Goals as goal
@@ -31,7 +31,7 @@ pub returns-in-Err-clause-greatest : goal.returns-in-Err-clause-greatest
 returns-in-Err-clause-greatest g c = (list_turn_told _ (harm_by c.args.verdict) c.args.world.now c.turn.new.self c.tell.new.self (asked_to c.args.aim.now.kind c.args.aim.now.id) c.no_memory.result c.requires.lists c.requires.kept c.in-Err.ensures.err c.tell.ensures.step).greatest
 
 pub returns-in-Err-clause-told : goal.returns-in-Err-clause-told
-returns-in-Err-clause-told g c = subst (IsToldIn (asked_to c.args.aim.now.kind c.args.aim.now.id) IsRescanMark (harm_by c.args.verdict) c.args.world.now c.tell.new.self) (sym c.tell.ensures.same) (list_turn_told _ (harm_by c.args.verdict) c.args.world.now c.turn.new.self c.tell.new.self (asked_to c.args.aim.now.kind c.args.aim.now.id) c.no_memory.result c.requires.lists c.requires.kept c.in-Err.ensures.err c.tell.ensures.step).does
+returns-in-Err-clause-told g c = subst (IsToldIn (asked_to c.args.aim.now.kind c.args.aim.now.id) IsPlanMark (harm_by c.args.verdict) c.args.world.now c.tell.new.self) (sym c.tell.ensures.same) (list_turn_told _ (harm_by c.args.verdict) c.args.world.now c.turn.new.self c.tell.new.self (asked_to c.args.aim.now.kind c.args.aim.now.id) c.no_memory.result c.requires.lists c.requires.kept c.in-Err.ensures.err c.tell.ensures.step).does
 
 pub returns-in-Err-clause-answer : goal.returns-in-Err-clause-answer
 returns-in-Err-clause-answer g c = subst (IsMembersAnswer (asked_to c.args.aim.now.kind c.args.aim.now.id)) (sym (c.tell.ensures.same ∙ c.no_memory.ensures)) tt

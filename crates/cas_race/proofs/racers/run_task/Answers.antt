@@ -8,13 +8,13 @@ pub returns-in-Change-clause-ran : goal.returns-in-Change-clause-ran
 returns-in-Change-clause-ran g c = change_ran _ _ _ c.args.pass.now c.change.new.pass c.args.task.now c.in-Change.key c.in-Change.program c.change.result c.in-Change.is c.change.ensures.answers
 
 pub returns-in-Join-clause-ran : goal.returns-in-Join-clause-ran
-returns-in-Join-clause-ran g c = order_ran _ _ _ c.args.pass.now c.join_member.new.pass c.args.task.now (ask.Join c.in-Join.id) c.join_member.result (ap asked_by c.in-Join.is) c.join_member.ensures.answer c.join_member.ensures.operates
+returns-in-Join-clause-ran g c = order_ran c.args.tries _ _ c.args.pass.now c.join_member.new.pass c.args.task.now (ask.Join c.in-Join.id) c.join_member.result (ap asked_by c.in-Join.is) c.join_member.ensures.answer c.join_member.ensures.operates
 
 pub returns-in-Leave-clause-ran : goal.returns-in-Leave-clause-ran
-returns-in-Leave-clause-ran g c = order_ran _ _ _ c.args.pass.now c.leave_member.new.pass c.args.task.now (ask.Leave c.in-Leave.id) c.leave_member.result (ap asked_by c.in-Leave.is) c.leave_member.ensures.answer c.leave_member.ensures.operates
+returns-in-Leave-clause-ran g c = order_ran c.args.tries _ _ c.args.pass.now c.leave_member.new.pass c.args.task.now (ask.Leave c.in-Leave.id) c.leave_member.result (ap asked_by c.in-Leave.is) c.leave_member.ensures.answer c.leave_member.ensures.operates
 
 pub returns-in-Collect-clause-ran : goal.returns-in-Collect-clause-ran
-returns-in-Collect-clause-ran g c = order_ran _ _ _ c.args.pass.now c.collect.new.pass c.args.task.now (ask.Collect c.in-Collect.key) c.collect.result (ap asked_by c.in-Collect.is) c.collect.ensures.answer c.collect.ensures.operates
+returns-in-Collect-clause-ran g c = order_ran c.args.tries _ _ c.args.pass.now c.collect.new.pass c.args.task.now (ask.Collect c.in-Collect.key) c.collect.result (ap asked_by c.in-Collect.is) c.collect.ensures.answer c.collect.ensures.operates
 
 pub returns-in-Probe-clause-ran : goal.returns-in-Probe-clause-ran
-returns-in-Probe-clause-ran g c = order_ran _ _ _ c.args.pass.now c.probe.new.pass c.args.task.now (ask.Probe c.in-Probe.key) c.probe.result (ap asked_by c.in-Probe.is) c.probe.ensures.answer c.probe.ensures.operates
+returns-in-Probe-clause-ran g c = order_ran c.args.tries _ _ c.args.pass.now c.probe.new.pass c.args.task.now (ask.Probe c.in-Probe.key) c.probe.result (ap asked_by c.in-Probe.is) c.probe.ensures.answer c.probe.ensures.operates

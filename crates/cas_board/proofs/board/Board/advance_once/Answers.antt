@@ -1,7 +1,7 @@
 use Rattle.std.proofs.Common.{sym, ap, subst, ◌∙◌}
 use Rattle.std.specs.Prelude.{OnOk, IfErr}
 use Rattle.cas_world.specs.Plans.{asked_to}
-use Rattle.cas_hold.specs.Membership.{HasPlan, IsRescanMark}
+use Rattle.cas_hold.specs.Membership.{HasPlan, IsPlanMark}
 use Rattle.cas_hold.specs.Orders.{OperatesIn, IsToldIn}
 use Rattle.cas_hold.specs.OwnParts.{own_part}
 use Rattle.cas_board.proofs.Sittings.{was_held, gives_back}
@@ -16,11 +16,11 @@ advance-step-requires-clause-planned g c =
 pub give_back-requires-clause-makes : goal.give_back-requires-clause-makes
 give_back-requires-clause-makes g c =
     gives_back 0 c.hold-shared.result c.advance-step.new.world c.args.pass.now c.hold-shared.new.seat c.hold-shared.ensures.seat (sym (ap (λ s. s.number) c.hold-shared.ensures.seat ∙ c.requires.operator))
-    (operates_or_tells (asked_to c.args.aim.now.kind c.args.aim.now.id) IsRescanMark 0 c.hold-shared.result c.advance-step.new.world c.advance-step.result (subst (λ v. OnOk c.advance-step.result (OperatesIn IsRescanMark 0 v c.advance-step.new.world)) c.shared.view_is c.advance-step.ensures.goes_on) (subst (λ v. IfErr c.advance-step.result (IsToldIn (asked_to c.args.aim.now.kind c.args.aim.now.id) IsRescanMark 0 v c.advance-step.new.world)) c.shared.view_is c.advance-step.ensures.told))
+    (operates_or_tells (asked_to c.args.aim.now.kind c.args.aim.now.id) IsPlanMark IsPlanMark 0 c.hold-shared.result c.advance-step.new.world c.advance-step.result (subst (λ v. OnOk c.advance-step.result (OperatesIn IsPlanMark 0 v c.advance-step.new.world)) c.shared.view_is c.advance-step.ensures.goes_on) (subst (λ v. IfErr c.advance-step.result (IsToldIn (asked_to c.args.aim.now.kind c.args.aim.now.id) IsPlanMark 0 v c.advance-step.new.world)) c.shared.view_is c.advance-step.ensures.told))
 
 pub returns-clause-goes_on : goal.returns-clause-goes_on
 returns-clause-goes_on g c =
-    on_ok c.advance-step.result (operator_goes_on c.hold-shared.result c.advance-step.new.world c.args.pass.now c.give_back.new.pass (was_held 0 c.hold-shared.result c.advance-step.new.world c.args.pass.now c.hold-shared.new.seat c.give_back.new.pass c.hold-shared.ensures.seen c.hold-shared.ensures.seat (sym (ap (λ s. s.number) c.hold-shared.ensures.seat ∙ c.requires.operator)) c.give_back.ensures.pass) IsRescanMark 0) (subst (λ v. OnOk c.advance-step.result (OperatesIn IsRescanMark 0 v c.advance-step.new.world)) c.shared.view_is c.advance-step.ensures.goes_on)
+    on_ok c.advance-step.result (operator_goes_on c.hold-shared.result c.advance-step.new.world c.args.pass.now c.give_back.new.pass (was_held 0 c.hold-shared.result c.advance-step.new.world c.args.pass.now c.hold-shared.new.seat c.give_back.new.pass c.hold-shared.ensures.seen c.hold-shared.ensures.seat (sym (ap (λ s. s.number) c.hold-shared.ensures.seat ∙ c.requires.operator)) c.give_back.ensures.pass) IsPlanMark 0) (subst (λ v. OnOk c.advance-step.result (OperatesIn IsPlanMark 0 v c.advance-step.new.world)) c.shared.view_is c.advance-step.ensures.goes_on)
 
 pub returns-clause-step : goal.returns-clause-step
 returns-clause-step g c =
@@ -28,4 +28,4 @@ returns-clause-step g c =
 
 pub returns-clause-told : goal.returns-clause-told
 returns-clause-told g c =
-    if_err c.advance-step.result (operator_told c.hold-shared.result c.advance-step.new.world c.args.pass.now c.give_back.new.pass (was_held 0 c.hold-shared.result c.advance-step.new.world c.args.pass.now c.hold-shared.new.seat c.give_back.new.pass c.hold-shared.ensures.seen c.hold-shared.ensures.seat (sym (ap (λ s. s.number) c.hold-shared.ensures.seat ∙ c.requires.operator)) c.give_back.ensures.pass) (asked_to c.args.aim.now.kind c.args.aim.now.id) IsRescanMark 0) (subst (λ v. IfErr c.advance-step.result (IsToldIn (asked_to c.args.aim.now.kind c.args.aim.now.id) IsRescanMark 0 v c.advance-step.new.world)) c.shared.view_is c.advance-step.ensures.told)
+    if_err c.advance-step.result (operator_told c.hold-shared.result c.advance-step.new.world c.args.pass.now c.give_back.new.pass (was_held 0 c.hold-shared.result c.advance-step.new.world c.args.pass.now c.hold-shared.new.seat c.give_back.new.pass c.hold-shared.ensures.seen c.hold-shared.ensures.seat (sym (ap (λ s. s.number) c.hold-shared.ensures.seat ∙ c.requires.operator)) c.give_back.ensures.pass) (asked_to c.args.aim.now.kind c.args.aim.now.id) IsPlanMark 0) (subst (λ v. IfErr c.advance-step.result (IsToldIn (asked_to c.args.aim.now.kind c.args.aim.now.id) IsPlanMark 0 v c.advance-step.new.world)) c.shared.view_is c.advance-step.ensures.told)

@@ -14,7 +14,7 @@ go_on_probing-next-requires-clause-asks g c = (c.requires.asks.0, subst (HasProb
 pub give_back-requires-clause-makes : goal.give_back-requires-clause-makes
 give_back-requires-clause-makes g c =
     gives_back 0 c.hold-shared.result c.go_on_probing-next.new.world c.args.pass.now c.hold-shared.new.seat c.hold-shared.ensures.seat (sym (ap (λ s. s.number) c.hold-shared.ensures.seat ∙ c.requires.operator))
-    (operates_or_tells (asked.Probe c.args.probing.key) IsAskingHarm (harm_by c.args.verdict) c.hold-shared.result c.go_on_probing-next.new.world c.go_on_probing-next.result (subst (λ v. OnOk c.go_on_probing-next.result (OperatesIn IsAskingHarm (harm_by c.args.verdict) v c.go_on_probing-next.new.world)) c.shared.view_is c.go_on_probing-next.ensures.goes_on) (subst (λ v. IfErr c.go_on_probing-next.result (IsToldIn (asked.Probe c.args.probing.key) IsAskingHarm (harm_by c.args.verdict) v c.go_on_probing-next.new.world)) c.shared.view_is c.go_on_probing-next.ensures.told))
+    (operates_or_tells (asked.Probe c.args.probing.key) IsAskingHarm IsAskingHarm (harm_by c.args.verdict) c.hold-shared.result c.go_on_probing-next.new.world c.go_on_probing-next.result (subst (λ v. OnOk c.go_on_probing-next.result (OperatesIn IsAskingHarm (harm_by c.args.verdict) v c.go_on_probing-next.new.world)) c.shared.view_is c.go_on_probing-next.ensures.goes_on) (subst (λ v. IfErr c.go_on_probing-next.result (IsToldIn (asked.Probe c.args.probing.key) IsAskingHarm (harm_by c.args.verdict) v c.go_on_probing-next.new.world)) c.shared.view_is c.go_on_probing-next.ensures.told))
 
 pub returns-clause-goes_on : goal.returns-clause-goes_on
 returns-clause-goes_on g c = on_ok c.go_on_probing-next.result (operator_goes_on c.hold-shared.result c.go_on_probing-next.new.world c.args.pass.now c.give_back.new.pass (was_held 0 c.hold-shared.result c.go_on_probing-next.new.world c.args.pass.now c.hold-shared.new.seat c.give_back.new.pass c.hold-shared.ensures.seen c.hold-shared.ensures.seat (sym (ap (λ s. s.number) c.hold-shared.ensures.seat ∙ c.requires.operator)) c.give_back.ensures.pass) IsAskingHarm (harm_by c.args.verdict)) (subst (λ v. OnOk c.go_on_probing-next.result (OperatesIn IsAskingHarm (harm_by c.args.verdict) v c.go_on_probing-next.new.world)) c.shared.view_is c.go_on_probing-next.ensures.goes_on)

@@ -2,7 +2,7 @@ use Rattle.std.proofs.Common.{ℕ, List, sym, ap, subst, ◌∙◌}
 use Rattle.std.specs.Prelude.{OnOk, IfOk, IfErr}
 use Rattle.cas_world.specs.Plans.{asked_to}
 use Rattle.cas_hold.specs.Deeds.{harm_by}
-use Rattle.cas_hold.specs.Membership.{HasListing, IsListedTo, IsRescanMark}
+use Rattle.cas_hold.specs.Membership.{HasListing, IsListedTo, IsPlanMark}
 use Rattle.cas_hold.specs.Orders.{OperatesIn, IsToldIn}
 use Rattle.cas_board.proofs.Sittings.{was_held, gives_back}
 use Rattle.cas_board.proofs.Operating.{operator_part, operator_own, operator_goes_on, operator_told, operates_or_tells, on_ok, if_err}
@@ -15,11 +15,11 @@ list_on-listing-requires-clause-lists g c =
 pub give_back-requires-clause-makes : goal.give_back-requires-clause-makes
 give_back-requires-clause-makes g c =
     gives_back 0 c.hold-shared.result c.list_on-listing.new.world c.args.pass.now c.hold-shared.new.seat c.hold-shared.ensures.seat (sym (ap (λ s. s.number) c.hold-shared.ensures.seat ∙ c.requires.operator))
-    (operates_or_tells (asked_to c.args.aim.now.kind c.args.aim.now.id) IsRescanMark (harm_by c.args.verdict) c.hold-shared.result c.list_on-listing.new.world c.list_on-listing.result (subst (λ v. OnOk c.list_on-listing.result (OperatesIn IsRescanMark (harm_by c.args.verdict) v c.list_on-listing.new.world)) c.shared.view_is c.list_on-listing.ensures.goes_on) (subst (λ v. IfErr c.list_on-listing.result (IsToldIn (asked_to c.args.aim.now.kind c.args.aim.now.id) IsRescanMark (harm_by c.args.verdict) v c.list_on-listing.new.world)) c.shared.view_is c.list_on-listing.ensures.told))
+    (operates_or_tells (asked_to c.args.aim.now.kind c.args.aim.now.id) IsPlanMark IsPlanMark (harm_by c.args.verdict) c.hold-shared.result c.list_on-listing.new.world c.list_on-listing.result (subst (λ v. OnOk c.list_on-listing.result (OperatesIn IsPlanMark (harm_by c.args.verdict) v c.list_on-listing.new.world)) c.shared.view_is c.list_on-listing.ensures.goes_on) (subst (λ v. IfErr c.list_on-listing.result (IsToldIn (asked_to c.args.aim.now.kind c.args.aim.now.id) IsPlanMark (harm_by c.args.verdict) v c.list_on-listing.new.world)) c.shared.view_is c.list_on-listing.ensures.told))
 
 pub returns-clause-goes_on : goal.returns-clause-goes_on
 returns-clause-goes_on g c =
-    on_ok c.list_on-listing.result (operator_goes_on c.hold-shared.result c.list_on-listing.new.world c.args.pass.now c.give_back.new.pass (was_held 0 c.hold-shared.result c.list_on-listing.new.world c.args.pass.now c.hold-shared.new.seat c.give_back.new.pass c.hold-shared.ensures.seen c.hold-shared.ensures.seat (sym (ap (λ s. s.number) c.hold-shared.ensures.seat ∙ c.requires.operator)) c.give_back.ensures.pass) IsRescanMark (harm_by c.args.verdict)) (subst (λ v. OnOk c.list_on-listing.result (OperatesIn IsRescanMark (harm_by c.args.verdict) v c.list_on-listing.new.world)) c.shared.view_is c.list_on-listing.ensures.goes_on)
+    on_ok c.list_on-listing.result (operator_goes_on c.hold-shared.result c.list_on-listing.new.world c.args.pass.now c.give_back.new.pass (was_held 0 c.hold-shared.result c.list_on-listing.new.world c.args.pass.now c.hold-shared.new.seat c.give_back.new.pass c.hold-shared.ensures.seen c.hold-shared.ensures.seat (sym (ap (λ s. s.number) c.hold-shared.ensures.seat ∙ c.requires.operator)) c.give_back.ensures.pass) IsPlanMark (harm_by c.args.verdict)) (subst (λ v. OnOk c.list_on-listing.result (OperatesIn IsPlanMark (harm_by c.args.verdict) v c.list_on-listing.new.world)) c.shared.view_is c.list_on-listing.ensures.goes_on)
 
 pub returns-clause-listed : goal.returns-clause-listed
 returns-clause-listed g c =
@@ -27,4 +27,4 @@ returns-clause-listed g c =
 
 pub returns-clause-told : goal.returns-clause-told
 returns-clause-told g c =
-    if_err c.list_on-listing.result (operator_told c.hold-shared.result c.list_on-listing.new.world c.args.pass.now c.give_back.new.pass (was_held 0 c.hold-shared.result c.list_on-listing.new.world c.args.pass.now c.hold-shared.new.seat c.give_back.new.pass c.hold-shared.ensures.seen c.hold-shared.ensures.seat (sym (ap (λ s. s.number) c.hold-shared.ensures.seat ∙ c.requires.operator)) c.give_back.ensures.pass) (asked_to c.args.aim.now.kind c.args.aim.now.id) IsRescanMark (harm_by c.args.verdict)) (subst (λ v. IfErr c.list_on-listing.result (IsToldIn (asked_to c.args.aim.now.kind c.args.aim.now.id) IsRescanMark (harm_by c.args.verdict) v c.list_on-listing.new.world)) c.shared.view_is c.list_on-listing.ensures.told)
+    if_err c.list_on-listing.result (operator_told c.hold-shared.result c.list_on-listing.new.world c.args.pass.now c.give_back.new.pass (was_held 0 c.hold-shared.result c.list_on-listing.new.world c.args.pass.now c.hold-shared.new.seat c.give_back.new.pass c.hold-shared.ensures.seen c.hold-shared.ensures.seat (sym (ap (λ s. s.number) c.hold-shared.ensures.seat ∙ c.requires.operator)) c.give_back.ensures.pass) (asked_to c.args.aim.now.kind c.args.aim.now.id) IsPlanMark (harm_by c.args.verdict)) (subst (λ v. IfErr c.list_on-listing.result (IsToldIn (asked_to c.args.aim.now.kind c.args.aim.now.id) IsPlanMark (harm_by c.args.verdict) v c.list_on-listing.new.world)) c.shared.view_is c.list_on-listing.ensures.told)

@@ -1,4 +1,5 @@
 use Rattle.std.proofs.Common.{[], sym, ap, subst, ◌∙◌}
+use Rattle.cas_hold.specs.Collecting.{most_rounds}
 use Rattle.cas_hold.specs.Deeds.{IsRefusal}
 use Rattle.cas_hold.specs.Kept.{Makes}
 use Rattle.cas_hold.specs.Open.{IsFree}
@@ -23,7 +24,7 @@ returns-clause-front g c =
 
 pub returns-clause-ordered : goal.returns-clause-ordered
 returns-clause-ordered g c =
-    course_then c.args.key.now c.order_collection-ordered.result _ _ _ _ (operator_own c.hold-shared.result c.order_collection-ordered.new.world c.args.pass.now c.give_back.new.pass (was_held 0 c.hold-shared.result c.order_collection-ordered.new.world c.args.pass.now c.hold-shared.new.seat c.give_back.new.pass c.hold-shared.ensures.seen c.hold-shared.ensures.seat (sym (ap (λ s. s.number) c.hold-shared.ensures.seat ∙ c.requires.operator)) c.give_back.ensures.pass)) (was_held 0 c.hold-shared.result c.order_collection-ordered.new.world c.args.pass.now c.hold-shared.new.seat c.give_back.new.pass c.hold-shared.ensures.seen c.hold-shared.ensures.seat (sym (ap (λ s. s.number) c.hold-shared.ensures.seat ∙ c.requires.operator)) c.give_back.ensures.pass).seen c.order_collection-ordered.ensures.ordered
+    course_then c.args.key.now (most_rounds c.args.tries) c.order_collection-ordered.result _ _ _ _ (operator_own c.hold-shared.result c.order_collection-ordered.new.world c.args.pass.now c.give_back.new.pass (was_held 0 c.hold-shared.result c.order_collection-ordered.new.world c.args.pass.now c.hold-shared.new.seat c.give_back.new.pass c.hold-shared.ensures.seen c.hold-shared.ensures.seat (sym (ap (λ s. s.number) c.hold-shared.ensures.seat ∙ c.requires.operator)) c.give_back.ensures.pass)) (was_held 0 c.hold-shared.result c.order_collection-ordered.new.world c.args.pass.now c.hold-shared.new.seat c.give_back.new.pass c.hold-shared.ensures.seen c.hold-shared.ensures.seat (sym (ap (λ s. s.number) c.hold-shared.ensures.seat ∙ c.requires.operator)) c.give_back.ensures.pass).seen c.order_collection-ordered.ensures.ordered
 
 pub returns-clause-refused : goal.returns-clause-refused
 returns-clause-refused g c =

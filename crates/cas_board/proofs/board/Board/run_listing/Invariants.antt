@@ -1,10 +1,10 @@
 use Rattle.cas_world.specs.Plans.{asked_to}
-use Rattle.cas_hold.specs.Membership.{HasListing, IsRescanMark}
+use Rattle.cas_hold.specs.Membership.{HasListing, IsPlanMark}
 use Rattle.cas_board.proofs.Operating.{HasRunOrder}
 use Rattle.cas_board.proofs.board.Board.run_listing.Given as goal
 
 abbrev pub invariant-loop : goal.invariant-loop
 invariant-loop g l = record {
-  run : HasRunOrder IsRescanMark (g.F.Fate.harm_count l.initial.fate) (g.F.Fate.harm_count l.fate) l.initial.pass l.pass;
+  run : HasRunOrder IsPlanMark (g.F.Fate.harm_count l.initial.fate) (g.F.Fate.harm_count l.fate) l.initial.pass l.pass;
   lists : HasListing (asked_to l.aim.kind l.aim.id) l.pass.own;
 }

@@ -1,13 +1,16 @@
 use Rattle.std.specs.Prelude.{◌≡◌, Some}
 use Rattle.cas_world.specs.Plans.{asked_to}
-use Rattle.cas_hold.specs.Membership.{HasRescan, IsRescanMark}
+use Rattle.cas_hold.specs.Membership.{HasRescan, IsPlanMark}
 use Rattle.cas_hold.specs.Mine.{wanted_by, wants}
+use Rattle.cas_hold.specs.Stages.{tells_met}
 use Rattle.cas_board.proofs.Operating.{HasRunOrder}
+use Rattle.cas_board.proofs.Sittings.{HasTried}
 use Rattle.cas_board.proofs.board.Board.run_rescan.Given as goal
 
 abbrev pub invariant-loop : goal.invariant-loop
 invariant-loop g l = record {
-  run : HasRunOrder IsRescanMark (g.F.Fate.harm_count l.initial.fate) (g.F.Fate.harm_count l.fate) l.initial.pass l.pass;
+  run : HasRunOrder IsPlanMark (g.F.Fate.harm_count l.initial.fate) (g.F.Fate.harm_count l.fate) l.initial.pass l.pass;
   rescans : HasRescan (asked_to l.aim.kind l.aim.id) l.fn.rescan.begun.call l.fn.rescan.key l.pass.own;
   wanted : wanted_by 0 l.pass.seen ≡ Some (wants l.fn.rescan.begun.call l.fn.rescan.key l.program);
+  tried : HasTried l.initial.tries l.rounds (tells_met l.stage) l.pass.own;
 }

@@ -1,8 +1,9 @@
 use Rattle.std.proofs.Common.{ap, ◌∙◌}
 use Rattle.cas_world.specs.Plans.{asked_to}
-use Rattle.cas_hold.specs.Membership.{IsRescanMark}
+use Rattle.cas_hold.specs.Membership.{IsPlanMark, IsRescanMark}
+use Rattle.cas_hold.proofs.Tries.{rescan_within}
 use Rattle.cas_board.proofs.Sittings.{counted_none}
-use Rattle.cas_board.proofs.Operating.{on_ok, if_err}
+use Rattle.cas_board.proofs.Operating.{on_ok, if_err, operated_less, told_less}
 use Rattle.cas_board.proofs.Steps.{step_goes_on, step_tells}
 use Rattle.cas_board.proofs.board.Board.take_step.Goals as goal
 
@@ -16,12 +17,12 @@ finish_step-requires-clause-stands g c =
 
 pub returns-in-Ok-clause-goes_on : goal.returns-in-Ok-clause-goes_on
 returns-in-Ok-clause-goes_on g c =
-    on_ok c.finish_step.result (step_goes_on IsRescanMark _ _ c.args.pass.now c.advance_once.new.pass c.finish_step.new.pass c.advance_once.ensures.pass c.finish_step.ensures.pass c.in-Ok.ensures.goes_on) c.finish_step.ensures.goes_on
+    on_ok c.finish_step.result (step_goes_on IsPlanMark _ _ c.args.pass.now c.advance_once.new.pass c.finish_step.new.pass c.advance_once.ensures.pass c.finish_step.ensures.pass c.in-Ok.ensures.goes_on) c.finish_step.ensures.goes_on
 
 pub returns-in-Ok-clause-told : goal.returns-in-Ok-clause-told
 returns-in-Ok-clause-told g c =
-    if_err c.finish_step.result (step_tells IsRescanMark _ _ c.args.pass.now c.advance_once.new.pass c.finish_step.new.pass c.advance_once.ensures.pass c.finish_step.ensures.pass c.in-Ok.ensures.goes_on (asked_to c.args.aim.now.kind c.args.aim.now.id)) c.finish_step.ensures.told
+    if_err c.finish_step.result (step_tells (IsRescanMark c.args.tries) _ _ c.args.pass.now c.advance_once.new.pass c.finish_step.new.pass c.advance_once.ensures.pass c.finish_step.ensures.pass (operated_less IsPlanMark (IsRescanMark c.args.tries) (rescan_within c.args.tries) 0 c.args.pass.now c.advance_once.new.pass c.in-Ok.ensures.goes_on) (asked_to c.args.aim.now.kind c.args.aim.now.id)) c.finish_step.ensures.told
 
 pub returns-in-Err-clause-told : goal.returns-in-Err-clause-told
 returns-in-Err-clause-told g c =
-    (0, counted_none (g.F.Fate.harm_count c.args.fate.now), c.in-Err.ensures.told)
+    (0, counted_none (g.F.Fate.harm_count c.args.fate.now), told_less IsPlanMark (IsRescanMark c.args.tries) (rescan_within c.args.tries) (asked_to c.args.aim.now.kind c.args.aim.now.id) 0 c.args.pass.now c.advance_once.new.pass c.in-Err.told c.in-Err.ensures.told)

@@ -1,14 +1,15 @@
 use Rattle.std.proofs.Common.{refl, ap, ◌∙◌}
 use Rattle.cas_world.specs.Plans.{asked_to}
-use Rattle.cas_hold.specs.Membership.{IsRescanMark}
+use Rattle.cas_hold.specs.Membership.{IsPlanMark, IsRescanMark}
+use Rattle.cas_hold.proofs.Tries.{rescan_within}
 use Rattle.cas_board.proofs.Sittings.{still_pass}
-use Rattle.cas_board.proofs.Operating.{order_runs, order_ran, order_goes_on, order_ends}
+use Rattle.cas_board.proofs.Operating.{order_runs, order_ran, order_goes_on, order_ends, run_less}
 use Rattle.cas_board.proofs.Steps.{stays}
 use Rattle.cas_board.proofs.board.Board.take_steps.Goals as goal
 
 pub loop-init : goal.loop-init
 loop-init g c =
-    record { run = order_runs IsRescanMark (g.F.Fate.harm_count c.args.fate.now) c.args.pass.now; planned = c.requires.planned }
+    record { run = order_runs IsPlanMark (g.F.Fate.harm_count c.args.fate.now) c.args.pass.now; planned = c.requires.planned }
 
 pub take_step-requires-clause-pass : goal.take_step-requires-clause-pass
 take_step-requires-clause-pass g c =
@@ -24,15 +25,15 @@ take_step-requires-clause-planned g c =
 
 pub returns-in-Err-clause-pass : goal.returns-in-Err-clause-pass
 returns-in-Err-clause-pass g c =
-    order_ran IsRescanMark _ _ c.args.pass.now c.loop.pass c.loop.pass c.loop.invariant.run refl c.in-Err.ensures.told.0 _ c.take_step.new.pass (stays c.loop.pass) c.in-Err.ensures.told.1 c.take_step.ensures.pass
+    order_ran IsPlanMark _ _ c.args.pass.now c.loop.pass c.loop.pass c.loop.invariant.run refl c.in-Err.ensures.told.0 _ c.take_step.new.pass (stays c.loop.pass) c.in-Err.ensures.told.1 c.take_step.ensures.pass
 
 pub returns-in-Err-clause-told : goal.returns-in-Err-clause-told
 returns-in-Err-clause-told g c =
-    order_ends IsRescanMark _ _ c.args.pass.now c.loop.pass c.loop.pass c.loop.invariant.run refl c.in-Err.ensures.told.0 _ c.take_step.new.pass (stays c.loop.pass) c.in-Err.ensures.told.1 c.take_step.ensures.pass (asked_to c.args.aim.now.kind c.args.aim.now.id) c.in-Err.told c.in-Err.ensures.told.2
+    order_ends (IsRescanMark c.args.tries) _ _ c.args.pass.now c.loop.pass c.loop.pass (run_less IsPlanMark (IsRescanMark c.args.tries) (rescan_within c.args.tries) _ _ c.args.pass.now c.loop.pass c.loop.invariant.run) refl c.in-Err.ensures.told.0 _ c.take_step.new.pass (stays c.loop.pass) c.in-Err.ensures.told.1 c.take_step.ensures.pass (asked_to c.args.aim.now.kind c.args.aim.now.id) c.in-Err.told c.in-Err.ensures.told.2
 
 pub loop-preserved : goal.loop-preserved
 loop-preserved g c =
     record {
-      run = order_goes_on IsRescanMark _ _ c.args.pass.now c.loop.pass c.loop.pass c.loop.invariant.run refl c.in-Ok.ensures.goes_on.0 _ c.take_step.new.pass (stays c.loop.pass) c.in-Ok.ensures.goes_on.1 c.take_step.ensures.pass c.in-Ok.ensures.goes_on.2;
+      run = order_goes_on IsPlanMark _ _ c.args.pass.now c.loop.pass c.loop.pass c.loop.invariant.run refl c.in-Ok.ensures.goes_on.0 _ c.take_step.new.pass (stays c.loop.pass) c.in-Ok.ensures.goes_on.1 c.take_step.ensures.pass c.in-Ok.ensures.goes_on.2;
       planned = c.in-Ok.ensures.planned;
     }

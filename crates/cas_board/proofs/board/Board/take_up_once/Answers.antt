@@ -2,7 +2,7 @@ use Rattle.std.proofs.Common.{[], sym, ap, subst, ◌∙◌}
 use Rattle.std.specs.Prelude.{OnOk, IfErr}
 use Rattle.cas_world.specs.Plans.{asked_to}
 use Rattle.cas_hold.specs.Kept.{Makes}
-use Rattle.cas_hold.specs.Membership.{HasPlan, IsRescanMark}
+use Rattle.cas_hold.specs.Membership.{HasPlan, IsPlanMark}
 use Rattle.cas_hold.specs.Orders.{HasOrder, IsToldIn}
 use Rattle.cas_board.proofs.Sittings.{was_held, gives_back}
 use Rattle.cas_board.proofs.Operating.{operator_part, operator_made, operator_own, operator_told, asks_or_tells, on_ok, if_err}
@@ -15,7 +15,7 @@ take_up-taken_up-requires-clause-ordered g c =
 pub give_back-requires-clause-makes : goal.give_back-requires-clause-makes
 give_back-requires-clause-makes g c =
     gives_back 0 c.hold-shared.result c.take_up-taken_up.new.world c.args.pass.now c.hold-shared.new.seat c.hold-shared.ensures.seat (sym (ap (λ s. s.number) c.hold-shared.ensures.seat ∙ c.requires.operator))
-    (asks_or_tells (asked_to c.args.aim.now.kind c.args.aim.now.id) IsRescanMark 0 c.hold-shared.result c.take_up-taken_up.new.world c.take_up-taken_up.result (subst (λ v. OnOk c.take_up-taken_up.result (Makes 0 v c.take_up-taken_up.new.world [])) c.shared.view_is c.take_up-taken_up.ensures.makes) (subst (λ v. IfErr c.take_up-taken_up.result (IsToldIn (asked_to c.args.aim.now.kind c.args.aim.now.id) IsRescanMark 0 v c.take_up-taken_up.new.world)) c.shared.view_is c.take_up-taken_up.ensures.told))
+    (asks_or_tells (asked_to c.args.aim.now.kind c.args.aim.now.id) IsPlanMark 0 c.hold-shared.result c.take_up-taken_up.new.world c.take_up-taken_up.result (subst (λ v. OnOk c.take_up-taken_up.result (Makes 0 v c.take_up-taken_up.new.world [])) c.shared.view_is c.take_up-taken_up.ensures.makes) (subst (λ v. IfErr c.take_up-taken_up.result (IsToldIn (asked_to c.args.aim.now.kind c.args.aim.now.id) IsPlanMark 0 v c.take_up-taken_up.new.world)) c.shared.view_is c.take_up-taken_up.ensures.told))
 
 pub returns-clause-front : goal.returns-clause-front
 returns-clause-front g c =
@@ -27,4 +27,4 @@ returns-clause-planned g c =
 
 pub returns-clause-told : goal.returns-clause-told
 returns-clause-told g c =
-    if_err c.take_up-taken_up.result (operator_told c.hold-shared.result c.take_up-taken_up.new.world c.args.pass.now c.give_back.new.pass (was_held 0 c.hold-shared.result c.take_up-taken_up.new.world c.args.pass.now c.hold-shared.new.seat c.give_back.new.pass c.hold-shared.ensures.seen c.hold-shared.ensures.seat (sym (ap (λ s. s.number) c.hold-shared.ensures.seat ∙ c.requires.operator)) c.give_back.ensures.pass) (asked_to c.args.aim.now.kind c.args.aim.now.id) IsRescanMark 0) (subst (λ v. IfErr c.take_up-taken_up.result (IsToldIn (asked_to c.args.aim.now.kind c.args.aim.now.id) IsRescanMark 0 v c.take_up-taken_up.new.world)) c.shared.view_is c.take_up-taken_up.ensures.told)
+    if_err c.take_up-taken_up.result (operator_told c.hold-shared.result c.take_up-taken_up.new.world c.args.pass.now c.give_back.new.pass (was_held 0 c.hold-shared.result c.take_up-taken_up.new.world c.args.pass.now c.hold-shared.new.seat c.give_back.new.pass c.hold-shared.ensures.seen c.hold-shared.ensures.seat (sym (ap (λ s. s.number) c.hold-shared.ensures.seat ∙ c.requires.operator)) c.give_back.ensures.pass) (asked_to c.args.aim.now.kind c.args.aim.now.id) IsPlanMark 0) (subst (λ v. IfErr c.take_up-taken_up.result (IsToldIn (asked_to c.args.aim.now.kind c.args.aim.now.id) IsPlanMark 0 v c.take_up-taken_up.new.world)) c.shared.view_is c.take_up-taken_up.ensures.told)
