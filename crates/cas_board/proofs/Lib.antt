@@ -1,5 +1,0 @@
-mod Collections
-mod Opened
-mod Operating
-mod Sittings
-mod Steps

@@ -6,7 +6,6 @@ use Rattle.std.proofs.Math.Nat.{min-le_left}
 use Rattle.cas_change.specs.declared.program.Clause.{Clause}
 use Rattle.cas_record.specs.declared.answer.Answer.{Answer}
 use Rattle.cas_record.specs.declared.mark.Mark.{Mark}
-use Rattle.cas_record.specs.declared.mark.Mark.TheVariants as mark
 use Rattle.cas_record.specs.declared.mark.Mark.TheVariants.{Begun, Ended}
 use Rattle.cas_cluster.specs.StepCalls.{one_more}
 use Rattle.cas_cluster.specs.View.{View}
@@ -27,6 +26,7 @@ use Rattle.cas_hold.specs.Conflicts.{is_conflict}
 use Rattle.cas_hold.specs.Open.{IsFree, HasOpen, beside_in, rounds_in, is_met_in, rounds_after}
 use Rattle.cas_hold.specs.Stages.{tells_met}
 use Rattle.cas_hold.specs.declared.deeds.Stage.{Stage}
+use Rattle.cas_board.proofs.Losses.{losses_append}
 use Rattle.cas_hold.proofs.Fronts.{added_is, mine_append, mine_own, front_goes_on, goes_on_then, wanted_seen}
 use Rattle.cas_hold.proofs.Parts.{open_at, free_is_idle}
 use Rattle.cas_cluster.specs.StepCalls as calls
@@ -197,30 +197,11 @@ module _ {S V A : Type 0} (n : ℕ) (before after : View S V) (old new : Sitting
   repeats_told may_repeat (Err told) repeats = tt
 
 -- ---- one hold after another
-losses_append : (a b : List Mark) → losses (a ++ b) ≡ losses a + losses b
-losses_append [] b = omega arith
-losses_append (mark.Harmed caller call false ∷ a) b = let rest = losses_append a b in omega (arith, rest)
-losses_append (mark.Harmed caller call true ∷ a) b = losses_append a b
-losses_append (mark.Begun caller call key program ∷ a) b = losses_append a b
-losses_append (mark.Proposed p ∷ a) b = losses_append a b
-losses_append (mark.Voted acceptor key ballot ∷ a) b = losses_append a b
-losses_append (mark.Acked x ∷ a) b = losses_append a b
-losses_append (mark.Floor key ballot state ∷ a) b = losses_append a b
-losses_append (mark.EraEntered proposer number ∷ a) b = losses_append a b
-losses_append (mark.Ended caller call rounds answer ∷ a) b = losses_append a b
-losses_append (mark.Told asked answer ∷ a) b = losses_append a b
-
 pub few_then : (a b : List Mark) (most more : ℕ) → losses a ≤ most → losses b ≤ more → losses (a ++ b) ≤ most + more
 few_then a b most more few less = let sum = losses_append a b in omega (arith, sum, few, less)
 
 pub counted_none : (harms : ℕ) → IsCounted 0 harms harms
 counted_none harms = record { never_falls = omega arith; counted = λ below. omega arith }
-
-pub counted_then : (most more a b c : ℕ) → IsCounted most a b → IsCounted more b c → IsCounted (most + more) a c
-counted_then most more a b c first then_ = record {
-  never_falls = let x = first.never_falls in let y = then_.never_falls in omega (arith, x, y);
-  counted = λ below. let y = then_.never_falls in let late = then_.counted below in let soon = first.counted (omega (arith, below, y)) in omega (arith, soon, late);
-}
 
 pub counted_less : (less most a b : ℕ) → less ≤ most → IsCounted most a b → IsCounted less a b
 counted_less less most a b low is = record { never_falls = is.never_falls; counted = λ below. let c = is.counted below in omega (arith, low, c) }

@@ -12,6 +12,7 @@ use Rattle.cas_turn.specs.Sitting.{Sitting, TurnId}
 use Rattle.cas_hold.specs.Mine.{mine, losses, GoesOn}
 use Rattle.cas_hold.specs.Open.{IsFree}
 use Rattle.cas_hold.proofs.Fronts.{goes_on_then}
+use Rattle.cas_board.proofs.Losses.{losses_append, counted_then}
 use Rattle.cas_board.specs.Changes.{IsCounted, Answers}
 use Rattle.cas_board.specs.Changes.Answers.{is_answered, is_not_begun}
 use Rattle.cas_board.specs.Operations.{Operates}
@@ -28,25 +29,6 @@ use Rattle.cas_race.specs.Runs.IsAnswered.{is_change, is_operated}
 use Rattle.cas_race.specs.Runs.HasRun.{nothing, one_more}
 
 -- ---- losses
-losses_append : (a b : List Mark) → losses (a ++ b) ≡ losses a + losses b
-losses_append [] b = omega arith
-losses_append (mark.Harmed caller call false ∷ a) b = let rest = losses_append a b in omega (arith, rest)
-losses_append (mark.Harmed caller call true ∷ a) b = losses_append a b
-losses_append (mark.Begun caller call key program ∷ a) b = losses_append a b
-losses_append (mark.Proposed p ∷ a) b = losses_append a b
-losses_append (mark.Voted acceptor key ballot ∷ a) b = losses_append a b
-losses_append (mark.Acked x ∷ a) b = losses_append a b
-losses_append (mark.Floor key ballot state ∷ a) b = losses_append a b
-losses_append (mark.EraEntered proposer number ∷ a) b = losses_append a b
-losses_append (mark.Ended caller call rounds answer ∷ a) b = losses_append a b
-losses_append (mark.Told asked answer ∷ a) b = losses_append a b
-
-counted_then : (most more a b c : ℕ) → IsCounted most a b → IsCounted more b c → IsCounted (most + more) a c
-counted_then most more a b c first then_ = record {
-  never_falls = let x = first.never_falls in let y = then_.never_falls in omega (arith, x, y);
-  counted = λ below. let y = then_.never_falls in let late = then_.counted below in let soon = first.counted (omega (arith, below, y)) in omega (arith, soon, late);
-}
-
 -- the mark that tells an answer tells of no loss
 told_none : (asked : Asked) (told : OpAnswer) → losses (told_marks asked told) ≡ 0
 told_none asked (op.Probed key found) = refl
