@@ -18,6 +18,4 @@ mod rows;
 mod steps;
 #[cfg(test)]
 mod stops;
-#[cfg(test)]
-mod storm;
 pub mod task;
