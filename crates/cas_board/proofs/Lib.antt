@@ -1,0 +1,6 @@
+mod Collections
+pub mod Losses
+mod Opened
+mod Operating
+mod Sittings
+mod Steps
