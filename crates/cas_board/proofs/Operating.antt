@@ -25,7 +25,8 @@ use Rattle.cas_hold.proofs.Operating.{told_mine}
 use Rattle.cas_board.specs.Changes.{IsCounted}
 use Rattle.cas_board.specs.Operations.{HasOperated, WasToldLast, Operates, is_told}
 use Rattle.cas_board.specs.Passes.{IsPassOf}
-use Rattle.cas_board.proofs.Sittings.{WasHeld, few_then, counted_none, counted_then, counted_less}
+use Rattle.cas_board.proofs.Losses.{counted_then}
+use Rattle.cas_board.proofs.Sittings.{WasHeld, few_then, counted_none, counted_less}
 
 -- ---- one hold
 module _ {S V A : Type 0} (before after : View S V) (old new : Sitting A Mark) (was : WasHeld 0 before after old new) where

@@ -26,7 +26,7 @@ use Rattle.cas_hold.specs.Conflicts.{is_conflict}
 use Rattle.cas_hold.specs.Open.{IsFree, HasOpen, beside_in, rounds_in, is_met_in, rounds_after}
 use Rattle.cas_hold.specs.Stages.{tells_met}
 use Rattle.cas_hold.specs.declared.deeds.Stage.{Stage}
-use Rattle.cas_board.proofs.Losses.{losses_append}
+use Rattle.cas_board.proofs.Losses.{losses_append, counted_then}
 use Rattle.cas_hold.proofs.Fronts.{added_is, mine_append, mine_own, front_goes_on, goes_on_then, wanted_seen}
 use Rattle.cas_hold.proofs.Parts.{open_at, free_is_idle}
 use Rattle.cas_cluster.specs.StepCalls as calls
