@@ -48,12 +48,12 @@ pub record HasBurial (key : List ℕ) (call : ℕ) (own : List ℕ) (marks : Lis
   pub none_asked : council.exchange ≡ None
   pub wanted : wanted_by 0 marks ≡ Some (wants call key keep_always)
 
--- how many rounds it has at most that may have so many: one at least
+-- how many rounds its call has at most where so many are given: one at least
 abbrev pub most_rounds : ℕ → ℕ
 most_rounds zero = 1
 most_rounds (suc n) = suc n
 
--- it has had so many rounds, which are not too many; behind a conflict there is another
+-- that call has had so many rounds of those that it may have, and behind a conflict there is another
 pub record IsWithin (tries rounds : ℕ) (own : List ℕ) : Type 0 where
   pub counted : rounds_in own ≡ rounds
   pub some : 1 ≤ rounds

@@ -58,13 +58,14 @@ pub record HasRescan (asked : Asked) (call : ℕ) (key own : List ℕ) : Type 0 
   pub due : IsDue asked key (beside_in own)
 
 -- ---- its rounds
--- its first round is open, and no conflict ended one
+-- it has had one round, which no conflict has ended
 pub record IsFirstRound (stage : Stage) (own : List ℕ) : Type 0 where
   pub first : rounds_in own ≡ 1
   pub unmet : is_met_in own ≡ false
   pub fresh : tells_met stage ≡ false
 
--- behind a hold it has had so many, and its stage tells whether a conflict ended the last one, behind which there is to be another
+-- A hold leaves it open: its rounds are those that it has once it goes on, and its stage tells whether a conflict ended the last one, behind
+-- which another may follow.
 pub record KeepsRounds (may_repeat : Bool) (was own : List ℕ) (stage : Stage) : Type 0 where
   pub rounds : rounds_in own ≡ rounds_after was
   pub met : is_met_in own ≡ tells_met stage

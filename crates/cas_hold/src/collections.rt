@@ -117,7 +117,8 @@ fn prepare(alloc: Global, key: &Key, tries: u32) -> Result<(Asked, KeyCollection
 }
 
 /// Goes on with the collection: its call begins, or goes on; or its next step is taken. Of the first frame that waits, where one does, this
-/// becomes. An `Err` is what the operator was told, and its call is over.
+/// becomes. An `Err` is what the operator was told, and its call is over. The collection's call ends with a conflict only once it has had
+/// all its rounds.
 pub fn go_on_collecting<S: Shelf, V: Disk>(
     world: &mut World<S, V>,
     collecting: KeyCollection,
