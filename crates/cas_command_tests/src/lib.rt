@@ -10,3 +10,5 @@ mod faults;
 mod racing;
 #[cfg(test)]
 mod rows;
+#[cfg(test)]
+mod words;
