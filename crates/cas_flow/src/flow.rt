@@ -8,6 +8,7 @@ use crate::frame::Frame;
 use crate::pool::Pool;
 use crate::queue::{Queue, empty_queues};
 use crate::settle;
+use crate::spares::Spares;
 use cas_ballot::AcceptorId;
 use cas_fate::{Leg, Verdict};
 use std::alloc::{AllocError, Global};
@@ -21,6 +22,7 @@ use std::marker::Model;
 pub struct Flow {
     own: Vec<Queue>,
     late: Pool,
+    spare: Spares,
 }
 
 impl Model for Flow {
@@ -45,7 +47,19 @@ impl Flow {
         Ok(Flow {
             own: empty_queues(alloc)?,
             late: Pool::new(alloc)?,
+            spare: Spares::new(alloc)?,
         })
+    }
+
+    /// A frame without a message, with room for the longest: that of a frame which has left, where one is kept.
+    pub fn blank(&mut self, alloc: Global) -> Result<Frame, AllocError>
+        ensures same { self.new ≡ self.old }
+        ensures blank { IfOk result (λ frame. frame ≡ None) }
+    {
+        match self.spare.pop() {
+            Some(frame) => Ok(frame),
+            None => Frame::blank(alloc),
+        }
     }
 
     /// Makes room for so many more own frames of the proposer. All frames stay, and after an `Err` all is as before.
@@ -113,11 +127,10 @@ impl Flow {
         requires front { (queue_at self.old proposer).messages ≢ [] }
         ensures { self.new ≡ taken self.old proposer verdict }
     {
-        settle::settle(
-            &mut self.own[usize::from(proposer)],
-            &mut self.late,
-            verdict,
-        );
+        let queue = &mut self.own[usize::from(proposer)];
+        if let Some(frame) = settle::settle(queue, &mut self.late, verdict) {
+            self.spare.push(frame);
+        }
     }
 
     /// How many late frames there are, at most [`MOST_LATE`](crate::MOST_LATE).

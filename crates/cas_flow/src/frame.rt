@@ -1,5 +1,5 @@
 //! One frame as bytes.
-ghost use Rattle.std.specs.Prelude.{◌≡◌, Some, None, IfOk, IsSome, is_none, option_map};
+ghost use Rattle.std.specs.Prelude.{◌≡◌, Some, None, IfOk, IfSome, IsSome, is_none, option_map};
 ghost use Rattle.cas_wire.specs.Frame.{CanBeAsked, CanBeTold};
 ghost use Rattle.cas_flow.specs.Message.{head_of, FitsMessage, CanBeSent};
 ghost use Rattle.cas_flow.specs.declared.message.Message.TheVariants as message;
@@ -64,6 +64,21 @@ impl Frame {
     {
         Ok(Frame {
             bytes: Vec::with_capacity(alloc, LONGEST_FRAME)?,
+            head: Head::Blank,
+        })
+    }
+
+    /// A blank frame in the room of one that is not needed any more. `None` comes where that has no room for the longest.
+    pub(crate) fn emptied(self) -> Option<Frame>
+        ensures { IfSome result (λ frame. frame ≡ None) }
+    {
+        let mut bytes = self.bytes;
+        if bytes.capacity() < LONGEST_FRAME {
+            return None;
+        }
+        bytes.clear();
+        Some(Frame {
+            bytes,
             head: Head::Blank,
         })
     }

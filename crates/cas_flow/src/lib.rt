@@ -11,6 +11,7 @@ mod message;
 mod pool;
 mod queue;
 mod settle;
+mod spares;
 
 pub use fall::Fall;
 pub use flow::Flow;
