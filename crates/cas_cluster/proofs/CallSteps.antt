@@ -211,4 +211,4 @@ anew {S} {V} old id key program middle caller call (first was at none room view)
 anew {S} {V} old id key program middle caller call (again was open_call reserved at was_open same_key same_program unproposed met idle room some view) at_caller is_open =
     let now : CallerView = record was { call = Some (tried_again open_call reserved) } in
     let same : caller ≡ now = own_set old.callers id now caller (subst (λ (v : View S V). IsAt v.callers id caller) view at_caller) in
-    subst BeginsAnew (some_is (sym (ap (λ (c : CallerView). c.call) same) ∙ is_open)) (record { unproposed = unproposed; unharmed = refl; some = some })
+    subst BeginsAnew (some_is (sym (ap (λ (c : CallerView). c.call) same) ∙ is_open)) (record { unproposed = unproposed; unharmed = refl; some = some.0 })

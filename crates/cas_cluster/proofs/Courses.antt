@@ -30,12 +30,12 @@ pub era_kept : (eras : List Era) (id p : ℕ) (era : Era) → (p ≡ id → ⊥)
 era_kept eras id p era other = get_or-set_other eras id p era (majority_era 0 []) other
 
 -- ---- steps that are left
--- a path is a start
-path_starts : (era : Era) (left : List PlanStep) → IsPath era left → IsStart era left
-path_starts era [] is = is
-path_starts era (Settle ∷ left) is = is
-path_starts era (Enter next ∷ left) is = absurd is
-path_starts era (Finished ∷ left) is = is
+-- a path is a start, where it is not from the first era
+path_starts : (era : Era) (left : List PlanStep) → 0 < era.number → IsPath era left → IsStart era left
+path_starts era [] positive is = (positive, is)
+path_starts era (Settle ∷ left) positive is = is
+path_starts era (Enter next ∷ left) positive is = absurd is
+path_starts era (Finished ∷ left) positive is = is
 
 -- and it enters no era at once
 pub path_settles : (era : Era) (left : List PlanStep) → IsPath era left → entering left ≡ None
@@ -165,7 +165,7 @@ course_finished greatest eras entries plan none was = record {
   sized = was.sized;
   under_way = record {
     same = λ id low. works id low ∙ sym (works 0 (omega arith));
-    whole = subst IsWhole (sym (works 0 (omega arith))) (subst (IsStart plan.progress.era) none was.under_way.start);
+    whole = subst IsWhole (sym (works 0 (omega arith))) (subst (IsStart plan.progress.era) none was.under_way.start).1;
   };
   entries = record {
     all = λ positive id low. subst (λ (e : Era). Contains entries (record { proposer = id; era = e.number })) (sym base) (was.entries.all (subst (λ (e : Era). 0 < e.number) base positive) id low);
@@ -257,7 +257,7 @@ last_entered greatest eras plan entries next is_next last was = record {
   places = length-set eras plan.entered next ∙ was.places;
   sized = sized_with greatest eras plan.entered next was.places was.few (λ low. follows_sized leading.follows) was.sized;
   under_way = record {
-    start = path_starts next (rest_of plan.progress.left) leading.path;
+    start = path_starts next (rest_of plan.progress.left) (omega (arith, leading.follows.number)) leading.path;
     some_left = omega arith;
     none_entered = λ none. refl;
     each = λ p at. not_yet (omega arith) (by_place p at (same_or_not p plan.entered));

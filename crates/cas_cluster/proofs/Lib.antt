@@ -16,6 +16,7 @@ pub mod Deeds
 pub mod Draws
 pub mod EndSteps
 pub mod Events
+pub mod Finishing
 pub mod FirstLogs
 pub mod Flooring
 pub mod FrameSteps
@@ -53,6 +54,7 @@ pub mod SafeCollecting
 pub mod SafeCollections
 pub mod SafeCouncil
 pub mod SafeListings
+pub mod SafeMarks
 pub mod SafeOpens
 pub mod SafeParts
 pub mod SafePlans

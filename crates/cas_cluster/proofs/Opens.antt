@@ -7,6 +7,7 @@ use Rattle.cas_base.proofs.Bools.{true_or_false, if_false, not_both}
 use Rattle.cas_ballot.specs.declared.ballot.Ballot.{Ballot}
 use Rattle.cas_ballot.specs.Ballot.{zero_ballot}
 use Rattle.cas_ballot.specs.Members.{has_member, IsMemberSet}
+use Rattle.cas_ballot.proofs.CountLemmas.{union_within, IsWithin-same}
 use Rattle.cas_ballot.proofs.MemberLemmas.{members_where_same}
 use Rattle.cas_change.specs.declared.state.State.{State}
 use Rattle.cas_flow.specs.Flow.{FlowView, queue_at, empty_flow}
@@ -385,14 +386,14 @@ opening_on_course m members used floors view is = ap (λ (l : List Era). course 
     ∙ ap (course view.greatest (replicate 17 (majority_era 0 members)) None) (no_entries floors)
 
 pub is_on_course : {S V : Type 0} (m : Meaning S V) (members used : List ℕ) (floors : List Opening) (view : View S V) → IsOpeningOn m members used floors view → IsCourse (course_of view)
-is_on_course m members used floors view is = subst IsCourse (sym (opening_on_course m members used floors view is)) (course_opens view.greatest members is.few (record { majorities = refl; member_set = is.member_set; some = is.some }))
+is_on_course m members used floors view is = subst IsCourse (sym (opening_on_course m members used floors view is)) (course_opens view.greatest members is.few (record { majorities = refl; member_set = is.member_set; some = is.some; few = omega (arith, is.few_members, ap (λ (l : List ℕ). length l) (union_within members members is.member_set (IsWithin-same members))) }))
 
 followed_on : {S V : Type 0} (m : Meaning S V) → m.shelves.tells → m.disks.tells → (members used : List ℕ) (floors : List Opening) (view : View S V) → IsOpeningOn m members used floors view → IsFollowed m view
 followed_on m shelves disks members used floors view is = record {
   cluster = first_cluster view.greatest members;
   logged = opening_on_logged m shelves disks members used floors view is;
   course = subst (IsCourseOf (first_cluster view.greatest members)) (sym (opening_on_course m members used floors view is)) (record {
-    is_course = course_opens view.greatest members is.few (record { majorities = refl; member_set = is.member_set; some = is.some });
+    is_course = course_opens view.greatest members is.few (record { majorities = refl; member_set = is.member_set; some = is.some; few = omega (arith, is.few_members, ap (λ (l : List ℕ). length l) (union_within members members is.member_set (IsWithin-same members))) });
     later = λ era none. absurd (contains_none none);
     none_beyond = λ number beyond. first_alone view.greatest members number (omega (arith, beyond));
   });
@@ -413,6 +414,7 @@ opening_on_none m members view is = record {
   few = is.few;
   member_set = is.member_set;
   some = is.some;
+  few_members = is.few_members;
   used_set = is.member_set;
   all_used = λ acceptor member. member;
   openings = record { some = λ o h. absurd (contains_none h); differ = tt };

@@ -1,10 +1,10 @@
 -- The plans of the table are paths: what they enter follows each other and meets, and the last of it is whole.
 use Rattle.std.proofs.Common.{◌≡◌, ◌<◌, ◌≤◌, ℕ, ◌+◌, zero, suc, List, [], ◌∷◌, ◌++◌, length, Some, refl, sym, ap, subst, inl, inr, arith}
-use Rattle.std.specs.Prelude.{⊤, ◌⊎◌, ◌==◌, ◌||◌, ◌%◌, nat_le, Bool, true, false, if◌then◌else◌, Ok, Err}
+use Rattle.std.specs.Prelude.{⊤, ◌⊎◌, ◌==◌, ◌&&◌, ◌||◌, ◌%◌, not, nat_le, Bool, true, false, if◌then◌else◌, Ok, Err}
 use Rattle.std.proofs.lemmas.Bool.{leb-false}
-use Rattle.cas_base.proofs.Bools.{or_cases, or_right}
+use Rattle.cas_base.proofs.Bools.{or_cases, or_left, or_right, and_right}
 use Rattle.cas_ballot.specs.Members.{members_where, has_member, with_member, without_member, union_of, IsMemberSet}
-use Rattle.cas_ballot.proofs.CountLemmas.{IsWithin, IsWithin-same, IsWithin-with_member, IsWithin-without_member, length-within, le-length-without_member}
+use Rattle.cas_ballot.proofs.CountLemmas.{IsWithin, union_within, union_around, IsWithin-same, IsWithin-with_member, IsWithin-without_member, length-within, le-length-without_member}
 use Rattle.cas_ballot.proofs.MemberLemmas.{members_where_tells, IsMemberSet-members_where}
 use Rattle.cas_members.specs.declared.plan.PlanStep.{PlanStep}
 use Rattle.cas_members.specs.declared.plan.PlanStep.TheVariants.{Settle, Enter, Finished}
@@ -24,13 +24,25 @@ use Rattle.cas_cluster.specs.StepPlans as plans
 use Rattle.cas_cluster.specs.StepPlans.{IsPlanned}
 use Rattle.cas_cluster.proofs.Harms.{member_low}
 
--- ---- eras by majorities
-follows_by : (era : Era) (number : ℕ) (prep acc : List ℕ) → number ≡ suc era.number → IsMemberSet prep → IsMemberSet acc → 0 < length prep → 0 < length acc → Follows era (era_of_majorities number prep acc)
-follows_by era number prep acc is prep_set acc_set some_prep some_acc =
-    record { number = is; prep_set = prep_set; acc_set = acc_set; some_prep = some_prep; some_acc = some_acc; majorities = record { prep = refl; acc = refl } }
+-- ---- how many members
+-- of two sets of which one has all of the other, together
+few_within : (small large : List ℕ) → IsMemberSet large → IsWithin small large → length large ≤ 9 → (length (union_of small large) ≤ 9) × (length (union_of large small) ≤ 9)
+few_within small large set within few = (omega (arith, few, ap length (union_within small large set within)), omega (arith, few, ap length (union_around small large set within)))
 
-whole_by : (number : ℕ) (members : List ℕ) → IsMemberSet members → 0 < length members → IsWhole (majority_era number members)
-whole_by number members set some = record { majorities = refl; member_set = set; some = some }
+-- of an era that is whole
+few_prepare : (era : Era) → IsWhole era → length era.prep ≤ 9
+few_prepare era whole =
+    let within : length (members_where (has_member era.prep)) ≤ length (union_of era.prep era.acc) = length-within (has_member era.prep) (λ n. has_member era.prep n || has_member era.acc n) (λ n small has. or_left (has_member era.prep n) (has_member era.acc n) has) in
+    let few : length (union_of era.prep era.acc) ≤ 9 = whole.few in
+    omega (arith, within, few, ap length whole.member_set.lists)
+
+-- ---- eras by majorities
+follows_by : (era : Era) (number : ℕ) (prep acc : List ℕ) → number ≡ suc era.number → IsMemberSet prep → IsMemberSet acc → 0 < length prep → 0 < length acc → length (union_of prep acc) ≤ 9 → Follows era (era_of_majorities number prep acc)
+follows_by era number prep acc is prep_set acc_set some_prep some_acc few =
+    record { number = is; prep_set = prep_set; acc_set = acc_set; some_prep = some_prep; some_acc = some_acc; majorities = record { prep = refl; acc = refl }; few = few }
+
+whole_by : (number : ℕ) (members : List ℕ) → IsMemberSet members → 0 < length members → length members ≤ 9 → IsWhole (majority_era number members)
+whole_by number members set some few = record { majorities = refl; member_set = set; some = some; few = (few_within members members set (IsWithin-same members) few).0 }
 
 -- a set with one more has no less
 no_less : (ids : List ℕ) (id : ℕ) → IsMemberSet ids → length ids ≤ length (with_member ids id)
@@ -59,8 +71,8 @@ by_half : (era half last : Era) → Follows era half → Follows half last → I
 by_half era half last first second whole meets true is = record { start = (first, (omega (arith, first.number), second, whole)); first = λ e enters. nat_same is; meets = meets }
 by_half era half last first second whole meets false is = record { start = (positive era.number is, first, (omega (arith, first.number), second, whole)); first = λ e enters. absurd (cc enters); meets = meets }
 
-join_goes : (era : Era) (id : ℕ) → IsWhole era → Goes era (join_steps era id)
-join_goes era id whole = by_parity (length era.prep % 2 == 1)
+join_goes : (era : Era) (id : ℕ) → IsWhole era → length era.prep < 9 → Goes era (join_steps era id)
+join_goes era id whole room = by_parity (length era.prep % 2 == 1)
   where
     more : List ℕ
     more = with_member era.prep id
@@ -71,16 +83,25 @@ join_goes era id whole = by_parity (length era.prep % 2 == 1)
     some : 0 < length more
     some = omega (arith, whole.some, no_less era.prep id whole.member_set)
 
+    few : length more ≤ 9
+    few = omega (arith, room, two.one_more)
+
+    all_few : length (union_of more more) ≤ 9
+    all_few = (few_within more more two.large_set (IsWithin-same more) few).0
+
+    half_few : length (union_of era.prep more) ≤ 9
+    half_few = (few_within era.prep more two.large_set two.within few).0
+
     half : Era
     half = era_of_majorities (era.number + 1) era.prep more
 
     by_parity : (odd : Bool)
         → Goes era (if odd then settle_first era ++ Enter half ∷ Settle ∷ Enter (majority_era (era.number + 2) more) ∷ [] else (settle_first era ++ Enter (majority_era (era.number + 1) more) ∷ []))
-    by_parity true = by_half era half (majority_era (era.number + 2) more) (follows_by era (era.number + 1) era.prep more (omega arith) two.small_set two.large_set whole.some some)
-        (follows_by half (era.number + 2) more more (omega arith) two.large_set two.large_set some some) (whole_by (era.number + 2) more two.large_set some)
+    by_parity true = by_half era half (majority_era (era.number + 2) more) (follows_by era (era.number + 1) era.prep more (omega arith) two.small_set two.large_set whole.some some half_few)
+        (follows_by half (era.number + 2) more more (omega arith) two.large_set two.large_set some some all_few) (whole_by (era.number + 2) more two.large_set some few)
         (from_era era _ whole.majorities (table.halves_up era.number era.prep more two)).chain (era.number == 0) refl
-    by_parity false = at_once era (majority_era (era.number + 1) more) (follows_by era (era.number + 1) more more (omega arith) two.large_set two.large_set some some)
-        (whole_by (era.number + 1) more two.large_set some) (from_era era _ whole.majorities (table.at_once_up era.number era.prep more two)).chain (era.number == 0) refl
+    by_parity false = at_once era (majority_era (era.number + 1) more) (follows_by era (era.number + 1) more more (omega arith) two.large_set two.large_set some some all_few)
+        (whole_by (era.number + 1) more two.large_set some few) (from_era era _ whole.majorities (table.at_once_up era.number era.prep more two)).chain (era.number == 0) refl
 
 leave_goes : (era : Era) (id : ℕ) → IsWhole era → 1 < length era.prep → Goes era (leave_steps era id)
 leave_goes era id whole several = by_parity (length era.prep % 2 == 0)
@@ -94,16 +115,25 @@ leave_goes era id whole several = by_parity (length era.prep % 2 == 0)
     some : 0 < length less
     some = omega (arith, several, le-length-without_member era.prep id whole.member_set)
 
+    few : length less ≤ 9
+    few = omega (arith, few_prepare era whole, length-within (λ n. not (n == id) && has_member era.prep n) (has_member era.prep) (λ n small has. and_right (not (n == id)) (has_member era.prep n) has), ap length whole.member_set.lists)
+
+    all_few : length (union_of less less) ≤ 9
+    all_few = (few_within less less two.small_set (IsWithin-same less) few).0
+
+    half_few : length (union_of less era.prep) ≤ 9
+    half_few = (few_within less era.prep two.large_set two.within (few_prepare era whole)).0
+
     half : Era
     half = era_of_majorities (era.number + 1) less era.prep
 
     by_parity : (even : Bool)
         → Goes era (if even then settle_first era ++ Enter half ∷ Settle ∷ Enter (majority_era (era.number + 2) less) ∷ [] else (settle_first era ++ Enter (majority_era (era.number + 1) less) ∷ []))
-    by_parity true = by_half era half (majority_era (era.number + 2) less) (follows_by era (era.number + 1) less era.prep (omega arith) two.small_set two.large_set some whole.some)
-        (follows_by half (era.number + 2) less less (omega arith) two.small_set two.small_set some some) (whole_by (era.number + 2) less two.small_set some)
+    by_parity true = by_half era half (majority_era (era.number + 2) less) (follows_by era (era.number + 1) less era.prep (omega arith) two.small_set two.large_set some whole.some half_few)
+        (follows_by half (era.number + 2) less less (omega arith) two.small_set two.small_set some some all_few) (whole_by (era.number + 2) less two.small_set some few)
         (from_era era _ whole.majorities (table.halves_down era.number less era.prep two)).chain (era.number == 0) refl
-    by_parity false = at_once era (majority_era (era.number + 1) less) (follows_by era (era.number + 1) less less (omega arith) two.small_set two.small_set some some)
-        (whole_by (era.number + 1) less two.small_set some) (from_era era _ whole.majorities (table.at_once_down era.number less era.prep two)).chain (era.number == 0) refl
+    by_parity false = at_once era (majority_era (era.number + 1) less) (follows_by era (era.number + 1) less less (omega arith) two.small_set two.small_set some some all_few)
+        (whole_by (era.number + 1) less two.small_set some few) (from_era era _ whole.majorities (table.at_once_down era.number less era.prep two)).chain (era.number == 0) refl
 
 -- ---- the plans of the table
 record IsOfTable (from : Era) (progress : Progress) : Type 0 where
@@ -123,6 +153,16 @@ joined era used id progress planned = by_tests (has_member era.prep id) (has_mem
     by_tests false false true is = absurd (cc is)
     by_tests false false false is = cc is
 
+-- where one joins, there is room for it
+has_room : (era : Era) (used : List ℕ) (id : ℕ) (progress : Progress) → Ok progress ≡ join_of era used id → length era.prep < 9
+has_room era used id progress planned = by_tests (has_member era.prep id) (has_member used id) (nat_le MOST_MEMBERS (length era.prep)) refl planned
+  where
+    by_tests : (a b c : Bool) → nat_le MOST_MEMBERS (length era.prep) ≡ c → Ok progress ≡ (if a then Err AlreadyIn else if b then Err IdUsed else if c then Err TooMany else Ok (record { era = era; left = join_steps era id })) → length era.prep < 9
+    by_tests true b c test is = absurd (cc is)
+    by_tests false true c test is = absurd (cc is)
+    by_tests false false true test is = absurd (cc is)
+    by_tests false false false test is = leb-false MOST_MEMBERS (length era.prep) test
+
 -- where a member leaves, others stay
 record HasLeft (era : Era) (id : ℕ) (progress : Progress) : Type 0 where
   pub is : progress ≡ record { era = era; left = leave_steps era id }
@@ -137,7 +177,7 @@ has_left era id progress planned = by_tests (has_member era.prep id) (nat_le (le
     by_tests true false test is = record { is = cc is; several = leb-false (length era.prep) 1 test }
 
 planned_of_table : (era : Era) (used : List ℕ) (asked : Asked) (progress : Progress) → IsWhole era → IsPlanned era used asked (Ok progress) → IsOfTable era progress
-planned_of_table era used asked progress whole (plans.joins id asked_so planned) = of_table era (join_steps era id) progress (joined era used id progress planned) (join_goes era id whole)
+planned_of_table era used asked progress whole (plans.joins id asked_so planned) = of_table era (join_steps era id) progress (joined era used id progress planned) (join_goes era id whole (has_room era used id progress planned))
 planned_of_table era used asked progress whole (plans.leaves id asked_so planned) =
     let left = has_left era id progress planned in
     of_table era (leave_steps era id) progress left.is (leave_goes era id whole left.several)

@@ -29,7 +29,7 @@ use Rattle.cas_cluster.specs.Parties.{asked_in}
 use Rattle.cas_cluster.specs.Council.{reserved_by}
 use Rattle.cas_cluster.specs.Safe.{requests_in, IsPartySafe, IsRoundSafe, IsOpenSafe, IsSound}
 use Rattle.cas_cluster.specs.StepCalls as calls
-use Rattle.cas_cluster.specs.StepCalls.{most_marks, round_marks, HasRoom, Opens, opened, with_call, tried_again, over, Sends, prepares_to, accepts_to, BeginsRound}
+use Rattle.cas_cluster.specs.StepCalls.{most_marks, round_marks, most_round_marks, HasRoom, Opens, opened, with_call, tried_again, over, Sends, prepares_to, accepts_to, BeginsRound}
 use Rattle.cas_cluster.specs.StepDesks.{BeginsToPrepare}
 use Rattle.cas_cluster.specs.View.{Meaning, View, CallView, CallerView, IsAt, new_call, new_caller, reserved_in, reserved_of, with_desk, era_at}
 use Rattle.cas_cluster.proofs.Beginnings.{prepare_request}
@@ -37,7 +37,7 @@ use Rattle.cas_cluster.proofs.Caches.{contains_without}
 use Rattle.cas_cluster.proofs.CallSteps.{no_harm}
 use Rattle.cas_cluster.proofs.Harms.{has_of_map, has_member_of}
 use Rattle.cas_cluster.proofs.Places.{own_set, at_one, some_is}
-use Rattle.cas_cluster.proofs.SafeParts.{more_by, reserved_set, requests_of_map, left_within, right_within, safe_but, caller_low, desk_low, changes_caller, changes_desk, party_idle, idle_at}
+use Rattle.cas_cluster.proofs.SafeParts.{more_by, reserved_set, few_round, requests_of_map, left_within, right_within, safe_but, caller_low, desk_low, changes_caller, changes_desk, party_idle, idle_at}
 
 -- ---- a call opens
 -- there is room for what a call reserves
@@ -54,9 +54,9 @@ none_open era marks id desk caller queue none was = by_round desk.round was.roun
 
 -- a party whose desk has no open round, with another call
 recalled : {V : Type 0} (era : Era) (few marks id : ℕ) (desk : DeskView V) (caller new : CallerView) (queue : QueueView) → desk.round ≡ None → new.number ≤ marks → ((call : CallView) → new.call ≡ Some call → 0 < call.reserved)
-    → IsPartySafe era few id desk caller queue → IsPartySafe era marks id desk new queue
-recalled era few marks id desk caller new queue none number reserved was =
-    party_idle era marks id desk new queue was.same_id none (idle_at era caller queue desk.round none was.round).none_waits number was.cached reserved
+    → reserved_in new.call ≤ most_round_marks → IsPartySafe era few id desk caller queue → IsPartySafe era marks id desk new queue
+recalled era few marks id desk caller new queue none number reserved low was =
+    party_idle era marks id desk new queue was.same_id none (idle_at era caller queue desk.round none was.round).none_waits number was.cached reserved low
 
 pub opens_safe : {S V : Type 0} (old : View S V) (id : ℕ) (key : List ℕ) (program : List Clause) (new : View S V) → IsSound old → Opens old id key program new → IsSound new
 opens_safe {S} {V} old id key program new was (calls.first caller at none room view) =
@@ -66,7 +66,7 @@ opens_safe {S} {V} old id key program new was (calls.first caller at none room v
     (let party = was.parties id desk caller at_desk at in
     recalled (era_at old id) (length old.marks) (length (old.marks ++ Begun id (suc caller.number) key program ∷ [])) id desk caller now (queue_at old.flow id)
     (none_open (era_at old id) (length old.marks) id desk caller (queue_at old.flow id) none party) (omega (arith, party.number, length-append old.marks (Begun id (suc caller.number) key program ∷ [])))
-    (λ call is. subst (λ (x : CallView). 0 < x.reserved) (some_is is) (omega arith)) party))
+    (λ call is. subst (λ (x : CallView). 0 < x.reserved) (some_is is) (omega arith)) (omega (arith, few_round (era_at old id) (was.few_members id))) party))
     (room_for old.callers (length (old.marks ++ Begun id (suc caller.number) key program ∷ [])) (reserved_by old.council) id caller now at (omega (arith, room, length-append old.marks (Begun id (suc caller.number) key program ∷ [])))))
 opens_safe {S} {V} old id key program new was (calls.again caller call reserved at is_open same_key same_program unproposed met idle room some view) =
     let now : CallerView = record caller { call = Some (tried_again call reserved) } in
@@ -74,7 +74,7 @@ opens_safe {S} {V} old id key program new was (calls.again caller call reserved 
     (λ desk c at_desk at_caller. subst (λ (x : CallerView). IsPartySafe (era_at old id) (length old.marks) id desk x (queue_at old.flow id)) (sym (own_set old.callers id now c at_caller))
     (let party = was.parties id desk caller at_desk at in
     recalled (era_at old id) (length old.marks) (length old.marks) id desk caller now (queue_at old.flow id) (idle desk at_desk) party.number
-    (λ x is. subst (λ (y : CallView). 0 < y.reserved) (some_is is) some) party))
+    (λ x is. subst (λ (y : CallView). 0 < y.reserved) (some_is is) some.0) (omega (arith, some.1, few_round (era_at old id) (was.few_members id))) party))
     (room_for old.callers (length old.marks) (reserved_by old.council) id caller now at room))
 
 -- ---- a round begins
@@ -156,6 +156,7 @@ prepares_safe {S} {V} m old id caller call desk now ballot round flow was at_cal
       same_id = ap (λ (d : DeskView V). d.id) begins.desk ∙ party.same_id;
       idle = λ down. absurd (cc (down, up, ap (λ (d : DeskView V). d.down) begins.desk));
       number = party.number;
+      few = party.few;
       cached = λ key ready h. party.cached key ready (contains_without call.key desk.cache (subst (λ (l : List (List ℕ × Ready)). Contains l (key, ready)) (ap (λ (d : DeskView V). d.cache) begins.desk) h));
       round = subst (IsRoundSafe (era_at old id) caller (queue_at flow id)) (sym (ap (λ (d : DeskView V). d.round) begins.desk)) open_safe;
       room = omega (arith, sends.room, counted, length-map (era_at old id).prep (λ (to : ℕ). message.Request (f to)));

@@ -180,7 +180,7 @@ ask_collect_safe {S} {V} m old new was safe by = in_case by.asks
         let exchange : ExchangeView = new_exchange question (tomb_of at.collection.tombstone) (everyone old) in
         council_safe old flow (record old.council { exchange = Some exchange }) old.marks was sends.queues sends.others (omega arith)
         (sent_safe old.flow flow (kept_of by.desk.vault).age (tomb_of at.collection.tombstone) question (everyone old) (none_waiting old was by.may.none_asked) (safe.each at.collection at.is_collection).tomb
-        (everyone_set old) sends)
+        (everyone_set old) (was.few_members 0) sends)
         (was.council.0, none_of_listing old.council.plan at.collection exchange asks) (omega (arith, room, ap (λ (l : List ℕ). length l) all, ap reserved_for_exchange by.may.none_asked))
 
     in_case : collect.AsksCollect m old at by.desk new → IsSound new

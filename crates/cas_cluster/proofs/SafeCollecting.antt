@@ -89,6 +89,7 @@ left_alone old new alone was = record {
         tomb = of.tomb;
         acknowledged = λ past. subst (λ (e : Era). IsAcknowledgedByAll e collection.tombstone) (sym still.era) (of.acknowledged past);
         reserved = of.reserved;
+        few = of.few;
       };
   exchange = λ now is asks.
       let had = alone.exchange now is asks in

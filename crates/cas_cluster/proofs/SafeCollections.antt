@@ -108,8 +108,8 @@ confirmed collection ages removed kept reserved = record collection { course = c
 
 confirmed_safe : (old next : Council) (era : Era) (greatest : ℕ) (collection : CollectionView) (order : OrderView) (ages : List ℕ) (removed kept reserved : ℕ) → IsCollectionSafe old era greatest collection
     → next.order ≡ Some order → order.asked ≡ asked.Collect collection.course.key → next.plan ≡ None → (collection.calling ≡ true → ⊥) → length ages ≡ renewals_before greatest (step_after greatest collection.course.step)
-    → (is_after_floor (step_after greatest collection.course.step) ≡ false → collection.reserved ≤ reserved) → IsAcknowledgedByAll era collection.tombstone → IsCollectionSafe next era greatest (confirmed collection ages removed kept reserved)
-confirmed_safe old next era greatest collection order ages removed kept reserved was is_open is_for unplanned over counted more by_all = record {
+    → (is_after_floor (step_after greatest collection.course.step) ≡ false → collection.reserved ≤ reserved) → reserved ≤ 1 → IsAcknowledgedByAll era collection.tombstone → IsCollectionSafe next era greatest (confirmed collection ages removed kept reserved)
+confirmed_safe old next era greatest collection order ages removed kept reserved was is_open is_for unplanned over counted more few by_all = record {
   order = order;
   is_open = is_open;
   is_for = is_for;
@@ -124,6 +124,7 @@ confirmed_safe old next era greatest collection order ages removed kept reserved
   reserved = λ ballot by is before.
       let here = sym (ap is_after_floor same) ∙ before in
       omega (arith, more here, was.reserved ballot by is (before_floor greatest collection.course.step here));
+  few = few;
 }
   where
     same : step_after collection.course.proposers collection.course.step ≡ step_after greatest collection.course.step
@@ -134,9 +135,9 @@ abbrev in_round : CollectionView → Bool → Tombstone → ℕ → CollectionVi
 in_round collection calling tombstone reserved = record collection { calling = calling; tombstone = tombstone; reserved = reserved }
 
 in_round_safe : (old next : Council) (era : Era) (greatest : ℕ) (collection : CollectionView) (order : OrderView) (calling : Bool) (tombstone : Tombstone) (reserved : ℕ) → IsCollectionSafe old era greatest collection → collection.calling ≡ true
-    → next.order ≡ Some order → order.asked ≡ asked.Collect collection.course.key → next.plan ≡ None → FitsBallot (tomb_of tombstone) → ((ballot : Ballot) (by : List ℕ) → tombstone ≡ Acknowledged ballot by → 0 < reserved)
+    → next.order ≡ Some order → order.asked ≡ asked.Collect collection.course.key → next.plan ≡ None → FitsBallot (tomb_of tombstone) → ((ballot : Ballot) (by : List ℕ) → tombstone ≡ Acknowledged ballot by → 0 < reserved) → reserved ≤ 1
     → IsCollectionSafe next era greatest (in_round collection calling tombstone reserved)
-in_round_safe old next era greatest collection order calling tombstone reserved was in_call is_open is_for unplanned fits some = record {
+in_round_safe old next era greatest collection order calling tombstone reserved was in_call is_open is_for unplanned fits some few = record {
   order = order;
   is_open = is_open;
   is_for = is_for;
@@ -149,6 +150,7 @@ in_round_safe old next era greatest collection order calling tombstone reserved 
   tomb = fits;
   acknowledged = λ past. absurd (past (was.calling in_call));
   reserved = λ ballot by is before. some ballot by is;
+  few = few;
 }
 
 zero_fits : FitsBallot zero_ballot
@@ -156,13 +158,13 @@ zero_fits = record { counter = omega arith; proposer = omega arith }
 
 -- in its round its tombstone changes, or its call is over
 round_collecting : (council : Council) (era : Era) (greatest : ℕ) (at : CollectingAt council) (told : Option OpAnswer) (calling : Bool) (tombstone : Tombstone) (reserved : ℕ) → at.collection.calling ≡ true → FitsBallot (tomb_of tombstone)
-    → ((ballot : Ballot) (by : List ℕ) → tombstone ≡ Acknowledged ballot by → 0 < reserved) → IsCollectingIn council era greatest
+    → ((ballot : Ballot) (by : List ℕ) → tombstone ≡ Acknowledged ballot by → 0 < reserved) → reserved ≤ 1 → IsCollectingIn council era greatest
     → IsCollectingIn (record council { order = Some (record at.order { told = told }); collection = Some (in_round at.collection calling tombstone reserved) }) era greatest
-round_collecting council era greatest at told calling tombstone reserved in_call fits some was =
+round_collecting council era greatest at told calling tombstone reserved in_call fits some few was =
     let of = was.each at.collection at.is_collection in
     let next : Council = record council { order = Some (record at.order { told = told }); collection = Some (in_round at.collection calling tombstone reserved) } in
     one_collecting next era greatest (in_round at.collection calling tombstone reserved) refl
-    (in_round_safe council next era greatest at.collection (record at.order { told = told }) calling tombstone reserved of in_call refl at.is_for of.none_planned fits some)
+    (in_round_safe council next era greatest at.collection (record at.order { told = told }) calling tombstone reserved of in_call refl at.is_for of.none_planned fits some few)
     (λ exchange is_open asks. absurd (none_asks_at council era greatest at.collection was at.is_collection (ap asks_at (of.calling in_call)) exchange is_open asks))
 
 -- ---- its call
@@ -187,7 +189,7 @@ begin_collecting {S} {V} m old new key by was = in_case by.begins
         let safe = was.each of.at.collection of.at.is_collection in
         subst (λ (o : OrderView). IsCollectingIn (record old.council { order = Some (record o { told = None }); collection = Some of.at.collection }) (era_at old 0) old.greatest) (some_is (sym of.at.is_open ∙ by.may.is_open))
         (round_collecting old.council (era_at old 0) old.greatest of.at None of.at.collection.calling of.at.collection.tombstone of.at.collection.reserved of.calling safe.tomb
-        (λ ballot by_whom is. safe.reserved ballot by_whom is (ap is_after_floor of.is_due)) was)
+        (λ ballot by_whom is. safe.reserved ballot by_whom is (ap is_after_floor of.is_due)) safe.few was)
 
     after : old.council.plan ≡ None → AfterIn begun (frame_of old)
     after unplanned = one_collecting (record old.council { order = Some order; collection = Some begun }) (era_at old 0) old.greatest begun refl (record {
@@ -203,6 +205,7 @@ begin_collecting {S} {V} m old new key by was = in_case by.begins
       tomb = zero_fits;
       acknowledged = λ past. absurd (past refl);
       reserved = λ ballot by is before. absurd (cc is);
+      few = omega arith;
     }) (λ exchange is_open asks. absurd (cc (is_open, by.may.none_asked)))
 
     in_case : collect.BeginsCollection m (λ before after. StepBegin m before 0 key keep_always after) old key by.may.order by.desk by.caller new → IsCollectingSafe new
@@ -215,7 +218,7 @@ begin_collecting {S} {V} m old new key by was = in_case by.begins
 
 pub held_collecting : {S V : Type 0} (m : Meaning S V) (old new : View S V) → StepReadHeld m old new → IsCollectingSafe old → IsCollectingSafe new
 held_collecting {S} {V} m old new by was =
-    subst IsCollectingBy (sym (ap frame_of by.view)) (round_collecting old.council (era_at old 0) old.greatest by.is.at None false (FoundHeld by.version) by.is.at.collection.reserved by.is.calling zero_fits (λ ballot by_whom is. absurd (cc is)) was)
+    subst IsCollectingBy (sym (ap frame_of by.view)) (round_collecting old.council (era_at old 0) old.greatest by.is.at None false (FoundHeld by.version) by.is.at.collection.reserved by.is.calling zero_fits (λ ballot by_whom is. absurd (cc is)) (was.each by.is.at.collection by.is.at.is_collection).few was)
 
 -- ---- what is counted
 -- a round of proposer 0 is counted: of the marks that were reserved for its call one is left over, and the ballot that its caller is told is
@@ -286,9 +289,9 @@ count_collecting {S} {V} m old new sound by was = in_case by.counted
     in_case : collect.CountedAs old by.middle by.of_call.call at.collection by.now → IsCollectingSafe new
     in_case (collect.acknowledges took acknowledgment done acked same_key same_era now) = so _ now
         (round_collecting old.council (era_at old 0) old.greatest at None at.collection.calling (Acknowledged acknowledgment.ballot acknowledgment.by) 1 by.is.calling
-        ((is_counted m old by.middle sound by.counts (counted_more old by.middle _ acked)).fits by.of_call Empty took acknowledgment.ballot done) (λ ballot by_whom is. omega arith) was)
+        ((is_counted m old by.middle sound by.counts (counted_more old by.middle _ acked)).fits by.of_call Empty took acknowledgment.ballot done) (λ ballot by_whom is. omega arith) (omega arith) was)
     in_case (collect.finds_held version body took ballot done now) = so _ now
-        (round_collecting old.council (era_at old 0) old.greatest at None at.collection.calling (FoundHeld version) at.collection.reserved by.is.calling zero_fits (λ acked by_whom is. absurd (cc is)) was)
+        (round_collecting old.council (era_at old 0) old.greatest at None at.collection.calling (FoundHeld version) at.collection.reserved by.is.calling zero_fits (λ acked by_whom is. absurd (cc is)) (was.each at.collection at.is_collection).few was)
 
 -- its call ends
 pub still_collecting : {S V : Type 0} (m : Meaning S V) (old middle : View S V) (told : Answer) → StepEnd m old 0 told middle → middle.council.collection ≡ old.council.collection
@@ -302,7 +305,7 @@ end_collect_collecting {S} {V} m old new told by was =
     let next : Council = record by.middle.council { order = Some (record by.is.at.order { told = stopped_by told }); collection = Some (called by.is.at.collection) } in
     subst IsCollectingBy (sym (ap frame_of by.view)) (one_collecting next (era_at by.middle 0) by.middle.greatest (called by.is.at.collection) refl
     (in_round_safe by.middle.council next (era_at by.middle 0) by.middle.greatest by.is.at.collection (record by.is.at.order { told = stopped_by told }) false by.is.at.collection.tombstone by.is.at.collection.reserved of by.is.calling refl by.is.at.is_for
-    of.none_planned of.tomb (λ ballot by_whom is. of.reserved ballot by_whom is (ap is_after_floor (of.calling by.is.calling))))
+    of.none_planned of.tomb (λ ballot by_whom is. of.reserved ballot by_whom is (ap is_after_floor (of.calling by.is.calling))) of.few)
     (λ exchange is_open asks. absurd (none_asks_at by.middle.council (era_at by.middle 0) by.middle.greatest by.is.at.collection safe is_collection (ap asks_at (of.calling by.is.calling)) exchange is_open asks)))
 
 -- ---- its steps
@@ -313,13 +316,13 @@ not_in_round council era greatest collection step safe is other in_call = other 
 -- a step is confirmed at which no members are asked
 quiet_collecting : (council : Council) (era : Era) (greatest : ℕ) (at : CollectingAt council) (told : Option OpAnswer) (ages : List ℕ) (reserved : ℕ) → IsCollectingIn council era greatest → asks_at at.collection.course.step ≡ false
     → (at.collection.calling ≡ true → ⊥) → length ages ≡ renewals_before greatest (step_after greatest at.collection.course.step)
-    → (is_after_floor (step_after greatest at.collection.course.step) ≡ false → at.collection.reserved ≤ reserved) → IsAcknowledgedByAll era at.collection.tombstone
+    → (is_after_floor (step_after greatest at.collection.course.step) ≡ false → at.collection.reserved ≤ reserved) → reserved ≤ 1 → IsAcknowledgedByAll era at.collection.tombstone
     → IsCollectingIn (record council { order = Some (record at.order { told = told }); collection = Some (confirmed at.collection ages at.collection.removed at.collection.kept reserved) }) era greatest
-quiet_collecting council era greatest at told ages reserved was quiet over counted more by_all =
+quiet_collecting council era greatest at told ages reserved was quiet over counted more few by_all =
     let of = was.each at.collection at.is_collection in
     let next : Council = record council { order = Some (record at.order { told = told }); collection = Some (confirmed at.collection ages at.collection.removed at.collection.kept reserved) } in
     one_collecting next era greatest (confirmed at.collection ages at.collection.removed at.collection.kept reserved) refl
-    (confirmed_safe council next era greatest at.collection (record at.order { told = told }) ages at.collection.removed at.collection.kept reserved of refl at.is_for of.none_planned over counted more by_all)
+    (confirmed_safe council next era greatest at.collection (record at.order { told = told }) ages at.collection.removed at.collection.kept reserved of refl at.is_for of.none_planned over counted more few by_all)
     (λ exchange is_open asks. absurd (none_asks_at council era greatest at.collection was at.is_collection quiet exchange is_open asks))
 
 pub round_gathered_collecting : {S V : Type 0} (old new : View S V) → StepGatherRound old new → IsCollectingSafe old → IsCollectingSafe new
@@ -334,7 +337,7 @@ round_gathered_collecting {S} {V} old new by was = in_case by.gathers
     in_case : collect.GathersRound old by.at new → IsCollectingSafe new
     in_case (collect.all ballot by_whom is all view) = subst IsCollectingBy (sym (ap frame_of view))
         (quiet_collecting old.council (era_at old 0) old.greatest by.at None by.at.collection.ages by.at.collection.reserved was (ap asks_at by.is_due) (λ in_call. cc (in_call, by.over))
-        (of.ages ∙ ap (renewals_before old.greatest) by.is_due ∙ sym (ap (λ (s : CollectStep). renewals_before old.greatest (step_after old.greatest s)) by.is_due)) (λ before. omega arith)
+        (of.ages ∙ ap (renewals_before old.greatest) by.is_due ∙ sym (ap (λ (s : CollectStep). renewals_before old.greatest (step_after old.greatest s)) by.is_due)) (λ before. omega arith) of.few
         (record { ballot = ballot; by = by_whom; is = is; all = all }))
     in_case (collect.is_absent ballot by_whom acceptor is least view) = told _ view
     in_case (collect.is_held version is view) = told _ view
@@ -364,7 +367,7 @@ renew_collecting {S} {V} m old new id by was = in_case by.renews
     in_case : collect.RenewsNext m old by.at id by.desk new → IsCollectingSafe new
     in_case (collect.renews age middle leaves view) = subst IsCollectingBy (sym (ap frame_of view)) (subst (AfterIn age) (sym (left_frame _ _ old middle id leaves))
         (quiet_collecting old.council (era_at old 0) old.greatest by.at None (by.at.collection.ages ++ age ∷ []) by.at.collection.reserved was (ap asks_at by.is_due)
-        (not_in_round old.council (era_at old 0) old.greatest by.at.collection (Renew id) of by.is_due apart) (renewed age) (λ before. omega arith) (of.acknowledged (λ is. apart (sym by.is_due ∙ is)))))
+        (not_in_round old.council (era_at old 0) old.greatest by.at.collection (Renew id) of by.is_due apart) (renewed age) (λ before. omega arith) of.few (of.acknowledged (λ is. apart (sym by.is_due ∙ is)))))
     in_case (collect.is_down down view) = told _ (ap frame_of view)
     in_case (collect.fails middle down view) = same_collecting (told_view middle _) new (ap frame_of view) (told_collecting middle _ (down_collecting _ old middle id down was))
     in_case (collect.is_spent up spent view) = told _ (ap frame_of view)
@@ -399,6 +402,7 @@ ask_collect_collecting {S} {V} m old new by was = in_case by.asks
           tomb = of.tomb;
           acknowledged = of.acknowledged;
           reserved = of.reserved;
+          few = of.few;
         }) (λ other is kind. let same = some_is is in (subst (λ (e : ExchangeView). IsQuestionOf at.collection e.question) same asks, ap (λ (e : ExchangeView). e.tag) (sym same), ap (λ (e : ExchangeView). e.members) (sym same)))
 
     in_case : collect.AsksCollect m old at by.desk new → IsCollectingSafe new
@@ -427,7 +431,7 @@ gather_collect_collecting {S} {V} old new by was = in_case by.gathers
         let next : Council = record old.council { order = Some (record by.at.order { told = None }); exchange = None; collection = Some (confirmed by.at.collection by.at.collection.ages removed kept by.at.collection.reserved) } in
         one_collecting next (era_at old 0) old.greatest (confirmed by.at.collection by.at.collection.ages removed kept by.at.collection.reserved) refl
         (confirmed_safe old.council next (era_at old 0) old.greatest by.at.collection (record by.at.order { told = None }) by.at.collection.ages removed kept by.at.collection.reserved of refl by.at.is_for of.none_planned
-        (λ in_call. past (of.calling in_call)) (of.ages ∙ sym (renewed_still old.greatest by.at.collection.course.step asks)) (λ before. omega arith) (of.acknowledged past))
+        (λ in_call. past (of.calling in_call)) (of.ages ∙ sym (renewed_still old.greatest by.at.collection.course.step asks)) (λ before. omega arith) of.few (of.acknowledged past))
         (λ exchange none kind. absurd (cc none))
 
     in_case : collect.GathersCollect old by.at by.of_exchange.exchange new → IsCollectingSafe new
@@ -441,4 +445,4 @@ floor_collecting {S} {V} old new by was =
     subst IsCollectingBy (sym (ap frame_of by.view)) (quiet_collecting old.council (era_at old 0) old.greatest by.at None by.at.collection.ages 0 was (ap asks_at by.is_due)
     (not_in_round old.council (era_at old 0) old.greatest by.at.collection FloorStep of by.is_due (λ is. cc is))
     (of.ages ∙ ap (renewals_before old.greatest) by.is_due ∙ sym (ap (λ (s : CollectStep). renewals_before old.greatest (step_after old.greatest s)) by.is_due))
-    (λ before. absurd (cc (before, ap (λ (s : CollectStep). is_after_floor (step_after old.greatest s)) by.is_due))) (of.acknowledged (λ is. cc (is, by.is_due))))
+    (λ before. absurd (cc (before, ap (λ (s : CollectStep). is_after_floor (step_after old.greatest s)) by.is_due))) (omega arith) (of.acknowledged (λ is. cc (is, by.is_due))))

@@ -1,10 +1,11 @@
 -- A cluster stays safe as the operator's calls come and go, and as all members are asked and answer.
 use Rattle.std.proofs.Common.{◌≡◌, ◌<◌, ◌≤◌, ℕ, Bool, true, false, List, [], ◌∷◌, ◌++◌, Option, None, Some, refl, sym, ap, subst, ◌∙◌, inl, inr, arith, length-set, length-append}
 use Rattle.std.specs.Prelude.{map, not, ◌&&◌, ◌+◌, ◌-◌, ◌||◌, if◌then◌else◌, length, option_map, slice_get, Contains}
-use Rattle.cas_base.proofs.Bools.{if_false}
+use Rattle.cas_base.proofs.Bools.{if_false, and_left}
 use Rattle.cas_ballot.specs.declared.ballot.Ballot.{Ballot}
 use Rattle.cas_ballot.specs.Ballot.{FitsBallot}
-use Rattle.cas_ballot.specs.Members.{has_member, with_member, IsMemberSet}
+use Rattle.cas_ballot.specs.Members.{members_where, has_member, with_member, IsMemberSet}
+use Rattle.cas_ballot.proofs.CountLemmas.{length-within}
 use Rattle.cas_fate.specs.declared.fate.Verdict.{Verdict}
 use Rattle.cas_flow.specs.Flow.{FlowView, queue_at, taken, emptied, abandoned}
 use Rattle.cas_flow.specs.Message.{head_of}
@@ -38,6 +39,7 @@ use Rattle.cas_cluster.specs.Safe.{IsExchangeSafe, IsAskingSafe, AreListingsSafe
 use Rattle.cas_cluster.specs.StepCalls.{Sends}
 use Rattle.cas_cluster.specs.StepCouncil as council
 use Rattle.cas_cluster.specs.StepCouncil.{asked_by, listing_for, plan_asked, StepOrder, StepTell, told_over, StepGather, Gathers, with_council, told_view, gathered, told_marks, with_exchange, everyone, question_to, questions_to, new_exchange, HasRoomToAsk, MayAskAll, AsksAll, StepAskAll, harmed_exchange, hears, harm_marks, harms, TurnsExchange, StepTurnExchange, StepRefuseTurnExchange}
+use Rattle.cas_cluster.specs.Course.{HasFewMembers}
 use Rattle.cas_cluster.specs.View.{Meaning, View, IsAt, CallView, era_at, with_acceptor, with_desk}
 use Rattle.cas_cluster.proofs.Asks.{where_drawn}
 use Rattle.cas_cluster.proofs.EndSteps.{none_left}
@@ -142,6 +144,17 @@ asked_set view (NewAges key least) = everyone_set view
 asked_set view (Removal key) = everyone_set view
 asked_set view (NextKeys places) = IsMemberSet-members_where (λ n. has_member (everyone view) n && not (has_ended (place_in places n)))
 
+-- and they are few
+pub asked_few : {S V : Type 0} (view : View S V) (question : Question) → HasFewMembers (era_at view 0) → length (asked_by view question) ≤ 9
+asked_few view (Probe key) few = few
+asked_few view (NewAges key least) few = few
+asked_few view (Removal key) few = few
+asked_few view (NextKeys places) few =
+    let low : length (everyone view) ≤ 9 = few in
+    let within : length (asked_by view (NextKeys places)) ≤ length (members_where (has_member (everyone view))) =
+    length-within (λ n. has_member (everyone view) n && not (has_ended (place_in places n))) (has_member (everyone view)) (λ n small is. and_left (has_member (everyone view) n) (not (has_ended (place_in places n))) is) in
+    omega (arith, low, within, ap (λ (l : List ℕ). length l) (everyone_set view).lists)
+
 -- at first no reply waits
 asks_no_reply : (f : ℕ → Request) (tos : List ℕ) (messages : List Message) → messages ≡ map (λ to. message.Request (f to)) tos → (reply : Reply) → Contains messages (message.Reply reply) → ⊥
 asks_no_reply f tos messages are reply h =
@@ -153,9 +166,9 @@ pub none_waiting : {S V : Type 0} (old : View S V) → IsSound old → old.counc
 none_waiting old was none = subst (λ (e : Option ExchangeView). IsAskingSafe e (queue_at old.flow exchange_place)) none was.asking
 
 -- an exchange whose questions were just sent
-pub sent_safe : (old flow : FlowView) (age : ℕ) (tag : Ballot) (question : Question) (tos : List ℕ) → (queue_at old exchange_place).messages ≡ [] → FitsBallot tag → IsMemberSet tos → Sends old exchange_place (questions_to age tag question tos) flow
+pub sent_safe : (old flow : FlowView) (age : ℕ) (tag : Ballot) (question : Question) (tos : List ℕ) → (queue_at old exchange_place).messages ≡ [] → FitsBallot tag → IsMemberSet tos → length tos ≤ 9 → Sends old exchange_place (questions_to age tag question tos) flow
     → IsExchangeSafe (new_exchange question tag tos) (queue_at flow exchange_place)
-sent_safe old flow age tag question tos none fits set sends = record {
+sent_safe old flow age tag question tos none fits set few sends = record {
   tag = fits;
   member_set = set;
   about = about_members f tos tos (queue_at flow exchange_place).messages (λ to. refl) waiting refl;
@@ -164,6 +177,7 @@ sent_safe old flow age tag question tos none fits set sends = record {
   harmed_set = no_members;
   harmed_within = none_within tos;
   reserved = omega arith;
+  few = few;
   room = omega (arith, sends.room, ap requests_in waiting, requests_of_map f tos, length-map tos (λ (to : ℕ). message.Request (f to)));
 }
   where
@@ -186,7 +200,7 @@ ask_safe {S} {V} m old question new was by = by_case by.asks
         → IsSound (with_council (record (with_desk old 0 now) { flow = flow }) (record old.council { exchange = Some (new_exchange question tag tos); plan = plan_asked question tag old.council.plan }))
     asked now tag flow room fits is_now sends =
         council_safe (with_desk old 0 now) flow (record old.council { exchange = Some (new_exchange question tag tos); plan = plan_asked question tag old.council.plan }) old.marks (vault_changes old 0 by.desk now was may.at_desk may.idle is_now) sends.queues sends.others (omega arith)
-        (sent_safe old.flow flow (kept_of by.desk.vault).age tag question tos (none_waiting old was may.none_open) fits.0 (asked_set old question) sends) fits.1
+        (sent_safe old.flow flow (kept_of by.desk.vault).age tag question tos (none_waiting old was may.none_open) fits.0 (asked_set old question) (asked_few old question (was.few_members 0)) sends) fits.1
         (omega (arith, room, ap reserved_for_exchange may.none_open))
 
     by_case : AsksAll m old question by.desk new → IsSound new
@@ -218,8 +232,8 @@ ask_phase tag (Removal key) to = refl
 
 -- an exchange that goes on, with the frames that wait then
 goes_on : (exchange new : ExchangeView) (queue rest : QueueView) (votes : ℕ) → IsExchangeSafe exchange queue → new.question ≡ exchange.question → new.tag ≡ exchange.tag → new.members ≡ exchange.members
-    → IsMemberSet new.harmed → IsWithin exchange.members new.harmed → exchange.reserved + length exchange.harmed ≤ new.reserved + length new.harmed → Moves exchange.members queue rest votes → IsExchangeSafe new rest
-goes_on exchange new queue rest votes was question tag members set within kept moves = record {
+    → IsMemberSet new.harmed → IsWithin exchange.members new.harmed → exchange.reserved + length exchange.harmed ≤ new.reserved + length new.harmed → new.reserved ≤ exchange.reserved → Moves exchange.members queue rest votes → IsExchangeSafe new rest
+goes_on exchange new queue rest votes was question tag members set within kept fewer moves = record {
   tag = subst FitsBallot (sym tag) was.tag;
   member_set = subst IsMemberSet (sym members) was.member_set;
   about = λ each h. subst (λ (l : List ℕ). has_member l (head_of each).1 ≡ true) (sym members) (elim (moves.about each h) [
@@ -236,6 +250,7 @@ goes_on exchange new queue rest votes was question tag members set within kept m
   harmed_set = set;
   harmed_within = λ acceptor h. subst (λ (l : List ℕ). has_member l acceptor ≡ true) (sym members) (within acceptor h);
   reserved = omega (arith, was.reserved, kept, ap (λ (l : List ℕ). length l) members);
+  few = omega (arith, was.few, fewer);
   room = omega (arith, moves.counted.room was.room);
 }
 
@@ -274,7 +289,7 @@ harmed_safe {S} {V} old verdict front exchange member down was is_open waits to 
     let spends = harmed_spends exchange (queue_at old.flow exchange_place) member asking is_member in
     let others = taken_others old.flow exchange_place verdict in
     council_safe old (taken old.flow exchange_place verdict) (record old.council { exchange = Some (harmed_exchange exchange member) }) (old.marks ++ harm_marks exchange member down) was others.own others.others (more_by old.marks (harm_marks exchange member down))
-    (goes_on exchange (harmed_exchange exchange member) (queue_at old.flow exchange_place) (queue_at (taken old.flow exchange_place verdict) exchange_place) 0 asking refl refl refl spends.harmed_set spends.harmed_within (omega (arith, spends.kept))
+    (goes_on exchange (harmed_exchange exchange member) (queue_at old.flow exchange_place) (queue_at (taken old.flow exchange_place verdict) exchange_place) 0 asking refl refl refl spends.harmed_set spends.harmed_within (omega (arith, spends.kept)) (omega (arith, harm_fits exchange (queue_at old.flow exchange_place) member down asking is_member))
     (taken_moves old.flow exchange_place verdict exchange.members waits))
     (was.council.0, same_asks old.council.plan exchange (harmed_exchange exchange member) refl refl (subst (IsAskingOf old.council.plan) is_open was.council.1))
     (omega (arith, was.room, harm_fits exchange (queue_at old.flow exchange_place) member down asking is_member, length-append old.marks (harm_marks exchange member down), ap reserved_for_exchange is_open))
@@ -311,7 +326,7 @@ turn_exchange_safe {S} {V} m old verdict new was step = by_turn step.turn
         let others = replied_others old.flow exchange_place verdict reply in
         subst IsSound (sym view) (council_safe (with_acceptor old request.to now) (replied_flow old.flow exchange_place verdict reply) old.council (old.marks ++ votes_marked request reply) safe others.own others.others (more_by old.marks (votes_marked request reply))
         (subst (λ (e : Option ExchangeView). IsAskingSafe e (queue_at (replied_flow old.flow exchange_place verdict reply) exchange_place)) (sym step.at.is_open)
-        (goes_on exchange exchange (queue_at old.flow exchange_place) (queue_at (replied_flow old.flow exchange_place verdict reply) exchange_place) 0 asking refl refl refl asking.harmed_set asking.harmed_within (omega arith)
+        (goes_on exchange exchange (queue_at old.flow exchange_place) (queue_at (replied_flow old.flow exchange_place verdict reply) exchange_place) 0 asking refl refl refl asking.harmed_set asking.harmed_within (omega arith) (omega arith)
         (replied_moves old.flow exchange_place verdict request reply exchange.members 0 waits fall is_member (by.table.tag, by.table.phase) (omega arith)))) was.council
         (omega (arith, was.room, none, length-append old.marks (votes_marked request reply))))
     by_turn (council.finds_down request acceptor fall front at down view) =
@@ -322,7 +337,7 @@ turn_exchange_safe {S} {V} m old verdict new was step = by_turn step.turn
     by_turn (council.arrives reply fall front to_it view) =
         let others = taken_others old.flow exchange_place verdict in
         subst IsSound (sym view) (council_safe old (taken old.flow exchange_place verdict) (record old.council { exchange = Some (record exchange { told = hears reply exchange.told }) }) old.marks was others.own others.others (omega arith)
-        (goes_on exchange (record exchange { told = hears reply exchange.told }) (queue_at old.flow exchange_place) (queue_at (taken old.flow exchange_place verdict) exchange_place) 0 asking refl refl refl asking.harmed_set asking.harmed_within (omega arith)
+        (goes_on exchange (record exchange { told = hears reply exchange.told }) (queue_at old.flow exchange_place) (queue_at (taken old.flow exchange_place verdict) exchange_place) 0 asking refl refl refl asking.harmed_set asking.harmed_within (omega arith) (omega arith)
         (taken_moves old.flow exchange_place verdict exchange.members step.waits))
         (was.council.0, same_asks old.council.plan exchange (record exchange { told = hears reply exchange.told }) refl refl (subst (IsAskingOf old.council.plan) step.at.is_open was.council.1))
         (omega (arith, was.room, ap reserved_for_exchange step.at.is_open)))

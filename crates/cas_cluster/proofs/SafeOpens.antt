@@ -1,13 +1,14 @@
 -- A cluster that opens is safe.
-use Rattle.std.proofs.Common.{None, ◌≡◌, ℕ, zero, suc, List, [], ◌∷◌, refl, sym, ap, subst, arith}
+use Rattle.std.proofs.Common.{None, ◌≡◌, ◌≤◌, ℕ, zero, suc, List, [], ◌∷◌, refl, sym, ap, subst, arith}
 use Rattle.std.specs.Prelude.{length, Contains, replicate, slice_index_or}
 use Rattle.cas_ballot.specs.Members.{IsMemberSet, members_where}
 use Rattle.cas_cache.specs.declared.ready.Ready.{Ready}
 use Rattle.cas_flow.specs.Flow.{FlowView, queue_at}
 use Rattle.cas_quorum.specs.declared.era.Era.{Era}
 use Rattle.cas_quorum.specs.Era.{majority_era}
-use Rattle.cas_record.specs.declared.mark.Mark.{Mark}
+use Rattle.cas_ballot.proofs.CountLemmas.{union_within, IsWithin-same}
 use Rattle.cas_cluster.specs.Council.{Council, exchange_place, reserved_by}
+use Rattle.cas_cluster.specs.Course.{HasFewMembers}
 use Rattle.cas_cluster.specs.Safe.{IsAskingSafe, IsCouncilSafe, IsCollectingIn, IsSound}
 use Rattle.cas_cluster.proofs.SafeListings.{no_listings, none_asks}
 use Rattle.cas_cluster.specs.SafeLaws.{OpeningsAreSafe, OpeningsOnAreSafe}
@@ -32,6 +33,15 @@ sets zero id set = (no_members, no_members)
 sets (suc n) zero set = (set, set)
 sets (suc n) (suc id) set = sets n id set
 
+-- and they are few
+few_whole : (members : List ℕ) → IsMemberSet members → length members ≤ 9 → HasFewMembers (majority_era 0 members)
+few_whole members set low = omega (arith, low, ap (λ (l : List ℕ). length l) (union_within members members set (IsWithin-same members)))
+
+few : {members : List ℕ} (n id : ℕ) → IsMemberSet members → length members ≤ 9 → HasFewMembers (slice_index_or (replicate n (majority_era 0 members)) id (majority_era 0 []))
+few zero id set low = few_whole [] no_members (omega arith)
+few {members = members} (suc n) zero set low = few_whole members set low
+few (suc n) (suc id) set low = few n id set low
+
 pub opens_on_are_safe : {S V : Type 0} (m : Meaning S V) → OpeningsOnAreSafe m
 opens_on_are_safe {S} {V} m members used floors view is places = record {
   sound = sound;
@@ -44,6 +54,7 @@ opens_on_are_safe {S} {V} m members used floors view is places = record {
       few = is.few;
       prep_sets = λ id. subst (λ (l : List Era). IsMemberSet (era_in l id).prep) (sym is.eras) (sets 17 id is.member_set).0;
       acc_sets = λ id. subst (λ (l : List Era). IsMemberSet (era_in l id).acc) (sym is.eras) (sets 17 id is.member_set).1;
+      few_members = λ id. subst (λ (l : List Era). HasFewMembers (era_in l id)) (sym is.eras) (few 17 id is.member_set is.few_members);
       eras = ap (λ (l : List Era). length l) is.eras;
       acceptors = places.acceptors;
       acceptor_ids = λ id acceptor at. (is.acceptors id acceptor at).same_id;
@@ -55,7 +66,7 @@ opens_on_are_safe {S} {V} m members used floors view is places = record {
           let new = is.callers id caller at_caller in
           party_idle (era_at view id) (length view.marks) id desk caller (queue_at view.flow id) fresh.same_id fresh.none_open (none_under_way view.flow id is.flow) (omega (arith, ap (λ (c : CallerView). c.number) new))
           (λ key ready h. absurd (contains_none (subst (λ (l : List (List ℕ × Ready)). Contains l (key, ready)) fresh.no_promise h)))
-          (λ call some. absurd (cc (some, ap (λ (c : CallerView). c.call) new)));
+          (λ call some. absurd (cc (some, ap (λ (c : CallerView). c.call) new))) (omega (arith, ap (λ (c : CallerView). reserved_in c.call) new));
       asking = subst (λ (c : Council). IsAskingSafe c.exchange (queue_at view.flow exchange_place)) (sym is.council) (none_under_way view.flow exchange_place is.flow);
       council = subst IsCouncilSafe (sym is.council) (no_listings, none_asks None);
       room = omega (arith, none_reserved view.callers is.callers, is.room, ap (λ (c : Council). reserved_by c) is.council);

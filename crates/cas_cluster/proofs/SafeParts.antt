@@ -20,7 +20,8 @@ use Rattle.cas_record.specs.declared.mark.Mark.{Mark}
 use Rattle.cas_record.proofs.Tests.{nat_same, nat_is}
 use Rattle.cas_cluster.specs.Council.{Council, exchange_place, reserved_by}
 use Rattle.cas_cluster.specs.Safe.{requests_in, IsPartySafe, IsRoundSafe, IsIdleSafe, IsSound, IsAskingSafe, IsCouncilSafe}
-use Rattle.cas_cluster.specs.StepCalls.{most_marks}
+use Rattle.cas_cluster.specs.Course.{HasFewMembers}
+use Rattle.cas_cluster.specs.StepCalls.{most_marks, round_marks, most_round_marks}
 use Rattle.cas_cluster.proofs.Places.{some_is, same_or_not, own_set, other_set}
 use Rattle.cas_cluster.specs.View.{View, CallView, CallerView, IsAt, reserved_in, reserved_of, reserved_in_all, era_at, era_in}
 
@@ -31,6 +32,12 @@ reserved_set (c ∷ callers) zero old new at =
     let same : reserved_in c.call ≡ reserved_in old.call = ap (λ (x : CallerView). reserved_in x.call) (some_is at) in
     omega (arith, same)
 reserved_set (c ∷ callers) (suc place) old new at = omega (arith, reserved_set callers place old new at)
+
+-- a round of few members reserves few marks
+pub few_round : (era : Era) → HasFewMembers era → round_marks era ≤ most_round_marks
+few_round era few =
+    let low : length (union_of era.prep era.acc) ≤ 9 = few in
+    omega (arith, low)
 
 -- ---- frames that wait
 pub requests_append : (xs ys : List Message) → requests_in (xs ++ ys) ≡ requests_in xs + requests_in ys
@@ -107,6 +114,7 @@ more_marks era few more id desk caller queue low was = record {
   same_id = was.same_id;
   idle = was.idle;
   number = omega (arith, was.number, low);
+  few = was.few;
   cached = was.cached;
   round = was.round;
   room = was.room;
@@ -126,6 +134,7 @@ safe_but {S} {V} old new id was low changes party room = record {
   few = subst (λ (n : ℕ). n ≤ 16) (sym changes.greatest) was.few;
   prep_sets = λ p. subst (λ (l : List Era). IsMemberSet (era_in l p).prep) (sym changes.eras) (was.prep_sets p);
   acc_sets = λ p. subst (λ (l : List Era). IsMemberSet (era_in l p).acc) (sym changes.eras) (was.acc_sets p);
+  few_members = λ p. subst (λ (l : List Era). HasFewMembers (era_in l p)) (sym changes.eras) (was.few_members p);
   eras = ap (λ (l : List Era). length l) changes.eras ∙ was.eras;
   acceptors = changes.acceptors ∙ was.acceptors;
   acceptor_ids = changes.acceptor_ids;
@@ -156,6 +165,7 @@ council_safe {S} {V} old flow next marks was own others more asking council room
   few = was.few;
   prep_sets = was.prep_sets;
   acc_sets = was.acc_sets;
+  few_members = was.few_members;
   eras = was.eras;
   acceptors = was.acceptors;
   acceptor_ids = was.acceptor_ids;
@@ -250,11 +260,12 @@ changes_all old id acceptors desks caller flow marks acceptors_length ids desks_
 
 -- ---- a party without an open round
 pub party_idle : {V : Type 0} (era : Era) (marks id : ℕ) (desk : DeskView V) (caller : CallerView) (queue : QueueView) → desk.id ≡ id → desk.round ≡ None → queue.messages ≡ [] → caller.number ≤ marks
-    → ((key : List ℕ) (ready : Ready) → Contains desk.cache (key, ready) → FitsBallot ready.ballot) → ((call : CallView) → caller.call ≡ Some call → 0 < call.reserved) → IsPartySafe era marks id desk caller queue
-party_idle era marks id desk caller queue same none waits number fits reserved = record {
+    → ((key : List ℕ) (ready : Ready) → Contains desk.cache (key, ready) → FitsBallot ready.ballot) → ((call : CallView) → caller.call ≡ Some call → 0 < call.reserved) → reserved_in caller.call ≤ most_round_marks → IsPartySafe era marks id desk caller queue
+party_idle era marks id desk caller queue same none waits number fits reserved few = record {
   same_id = same;
   idle = λ down. none;
   number = number;
+  few = few;
   cached = fits;
   round = subst (IsRoundSafe era caller queue) (sym none) (record { none_waits = waits; reserved = reserved });
   room = omega (arith, ap requests_in waits);

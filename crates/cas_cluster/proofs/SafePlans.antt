@@ -23,7 +23,7 @@ use Rattle.cas_cluster.specs.View.{Meaning, View, IsAt, era_at, reserved_in_all,
 use Rattle.cas_cluster.proofs.Leaving.{left_marks}
 use Rattle.cas_cluster.proofs.Places.{own_set}
 use Rattle.cas_cluster.proofs.SafeCouncil.{hushed_reserves, told_view_safe}
-use Rattle.cas_cluster.specs.Course.{Course, entering, next_era}
+use Rattle.cas_cluster.specs.Course.{Course, HasFewMembers, entering, next_era}
 use Rattle.cas_cluster.proofs.CourseSteps.{welcome_course}
 use Rattle.cas_cluster.proofs.OnCourse.{left_course}
 use Rattle.cas_cluster.proofs.SafeListings.{begun_safe, enters_safe}
@@ -59,11 +59,11 @@ entered_idle : {S V : Type 0} (m : Meaning S V) (next : Era) (closed : _) (old m
 entered_idle {S} {V} m next closed old middle id (stops.idle desk now at none by view) d at_d = ap (λ (x : DeskView V). x.round) (own_set old.desks id now d (subst (λ (w : View S V). IsAt w.desks id d) view at_d) ∙ by.desk)
 entered_idle {S} {V} m next closed old middle id (stops.closes desk now round of at some by view) d at_d = ap (λ (x : DeskView V). x.round) (own_set old.desks id now d (subst (λ (w : View S V). IsAt w.desks id d) view at_d) ∙ by.desk)
 
-enters_next : {S V : Type 0} (m : Meaning S V) (old middle : View S V) (plan : PlanView) (next : Era) → IsSound old → IsMemberSet next.prep → IsMemberSet next.acc → length old.marks + reserved_in_all old < most_marks → entering plan.progress.left ≡ Some next → old.council.plan ≡ Some plan
+enters_next : {S V : Type 0} (m : Meaning S V) (old middle : View S V) (plan : PlanView) (next : Era) → IsSound old → IsMemberSet next.prep → IsMemberSet next.acc → HasFewMembers next → length old.marks + reserved_in_all old < most_marks → entering plan.progress.left ≡ Some next → old.council.plan ≡ Some plan
     → LeavesRound (EntersEra m.disks next) (closed_by (answer.Moved next.number) (cause.Moved next.number)) old plan.entered middle → IsSound (entered_view middle plan next)
-enters_next {S} {V} m old middle plan next was prep acc room is_next is_plan leaves =
+enters_next {S} {V} m old middle plan next was prep acc few room is_next is_plan leaves =
     council_safe (record middle { eras = slice_set middle.eras plan.entered next }) middle.flow (record (hushed middle.council) { plan = Some (plan_after middle.greatest plan next) }) (middle.marks ++ EraEntered plan.entered next.number ∷ [])
-    (era_safe middle plan.entered next left prep acc (entered_idle m next (closed_by (answer.Moved next.number) (cause.Moved next.number)) old middle plan.entered leaves)) refl (λ p other. refl) (more_by middle.marks _) left.asking
+    (era_safe middle plan.entered next left prep acc few (entered_idle m next (closed_by (answer.Moved next.number) (cause.Moved next.number)) old middle plan.entered leaves)) refl (λ p other. refl) (more_by middle.marks _) left.asking
     (enters_safe middle.council.plan middle.council.exchange middle.greatest plan next
     (ap (λ (c : Course). c.plan) (left_course (EntersEra m.disks next) (closed_by (answer.Moved next.number) (cause.Moved next.number)) old middle plan.entered leaves) ∙ is_plan) is_next left.council.0 left.council.1)
     (omega (
@@ -85,14 +85,14 @@ revault_safe {S} {V} old id desk now was at is_now =
     safe_but old (with_desk old id now) id was (desk_low old id desk was at) (changes_desk old id now old.flow was refl (λ p other. refl))
     (λ d caller at_d at_caller. subst (λ (x : DeskView V). IsPartySafe (era_at old id) (length old.marks) id x caller (queue_at old.flow id)) (sym (own_set old.desks id now d at_d ∙ is_now))
     (let party = was.parties id desk caller at at_caller in
-    record { same_id = party.same_id; idle = party.idle; number = party.number; cached = party.cached; round = party.round; room = party.room }))
+    record { same_id = party.same_id; idle = party.idle; number = party.number; few = party.few; cached = party.cached; round = party.round; room = party.room }))
     was.room
 
-pub enter_safe : {S V : Type 0} (m : Meaning S V) (old new : View S V) (id : ℕ) → IsSound old → (by : StepEnterEra m old id new) → IsMemberSet by.next.prep → IsMemberSet by.next.acc → IsSound new
-enter_safe {S} {V} m old new id was by prep acc = by_case by.enters
+pub enter_safe : {S V : Type 0} (m : Meaning S V) (old new : View S V) (id : ℕ) → IsSound old → (by : StepEnterEra m old id new) → IsMemberSet by.next.prep → IsMemberSet by.next.acc → HasFewMembers by.next → IsSound new
+enter_safe {S} {V} m old new id was by prep acc few = by_case by.enters
   where
     by_case : EntersNext m old by.plan by.next by.desk new → IsSound new
-    by_case (plans.enters middle room leaves view) = subst IsSound (sym view) (enters_next m old middle by.plan by.next was prep acc room (ap next_era (sym by.may.is_plan) ∙ by.may.is_next) by.may.is_plan leaves)
+    by_case (plans.enters middle room leaves view) = subst IsSound (sym view) (enters_next m old middle by.plan by.next was prep acc few room (ap next_era (sym by.may.is_plan) ∙ by.may.is_next) by.may.is_plan leaves)
     by_case (plans.is_full full view) = subst IsSound (sym view) (told_view_safe old _ was)
     by_case (plans.is_down room down view) = subst IsSound (sym view) (told_view_safe old _ was)
     by_case (plans.fails middle room down view) = subst IsSound (sym view) (told_view_safe middle _ (down_safe old by.plan.entered (FailsToEnter m.disks by.next) middle (λ desk now fails. fails.crashed) was down))

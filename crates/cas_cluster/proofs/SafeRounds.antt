@@ -115,6 +115,7 @@ proposed_safe {S} {V} old id caller call desk now round flow p age key ballot ri
       same_id = same ∙ party.same_id;
       idle = λ down. absurd (cc (down, up));
       number = omega (arith, party.number, more_by old.marks (Proposed p ∷ []));
+      few = omega (arith, party.few, ap reserved_in is_open);
       cached = λ key ready h. party.cached key ready (fewer key ready h);
       round = subst (IsRoundSafe (era_at old id) after (queue_at flow id)) (sym is_round) open_safe;
       room = omega (arith, sends.room, counted, length-map (era_at old id).acc (λ (to : ℕ). message.Request (f to)));

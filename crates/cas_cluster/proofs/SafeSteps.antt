@@ -8,7 +8,7 @@ use Rattle.cas_record.specs.declared.answer.Answer.TheVariants as answer
 use Rattle.cas_record.specs.declared.answer.Cause.TheVariants as cause
 use Rattle.cas_record.specs.declared.operator.OpAnswer.{OpAnswer}
 use Rattle.cas_cluster.specs.Council.{PlanView}
-use Rattle.cas_cluster.specs.Course.{course_of, next_era, shown_era, era_shown, IsUnderWay, IsCourse}
+use Rattle.cas_cluster.specs.Course.{HasFewMembers, course_of, next_era, shown_era, era_shown, IsUnderWay, IsCourse}
 use Rattle.cas_cluster.specs.StepCouncil.{told_view}
 use Rattle.cas_cluster.specs.StepDesks.{Crashes}
 use Rattle.cas_cluster.specs.StepStops.{CrashesDesk, broken_off_view, closed_by_crash}
@@ -30,24 +30,25 @@ use Rattle.cas_cluster.proofs.Courses.{leads}
 use Rattle.cas_cluster.proofs.OnCourse.{left_course}
 
 -- the members of the next era are sets
-next_sets : {S V : Type 0} (old : View S V) (next : Era) → IsCourse (course_of old) → next_era old.council.plan ≡ Some next → IsMemberSet next.prep × IsMemberSet next.acc
+next_sets : {S V : Type 0} (old : View S V) (next : Era) → IsCourse (course_of old) → next_era old.council.plan ≡ Some next → IsMemberSet next.prep × IsMemberSet next.acc × HasFewMembers next
 next_sets old next is is_next = by_plan old.council.plan is.under_way is_next
   where
-    by_plan : (plan : Option PlanView) → IsUnderWay (course_of old) plan → next_era plan ≡ Some next → IsMemberSet next.prep × IsMemberSet next.acc
+    by_plan : (plan : Option PlanView) → IsUnderWay (course_of old) plan → next_era plan ≡ Some next → IsMemberSet next.prep × IsMemberSet next.acc × HasFewMembers next
     by_plan None under_way none = absurd (cc none)
-    by_plan (Some plan) under_way enters = let follows = (leads plan.progress.era next plan.progress.left enters under_way.start).follows in (follows.prep_set, follows.acc_set)
+    by_plan (Some plan) under_way enters = let follows = (leads plan.progress.era next plan.progress.left enters under_way.start).follows in (follows.prep_set, follows.acc_set, follows.few)
 
 -- and so are those of the era that a vault shows
-shown_sets : {S V : Type 0} (old : View S V) (id : ℕ) → IsSafe old → (number : ℕ) → IsMemberSet (era_shown old.council.plan (era_at old id) number).prep × IsMemberSet (era_shown old.council.plan (era_at old id) number).acc
+shown_sets : {S V : Type 0} (old : View S V) (id : ℕ) → IsSafe old → (number : ℕ) → IsMemberSet (era_shown old.council.plan (era_at old id) number).prep × IsMemberSet (era_shown old.council.plan (era_at old id) number).acc × HasFewMembers (era_shown old.council.plan (era_at old id) number)
 shown_sets old id is number = by_next (next_era old.council.plan) (λ next is_next. next_sets old next is.course is_next)
   where
-    by_next : (next : Option Era) → ((era : Era) → next ≡ Some era → IsMemberSet era.prep × IsMemberSet era.acc) → IsMemberSet (shown_era next (era_at old id) number).prep × IsMemberSet (shown_era next (era_at old id) number).acc
-    by_next None sets = (is.sound.prep_sets id, is.sound.acc_sets id)
+    by_next : (next : Option Era) → ((era : Era) → next ≡ Some era → IsMemberSet era.prep × IsMemberSet era.acc × HasFewMembers era)
+        → IsMemberSet (shown_era next (era_at old id) number).prep × IsMemberSet (shown_era next (era_at old id) number).acc × HasFewMembers (shown_era next (era_at old id) number)
+    by_next None sets = (is.sound.prep_sets id, is.sound.acc_sets id, is.sound.few_members id)
     by_next (Some next) sets = by_number (next.number == number)
       where
-        by_number : (b : Bool) → IsMemberSet (if b then next else era_at old id).prep × IsMemberSet (if b then next else era_at old id).acc
+        by_number : (b : Bool) → IsMemberSet (if b then next else era_at old id).prep × IsMemberSet (if b then next else era_at old id).acc × HasFewMembers (if b then next else era_at old id)
         by_number true = sets next refl
-        by_number false = (is.sound.prep_sets id, is.sound.acc_sets id)
+        by_number false = (is.sound.prep_sets id, is.sound.acc_sets id, is.sound.few_members id)
 
 sound : {S V : Type 0} (m : Meaning S V) (old : View S V) (event : step.Event) (new : View S V) → IsSafe old → Step m old event new → IsSound new
 sound m old (step.Begin id key program) new is by = begin_safe m old id key program new is.sound by
@@ -72,7 +73,7 @@ sound m old step.RefuseTurnExchange new is by = council.refuse_exchange_safe m o
 sound m old step.Gather new is by = council.gather_safe old new is.sound by
 sound m old step.RefuseKey new is by = subst IsSound (sym by.view) (council.told_view_safe old _ is.sound)
 sound m old step.OpenPlan new is by = open_safe m old new is.sound by
-sound m old (step.EnterEra id) new is by = let sets = next_sets old by.next is.course by.may.is_next in enter_safe m old new id is.sound by sets.0 sets.1
+sound m old (step.EnterEra id) new is by = let sets = next_sets old by.next is.course by.may.is_next in enter_safe m old new id is.sound by sets.0 sets.1 sets.2
 sound m old (step.BeginCollect key) new is by = collect.begin_collect_safe m old new key is.sound by
 sound m old step.ReadHeld new is by = collect.read_held_safe m old new is.sound by
 sound m old step.CountCollect new is by = collect.count_collect_safe m old new is.sound by

@@ -42,6 +42,7 @@ use Rattle.cas_cluster.specs.Safe.{requests_in, handled_in, handled_once, IsPart
 use Rattle.cas_cluster.specs.Step as step
 use Rattle.cas_cluster.specs.Course.{era_shown}
 use Rattle.cas_cluster.specs.Step.{StepRefuseTurn, StepStray, StepCrashAcceptor, StepRestartAcceptor, StepRestartProposer}
+use Rattle.cas_cluster.specs.Course.{HasFewMembers}
 use Rattle.cas_cluster.specs.StepStops as stops
 use Rattle.cas_cluster.specs.StepStops.{closed_by, LeavesRound, GoesDown, broken_off_view}
 use Rattle.cas_cluster.specs.StepCalls as calls
@@ -69,6 +70,7 @@ acceptors_safe old acceptors late marks was same ids more room = record {
   few = was.few;
   prep_sets = was.prep_sets;
   acc_sets = was.acc_sets;
+  few_members = was.few_members;
   eras = was.eras;
   acceptors = same ∙ was.acceptors;
   acceptor_ids = ids;
@@ -153,6 +155,7 @@ tells_safe {S} {V} old id caller call now was at is_open key reserved proposed h
       same_id = party.same_id;
       idle = party.idle;
       number = party.number;
+      few = omega (arith, party.few, reserved, ap reserved_in is_open);
       cached = party.cached;
       round = told_safe (era_at old id) caller call now (queue_at old.flow id) desk.round is_open key reserved proposed harmed party.round;
       room = party.room;
@@ -202,6 +205,7 @@ heard_party {V} era marks id desk now caller queue round heard reply has_round b
   same_id = ap (λ (d : DeskView V). d.id) by.desk ∙ was.same_id;
   idle = λ down. absurd (cc (has_round, was.idle (sym (ap (λ (d : DeskView V). d.down) by.desk) ∙ down)));
   number = was.number;
+  few = was.few;
   cached = λ key ready h. was.cached key ready (subst (λ (l : List (List ℕ × Ready)). Contains l (key, ready)) (ap (λ (d : DeskView V). d.cache) by.desk) h);
   round = subst (IsRoundSafe era caller queue) (sym (ap (λ (d : DeskView V). d.round) by.desk))
       (heard_open era caller queue round heard reply by.hears (subst (IsRoundSafe era caller queue) has_round was.round));
@@ -279,7 +283,7 @@ desk_idles {S} {V} old id desk now flow was at same none fit idle own others =
     (λ d caller at_d at_caller. subst (λ (x : DeskView V). IsPartySafe (era_at old id) (length old.marks) id x caller (queue_at flow id)) (sym (own_set old.desks id now d at_d))
     (let party = was.parties id desk caller at at_caller in
     let is = idle caller at_caller in
-    party_idle (era_at old id) (length old.marks) id now caller (queue_at flow id) (same ∙ party.same_id) none is.none_waits party.number (fit party.cached) is.reserved))
+    party_idle (era_at old id) (length old.marks) id now caller (queue_at flow id) (same ∙ party.same_id) none is.none_waits party.number (fit party.cached) is.reserved party.few))
     was.room
 
 -- the same, with what its caller's call is now, and more marks within what was reserved for them
@@ -293,7 +297,7 @@ call_idles {S} {V} old id caller next desk now flow marks was at_caller at_desk 
     (λ d c at_d at_c. subst (λ (x : DeskView V). IsPartySafe (era_at old id) (length marks) id x c (queue_at flow id)) (sym (own_set old.desks id now d at_d))
     (subst (λ (x : CallerView). IsPartySafe (era_at old id) (length marks) id now x (queue_at flow id)) (sym (own_set old.callers id next c at_c))
     (let party = was.parties id desk caller at_desk at_caller in
-    party_idle (era_at old id) (length marks) id now next (queue_at flow id) (same ∙ party.same_id) none waits (omega (arith, number, party.number, more)) (fit party.cached) reserved)))
+    party_idle (era_at old id) (length marks) id now next (queue_at flow id) (same ∙ party.same_id) none waits (omega (arith, number, party.number, more)) (fit party.cached) reserved (omega (arith, party.few, room, more)))))
     (omega (arith, room, was.room, reserved_set old.callers id caller next at_caller))
 
 -- a round is over, or none began, and the caller is told so
@@ -329,6 +333,7 @@ broken_safe (Some exchange) queue was = record {
   harmed_set = was.harmed_set;
   harmed_within = was.harmed_within;
   reserved = was.reserved;
+  few = was.few;
   room = omega arith;
 }
 
@@ -391,11 +396,12 @@ era_put P (first ∷ eras) (suc id) era other is are zero = are zero
 era_put P (first ∷ eras) (suc id) era other is are (suc p) = era_put P eras id era other is (λ q. are (suc q)) p
 
 -- a proposer without an open round may work in another era
-pub era_safe : {S V : Type 0} (old : View S V) (id : ℕ) (era : Era) → IsSound old → IsMemberSet era.prep → IsMemberSet era.acc → ((desk : DeskView V) → IsAt old.desks id desk → desk.round ≡ None) → IsSound (record old { eras = slice_set old.eras id era })
-era_safe {S} {V} old id era was prep acc idle = record {
+pub era_safe : {S V : Type 0} (old : View S V) (id : ℕ) (era : Era) → IsSound old → IsMemberSet era.prep → IsMemberSet era.acc → HasFewMembers era → ((desk : DeskView V) → IsAt old.desks id desk → desk.round ≡ None) → IsSound (record old { eras = slice_set old.eras id era })
+era_safe {S} {V} old id era was prep acc few idle = record {
   few = was.few;
   prep_sets = era_put (λ e. IsMemberSet e.prep) old.eras id era (majority_era 0 []) prep was.prep_sets;
   acc_sets = era_put (λ e. IsMemberSet e.acc) old.eras id era (majority_era 0 []) acc was.acc_sets;
+  few_members = era_put (λ e. HasFewMembers e) old.eras id era (majority_era 0 []) few was.few_members;
   eras = length-set old.eras id era ∙ was.eras;
   acceptors = was.acceptors;
   acceptor_ids = was.acceptor_ids;
@@ -413,11 +419,11 @@ era_safe {S} {V} old id era was prep acc idle = record {
         let party = was.parties p desk caller at_desk at_caller in
         let none = idle desk (subst (λ (q : ℕ). IsAt old.desks q desk) same at_desk) in
         let is = idle_at (era_at old p) caller (queue_at old.flow p) desk.round none party.round in
-        party_idle (era_in (slice_set old.eras id era) p) (length old.marks) p desk caller (queue_at old.flow p) party.same_id none is.none_waits party.number party.cached is.reserved
+        party_idle (era_in (slice_set old.eras id era) p) (length old.marks) p desk caller (queue_at old.flow p) party.same_id none is.none_waits party.number party.cached is.reserved party.few
     by_place p desk caller at_desk at_caller (inr other) =
         subst (λ (e : Era). IsPartySafe e (length old.marks) p desk caller (queue_at old.flow p)) (sym (era_kept old.eras id p era other)) (was.parties p desk caller at_desk at_caller)
 
-pub restarts_proposer_safe : {S V : Type 0} (m : Meaning S V) (old : View S V) (id : ℕ) (new : View S V) → IsSound old → ((number : ℕ) → IsMemberSet (era_shown old.council.plan (era_at old id) number).prep × IsMemberSet (era_shown old.council.plan (era_at old id) number).acc)
+pub restarts_proposer_safe : {S V : Type 0} (m : Meaning S V) (old : View S V) (id : ℕ) (new : View S V) → IsSound old → ((number : ℕ) → IsMemberSet (era_shown old.council.plan (era_at old id) number).prep × IsMemberSet (era_shown old.council.plan (era_at old id) number).acc × HasFewMembers (era_shown old.council.plan (era_at old id) number))
     → StepRestartProposer m old id new → IsSound new
 restarts_proposer_safe {S} {V} m old id new was sets (step.was_up_already desk at up view) = subst IsSound (sym view) was
 restarts_proposer_safe {S} {V} m old id new was sets (step.restarts desk now its_caller at at_its down by view) = subst IsSound (sym view) (by_down now.down)
@@ -428,13 +434,13 @@ restarts_proposer_safe {S} {V} m old id new was sets (step.restarts desk now its
         (let party = was.parties id desk caller at at_caller in
         let is = idle_at (era_at old id) caller (queue_at old.flow id) desk.round (party.idle down) party.round in
         party_idle (era_at old id) (length old.marks) id now caller (queue_at old.flow id) (ap (λ (d : DeskView V). d.id) by.desk ∙ party.same_id) (ap (λ (d : DeskView V). d.round) by.desk ∙ party.idle down)
-        is.none_waits party.number (subst AreFit (sym (ap (λ (d : DeskView V). d.cache) by.desk)) party.cached) is.reserved))
+        is.none_waits party.number (subst AreFit (sym (ap (λ (d : DeskView V). d.cache) by.desk)) party.cached) is.reserved party.few))
         was.room
 
     by_down : (b : Bool) → IsSound (record (with_desk old id now) { eras = if b then old.eras else slice_set old.eras id (era_shown old.council.plan (era_at old id) (kept_of now.vault).era) })
     by_down true = same
     by_down false = let set = sets (kept_of now.vault).era in
-        era_safe (with_desk old id now) id (era_shown old.council.plan (era_at old id) (kept_of now.vault).era) same set.0 set.1
+        era_safe (with_desk old id now) id (era_shown old.council.plan (era_at old id) (kept_of now.vault).era) same set.0 set.1 set.2
         (λ d at_d. ap (λ (x : DeskView V). x.round) (own_set old.desks id now d at_d ∙ by.desk) ∙ (was.parties id desk its_caller at at_its).idle down)
 
 -- ---- calls that end, and calls that are refused
@@ -494,7 +500,7 @@ begin_stays_safe {S} {V} old id caller call told new was at_caller is_open idle 
     (λ desk c at_desk at_c. subst (λ (x : CallerView). IsPartySafe (era_at old id) (length old.marks) id desk x (queue_at old.flow id)) (sym (own_set old.callers id next c at_c))
     (let party = was.parties id desk caller at_desk at_caller in
     party_idle (era_at old id) (length old.marks) id desk next (queue_at old.flow id) party.same_id (idle desk at_desk) (idle_at (era_at old id) caller (queue_at old.flow id) desk.round (idle desk at_desk) party.round).none_waits
-    party.number party.cached (λ other is. subst (λ (x : CallView). 0 < x.reserved) (some_is is) (omega arith))))
+    party.number party.cached (λ other is. subst (λ (x : CallView). 0 < x.reserved) (some_is is) (omega arith)) (omega arith)))
     (omega (arith, was.room, ap reserved_in is_open, reserved_set old.callers id caller next at_caller, call_reserves_at old id caller call its.0 was at_caller is_open its.1)))
 
 -- no frame of a proposer waits where its desk has no open round

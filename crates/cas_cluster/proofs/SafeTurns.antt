@@ -34,7 +34,7 @@ use Rattle.cas_cluster.specs.Acceptors.{votes_of}
 use Rattle.cas_cluster.specs.Parties.{asked_in}
 use Rattle.cas_cluster.specs.Safe.{requests_in, handled_in, handled_once, IsPartySafe, IsRoundSafe, IsOpenSafe, IsSound}
 use Rattle.cas_cluster.specs.StepAcceptors.{AnswersByTable}
-use Rattle.cas_cluster.specs.StepCalls.{with_call}
+use Rattle.cas_cluster.specs.StepCalls.{most_round_marks, with_call}
 use Rattle.cas_cluster.specs.StepDesks.{HearsReply}
 use Rattle.cas_cluster.specs.StepFrames as frames
 use Rattle.cas_cluster.specs.StepFrames.{TakesTurn, silent, marking, votes_marked, harmed_by, harms_marked, harmed_view, replied_flow}
@@ -272,11 +272,12 @@ open_goes_on era caller call new queue rest round now votes was same stays spend
 
 party_goes_on : {V : Type 0} (era : Era) (few more id : ℕ) (desk next : DeskView V) (caller : CallerView) (call new : CallView) (queue rest : QueueView) (round now : Round) (votes : ℕ) → few ≤ more
     → IsPartySafe era few id desk caller queue → desk.round ≡ Some round → next ≡ record desk { round = Some now } → (was : IsOpenSafe era caller queue round) → was.call ≡ call → Stays round now
-    → Spends (asked_in era round.phase) call new votes → Moves (asked_in era round.phase) queue rest votes → (is_preparing round.phase ≡ true → votes ≡ 0) → IsPartySafe era more id next (recalled caller new) rest
-party_goes_on {V} era few more id desk next caller call new queue rest round now votes low party is_round next_is was same stays spends moves unvoted = subst (λ (d : DeskView V). IsPartySafe era more id d (recalled caller new) rest) (sym next_is) (record {
+    → Spends (asked_in era round.phase) call new votes → Moves (asked_in era round.phase) queue rest votes → (is_preparing round.phase ≡ true → votes ≡ 0) → new.reserved ≤ most_round_marks → IsPartySafe era more id next (recalled caller new) rest
+party_goes_on {V} era few more id desk next caller call new queue rest round now votes low party is_round next_is was same stays spends moves unvoted fewer = subst (λ (d : DeskView V). IsPartySafe era more id d (recalled caller new) rest) (sym next_is) (record {
   same_id = party.same_id;
   idle = λ down. absurd (cc (party.idle down, is_round));
   number = omega (arith, party.number, low);
+  few = fewer;
   cached = party.cached;
   round = open_goes_on era caller call new queue rest round now votes was same stays spends moves unvoted;
   room = omega (arith, moves.counted.room party.room);
@@ -341,7 +342,8 @@ turned {S} {V} old id caller call new acceptors desks flow more desk next round 
     (changes_all old id acceptors desks (recalled caller new) flow (old.marks ++ more) ids.length (ids.ids was.acceptor_ids) keeps.length keeps.others others.own others.others (more_by old.marks more))
     (λ d c at_d at_c. subst (λ (x : DeskView V). IsPartySafe (era_at old id) (length (old.marks ++ more)) id x c (queue_at flow id)) (sym (keeps.own d at_d))
     (subst (λ (x : CallerView). IsPartySafe (era_at old id) (length (old.marks ++ more)) id next x (queue_at flow id)) (sym (own_set old.callers id (recalled caller new) c at_c))
-    (party_goes_on (era_at old id) (length old.marks) (length (old.marks ++ more)) id desk next caller call new (queue_at old.flow id) (queue_at flow id) round now votes (more_by old.marks more) (was.parties id desk caller at_desk at_caller) is_round next_is safe same stays spends moves unvoted)))
+    (party_goes_on (era_at old id) (length old.marks) (length (old.marks ++ more)) id desk next caller call new (queue_at old.flow id) (queue_at flow id) round now votes (more_by old.marks more) (was.parties id desk caller at_desk at_caller) is_round next_is safe same stays spends moves unvoted
+    (omega (arith, fits, (was.parties id desk caller at_desk at_caller).few, ap reserved_in is_open)))))
     (omega (arith, was.room, fits, length-append old.marks more, reserved_set old.callers id caller (recalled caller new) at_caller, ap reserved_in is_open))
 
 -- the round is as it was

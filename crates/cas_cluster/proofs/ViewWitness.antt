@@ -200,6 +200,7 @@ module _ {D : Type 0} (begun : Vault D) where
     few = omega arith;
     member_set = record { lists = refl };
     some = omega arith;
+    few_members = omega arith;
     acceptors = acceptors_fresh;
     desks = desks_fresh;
     callers = callers_new;

@@ -1,7 +1,7 @@
 -- The course of a cluster through its eras: which era each proposer works in, the change of membership that is under way, and who was
 -- marked as having entered which era.
 use Rattle.std.specs.Prelude.{◌≡◌, ◌⊎◌, false, ℕ, suc, ◌+◌, ◌<◌, ◌≤◌, ◌==◌, if◌then◌else◌, List, [], ◌∷◌, length, Option, None, Some, Contains}
-use Rattle.cas_ballot.specs.Members.{IsMemberSet}
+use Rattle.cas_ballot.specs.Members.{union_of, IsMemberSet}
 use Rattle.cas_members.specs.declared.plan.PlanStep.{PlanStep}
 use Rattle.cas_members.specs.declared.plan.PlanStep.TheVariants.{Settle, Enter}
 use Rattle.cas_members.specs.Plan.{HasMajorities, eras_in}
@@ -73,11 +73,16 @@ abbrev pub era_shown : Option PlanView → Era → ℕ → Era
 era_shown plan era number = shown_era (next_era plan) era number
 
 -- ---- eras that follow each other
+-- no more than nine members prepare or accept
+abbrev pub HasFewMembers : Era → Type 0
+HasFewMembers era = length (union_of era.prep era.acc) ≤ 9
+
 -- the same members prepare and accept, by majorities
 pub record IsWhole (era : Era) : Type 0 where
   pub majorities : era ≡ majority_era era.number era.prep
   pub member_set : IsMemberSet era.prep
   pub some : 0 < length era.prep
+  pub few : HasFewMembers era
 
 -- it has the next number, and members that prepare and that accept, by majorities
 pub record Follows (era next : Era) : Type 0 where
@@ -87,6 +92,7 @@ pub record Follows (era next : Era) : Type 0 where
   pub some_prep : 0 < length next.prep
   pub some_acc : 0 < length next.acc
   pub majorities : HasMajorities next
+  pub few : HasFewMembers next
 
 -- the steps settle an era, which is not the first, before they enter the one that follows it, and end in one that is whole
 abbrev pub IsPath : Era → List PlanStep → Type 0
@@ -94,8 +100,9 @@ IsPath era [] = IsWhole era
 IsPath era (Settle ∷ Enter next ∷ later) = (0 < era.number) × Follows era next × IsPath next later
 IsPath era other = ⊥
 
--- the first era may be settled already
+-- the first era may be settled already; where no step is left, it is not the era any more
 abbrev pub IsStart : Era → List PlanStep → Type 0
+IsStart era [] = (0 < era.number) × IsWhole era
 IsStart era (Enter next ∷ later) = Follows era next × IsPath next later
 IsStart era left = IsPath era left
 

@@ -1,5 +1,5 @@
 -- How a cluster begins on what stood before: the floors with which the histories of keys open, and what its parties keep of them.
-use Rattle.std.specs.Prelude.{◌≡◌, ℕ, ◌≤◌, ◌<◌, false, true, List, [], ◌∷◌, length, map, replicate, ⊤, Option, None, Some, Contains}
+use Rattle.std.specs.Prelude.{◌≡◌, ℕ, ◌≤◌, ◌<◌, false, true, List, [], ◌∷◌, length, map, replicate, ⊤, None, Some, Contains}
 use Rattle.cas_ballot.specs.declared.ballot.Ballot.{Ballot}
 use Rattle.cas_ballot.specs.Ballot.{zero_ballot, BallotLess}
 use Rattle.cas_ballot.specs.Members.{has_member, IsMemberSet}
@@ -78,6 +78,7 @@ pub record IsOpeningOn {S V : Type 0} (m : Meaning S V) (members used : List ℕ
   pub few : view.greatest ≤ 16
   pub member_set : IsMemberSet members
   pub some : 0 < length members
+  pub few_members : length members ≤ 9
   pub used_set : IsMemberSet used
   pub all_used : (acceptor : ℕ) → has_member members acceptor ≡ true → has_member used acceptor ≡ true
   pub openings : AreOpenings floors

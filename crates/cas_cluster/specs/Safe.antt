@@ -29,11 +29,11 @@ use Rattle.cas_slot.specs.declared.message.Request.{Request}
 use Rattle.cas_cluster.specs.Collected.{is_after_floor}
 use Rattle.cas_cluster.specs.Collection.{Tombstone, Acknowledged, CollectionView, tomb_of}
 use Rattle.cas_cluster.specs.Council.{MemberPlace, ListingView, Question, NextKeys, NewAges, Removal, ask_of, IsReplyTo, ExchangeView, OrderView, PlanView, Council, exchange_place}
-use Rattle.cas_cluster.specs.Course.{IsCourse, course_of}
+use Rattle.cas_cluster.specs.Course.{HasFewMembers, IsCourse, course_of}
 use Rattle.cas_cluster.specs.Parties.{asked_in}
-use Rattle.cas_cluster.specs.StepCalls.{most_marks}
+use Rattle.cas_cluster.specs.StepCalls.{most_marks, most_round_marks}
 use Rattle.cas_cluster.specs.StepCollect.{IsQuestionOf}
-use Rattle.cas_cluster.specs.View.{View, CallView, CallerView, IsAt, era_at, reserved_in_all}
+use Rattle.cas_cluster.specs.View.{View, CallView, CallerView, IsAt, era_at, reserved_in, reserved_in_all}
 
 -- ---- frames that wait
 -- how many of them are requests
@@ -87,6 +87,8 @@ pub record IsPartySafe {V : Type 0} (era : Era) (marks id : ℕ) (desk : DeskVie
   pub idle : desk.down ≡ true → desk.round ≡ None
   -- each call that it began has a mark
   pub number : caller.number ≤ marks
+  -- no more marks are reserved for its call than for a round
+  pub few : reserved_in caller.call ≤ most_round_marks
   pub cached : (key : List ℕ) (ready : Ready) → Contains desk.cache (key, ready) → FitsBallot ready.ballot
   pub round : IsRoundSafe era caller queue desk.round
   -- there is room for the reply to each request that was not handled yet
@@ -104,6 +106,7 @@ pub record IsExchangeSafe (exchange : ExchangeView) (queue : QueueView) : Type 0
   pub harmed_set : IsMemberSet exchange.harmed
   pub harmed_within : (acceptor : ℕ) → has_member exchange.harmed acceptor ≡ true → has_member exchange.members acceptor ≡ true
   pub reserved : length exchange.members ≤ exchange.reserved + length exchange.harmed
+  pub few : exchange.reserved ≤ 9
   pub room : requests_in queue.messages ≤ queue.room + handled_once queue
 
 -- where none is open, no frame waits
@@ -168,6 +171,7 @@ pub record IsCollectionSafe (council : Council) (era : Era) (greatest : ℕ) (co
   pub tomb : FitsBallot (tomb_of collection.tombstone)
   pub acknowledged : (collection.course.step ≡ CollectRound → ⊥) → IsAcknowledgedByAll era collection.tombstone
   pub reserved : (ballot : Ballot) (by : List ℕ) → collection.tombstone ≡ Acknowledged ballot by → is_after_floor collection.course.step ≡ false → 0 < collection.reserved
+  pub few : collection.reserved ≤ 1
 
 -- an exchange that asks for a collection asks all members what its step is to ask, and bears the ballot of its tombstone
 abbrev pub is_of_collection : Question → Bool
@@ -196,6 +200,7 @@ pub record IsSound {S V : Type 0} (view : View S V) : Type 0 where
   pub few : view.greatest ≤ 16
   pub prep_sets : (id : ℕ) → IsMemberSet (era_at view id).prep
   pub acc_sets : (id : ℕ) → IsMemberSet (era_at view id).acc
+  pub few_members : (id : ℕ) → HasFewMembers (era_at view id)
   pub eras : length view.eras ≡ 17
   pub acceptors : length view.acceptors ≡ 64
   pub acceptor_ids : (id : ℕ) (acceptor : AcceptorView S) → IsAt view.acceptors id acceptor → acceptor.id ≡ id

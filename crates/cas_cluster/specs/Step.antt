@@ -207,6 +207,7 @@ pub record IsOpening {S V : Type 0} (m : Meaning S V) (members : List ℕ) (view
   pub few : view.greatest ≤ 16
   pub member_set : IsMemberSet members
   pub some : 0 < length members
+  pub few_members : length members ≤ 9
   pub acceptors : (id : ℕ) (acceptor : AcceptorView S) → IsAt view.acceptors id acceptor → IsFreshAcceptor m id acceptor
   pub desks : (id : ℕ) (desk : DeskView V) → IsAt view.desks id desk → (id ≤ view.greatest) × IsFreshDesk m id desk
   pub callers : (id : ℕ) (caller : CallerView) → IsAt view.callers id caller → caller ≡ new_caller

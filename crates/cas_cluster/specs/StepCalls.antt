@@ -63,6 +63,14 @@ most_marks = 1000000
 abbrev pub round_marks : Era → ℕ
 round_marks era = 4 * length (union_of era.prep era.acc) + 8
 
+-- how many that is at most, where no more than nine members prepare or accept
+abbrev pub most_round_marks : ℕ
+most_round_marks = 44
+
+-- another round reserves one at least, and no more than a first one
+abbrev pub IsForRound : {S V : Type 0} → View S V → ℕ → ℕ → Type 0
+IsForRound view id reserved = (0 < reserved) × (reserved ≤ round_marks (era_at view id))
+
 -- how many marks are made or reserved by others
 abbrev pub marks_beside : {S V : Type 0} → View S V → ℕ → ℕ
 marks_beside view id = length view.marks + reserved_of (slice_set view.callers id new_caller) + reserved_by view.council
@@ -100,7 +108,7 @@ WasMet other = ⊥
 pub data Opens {S V : Type 0} (old : View S V) (id : ℕ) (key : List ℕ) (program : List Clause) (new : View S V) : Type 0 where
   first : (caller : CallerView) → IsAt old.callers id caller → caller.call ≡ None → HasRoom old id (round_marks (era_at old id)) → new ≡ opened old id caller key program → Opens old id key program new
   again : (caller : CallerView) (call : CallView) (reserved : ℕ) → IsAt old.callers id caller → caller.call ≡ Some call → call.key ≡ key → call.program ≡ program → call.proposed ≡ None → WasMet call.told
-      → ((desk : DeskView V) → IsAt old.desks id desk → desk.round ≡ None) → HasRoom old id reserved → 0 < reserved → new ≡ with_call old id caller (tried_again call reserved) → Opens old id key program new
+      → ((desk : DeskView V) → IsAt old.desks id desk → desk.round ≡ None) → HasRoom old id reserved → IsForRound old id reserved → new ≡ with_call old id caller (tried_again call reserved) → Opens old id key program new
 
 -- ---- the caller is told something
 abbrev pub telling : CallView → Answer → CallView

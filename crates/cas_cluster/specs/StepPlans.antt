@@ -1,5 +1,6 @@
 -- How a change of membership begins, and how each proposer enters an era that it leads to.
 use Rattle.std.specs.Prelude.{◌≡◌, ℕ, suc, ◌+◌, ◌<◌, ◌==◌, true, false, if◌then◌else◌, List, [], ◌∷◌, length, Option, None, Some, Result, Ok, Err, slice_set}
+use Rattle.cas_base.specs.Faults.{Rose}
 use Rattle.cas_ballot.specs.Members.{with_member}
 use Rattle.cas_acceptor.specs.Acceptor.{AcceptorView}
 use Rattle.cas_proposer.specs.Desk.{DeskView}
@@ -60,6 +61,11 @@ pub data OpensPlan {S V : Type 0} (m : Meaning S V) (old : View S V) (asked : As
       → new ≡ opened_plan middle asked progress → OpensPlan m old asked desk new
   no_memory : (middle : View S V) → desk.down ≡ false → old.council.plan ≡ None → Welcomes m old asked middle → new ≡ told_view middle (told.Stopped (answer.NoMemory false)) → OpensPlan m old asked desk new
 
+-- an acceptor that was to join, and of whose shelf no start ever succeeded, is down then only where the shelf's count of faults rose
+abbrev pub FailsByFaults : {S V : Type 0} → Meaning S V → View S V → Asked → View S V → Type 0
+FailsByFaults {S} {V} m old asked new =
+    (id : ℕ) (was now : AcceptorView S) → asked ≡ Join id → IsAt old.acceptors id was → IsAt new.acceptors id now → was.started ≡ false → now.down ≡ true → Rose (m.shelves.faults was.shelf) (m.shelves.faults now.shelf)
+
 pub record StepOpenPlan {S V : Type 0} (m : Meaning S V) (old : View S V) (new : View S V) : Type 0 where
   pub order : OrderView
   pub is_open : old.council.order ≡ Some order
@@ -67,6 +73,7 @@ pub record StepOpenPlan {S V : Type 0} (m : Meaning S V) (old : View S V) (new :
   pub at_desk : IsAt old.desks 0 desk
   pub none_collected : old.council.collection ≡ None
   pub opens : OpensPlan m old order.asked desk new
+  pub faulted : (plan : PlanView) → old.council.plan ≡ None → new.council.plan ≡ Some plan → FailsByFaults m old order.asked new
 
 -- ---- a proposer enters the next era
 -- the steps after the first

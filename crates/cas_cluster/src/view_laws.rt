@@ -2,7 +2,7 @@
 //! the contract of a function that does nothing.
 
 ghost use Rattle.cas_cluster.specs.View.{meaning};
-ghost use Rattle.cas_cluster.specs.SafeLaws.{OpeningsAreSafe, OpeningsOnAreSafe, StepsAreSafe};
+ghost use Rattle.cas_cluster.specs.SafeLaws.{OpeningsAreSafe, OpeningsOnAreSafe, StepsAreSafe, LittleIsReserved, FullForRounds, FullForExchanges, FinishedHaveEntered};
 ghost use Rattle.cas_cluster.specs.ViewLaws.{OpeningsAreRemembered, OpeningsOnAreRemembered, StepsAreRemembered, HistoriesAreLegal, WhatIsDoneIsKept, FloorsArePassed, MembersAreClear};
 ghost use Rattle.cas_cluster.specs.CollectLaws.{RequestsAreAged, RemovalsAreDone, CollectedHaveFloors};
 ghost use Rattle.cas_cluster.specs.ViewWitness.{ShownHistory};
@@ -87,6 +87,27 @@ pub fn openings_on_are_safe<S: Shelf, V: Disk>()
 /// frame but before it is let in.
 pub fn steps_are_safe<S: Shelf, V: Disk>()
     ensures { StepsAreSafe (meaning S.contents S.tells S.may_leave S.fault_count V.tells V.may_leave V.fault_count) }
+{}
+
+/// All that is reserved for the calls, the operator's call, the exchange and the collection of a cluster that is safe is less than 1,000
+/// marks.
+pub fn little_is_reserved<S: Shelf, V: Disk>()
+    ensures { LittleIsReserved S V }
+{}
+
+/// So the marks of a round do not fit only where more than 999,000 are made.
+pub fn full_for_rounds<S: Shelf, V: Disk>()
+    ensures { FullForRounds S V }
+{}
+
+/// And so it is with the marks of an exchange.
+pub fn full_for_exchanges<S: Shelf, V: Disk>()
+    ensures { FullForExchanges S V }
+{}
+
+/// Where a change of membership is at its end and the operator is told so, each proposer is marked as having entered the era that is told.
+pub fn finished_changes_are_entered<S: Shelf, V: Disk>()
+    ensures { FinishedHaveEntered S V }
 {}
 
 /// There is a history in which a call is Done and the next one is proposed by the promise that rode along. In the one that is shown an

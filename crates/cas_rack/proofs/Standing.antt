@@ -1,6 +1,10 @@
 -- Worlds that stand on the disks of a rack.
 use Rattle.std.proofs.Common.{◌≡◌, ◌<◌, ◌≤◌, ℕ, zero, suc, List, [], ◌∷◌, ◌++◌, length, map, Some, refl, sym, ap, subst, ◌∙◌, inl, inr, arith}
-use Rattle.std.specs.Prelude.{◌⊎◌, ◌+◌, drop}
+use Rattle.std.specs.Prelude.{◌⊎◌, ◌+◌, ◌==◌, true, false, drop}
+use Rattle.std.specs.List.{range_with_len}
+use Rattle.cas_base.proofs.Bools.{or_cases}
+use Rattle.cas_ballot.specs.Members.{has_member}
+use Rattle.cas_record.proofs.Tests.{nat_same}
 use Rattle.std.proofs.lemmas.List.{length-map}
 use Rattle.cas_acceptor.specs.Acceptor.{AcceptorView}
 use Rattle.cas_proposer.specs.Desk.{DeskView}
@@ -10,7 +14,7 @@ use Rattle.cas_disk_shelf.specs.declared.shelf.DiskShelf.{DiskShelf}
 use Rattle.cas_cluster.specs.View.{Meaning, ShelfMeaning, DiskMeaning, IsAt}
 use Rattle.cas_cluster.proofs.Places.{some_is, same_or_not}
 use Rattle.cas_cluster.proofs.SafeParts.{at_low}
-use Rattle.cas_world.specs.Opening.{unstarted, shelves_of, disks_of, IsFaultOf, AreStartedBelow, AMemberFails, AVaultFails, DoesNotOpen}
+use Rattle.cas_world.specs.Opening.{members_to, unstarted, shelves_of, disks_of, IsFaultOf, AreStartedBelow, AMemberFails, AVaultFails, DoesNotOpen}
 use Rattle.cas_world.specs.Opening.SomeDiskFails.{a_shelf, a_disk}
 use Rattle.cas_world.specs.Opening.DoesNotOpen.{nothing_touched, some_fails}
 use Rattle.cas_world.specs.declared.fault.OpenFault.{OpenFault}
@@ -185,3 +189,20 @@ stays_closed {D} m faults count greatest shelves disks vaults fault shelves_back
     let back : acceptor_disks acceptors ≡ disks_back = sym (off ∙ (ap (λ (l : List (DiskShelf D)). map disk_of l) shelves_are ∙ disks_shelved acceptors)) in
     store.a_vault_fails (subst (λ (l : List D). AreReached faults 1 (count + 1) disks l) back (started_on m.shelves faults shelves disks over (count + 1) acceptors starts))
     (vault_fails_on m.disks faults vaults greatest fault desks left vaults_back vaults_are places fails)
+
+-- ---- who is up
+in_range : (from count n : ℕ) → has_member (range_with_len from count) n ≡ true → (from ≤ n) × (n < from + count)
+in_range from zero n none = absurd (cc none)
+in_range from (suc count) n is = elim (or_cases (from == n) (has_member (range_with_len (from + 1) count) n) is) [
+  | inl same ↦ let e : from ≡ n = nat_same same in (omega (arith, e), omega (arith, e))
+  | inr later ↦ let rest = in_range (from + 1) count n later in (omega (arith, rest.0), omega (arith, rest.1))
+]
+
+-- the members have started
+pub members_up : {S : Type 0} (m : ShelfMeaning S) (faults : S → ℕ) (old : List (AcceptorView S)) (count : ℕ) (new : List (AcceptorView S)) → AreStartedBelow m faults old (count + 1) new
+    → (id : ℕ) (acceptor : AcceptorView S) → IsAt new id acceptor → has_member (members_to count) id ≡ true → acceptor.down ≡ false
+members_up {S} m faults old count new started id acceptor at member =
+    let low = in_range 1 count id member in
+    let first : 0 < id = omega (arith, low.0) in
+    let last : id < count + 1 = omega (arith, low.1) in
+    ap (λ (a : AcceptorView S). a.down) (started.members id acceptor first last at).2.acceptor

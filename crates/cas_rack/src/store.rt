@@ -1,10 +1,13 @@
 //! A world over the disks of a rack.
 
-ghost use Rattle.std.specs.Prelude.{◌≡◌, ◌+◌, ◌<◌, ◌≤◌, [], map, take, reverse, vec_len, vec_capacity, IfOk, IfErr};
+ghost use Rattle.std.specs.Prelude.{◌≡◌, ℕ, ◌+◌, ◌<◌, ◌≤◌, true, false, [], map, take, reverse, vec_len, vec_capacity, IfOk, IfErr};
+ghost use Rattle.cas_acceptor.specs.Acceptor.{AcceptorView};
+ghost use Rattle.cas_ballot.specs.Members.{has_member};
 ghost use Rattle.cas_cluster.specs.SafeLaws.{HasPlaces};
 ghost use Rattle.cas_cluster.specs.Step.{IsOpening};
-ghost use Rattle.cas_cluster.specs.View.{meaning};
+ghost use Rattle.cas_cluster.specs.View.{IsAt, meaning};
 ghost use Rattle.cas_disk_shelf.specs.Shelf.{disk_of};
+ghost use Rattle.cas_disk_shelf.specs.declared.shelf.DiskShelf.{DiskShelf};
 ghost use Rattle.cas_record.specs.Legal.{IsLegal};
 ghost use Rattle.cas_world.specs.Opening.{members_to, disks_of, AreDesksBelow};
 ghost use Rattle.cas_calls.specs.Proposing.{disks as disks_like};
@@ -37,7 +40,7 @@ pub struct Room<D> {
 
 impl<D: Disk> Store<D> {
     /// A world in which nothing has happened, over the disks of the rack: those of the members and those of the vaults of the
-    /// proposers are started, in the order of their numbers, and no other is reached. What was on them is lost.
+    /// proposers are started, in the order of their numbers, and no other is reached. What was on them is lost. The members are up.
     ///
     /// After an `Err` the disks come back in their places, those that were not reached as they were. [`OpenFault::DiskFault`] tells
     /// the first that failed, and comes only where its count of faults rose.
@@ -53,6 +56,7 @@ impl<D: Disk> Store<D> {
         requires vaults { vec_len rack.vaults ≡ 17 }
         ensures opening { IfOk result (λ store. IsOpening (meaning ⟦<DiskShelf<D> as Shelf>⟧.contents ⟦<DiskShelf<D> as Shelf>⟧.tells ⟦<DiskShelf<D> as Shelf>⟧.may_leave ⟦<DiskShelf<D> as Shelf>⟧.fault_count D.tells D.may_leave D.fault_count) (members_to config.acceptors) store.world) }
         ensures places { IfOk result (λ store. HasPlaces store.world) }
+        ensures up { IfOk result (λ store. (id : ℕ) (acceptor : AcceptorView (DiskShelf D)) → IsAt store.world.acceptors id acceptor → has_member (members_to config.acceptors) id ≡ true → acceptor.down ≡ false) }
         ensures greatest { IfOk result (λ store. store.world.greatest ≡ config.proposers) }
         ensures acceptors { IfOk result (λ store. AreReached D.fault_count 1 (config.acceptors + 1) rack.acceptors.items (acceptor_disks store.world.acceptors)) }
         ensures vaults { IfOk result (λ store. AreDesksBelow (disks_like D.tells D.may_leave D.fault_count) D.fault_count rack.vaults.items (config.proposers + 1) store.world.desks) }

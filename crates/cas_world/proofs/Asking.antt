@@ -1,5 +1,5 @@
 -- How an exchange opens, or why not.
-use Rattle.std.proofs.Common.{sym, refl, ◌≡◌, ◌≤◌, ℕ, Bool, true, false, List, [], ◌∷◌, Option, None, Some, slice_set, ap, subst, ◌∙◌, arith, length}
+use Rattle.std.proofs.Common.{sym, refl, ◌≡◌, ◌<◌, ◌≤◌, ℕ, Bool, true, false, List, [], ◌∷◌, Option, None, Some, slice_set, ap, subst, ◌∙◌, arith, length}
 use Rattle.std.specs.Prelude.{◌+◌, ◌^◌, ◌==◌, ◌&&◌, not, if◌then◌else◌, IfSome, option_map}
 use Rattle.cas_acceptor.specs.Acceptor.{AcceptorView}
 use Rattle.cas_ballot.specs.Ballot.{FitsBallot}
@@ -23,6 +23,7 @@ use Rattle.cas_cluster.specs.StepCouncil.{asked_by, begun_listing, listing_begun
 use Rattle.cas_cluster.specs.StepDesks.{FailsToDraw}
 use Rattle.cas_cluster.specs.View.{Meaning, DiskMeaning, View, CallView, IsAt, era_at, with_desk, reserved_in_all}
 use Rattle.cas_cluster.proofs.SafeCalls.{none_open}
+use Rattle.cas_cluster.proofs.SafeMarks.{full_for_exchanges}
 use Rattle.cas_cluster.proofs.SafeParts.{at_low}
 use Rattle.cas_world.specs.Beginning.{HasNoCall}
 use Rattle.cas_calls.specs.Council.{council_view, exchange_view, goes_on_in, with_begun}
@@ -185,6 +186,14 @@ asks_not m old new asking desk now marks (answer.Short got need) at count fails 
 asks_not m old new asking desk now marks (answer.Moved era) at count fails is = absurd fails
 asks_not m old new asking desk now marks answer.Crashed at count fails is = absurd fails
 asks_not m old new asking desk now marks (answer.Unsettled why) at count fails is = absurd fails
+
+-- and a record that is full then is long
+pub full_to_ask : {S V : Type 0} (m : DiskMeaning V) (old : View S V) (asking : Query) (desk now : DeskView V) (marks : ℕ) (refusal : Answer) → IsSafe old
+    → marks ≡ length old.marks + reserved_in_all old + length (asked_from (everyone old) (goes_on_in old.council asking))
+    → FailsToAsk m desk now (goes_on_in old.council asking) marks refusal → refusal ≡ answer.RecordFull → 999000 < length old.marks
+full_to_ask m old asking desk now marks refusal safe count fails is =
+    let so : FailsToAsk m desk now (goes_on_in old.council asking) marks answer.RecordFull = subst (λ (a : Answer). FailsToAsk m desk now (goes_on_in old.council asking) marks a) is fails in
+    full_for_exchanges old (question_in old asking) safe (λ room. omega (arith, room, count, so.2, ap (λ (l : List ℕ). length l) (asked_is old asking)))
 
 -- what is seen where the desk changes, and the call is told
 pub refused_seen : {S V : Type 0} (greatest : ℕ) (council now_council : Council) (acceptors : List (AcceptorView S)) (desks : List (DeskView V)) (now : DeskView V) (callers : List Caller) (flow flow_now : FlowView) (before after : Book) (answer : OpAnswer)

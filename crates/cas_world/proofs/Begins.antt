@@ -187,9 +187,9 @@ module _ {S V : Type 0} (greatest : ℕ) (council : Council) (acceptors : List (
             ∙ ap (λ (r : ℕ). at_entry (suc caller.number) (suc caller.number) r) same);
       }
 
-  pub opens_again : (marks : ℕ) (desk : DeskView V) (caller : Caller) → IsAt callers id caller → IsAt desks id desk → id < length callers → IsAnother desk caller number key program → 0 < marks → length book.marks + reserved_beside callers id + reserved_by (council_view council) + marks ≤ most_marks
+  pub opens_again : (marks : ℕ) (desk : DeskView V) (caller : Caller) → IsAt callers id caller → IsAt desks id desk → id < length callers → IsAnother desk caller number key program → 0 < marks → marks ≤ round_marks (era_in council.eras.0 id) → length book.marks + reserved_beside callers id + reserved_by (council_view council) + marks ≤ most_marks
       → IsEntered (view_of greatest council acceptors desks callers flow book) id number key program (view_of greatest council acceptors desks (slice_set callers id (entered caller None marks)) flow (opened_book book None)) (entered caller None marks) marks 0
-  opens_again marks desk caller at at_desk low is some few =
+  opens_again marks desk caller at at_desk low is some enough few =
       let open_now : (entered caller None marks).call ≡ Some (again is.call marks) = ap (λ (o : Option OpenCall). option_map (λ call. again call marks) o) is.is_call in
       record {
         call = again is.call marks;
@@ -200,7 +200,7 @@ module _ {S V : Type 0} (greatest : ℕ) (council : Council) (acceptors : List (
         reserved = omega arith;
         within = omega arith;
         opens = calls.again (caller_view caller) (call_view is.call) marks (at_map caller_view callers id caller at) (ap (λ (o : Option OpenCall). option_map call_view o) is.is_call) is.same_key is.same_program is.unproposed is.met
-            (λ d at_d. ap (λ (x : DeskView V). x.round) (at_one desks id at_d at_desk) ∙ is.idle) (omega (arith, few, beside_none callers id low)) some
+            (λ d at_d. ap (λ (x : DeskView V). x.round) (at_one desks id at_d at_desk) ∙ is.idle) (omega (arith, few, beside_none callers id low)) (some, enough)
             (ap (λ (l : List CallerView). record old { callers = l; marks = book.marks ++ [] }) (map_set caller_view callers id (entered caller None marks))
             ∙ ap (λ (o : Option OpenCall). record old { callers = slice_set (map caller_view callers) id (record { number = caller.number; call = option_map call_view o }); marks = book.marks ++ [] }) open_now
             ∙ ap (λ (l : List Mark). record old { callers = slice_set (map caller_view callers) id (record { number = caller.number; call = Some (call_view (again is.call marks)) }); marks = l }) (append-nil book.marks));

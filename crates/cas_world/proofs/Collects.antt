@@ -115,6 +115,19 @@ refusal_plain view desk refusal (collects.is_busy plan up busy same) = (ap is_pl
 refusal_plain view desk refusal (collects.is_full up unplanned full same) = (ap is_plain (some_is same), ap leaves_no_call (some_is same))
 refusal_plain view desk refusal (collects.admits up unplanned fits same) = absurd (cc same)
 
+-- the record is full where that is what is told
+pub refusal_full : {S V : Type 0} (view : View S V) (desk : DeskView V) (refusal : OpAnswer) → RefusesCollection view desk (Some refusal) → refusal ≡ op.Stopped answer.RecordFull → IsFull view 0
+refusal_full view desk refusal (collects.is_down down same) told = absurd (cc (same, told))
+refusal_full view desk refusal (collects.is_busy plan up busy same) told = absurd (cc (same, told))
+refusal_full view desk refusal (collects.is_full up unplanned full same) told = full
+refusal_full view desk refusal (collects.admits up unplanned fits same) told = absurd (cc same)
+
+-- and so is what is told as its round begins
+pub begun_full : {A B : Type 0} (begun : Result A Answer) (result : Result B OpAnswer) → OnOk begun (IsOk result) → IfErr begun (λ told. IsErrOf result (op.Stopped told)) → result ≡ Err (op.Stopped answer.RecordFull) → begun ≡ Err answer.RecordFull
+begun_full (Ok done) (Ok value) ok err told = absurd (cc told)
+begun_full (Ok done) (Err other) ok err told = absurd (cc ok)
+begun_full (Err said) result ok err told = let same : said ≡ answer.RecordFull = cc (err, told) in ap (λ (a : Answer). Err a) same
+
 -- none of them keeps it from its call
 pub record Admits {S V : Type 0} (view : View S V) (desk : DeskView V) : Type 0 where
   pub up : desk.down ≡ false

@@ -105,6 +105,7 @@ module _ {S V : Type 0} (m : Meaning S V) (shelf_faults : S → ℕ) (disk_fault
     few = few_proposers;
     member_set = members_set count (omega (arith, few));
     some = omega (arith, some, length-range_with_len 1 count);
+    few_members = omega (arith, few, length-range_with_len 1 count);
     acceptors = fresh_acceptors m shelf_faults count shelves acceptors starts.members;
     desks = λ id desk at.
         (let low : id < length desks = slice_get_within desks id desk at in

@@ -151,7 +151,7 @@ marks_are (floor ∷ floors) = ap (λ (l : List Mark). mark_of (opening_of floor
 
 -- ---- the whole
 module _ {S V : Type 0} (m : Meaning S V) (is_up : S → Type 0) (disk_faults : V → ℕ) (members used : List ℕ) (floors : List OpeningFloor) (greatest : ℕ) (shelves : List S) (disks : List V) (council : Council) (desks : List (DeskView V)) (callers : List Caller) (flow : FlowView) (book : Book)
-    (member_set : IsMemberSet members) (some : 0 < length members) (few_proposers : greatest ≤ 16) (all_shelves : length shelves ≡ 64) (openings : AreOpenings (openings_of floors)) (few_marks : length floors ≤ most_marks)
+    (member_set : IsMemberSet members) (some : 0 < length members) (few_members : length members ≤ 9) (few_proposers : greatest ≤ 16) (all_shelves : length shelves ≡ 64) (openings : AreOpenings (openings_of floors)) (few_marks : length floors ≤ most_marks)
     (lasts : (shelf : S) → m.shelves.tells → is_up shelf → OnlyLeaves (m.shelves.contents shelf) (m.shelves.may_leave shelf)) (held : MembersHold is_up m.shelves.contents members (openings_of floors) shelves)
     (taken : AreTakenUpBelow m.disks disk_faults (greatest_counter floors) disks (greatest + 1) desks) (eras_are : council ≡ opening_council (majority_era 0 members) (union_of used members)) (callers_are : callers ≡ replicate (greatest + 1) unbegun) (flow_is : flow ≡ empty_flow)
     (marks : book.marks ≡ map (λ (floor : OpeningFloor). mark_of (opening_of floor)) floors) where
@@ -162,6 +162,7 @@ module _ {S V : Type 0} (m : Meaning S V) (is_up : S → Type 0) (disk_faults : 
     few = few_proposers;
     member_set = member_set;
     some = some;
+    few_members = few_members;
     used_set = IsMemberSet-members_where (λ n. has_member used n || has_member members n);
     all_used = λ acceptor member.
         has-members_where (λ n. has_member used n || has_member members n) acceptor (member_low members acceptor member_set member) ∙ or_right (has_member used acceptor) (has_member members acceptor) member;

@@ -1,6 +1,10 @@
 -- How a change of membership begins, and what is read of it.
 use Rattle.std.proofs.Common.{◌≡◌, ◌+◌, ◌<◌, ◌≤◌, ◌∷◌, ℕ, Bool, true, false, List, [], Option, None, Some, Result, Ok, Err, refl, sym, ap, subst, ◌∙◌, arith, length}
-use Rattle.std.specs.Prelude.{IfNone, ◌^◌, is_some, is_err, IsSome, OnOk, slice_get, if◌then◌else◌, option_map}
+use Rattle.std.specs.Prelude.{⊤, IfNone, ◌^◌, is_some, is_err, IsSome, OnOk, slice_get, if◌then◌else◌, option_map}
+use Rattle.cas_base.specs.Faults.{Rose}
+use Rattle.cas_slot.specs.declared.fault.ShelfFault.{ShelfFault}
+use Rattle.cas_slot.specs.declared.fault.ShelfFault.TheVariants as shelf_fault
+use Rattle.cas_acceptor.specs.Acceptor.{AcceptorView}
 use Rattle.cas_quorum.specs.declared.era.Era.{Era}
 use Rattle.cas_quorum.specs.declared.fault.PlanFault.{PlanFault}
 use Rattle.cas_members.specs.Steps.{Progress}
@@ -14,7 +18,7 @@ use Rattle.cas_record.specs.declared.operator.Asked.{Asked}
 use Rattle.cas_record.specs.declared.operator.OpAnswer.{OpAnswer}
 use Rattle.cas_record.specs.declared.operator.OpAnswer.TheVariants as op
 use Rattle.cas_cluster.specs.Collection.{CollectionView}
-use Rattle.cas_cluster.specs.Council.{ListingView, OrderView, PlanView, silent_order, told_so}
+use Rattle.cas_cluster.specs.Council.{Council, ListingView, OrderView, PlanView, silent_order, told_so}
 use Rattle.cas_cluster.specs.Course as course
 use Rattle.cas_cluster.specs.Course.{IsMoving, IsSettled, IsStart, IsWhole, WorksIn, base_of, course_of, entering, entries_in}
 use Rattle.cas_cluster.specs.Course.{IsUnderWay as IsOnCourse}
@@ -23,8 +27,8 @@ use Rattle.cas_cluster.specs.Step as step
 use Rattle.cas_cluster.specs.Step.{Step}
 use Rattle.cas_cluster.specs.StepCouncil.{SaysTheSame, told_view}
 use Rattle.cas_cluster.specs.StepPlans as plans
-use Rattle.cas_cluster.specs.StepPlans.{EntersNext, IsPlanned, OpensPlan, StepEnterEra, StepOpenPlan, Welcomes, new_plan, opened_plan}
-use Rattle.cas_cluster.specs.View.{Meaning, View, CallView, CallerView, IsAt, era_at}
+use Rattle.cas_cluster.specs.StepPlans.{EntersNext, FailsByFaults, IsPlanned, OpensPlan, StepEnterEra, StepOpenPlan, Welcomes, new_plan, opened_plan}
+use Rattle.cas_cluster.specs.View.{Meaning, ShelfMeaning, View, CallView, CallerView, IsAt, era_at}
 use Rattle.cas_cluster.proofs.Places.{some_is}
 use Rattle.cas_flow.specs.Flow.{queue_at}
 use Rattle.cas_proposer.specs.declared.round.Round.{Round}
@@ -34,6 +38,7 @@ use Rattle.cas_calls.specs.declared.call.OpenCall.{OpenCall}
 use Rattle.cas_record.specs.declared.operator.Asked.TheVariants as to_do
 use Rattle.cas_calls.specs.Council.{due_key, first_of, first_where}
 use Rattle.cas_world.specs.Exchange.{WasToldOrder}
+use Rattle.cas_world.specs.Restarting.{TellsOfAcceptor}
 use Rattle.cas_world.specs.Plans.{IsAtEnd, IsUnderWay, MayEnter, MayOpenPlan, asked_to, planned_by, step_of}
 use Rattle.cas_world.specs.declared.plans.PlanKind.{PlanKind}
 use Rattle.cas_world.specs.declared.plans.PlanKind.TheVariants.{Join, Leave}
@@ -103,9 +108,44 @@ none_collected {S} {V} view kind id safe may = by_option view.council.collection
         let of = safe.collection.each c is in
         absurd (other kind c.course.key (sym of.is_for ∙ ap (λ (o : OrderView). o.asked) (some_is (sym of.is_open ∙ may.is_open)) ∙ may.is_for))
 
-pub opens_plan : {S V : Type 0} (m : Meaning S V) (old new : View S V) (kind : PlanKind) (id : ℕ) (desk : DeskView V) → IsSafe old → MayOpenPlan old (asked_to kind id) → IsAt old.desks 0 desk → OpensPlan m old (asked_to kind id) desk new → StepOpenPlan m old new
-opens_plan m old new kind id desk safe may at by =
-    record { order = may.order; is_open = may.is_open; none_collected = none_collected old kind id safe may; desk = desk; at_desk = at; opens = subst (λ (a : Asked). OpensPlan m old a desk new) (sym may.is_for) by }
+pub opens_plan : {S V : Type 0} (m : Meaning S V) (old new : View S V) (kind : PlanKind) (id : ℕ) (desk : DeskView V) → IsSafe old → MayOpenPlan old (asked_to kind id) → IsAt old.desks 0 desk → OpensPlan m old (asked_to kind id) desk new
+    → ((plan : PlanView) → old.council.plan ≡ None → new.council.plan ≡ Some plan → FailsByFaults m old (asked_to kind id) new) → StepOpenPlan m old new
+opens_plan m old new kind id desk safe may at by faulted = record {
+  order = may.order;
+  is_open = may.is_open;
+  none_collected = none_collected old kind id safe may;
+  desk = desk;
+  at_desk = at;
+  opens = subst (λ (a : Asked). OpensPlan m old a desk new) (sym may.is_for) by;
+  faulted = λ plan none opened. subst (λ (a : Asked). FailsByFaults m old a new) (sym may.is_for) (faulted plan none opened);
+}
+
+-- it failed by one fault
+pub one_fault : (result : Result ⊤ ShelfFault) {p q : ShelfFault} → result ≡ Err p → result ≡ Err q → p ≡ q
+one_fault result {p} {q} first second = ap fault_of (sym first ∙ second)
+  where
+    fault_of : Result ⊤ ShelfFault → ShelfFault
+    fault_of (Ok done) = q
+    fault_of (Err fault) = fault
+
+-- who joins
+abbrev pub joined_of : Asked → ℕ
+joined_of (to_do.Join id) = id
+joined_of other = 0
+
+-- where the open call is told something no change begins
+pub none_begins : {S V : Type 0} (m : Meaning S V) (old middle new : View S V) (asked : Asked) (answer : OpAnswer) → middle.council ≡ old.council → new ≡ told_view middle answer
+    → (plan : PlanView) → old.council.plan ≡ None → new.council.plan ≡ Some plan → FailsByFaults m old asked new
+none_begins {S} {V} m old middle new asked answer same is plan none some = absurd (cc (sym none ∙ sym (ap (λ (c : Council). c.plan) same) ∙ sym (ap (λ (v : View S V). v.council.plan) is) ∙ some))
+
+-- a shelf that was to start for the first time did not, and not for want of memory: its count of faults rose
+pub start_faulted : {S : Type 0} (m : ShelfMeaning S) (was now : AcceptorView S) (result : Result ⊤ ShelfFault) → TellsOfAcceptor m was now result → (result ≡ Err shelf_fault.NoMemory → ⊥) → was.started ≡ false → now.down ≡ true
+    → Rose (m.faults was.shelf) (m.faults now.shelf)
+start_faulted {S} m was now (Ok done) tells not_that fresh down = absurd (cc (sym tells.up ∙ down))
+start_faulted {S} m was now (Err shelf_fault.DiskFault) tells not_that fresh down = tells.cause.failed refl
+start_faulted {S} m was now (Err (shelf_fault.Foreign at)) tells not_that fresh down = absurd (tells.start_not_foreign fresh at refl)
+start_faulted {S} m was now (Err shelf_fault.Full) tells not_that fresh down = absurd (tells.not_full refl)
+start_faulted {S} m was now (Err shelf_fault.NoMemory) tells not_that fresh down = absurd (not_that refl)
 
 -- an era's number is at most that of the marks
 pub few_entries : (marks : List Mark) → length (entries_in marks) ≤ length marks

@@ -22,6 +22,7 @@ use Rattle.cas_cluster.specs.Collection.{CollectionView, confirmed_step, reserve
 use Rattle.cas_cluster.specs.Council as cluster
 use Rattle.cas_cluster.specs.Council.{OrderView, reserved_by, telling, told_so, hushed}
 use Rattle.cas_cluster.proofs.Rescanning.{told_reserves}
+use Rattle.cas_cluster.proofs.Places.{at_one}
 use Rattle.cas_cluster.specs.StepCollect as collect
 use Rattle.cas_cluster.specs.StepCollect.{CollectingAt, RenewsNext, collecting}
 use Rattle.cas_cluster.specs.Safe.{IsSafe, renewals_before}
@@ -142,6 +143,13 @@ pub record IsRenewal {S V : Type 0} (m : Meaning S V) (old : View S V) (at : Col
   pub copies : HaveCopies desks callers
   pub ok : OnOk result (GoesOnCollecting old new)
   pub err : IfErr result (WasToldOrder new)
+  pub older : IfOk result (λ age. age ≡ (kept_of desk.vault).age + 1)
+
+-- the age that is answered is one more than that of the desk there
+pub next_ages : {V E : Type 0} (desks : List (DeskView V)) (id : ℕ) (desk : DeskView V) (result : Result ℕ E) → IsAt desks id desk → IfOk result (λ age. age ≡ (kept_of desk.vault).age + 1)
+    → IfOk result (λ age. (other : DeskView V) → IsAt desks id other → age ≡ (kept_of other.vault).age + 1)
+next_ages {V} {E} desks id desk (Ok age) at is = λ other at_other. is ∙ ap (λ (d : DeskView V). (kept_of d.vault).age + 1) (at_one desks id at at_other)
+next_ages desks id desk (Err refusal) at is = tt
 
 module _ {S V : Type 0} (m : Meaning S V) (greatest : ℕ) (council council_now : Council) (acceptors : List (AcceptorView S)) (desks : List (DeskView V)) (callers : List Caller) (flow then_ flow_now : FlowView) (book : Book) (id : ℕ) (desk now : DeskView V) (caller caller_now : Caller)
     (at : CollectingAt (council_view council)) (at_desk : IsAt desks id desk) (at_caller : IsAt callers id caller) (up : desk.down ≡ false) (eras : council_now.eras ≡ council.eras) (were : HaveCopies desks callers)
@@ -193,6 +201,7 @@ module _ {S V : Type 0} (m : Meaning S V) (greatest : ℕ) (council council_now 
       course = refl;
     });
     err = subst (λ (r : Result ℕ OpAnswer). IfErr r (WasToldOrder new)) (sym answer_is) tt;
+    older = subst (λ (r : Result ℕ OpAnswer). IfOk r (λ age. age ≡ (kept_of desk.vault).age + 1)) (sym answer_is) (turned _ _ id desk now caller caller_now flow then_ leaves_).one_more;
   }
 
   goes_down : (result : Result ℕ OpAnswer) → Leaves (FailsToRenew m.disks) (closed_with crash_answer) id desk now caller caller_now flow then_ → council_view council_now ≡ telling (crash_at id (council_view council)) (op.ProposerDown id)
@@ -209,6 +218,7 @@ module _ {S V : Type 0} (m : Meaning S V) (greatest : ℕ) (council council_now 
     );
     copies = copies_idle desks callers id now caller_now (ap (λ (d : DeskView V). d.round) (turned _ _ id desk now caller caller_now flow then_ leaves_).crashed) were;
     ok = subst (λ (r : Result ℕ OpAnswer). OnOk r (GoesOnCollecting old new)) (sym answer_is) tt;
+    older = subst (λ (r : Result ℕ OpAnswer). IfOk r (λ age. age ≡ (kept_of desk.vault).age + 1)) (sym answer_is) tt;
     err = subst (λ (r : Result ℕ OpAnswer). IfErr r (WasToldOrder new)) (sym answer_is) (told_it (crash_at id (council_view council)) (op.ProposerDown id) (crash_order id (council_view council)) is refl);
   }
     where
@@ -242,6 +252,7 @@ module _ {S V : Type 0} (m : Meaning S V) (greatest : ℕ) (council council_now 
     );
     copies = subst (HaveCopies (slice_set desks id now)) (sym (ap (slice_set callers id) same_caller ∙ set_same callers id caller at_caller)) (copies_still desks callers id desk now at_desk same_round were);
     ok = subst (λ (r : Result ℕ OpAnswer). OnOk r (GoesOnCollecting old new)) (sym answer_is) tt;
+    older = subst (λ (r : Result ℕ OpAnswer). IfOk r (λ age. age ≡ (kept_of desk.vault).age + 1)) (sym answer_is) tt;
     err = subst (λ (r : Result ℕ OpAnswer). IfErr r (WasToldOrder new)) (sym answer_is) (told_it (council_view council) said refl is itself);
   }
 

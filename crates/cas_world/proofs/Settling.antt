@@ -230,7 +230,7 @@ module _ {S V : Type 0} (A : Type 0) (m : Meaning S V) (greatest : ℕ) (council
   entered_one : (another : IsAnother desk caller number key program) → IsEntered (view_of greatest council acceptors desks callers flow book) id number key program (view_of greatest council acceptors desks (slice_set callers id (entered caller None 1)) flow (opened_book book None)) (entered caller None 1) 1 0
   entered_one another =
       let had : reserved_of caller ≡ another.call.reserved = ap (λ (o : Option OpenCall). reserved_in o) another.is_call in
-      opens_again greatest council acceptors desks callers flow book id number key program 1 desk caller at_caller at_desk low another (omega arith)
+      opens_again greatest council acceptors desks callers flow book id number key program 1 desk caller at_caller at_desk low another (omega arith) (omega arith)
       (omega (arith, all_reserved, had, some_reserved another.call another.is_call another.idle, inv.safe.sound.room))
 
   told_one : (told : Answer) (another : IsAnother desk caller number key program) (desks_now : List (DeskView V)) (flow_now : FlowView) (after : Book) → WasTold (view_of greatest council acceptors desks_now (slice_set callers id (refused caller told)) flow_now after) id number told
@@ -318,7 +318,7 @@ module _ {S V : Type 0} (A : Type 0) (m : Meaning S V) (greatest : ℕ) (council
     entering (inl first) = subst (λ (o : Option Opening). IsEntered (view_of greatest council acceptors desks callers flow book) id number key program (view_of greatest council acceptors desks (slice_set callers id (entered caller o marks)) flow (opened_book book o)) (entered caller o marks) marks (length (entry_marks o)))
         (sym (first_is first.none_open)) (opens_first greatest council acceptors desks callers flow book id number key program marks desk caller at_caller low first same_marks few)
     entering (inr another) = subst (λ (o : Option Opening). IsEntered (view_of greatest council acceptors desks callers flow book) id number key program (view_of greatest council acceptors desks (slice_set callers id (entered caller o marks)) flow (opened_book book o)) (entered caller o marks) marks (length (entry_marks o)))
-        (sym (again_is (subst (λ (o : Option OpenCall). IsSome o) (sym another.is_call) refl))) (opens_again greatest council acceptors desks callers flow book id number key program marks desk caller at_caller at_desk low another (omega (arith, same_marks)) few)
+        (sym (again_is (subst (λ (o : Option OpenCall). IsSome o) (sym another.is_call) refl))) (opens_again greatest council acceptors desks callers flow book id number key program marks desk caller at_caller at_desk low another (omega (arith, same_marks)) (omega (arith, same_marks)) few)
 
     module _ (may : IsFirst desk caller number ⊎ IsAnother desk caller number key program) (now : DeskView V) (flow_now : FlowView) (after : Book) (left : ℕ) (held : reserved_beside callers id + reserved_by (council_view council) + marks ≤ left) (grows : book.room ≤ left)
         (council_now : Council) (eras : council_now.eras ≡ council.eras) where

@@ -1,5 +1,5 @@
 -- A collection, as a world's calls begin its own call, end it, and lead the collection on.
-use Rattle.std.specs.Prelude.{◌≡◌, ◌⊎◌, ℕ, ◌<◌, ◌≤◌, ◌++◌, ◌∷◌, Bool, true, false, List, [], Option, None, Some, Result, Ok, Err, reverse}
+use Rattle.std.specs.Prelude.{◌≡◌, ◌⊎◌, ℕ, ◌+◌, ◌<◌, ◌≤◌, ◌++◌, ◌∷◌, Bool, true, false, List, [], Option, None, Some, Result, Ok, Err, reverse}
 use Rattle.cas_acceptor.specs.Acceptor.{AcceptorView}
 use Rattle.cas_ballot.specs.declared.ballot.Ballot.{Ballot}
 use Rattle.cas_ballot.specs.Ballot.{BallotAtMost}
@@ -28,6 +28,7 @@ use Rattle.cas_slot.specs.declared.message.Request.{Request}
 use Rattle.cas_slot.specs.Slot.{accepted_ballot}
 use Rattle.cas_slot.specs.Table.{accepted_at}
 use Rattle.cas_slot.specs.declared.slot.Accepted.{Accepted}
+use Rattle.cas_vault.specs.Vault.{kept_of}
 use Rattle.cas_vault.specs.declared.error.VaultError.{VaultError}
 use Rattle.cas_vault.specs.declared.error.VaultError.TheVariants as error
 use Rattle.cas_cluster.specs.Collection.{CollectionView, course_stepped, confirmed_step}
@@ -121,6 +122,10 @@ renewal_of other = None
 abbrev pub renewal_in : Option CollectionView → Option ℕ
 renewal_in None = None
 renewal_in (Some collection) = renewal_of collection.course.step
+
+-- it is one more than the age that the proposer's vault shows
+abbrev pub IsNextAge : {S V : Type 0} → View S V → ℕ → ℕ → Type 0
+IsNextAge {S} {V} view proposer age = (desk : DeskView V) → IsAt view.desks proposer desk → age ≡ (kept_of desk.vault).age + 1
 
 -- the operator's call is told nothing, and the next step of its collection is due
 pub record GoesOnCollecting {S V : Type 0} (old new : View S V) : Type 0 where

@@ -12,12 +12,13 @@ use Rattle.cas_vault.specs.declared.error.VaultError.TheVariants as vault_error
 use Rattle.cas_cluster.specs.View.{ShelfMeaning, DiskMeaning}
 
 -- the acceptor is up then, or stays down: where its shelf's count of faults rose, where a crash left a shelf that is foreign at that byte,
--- or for want of memory
+-- though not where none had started, or for want of memory
 pub record TellsOfAcceptor {S : Type 0} (m : ShelfMeaning S) (was now : AcceptorView S) (result : Result ⊤ ShelfFault) : Type 0 where
   pub up : OnOk result (now.down ≡ false)
   pub down : OnErr result (now.down ≡ true)
   pub cause : HasShelfCause result (m.faults was.shelf) (m.faults now.shelf)
   pub foreign : m.tells → (at : ℕ) → IsErrOf result (shelf_fault.Foreign at) → m.may_leave was.shelf (Err at)
+  pub start_not_foreign : was.started ≡ false → (at : ℕ) → IsErrOf result (shelf_fault.Foreign at) → ⊥
   pub not_full : IsErrOf result shelf_fault.Full → ⊥
 
 -- the same of the desk of a proposer and its vault

@@ -44,7 +44,7 @@ impl<S: Shelf, V: Disk> World<S, V> {
     ///
     /// All marks of the round are reserved first. The refusals come in this order: [`Answer::RecordFull`] exactly where the marks that
     /// are made, those that other calls reserved and the 4n + 8 of this round would be more than a record holds, n being the number of
-    /// members; [`Answer::NoMemory`], which may come at any place; [`Answer::Down`]; [`Answer::Spent`]; [`Answer::VaultFault`]. A call
+    /// members, and then more than 999,000 marks are made; [`Answer::NoMemory`], which may come at any place; [`Answer::Down`]; [`Answer::Spent`]; [`Answer::VaultFault`]. A call
     /// that is refused by one of the first two at its first round is not begun, and all is as before, but that after
     /// [`Answer::NoMemory`] a ballot may be drawn and the promise of the key may be gone. One that is refused otherwise is begun, and
     /// to be ended. Where a call of caller 0 is not begun for the key that [`World::settle_key`] names, the operator's call is told so.
@@ -59,6 +59,7 @@ impl<S: Shelf, V: Disk> World<S, V> {
         requires unasked { caller ≡ 0 → self.old.council.exchange ≡ None }
         requires may { MayBegin self.old caller call key.now program.now }
         ensures full { IsErrOf result Answer.RecordFull ↔ IsFull self.old caller }
+        ensures long { IsErrOf result Answer.RecordFull → 999000 < length self.old.marks }
         ensures cause { IfErr result (λ told. BeginsBy (meaning S.contents S.tells S.may_leave S.fault_count V.tells V.may_leave V.fault_count) self.old caller key.now told self.new) }
         ensures step { BeginsOrNot (meaning S.contents S.tells S.may_leave S.fault_count V.tells V.may_leave V.fault_count) self.old caller call key.now program.now result self.new }
     {

@@ -1,6 +1,6 @@
 //! The call of a collection: its rounds, by which proposer 0 has the tombstone of the key acknowledged.
 
-ghost use Rattle.std.specs.Prelude.{◌≡◌, ◌↔◌, ◌≤◌, None, Some, false, true, IsTrue, IsOk, IsErrOf, IfSome, IfErr, OnOk, OnErr, Ok, ℕ};
+ghost use Rattle.std.specs.Prelude.{◌≡◌, ◌↔◌, ◌<◌, ◌≤◌, length, None, Some, false, true, IsTrue, IsOk, IsErrOf, IfSome, IfErr, OnOk, OnErr, Ok, ℕ};
 ghost use Rattle.cas_cluster.specs.Collection.{tomb_of};
 ghost use Rattle.cas_cluster.specs.Step.{Step, BeginCollect, EndCollect, ReadHeld, Propose};
 ghost use Rattle.cas_cluster.specs.StepCalls.{IsFull};
@@ -85,6 +85,7 @@ impl<S: Shelf, V: Disk> World<S, V> {
         ensures step { Step (meaning S.contents S.tells S.may_leave S.fault_count V.tells V.may_leave V.fault_count) self.old (BeginCollect key.now) self.new }
         ensures ok { OnOk result (HasCollected self.new call key.now) }
         ensures err { IfErr result (CollectsNot self.old self.new call key.now) }
+        ensures long { IsErrOf result (OpAnswer.Stopped Answer.RecordFull) → 999000 < length self.old.marks }
     {
         if self.callers[0].call.is_some() {
             let begun = self.begin(0, call, key, program);

@@ -1,6 +1,6 @@
 //! What a collection asks all members, and what came of it.
 
-ghost use Rattle.std.specs.Prelude.{◌≡◌, ◌⊎◌, None, IsSome, IfOk, IfErr, OnOk, OnErr};
+ghost use Rattle.std.specs.Prelude.{◌≡◌, ◌⊎◌, ◌<◌, length, None, IsSome, IsErrOf, IfOk, IfErr, OnOk, OnErr};
 ghost use Rattle.cas_collect.specs.declared.collect.CollectStep.TheVariants.{Ages as AgesStep, Remove as RemoveStep};
 ghost use Rattle.cas_cluster.specs.Step.{Step, AskCollect, GatherCollect, GatherRound};
 ghost use Rattle.cas_world.specs.Collect.{AreRemovalsDone};
@@ -22,6 +22,7 @@ impl<S: Shelf, V: Disk> World<S, V> {
         ensures ok { OnOk result (IsSome self.new.council.exchange) }
         ensures none { OnErr result (self.new.council.exchange ≡ None) }
         ensures err { IfErr result (WasToldOrder self.new) }
+        ensures long { IsErrOf result (OpAnswer.Stopped Answer.RecordFull) → 999000 < length self.old.marks }
     {
         if self.desks[0].is_down() {
             return Err(self.refuse(OpAnswer::Stopped(Answer::Down)));

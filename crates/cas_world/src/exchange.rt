@@ -15,8 +15,9 @@ ghost use Rattle.cas_cluster.specs.StepCouncil.{new_exchange, questions_to, told
 ghost use Rattle.cas_calls.specs.Council.{exchange_view, question_view, left_to_list};
 ghost use Rattle.cas_world.specs.Exchange.{MayAsk, MayAskThis, MayGather, MayGatherMembers, HasGathered, asking_of, gathering_of, WasToldOrder, IsAsked, Opens, FailsToAsk, FailsToTag, question_in, question_from, asked_from, begins_with};
 ghost use Rattle.cas_cluster.specs.CollectLaws.{HasItsFloor};
+ghost use Rattle.cas_cluster.specs.SafeLaws.{HaveEnteredIts};
 ghost use Rattle.cas_world.specs.Collect.{AreRemovalsDone};
-ghost use Rattle.cas_world.specs.Plans.{HasCollectedAll, MayTell};
+ghost use Rattle.cas_world.specs.Plans.{HasCollectedAll, HasFinished, MayTell};
 ghost use Rattle.cas_calls.specs.Proposing.{disks};
 
 use crate::serve::{Served, serve};
@@ -58,10 +59,11 @@ impl<S: Shelf, V: Disk> World<S, V> {
     /// Opens a call of the operator, and reserves its mark.
     ///
     /// [`Answer::RecordFull`] comes exactly where the marks that are made and all that are reserved are as many as a record holds, and
-    /// [`Answer::NoMemory`] alone beside it. After an `Err` all is as before.
+    /// then more than 999,000 are made; [`Answer::NoMemory`] alone comes beside it. After an `Err` all is as before.
     pub fn order(&mut self, asked: &Asked) -> Result<(), Answer>
         requires { self.old.council.order ≡ None }
         ensures full { IsErrOf result Answer.RecordFull ↔ (length self.old.marks + reserved_in_all self.old ≡ 1000000) }
+        ensures long { IsErrOf result Answer.RecordFull → 999000 < length self.old.marks }
         ensures cause { IfErr result (λ told. (told ≡ Answer.RecordFull) ⊎ (told ≡ Answer.NoMemory false)) }
         ensures ok { OnOk result (Step (meaning S.contents S.tells S.may_leave S.fault_count V.tells V.may_leave V.fault_count) self.old (Orders asked.now) self.new) }
         ensures err { OnErr result (Step (meaning S.contents S.tells S.may_leave S.fault_count V.tells V.may_leave V.fault_count) self.old RefuseOrder self.new) }
@@ -83,12 +85,14 @@ impl<S: Shelf, V: Disk> World<S, V> {
     /// was asked for is at its end, with [`OpAnswer::Joined`] or [`OpAnswer::Left`], and the change is no longer under way then; or, where the
     /// collection that was asked for is at its end, with [`OpAnswer::Collected`]. It is marked, but for what a probe found, and handed back.
     /// An exchange that is open is over, and its frames join the late ones; so is a collection, and a listing that is not complete is
-    /// dropped. It takes no memory. A key that is told to be collected has its tombstone as a floor, with the empty state.
+    /// dropped. It takes no memory. A key that is told to be collected has its tombstone as a floor, with the empty state; and each proposer
+    /// has entered the era that is told of a join or a leave.
     pub fn tell(&mut self, answer: OpAnswer) -> OpAnswer
         requires { MayTell self.old answer }
         ensures same { result ≡ answer }
         ensures step { Step (meaning S.contents S.tells S.may_leave S.fault_count V.tells V.may_leave V.fault_count) self.old (Tell answer) self.new }
         ensures floor { S.tells → V.tells → HasCollectedAll self.old answer → HasItsFloor answer (reverse self.old.marks) }
+        ensures entered { HasFinished self.old answer → HaveEnteredIts self.old.greatest answer (reverse self.old.marks) }
     {
         self.flow.abandon(EXCHANGE_PLACE);
         let EndedOrder {
@@ -107,7 +111,7 @@ impl<S: Shelf, V: Disk> World<S, V> {
     ///
     /// The refusals, each of which the call is told, come in this order: [`Answer::Down`] exactly where proposer 0 is down;
     /// [`Answer::RecordFull`] exactly where the marks that are made, all that are reserved and one for each member that is asked would be
-    /// more than a record holds; [`Answer::NoMemory`], after which the tag may be drawn, [`Answer::Spent`], and [`Answer::VaultFault`],
+    /// more than a record holds, and then more than 999,000 are made; [`Answer::NoMemory`], after which the tag may be drawn, [`Answer::Spent`], and [`Answer::VaultFault`],
     /// after which proposer 0 is down.
     pub fn ask_all(&mut self, what: Exchange) -> Result<(), OpAnswer>
         requires { MayAskThis self.old what }
@@ -115,6 +119,7 @@ impl<S: Shelf, V: Disk> World<S, V> {
         ensures ok { OnOk result (IsSome self.new.council.exchange) }
         ensures none { OnErr result (self.new.council.exchange ≡ None) }
         ensures err { IfErr result (WasToldOrder self.new) }
+        ensures long { IsErrOf result (OpAnswer.Stopped Answer.RecordFull) → 999000 < length self.old.marks }
     {
         match what {
             Exchange::Ages | Exchange::Remove => self.ask_collect(),
@@ -130,6 +135,7 @@ impl<S: Shelf, V: Disk> World<S, V> {
         ensures ok { OnOk result (IsSome self.new.council.exchange) }
         ensures none { OnErr result (self.new.council.exchange ≡ None) }
         ensures err { IfErr result (WasToldOrder self.new) }
+        ensures long { IsErrOf result (OpAnswer.Stopped Answer.RecordFull) → 999000 < length self.old.marks }
     {
         let alloc = *self.acceptors.allocator();
         let everyone = self.era().everyone();

@@ -8,7 +8,7 @@ ghost use Rattle.cas_cluster.specs.Course.{entering};
 ghost use Rattle.cas_cluster.specs.Step.{Step, RefuseKey, OpenPlan as OpensPlan, EnterEra as EntersNext};
 ghost use Rattle.cas_cluster.specs.StepDesks.{EntersEra, FailsToEnter};
 ghost use Rattle.cas_cluster.specs.StepCouncil.{told_view};
-ghost use Rattle.cas_cluster.specs.StepPlans.{Welcomes, used_with};
+ghost use Rattle.cas_cluster.specs.StepPlans.{FailsByFaults, Welcomes, used_with};
 ghost use Rattle.cas_cluster.specs.View.{meaning};
 ghost use Rattle.cas_calls.specs.Answers.{is_plain, crash_answer, moved_answer};
 ghost use Rattle.cas_calls.specs.Call.{over};
@@ -181,14 +181,18 @@ impl<S: Shelf, V: Disk> World<S, V> {
     fn welcome(&mut self, kind: PlanKind, id: AcceptorId) -> Result<Members, AllocError>
         ensures welcomes { Welcomes (meaning S.contents S.tells S.may_leave S.fault_count V.tells V.may_leave V.fault_count) self.old (asked_to kind id) self.new }
         ensures used { IfOk result (λ used. used ≡ used_with (asked_to kind id) self.old.council.used) }
+        ensures faulted { OnOk result (FailsByFaults (meaning S.contents S.tells S.may_leave S.fault_count V.tells V.may_leave V.fault_count) self.old (asked_to kind id) self.new) }
     {
         let mut used = self.council.used;
         match kind {
             PlanKind::Join => {
                 used.insert(id);
                 match self.restart_acceptor(id) {
-                    Err(ShelfFault::NoMemory) => Err(AllocError),
-                    _ => Ok(used),
+                    Ok(()) => Ok(used),
+                    Err(fault) => match fault {
+                        ShelfFault::NoMemory => Err(AllocError),
+                        _ => Ok(used),
+                    },
                 }
             }
             PlanKind::Leave => Ok(used),

@@ -10,7 +10,7 @@ ghost use Rattle.cas_cluster.specs.View.{meaning};
 ghost use Rattle.cas_calls.specs.Answers.{aged_answer, crash_answer};
 ghost use Rattle.cas_calls.specs.Council.{council_view};
 ghost use Rattle.cas_calls.specs.Proposing.{disks};
-ghost use Rattle.cas_world.specs.Collect.{IsDueStep, GoesOnCollecting, MarksRenewal, AreFloorsPassed};
+ghost use Rattle.cas_world.specs.Collect.{IsDueStep, IsNextAge, GoesOnCollecting, MarksRenewal, AreFloorsPassed};
 ghost use Rattle.cas_world.specs.Exchange.{WasToldOrder};
 ghost use Rattle.cas_world.specs.Moving.{Leaves, closed_with};
 
@@ -40,6 +40,7 @@ impl<S: Shelf, V: Disk> World<S, V> {
         requires due { IsDueStep self.old (RenewStep proposer) }
         ensures step { Step (meaning S.contents S.tells S.may_leave S.fault_count V.tells V.may_leave V.fault_count) self.old (Renew proposer) self.new }
         ensures ok { OnOk result (GoesOnCollecting self.old self.new) }
+        ensures age { IfOk result (λ age. IsNextAge self.old proposer age) }
         ensures err { IfErr result (WasToldOrder self.new) }
     {
         let place = usize::from(proposer);

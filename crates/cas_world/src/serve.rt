@@ -1,6 +1,6 @@
 //! An acceptor that is asked by a frame.
 
-ghost use Rattle.std.specs.Prelude.{◌≡◌, IfOk, OnErr, length};
+ghost use Rattle.std.specs.Prelude.{◌≡◌, IfOk, None, OnErr, length};
 ghost use Rattle.cas_flow.specs.Message.{CanBeSent};
 ghost use Rattle.cas_flow.specs.declared.message.Message.TheVariants as message;
 ghost use Rattle.cas_world.specs.Serve.{voted_key, vote_by, shelves, Serves, KeepsAll, AreNumbered};
@@ -21,18 +21,18 @@ pub(crate) enum Served {
     Down,
 }
 
-/// Lets the acceptor that is asked answer. All memory is taken before it handles the request; after an `Err` it keeps what it kept.
-pub(crate) fn serve<S: Shelf>(
-    alloc: Global,
+/// Lets the acceptor that is asked answer by this frame. All memory is taken before it handles the request; after an `Err` it keeps what it kept.
+pub(crate) fn serve_by<S: Shelf>(
     acceptors: &mut Vec<Acceptor<S>>,
     request: &Request,
+    mut frame: Frame,
 ) -> Result<Served, AllocError>
     requires numbered { AreNumbered acceptors.old.items (length acceptors.old.items) }
     requires asked { CanBeSent (message.Request request.now) }
+    requires blank { frame ≡ None }
     ensures ok { IfOk result (λ served. Serves (shelves S.contents S.tells S.may_leave S.fault_count) acceptors.old.items request.now served acceptors.new.items) }
     ensures err { OnErr result (KeepsAll (shelves S.contents S.tells S.may_leave S.fault_count) acceptors.old.items acceptors.new.items) }
 {
-    let mut frame = Frame::blank(alloc)?;
     let key = key_to_vote(&request.ask)?;
     match acceptors[usize::from(request.to.number())].handle(request) {
         Ok(reply) => {
@@ -43,6 +43,21 @@ pub(crate) fn serve<S: Shelf>(
         Err(HandleFault::Down) => Ok(Served::Down),
         Err(HandleFault::NoMemory) => Err(AllocError),
     }
+}
+
+/// Lets the acceptor that is asked answer by a new frame, likewise.
+pub(crate) fn serve<S: Shelf>(
+    alloc: Global,
+    acceptors: &mut Vec<Acceptor<S>>,
+    request: &Request,
+) -> Result<Served, AllocError>
+    requires numbered { AreNumbered acceptors.old.items (length acceptors.old.items) }
+    requires asked { CanBeSent (message.Request request.now) }
+    ensures ok { IfOk result (λ served. Serves (shelves S.contents S.tells S.may_leave S.fault_count) acceptors.old.items request.now served acceptors.new.items) }
+    ensures err { OnErr result (KeepsAll (shelves S.contents S.tells S.may_leave S.fault_count) acceptors.old.items acceptors.new.items) }
+{
+    let frame = Frame::blank(alloc)?;
+    serve_by(acceptors, request, frame)
 }
 
 /// A copy of the key for the mark of a vote, where one may be given.

@@ -14,7 +14,7 @@ ghost use Rattle.cas_cluster.specs.Step.{Step, Turn, RefuseTurn};
 ghost use Rattle.cas_cluster.specs.View.{meaning};
 ghost use Rattle.cas_slot.specs.declared.message.Request.{Request as ARequest};
 
-use crate::serve::{Served, serve};
+use crate::serve::{Served, serve_by};
 use crate::world::World;
 use cas_acceptor::Acceptor;
 use cas_ballot::AcceptorId;
@@ -190,7 +190,8 @@ fn ask<S: Shelf>(
     ensures err { OnErr result (KeepsAll (shelves S.contents S.tells S.may_leave S.fault_count) acceptors.old.items acceptors.new.items) }
     ensures same { OnErr result ((caller.new ≡ caller.old) × (flow.new ≡ flow.old) × («record».new ≡ «record».old)) }
 {
-    let served = serve(alloc, acceptors, request)?;
+    let frame = flow.blank(alloc)?;
+    let served = serve_by(acceptors, request, frame)?;
     flow.take(proposer, verdict);
     match served {
         Served::Replied { frame, vote } => {

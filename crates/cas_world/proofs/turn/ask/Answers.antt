@@ -1,4 +1,5 @@
-use Rattle.std.proofs.Common.{Option, None, Some, true, subst}
+use Rattle.std.proofs.Common.{Option, None, Some, true, ap, subst, ◌∙◌}
+use Rattle.cas_flow.specs.Flow.{FlowView, taken}
 use Rattle.cas_record.specs.declared.mark.Mark.{Mark}
 use Rattle.cas_world.specs.Serve.{shelves, Serves}
 use Rattle.cas_world.specs.Turn.{is_down}
@@ -11,31 +12,31 @@ use Rattle.cas_world.proofs.turn.ask.Goals as goal
 pub returns-in-Some-clause-ok : goal.returns-in-Some-clause-ok
 returns-in-Some-clause-ok g c =
     let m = shelves g.S.Shelf.contents g.S.Shelf.tells g.S.Shelf.may_leave g.S.Shelf.fault_count in
-    let replied : Serves m c.args.acceptors.now.items c.args.request.now (served.Replied c.in-Replied.frame c.in-Replied.vote) c.serve.new.acceptors.items =
-    subst (λ (s : Served). Serves m c.args.acceptors.now.items c.args.request.now s c.serve.new.acceptors.items) c.in-Replied.is c.in_ok-served.ensures.ok in
-    let voted : Serves m c.args.acceptors.now.items c.args.request.now (served.Replied c.in-Replied.frame (Some c.in-Some.mark)) c.serve.new.acceptors.items =
-    subst (λ (v : Option Mark). Serves m c.args.acceptors.now.items c.args.request.now (served.Replied c.in-Replied.frame v) c.serve.new.acceptors.items) c.in-Some.is replied in
+    let replied : Serves m c.args.acceptors.now.items c.args.request.now (served.Replied c.in-Replied.frame c.in-Replied.vote) c.serve_by.new.acceptors.items =
+    subst (λ (s : Served). Serves m c.args.acceptors.now.items c.args.request.now s c.serve_by.new.acceptors.items) c.in-Replied.is c.in_ok-served.ensures.ok in
+    let voted : Serves m c.args.acceptors.now.items c.args.request.now (served.Replied c.in-Replied.frame (Some c.in-Some.mark)) c.serve_by.new.acceptors.items =
+    subst (λ (v : Option Mark). Serves m c.args.acceptors.now.items c.args.request.now (served.Replied c.in-Replied.frame v) c.serve_by.new.acceptors.items) c.in-Some.is replied in
     answered m c.args.proposer c.args.verdict c.args.request.now c.args.acceptors.now.items _ c.args.caller.now _ c.args.flow.now c.take.new.self _ c.args.record.now c.mark.new.record c.in-Replied.frame (Some c.in-Some.mark)
-    voted c.take.ensures c.push_own.ensures
+    voted (c.take.ensures ∙ ap (λ (f : FlowView). taken f c.args.proposer c.args.verdict) c.blank.ensures.same) c.push_own.ensures
     (makes_vote c.args.caller.now c.silence.new.self _ _ _ c.in-Some.mark c.requires.mark.is_open c.silence.ensures c.mark.ensures.call c.mark.ensures.marks c.mark.ensures.room)
 
 -- src/turn.rt:143:1
 pub returns-in_default-clause-ok : goal.returns-in_default-clause-ok
 returns-in_default-clause-ok g c =
     let m = shelves g.S.Shelf.contents g.S.Shelf.tells g.S.Shelf.may_leave g.S.Shelf.fault_count in
-    let replied : Serves m c.args.acceptors.now.items c.args.request.now (served.Replied c.in-Replied.frame c.in-Replied.vote) c.serve.new.acceptors.items =
-    subst (λ (s : Served). Serves m c.args.acceptors.now.items c.args.request.now s c.serve.new.acceptors.items) c.in-Replied.is c.in_ok-served.ensures.ok in
-    let voted : Serves m c.args.acceptors.now.items c.args.request.now (served.Replied c.in-Replied.frame None) c.serve.new.acceptors.items =
-    subst (λ (v : Option Mark). Serves m c.args.acceptors.now.items c.args.request.now (served.Replied c.in-Replied.frame v) c.serve.new.acceptors.items) c.in_default.is replied in
+    let replied : Serves m c.args.acceptors.now.items c.args.request.now (served.Replied c.in-Replied.frame c.in-Replied.vote) c.serve_by.new.acceptors.items =
+    subst (λ (s : Served). Serves m c.args.acceptors.now.items c.args.request.now s c.serve_by.new.acceptors.items) c.in-Replied.is c.in_ok-served.ensures.ok in
+    let voted : Serves m c.args.acceptors.now.items c.args.request.now (served.Replied c.in-Replied.frame None) c.serve_by.new.acceptors.items =
+    subst (λ (v : Option Mark). Serves m c.args.acceptors.now.items c.args.request.now (served.Replied c.in-Replied.frame v) c.serve_by.new.acceptors.items) c.in_default.is replied in
     answered m c.args.proposer c.args.verdict c.args.request.now c.args.acceptors.now.items _ c.args.caller.now _ c.args.flow.now c.take.new.self _ c.args.record.now c.args.record.now c.in-Replied.frame None
-    voted c.take.ensures c.push_own.ensures
+    voted (c.take.ensures ∙ ap (λ (f : FlowView). taken f c.args.proposer c.args.verdict) c.blank.ensures.same) c.push_own.ensures
     (makes_no_vote c.args.caller.now _ _ c.requires.mark.is_open c.silence.ensures)
 
 -- src/turn.rt:143:1
 pub returns-in-Down-clause-ok : goal.returns-in-Down-clause-ok
 returns-in-Down-clause-ok g c =
     let m = shelves g.S.Shelf.contents g.S.Shelf.tells g.S.Shelf.may_leave g.S.Shelf.fault_count in
-    let fell : Serves m c.args.acceptors.now.items c.args.request.now served.Down c.serve.new.acceptors.items =
-    subst (λ (s : Served). Serves m c.args.acceptors.now.items c.args.request.now s c.serve.new.acceptors.items) c.in-Down.is c.in_ok-served.ensures.ok in
-    is_down fell c.take.ensures
+    let fell : Serves m c.args.acceptors.now.items c.args.request.now served.Down c.serve_by.new.acceptors.items =
+    subst (λ (s : Served). Serves m c.args.acceptors.now.items c.args.request.now s c.serve_by.new.acceptors.items) c.in-Down.is c.in_ok-served.ensures.ok in
+    is_down fell (c.take.ensures ∙ ap (λ (f : FlowView). taken f c.args.proposer c.args.verdict) c.blank.ensures.same)
     (makes_harm c.args.proposer c.args.caller.now _ c.args.record.now _ c.args.request.now.to true c.requires.mark.is_open c.harm.ensures.call c.harm.ensures.marks c.harm.ensures.room_left)

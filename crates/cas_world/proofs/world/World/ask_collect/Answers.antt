@@ -1,4 +1,4 @@
-use Rattle.std.proofs.Common.{◌≡◌, ◌+◌, ◌≤◌, ◌∙◌, ℕ, false, List, Option, Some, refl, sym, ap, subst, arith, length}
+use Rattle.std.proofs.Common.{◌≡◌, ◌+◌, ◌≤◌, ◌∙◌, ℕ, false, List, [], Option, Some, refl, sym, ap, subst, arith, length}
 use Rattle.std.specs.Prelude.{◌⊎◌, IfOk, IfSome, sum_by}
 use Rattle.cas_ballot.specs.Ballot.{FitsBallot}
 use Rattle.cas_ballot.specs.declared.ballot.Ballot.{Ballot}
@@ -10,7 +10,7 @@ use Rattle.cas_record.specs.declared.answer.Answer.TheVariants as answer
 use Rattle.cas_record.specs.declared.mark.Mark.{Mark}
 use Rattle.cas_record.specs.declared.operator.OpAnswer.TheVariants as op
 use Rattle.cas_cluster.specs.Collection.{CollectionView, tomb_of}
-use Rattle.cas_cluster.specs.Council.{ExchangeView, exchange_place, reserved_for_exchange}
+use Rattle.cas_cluster.specs.Council.{ExchangeView, Removal, exchange_place, reserved_for_exchange}
 use Rattle.cas_cluster.specs.Safe.{IsSafe}
 use Rattle.cas_cluster.specs.Step as step
 use Rattle.cas_cluster.specs.Step.{Step}
@@ -19,6 +19,7 @@ use Rattle.cas_cluster.specs.StepCollect.{IsQuestionOf}
 use Rattle.cas_cluster.specs.StepCouncil.{everyone, new_exchange, questions_to, told_view, with_council}
 use Rattle.cas_cluster.specs.View.{View, IsAt, era_at, meaning, reserved_in_all}
 use Rattle.cas_cluster.proofs.Places.{at_one, some_is}
+use Rattle.cas_cluster.proofs.SafeMarks.{full_for_exchanges}
 use Rattle.cas_cluster.proofs.SafeSteps.{steps_are_safe}
 use Rattle.cas_calls.specs.Call.{reserved_of}
 use Rattle.cas_calls.specs.Council.{council_view, exchange_view, question_view}
@@ -161,3 +162,24 @@ invariant_of-self-in-Ok-ask_each g c =
 
 pub returns-in-Ok-ask_each-clause-step : goal.returns-in-Ok-ask_each-clause-step
 returns-in-Ok-ask_each-clause-step g c = seen_from (meaning g.S.Shelf.contents g.S.Shelf.tells g.S.Shelf.may_leave g.S.Shelf.fault_count g.V.Disk.tells g.V.Disk.may_leave g.V.Disk.fault_count) step.AskCollect (view_of c.self.inside.config.proposers (record c.self.inside.council { exchange = Some c.in-Ok-ask_each.exchange }) c.self.inside.acceptors.items c.self.inside.desks.items c.self.inside.callers.items c.ask_each.new.flow c.reserve.new.self) c.self.view_is (did g c)
+
+-- ---- a full record is long
+pub returns-then-is_down-clause-long : goal.returns-then-is_down-clause-long
+returns-then-is_down-clause-long g c full = absurd (cc (full, c.refuse.ensures.answer))
+
+pub returns-then-marks-gt-MOST_MARKS-clause-long : goal.returns-then-marks-gt-MOST_MARKS-clause-long
+returns-then-marks-gt-MOST_MARKS-clause-long g c full =
+    let safe = subst (λ (v : (View g.row.S.Denot g.row.V.Denot)). IsSafe v) c.self.view_is c.self.invariant.safe in
+    full_for_exchanges c.args.self.now (Removal []) safe (λ room. omega (arith, room, c.if-marks-gt-MOST_MARKS.true, c.count.ensures.value, ap (λ (l : List ℕ). length l) (c.everyone-members.ensures ∙ ap (λ (e : Era). union_of e.prep e.acc) c.era.ensures), c.reserved_in_all.ensures, ap (sum_by reserved_of) c.deref.ensures.value, sum_seen c.self.inside.callers.items, ap (λ (l : List Mark). length l) c.marks.ensures, ap (λ (v : (View g.row.S.Denot g.row.V.Denot)). length v.marks + reserved_in_all v) c.self.view_is))
+
+pub returns-then-is_err-clause-long : goal.returns-then-is_err-clause-long
+returns-then-is_err-clause-long g c full = absurd (cc (full, c.refuse-then-is_err.ensures.answer, c.no_memory.ensures))
+
+pub returns-in_default-clause-long : goal.returns-in_default-clause-long
+returns-in_default-clause-long g c full = absurd (cc (full, c.refuse-in_default.ensures.answer, c.no_memory-in_default.ensures))
+
+pub returns-in-Err-clause-long : goal.returns-in-Err-clause-long
+returns-in-Err-clause-long g c full = absurd (cc (full, c.refuse-in-Err.ensures.answer, c.no_memory-in-Err.ensures))
+
+pub returns-in-Ok-ask_each-clause-long : goal.returns-in-Ok-ask_each-clause-long
+returns-in-Ok-ask_each-clause-long g c full = absurd (cc full)

@@ -1,4 +1,4 @@
-use Rattle.std.proofs.Common.{◌≡◌, ◌+◌, ◌∙◌, ℕ, List, Option, refl, sym, ap, subst, arith, length, slice_set}
+use Rattle.std.proofs.Common.{◌≡◌, ◌<◌, ◌+◌, ◌∙◌, ℕ, List, Option, refl, sym, ap, subst, arith, length, slice_set}
 use Rattle.std.specs.Prelude.{sum_by, option_copied, IfSome}
 use Rattle.cas_ballot.specs.Ballot.{FitsBallot}
 use Rattle.cas_ballot.specs.Members.{union_of}
@@ -18,7 +18,7 @@ use Rattle.cas_calls.specs.Council.{council_view, goes_on_in}
 use Rattle.cas_world.specs.Exchange.{MayAsk, Opens, FailsToAsk, asked_from, question_in}
 use Rattle.cas_calls.specs.Proposing.{disks}
 use Rattle.cas_world.specs.World.{view_of}
-use Rattle.cas_world.proofs.Asking.{idle_first, may_ask, tag_fits, asks, asks_not, idle_then, refused_seen, first_id, asked_world}
+use Rattle.cas_world.proofs.Asking.{idle_first, may_ask, tag_fits, asks, asks_not, full_to_ask, idle_then, refused_seen, first_id, asked_world}
 use Rattle.cas_world.proofs.Exchanges.{reserved_fits}
 use Rattle.cas_world.proofs.Parts.{at_place, remembered_then}
 use Rattle.cas_world.proofs.Reserving.{sum_seen}
@@ -125,3 +125,19 @@ returns-in-Err-clause-step g c = subst (λ (v : View g.row.S.Denot g.row.V.Denot
 
 pub returns-in-Err-clause-none : goal.returns-in-Err-clause-none
 returns-in-Err-clause-none g c = ap (λ (a : cluster.Council). a.exchange) c.tell.ensures.told ∙ ap (λ (v : View g.row.S.Denot g.row.V.Denot). v.council.exchange) c.self.view_is ∙ c.requires.none_open
+
+-- ---- a full record is long
+pub returns-in-Err-clause-long : goal.returns-in-Err-clause-long
+returns-in-Err-clause-long g c full =
+    subst (λ (v : View g.row.S.Denot g.row.V.Denot). 999000 < length v.marks) c.self.view_is
+    (full_to_ask (disks g.V.Disk.tells g.V.Disk.may_leave g.V.Disk.fault_count) (view_of c.self.inside.config.proposers c.self.inside.council c.self.inside.acceptors.items c.self.inside.desks.items c.self.inside.callers.items c.self.inside.flow c.self.inside.record) c.args.what c.index_mut.result.now c.open_exchange-opened.new.desk
+    (length c.self.inside.record.marks + c.reserved_in_all-reserved.result + length (asked_from c.everyone-everyone.result (option_copied c.listing_for-goes_on.result))) c.in-Err.refusal c.self.invariant.safe
+    (omega (
+      arith,
+      c.reserved_in_all-reserved.ensures,
+      ap (sum_by reserved_of) c.deref.ensures.value,
+      sum_seen c.self.inside.callers.items,
+      ap (λ (l : List ℕ). length (asked_from l (option_copied c.listing_for-goes_on.result))) (members_err g c),
+      ap (λ (o : Option ListingView). length (asked_from (everyone (view_of c.self.inside.config.proposers c.self.inside.council c.self.inside.acceptors.items c.self.inside.desks.items c.self.inside.callers.items c.self.inside.flow c.self.inside.record)) o)) c.listing_for-goes_on.ensures,
+    ))
+    (fails g c) (cc full))

@@ -11,7 +11,9 @@ use Rattle.cas_cluster.specs.Council.{reserved_by}
 use Rattle.cas_calls.specs.Council.{council_view}
 use Rattle.cas_calls.specs.Proposing.{disks}
 use Rattle.cas_world.specs.Beginning.{OpensRound, refused, reserved_beside, settled_marks, BeginsOrNot, Heeds, HeedsLoss}
+use Rattle.cas_cluster.specs.Safe.{IsSafe}
 use Rattle.cas_cluster.proofs.Places.{some_is}
+use Rattle.cas_cluster.proofs.SafeMarks.{full_for_rounds}
 use Rattle.cas_calls.specs.Call.{reserved_of}
 use Rattle.cas_world.specs.World.{view_of}
 use Rattle.cas_calls.specs.declared.call.Caller.{Caller}
@@ -132,3 +134,10 @@ returns-in-Err-clause-cause g c = begin_cause _ c.args.self.now _ c.args.caller 
 
 pub returns-clause-cause : goal.returns-clause-cause
 returns-clause-cause g c = begin_cause _ c.args.self.now _ c.args.caller c.args.call c.args.key.now c.args.program.now _ (λ full. (returns-clause-full g c).0 full) (returns-clause-step g c)
+
+-- ---- a full record is long
+pub returns-in-Err-clause-long : goal.returns-in-Err-clause-long
+returns-in-Err-clause-long g c full = full_for_rounds c.args.self.now c.args.caller (subst (λ (v : View _ _). IsSafe v) c.self.view_is c.self.invariant.safe) ((returns-in-Err-clause-full g c).0 full)
+
+pub returns-clause-long : goal.returns-clause-long
+returns-clause-long g c full = full_for_rounds c.args.self.now c.args.caller (subst (λ (v : View _ _). IsSafe v) c.self.view_is c.self.invariant.safe) ((returns-clause-full g c).0 full)

@@ -15,6 +15,7 @@ use Rattle.cas_cluster.specs.StepCouncil.{told_view, with_council}
 use Rattle.cas_cluster.specs.View.{View, CallerView, IsAt, era_at, meaning}
 use Rattle.cas_cluster.proofs.Places.{at_one}
 use Rattle.cas_cluster.proofs.SafeCollecting.{Frame, begin_frame, frame_of}
+use Rattle.cas_cluster.proofs.SafeMarks.{full_for_rounds}
 use Rattle.cas_cluster.proofs.SafeParts.{at_low}
 use Rattle.cas_cluster.proofs.SafeSteps.{steps_are_safe}
 use Rattle.cas_calls.specs.Council.{council_view}
@@ -24,7 +25,7 @@ use Rattle.cas_world.specs.Beginning.{BeginsOrNot, HasNoCall}
 use Rattle.cas_world.specs.Collect.{RefusesCollection}
 use Rattle.cas_world.specs.World.{view_of, call_view, caller_view}
 use Rattle.cas_world.proofs.Callers.{at_map}
-use Rattle.cas_world.proofs.Collects.{Admits, admits_it, begins_collection, begun_again, begun_leaves, collected_err, collected_ok, collects_again, finds_no_memory, is_again, is_begun, loses_memory, lost_call, refusal_plain, refuses_collection, begun_call, begun_reserves, call_none, hushed_stays, is_some_not, not_lost, refused_call, refused_order}
+use Rattle.cas_world.proofs.Collects.{Admits, admits_it, begins_collection, begun_again, begun_leaves, collected_err, collected_ok, collects_again, finds_no_memory, is_again, is_begun, loses_memory, lost_call, refusal_plain, refuses_collection, begun_call, begun_full, begun_reserves, call_none, hushed_stays, is_some_not, not_lost, refusal_full, refused_call, refused_order}
 use Rattle.cas_world.proofs.Exchanges.{council_next, council_world, some_there}
 use Rattle.cas_world.proofs.Parts.{Remembers, at_place, remembered_then}
 use Rattle.cas_world.proofs.Planning.{none_there}
@@ -184,3 +185,22 @@ pub returns-clause-err : goal.returns-clause-err
 returns-clause-err g c = collected_err (meaning g.S.Shelf.contents g.S.Shelf.tells g.S.Shelf.may_leave g.S.Shelf.fault_count g.V.Disk.tells g.V.Disk.may_leave g.V.Disk.fault_count) c.args.self.now (view_of c.self-2.inside.config.proposers c.self-2.inside.council c.self-2.inside.acceptors.items c.self-2.inside.desks.items c.self-2.inside.callers.items c.self-2.inside.flow c.self-2.inside.record) (view_of c.self-2.inside.config.proposers c.begin_collection.new.self c.self-2.inside.acceptors.items c.self-2.inside.desks.items c.self-2.inside.callers.items c.self-2.inside.flow c.self-2.inside.record) c.args.call c.args.key.now refl refl (is_collecting g c) c.begin-begun-2.result c.or_stopped-2.result (begins g c) (causes g c) c.or_stopped-2.ensures.ok c.or_stopped-2.ensures.err
     (λ said is none. begun_leaves (meaning g.S.Shelf.contents g.S.Shelf.tells g.S.Shelf.may_leave g.S.Shelf.fault_count g.V.Disk.tells g.V.Disk.may_leave g.V.Disk.fault_count) c.args.self.now (view_of c.self-2.inside.config.proposers c.self-2.inside.council c.self-2.inside.acceptors.items c.self-2.inside.desks.items c.self-2.inside.callers.items c.self-2.inside.flow c.self-2.inside.record) c.args.key.now said (first_desk g c).0 (first_desk g c).1 (admits g c) (not_lost (meaning g.S.Shelf.contents g.S.Shelf.tells g.S.Shelf.may_leave g.S.Shelf.fault_count g.V.Disk.tells g.V.Disk.may_leave g.V.Disk.fault_count) c.args.self.now (view_of c.self-2.inside.config.proposers c.self-2.inside.council c.self-2.inside.acceptors.items c.self-2.inside.desks.items c.self-2.inside.callers.items c.self-2.inside.flow c.self-2.inside.record) c.args.call c.args.key.now c.begin-begun-2.result said (begins g c) (some_now g c) none is)
     (subst (λ r. IfErr r (λ told. BeginsBy (meaning g.S.Shelf.contents g.S.Shelf.tells g.S.Shelf.may_leave g.S.Shelf.fault_count g.V.Disk.tells g.V.Disk.may_leave g.V.Disk.fault_count) c.args.self.now 0 c.args.key.now told (view_of c.self-2.inside.config.proposers c.self-2.inside.council c.self-2.inside.acceptors.items c.self-2.inside.desks.items c.self-2.inside.callers.items c.self-2.inside.flow c.self-2.inside.record))) is (causes g c)))
+
+-- ---- a full record is long
+pub returns-then-is_some-clause-long : goal.returns-then-is_some-clause-long
+returns-then-is_some-clause-long g c full = c.begin-begun.ensures.long (begun_full c.begin-begun.result c.or_stopped.result c.or_stopped.ensures.ok c.or_stopped.ensures.err full)
+
+pub returns-in-Some-clause-long : goal.returns-in-Some-clause-long
+returns-in-Some-clause-long g c full =
+    let safe = subst (λ (v : (View g.row.S.Denot g.row.V.Denot)). IsSafe v) c.self.view_is c.self.invariant.safe in
+    let desk = at_low c.args.self.now.desks 0 (omega (arith, safe.sound.desks)) in
+    full_for_rounds c.args.self.now 0 safe (refusal_full c.args.self.now desk.0 c.in-Some.refusal (subst (λ (r : Option OpAnswer). RefusesCollection c.args.self.now desk.0 r) c.in-Some.is (c.refusal_to_collect.ensures desk.0 desk.1)) (cc (full, c.refuse.ensures.answer)))
+
+pub returns-in_default-2-clause-long : goal.returns-in_default-2-clause-long
+returns-in_default-2-clause-long g c full = absurd (cc (full, c.refuse-in_default-2.ensures.answer, c.no_memory.ensures))
+
+pub returns-then-is_none-clause-long : goal.returns-then-is_none-clause-long
+returns-then-is_none-clause-long g c full = absurd (cc (full, c.refuse-then-is_none.ensures.answer, c.no_memory-then-is_none.ensures))
+
+pub returns-clause-long : goal.returns-clause-long
+returns-clause-long g c full = c.begin-begun-2.ensures.long (begun_full c.begin-begun-2.result c.or_stopped-2.result c.or_stopped-2.ensures.ok c.or_stopped-2.ensures.err full)

@@ -1,4 +1,4 @@
-use Rattle.std.proofs.Common.{◌≡◌, ◌+◌, ℕ, List, length, drop, refl, sym, ap, subst, ◌∙◌, arith}
+use Rattle.std.proofs.Common.{◌≡◌, ◌+◌, ℕ, List, length, drop, sym, ap, subst, ◌∙◌, arith}
 use Rattle.std.specs.Prelude.{reverse}
 use Rattle.std.proofs.lemmas.List.{length-append, length-drop, length-map, length-reverse, reverse-reverse}
 use Rattle.cas_acceptor.specs.Acceptor.{AcceptorView}
@@ -45,7 +45,7 @@ pub invariant_of-result-in-Ok-take_up_desks : goal.invariant_of-result-in-Ok-tak
 invariant_of-result-in-Ok-take_up_desks g c =
     subst (λ (l : List (AcceptorView _)). IsWorld (meaning g.S.Shelf.contents g.S.Shelf.tells g.S.Shelf.may_leave g.S.Shelf.fault_count g.V.Disk.tells g.V.Disk.may_leave g.V.Disk.fault_count) (view_of c.args.config.proposers c.new-in-Ok-take_up_desks.result l c.take_up_desks.new.desks.items c.in-Ok-new.lists.callers.items c.in-Ok-new.lists.flow c.in-Ok.record) c.in-Ok-new.lists.callers.items c.in-Ok.record.room) (sym c.place_shelves.ensures.acceptors)
     (is_world_on (meaning g.S.Shelf.contents g.S.Shelf.tells g.S.Shelf.may_leave g.S.Shelf.fault_count g.V.Disk.tells g.V.Disk.may_leave g.V.Disk.fault_count) g.S.Shelf.is_up g.V.Disk.fault_count c.args.members c.args.used c.args.floors.items c.args.config.proposers c.args.shelves.items c.args.vaults.items c.new-in-Ok-take_up_desks.result
-    c.take_up_desks.new.desks.items c.in-Ok-new.lists.callers.items c.in-Ok-new.lists.flow c.in-Ok.record c.majority.ensures.set (omega (arith, c.requires.some, c.requires.count)) c.requires.proposers (sym c.args.shelves.ok.0 ∙ c.requires.shelves) c.requires.floors
+    c.take_up_desks.new.desks.items c.in-Ok-new.lists.callers.items c.in-Ok-new.lists.flow c.in-Ok.record c.majority.ensures.set (omega (arith, c.requires.some, c.requires.count)) (omega (arith, c.requires.few, c.requires.count)) c.requires.proposers (sym c.args.shelves.ok.0 ∙ c.requires.shelves) c.requires.floors
     (omega (arith, c.args.floors.ok.0, c.requires.marks)) g.met.S.Shelf.up_is_kept c.requires.held (taken g (goal.at.invariant_of-result-in-Ok-take_up_desks g c).In-Ok-take_up_desks)
     (council_is _ _ _ _ _ _ c.new-in-Ok-take_up_desks.ensures c.majority.ensures.value c.union.ensures) (c.in-Ok-new.ensures {u = tt}).callers (c.in-Ok-new.ensures {u = tt}).flow (c.in-Ok.ensures {u = tt}))
 
@@ -53,7 +53,7 @@ pub returns-in-Ok-take_up_desks-clause-opening : goal.returns-in-Ok-take_up_desk
 returns-in-Ok-take_up_desks-clause-opening g c =
     subst (λ (l : List (AcceptorView _)). IsOpeningOn (meaning g.S.Shelf.contents g.S.Shelf.tells g.S.Shelf.may_leave g.S.Shelf.fault_count g.V.Disk.tells g.V.Disk.may_leave g.V.Disk.fault_count) c.args.members (union_of c.args.used c.args.members) (opening.openings_of c.args.floors.items) (view_of c.args.config.proposers c.new-in-Ok-take_up_desks.result l c.take_up_desks.new.desks.items c.in-Ok-new.lists.callers.items c.in-Ok-new.lists.flow c.in-Ok.record)) (sym c.place_shelves.ensures.acceptors)
     (is_opening_on (meaning g.S.Shelf.contents g.S.Shelf.tells g.S.Shelf.may_leave g.S.Shelf.fault_count g.V.Disk.tells g.V.Disk.may_leave g.V.Disk.fault_count) g.S.Shelf.is_up g.V.Disk.fault_count c.args.members c.args.used c.args.floors.items c.args.config.proposers c.args.shelves.items c.args.vaults.items c.new-in-Ok-take_up_desks.result
-    c.take_up_desks.new.desks.items c.in-Ok-new.lists.callers.items c.in-Ok-new.lists.flow c.in-Ok.record c.majority.ensures.set (omega (arith, c.requires.some, c.requires.count)) c.requires.proposers (sym c.args.shelves.ok.0 ∙ c.requires.shelves) c.requires.floors
+    c.take_up_desks.new.desks.items c.in-Ok-new.lists.callers.items c.in-Ok-new.lists.flow c.in-Ok.record c.majority.ensures.set (omega (arith, c.requires.some, c.requires.count)) (omega (arith, c.requires.few, c.requires.count)) c.requires.proposers (sym c.args.shelves.ok.0 ∙ c.requires.shelves) c.requires.floors
     (omega (arith, c.args.floors.ok.0, c.requires.marks)) g.met.S.Shelf.up_is_kept c.requires.held (taken g (goal.at.returns-in-Ok-take_up_desks-clause-opening g c).In-Ok-take_up_desks)
     (council_is _ _ _ _ _ _ c.new-in-Ok-take_up_desks.ensures c.majority.ensures.value c.union.ensures) (c.in-Ok-new.ensures {u = tt}).callers (c.in-Ok-new.ensures {u = tt}).flow (c.in-Ok.ensures {u = tt}))
 
@@ -61,7 +61,7 @@ pub returns-in-Ok-take_up_desks-clause-places : goal.returns-in-Ok-take_up_desks
 returns-in-Ok-take_up_desks-clause-places g c =
     subst (λ (l : List (AcceptorView _)). HasPlaces (view_of c.args.config.proposers c.new-in-Ok-take_up_desks.result l c.take_up_desks.new.desks.items c.in-Ok-new.lists.callers.items c.in-Ok-new.lists.flow c.in-Ok.record)) (sym c.place_shelves.ensures.acceptors)
     (has_places_on (meaning g.S.Shelf.contents g.S.Shelf.tells g.S.Shelf.may_leave g.S.Shelf.fault_count g.V.Disk.tells g.V.Disk.may_leave g.V.Disk.fault_count) g.S.Shelf.is_up g.V.Disk.fault_count c.args.members c.args.used c.args.floors.items c.args.config.proposers c.args.shelves.items c.args.vaults.items c.new-in-Ok-take_up_desks.result
-    c.take_up_desks.new.desks.items c.in-Ok-new.lists.callers.items c.in-Ok-new.lists.flow c.in-Ok.record c.majority.ensures.set (omega (arith, c.requires.some, c.requires.count)) c.requires.proposers (sym c.args.shelves.ok.0 ∙ c.requires.shelves) c.requires.floors
+    c.take_up_desks.new.desks.items c.in-Ok-new.lists.callers.items c.in-Ok-new.lists.flow c.in-Ok.record c.majority.ensures.set (omega (arith, c.requires.some, c.requires.count)) (omega (arith, c.requires.few, c.requires.count)) c.requires.proposers (sym c.args.shelves.ok.0 ∙ c.requires.shelves) c.requires.floors
     (omega (arith, c.args.floors.ok.0, c.requires.marks)) g.met.S.Shelf.up_is_kept c.requires.held (taken g (goal.at.returns-in-Ok-take_up_desks-clause-places g c).In-Ok-take_up_desks)
     (council_is _ _ _ _ _ _ c.new-in-Ok-take_up_desks.ensures c.majority.ensures.value c.union.ensures) (c.in-Ok-new.ensures {u = tt}).callers (c.in-Ok-new.ensures {u = tt}).flow (c.in-Ok.ensures {u = tt}))
 

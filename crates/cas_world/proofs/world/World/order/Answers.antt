@@ -1,10 +1,12 @@
-use Rattle.std.proofs.Common.{◌≡◌, ◌+◌, List, Some, None, refl, ap, ◌∙◌, arith, length}
+use Rattle.std.proofs.Common.{◌≡◌, ◌+◌, List, Some, None, refl, ap, subst, ◌∙◌, arith, length}
 use Rattle.std.specs.Prelude.{sum_by, option_map}
 use Rattle.cas_record.specs.declared.mark.Mark.{Mark}
 use Rattle.cas_cluster.specs.Council.{reserved_for_order}
 use Rattle.cas_cluster.specs.Step as step
 use Rattle.cas_cluster.specs.StepCouncil.{StepOrder}
 use Rattle.cas_cluster.specs.View.{View, meaning, reserved_in_all}
+use Rattle.cas_cluster.specs.Safe.{IsSafe}
+use Rattle.cas_cluster.proofs.SafeMarks.{little_is_reserved}
 use Rattle.cas_cluster.proofs.SafeSteps.{steps_are_safe}
 use Rattle.cas_calls.specs.Call.{reserved_of}
 use Rattle.cas_calls.specs.Council.{order_view}
@@ -60,3 +62,13 @@ returns-in-Err-clause-full g c = (
   λ e. absurd (cc e),
   λ full. absurd (omega (arith, full, c.if-marks-reserved-ge-MOST_MARKS.false, ap (λ (v : View g.row.S.Denot g.row.V.Denot). length v.marks + reserved_in_all v) c.self.view_is, reserved_fits c.self.inside.config.proposers c.self.inside.council c.self.inside.acceptors.items c.self.inside.desks.items c.self.inside.callers.items c.self.inside.flow c.self.inside.record c.self.invariant.safe, c.reserved_in_all-reserved.ensures, ap (λ (l : List Mark). length l) c.marks.ensures, ap (sum_by reserved_of) c.deref.ensures.value, sum_seen c.self.inside.callers.items)),
 )
+
+-- ---- a full record is long
+pub returns-then-marks-reserved-ge-MOST_MARKS-clause-long : goal.returns-then-marks-reserved-ge-MOST_MARKS-clause-long
+returns-then-marks-reserved-ge-MOST_MARKS-clause-long g c full = omega (arith, (returns-then-marks-reserved-ge-MOST_MARKS-clause-full g c).0 full, little_is_reserved c.args.self.now (subst (λ (v : View g.row.S.Denot g.row.V.Denot). IsSafe v) c.self.view_is c.self.invariant.safe))
+
+pub returns-in-Ok-clause-long : goal.returns-in-Ok-clause-long
+returns-in-Ok-clause-long g c full = absurd (cc full)
+
+pub returns-in-Err-clause-long : goal.returns-in-Err-clause-long
+returns-in-Err-clause-long g c full = absurd (cc full)

@@ -19,7 +19,7 @@ use Rattle.cas_cluster.proofs.SafeStops.{call_reserves_at}
 use Rattle.cas_calls.specs.Answers.{aged_answer}
 use Rattle.cas_calls.specs.Proposing.{disks}
 use Rattle.cas_calls.specs.declared.call.OpenCall.{OpenCall}
-use Rattle.cas_world.specs.Collect.{GoesOnCollecting, IsDueStep}
+use Rattle.cas_world.specs.Collect.{GoesOnCollecting, IsDueStep, IsNextAge}
 use Rattle.cas_world.specs.Exchange.{WasToldOrder}
 use Rattle.cas_world.specs.Moving.{Leaves, closed_with}
 use Rattle.cas_world.specs.World.{IsWorld, view_of, call_view, caller_view}
@@ -27,7 +27,7 @@ use Rattle.cas_world.proofs.Callers.{at_map}
 use Rattle.cas_world.proofs.Gathers.{collecting_at}
 use Rattle.cas_world.proofs.Parts.{at_place, seen_from, remembered_then}
 use Rattle.cas_world.proofs.Planning.{open_call, told_last}
-use Rattle.cas_world.proofs.Renewing.{IsRenewal, renewed_so, renews_next}
+use Rattle.cas_world.proofs.Renewing.{IsRenewal, next_ages, renewed_so, renews_next}
 use Rattle.cas_world.proofs.world.World.renew.Given.{Over}
 use Rattle.cas_world.proofs.world.World.renew.Goals as goal
 use Rattle.cas_world.proofs.world.World.renew.Goals.{After-mark_renewal}
@@ -118,3 +118,6 @@ returns-clause-ok g c = subst (λ (i : ℕ). OnOk c.mark_renewal.result (GoesOnC
 
 pub returns-clause-err : goal.returns-clause-err
 returns-clause-err g c = subst (λ (i : ℕ). IfErr c.mark_renewal.result (WasToldOrder (view_of c.self.inside.config.proposers c.mark_renewal.new.council c.self.inside.acceptors.items (slice_set c.self.inside.desks.items i c.grow_older-renewed.new.desk) (slice_set c.self.inside.callers.items i c.grow_older-renewed.new.caller) c.mark_renewal.new.flow c.self.inside.record))) (sym c.from-place.ensures) (did g c).err
+
+pub returns-clause-age : goal.returns-clause-age
+returns-clause-age g c = subst (λ (v : (View g.row.S.Denot g.row.V.Denot)). IfOk c.mark_renewal.result (λ age. IsNextAge v c.args.proposer age)) c.self.view_is (next_ages c.self.inside.desks.items c.args.proposer c.index_mut-desk.result.now c.mark_renewal.result (at_desk g c) (did g c).older)

@@ -42,4 +42,4 @@ returns-clause-tells g c was now at_was at_now =
     acceptor_tells (shelves g.S.Shelf.contents g.S.Shelf.tells g.S.Shelf.may_leave g.S.Shelf.fault_count) c.self.inside.acceptors.items c.from.result c.args.id c.index_mut.result.now c.restart.new.self was now c.restart.result same
     (at_place c.self.inside.acceptors.items c.from.result c.args.id c.index_mut.result.now same (omega (arith, c.self.invariant.safe.sound.acceptors, c.number.ensures.value, c.number.ensures.within)) c.index_mut.ensures.value)
     (subst (λ (v : View _ _). IsAt v.acceptors c.args.id was) (sym c.self.view_is) at_was) at_now
-    (record { up = by.up; down = by.still_down; cause = by.cause; foreign = by.foreign; not_full = by.not_full })
+    (record { up = by.up; down = by.still_down; cause = by.cause; foreign = by.foreign; start_not_foreign = by.start_not_foreign; not_full = by.not_full })

@@ -1,8 +1,10 @@
 use Rattle.cas_record.specs.declared.operator.OpAnswer.{OpAnswer}
 use Rattle.cas_cluster.proofs.CollectLaws.{collected_floors}
+use Rattle.cas_cluster.proofs.Finishing.{finished_have_entered}
+use Rattle.cas_cluster.specs.SafeLaws.{HaveEnteredIts}
 use Rattle.cas_cluster.specs.CollectLaws.{HasItsFloor}
 use Rattle.cas_cluster.specs.Council.{Council}
-use Rattle.cas_cluster.specs.StepCouncil.{IsCollectedBy, told_marks}
+use Rattle.cas_cluster.specs.StepCouncil.{IsCollectedBy, IsFinishedBy, told_marks}
 use Rattle.std.proofs.Common.{◌++◌, Option, refl, sym, ap, subst, reverse, ◌∙◌, arith}
 use Rattle.std.specs.Prelude.{option_map}
 use Rattle.cas_cluster.specs.Council.{reserved_by, reserved_for_order}
@@ -60,3 +62,9 @@ returns-clause-floor g c shelves disks all =
     subst (λ (v : (View g.row.S.Denot g.row.V.Denot)). HasItsFloor c.args.answer (reverse v.marks)) c.self.view_is
     (collected_floors (meaning g.S.Shelf.contents g.S.Shelf.tells g.S.Shelf.may_leave g.S.Shelf.fault_count g.V.Disk.tells g.V.Disk.may_leave g.V.Disk.fault_count) (view_of c.self.inside.config.proposers c.self.inside.council c.self.inside.acceptors.items c.self.inside.desks.items c.self.inside.callers.items c.self.inside.flow c.self.inside.record) all.order c.args.answer (c.self.invariant.remembered shelves disks)
     (subst (λ (k : Council). IsCollectedBy k all.order c.args.answer) (sym (ap (λ (v : View g.row.S.Denot g.row.V.Denot). v.council) c.self.view_is)) all.collected))
+
+pub returns-clause-entered : goal.returns-clause-entered
+returns-clause-entered g c all =
+    subst (λ (v : (View g.row.S.Denot g.row.V.Denot)). HaveEnteredIts v.greatest c.args.answer (reverse v.marks)) c.self.view_is
+    (finished_have_entered (view_of c.self.inside.config.proposers c.self.inside.council c.self.inside.acceptors.items c.self.inside.desks.items c.self.inside.callers.items c.self.inside.flow c.self.inside.record) all.order c.args.answer c.self.invariant.safe
+    (subst (λ (k : Council). IsFinishedBy k all.order c.args.answer) (sym (ap (λ (v : View g.row.S.Denot g.row.V.Denot). v.council) c.self.view_is)) all.finished))

@@ -4,9 +4,8 @@ use Rattle.cas_world.specs.Serve.{shelves, was_kept}
 use Rattle.cas_world.proofs.Parts.{at_place}
 use Rattle.cas_base.proofs.Bools.{false_of_not}
 use Rattle.cas_world.proofs.Serving.{no_failure, not_down, replies_by, finds_down, finds_no_memory}
-use Rattle.cas_world.proofs.serve.serve.Goals as goal
+use Rattle.cas_world.proofs.serve.serve_by.Goals as goal
 
--- src/serve.rt:34:1
 pub returns-in-Ok-clause-ok : goal.returns-in-Ok-clause-ok
 returns-in-Ok-clause-ok g c =
     let same : c.from.result ≡ c.args.request.now.to = c.from.ensures ∙ c.number.ensures.value in
@@ -18,7 +17,6 @@ returns-in-Ok-clause-ok g c =
     c.index_mut.result.now c.handle.new.self c.in-Ok.reply c.in_ok-key.key stands (c.requires.numbered.each _ _ stands) up still c.in-Ok.ensures.same.0 c.in-Ok.ensures.same.1
     c.in-Ok.ensures.table c.in-Ok.ensures.kept c.in-Ok.ensures.never_falls c.fill.ensures c.in_ok-key.ensures c.vote_of-vote.ensures changed
 
--- src/serve.rt:34:1
 pub returns-in-Err-Down-clause-ok : goal.returns-in-Err-Down-clause-ok
 returns-in-Err-Down-clause-ok g c =
     let same : c.from.result ≡ c.args.request.now.to = c.from.ensures ∙ c.number.ensures.value in
@@ -28,7 +26,6 @@ returns-in-Err-Down-clause-ok g c =
     c.index_mut.result.now c.handle.new.self stands (c.in-Err-Down.ensures.down.0 (ap (λ (f : HandleFault). Err f) c.in-Err-Down.field-0-is)) c.in-Err-Down.ensures.same.0 c.in-Err-Down.ensures.same.1
     (λ was. (c.in-Err-Down.ensures.was_down was).1) c.in-Err-Down.ensures.any_moment (λ left tells later may. g.met.S.Shelf.counts_now _ _ left tells later may) (c.in-Err-Down.ensures.cause (ap (λ (f : HandleFault). Err f) c.in-Err-Down.field-0-is)) changed
 
--- src/serve.rt:25:1
 pub returns-clause-err : goal.returns-clause-err
 returns-clause-err g c =
     let same : c.from.result ≡ c.args.request.now.to = c.from.ensures ∙ c.number.ensures.value in
