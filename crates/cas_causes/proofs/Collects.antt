@@ -1,7 +1,6 @@
 -- The round of a collection is that of a call of proposer 0, and the council alone tells the two apart.
-use Rattle.std.proofs.Common.{◌≡◌, ℕ, true, false, List, [], Option, None, Some, refl, sym, ap, subst, ◌∙◌}
+use Rattle.std.proofs.Common.{◌≡◌, ℕ, false, List, Option, None, Some, refl, sym, ap, subst, ◌∙◌}
 use Rattle.std.specs.Prelude.{option_map}
-use Rattle.cas_change.specs.declared.outcome.Outcome.{Outcome}
 use Rattle.cas_proposer.specs.Desk.{DeskView}
 use Rattle.cas_record.specs.declared.answer.Answer.{Answer}
 use Rattle.cas_record.specs.declared.answer.Answer.TheVariants as answer
@@ -9,20 +8,19 @@ use Rattle.cas_record.specs.declared.operator.OpAnswer.{OpAnswer}
 use Rattle.cas_record.specs.declared.operator.OpAnswer.TheVariants as op
 use Rattle.cas_round.specs.declared.verdict.RoundVerdict.TheVariants as verdict
 use Rattle.cas_cluster.specs.Council.{Council, OrderView, told_so}
-use Rattle.cas_cluster.specs.Safe.{IsSafe}
 use Rattle.cas_cluster.specs.Step as step
 use Rattle.cas_cluster.specs.Step.{Step, BeginCollect, ReadHeld, CountCollect}
 use Rattle.cas_cluster.specs.Collection.{CollectionView}
 use Rattle.cas_cluster.specs.StepCalls as calls
 use Rattle.cas_cluster.specs.StepCollect as collect
 use Rattle.cas_cluster.specs.StepCouncil.{told_view}
-use Rattle.cas_cluster.specs.View.{Meaning, View, CallView, CallerView, IsAt, era_at}
+use Rattle.cas_cluster.specs.View.{Meaning, View, CallerView, IsAt, era_at}
 use Rattle.cas_cluster.proofs.Places.{at_one, some_is}
 use Rattle.cas_cluster.proofs.SafeSteps.{steps_are_safe}
 use Rattle.cas_causes.specs.Causes.{IsTold}
 use Rattle.cas_causes.specs.Collects.{RefusesBy, IsStoppedBy, CollectionsHaveCauses, CollectionsBeginToAsk, UndisturbedCollectionsAreDone}
 use Rattle.cas_causes.specs.Told.{HasVerdict, BeginsBy, AcceptsBy}
-use Rattle.cas_causes.specs.Undisturbed.{HasProposed, BeginsToAsk}
+use Rattle.cas_causes.specs.Undisturbed.{BeginsToAsk}
 use Rattle.cas_causes.proofs.Told.{begins_by, accepts_by, has_quorum_verdict}
 use Rattle.cas_causes.proofs.Undisturbed.{begin_to_ask, done_after}
 

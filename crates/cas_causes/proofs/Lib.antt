@@ -1,7 +1,14 @@
+pub mod Answering
+pub mod Asking
 pub mod Collects
 pub mod Coming
+pub mod Confirmed
 pub mod Ends
 pub mod Hearing
+pub mod Marks
+pub mod Probed
 pub mod Queues
+pub mod Tellers
+pub mod Tellings
 pub mod Told
 pub mod Undisturbed

@@ -94,7 +94,7 @@ abandoned_other : (flow : FlowView) (place id : ℕ) → id ≢ place → queue_
 abandoned_other flow place id other = queue_other flow.own place id (emptied (queue_at flow place)) other
 
 -- ---- calls of others
-begin_stays : {S V : Type 0} (m : Meaning S V) (old new : View S V) (id caller : ℕ) (key : List ℕ) (program : List Clause) → id ≢ caller → StepBegin m old caller key program new → Stays old new id
+pub begin_stays : {S V : Type 0} (m : Meaning S V) (old new : View S V) (id caller : ℕ) (key : List ℕ) (program : List Clause) → id ≢ caller → StepBegin m old caller key program new → Stays old new id
 begin_stays {S} {V} m old new id caller key program other by = stays_both old by.middle new id (opens by.opens) (in_round by.begins)
   where
     opens : calls.Opens old caller key program by.middle → Stays old by.middle id
@@ -119,11 +119,11 @@ begin_stays {S} {V} m old new id caller key program other by = stays_both old by
     in_round (calls.fails desk now at none_open up fails is) = told _ (ap (λ (w : View S V). w.flow) is) (ap (λ (w : View S V). w.callers) is)
     in_round (calls.loses desk now ballot at none_open up loses is) = told _ (ap (λ (w : View S V). w.flow) is) (ap (λ (w : View S V). w.callers) is)
 
-no_begin_stays : {S V : Type 0} (m : Meaning S V) (old new : View S V) (id caller : ℕ) (key : List ℕ) → calls.RefusesCall m old caller key new → Stays old new id
+pub no_begin_stays : {S V : Type 0} (m : Meaning S V) (old new : View S V) (id caller : ℕ) (key : List ℕ) → calls.RefusesCall m old caller key new → Stays old new id
 no_begin_stays {S} {V} m old new id caller key (calls.stays told council why rescan is) = stays_same old new id (ap (λ (w : View S V). w.flow) is) (ap (λ (w : View S V). w.callers) is)
 no_begin_stays {S} {V} m old new id caller key (calls.loses at_caller desk now ballot council at_it at_desk none_open up loses rescan is) = stays_same old new id (ap (λ (w : View S V). w.flow) is) (ap (λ (w : View S V). w.callers) is)
 
-propose_stays : {S V : Type 0} (m : Meaning S V) (old new : View S V) (id proposer : ℕ) → id ≢ proposer → StepPropose m old proposer new → Stays old new id
+pub propose_stays : {S V : Type 0} (m : Meaning S V) (old new : View S V) (id proposer : ℕ) → id ≢ proposer → StepPropose m old proposer new → Stays old new id
 propose_stays {S} {V} m old new id proposer other by = in_phase by.at_round.of_call by.at_round.desk by.at_round.round by.proposes
   where
     told : (next : CallerView) → new.flow ≡ old.flow → new.callers ≡ slice_set old.callers proposer next → Stays old new id
@@ -136,7 +136,7 @@ propose_stays {S} {V} m old new id proposer other by = in_phase by.at_round.of_c
     in_phase at desk round (calls.fails now fails is) = told _ (ap (λ (w : View S V). w.flow) is) (ap (λ (w : View S V). w.callers) is)
     in_phase at desk round (calls.loses now ballot loses is) = told _ (ap (λ (w : View S V). w.flow) is) (ap (λ (w : View S V). w.callers) is)
 
-count_stays : {S V : Type 0} (m : Meaning S V) (old new : View S V) (id proposer : ℕ) → id ≢ proposer → StepCount m old proposer new → Stays old new id
+pub count_stays : {S V : Type 0} (m : Meaning S V) (old new : View S V) (id proposer : ℕ) → id ≢ proposer → StepCount m old proposer new → Stays old new id
 count_stays {S} {V} m old new id proposer other by = in_phase by.at_round.of_call by.at_round.desk by.at_round.round by.counts
   where
     told : (next : CallerView) → new.flow ≡ old.flow → new.callers ≡ slice_set old.callers proposer next → Stays old new id
@@ -146,11 +146,11 @@ count_stays {S} {V} m old new id proposer other by = in_phase by.at_round.of_cal
     in_phase at desk round (calls.counts now by outcome quorum confirmers proposed ends is) = told _ (ap (λ (w : View S V). w.flow) is) (ap (λ (w : View S V). w.callers) is)
     in_phase at desk round (calls.ends now verdict why verdict_is cause ends is) = told _ (ap (λ (w : View S V). w.flow) is) (ap (λ (w : View S V). w.callers) is)
 
-end_stays : {S V : Type 0} (m : Meaning S V) (old new : View S V) (id caller : ℕ) (told : Answer) → id ≢ caller → StepEnd m old caller told new → Stays old new id
+pub end_stays : {S V : Type 0} (m : Meaning S V) (old new : View S V) (id caller : ℕ) (told : Answer) → id ≢ caller → StepEnd m old caller told new → Stays old new id
 end_stays {S} {V} m old new id caller told other by =
     stays_by old new id (ap (λ (w : View S V). queue_at w.flow id) by.ends.view ∙ abandoned_other old.flow caller id other) (keeps_other old.callers new.callers id caller _ other (ap (λ (w : View S V). w.callers) by.ends.view))
 
-left_stays : {S V : Type 0} (DeskTurns : DeskView V → DeskView V → Type 0) (closed : CallView → CallView) (old new : View S V) (id proposer : ℕ) → id ≢ proposer → LeavesRound DeskTurns closed old proposer new → Stays old new id
+pub left_stays : {S V : Type 0} (DeskTurns : DeskView V → DeskView V → Type 0) (closed : CallView → CallView) (old new : View S V) (id proposer : ℕ) → id ≢ proposer → LeavesRound DeskTurns closed old proposer new → Stays old new id
 left_stays {S} {V} DeskTurns closed old new id proposer other (stops.idle desk now at none_open turns is) =
     stays_by old new id (ap (λ (w : View S V). queue_at w.flow id) is ∙ abandoned_other old.flow proposer id other) (keeps_same old.callers new.callers id (ap (λ (w : View S V). w.callers) is))
 left_stays {S} {V} DeskTurns closed old new id proposer other (stops.closes desk now round at there is_round turns is) =
@@ -164,7 +164,7 @@ down_stays {S} {V} DeskTurns old new id proposer apart other (stops.of_operator 
 
 -- ---- turns
 -- the frames of others stay as one has its turn
-turn_waits : {S V : Type 0} (m : Meaning S V) (old new : View S V) (id proposer : ℕ) (v : Verdict) → id ≢ proposer → StepTurn m old proposer v new → queue_at new.flow id ≡ queue_at old.flow id
+pub turn_waits : {S V : Type 0} (m : Meaning S V) (old new : View S V) (id proposer : ℕ) (v : Verdict) → id ≢ proposer → StepTurn m old proposer v new → queue_at new.flow id ≡ queue_at old.flow id
 turn_waits {S} {V} m old new id proposer v other by = in_turn by.of_call by.front by.turn
   where
     in_turn : (of_call : OpenCallAt old proposer) (front : Message) → frames.TakesTurn m old proposer v front of_call.caller of_call.call new → queue_at new.flow id ≡ queue_at old.flow id
@@ -199,7 +199,7 @@ turn_proposed m old new id proposer v by = elim (turn_callers m old new proposer
 ]
 
 -- ---- no memory
-no_room_stays : {S V : Type 0} (m : Meaning S V) (old new : View S V) (id : ℕ) → frames.FindsNoRoom m old new → Stays old new id
+pub no_room_stays : {S V : Type 0} (m : Meaning S V) (old new : View S V) (id : ℕ) → frames.FindsNoRoom m old new → Stays old new id
 no_room_stays {S} {V} m old new id (frames.stays is) = stays_same old new id (ap (λ (w : View S V). w.flow) is) (ap (λ (w : View S V). w.callers) is)
 no_room_stays {S} {V} m old new id (frames.kept at acceptor now there finds is) = stays_same old new id (ap (λ (w : View S V). w.flow) is) (ap (λ (w : View S V). w.callers) is)
 
@@ -208,7 +208,7 @@ room_callers {S} {V} m old new (frames.stays is) = ap (λ (w : View S V). w.call
 room_callers {S} {V} m old new (frames.kept at acceptor now there finds is) = ap (λ (w : View S V). w.callers) is
 
 -- a turn that finds none tells its caller so
-no_turn_stays : {S V : Type 0} (m : Meaning S V) (old new : View S V) (id proposer : ℕ) → StepRefuseTurn m old proposer new → Stays old new id
+pub no_turn_stays : {S V : Type 0} (m : Meaning S V) (old new : View S V) (id proposer : ℕ) → StepRefuseTurn m old proposer new → Stays old new id
 no_turn_stays {S} {V} m old new id proposer by =
     stays_both old by.middle new id (no_room_stays m old by.middle id by.refuses) (stays_by by.middle new id (ap (λ (w : View S V). queue_at w.flow id) by.view) (kept (same_or_not id proposer)))
   where
@@ -223,7 +223,7 @@ no_turn_stays {S} {V} m old new id proposer by =
     kept (inr other) = keeps_other by.middle.callers new.callers id proposer _ other (ap (λ (w : View S V). w.callers) by.view)
 
 -- ---- strays and stops
-stray_stays : {S V : Type 0} (m : Meaning S V) (old new : View S V) (id index : ℕ) → StepStray m old index new → Stays old new id
+pub stray_stays : {S V : Type 0} (m : Meaning S V) (old new : View S V) (id index : ℕ) → StepStray m old index new → Stays old new id
 stray_stays {S} {V} m old new id index by = in_stray by.late by.strays
   where
     in_stray : (late : Message) → frames.Strays m old index late new → Stays old new id
@@ -236,12 +236,12 @@ stray_stays {S} {V} m old new id index by = in_stray by.late by.strays
     in_stray late (frames.drops ignored is) =
         stays_by old new id (ap (λ (w : View S V). queue_at w.flow id) is) (keeps_same old.callers new.callers id (ap (λ (w : View S V). w.callers) is))
 
-restart_stays : {S V : Type 0} (m : Meaning S V) (old new : View S V) (id acceptor : ℕ) → StepRestartAcceptor m old acceptor new → Stays old new id
+pub restart_stays : {S V : Type 0} (m : Meaning S V) (old new : View S V) (id acceptor : ℕ) → StepRestartAcceptor m old acceptor new → Stays old new id
 restart_stays {S} {V} m old new id acceptor (step.was_up it at up is) = stays_same old new id (ap (λ (w : View S V). w.flow) is) (ap (λ (w : View S V). w.callers) is)
 restart_stays {S} {V} m old new id acceptor (step.starts it now at starts is) = stays_same old new id (ap (λ (w : View S V). w.flow) is) (ap (λ (w : View S V). w.callers) is)
 restart_stays {S} {V} m old new id acceptor (step.fails it now at fails is) = stays_same old new id (ap (λ (w : View S V). w.flow) is) (ap (λ (w : View S V). w.callers) is)
 
-desk_stays : {S V : Type 0} (m : Meaning S V) (old new : View S V) (id proposer : ℕ) → StepRestartProposer m old proposer new → Stays old new id
+pub desk_stays : {S V : Type 0} (m : Meaning S V) (old new : View S V) (id proposer : ℕ) → StepRestartProposer m old proposer new → Stays old new id
 desk_stays {S} {V} m old new id proposer (step.was_up_already desk at up is) = stays_same old new id (ap (λ (w : View S V). w.flow) is) (ap (λ (w : View S V). w.callers) is)
 desk_stays {S} {V} m old new id proposer (step.restarts desk now caller at at_caller down restarts is) = stays_same old new id (ap (λ (w : View S V). w.flow) is) (ap (λ (w : View S V). w.callers) is)
 
@@ -294,13 +294,13 @@ tell_stays {S} {V} old new id answer apart (council.collects order is_open by is
     stays_by old new id (ap (λ (w : View S V). queue_at w.flow id) is ∙ abandoned_other old.flow exchange_place id apart) (keeps_same old.callers new.callers id (ap (λ (w : View S V). w.callers) is))
 
 -- ---- changes of membership
-welcome_stays : {S V : Type 0} (m : Meaning S V) (old new : View S V) (id : ℕ) (asked : Asked) → Welcomes m old asked new → Stays old new id
+pub welcome_stays : {S V : Type 0} (m : Meaning S V) (old new : View S V) (id : ℕ) (asked : Asked) → Welcomes m old asked new → Stays old new id
 welcome_stays {S} {V} m old new id asked (plans.starts acceptor was now joins at starts is) = stays_same old new id (ap (λ (w : View S V). w.flow) is) (ap (λ (w : View S V). w.callers) is)
 welcome_stays {S} {V} m old new id asked (plans.fails acceptor was now joins at fails is) = stays_same old new id (ap (λ (w : View S V). w.flow) is) (ap (λ (w : View S V). w.callers) is)
 welcome_stays {S} {V} m old new id asked (plans.is_up acceptor was joins at up is) = stays_same old new id (ap (λ (w : View S V). w.flow) is) (ap (λ (w : View S V). w.callers) is)
 welcome_stays {S} {V} m old new id asked (plans.stays acceptor leaves is) = stays_same old new id (ap (λ (w : View S V). w.flow) is) (ap (λ (w : View S V). w.callers) is)
 
-plan_stays : {S V : Type 0} (m : Meaning S V) (old new : View S V) (id : ℕ) → StepOpenPlan m old new → Stays old new id
+pub plan_stays : {S V : Type 0} (m : Meaning S V) (old new : View S V) (id : ℕ) → StepOpenPlan m old new → Stays old new id
 plan_stays {S} {V} m old new id by = in_case by.opens
   where
     told : (mid : View S V) → Stays old mid id → new.flow ≡ mid.flow → new.callers ≡ mid.callers → Stays old new id
@@ -331,7 +331,7 @@ enter_stays {S} {V} m old new id proposer apart other_one by = in_case by.enters
     in_case (plans.no_memory now room up kept_it now_is is) = stays_same old new id (ap (λ (w : View S V). w.flow) is) (ap (λ (w : View S V). w.callers) is)
 
 -- ---- collections
-begin_collect_stays : {S V : Type 0} (m : Meaning S V) (old new : View S V) (id : ℕ) (key : List ℕ) → id ≢ 0 → StepBeginCollect m (λ before after. StepBegin m before 0 key keep_always after) old key new → Stays old new id
+pub begin_collect_stays : {S V : Type 0} (m : Meaning S V) (old new : View S V) (id : ℕ) (key : List ℕ) → id ≢ 0 → StepBeginCollect m (λ before after. StepBegin m before 0 key keep_always after) old key new → Stays old new id
 begin_collect_stays {S} {V} m old new id key other by = in_case by.begins
   where
     in_case : collect.BeginsCollection m (λ before after. StepBegin m before 0 key keep_always after) old key by.may.order by.desk by.caller new → Stays old new id
@@ -342,7 +342,7 @@ begin_collect_stays {S} {V} m old new id key other by = in_case by.begins
     in_case (collect.begins middle none unplanned begins is) = stays_both old middle new id (begin_stays m old middle id 0 key keep_always other begins) (stays_same middle new id (ap (λ (w : View S V). w.flow) is) (ap (λ (w : View S V). w.callers) is))
     in_case (collect.goes_on middle call of open_ begins is) = stays_both old middle new id (begin_stays m old middle id 0 key keep_always other begins) (stays_same middle new id (ap (λ (w : View S V). w.flow) is) (ap (λ (w : View S V). w.callers) is))
 
-gather_round_stays : {S V : Type 0} (old new : View S V) (id : ℕ) → StepGatherRound old new → Stays old new id
+pub gather_round_stays : {S V : Type 0} (old new : View S V) (id : ℕ) → StepGatherRound old new → Stays old new id
 gather_round_stays {S} {V} old new id by = in_case by.gathers
   where
     in_case : collect.GathersRound old by.at new → Stays old new id

@@ -1,5 +1,9 @@
+pub mod Answering
 pub mod Causes
 pub mod Collects
+pub mod Confirmed
+pub mod Probed
 pub mod Rounds
+pub mod Tellings
 pub mod Told
 pub mod Undisturbed

@@ -4,8 +4,12 @@
 #![tactic(auto)]
 
 ghost use Rattle.cas_cluster.specs.View.{meaning};
+ghost use Rattle.cas_causes.specs.Answering.{ClustersAnswer, SilentAreHarmed};
 ghost use Rattle.cas_causes.specs.Causes.{StepsPassOrBring, RoundsBeginAfresh, PreparesEndByReplies, AcceptsEndByReplies};
 ghost use Rattle.cas_causes.specs.Collects.{CollectionsHaveCauses, CollectionsBeginToAsk, UndisturbedCollectionsAreDone};
+ghost use Rattle.cas_causes.specs.Confirmed.{ErasAreMarked, ConfirmersAreAsked, ProbesAskAll, ConfirmersAreProbed};
+ghost use Rattle.cas_causes.specs.Probed.{ProbesTellSo};
+ghost use Rattle.cas_causes.specs.Tellings.{StepsTellTruly};
 ghost use Rattle.cas_causes.specs.Told.{AnswersHaveCauses, WhatIsMetIsAbove};
 ghost use Rattle.cas_causes.specs.Undisturbed.{RoundsBeginToAsk, UndisturbedPreparesPropose, UndisturbedAcceptsAreDone, UndisturbedRoundsAreDone};
 
@@ -87,4 +91,53 @@ pub fn collections_begin_to_ask<S: Shelf, V: Disk>()
 /// what it proposed: its count tells nothing else. One that reads a held state proposes nothing.
 pub fn undisturbed_collections_are_done<S: Shelf, V: Disk>()
     ensures { UndisturbedCollectionsAreDone (meaning S.contents S.tells S.may_leave S.fault_count V.tells V.may_leave V.fault_count) }
+{}
+
+/// What the operator is told of a change of membership and of a collection is so in the record, and each step leaves it so: each caller who
+/// had begun a call by then, and the operator, entered the era that is told of a join or a leave; and a key that is told to be collected has
+/// its tombstone as a floor, with the empty state.
+pub fn steps_tell_truly<S: Shelf, V: Disk>()
+    ensures { StepsTellTruly (meaning S.contents S.tells S.may_leave S.fault_count V.tells V.may_leave V.fault_count) }
+{}
+
+/// Of each that an exchange asks, and that told nothing yet, a frame waits or was harmed, until proposer 0 crashes within the exchange:
+/// so it is of a cluster that has just opened, and whatever is called on it.
+pub fn clusters_answer<S: Shelf, V: Disk>()
+    ensures { ClustersAnswer (meaning S.contents S.tells S.may_leave S.fault_count V.tells V.may_leave V.fault_count) }
+{}
+
+/// Once no frame of an exchange waits any more, those that told nothing are no more than those of which a frame was harmed: everyone was
+/// asked.
+pub fn silent_are_harmed<S: Shelf, V: Disk>()
+    ensures { SilentAreHarmed S V }
+{}
+
+/// Where shelves and disks tell what they keep, each that tells what it keeps of a key that is probed tells a state that was proposed, or
+/// the floor with which the key's history opened; or that the request is too old.
+pub fn probes_tell_so<S: Shelf, V: Disk>()
+    ensures { ProbesTellSo (meaning S.contents S.tells S.may_leave S.fault_count V.tells V.may_leave V.fault_count) }
+{}
+
+/// Where shelves and disks tell what they keep, proposer 0 works in the era that it was marked last as having entered. Or a change of
+/// membership is under way, whose next era its disk kept before it stopped, and it works in that one and is not marked so yet.
+pub fn eras_are_marked<S: Shelf, V: Disk>()
+    ensures { ErasAreMarked (meaning S.contents S.tells S.may_leave S.fault_count V.tells V.may_leave V.fault_count) }
+{}
+
+/// Where shelves and disks tell what they keep, all who confirmed what was acknowledged in the era in which proposer 0 works are among those
+/// that an exchange of it asks.
+pub fn confirmers_are_asked<S: Shelf, V: Disk>()
+    ensures { ConfirmersAreAsked (meaning S.contents S.tells S.may_leave S.fault_count V.tells V.may_leave V.fault_count) }
+{}
+
+/// A probe asks everyone, and until a change of membership has marked proposer 0 in its next era, proposer 0 works in the one that all entered
+/// last: so it is of a cluster that has just opened, and whatever is called on it, but that a proposer that stopped is started again.
+pub fn probes_ask_all<S: Shelf, V: Disk>()
+    ensures { ProbesAskAll (meaning S.contents S.tells S.may_leave S.fault_count V.tells V.may_leave V.fault_count) }
+{}
+
+/// Where shelves and disks tell what they keep, and no proposer was started again, a probe asks each who confirmed what was acknowledged in
+/// the era that proposer 0 was marked last as having entered.
+pub fn confirmers_are_probed<S: Shelf, V: Disk>()
+    ensures { ConfirmersAreProbed (meaning S.contents S.tells S.may_leave S.fault_count V.tells V.may_leave V.fault_count) }
 {}
