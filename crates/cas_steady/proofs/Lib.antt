@@ -1,0 +1,10 @@
+pub mod Callers
+pub mod Collections
+pub mod Councils
+pub mod Forwards
+pub mod Frames
+pub mod Openings
+pub mod Parts
+pub mod Plans
+pub mod Steps
+pub mod Stops
