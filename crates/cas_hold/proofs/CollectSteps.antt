@@ -22,7 +22,7 @@ use Rattle.cas_record.specs.declared.operator.OpAnswer.TheVariants as op
 use Rattle.cas_calls.specs.declared.council.Gathered.{Gathered}
 use Rattle.cas_calls.specs.Collecting.{is_sought}
 use Rattle.cas_cluster.specs.Collection.{CollectionView, confirmed_step, tomb_of}
-use Rattle.cas_cluster.specs.Council.{Council, Question, ExchangeView, OrderView, exchange_place, told_so, silent_order}
+use Rattle.cas_cluster.specs.Council.{Council, Question, Probe, NextKeys, NewAges, Removal, ExchangeView, OrderView, exchange_place, told_so, silent_order}
 use Rattle.cas_cluster.specs.Safe.{is_of_collection}
 use Rattle.cas_cluster.specs.Step as steps
 use Rattle.cas_cluster.specs.Step.{Step}
@@ -42,7 +42,7 @@ use Rattle.cas_hold.specs.Deeds.{harm_by}
 use Rattle.cas_hold.specs.Kept.{IsKept, Makes}
 use Rattle.cas_hold.specs.Mine.{mine}
 use Rattle.cas_hold.specs.Orders.{new_order, OperatesIn, IsToldIn, IsAskingHarm}
-use Rattle.cas_hold.specs.OwnParts.{round_part, own_part}
+use Rattle.cas_hold.specs.OwnParts.{harms_part, round_part, own_part}
 use Rattle.cas_hold.specs.Stages.{front_of}
 use Rattle.cas_hold.proofs.Collecting.{IsStep, has_step, is_step, IsAsked, has_question, is_asked}
 use Rattle.cas_hold.proofs.Events.{only_one}
@@ -276,6 +276,13 @@ turn_is view key due v has = let is = is_asked view key due has in ap (λ (o : O
 refusal_is : {S V : Type 0} (view : View S V) (key : List ℕ) (due : CollectStep) → HasQuestion key due (own_part view 0) → refusal_of view 0 ≡ steps.RefuseTurnExchange
 refusal_is view key due has = let is = is_asked view key due has in ap (λ (o : Option ExchangeView). if asks_as o 0 then steps.RefuseTurnExchange else steps.RefuseTurn 0) is.is_open
 
+-- what is asked for a collection is no probe
+collecting_harms : (q : Question) → is_of_collection q ≡ true → (harmed : List ℕ) → harms_part q harmed ≡ 0
+collecting_harms (Probe k) of_it harmed = absurd (cc of_it)
+collecting_harms (NextKeys places) of_it harmed = refl
+collecting_harms (NewAges k least) of_it harmed = refl
+collecting_harms (Removal k) of_it harmed = refl
+
 pub turn_held : {S V : Type 0} (m : Meaning S V) (key : List ℕ) (due : CollectStep) (v : Verdict) (old new : View S V) → HasQuestion key due (own_part old 0) → IsKept old → Step m old (turn_of old 0 v) new → Held old new (OperatesIn (IsBurialMark key) (harm_by v) old new × HasQuestion key due (own_part new 0))
 turn_held {S} {V} m key due v old new has kept step_ =
     let by : StepTurnExchange m old v new = subst (λ (e : steps.Event). Step m old e new) (turn_is old key due v has) step_ in
@@ -285,7 +292,7 @@ turn_held {S} {V} m key due v old new has kept step_ =
     record {
       does = (
         record { marks = held.does.marks; makes = held.does.makes; all_such = all_asking key (mine 0 held.does.marks) held.does.all_such; few = held.does.few },
-        subst (HasQuestion key due) (sym (own_kept (harm_by v) old new by.at.exchange by.at.is_open turns was.no_call)) has,
+        subst (HasQuestion key due) (sym (own_kept (harm_by v) old new by.at.exchange by.at.is_open turns was.no_call (collecting_harms by.at.exchange.question (ap (λ (x : ExchangeView). is_of_collection x.question) (some_is (sym by.at.is_open ∙ was.is_open)) ∙ was.of_it)))) has,
       );
       kept = held.kept;
       greatest = held.greatest;

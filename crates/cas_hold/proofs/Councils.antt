@@ -8,9 +8,9 @@ use Rattle.cas_cluster.specs.Collection.{CollectionView}
 use Rattle.cas_cluster.specs.Council.{MemberPlace, Question, Probe, NextKeys, NewAges, Removal, ExchangeView, OrderView, PlanView, Council}
 use Rattle.cas_cluster.specs.View.{View, CallView, CallerView, IsAt}
 use Rattle.cas_cluster.proofs.Places.{some_is}
-use Rattle.cas_hold.specs.OwnParts.{framed, open_part, caller_part, asked_part, due_part, question_part, asked_of, order_part, exchange_part, plan_part, collection_part, council_part, own_part}
+use Rattle.cas_hold.specs.OwnParts.{framed, open_part, caller_part, asked_part, due_part, question_part, asked_of, harms_part, order_part, exchange_part, plan_part, collection_part, council_part, own_part}
 use Rattle.cas_hold.specs.Open.{IsFree}
-use Rattle.cas_hold.specs.Orders.{new_order, HasOrder, HasProbe}
+use Rattle.cas_hold.specs.Orders.{new_order, HasOrder, HasProbe, HasHarms}
 
 -- ---- lists in front of others
 pub append_same : (p q r s : List ℕ) → length p ≡ length q → p ++ r ≡ q ++ s → (p ≡ q) × (r ≡ s)
@@ -58,7 +58,7 @@ order_as_part None = refl
 order_as_part (Some order) = refl
 
 exchange_body : ExchangeView → List ℕ
-exchange_body exchange = length (asked_of exchange) ∷ asked_of exchange ++ question_part exchange.question
+exchange_body exchange = harms_part exchange.question exchange.harmed ∷ length (asked_of exchange) ∷ asked_of exchange ++ question_part exchange.question
 
 exchange_as_part : (x : Option ExchangeView) → exchange_part x ≡ part_of 2 (option_map exchange_body x)
 unfolding exchange_body
@@ -171,14 +171,16 @@ pub record IsLikeExchange (open_ : Option ExchangeView) (exchange : ExchangeView
   pub is_open : open_ ≡ Some now
   pub asked : asked_of now ≡ asked_of exchange
   pub question : question_part now.question ≡ question_part exchange.question
+  pub harms : harms_part now.question now.harmed ≡ harms_part exchange.question exchange.harmed
 
 pub exchange_told : (x : Option ExchangeView) (exchange : ExchangeView) → exchange_part x ≡ exchange_part (Some exchange) → IsLikeExchange x exchange
 exchange_told None exchange e = absurd (let h : 9 ≡ 2 = ap kind_of e in omega (arith, h))
 exchange_told (Some now) exchange e =
-    let body : length (asked_of now) ∷ asked_of now ++ question_part now.question ≡ length (asked_of exchange) ∷ asked_of exchange ++ question_part exchange.question = body_same 2 _ _ e in
+    let body : harms_part now.question now.harmed ∷ length (asked_of now) ∷ asked_of now ++ question_part now.question ≡ harms_part exchange.question exchange.harmed ∷ length (asked_of exchange) ∷ asked_of exchange ++ question_part exchange.question = body_same 2 _ _ e in
+    let harms : harms_part now.question now.harmed ≡ harms_part exchange.question exchange.harmed = cc body in
     let long : length (asked_of now) ≡ length (asked_of exchange) = cc body in
     let both = append_same (asked_of now) (asked_of exchange) (question_part now.question) (question_part exchange.question) long (cc body) in
-    record { now = now; is_open = refl; asked = both.0; question = both.1 }
+    record { now = now; is_open = refl; asked = both.0; question = both.1; harms = harms }
 
 -- a change of membership for the same, with the same key due
 pub record IsLikePlan (open_ : Option PlanView) (plan : PlanView) : Type 0 where
@@ -318,3 +320,13 @@ is_probed view key members has =
       question = probe_told x.now.question key (x.question ∙ ap question_part has.question);
       asks = x.asked ∙ has.asks;
     }
+
+-- those that are harmed
+pub has_harms : {S V : Type 0} (view : View S V) (exchange : ExchangeView) → ((caller : CallerView) → IsAt view.callers 0 caller → caller.call ≡ None) → view.council.exchange ≡ Some exchange → HasHarms (harms_part exchange.question exchange.harmed) (own_part view 0)
+has_harms view exchange none is_open = record { council = view.council; is = own_is_council view none; exchange = exchange; is_open = is_open; harmed = refl }
+
+pub harms_are : {S V : Type 0} (view : View S V) (exchange : ExchangeView) (harms : ℕ) → view.council.exchange ≡ Some exchange → HasHarms harms (own_part view 0) → harms_part exchange.question exchange.harmed ≡ harms
+harms_are view exchange harms is_open has =
+    let it = none_beside view has.council has.is in
+    let x = exchange_told view.council.exchange has.exchange (it.like.exchange ∙ ap exchange_part has.is_open) in
+    ap (λ (e : ExchangeView). harms_part e.question e.harmed) (some_is (sym is_open ∙ x.is_open)) ∙ x.harms ∙ has.harmed

@@ -1,6 +1,6 @@
 -- What a hold does for a caller's call, by what its calls on the world do.
 use Rattle.std.proofs.Common.{◌≡◌, ◌≤◌, ℕ, zero, suc, Bool, true, false, if◌then◌else◌, List, [], ◌∷◌, ◌++◌, Option, None, Some, IsSome, slice_get, slice_set, length, inl, inr, refl, sym, ap, ap₂, subst, ◌∙◌, append-nil, arith}
-use Rattle.std.specs.Prelude.{IfSome, option_map, is_some, Result, Ok, Err, OnOk, OnErr, IfErr}
+use Rattle.std.specs.Prelude.{◌⊎◌, ◌<◌, IfSome, option_map, is_some, Result, Ok, Err, OnOk, OnErr, IfErr, IsErrOf}
 use Rattle.std.proofs.lemmas.List.Elements.{All-append, All-nil, All-cons, All-head}
 use Rattle.cas_change.specs.declared.program.Clause.{Clause}
 use Rattle.cas_fate.specs.declared.fate.Verdict.{Verdict}
@@ -245,15 +245,20 @@ passes_in {S} {V} m n key program told old mid new caller at none idle kept by n
       greatest = acts.greatest;
     }
 
+-- why it is not begun, before as many marks as there were
+pub refusal_then : {S V : Type 0} (told : Answer) (old new : View S V) → (told ≡ answer.RecordFull) ⊎ (told ≡ answer.NoMemory false) → (told ≡ answer.RecordFull → 999000 < length old.marks) → new.marks ≡ old.marks → IsRefusal (length new.marks) told
+refusal_then told old new (inl full) long same = inl (full, subst (λ (l : List Mark). 999000 < length l) (sym same) (long full))
+refusal_then told old new (inr none) long same = inr none
+
 -- it is not begun
-pub refused_in : {S V : Type 0} (m : Meaning S V) (n : ℕ) (key : List ℕ) (told : Answer) (old new : View S V) (program : List Clause) (caller : CallerView) → IsAt old.callers n caller → caller.call ≡ None → IsIdle (own_part old n) → IsKept old → IsRefusal told → calls.RefusesCall m old n key new → calls.Rescans old.council n key told new.council
+pub refused_in : {S V : Type 0} (m : Meaning S V) (n : ℕ) (key : List ℕ) (told : Answer) (old new : View S V) (program : List Clause) (caller : CallerView) → IsAt old.callers n caller → caller.call ≡ None → IsIdle (own_part old n) → IsKept old → (told ≡ answer.RecordFull) ⊎ (told ≡ answer.NoMemory false) → (told ≡ answer.RecordFull → 999000 < length old.marks) → calls.RefusesCall m old n key new → calls.Rescans old.council n key told new.council
     → Held old new (BeginsNot n key program old new told)
-refused_in {S} {V} m n key told old new program caller at none idle kept refusal by then_ =
+refused_in {S} {V} m n key told old new program caller at none idle kept refusal long by then_ =
     let done = refused_acts m n key old new by in
     let at_new : IsAt new.callers n caller = subst (λ (l : List CallerView). IsAt l n caller) (sym done.1) at in
     let fine = fine_none n 0 0 in
     record {
-      does = is_refused refusal (makes_aside n old new [] done.0 tt fine.only (λ not_first. quiet_rescans n old.council new.council key told (λ first_. absurd (not_first first_)) then_))
+      does = is_refused (refusal_then told old new refusal long (done.0.made ∙ append-nil old.marks)) (makes_aside n old new [] done.0 tt fine.only (λ not_first. quiet_rescans n old.council new.council key told (λ first_. absurd (not_first first_)) then_))
           (leaves_idle n key told old new caller caller at none idle at_new none then_);
       kept = kept_aside n old new [] done.0 fine.only kept (idle_kept n new caller at_new none);
       greatest = done.0.greatest;
@@ -320,12 +325,12 @@ begin_ok m n call key program old new next idle kept by has =
     subst (λ (k : ℕ). Held old new (BeginsIn n k key program old new)) at.number
     (begins_in m n key program old new at.caller at.at_caller (idle_call old n idle at.caller at.at_caller) idle kept by (subst (λ (k : ℕ). HasRound new n k) (sym at.number) has))
 
-pub begin_refused : {S V : Type 0} (A : Type 0) (m : Meaning S V) (n call : ℕ) (key : List ℕ) (program : List Clause) (told : Answer) (old new : View S V) → option_map next_number (slice_get old.callers n) ≡ Some call → IsIdle (own_part old n) → IsKept old → is_refusal told ≡ true
+pub begin_refused : {S V : Type 0} (A : Type 0) (m : Meaning S V) (n call : ℕ) (key : List ℕ) (program : List Clause) (told : Answer) (old new : View S V) → option_map next_number (slice_get old.callers n) ≡ Some call → IsIdle (own_part old n) → IsKept old → is_refusal told ≡ true → (IsErrOf {T = A} (Err told) answer.RecordFull → 999000 < length old.marks)
     → BeginsOrNot {A = A} m old n call key program (Err told) new → Held old new (BeginsNot n key program old new told)
-begin_refused A m n call key program told old new next idle kept refusal (inl begun) = absurd (cc (begun.2 (no_call_of old n call (next_at old n call next) idle), refusal))
-begin_refused A m n call key program told old new next idle kept refusal (inr not_begun) =
+begin_refused A m n call key program told old new next idle kept refusal long (inl begun) = absurd (cc (begun.2 (no_call_of old n call (next_at old n call next) idle), refusal))
+begin_refused A m n call key program told old new next idle kept refusal long (inr not_begun) =
     let at = next_at old n call next in
-    refused_in m n key told old new program at.caller at.at_caller (idle_call old n idle at.caller at.at_caller) idle kept not_begun.2 not_begun.0 not_begun.3
+    refused_in m n key told old new program at.caller at.at_caller (idle_call old n idle at.caller at.at_caller) idle kept not_begun.2 (λ full. long (ap (λ (a : Answer). Err a) full)) not_begun.0 not_begun.3
 
 -- it was told why no round begins
 pub begin_told : {S V : Type 0} (A : Type 0) (m : Meaning S V) (n call : ℕ) (key : List ℕ) (program : List Clause) (told : Answer) (old new : View S V) → is_refusal told ≡ false → BeginsOrNot {A = A} m old n call key program (Err told) new → StepBegin m old n key program new × WasTold new n call told

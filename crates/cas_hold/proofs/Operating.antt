@@ -1,15 +1,16 @@
 -- What a hold does for a call of the operator, by what its calls on the world do.
 use Rattle.std.proofs.Common.{◌≡◌, ◌≢◌, ◌≤◌, ℕ, zero, suc, Bool, true, false, if◌then◌else◌, List, [], ◌∷◌, ◌++◌, length, map, get_or, Option, None, Some, option_map, inl, inr, refl, sym, ap, ap₂, subst, ◌∙◌, append-nil, append_assoc, arith}
-use Rattle.std.specs.Prelude.{◌⊎◌, ◌==◌, All, is_none, position, slice_set}
+use Rattle.std.specs.Prelude.{◌⊎◌, ◌==◌, ◌||◌, ◌+◌, All, is_none, position, slice_set}
 use Rattle.std.specs.Option.{option_map_or}
 use Rattle.std.proofs.lemmas.List.Elements.{All-append, All-nil, All-cons}
 use Rattle.std.proofs.lemmas.List.Quantifiers.{position-Some}
-use Rattle.cas_ballot.specs.Members.{has_member}
-use Rattle.cas_base.proofs.Bools.{and_left}
+use Rattle.cas_ballot.specs.Members.{members_where, has_member, with_member}
+use Rattle.cas_ballot.proofs.CountLemmas.{length-with_member-le}
+use Rattle.cas_base.proofs.Bools.{and_left, or_cases, or_left}
 use Rattle.cas_fate.specs.declared.fate.Verdict.{Verdict}
 use Rattle.cas_flow.specs.Flow.{queue_at}
 use Rattle.cas_proposer.specs.Desk.{DeskView}
-use Rattle.cas_record.proofs.Tests.{nat_same}
+use Rattle.cas_record.proofs.Tests.{nat_same, nat_is}
 use Rattle.cas_record.specs.declared.answer.Answer.TheVariants as answer
 use Rattle.cas_record.specs.declared.mark.Mark.{Mark}
 use Rattle.cas_record.specs.declared.mark.Mark.TheVariants.{Harmed, Told}
@@ -31,6 +32,8 @@ use Rattle.cas_cluster.specs.StepCouncil.{StepTell, StepTurnExchange, TurnsExcha
 use Rattle.cas_cluster.specs.StepFrames as frames
 use Rattle.cas_cluster.specs.View.{Meaning, View, CallerView, IsAt}
 use Rattle.cas_cluster.proofs.Places.{some_is}
+use Rattle.cas_cluster.proofs.Harms.{members_count}
+use Rattle.cas_cluster.proofs.SafeOpens.{no_members}
 use Rattle.cas_cluster.proofs.SafeParts.{at_low}
 use Rattle.cas_turn.specs.Seen.{OnlyOwnedBy}
 use Rattle.cas_world.specs.Exchange.{WasToldOrder}
@@ -39,7 +42,7 @@ use Rattle.cas_hold.specs.Kept.{IsKept, Makes}
 use Rattle.cas_hold.specs.Mine.{mine, losses}
 use Rattle.cas_hold.specs.Orders.{IsAskingHarm, OperatesIn, IsToldIn}
 use Rattle.cas_hold.specs.Owners.{owner_of, MayAdd}
-use Rattle.cas_hold.specs.OwnParts.{framed, asked_of, question_part, order_part, exchange_part, plan_part, collection_part, council_part, own_part}
+use Rattle.cas_hold.specs.OwnParts.{framed, asked_of, harms_part, question_part, order_part, exchange_part, plan_part, collection_part, council_part, own_part}
 use Rattle.cas_hold.proofs.Acts.{spares_same, spares_set, SparesRounds, spares_rounds, rounds_then, Acts, makes_of, kept_by}
 use Rattle.cas_hold.proofs.Councils.{idle_free, own_is_council}
 use Rattle.cas_hold.proofs.Events.{Fine, fine_none, fine_votes, fine_harm, gone_harms, only_one}
@@ -253,6 +256,7 @@ pub record TurnsAsking {S V : Type 0} (most : ℕ) (old new : View S V) (exchang
   pub council : new.council ≡ record old.council { exchange = Some next }
   pub question : next.question ≡ exchange.question
   pub asked : asked_of next ≡ asked_of exchange
+  pub harmed : length next.harmed ≤ length exchange.harmed + length (mine 0 marks)
 
 get_at : (all : List ProbeOf) (place : ℕ) (probe d : ProbeOf) → IsAt all place probe → get_or all place d ≡ probe
 get_at [] place probe d at = absurd (cc at)
@@ -273,6 +277,21 @@ hears_named reply told = by_place (position (awaits reply.from) told) refl
         let awaited : awaits reply.from there.0 ≡ true = ap (awaits reply.from) (sym (get_at told place there.0 now there.1)) ∙ low.1 in
         named_after told place there.0 (record { acceptor = reply.from; told = Some reply.tell }) there.1 (sym (nat_same (and_left (there.0.acceptor == reply.from) (is_none there.0.told) awaited)))
 
+-- one more is harmed at most where that is marked
+none_more : (ids : List ℕ) → length (members_where (has_member ids)) ≤ length ids
+none_more [] = omega (arith, ap (λ (l : List ℕ). length l) no_members.lists)
+none_more (id ∷ ids) = omega (arith, members_count (has_member (id ∷ ids)) (λ n. (n == id) || has_member [] n) (has_member ids) (λ n has. elim (or_cases (id == n) (has_member ids n) has) [ inl same ↦ inl (or_left (n == id) (has_member [] n) (nat_is (sym (nat_same same)))) | inr later ↦ inr later ]), length-with_member-le [] id no_members, none_more ids)
+
+with_one : (ids : List ℕ) (id : ℕ) → length (with_member ids id) ≤ suc (length ids)
+with_one ids id = omega (arith, members_count (λ n. (n == id) || has_member ids n) (λ n. (n == id) || has_member [] n) (has_member ids) (λ n has. elim (or_cases (n == id) (has_member ids n) has) [ inl same ↦ inl (or_left (n == id) (has_member [] n) same) | inr before ↦ inr before ]), length-with_member-le [] id no_members, none_more ids)
+
+harmed_more : (exchange : ExchangeView) (member : ℕ) (down : Bool) → length (council.harmed_exchange exchange member).harmed ≤ length exchange.harmed + length (mine 0 (harm_marks exchange member down))
+harmed_more exchange member down = by_test (has_member exchange.harmed member)
+  where
+    by_test : (b : Bool) → length (if b then exchange.harmed else with_member exchange.harmed member) ≤ length exchange.harmed + length (mine 0 (if b then [] else Harmed 0 0 down ∷ []))
+    by_test true = omega arith
+    by_test false = omega (arith, with_one exchange.harmed member, ap (λ (l : List Mark). length l) (mine_own 0 (Harmed 0 0 down) [] refl))
+
 pub turns_asking : {S V : Type 0} (m : Meaning S V) (v : Verdict) (old new : View S V) (by : StepTurnExchange m old v new) → TurnsAsking (harm_by v) old new by.at.exchange
 turns_asking {S} {V} m v old new by = by_case by.turn
   where
@@ -292,6 +311,7 @@ turns_asking {S} {V} m v old new by = by_case by.turn
       council = ap (λ (w : View S V). w.council) is ∙ councils;
       question = refl;
       asked = refl;
+      harmed = harmed_more by.at.exchange member down;
     }
 
     by_case : TurnsExchange m old v by.front by.at.exchange new → TurnsAsking (harm_by v) old new by.at.exchange
@@ -303,6 +323,7 @@ turns_asking {S} {V} m v old new by = by_case by.turn
       council = ap (λ (w : View S V). w.council) is ∙ same_council;
       question = refl;
       asked = refl;
+      harmed = omega arith;
     }
     by_case (council.gone fall is) = harmed _ false _ is refl refl refl refl refl (let some : 1 ≤ harm_by v = gone_harms (queue_at old.flow exchange_place).again v fall in omega (arith, some))
     by_case (council.answers request acceptor now reply fall front at table is) = record {
@@ -313,6 +334,7 @@ turns_asking {S} {V} m v old new by = by_case by.turn
       council = ap (λ (w : View S V). w.council) is ∙ same_council;
       question = refl;
       asked = refl;
+      harmed = omega arith;
     }
     by_case (council.finds_down request acceptor fall front at down is) = harmed request.to true _ is refl refl refl refl refl (omega arith)
     by_case (council.brings_down request acceptor now fall front at stops is) = harmed request.to true _ is refl refl refl refl refl (omega arith)
@@ -324,17 +346,21 @@ turns_asking {S} {V} m v old new by = by_case by.turn
       council = ap (λ (w : View S V). w.council) is;
       question = refl;
       asked = hears_named reply by.at.exchange.told;
+      harmed = omega arith;
     }
 
--- caller 0's own part stays as it is
-parts_kept : (c : Council) (next exchange : ExchangeView) → c.exchange ≡ Some exchange → next.question ≡ exchange.question → asked_of next ≡ asked_of exchange → council_part (record c { exchange = Some next }) ≡ council_part c
-parts_kept c next exchange is_open question asks =
-    ap₂ (λ (q : Question) (l : List ℕ). order_part c.order ++ framed 2 (length l ∷ l ++ question_part q) ++ plan_part c.plan ++ collection_part c.collection) question asks
+-- caller 0's own part stays as it is, where it is no probe
+parts_kept : (c : Council) (next exchange : ExchangeView) → c.exchange ≡ Some exchange → next.question ≡ exchange.question → asked_of next ≡ asked_of exchange → harms_part next.question next.harmed ≡ harms_part exchange.question exchange.harmed → council_part (record c { exchange = Some next }) ≡ council_part c
+parts_kept c next exchange is_open question asks harms =
+    ap (λ (n : ℕ). order_part c.order ++ framed 2 (n ∷ length (asked_of next) ∷ asked_of next ++ question_part next.question) ++ plan_part c.plan ++ collection_part c.collection) harms
+    ∙ ap₂ (λ (q : Question) (l : List ℕ). order_part c.order ++ framed 2 (harms_part exchange.question exchange.harmed ∷ length l ∷ l ++ question_part q) ++ plan_part c.plan ++ collection_part c.collection) question asks
     ∙ ap (λ (o : Option ExchangeView). order_part c.order ++ exchange_part o ++ plan_part c.plan ++ collection_part c.collection) (sym is_open)
 
-pub own_kept : {S V : Type 0} (most : ℕ) (old new : View S V) (exchange : ExchangeView) → old.council.exchange ≡ Some exchange → TurnsAsking most old new exchange → ((caller : CallerView) → IsAt old.callers 0 caller → caller.call ≡ None) → own_part new 0 ≡ own_part old 0
-own_kept most old new exchange is_open turns none =
-    own_is_council new (none_then old new turns.marks turns.leaves none) ∙ ap council_part turns.council ∙ parts_kept old.council turns.next exchange is_open turns.question turns.asked ∙ sym (own_is_council old none)
+pub own_kept : {S V : Type 0} (most : ℕ) (old new : View S V) (exchange : ExchangeView) → old.council.exchange ≡ Some exchange → TurnsAsking most old new exchange → ((caller : CallerView) → IsAt old.callers 0 caller → caller.call ≡ None) → ((harmed : List ℕ) → harms_part exchange.question harmed ≡ 0) → own_part new 0 ≡ own_part old 0
+own_kept most old new exchange is_open turns none no_probe =
+    own_is_council new (none_then old new turns.marks turns.leaves none) ∙ ap council_part turns.council
+    ∙ parts_kept old.council turns.next exchange is_open turns.question turns.asked (ap (λ (q : Question). harms_part q turns.next.harmed) turns.question ∙ no_probe turns.next.harmed ∙ sym (no_probe exchange.harmed))
+    ∙ sym (own_is_council old none)
 
 -- no memory is found for it, and the operator is told
 pub refuses_asking : {S V : Type 0} (m : Meaning S V) (old new : View S V) (order : OrderView) → old.council.order ≡ Some order → StepRefuseTurnExchange m old new → Leaves old new [] × (new.council.order ≡ Some (told_so (op.Stopped (answer.NoMemory false)) order))

@@ -47,7 +47,7 @@ use Rattle.cas_hold.specs.Kept.{IsKept, Makes}
 use Rattle.cas_hold.specs.Membership.{HasPlan, HasListing, IsPlanMark, IsMembersAnswer}
 use Rattle.cas_hold.specs.Mine.{mine, losses, wanted_by}
 use Rattle.cas_hold.specs.Orders.{new_order, HasOrder, OperatesIn, IsToldIn, IsAskingHarm}
-use Rattle.cas_hold.specs.OwnParts.{exchange_part, question_part, order_part, plan_part, caller_part, own_part}
+use Rattle.cas_hold.specs.OwnParts.{exchange_part, harms_part, question_part, order_part, plan_part, caller_part, own_part}
 use Rattle.cas_hold.proofs.Closing.{ClosesRound, closes_round, kept_marked}
 use Rattle.cas_hold.proofs.Councils.{is_ordered, IsOrdered, none_beside, own_is_council, order_told, no_exchange, exchange_told, plan_told, listing_told}
 use Rattle.cas_hold.proofs.Holds.{Held}
@@ -452,7 +452,7 @@ list_turn_held {S} {V} m old new asked v has kept step_ =
     let turns = turns_asking m v old new by in
     let held = operates (harm_by v) old new turns.marks turns.leaves turns.of_asking kept was.no_call in
     record {
-      does = (record { marks = held.does.marks; makes = held.does.makes; all_such = harms_of_rescan (mine 0 held.does.marks) held.does.all_such; few = held.does.few }, own_kept (harm_by v) old new by.at.exchange by.at.is_open turns was.no_call);
+      does = (record { marks = held.does.marks; makes = held.does.makes; all_such = harms_of_rescan (mine 0 held.does.marks) held.does.all_such; few = held.does.few }, own_kept (harm_by v) old new by.at.exchange by.at.is_open turns was.no_call (λ harmed. ap (λ (q : Question). harms_part q harmed) (ap (λ (x : ExchangeView). x.question) (some_is (sym by.at.is_open ∙ was.is_open)) ∙ was.question)));
       kept = held.kept;
       greatest = held.greatest;
     }

@@ -1,6 +1,7 @@
 -- What a hold does for a probe.
-use Rattle.std.proofs.Common.{◌≡◌, ◌≢◌, ℕ, true, false, if◌then◌else◌, List, [], ◌∷◌, map, Option, None, Some, IsSome, is_some, option_map, slice_get, inl, inr, refl, sym, ap, subst, ◌∙◌, append-nil, arith}
+use Rattle.std.proofs.Common.{◌≡◌, ◌≢◌, ℕ, true, false, if◌then◌else◌, List, [], ◌∷◌, ◌++◌, length, ◌+◌, ◌≤◌, length-append, map, reverse, Option, None, Some, IsSome, is_some, option_map, slice_get, inl, inr, refl, sym, ap, subst, ◌∙◌, append-nil, arith}
 use Rattle.std.specs.Prelude.{◌⊎◌}
+use Rattle.cas_ballot.specs.Members.{has_member}
 use Rattle.cas_fate.specs.declared.fate.Leg.{Leg}
 use Rattle.cas_fate.specs.declared.fate.Verdict.{Verdict}
 use Rattle.cas_flow.specs.Flow.{queue_at}
@@ -16,7 +17,7 @@ use Rattle.cas_record.specs.declared.operator.Probes.{Probes}
 use Rattle.cas_calls.specs.Council.{IsProbed as IsFound}
 use Rattle.cas_calls.specs.declared.council.Gathered.{Gathered}
 use Rattle.cas_calls.specs.declared.council.Gathered.TheVariants as gathered
-use Rattle.cas_cluster.specs.Council.{ExchangeView, Question, Probe, exchange_place, told_so}
+use Rattle.cas_cluster.specs.Council.{ExchangeView, Question, Probe, NextKeys, NewAges, Removal, Council, exchange_place, told_so}
 use Rattle.cas_cluster.specs.Safe.{is_of_collection}
 use Rattle.cas_cluster.specs.Step as step
 use Rattle.cas_cluster.specs.Step.{Step}
@@ -33,15 +34,23 @@ use Rattle.cas_world.specs.Exchange.{MayAsk, MayAskThis, asking_of, MayGather, H
 use Rattle.cas_hold.specs.Deeds.{harm_by}
 use Rattle.cas_hold.specs.Kept.{IsKept, Makes}
 use Rattle.cas_hold.specs.Open.{IsFree}
-use Rattle.cas_hold.specs.Orders.{new_order, HasOrder, HasProbe, OperatesIn, IsToldIn, IsAskingHarm, IsProbeAnswer, named_in}
-use Rattle.cas_hold.specs.OwnParts.{asked_of, own_part}
-use Rattle.cas_hold.proofs.Councils.{IsOrdered, IsProbed, has_order, is_ordered, has_probe, is_probed, free_idle}
+use Rattle.cas_hold.specs.Orders.{new_order, HasOrder, HasProbe, HasHarms, OperatesIn, IsToldIn, IsAskingHarm, IsProbeAnswer, IsSilentAtMost, IsTrueProbe, AreAllConfirmers, MarksHarms, named_in}
+use Rattle.cas_hold.specs.OwnParts.{asked_of, harms_part, own_part}
+use Rattle.cas_causes.specs.Answering.{silent_in, tellers_of, IsHearing}
+use Rattle.cas_causes.specs.Probed.{AreToldOf}
+use Rattle.cas_causes.proofs.Answering.{silent_are_harmed}
+use Rattle.cas_causes.proofs.Asking.{confirmers_are_probed}
+use Rattle.cas_steady.specs.Steady.{IsSteady}
+use Rattle.cas_hold.specs.Mine.{mine}
+use Rattle.cas_hold.proofs.Fronts.{mine_append}
+use Rattle.cas_record.specs.declared.mark.Mark.{Mark}
+use Rattle.cas_hold.proofs.Councils.{IsOrdered, IsProbed, has_order, is_ordered, has_probe, is_probed, has_harms, harms_are, free_idle}
 use Rattle.cas_hold.specs.Stages.{IsFirst, HasFirst, front_of}
 use Rattle.cas_hold.specs.declared.deeds.Waiting.{Waiting}
 use Rattle.std.specs.Prelude.{IfSome}
 use Rattle.cas_hold.proofs.Holds.{Held}
 use Rattle.cas_hold.proofs.Stages.{some_waits, none_waits}
-use Rattle.cas_hold.proofs.Operating.{Leaves, leaves_desks, leaves_others, none_then, silently, operates, tells_in, turns_asking, own_kept, refuses_asking, says_same, was_told_so}
+use Rattle.cas_hold.proofs.Operating.{Leaves, leaves_desks, leaves_others, none_then, silently, operates, tells_in, TurnsAsking, turns_asking, refuses_asking, says_same, was_told_so}
 
 -- ---- its order
 pub order_held : {S V : Type 0} (old new : View S V) (asked : Asked) → IsFree (own_part old 0) → IsKept old → StepOrder old asked new → Held old new (Makes 0 old new [] × HasOrder asked (own_part new 0))
@@ -87,6 +96,7 @@ record AsksOrTells {S V : Type 0} (old new : View S V) (key : List ℕ) : Type 0
   is_open : new.council.exchange ≡ Some exchange
   question : exchange.question ≡ Probe key
   everyone : asked_of exchange ≡ everyone old
+  harmless : harms_part exchange.question exchange.harmed ≡ 0
 
 record IsStopped {S V : Type 0} (old new : View S V) (key : List ℕ) : Type 0 where
   leaves : Leaves old new []
@@ -113,6 +123,7 @@ asks_or_not {S} {V} m old new key was by = by_case by.asks
       is_open = ap (λ (w : View S V). w.council.exchange) is;
       question = refl;
       everyone = names_each (everyone old);
+      harmless = refl;
     })
     by_case (council.is_down down is) = stopped answer.Down (leaves_desks old _ new [] is refl refl refl (sym (append-nil old.marks))) (ap (λ (w : View S V). w.council.order) is) (ap (λ (w : View S V). w.council.exchange) is) (λ members. refl)
     by_case (council.is_full up full is) = stopped answer.RecordFull (leaves_desks old _ new [] is refl refl refl (sym (append-nil old.marks))) (ap (λ (w : View S V). w.council.order) is) (ap (λ (w : View S V). w.council.exchange) is) (λ members. refl)
@@ -127,10 +138,10 @@ asks_by {S} {V} m old new what key is by = subst (λ (e : Exchange). Step m old 
 pub may_ask : {S V : Type 0} (view : View S V) (what : Exchange) (key : List ℕ) → what ≡ exchange.Probe key → IsKept view → HasOrder (asked.Probe key) (own_part view 0) → MayAskThis view what
 may_ask view what key is kept has = subst (MayAskThis view) (sym is) (may_probe view key kept has)
 
-pub ask_held : {S V : Type 0} (m : Meaning S V) (old new : View S V) (what : Exchange) (key : List ℕ) → what ≡ exchange.Probe key → HasOrder (asked.Probe key) (own_part old 0) → IsKept old → Step m old (asking_of old what) new → IsSome new.council.exchange → Held old new (Makes 0 old new [] × HasProbe key (everyone old) (own_part new 0))
+pub ask_held : {S V : Type 0} (m : Meaning S V) (old new : View S V) (what : Exchange) (key : List ℕ) → what ≡ exchange.Probe key → HasOrder (asked.Probe key) (own_part old 0) → IsKept old → Step m old (asking_of old what) new → IsSome new.council.exchange → Held old new (Makes 0 old new [] × HasProbe key (everyone old) (own_part new 0) × HasHarms 0 (own_part new 0))
 ask_held {S} {V} m old new what key is has kept by_what some = elim (asks_or_not m old new key was (asks_by m old new what key is by_what)) [
   | inl asks ↦ let held = silently old new asks.leaves kept was.no_call in record {
-    does = (held.does, has_probe new key (everyone old) (record { no_call = none_then old new [] asks.leaves was.no_call; order = asks.order; exchange = asks.exchange; is_open = asks.is_open; question = asks.question; asks = asks.everyone }));
+    does = (held.does, has_probe new key (everyone old) (record { no_call = none_then old new [] asks.leaves was.no_call; order = asks.order; exchange = asks.exchange; is_open = asks.is_open; question = asks.question; asks = asks.everyone }), subst (λ (n : ℕ). HasHarms n (own_part new 0)) asks.harmless (has_harms new asks.exchange (none_then old new [] asks.leaves was.no_call) asks.is_open));
     kept = held.kept;
     greatest = held.greatest;
   }
@@ -144,12 +155,24 @@ ask_held {S} {V} m old new what key is has kept by_what some = elim (asks_or_not
 stopped_says : (key members : List ℕ) (why : Answer) (told : OpAnswer) → IsProbeAnswer key members (op.Stopped why) → SaysTheSame (op.Stopped why) told → IsProbeAnswer key members told
 stopped_says key members why told stops same = subst (IsProbeAnswer key members) same stops
 
+-- what stops it tells of nobody
+stopped_silent : (most : ℕ) (why : Answer) (told : OpAnswer) → SaysTheSame (op.Stopped why) told → IsSilentAtMost most told
+stopped_silent most why told same = subst (IsSilentAtMost most) same tt
+
+stopped_truly : (marks : List Mark) (why : Answer) (told : OpAnswer) → SaysTheSame (op.Stopped why) told → IsTrueProbe marks told
+stopped_truly marks why told same = subst (IsTrueProbe marks) same tt
+
 pub ask_told : {S V : Type 0} (m : Meaning S V) (old mid new : View S V) (what : Exchange) (key : List ℕ) (told : OpAnswer) → what ≡ exchange.Probe key → HasOrder (asked.Probe key) (own_part old 0) → IsKept old → Step m old (asking_of old what) mid → mid.council.exchange ≡ None → WasToldOrder mid told → StepTell mid told new
-    → Held old new (IsToldIn (asked.Probe key) IsAskingHarm 0 old new told × ((members : List ℕ) → IsProbeAnswer key members told))
+    → Held old new (IsToldIn (asked.Probe key) IsAskingHarm 0 old new told × ((members : List ℕ) → IsProbeAnswer key members told) × IsSilentAtMost 0 told × IsTrueProbe (reverse new.marks) told)
 ask_told {S} {V} m old mid new what key told is has kept by_what none said ends = elim (asks_or_not m old mid key was (asks_by m old mid what key is by_what)) [
   | inl asks ↦ absurd (cc (sym none ∙ asks.is_open))
   | inr stopped ↦ let held = tells_in IsAskingHarm 0 old mid new (asked.Probe key) told (told_so (op.Stopped stopped.why) (new_order (asked.Probe key))) stopped.leaves stopped.order refl ends kept was.no_call in record {
-    does = (held.does, λ members. stopped_says key members stopped.why told (stopped.stops members) (says_same mid (new_order (asked.Probe key)) (op.Stopped stopped.why) told stopped.order said));
+    does = (
+      held.does,
+      λ members. stopped_says key members stopped.why told (stopped.stops members) (says_same mid (new_order (asked.Probe key)) (op.Stopped stopped.why) told stopped.order said),
+      stopped_silent 0 stopped.why told (says_same mid (new_order (asked.Probe key)) (op.Stopped stopped.why) told stopped.order said),
+      stopped_truly (reverse new.marks) stopped.why told (says_same mid (new_order (asked.Probe key)) (op.Stopped stopped.why) told stopped.order said),
+    );
     kept = held.kept;
     greatest = held.greatest;
   }
@@ -184,13 +207,53 @@ turn_is view key members v has = let is = is_probed view key members has in ap (
 refusal_is : {S V : Type 0} (view : View S V) (key members : List ℕ) → HasProbe key members (own_part view 0) → refusal_of view 0 ≡ step.RefuseTurnExchange
 refusal_is view key members has = let is = is_probed view key members has in ap (λ (o : Option ExchangeView). if asks_as o 0 then step.RefuseTurnExchange else step.RefuseTurn 0) is.is_open
 
-pub turn_held : {S V : Type 0} (m : Meaning S V) (old new : View S V) (key members : List ℕ) (v : Verdict) → HasProbe key members (own_part old 0) → IsKept old → Step m old (turn_of old 0 v) new → Held old new (OperatesIn IsAskingHarm (harm_by v) old new × (own_part new 0 ≡ own_part old 0))
+-- it goes on as one of the same
+probe_then : {S V : Type 0} (most : ℕ) (old new : View S V) (key them : List ℕ) (exchange : ExchangeView) → old.council.exchange ≡ Some exchange → TurnsAsking most old new exchange → HasProbe key them (own_part old 0) → HasProbe key them (own_part new 0)
+probe_then {S} {V} most old new key them exchange is_open turns has =
+    let was = is_probed old key them has in
+    let same : was.exchange ≡ exchange = some_is (sym was.is_open ∙ is_open) in
+    has_probe new key them (record {
+      no_call = none_then old new turns.marks turns.leaves was.no_call;
+      order = ap (λ (c : Council). c.order) turns.council ∙ was.order;
+      exchange = turns.next;
+      is_open = ap (λ (c : Council). c.exchange) turns.council;
+      question = turns.question ∙ ap (λ (x : ExchangeView). x.question) (sym same) ∙ was.question;
+      asks = turns.asked ∙ ap asked_of (sym same) ∙ was.asks;
+    })
+
+-- and those that are harmed are no more than what was marked since
+harms_then : {S V : Type 0} (most : ℕ) (old new : View S V) (exchange : ExchangeView) → old.council.exchange ≡ Some exchange → TurnsAsking most old new exchange → ((caller : CallerView) → IsAt old.callers 0 caller → caller.call ≡ None) → MarksHarms old new
+harms_then most old new exchange is_open turns none harms has = (
+  harms_part turns.next.question turns.next.harmed,
+  has_harms new turns.next (none_then old new turns.marks turns.leaves none) (ap (λ (c : Council). c.exchange) turns.council),
+  more (harms_are old exchange harms is_open has),
+)
+  where
+    counted : (q : Question) (now before : List ℕ) (marks : ℕ) → length now ≤ length before + marks → harms_part q now ≤ harms_part q before + marks
+    counted (Probe key) now before marks few = few
+    counted (NextKeys places) now before marks few = omega arith
+    counted (NewAges key least) now before marks few = omega arith
+    counted (Removal key) now before marks few = omega arith
+
+    more : harms_part exchange.question exchange.harmed ≡ harms → harms_part turns.next.question turns.next.harmed + length (mine 0 old.marks) ≤ harms + length (mine 0 new.marks)
+    more is =
+        let joined : length (mine 0 new.marks) ≡ length (mine 0 old.marks ++ mine 0 turns.marks) = ap (λ (l : List Mark). length (mine 0 l)) turns.leaves.made ∙ ap (λ (l : List Mark). length l) (mine_append 0 old.marks turns.marks) in
+        omega (
+          arith,
+          counted exchange.question turns.next.harmed exchange.harmed (length (mine 0 turns.marks)) turns.harmed,
+          ap (λ (q : Question). harms_part q turns.next.harmed) turns.question,
+          is,
+          joined,
+          length-append (mine 0 old.marks) (mine 0 turns.marks),
+        )
+
+pub turn_held : {S V : Type 0} (m : Meaning S V) (old new : View S V) (key members : List ℕ) (v : Verdict) → HasProbe key members (own_part old 0) → IsKept old → Step m old (turn_of old 0 v) new → Held old new (OperatesIn IsAskingHarm (harm_by v) old new × ((them : List ℕ) → HasProbe key them (own_part old 0) → HasProbe key them (own_part new 0)) × MarksHarms old new)
 turn_held {S} {V} m old new key members v has kept step_ =
     let by : StepTurnExchange m old v new = subst (λ (e : step.Event). Step m old e new) (turn_is old key members v has) step_ in
     let was = is_probed old key members has in
     let turns = turns_asking m v old new by in
     let held = operates (harm_by v) old new turns.marks turns.leaves turns.of_asking kept was.no_call in
-    record { does = (held.does, own_kept (harm_by v) old new by.at.exchange by.at.is_open turns was.no_call); kept = held.kept; greatest = held.greatest }
+    record { does = (held.does, λ them asks. probe_then (harm_by v) old new key them by.at.exchange by.at.is_open turns asks, harms_then (harm_by v) old new by.at.exchange by.at.is_open turns was.no_call); kept = held.kept; greatest = held.greatest }
 
 pub turn_may_tell : {S V : Type 0} (m : Meaning S V) (old mid : View S V) (key members : List ℕ) → HasProbe key members (own_part old 0) → Step m old (refusal_of old 0) mid → WasToldOrder mid (op.Stopped (answer.NoMemory false))
 turn_may_tell {S} {V} m old mid key members has step_ =
@@ -216,12 +279,64 @@ gathering_is view key members has =
     let is = is_probed view key members has in
     ap gathering_by is.is_open ∙ ap (λ (q : Question). if is_of_collection q then step.GatherCollect else step.Gather) is.question
 
+gathers_by : {S V : Type 0} (m : Meaning S V) (old new : View S V) (key members : List ℕ) → HasProbe key members (own_part old 0) → Step m old (gathering_of old) new → StepGather old new
+gathers_by {S} {V} m old new key members has step_ = subst (λ (e : step.Event). Step m old e new) (gathering_is old key members has) step_
+
 -- it tells what was found, with its key, or that it stops
-record GathersProbe {S V : Type 0} (old new : View S V) (key members : List ℕ) : Type 0 where
+record GathersProbe {S V : Type 0} (m : Meaning S V) (old new : View S V) (key members : List ℕ) : Type 0 where
   leaves : Leaves old new []
   said : OpAnswer
   order : new.council.order ≡ Some (told_so said (new_order (asked.Probe key)))
   answer : (told : OpAnswer) → SaysTheSame said told → IsProbeAnswer key members told
+  silent : IsSteady m old → (harms : ℕ) → HasHarms harms (own_part old 0) → (told : OpAnswer) → SaysTheSame said told → IsSilentAtMost harms told
+  truly : m.shelves.tells → m.disks.tells → IsSteady m old → (told : OpAnswer) → SaysTheSame said told → IsTrueProbe (reverse old.marks) told
+
+-- what they found of the key is true of what says the same
+truly_says : (marks : List Mark) (key : List ℕ) (found : Probes) (told : OpAnswer) → AreToldOf marks key found.probes.items → AreAllConfirmers marks (named_in found) → SaysTheSame (op.Probed key found) told → IsTrueProbe marks told
+truly_says marks key found (op.Probed other seen) so all same = (
+  subst (λ (k : List ℕ). AreToldOf marks k seen.probes.items) same.0 (subst (AreToldOf marks key) same.1 so),
+  subst (AreAllConfirmers marks) (ap (map (λ (p : ProbeOf). p.acceptor)) same.1) all,
+)
+truly_says marks key found (op.Joined id era rescanned) so all same = tt
+truly_says marks key found (op.Left id era rescanned) so all same = tt
+truly_says marks key found (op.Refused fault) so all same = tt
+truly_says marks key found (op.Busy era) so all same = tt
+truly_says marks key found (op.Collected other ballot removed kept) so all same = tt
+truly_says marks key found (op.NotEmpty version) so all same = tt
+truly_says marks key found (op.Absent acceptor) so all same = tt
+truly_says marks key found (op.ProposerDown proposer) so all same = tt
+truly_says marks key found (op.Stopped why) so all same = tt
+
+-- what was found is not marked, so it is true of the record then
+truly_then : {S V : Type 0} (mid new : View S V) (told : OpAnswer) → StepTell mid told new → IsTrueProbe (reverse mid.marks) told → IsTrueProbe (reverse new.marks) told
+truly_then {S} {V} mid new (op.Probed key found) by is = subst (λ (marks : List Mark). IsTrueProbe (reverse marks) (op.Probed key found)) (sym (unmarked by)) is
+  where
+    unmarked : StepTell mid (op.Probed key found) new → new.marks ≡ mid.marks
+    unmarked (council.tells open_order said is_open says same is_new) = ap (λ (w : View S V). w.marks) is_new ∙ append-nil mid.marks
+    unmarked (council.finishes open_order is_open finished is_new) = ap (λ (w : View S V). w.marks) is_new ∙ append-nil mid.marks
+    unmarked (council.collects open_order is_open collected is_new) = ap (λ (w : View S V). w.marks) is_new ∙ append-nil mid.marks
+truly_then mid new (op.Joined id era rescanned) by is = tt
+truly_then mid new (op.Left id era rescanned) by is = tt
+truly_then mid new (op.Refused fault) by is = tt
+truly_then mid new (op.Busy era) by is = tt
+truly_then mid new (op.Collected other ballot removed kept) by is = tt
+truly_then mid new (op.NotEmpty version) by is = tt
+truly_then mid new (op.Absent acceptor) by is = tt
+truly_then mid new (op.ProposerDown proposer) by is = tt
+truly_then mid new (op.Stopped why) by is = tt
+
+-- where those that told nothing are no more than this, it is told so
+silent_says : (most : ℕ) (key : List ℕ) (found : Probes) (told : OpAnswer) → silent_in found.probes.items ≤ most → SaysTheSame (op.Probed key found) told → IsSilentAtMost most told
+silent_says most key found (op.Probed other seen) few same = subst (λ (l : List ProbeOf). silent_in l ≤ most) same.1 few
+silent_says most key found (op.Joined id era rescanned) few same = tt
+silent_says most key found (op.Left id era rescanned) few same = tt
+silent_says most key found (op.Refused fault) few same = tt
+silent_says most key found (op.Busy era) few same = tt
+silent_says most key found (op.Collected other ballot removed kept) few same = tt
+silent_says most key found (op.NotEmpty version) few same = tt
+silent_says most key found (op.Absent acceptor) few same = tt
+silent_says most key found (op.ProposerDown proposer) few same = tt
+silent_says most key found (op.Stopped why) few same = tt
 
 -- what says the same of what was found is such an answer, too
 found_says : (key members : List ℕ) (found : Probes) (told : OpAnswer) → named_in found ≡ members → SaysTheSame (op.Probed key found) told → IsProbeAnswer key members told
@@ -236,8 +351,8 @@ found_says key members found (op.Absent acceptor) names same = absurd (cc same)
 found_says key members found (op.ProposerDown proposer) names same = absurd (cc same)
 found_says key members found (op.Stopped why) names same = absurd (cc same)
 
-gathers_probe : {S V : Type 0} (old new : View S V) (key members : List ℕ) → IsProbed old key members → StepGather old new → GathersProbe old new key members
-gathers_probe {S} {V} old new key members was by = by_case by.gathers
+gathers_probe : {S V : Type 0} (m : Meaning S V) (old new : View S V) (key members : List ℕ) → IsProbed old key members → StepGather old new → GathersProbe m old new key members
+gathers_probe {S} {V} m old new key members was by = by_case by.gathers
   where
     same_exchange : by.at.exchange ≡ was.exchange
     same_exchange = some_is (sym by.at.is_open ∙ was.is_open)
@@ -248,10 +363,26 @@ gathers_probe {S} {V} old new key members was by = by_case by.gathers
     leaves : (changed : View S V) → new ≡ changed → changed.greatest ≡ old.greatest → changed.desks ≡ old.desks → changed.callers ≡ old.callers → changed.marks ≡ old.marks → Leaves old new []
     leaves changed is greatest desks callers marks = leaves_desks old changed new [] is greatest desks callers (marks ∙ sym (append-nil old.marks))
 
-    stopped : (why : Answer) → Leaves old new [] → new.council.order ≡ option_map (told_so (op.Stopped why)) old.council.order → IsProbeAnswer key members (op.Stopped why) → GathersProbe old new key members
-    stopped why left order stops = record { leaves = left; said = op.Stopped why; order = order ∙ ap (option_map (told_so (op.Stopped why))) was.order; answer = λ told same. stopped_says key members why told stops same }
+    stopped : (why : Answer) → Leaves old new [] → new.council.order ≡ option_map (told_so (op.Stopped why)) old.council.order → IsProbeAnswer key members (op.Stopped why) → GathersProbe m old new key members
+    stopped why left order stops = record { leaves = left; said = op.Stopped why; order = order ∙ ap (option_map (told_so (op.Stopped why))) was.order; answer = λ told same. stopped_says key members why told stops same; silent = λ steady harms has told same. stopped_silent harms why told same; truly = λ shelves disks steady told same. stopped_truly (reverse old.marks) why told same }
 
-    by_case : Gathers old by.at.exchange new → GathersProbe old new key members
+    few : IsSteady m old → (harms : ℕ) → HasHarms harms (own_part old 0) → (found : Probes) → found.probes.items ≡ by.at.exchange.told → by.at.exchange.crashed ≡ false → silent_in found.probes.items ≤ harms
+    few steady harms has found keeps up =
+        let harmed : length by.at.exchange.harmed ≡ harms = ap (λ (q : Question). harms_part q by.at.exchange.harmed) (sym asks) ∙ harms_are old by.at.exchange harms by.at.is_open has in
+        omega (arith, silent_are_harmed old by.at.exchange steady.safe steady.answering by.at.is_open up by.none_waits, ap silent_in keeps, harmed)
+
+    -- each that tells the key, and all who confirmed, are those that were asked
+    so : m.shelves.tells → m.disks.tells → IsSteady m old → (found : Probes) → found.probes.items ≡ by.at.exchange.told → AreToldOf (reverse old.marks) key found.probes.items
+    so shelves disks steady found keeps = subst (AreToldOf (reverse old.marks) key) (sym keeps) ((steady.probing shelves disks) by.at.exchange key by.at.is_open asks).told
+
+    heard : IsSteady m old → tellers_of by.at.exchange.told ≡ by.at.exchange.members
+    heard steady = (subst (λ (o : Option ExchangeView). IsHearing o (queue_at old.flow exchange_place).messages) by.at.is_open steady.answering).tellers
+
+    all : m.shelves.tells → m.disks.tells → IsSteady m old → (found : Probes) → found.probes.items ≡ by.at.exchange.told → AreAllConfirmers (reverse old.marks) (named_in found)
+    all shelves disks steady found keeps a acceptor stands era confirms =
+        subst (λ (l : List ℕ). has_member l acceptor ≡ true) (sym (heard steady) ∙ ap tellers_of (sym keeps)) (confirmers_are_probed m old by.at.exchange key a acceptor steady.safe (steady.remembered shelves disks) steady.asking by.at.is_open asks stands era confirms)
+
+    by_case : Gathers old by.at.exchange new → GathersProbe m old new key members
     by_case (council.crashed down is) = stopped answer.Crashed (leaves _ is refl refl refl refl) (ap (λ (w : View S V). w.council.order) is) refl
     by_case (council.probed other found up question keeps is) =
         let same_key : other ≡ key = cc (sym question ∙ asks) in
@@ -260,6 +391,8 @@ gathers_probe {S} {V} old new key members was by = by_case by.gathers
           said = op.Probed other found;
           order = ap (λ (w : View S V). w.council.order) is ∙ ap (option_map (told_so (op.Probed other found))) was.order;
           answer = λ told same. found_says key members found told (ap (map (λ (p : ProbeOf). p.acceptor)) keeps ∙ ap asked_of same_exchange ∙ was.asks) (subst (λ (k : List ℕ). SaysTheSame (op.Probed k found) told) same_key same);
+          silent = λ steady harms has told same. silent_says harms other found told (few steady harms has found keeps up) same;
+          truly = λ shelves disks steady told same. truly_says (reverse old.marks) other found told (subst (λ (k : List ℕ). AreToldOf (reverse old.marks) k found.probes.items) (sym same_key) (so shelves disks steady found keeps)) (all shelves disks steady found keeps) same;
         }
     by_case (council.lists of listing up enough on is) = absurd (cc (sym asks ∙ of.question))
     by_case (council.is_short of short up few is) = absurd (cc (sym asks ∙ of.question))
@@ -268,11 +401,23 @@ gathers_probe {S} {V} old new key members was by = by_case by.gathers
 pub gather_told : {S V : Type 0} (m : Meaning S V) (most : ℕ) (old mid new : View S V) (key members : List ℕ) (told : OpAnswer) → HasProbe key members (own_part old 0) → IsKept old → Step m old (gathering_of old) mid → WasToldOrder mid told → StepTell mid told new
     → Held old new (IsToldIn (asked.Probe key) IsAskingHarm most old new told × IsProbeAnswer key members told)
 gather_told {S} {V} m most old mid new key members told has kept step_ said ends =
-    let by : StepGather old mid = subst (λ (e : step.Event). Step m old e mid) (gathering_is old key members has) step_ in
-    let was = is_probed old key members has in
-    let gathers = gathers_probe old mid key members was by in
-    let held = tells_in IsAskingHarm most old mid new (asked.Probe key) told (told_so gathers.said (new_order (asked.Probe key))) gathers.leaves gathers.order refl ends kept was.no_call in
+    let gathers = gathers_probe m old mid key members (is_probed old key members has) (gathers_by m old mid key members has step_) in
+    let held = tells_in IsAskingHarm most old mid new (asked.Probe key) told (told_so gathers.said (new_order (asked.Probe key))) gathers.leaves gathers.order refl ends kept (is_probed old key members has).no_call in
     record { does = (held.does, gathers.answer told (says_same mid (new_order (asked.Probe key)) gathers.said told gathers.order said)); kept = held.kept; greatest = held.greatest }
+
+-- no more are silent than were harmed
+pub gather_silent : {S V : Type 0} (m : Meaning S V) (old mid : View S V) (key members : List ℕ) (told : OpAnswer) → HasProbe key members (own_part old 0) → Step m old (gathering_of old) mid → WasToldOrder mid told → IsSteady m old → (harms : ℕ) → HasHarms harms (own_part old 0) → IsSilentAtMost harms told
+gather_silent {S} {V} m old mid key members told has step_ said steady harms harmed =
+    let gathers = gathers_probe m old mid key members (is_probed old key members has) (gathers_by m old mid key members has step_) in
+    gathers.silent steady harms harmed told (says_same mid (new_order (asked.Probe key)) gathers.said told gathers.order said)
+
+-- and what is told is true
+pub gather_truly : {S V : Type 0} (m : Meaning S V) (old mid new : View S V) (key members : List ℕ) (told : OpAnswer) → HasProbe key members (own_part old 0) → Step m old (gathering_of old) mid → WasToldOrder mid told → StepTell mid told new → IsSteady m old → m.shelves.tells → m.disks.tells
+    → IsTrueProbe (reverse new.marks) told
+gather_truly {S} {V} m old mid new key members told has step_ said ends steady shelves disks =
+    let gathers = gathers_probe m old mid key members (is_probed old key members has) (gathers_by m old mid key members has step_) in
+    let marks : mid.marks ≡ old.marks = gathers.leaves.made ∙ append-nil old.marks in
+    truly_then mid new told ends (subst (λ (l : List Mark). IsTrueProbe (reverse l) told) (sym marks) (gathers.truly shelves disks steady told (says_same mid (new_order (asked.Probe key)) gathers.said told gathers.order said)))
 
 -- the members' answers were gathered
 record FindsProbe {S V : Type 0} (new : View S V) (key : List ℕ) (result : Gathered) : Type 0 where

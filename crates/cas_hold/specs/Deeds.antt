@@ -1,5 +1,5 @@
 -- What a hold does for a caller's call.
-use Rattle.std.specs.Prelude.{◌≡◌, ◌⊎◌, ◌≤◌, ℕ, false, if◌then◌else◌, List, [], ◌∷◌, ◌++◌, Some}
+use Rattle.std.specs.Prelude.{◌≡◌, ◌⊎◌, ◌<◌, ◌≤◌, ℕ, false, if◌then◌else◌, List, [], ◌∷◌, ◌++◌, length, Some}
 use Rattle.cas_change.specs.declared.program.Clause.{Clause}
 use Rattle.cas_fate.specs.Harms.{is_harm}
 use Rattle.cas_fate.specs.declared.fate.Verdict.{Verdict}
@@ -40,9 +40,9 @@ pub record BeginsIn {S V : Type 0} (n call : ℕ) (key : List ℕ) (program : Li
   pub council : new.council ≡ old.council
   pub wanted : wanted_by n new.marks ≡ Some (wants call key program)
 
--- why a call is not begun: the record is full, or there is no memory
-abbrev pub IsRefusal : Answer → Type 0
-IsRefusal told = (told ≡ answer.RecordFull) ⊎ (told ≡ answer.NoMemory false)
+-- why a call is not begun before a record of so many marks: that is full, and has more than 999,000, or there is no memory
+abbrev pub IsRefusal : ℕ → Answer → Type 0
+IsRefusal made told = ((told ≡ answer.RecordFull) × (999000 < made)) ⊎ (told ≡ answer.NoMemory false)
 
 -- no call is open then, and of the operator's call is told what the end of this one tells; nothing is open where nothing was
 pub record LeavesIdle {S V : Type 0} (n : ℕ) (key : List ℕ) (told : Answer) (old new : View S V) : Type 0 where
@@ -53,7 +53,7 @@ pub record LeavesIdle {S V : Type 0} (n : ℕ) (key : List ℕ) (told : Answer) 
 -- a call for this begins and ends at once, which is no conflict; or it is not begun, and no mark is made
 pub data BeginsNot {S V : Type 0} (n : ℕ) (key : List ℕ) (program : List Clause) (old new : View S V) (told : Answer) : Type 0 where
   ends_at_once : (call rounds : ℕ) → Makes n old new (Begun n call key program ∷ Ended n call rounds told ∷ []) → LeavesIdle n key told old new → is_conflict told ≡ false → BeginsNot n key program old new told
-  is_refused : IsRefusal told → Makes n old new [] → LeavesIdle n key told old new → BeginsNot n key program old new told
+  is_refused : IsRefusal (length new.marks) told → Makes n old new [] → LeavesIdle n key told old new → BeginsNot n key program old new told
 
 -- the open call of that number goes on, and at most so many losses of its frames are marked
 pub record GoesOnIn {S V : Type 0} (n call most : ℕ) (old new : View S V) : Type 0 where

@@ -1,9 +1,12 @@
 -- What a hold does for a call of the operator, whose marks are caller 0's, and what of caller 0's own part tells of it.
-use Rattle.std.specs.Prelude.{◌≡◌, ◌≤◌, ℕ, Bool, true, false, List, ◌++◌, map, All, None, Some}
+use Rattle.std.specs.Prelude.{◌≡◌, ◌≤◌, ⊤, ℕ, ◌+◌, Bool, true, false, List, ◌++◌, length, map, All, None, Some}
+use Rattle.cas_ballot.specs.Members.{has_member}
+use Rattle.cas_record.specs.Places.{Stands}
 use Rattle.cas_record.specs.declared.answer.Answer.{Answer}
 use Rattle.cas_record.specs.declared.answer.Answer.TheVariants as answer
+use Rattle.cas_record.specs.declared.mark.Acknowledgment.{Acknowledgment}
 use Rattle.cas_record.specs.declared.mark.Mark.{Mark}
-use Rattle.cas_record.specs.declared.mark.Mark.TheVariants.{Harmed}
+use Rattle.cas_record.specs.declared.mark.Mark.TheVariants.{Acked, Harmed}
 use Rattle.cas_record.specs.declared.operator.Asked.{Asked}
 use Rattle.cas_record.specs.declared.operator.Asked.TheVariants as asked
 use Rattle.cas_record.specs.declared.operator.OpAnswer.{OpAnswer}
@@ -15,7 +18,10 @@ use Rattle.cas_cluster.specs.View.{View}
 use Rattle.cas_hold.specs.Kept.{Makes}
 use Rattle.cas_hold.specs.Mine.{mine, losses}
 use Rattle.cas_hold.specs.Open.{IsFree}
-use Rattle.cas_hold.specs.OwnParts.{asked_of, council_part, own_part}
+use Rattle.cas_hold.specs.OwnParts.{asked_of, harms_part, council_part, own_part}
+use Rattle.cas_causes.specs.Answering.{silent_in}
+use Rattle.cas_causes.specs.Confirmed.{era_marked}
+use Rattle.cas_causes.specs.Probed.{AreToldOf}
 
 -- ---- what is open
 -- a call of the operator that was told nothing
@@ -39,6 +45,14 @@ pub record HasProbe (key members own : List ℕ) : Type 0 where
   pub is_open : council.exchange ≡ Some exchange
   pub question : exchange.question ≡ Probe key
   pub asks : asked_of exchange ≡ members
+
+-- of so many of those that it asks a frame was harmed
+pub record HasHarms (harms : ℕ) (own : List ℕ) : Type 0 where
+  pub council : Council
+  pub is : own ≡ council_part council
+  pub exchange : ExchangeView
+  pub is_open : council.exchange ≡ Some exchange
+  pub harmed : harms_part exchange.question exchange.harmed ≡ harms
 
 -- ---- what a hold does
 -- the operator's call goes on: it makes such marks, and marks at most so many losses
@@ -81,3 +95,21 @@ abbrev pub IsProbeAnswer : List ℕ → List ℕ → OpAnswer → Type 0
 IsProbeAnswer key members (told.Probed other found) = (other ≡ key) × (named_in found ≡ members)
 IsProbeAnswer key members (told.Stopped why) = stops_probe why ≡ true
 IsProbeAnswer key members other = ⊥
+
+-- no more of them told nothing than this
+abbrev pub IsSilentAtMost : ℕ → OpAnswer → Type 0
+IsSilentAtMost most (told.Probed key found) = silent_in found.probes.items ≤ most
+IsSilentAtMost most other = ⊤
+
+-- whoever confirmed what was acknowledged in the era that proposer 0 was marked last as having entered is one of these
+abbrev pub AreAllConfirmers : List Mark → List ℕ → Type 0
+AreAllConfirmers marks asked = (a : Acknowledgment) (acceptor : ℕ) → Stands (Acked a) marks → a.era ≡ era_marked 0 marks → has_member a.by acceptor ≡ true → has_member asked acceptor ≡ true
+
+-- What each of them told of the key is so by these marks, and they are all such. Marks are read newest first.
+abbrev pub IsTrueProbe : List Mark → OpAnswer → Type 0
+IsTrueProbe marks (told.Probed key found) = AreToldOf marks key found.probes.items × AreAllConfirmers marks (named_in found)
+IsTrueProbe marks other = ⊤
+
+-- No more of them are harmed as a hold goes on with it than marks of caller 0 were made.
+abbrev pub MarksHarms : {S V : Type 0} → View S V → View S V → Type 0
+MarksHarms {S} {V} old new = (harms : ℕ) → HasHarms harms (own_part old 0) → (more : ℕ) × HasHarms more (own_part new 0) × (more + length (mine 0 old.marks) ≤ harms + length (mine 0 new.marks))

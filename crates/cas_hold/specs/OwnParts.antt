@@ -62,9 +62,14 @@ order_part (Some order) = framed 1 ((if is_some order.told then 1 else 0) ∷ as
 abbrev pub asked_of : ExchangeView → List ℕ
 asked_of exchange = map (λ probe. probe.acceptor) exchange.told
 
+-- of how many of those that a probe asks a frame was harmed
+abbrev pub harms_part : Question → List ℕ → ℕ
+harms_part (Probe key) harmed = length harmed
+harms_part other harmed = 0
+
 abbrev pub exchange_part : Option ExchangeView → List ℕ
 exchange_part None = []
-exchange_part (Some exchange) = framed 2 (length (asked_of exchange) ∷ asked_of exchange ++ question_part exchange.question)
+exchange_part (Some exchange) = framed 2 (harms_part exchange.question exchange.harmed ∷ length (asked_of exchange) ∷ asked_of exchange ++ question_part exchange.question)
 
 -- the key that it is to propose anew, if one is due
 abbrev pub due_part : Option (List ℕ) → List ℕ

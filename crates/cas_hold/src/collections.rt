@@ -1,7 +1,7 @@
 //! What one hold does for a collection of the operator: one call on the world that makes marks or asks, with the ends of the collection's
 //! call and of the operator's where that told their answers.
 
-ghost use Rattle.std.specs.Prelude.{◌≡◌, ◌≢◌, ◌↔◌, ◌⊎◌, ◌≤◌, ℕ, List, [], None, Some, Ok, Err, true, false, IsTrue, IsSome, IfSome, IfOk, IfErr, OnOk};
+ghost use Rattle.std.specs.Prelude.{◌≡◌, ◌≢◌, ◌↔◌, ◌⊎◌, ◌≤◌, ℕ, List, [], length, None, Some, Ok, Err, true, false, IsTrue, IsSome, IfSome, IfOk, IfErr, OnOk};
 ghost use Rattle.cas_cluster.specs.Council.{exchange_place};
 ghost use Rattle.cas_cluster.specs.Protocol.{is_done};
 ghost use Rattle.cas_cluster.specs.StepCollect.{keep_always};
@@ -30,7 +30,8 @@ use cas_disk::Disk;
 use cas_fate::Verdict;
 use cas_record::{Answer, Asked, OpAnswer};
 use cas_slot::Shelf;
-use cas_world::{Exchange, Reading, World};
+use cas_steady::SteadyWorld;
+use cas_world::{Exchange, Reading};
 use std::alloc::{AllocError, Global};
 
 /// How far a collection has come.
@@ -71,7 +72,7 @@ pub struct KeyCollection {
 /// which is [`Answer::RecordFull`] or [`Answer::NoMemory`], it was not begun.
 pub fn order_collection<S: Shelf, V: Disk>(
     alloc: Global,
-    world: &mut World<S, V>,
+    world: &mut SteadyWorld<S, V>,
     key: &Key,
     tries: u32,
 ) -> Result<KeyCollection, Answer>
@@ -84,7 +85,7 @@ pub fn order_collection<S: Shelf, V: Disk>(
     ensures keeps { IfOk result (λ collecting. collecting.program ≡ keep_always) }
     ensures tries { IfOk result (λ collecting. collecting.tries ≡ tries) }
     ensures ordered { IfOk result (λ collecting. HasCourse key.now (most_rounds tries) collecting.course (own_part world.new 0) world.new.marks) }
-    ensures refused { IfErr result (λ why. IsRefusal why × IsFree (own_part world.new 0)) }
+    ensures refused { IfErr result (λ why. IsRefusal (length world.new.marks) why × IsFree (own_part world.new 0)) }
 {
     match prepare(alloc, key, tries) {
         Ok((asked, collecting)) => match open_order(world, &asked) {
@@ -120,7 +121,7 @@ fn prepare(alloc: Global, key: &Key, tries: u32) -> Result<(Asked, KeyCollection
 /// becomes. An `Err` is what the operator was told, and its call is over. The collection's call ends with a conflict only once it has had
 /// all its rounds.
 pub fn go_on_collecting<S: Shelf, V: Disk>(
-    world: &mut World<S, V>,
+    world: &mut SteadyWorld<S, V>,
     collecting: KeyCollection,
     verdict: Verdict,
 ) -> Result<KeyCollection, OpAnswer>
@@ -160,7 +161,7 @@ pub fn go_on_collecting<S: Shelf, V: Disk>(
 }
 
 /// Whether the members were asked to remove their slots, and no frame of that waits.
-fn are_removals_heard<S: Shelf, V: Disk>(world: &World<S, V>, course: Course) -> bool
+fn are_removals_heard<S: Shelf, V: Disk>(world: &SteadyWorld<S, V>, course: Course) -> bool
     ensures { IsTrue result ↔ (course ≡ Course.HearsRemovals) × (front_of world.now 0 ≡ None) }
 {
     match course {
@@ -171,7 +172,7 @@ fn are_removals_heard<S: Shelf, V: Disk>(world: &World<S, V>, course: Course) ->
 
 /// Takes the next step of the collection of the key from there. An `Err` is what the operator was told.
 fn take_step<S: Shelf, V: Disk>(
-    world: &mut World<S, V>,
+    world: &mut SteadyWorld<S, V>,
     key: &Key,
     program: &Program,
     tries: u32,
@@ -202,7 +203,7 @@ fn take_step<S: Shelf, V: Disk>(
 
 /// Begins the collection's call. An `Err` is what the operator was told.
 fn begin_burial<S: Shelf, V: Disk>(
-    world: &mut World<S, V>,
+    world: &mut SteadyWorld<S, V>,
     key: &Key,
     program: &Program,
 ) -> Result<Course, OpAnswer>
@@ -222,7 +223,7 @@ fn begin_burial<S: Shelf, V: Disk>(
 
 /// The collection's call was refused: it was not begun, or ends with what it was told. Gives what the operator was told.
 fn refuse_burial<S: Shelf, V: Disk>(
-    world: &mut World<S, V>,
+    world: &mut SteadyWorld<S, V>,
     call: u32,
     refusal: OpAnswer,
 ) -> OpAnswer
@@ -244,7 +245,7 @@ fn refuse_burial<S: Shelf, V: Disk>(
 
 /// Goes on with the collection's call of that number, as with any other. An `Err` is what the operator was told.
 fn go_on_burying<S: Shelf, V: Disk>(
-    world: &mut World<S, V>,
+    world: &mut SteadyWorld<S, V>,
     key: &Key,
     program: &Program,
     tries: u32,
@@ -277,7 +278,7 @@ fn go_on_burying<S: Shelf, V: Disk>(
 
 /// Begins another round of the collection's call, whose last one ended with a conflict. An `Err` is what the operator was told.
 fn bury_again<S: Shelf, V: Disk>(
-    world: &mut World<S, V>,
+    world: &mut SteadyWorld<S, V>,
     key: &Key,
     program: &Program,
     call: u32,
@@ -304,7 +305,7 @@ fn bury_again<S: Shelf, V: Disk>(
 
 /// The first frame of the collection's round has its turn. An `Err` is what the operator was told, for want of memory.
 fn take_burial_turn<S: Shelf, V: Disk>(
-    world: &mut World<S, V>,
+    world: &mut SteadyWorld<S, V>,
     key: &Key,
     call: u32,
     rounds: u32,
@@ -330,7 +331,7 @@ fn take_burial_turn<S: Shelf, V: Disk>(
 /// Ends the prepare phase of the collection's round: the tombstone is proposed, or another round may follow a conflict; or it read a held
 /// state, and its call is over. An `Err` is what the operator was told.
 fn propose_tombstone<S: Shelf, V: Disk>(
-    world: &mut World<S, V>,
+    world: &mut SteadyWorld<S, V>,
     key: &Key,
     tries: u32,
     call: u32,
@@ -359,7 +360,7 @@ fn propose_tombstone<S: Shelf, V: Disk>(
 
 /// Ends the accept phase of the collection's round, and its call. An `Err` is what the operator was told.
 fn count_tombstone<S: Shelf, V: Disk>(
-    world: &mut World<S, V>,
+    world: &mut SteadyWorld<S, V>,
     key: &Key,
     call: u32,
 ) -> Result<Course, OpAnswer>
@@ -379,7 +380,7 @@ fn count_tombstone<S: Shelf, V: Disk>(
 }
 
 /// Ends the collection's call with what it was told last, and tells the operator that it stopped, and why.
-fn stop<S: Shelf, V: Disk>(world: &mut World<S, V>, call: u32, told: Answer) -> OpAnswer
+fn stop<S: Shelf, V: Disk>(world: &mut SteadyWorld<S, V>, call: u32, told: Answer) -> OpAnswer
     requires told { WasTold world.old 0 call told }
     requires calling { IsCollectingCall world.old }
     requires undone { is_done told ≡ false }
@@ -391,7 +392,10 @@ fn stop<S: Shelf, V: Disk>(world: &mut World<S, V>, call: u32, told: Answer) -> 
 }
 
 /// The round is over, and the renewals are due where all who accept acknowledged the tombstone. An `Err` is what the operator was told.
-fn gather_round<S: Shelf, V: Disk>(world: &mut World<S, V>, key: &Key) -> Result<Course, OpAnswer>
+fn gather_round<S: Shelf, V: Disk>(
+    world: &mut SteadyWorld<S, V>,
+    key: &Key,
+) -> Result<Course, OpAnswer>
     requires kept { IsKept world.old }
     requires at { HasStep key.now step.Round (own_part world.old 0) }
     ensures kept { IsKept world.new }
@@ -405,7 +409,7 @@ fn gather_round<S: Shelf, V: Disk>(world: &mut World<S, V>, key: &Key) -> Result
 }
 
 /// The next proposer is renewed; or, where none is left, all members are told the new ages. An `Err` is what the operator was told.
-fn renew<S: Shelf, V: Disk>(world: &mut World<S, V>, key: &Key) -> Result<Course, OpAnswer>
+fn renew<S: Shelf, V: Disk>(world: &mut SteadyWorld<S, V>, key: &Key) -> Result<Course, OpAnswer>
     requires kept { IsKept world.old }
     requires at { HasStep key.now step.Ages (own_part world.old 0) ⊎ ((proposer : ℕ) × HasStep key.now (step.Renew proposer) (own_part world.old 0)) }
     ensures kept { IsKept world.new }
@@ -420,7 +424,7 @@ fn renew<S: Shelf, V: Disk>(world: &mut World<S, V>, key: &Key) -> Result<Course
 
 /// The proposer is renewed. An `Err` is what the operator was told.
 fn renew_proposer<S: Shelf, V: Disk>(
-    world: &mut World<S, V>,
+    world: &mut SteadyWorld<S, V>,
     key: &Key,
     proposer: u8,
 ) -> Result<Course, OpAnswer>
@@ -438,7 +442,7 @@ fn renew_proposer<S: Shelf, V: Disk>(
 }
 
 /// All members are told the new ages. An `Err` is what the operator was told.
-fn ask_ages<S: Shelf, V: Disk>(world: &mut World<S, V>, key: &Key) -> Result<Course, OpAnswer>
+fn ask_ages<S: Shelf, V: Disk>(world: &mut SteadyWorld<S, V>, key: &Key) -> Result<Course, OpAnswer>
     requires kept { IsKept world.old }
     requires at { HasStep key.now step.Ages (own_part world.old 0) }
     ensures kept { IsKept world.new }
@@ -452,7 +456,10 @@ fn ask_ages<S: Shelf, V: Disk>(world: &mut World<S, V>, key: &Key) -> Result<Cou
 }
 
 /// All members are asked to remove their slots. An `Err` is what the operator was told.
-fn ask_removals<S: Shelf, V: Disk>(world: &mut World<S, V>, key: &Key) -> Result<Course, OpAnswer>
+fn ask_removals<S: Shelf, V: Disk>(
+    world: &mut SteadyWorld<S, V>,
+    key: &Key,
+) -> Result<Course, OpAnswer>
     requires kept { IsKept world.old }
     requires at { HasStep key.now step.Remove (own_part world.old 0) }
     ensures kept { IsKept world.new }
@@ -468,7 +475,7 @@ fn ask_removals<S: Shelf, V: Disk>(world: &mut World<S, V>, key: &Key) -> Result
 /// The first frame that waits has its turn; or, where none does, what the members told of the new ages is gathered. An `Err` is what the
 /// operator was told.
 fn hear_ages<S: Shelf, V: Disk>(
-    world: &mut World<S, V>,
+    world: &mut SteadyWorld<S, V>,
     key: &Key,
     verdict: Verdict,
 ) -> Result<Course, OpAnswer>
@@ -488,7 +495,10 @@ fn hear_ages<S: Shelf, V: Disk>(
 }
 
 /// What the members told of the new ages is gathered, and the floor is due where all confirmed them. An `Err` is what the operator was told.
-fn gather_ages<S: Shelf, V: Disk>(world: &mut World<S, V>, key: &Key) -> Result<Course, OpAnswer>
+fn gather_ages<S: Shelf, V: Disk>(
+    world: &mut SteadyWorld<S, V>,
+    key: &Key,
+) -> Result<Course, OpAnswer>
     requires kept { IsKept world.old }
     requires at { HasQuestion key.now step.Ages (own_part world.old 0) }
     requires through { (queue_at world.old.flow exchange_place).messages ≡ [] }
@@ -503,7 +513,7 @@ fn gather_ages<S: Shelf, V: Disk>(world: &mut World<S, V>, key: &Key) -> Result<
 }
 
 /// The tombstone becomes the floor of its key.
-fn floor<S: Shelf, V: Disk>(world: &mut World<S, V>, key: &Key) -> Course
+fn floor<S: Shelf, V: Disk>(world: &mut SteadyWorld<S, V>, key: &Key) -> Course
     requires kept { IsKept world.old }
     requires at { HasStep key.now step.Floor (own_part world.old 0) }
     ensures kept { IsKept world.new }
@@ -516,7 +526,7 @@ fn floor<S: Shelf, V: Disk>(world: &mut World<S, V>, key: &Key) -> Course
 
 /// The first frame of the removals has its turn. An `Err` is what the operator was told.
 fn hear_removals<S: Shelf, V: Disk>(
-    world: &mut World<S, V>,
+    world: &mut SteadyWorld<S, V>,
     key: &Key,
     verdict: Verdict,
 ) -> Result<Course, OpAnswer>
@@ -534,7 +544,7 @@ fn hear_removals<S: Shelf, V: Disk>(
 }
 
 /// The removals are gathered, and the operator is told that the key is collected, or why it is not.
-fn gather_removals<S: Shelf, V: Disk>(world: &mut World<S, V>, key: Key) -> OpAnswer
+fn gather_removals<S: Shelf, V: Disk>(world: &mut SteadyWorld<S, V>, key: Key) -> OpAnswer
     requires kept { IsKept world.old }
     requires at { HasQuestion key step.Remove (own_part world.old 0) }
     requires through { (queue_at world.old.flow exchange_place).messages ≡ [] }

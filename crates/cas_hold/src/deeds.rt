@@ -21,7 +21,7 @@ use cas_disk::Disk;
 use cas_fate::{Leg, Verdict};
 use cas_record::Answer;
 use cas_slot::Shelf;
-use cas_world::World;
+use cas_steady::SteadyWorld;
 
 /// A frame that waits for its turn.
 #[derive(Clone, Copy, Debug, PartialEq, Eq)]
@@ -53,7 +53,7 @@ pub struct Begun {
 }
 
 /// The first frame of the caller that waits: of its round or, where caller 0 asks all members, of its exchange.
-pub fn first_frame<S: Shelf, V: Disk>(world: &World<S, V>, caller: u8) -> Option<Waiting>
+pub fn first_frame<S: Shelf, V: Disk>(world: &SteadyWorld<S, V>, caller: u8) -> Option<Waiting>
     requires { caller ≤ world.now.greatest }
     ensures first { IfSome result (IsFirst world.now caller) }
     ensures none { result ≡ None → front_of world.now caller ≡ None }
@@ -69,7 +69,7 @@ pub fn first_frame<S: Shelf, V: Disk>(world: &World<S, V>, caller: u8) -> Option
 }
 
 /// How far the caller's open call has come.
-pub fn stage_of<S: Shelf, V: Disk>(world: &World<S, V>, caller: u8) -> Stage
+pub fn stage_of<S: Shelf, V: Disk>(world: &SteadyWorld<S, V>, caller: u8) -> Stage
     requires { caller ≤ world.now.greatest }
     ensures { IsStageOf world.now caller result }
 {
@@ -86,7 +86,7 @@ pub fn stage_of<S: Shelf, V: Disk>(world: &World<S, V>, caller: u8) -> Stage
 }
 
 /// The late frame at that place strays in, if there is one. One that the world refuses is passed over.
-pub fn let_in<S: Shelf, V: Disk>(world: &mut World<S, V>, index: usize)
+pub fn let_in<S: Shelf, V: Disk>(world: &mut SteadyWorld<S, V>, index: usize)
     requires kept { IsKept world.old }
     ensures kept { IsKept world.new }
     ensures greatest { world.new.greatest ≡ world.old.greatest }
@@ -99,7 +99,7 @@ pub fn let_in<S: Shelf, V: Disk>(world: &mut World<S, V>, index: usize)
 
 /// Begins the caller's next call. An `Err` is its answer: it was not begun, or has ended.
 pub fn begin<S: Shelf, V: Disk>(
-    world: &mut World<S, V>,
+    world: &mut SteadyWorld<S, V>,
     caller: u8,
     key: &Key,
     program: &Program,
@@ -130,7 +130,7 @@ pub fn begin<S: Shelf, V: Disk>(
 /// closed the round the call ends. An `Err` is the answer with which it has ended. A conflict is that answer only where no other round may
 /// follow it.
 pub fn go_on<S: Shelf, V: Disk>(
-    world: &mut World<S, V>,
+    world: &mut SteadyWorld<S, V>,
     caller: u8,
     call: u32,
     key: &Key,
@@ -169,7 +169,7 @@ pub fn go_on<S: Shelf, V: Disk>(
 
 /// Begins another round of the call, whose last one ended with a conflict. An `Err` is the answer with which it has ended.
 fn begin_again<S: Shelf, V: Disk>(
-    world: &mut World<S, V>,
+    world: &mut SteadyWorld<S, V>,
     caller: u8,
     call: u32,
     key: &Key,
@@ -198,7 +198,7 @@ fn begin_again<S: Shelf, V: Disk>(
 
 /// The first frame of the call's round has its turn. An `Err` is the answer with which the call has ended, for want of memory.
 fn take_turn<S: Shelf, V: Disk>(
-    world: &mut World<S, V>,
+    world: &mut SteadyWorld<S, V>,
     caller: u8,
     call: u32,
     verdict: Verdict,
@@ -230,7 +230,7 @@ fn take_turn<S: Shelf, V: Disk>(
 /// Ends the prepare phase of the call's round: something is proposed, or another round may follow a conflict. An `Err` is the answer with
 /// which the call has ended otherwise.
 fn propose<S: Shelf, V: Disk>(
-    world: &mut World<S, V>,
+    world: &mut SteadyWorld<S, V>,
     caller: u8,
     call: u32,
     may_repeat: bool,

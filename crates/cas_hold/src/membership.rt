@@ -1,7 +1,7 @@
 //! What one hold does for a change of membership: one call on the world, with the end of caller 0's call or of the operator's where that
 //! told its answer.
 
-ghost use Rattle.std.specs.Prelude.{◌≡◌, ◌↔◌, ◌≢◌, ℕ, false, [], Some, IsTrue, IfOk, IfErr, OnOk};
+ghost use Rattle.std.specs.Prelude.{◌≡◌, ◌↔◌, ◌≢◌, ℕ, false, [], length, Some, IsTrue, IfOk, IfErr, OnOk};
 ghost use Rattle.cas_calls.specs.Council.{due_in};
 ghost use Rattle.cas_cluster.specs.Council.{exchange_place};
 ghost use Rattle.cas_cluster.specs.StepCollect.{keep_always};
@@ -27,7 +27,8 @@ use cas_fate::Verdict;
 use cas_members::PlanStep;
 use cas_record::{Answer, OpAnswer};
 use cas_slot::Shelf;
-use cas_world::{Exchange, PlanKind, World};
+use cas_steady::SteadyWorld;
+use cas_world::{Exchange, PlanKind};
 use std::alloc::{AllocError, Global};
 
 /// A change of membership that the operator asks for.
@@ -56,7 +57,7 @@ pub enum MembersStep {
 }
 
 /// Whether the change of membership is under way.
-fn is_under_way<S: Shelf, V: Disk>(world: &World<S, V>, aim: &Aim) -> bool
+fn is_under_way<S: Shelf, V: Disk>(world: &SteadyWorld<S, V>, aim: &Aim) -> bool
     ensures { IsTrue result ↔ IsFor world.now.council.plan (asked_to aim.now.kind aim.now.id) }
 {
     world.plan_is(&aim.kind.asked(aim.id))
@@ -66,7 +67,7 @@ fn is_under_way<S: Shelf, V: Disk>(world: &World<S, V>, aim: &Aim) -> bool
 /// [`Answer::RecordFull`] or [`Answer::NoMemory`], it was not begun.
 pub fn order_members<S: Shelf, V: Disk>(
     alloc: Global,
-    world: &mut World<S, V>,
+    world: &mut SteadyWorld<S, V>,
     aim: &Aim,
 ) -> Result<Program, Answer>
     requires kept { IsKept world.old }
@@ -76,7 +77,7 @@ pub fn order_members<S: Shelf, V: Disk>(
     ensures makes { Makes 0 world.old world.new [] }
     ensures program { IfOk result (λ program. program ≡ keep_always) }
     ensures ordered { OnOk result (HasOrder (asked_to aim.now.kind aim.now.id) (own_part world.new 0)) }
-    ensures refused { IfErr result (λ why. IsRefusal why × IsFree (own_part world.new 0)) }
+    ensures refused { IfErr result (λ why. IsRefusal (length world.new.marks) why × IsFree (own_part world.new 0)) }
 {
     match always_keep(alloc) {
         Ok(program) => match open_order(world, &aim.kind.asked(aim.id)) {
@@ -103,7 +104,7 @@ pub(crate) fn always_keep(alloc: Global) -> Result<Program, AllocError>
 }
 
 /// The change of membership begins, unless it is under way. An `Err` is what the operator was told, and its call is over.
-pub fn take_up<S: Shelf, V: Disk>(world: &mut World<S, V>, aim: &Aim) -> Result<(), OpAnswer>
+pub fn take_up<S: Shelf, V: Disk>(world: &mut SteadyWorld<S, V>, aim: &Aim) -> Result<(), OpAnswer>
     requires kept { IsKept world.old }
     requires ordered { HasOrder (asked_to aim.now.kind aim.now.id) (own_part world.old 0) }
     ensures kept { IsKept world.new }
@@ -123,7 +124,7 @@ pub fn take_up<S: Shelf, V: Disk>(world: &mut World<S, V>, aim: &Aim) -> Result<
 }
 
 /// The next proposer enters the next era, if one is to be entered. An `Err` is what the operator was told, and its call is over.
-fn enter<S: Shelf, V: Disk>(world: &mut World<S, V>, aim: &Aim) -> Result<(), OpAnswer>
+fn enter<S: Shelf, V: Disk>(world: &mut SteadyWorld<S, V>, aim: &Aim) -> Result<(), OpAnswer>
     requires kept { IsKept world.old }
     requires planned { HasPlan (asked_to aim.now.kind aim.now.id) (own_part world.old 0) }
     ensures kept { IsKept world.new }
@@ -143,7 +144,10 @@ fn enter<S: Shelf, V: Disk>(world: &mut World<S, V>, aim: &Aim) -> Result<(), Op
 }
 
 /// Asks for the next keys of the era that is to be settled. An `Err` is what the operator was told, and its call is over.
-fn list<S: Shelf, V: Disk>(world: &mut World<S, V>, aim: &Aim) -> Result<Option<Waiting>, OpAnswer>
+fn list<S: Shelf, V: Disk>(
+    world: &mut SteadyWorld<S, V>,
+    aim: &Aim,
+) -> Result<Option<Waiting>, OpAnswer>
     requires kept { IsKept world.old }
     requires planned { HasPlan (asked_to aim.now.kind aim.now.id) (own_part world.old 0) }
     requires settles { step_of world.old.council.plan ≡ Some step.Settle }
@@ -162,7 +166,7 @@ fn list<S: Shelf, V: Disk>(world: &mut World<S, V>, aim: &Aim) -> Result<Option<
 }
 
 /// Tells the operator that the change is at its end: the era that all work in, and how many keys were proposed anew.
-fn finish<S: Shelf, V: Disk>(world: &mut World<S, V>, aim: &Aim) -> OpAnswer
+fn finish<S: Shelf, V: Disk>(world: &mut SteadyWorld<S, V>, aim: &Aim) -> OpAnswer
     requires kept { IsKept world.old }
     requires planned { HasPlan (asked_to aim.now.kind aim.now.id) (own_part world.old 0) }
     requires end { IsAtEnd world.old }
@@ -176,7 +180,7 @@ fn finish<S: Shelf, V: Disk>(world: &mut World<S, V>, aim: &Aim) -> OpAnswer
 }
 
 /// What the operator is told at the end of the change.
-fn finished<S: Shelf, V: Disk>(world: &World<S, V>, aim: &Aim) -> OpAnswer
+fn finished<S: Shelf, V: Disk>(world: &SteadyWorld<S, V>, aim: &Aim) -> OpAnswer
     requires under_way { IsUnderWay world.now (asked_to aim.now.kind aim.now.id) }
     requires end { IsAtEnd world.now }
     ensures finished { HasFinished world.now result }
@@ -193,7 +197,7 @@ fn finished<S: Shelf, V: Disk>(world: &World<S, V>, aim: &Aim) -> OpAnswer
 
 /// Begins a call of caller 0 that proposes the key anew, which is due. An `Err` is what the operator was told, and its call is over.
 fn begin_rescan<S: Shelf, V: Disk>(
-    world: &mut World<S, V>,
+    world: &mut SteadyWorld<S, V>,
     aim: &Aim,
     key: Key,
     program: &Program,
@@ -222,7 +226,7 @@ fn begin_rescan<S: Shelf, V: Disk>(
 
 /// Begins a call that proposes this key anew, if one is due. An `Err` is what the operator was told, and its call is over.
 fn begin_due<S: Shelf, V: Disk>(
-    world: &mut World<S, V>,
+    world: &mut SteadyWorld<S, V>,
     aim: &Aim,
     due: Option<Key>,
     program: &Program,
@@ -246,7 +250,7 @@ fn begin_due<S: Shelf, V: Disk>(
 
 /// Takes the key that is due, and begins a call that proposes it anew. An `Err` is what the operator was told, and its call is over.
 fn take_key<S: Shelf, V: Disk>(
-    world: &mut World<S, V>,
+    world: &mut SteadyWorld<S, V>,
     aim: &Aim,
     program: &Program,
 ) -> Result<MembersStep, OpAnswer>
@@ -269,7 +273,7 @@ fn take_key<S: Shelf, V: Disk>(
 /// Asks for the next keys of the era that is to be settled or, once all are listed, proposes the next one anew. An `Err` is what the
 /// operator was told, and its call is over.
 fn settle<S: Shelf, V: Disk>(
-    world: &mut World<S, V>,
+    world: &mut SteadyWorld<S, V>,
     aim: &Aim,
     program: &Program,
 ) -> Result<MembersStep, OpAnswer>
@@ -296,7 +300,7 @@ fn settle<S: Shelf, V: Disk>(
 /// Begins the next step of the change of membership. An `Err` is what the operator was told, be it that the change is at its end, and its
 /// call is over.
 pub fn advance<S: Shelf, V: Disk>(
-    world: &mut World<S, V>,
+    world: &mut SteadyWorld<S, V>,
     aim: &Aim,
     program: &Program,
 ) -> Result<MembersStep, OpAnswer>
@@ -332,7 +336,7 @@ pub enum Listing {
 /// Goes on with asking the members for their next keys: the first frame has its turn, of which this becomes; or, where none waits, what
 /// they told is gathered. An `Err` is what the operator was told, and its call is over.
 pub fn list_on<S: Shelf, V: Disk>(
-    world: &mut World<S, V>,
+    world: &mut SteadyWorld<S, V>,
     aim: &Aim,
     verdict: Verdict,
 ) -> Result<Listing, OpAnswer>
@@ -358,7 +362,7 @@ pub fn list_on<S: Shelf, V: Disk>(
 }
 
 /// What the members told of their next keys is gathered. An `Err` is what the operator was told, and its call is over.
-fn gather_list<S: Shelf, V: Disk>(world: &mut World<S, V>, aim: &Aim) -> Result<(), OpAnswer>
+fn gather_list<S: Shelf, V: Disk>(world: &mut SteadyWorld<S, V>, aim: &Aim) -> Result<(), OpAnswer>
     requires kept { IsKept world.old }
     requires lists { HasListing (asked_to aim.now.kind aim.now.id) (own_part world.old 0) }
     requires through { (queue_at world.old.flow exchange_place).messages ≡ [] }
@@ -378,7 +382,7 @@ fn gather_list<S: Shelf, V: Disk>(world: &mut World<S, V>, aim: &Aim) -> Result<
 /// The first frame in which members are asked for their next keys has its turn. Gives the next one that waits. An `Err` is what the
 /// operator was told, and its call is over.
 fn turn_list<S: Shelf, V: Disk>(
-    world: &mut World<S, V>,
+    world: &mut SteadyWorld<S, V>,
     aim: &Aim,
     verdict: Verdict,
 ) -> Result<Option<Waiting>, OpAnswer>
@@ -409,7 +413,7 @@ pub enum Rescanning {
 /// Goes on with the call of that number, which proposes the key anew, as with any other. An `Err` is what the operator was told, and its
 /// call is over. The call ends with a conflict only where no other round may follow it.
 pub fn rescan_on<S: Shelf, V: Disk>(
-    world: &mut World<S, V>,
+    world: &mut SteadyWorld<S, V>,
     aim: &Aim,
     call: u32,
     key: &Key,

@@ -1,13 +1,13 @@
 //! What one hold does for a call of the operator: one call on the world, with the end of the operator's call where that told its answer.
 
-ghost use Rattle.std.specs.Prelude.{◌≡◌, ◌≢◌, ℕ, List, [], IfOk, IfErr, OnOk};
+ghost use Rattle.std.specs.Prelude.{◌≡◌, ◌≢◌, ℕ, List, [], length, reverse, IfOk, IfErr, OnOk};
 ghost use Rattle.cas_cluster.specs.Council.{exchange_place};
 ghost use Rattle.cas_cluster.specs.StepCouncil.{everyone};
 ghost use Rattle.cas_flow.specs.Flow.{queue_at};
 ghost use Rattle.cas_hold.specs.Deeds.{IsRefusal, harm_by};
 ghost use Rattle.cas_hold.specs.Kept.{IsKept, Makes};
 ghost use Rattle.cas_hold.specs.Open.{IsFree};
-ghost use Rattle.cas_hold.specs.Orders.{HasOrder, HasProbe, IsAskingHarm, IsProbeAnswer, IsToldIn, OperatesIn};
+ghost use Rattle.cas_hold.specs.Orders.{HasHarms, HasOrder, HasProbe, IsAskingHarm, IsProbeAnswer, IsSilentAtMost, IsToldIn, IsTrueProbe, MarksHarms, OperatesIn};
 ghost use Rattle.cas_hold.specs.OwnParts.{own_part};
 ghost use Rattle.cas_hold.specs.Stages.{HasFirst};
 
@@ -18,7 +18,8 @@ use cas_disk::Disk;
 use cas_fate::Verdict;
 use cas_record::{Answer, Asked, OpAnswer};
 use cas_slot::Shelf;
-use cas_world::{Exchange, World};
+use cas_steady::SteadyWorld;
+use cas_world::Exchange;
 use std::alloc::AllocError;
 
 /// A probe that the operator's call was opened for, before the members are asked.
@@ -40,7 +41,7 @@ pub struct Probing {
 
 /// Begins a call of the operator for this. After an `Err`, which is [`Answer::RecordFull`] or [`Answer::NoMemory`], it was not begun.
 pub(crate) fn open_order<S: Shelf, V: Disk>(
-    world: &mut World<S, V>,
+    world: &mut SteadyWorld<S, V>,
     asked: &Asked,
 ) -> Result<(), Answer>
     requires kept { IsKept world.old }
@@ -49,7 +50,7 @@ pub(crate) fn open_order<S: Shelf, V: Disk>(
     ensures greatest { world.new.greatest ≡ world.old.greatest }
     ensures makes { Makes 0 world.old world.new [] }
     ensures ordered { OnOk result (HasOrder asked.now (own_part world.new 0)) }
-    ensures refused { IfErr result (λ why. IsRefusal why × IsFree (own_part world.new 0)) }
+    ensures refused { IfErr result (λ why. IsRefusal (length world.new.marks) why × IsFree (own_part world.new 0)) }
 {
     match world.order(asked) {
         Ok(()) => Ok(()),
@@ -60,7 +61,7 @@ pub(crate) fn open_order<S: Shelf, V: Disk>(
 /// Begins a probe of the key, as a call of the operator. After an `Err`, which is [`Answer::RecordFull`] or [`Answer::NoMemory`], it was not
 /// begun.
 pub fn order_probe<S: Shelf, V: Disk>(
-    world: &mut World<S, V>,
+    world: &mut SteadyWorld<S, V>,
     key: &Key,
 ) -> Result<ProbeOrder, Answer>
     requires kept { IsKept world.old }
@@ -71,7 +72,7 @@ pub fn order_probe<S: Shelf, V: Disk>(
     ensures ordered { OnOk result (HasOrder (Asked.Probe key.now) (own_part world.new 0)) }
     ensures question { IfOk result (λ order. order.question ≡ Exchange.Probe key.now) }
     ensures key { IfOk result (λ order. order.key ≡ key.now) }
-    ensures refused { IfErr result (λ why. IsRefusal why × IsFree (own_part world.new 0)) }
+    ensures refused { IfErr result (λ why. IsRefusal (length world.new.marks) why × IsFree (own_part world.new 0)) }
 {
     match copies_for(key) {
         Ok((asked, order)) => match open_order(world, &asked) {
@@ -96,7 +97,7 @@ fn copies_for(key: &Key) -> Result<(Asked, ProbeOrder), AllocError>
 
 /// Asks all members what they keep for the key. An `Err` is what the operator was told, and its call is over.
 pub fn ask_probe<S: Shelf, V: Disk>(
-    world: &mut World<S, V>,
+    world: &mut SteadyWorld<S, V>,
     order: ProbeOrder,
 ) -> Result<Probing, OpAnswer>
     requires kept { IsKept world.old }
@@ -106,10 +107,13 @@ pub fn ask_probe<S: Shelf, V: Disk>(
     ensures greatest { world.new.greatest ≡ world.old.greatest }
     ensures makes { OnOk result (Makes 0 world.old world.new []) }
     ensures asks { OnOk result (HasProbe order.key (everyone world.old) (own_part world.new 0)) }
+    ensures harms { OnOk result (HasHarms 0 (own_part world.new 0)) }
     ensures key { IfOk result (λ probing. probing.key ≡ order.key) }
     ensures waits { IfOk result (λ probing. HasFirst world.new 0 probing.waits) }
     ensures told { IfErr result (IsToldIn (Asked.Probe order.key) IsAskingHarm 0 world.old world.new) }
     ensures answer { IfErr result (λ told. (members : List ℕ) → IsProbeAnswer order.key members told) }
+    ensures silent { IfErr result (IsSilentAtMost 0) }
+    ensures truly { IfErr result (IsTrueProbe (reverse world.new.marks)) }
 {
     let ProbeOrder { question, key } = order;
     match world.ask_all(question) {
@@ -124,7 +128,7 @@ pub fn ask_probe<S: Shelf, V: Disk>(
 /// Goes on with the probe: the first frame of its exchange has its turn, of which this becomes; or, where none waits, the operator is told
 /// what the members told. An `Err` is what the operator was told, and its call is over.
 pub fn go_on_probing<S: Shelf, V: Disk>(
-    world: &mut World<S, V>,
+    world: &mut SteadyWorld<S, V>,
     probing: Probing,
     verdict: Verdict,
 ) -> Result<Probing, OpAnswer>
@@ -133,11 +137,14 @@ pub fn go_on_probing<S: Shelf, V: Disk>(
     ensures kept { IsKept world.new }
     ensures greatest { world.new.greatest ≡ world.old.greatest }
     ensures goes_on { OnOk result (OperatesIn IsAskingHarm (harm_by verdict) world.old world.new) }
-    ensures own { OnOk result (own_part world.new 0 ≡ own_part world.old 0) }
+    ensures still { OnOk result ((members : List ℕ) → HasProbe probing.key members (own_part world.old 0) → HasProbe probing.key members (own_part world.new 0)) }
+    ensures harms { OnOk result (MarksHarms world.old world.new) }
     ensures key { IfOk result (λ next. next.key ≡ probing.key) }
     ensures waits { IfOk result (λ next. HasFirst world.new 0 next.waits) }
     ensures told { IfErr result (IsToldIn (Asked.Probe probing.key) IsAskingHarm (harm_by verdict) world.old world.new) }
     ensures answer { IfErr result (λ told. (members : List ℕ) → HasProbe probing.key members (own_part world.old 0) → IsProbeAnswer probing.key members told) }
+    ensures silent { IfErr result (λ told. (harms : ℕ) → HasHarms harms (own_part world.old 0) → IsSilentAtMost harms told) }
+    ensures truly { S.tells → V.tells → IfErr result (IsTrueProbe (reverse world.new.marks)) }
 {
     let Probing { key, waits: _ } = probing;
     if world.front(0).is_none() {
@@ -152,7 +159,7 @@ pub fn go_on_probing<S: Shelf, V: Disk>(
 /// The first frame of the probe's exchange has its turn. Gives the next one that waits. An `Err` is what the operator was told, and its
 /// call is over.
 fn take_probe_turn<S: Shelf, V: Disk>(
-    world: &mut World<S, V>,
+    world: &mut SteadyWorld<S, V>,
     key: &Key,
     verdict: Verdict,
 ) -> Result<Option<Waiting>, OpAnswer>
@@ -162,10 +169,13 @@ fn take_probe_turn<S: Shelf, V: Disk>(
     ensures kept { IsKept world.new }
     ensures greatest { world.new.greatest ≡ world.old.greatest }
     ensures goes_on { OnOk result (OperatesIn IsAskingHarm (harm_by verdict) world.old world.new) }
-    ensures own { OnOk result (own_part world.new 0 ≡ own_part world.old 0) }
+    ensures still { OnOk result ((members : List ℕ) → HasProbe key.now members (own_part world.old 0) → HasProbe key.now members (own_part world.new 0)) }
+    ensures harms { OnOk result (MarksHarms world.old world.new) }
     ensures first { IfOk result (HasFirst world.new 0) }
     ensures told { IfErr result (IsToldIn (Asked.Probe key.now) IsAskingHarm (harm_by verdict) world.old world.new) }
     ensures answer { IfErr result (λ told. (members : List ℕ) → IsProbeAnswer key.now members told) }
+    ensures silent { IfErr result (λ told. (harms : ℕ) → IsSilentAtMost harms told) }
+    ensures truly { IfErr result (IsTrueProbe (reverse world.new.marks)) }
 {
     match world.turn(0, verdict) {
         Ok(()) => Ok(first_frame(world, 0)),
@@ -174,7 +184,7 @@ fn take_probe_turn<S: Shelf, V: Disk>(
 }
 
 /// Tells the operator what the members told of the key. Its call is over.
-fn gather_probe<S: Shelf, V: Disk>(world: &mut World<S, V>, key: Key) -> OpAnswer
+fn gather_probe<S: Shelf, V: Disk>(world: &mut SteadyWorld<S, V>, key: Key) -> OpAnswer
     requires kept { IsKept world.old }
     requires asks { (members : List ℕ) × HasProbe key members (own_part world.old 0) }
     requires through { (queue_at world.old.flow exchange_place).messages ≡ [] }
@@ -182,6 +192,8 @@ fn gather_probe<S: Shelf, V: Disk>(world: &mut World<S, V>, key: Key) -> OpAnswe
     ensures greatest { world.new.greatest ≡ world.old.greatest }
     ensures told { (most : ℕ) → IsToldIn (Asked.Probe key) IsAskingHarm most world.old world.new result }
     ensures answer { (members : List ℕ) → HasProbe key members (own_part world.old 0) → IsProbeAnswer key members result }
+    ensures silent { (harms : ℕ) → HasHarms harms (own_part world.old 0) → IsSilentAtMost harms result }
+    ensures truly { S.tells → V.tells → IsTrueProbe (reverse world.new.marks) result }
 {
     match world.gather() {
         Ok(gathered) => {

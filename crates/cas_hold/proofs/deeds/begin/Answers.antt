@@ -28,13 +28,13 @@ pub returns-in-Ok-clause-begun : goal.returns-in-Ok-clause-begun
 returns-in-Ok-clause-begun g c = (begin_ok _ c.args.caller c.next_call-call.result c.args.key.now c.args.program.now c.args.world.now c.begin.new.self c.next_call-call.ensures c.requires.idle c.requires.kept c.in-Ok.ensures.step.0 c.in-Ok.ensures.step.1).does
 
 pub returns-in-Err-clause-kept : goal.returns-in-Err-clause-kept
-returns-in-Err-clause-kept g c = (begin_refused ⊤ _ c.args.caller c.next_call-call.result c.args.key.now c.args.program.now c.in-Err.refusal c.args.world.now c.begin.new.self c.next_call-call.ensures c.requires.idle c.requires.kept (sym c.is_refusal.ensures ∙ c.if-is_refusal.true) c.in-Err.ensures.step).kept
+returns-in-Err-clause-kept g c = (begin_refused ⊤ _ c.args.caller c.next_call-call.result c.args.key.now c.args.program.now c.in-Err.refusal c.args.world.now c.begin.new.self c.next_call-call.ensures c.requires.idle c.requires.kept (sym c.is_refusal.ensures ∙ c.if-is_refusal.true) c.in-Err.ensures.long c.in-Err.ensures.step).kept
 
 pub returns-in-Err-clause-greatest : goal.returns-in-Err-clause-greatest
-returns-in-Err-clause-greatest g c = (begin_refused ⊤ _ c.args.caller c.next_call-call.result c.args.key.now c.args.program.now c.in-Err.refusal c.args.world.now c.begin.new.self c.next_call-call.ensures c.requires.idle c.requires.kept (sym c.is_refusal.ensures ∙ c.if-is_refusal.true) c.in-Err.ensures.step).greatest
+returns-in-Err-clause-greatest g c = (begin_refused ⊤ _ c.args.caller c.next_call-call.result c.args.key.now c.args.program.now c.in-Err.refusal c.args.world.now c.begin.new.self c.next_call-call.ensures c.requires.idle c.requires.kept (sym c.is_refusal.ensures ∙ c.if-is_refusal.true) c.in-Err.ensures.long c.in-Err.ensures.step).greatest
 
 pub returns-in-Err-clause-not_begun : goal.returns-in-Err-clause-not_begun
-returns-in-Err-clause-not_begun g c = (begin_refused ⊤ _ c.args.caller c.next_call-call.result c.args.key.now c.args.program.now c.in-Err.refusal c.args.world.now c.begin.new.self c.next_call-call.ensures c.requires.idle c.requires.kept (sym c.is_refusal.ensures ∙ c.if-is_refusal.true) c.in-Err.ensures.step).does
+returns-in-Err-clause-not_begun g c = (begin_refused ⊤ _ c.args.caller c.next_call-call.result c.args.key.now c.args.program.now c.in-Err.refusal c.args.world.now c.begin.new.self c.next_call-call.ensures c.requires.idle c.requires.kept (sym c.is_refusal.ensures ∙ c.if-is_refusal.true) c.in-Err.ensures.long c.in-Err.ensures.step).does
 
 pub returns-in-Err-2-clause-kept : goal.returns-in-Err-2-clause-kept
 returns-in-Err-2-clause-kept g c = (begin_passes ⊤ _ c.args.caller c.next_call-call.result c.args.key.now c.args.program.now c.in-Err.refusal c.args.world.now c.begin.new.self c.end.new.self c.next_call-call.ensures c.requires.idle c.requires.kept (sym c.is_refusal.ensures ∙ c.if-is_refusal.false) c.in-Err.ensures.step c.in-Err.ensures.cause c.end.ensures.step).kept

@@ -1,7 +1,7 @@
 use Rattle.cas_hold.proofs.Probes.{may_ask, ask_held, ask_told, has_first}
-use Rattle.std.proofs.Common.{sym, subst}
+use Rattle.std.proofs.Common.{sym, subst, reverse}
 use Rattle.cas_record.specs.declared.operator.Asked.TheVariants as asked
-use Rattle.cas_hold.specs.Orders.{IsToldIn, IsAskingHarm, IsProbeAnswer}
+use Rattle.cas_hold.specs.Orders.{IsToldIn, IsAskingHarm, IsProbeAnswer, IsSilentAtMost, IsTrueProbe}
 use Rattle.cas_hold.proofs.orders.ask_probe.Goals as goal
 
 pub ask_all-requires : goal.ask_all-requires
@@ -19,6 +19,9 @@ returns-in-Ok-clause-makes g c = (ask_held _ c.args.world.now c.ask_all.new.self
 pub returns-in-Ok-clause-asks : goal.returns-in-Ok-clause-asks
 returns-in-Ok-clause-asks g c = (ask_held _ c.args.world.now c.ask_all.new.self c.args.order.question c.args.order.key c.requires.question c.requires.ordered c.requires.kept c.in-Ok.ensures.step c.in-Ok.ensures.ok).does.1
 
+pub returns-in-Ok-clause-harms : goal.returns-in-Ok-clause-harms
+returns-in-Ok-clause-harms g c = (ask_held _ c.args.world.now c.ask_all.new.self c.args.order.question c.args.order.key c.requires.question c.requires.ordered c.requires.kept c.in-Ok.ensures.step c.in-Ok.ensures.ok).does.2
+
 pub returns-in-Err-clause-kept : goal.returns-in-Err-clause-kept
 returns-in-Err-clause-kept g c = (ask_told _ c.args.world.now c.ask_all.new.self c.tell.new.self c.args.order.question c.args.order.key c.in-Err.told c.requires.question c.requires.ordered c.requires.kept c.in-Err.ensures.step c.in-Err.ensures.none c.in-Err.ensures.err c.tell.ensures.step).kept
 
@@ -33,3 +36,9 @@ returns-in-Err-clause-answer g c members = subst (IsProbeAnswer c.args.order.key
 
 pub returns-in-Ok-clause-waits : goal.returns-in-Ok-clause-waits
 returns-in-Ok-clause-waits g c = has_first c.ask_all.new.self 0 c.first_frame.result c.first_frame.ensures.first c.first_frame.ensures.none
+
+pub returns-in-Err-clause-silent : goal.returns-in-Err-clause-silent
+returns-in-Err-clause-silent g c = subst (IsSilentAtMost 0) (sym c.tell.ensures.same) (ask_told _ c.args.world.now c.ask_all.new.self c.tell.new.self c.args.order.question c.args.order.key c.in-Err.told c.requires.question c.requires.ordered c.requires.kept c.in-Err.ensures.step c.in-Err.ensures.none c.in-Err.ensures.err c.tell.ensures.step).does.2
+
+pub returns-in-Err-clause-truly : goal.returns-in-Err-clause-truly
+returns-in-Err-clause-truly g c = subst (IsTrueProbe (reverse c.tell.new.self.marks)) (sym c.tell.ensures.same) (ask_told _ c.args.world.now c.ask_all.new.self c.tell.new.self c.args.order.question c.args.order.key c.in-Err.told c.requires.question c.requires.ordered c.requires.kept c.in-Err.ensures.step c.in-Err.ensures.none c.in-Err.ensures.err c.tell.ensures.step).does.3

@@ -1,9 +1,9 @@
-use Rattle.std.proofs.Common.{sym, subst}
+use Rattle.std.proofs.Common.{sym, subst, reverse}
 use Rattle.cas_record.specs.declared.operator.Asked.TheVariants as asked
 use Rattle.cas_record.specs.declared.operator.OpAnswer.TheVariants as op
 use Rattle.cas_world.specs.Plans.{was_told}
-use Rattle.cas_hold.specs.Orders.{IsToldIn, IsAskingHarm, IsProbeAnswer}
-use Rattle.cas_hold.proofs.Probes.{may_gather, is_found, found_told, gather_told}
+use Rattle.cas_hold.specs.Orders.{IsToldIn, IsAskingHarm, IsProbeAnswer, IsSilentAtMost, IsTrueProbe}
+use Rattle.cas_hold.proofs.Probes.{may_gather, is_found, found_told, gather_told, gather_silent, gather_truly}
 use Rattle.cas_hold.proofs.orders.gather_probe.Goals as goal
 
 pub gather-requires : goal.gather-requires
@@ -38,3 +38,15 @@ returns-in-Err-clause-told g c most = subst (IsToldIn (asked.Probe c.args.key) I
 
 pub returns-in-Err-clause-answer : goal.returns-in-Err-clause-answer
 returns-in-Err-clause-answer g c members has = subst (IsProbeAnswer c.args.key members) (sym c.tell-in-Err.ensures.same) (gather_told _ 0 c.args.world.now c.gather.new.self c.tell-in-Err.new.self c.args.key members c.in-Err.told has c.requires.kept c.in-Err.ensures.step c.in-Err.ensures.err c.tell-in-Err.ensures.step).does.1
+
+pub returns-in-Ok-clause-silent : goal.returns-in-Ok-clause-silent
+returns-in-Ok-clause-silent g c harms has = subst (IsSilentAtMost harms) (sym c.tell.ensures.same) (gather_silent _ c.args.world.now c.gather.new.self c.args.key c.requires.asks.0 (op.Probed c.args.key c.into_probes-found.result) c.requires.asks.1 c.in-Ok.ensures.step (found_told c.args.world.now c.gather.new.self c.args.key c.requires.asks.0 c.in-Ok.gathered c.into_probes-found.result c.requires.asks.1 c.in-Ok.ensures.ok c.into_probes-found.ensures) c.in-Ok.ensures.steady harms has)
+
+pub returns-in-Err-clause-silent : goal.returns-in-Err-clause-silent
+returns-in-Err-clause-silent g c harms has = subst (IsSilentAtMost harms) (sym c.tell-in-Err.ensures.same) (gather_silent _ c.args.world.now c.gather.new.self c.args.key c.requires.asks.0 c.in-Err.told c.requires.asks.1 c.in-Err.ensures.step c.in-Err.ensures.err c.in-Err.ensures.steady harms has)
+
+pub returns-in-Ok-clause-truly : goal.returns-in-Ok-clause-truly
+returns-in-Ok-clause-truly g c shelves disks = subst (IsTrueProbe (reverse c.tell.new.self.marks)) (sym c.tell.ensures.same) (gather_truly _ c.args.world.now c.gather.new.self c.tell.new.self c.args.key c.requires.asks.0 (op.Probed c.args.key c.into_probes-found.result) c.requires.asks.1 c.in-Ok.ensures.step (found_told c.args.world.now c.gather.new.self c.args.key c.requires.asks.0 c.in-Ok.gathered c.into_probes-found.result c.requires.asks.1 c.in-Ok.ensures.ok c.into_probes-found.ensures) c.tell.ensures.step c.in-Ok.ensures.steady shelves disks)
+
+pub returns-in-Err-clause-truly : goal.returns-in-Err-clause-truly
+returns-in-Err-clause-truly g c shelves disks = subst (IsTrueProbe (reverse c.tell-in-Err.new.self.marks)) (sym c.tell-in-Err.ensures.same) (gather_truly _ c.args.world.now c.gather.new.self c.tell-in-Err.new.self c.args.key c.requires.asks.0 c.in-Err.told c.requires.asks.1 c.in-Err.ensures.step c.in-Err.ensures.err c.tell-in-Err.ensures.step c.in-Err.ensures.steady shelves disks)

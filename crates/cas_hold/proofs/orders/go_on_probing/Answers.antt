@@ -10,3 +10,9 @@ take_probe_turn-requires-clause-waits g c = one_waits c.args.world.now c.args.pr
 
 pub returns-in-Err-clause-answer : goal.returns-in-Err-clause-answer
 returns-in-Err-clause-answer g c members has = c.in-Err.ensures.answer members
+
+pub returns-in-Err-clause-silent : goal.returns-in-Err-clause-silent
+returns-in-Err-clause-silent g c harms has = c.in-Err.ensures.silent harms
+
+pub returns-in-Err-clause-truly : goal.returns-in-Err-clause-truly
+returns-in-Err-clause-truly g c shelves disks = c.in-Err.ensures.truly

@@ -1,3 +1,6 @@
+use Rattle.std.proofs.Common.{Err, ap}
+use Rattle.cas_record.specs.declared.answer.Answer.{Answer}
+use Rattle.cas_hold.proofs.Holds.{refusal_then}
 use Rattle.cas_hold.proofs.Councils.{free_idle}
 use Rattle.cas_hold.proofs.Probes.{order_held, unordered, free_still}
 use Rattle.cas_hold.proofs.orders.open_order.Goals as goal
@@ -27,4 +30,4 @@ pub returns-in-Err-clause-makes : goal.returns-in-Err-clause-makes
 returns-in-Err-clause-makes g c = (unordered c.args.world.now c.order.new.self c.in-Err.ensures.err c.requires.free c.requires.kept).does
 
 pub returns-in-Err-clause-refused : goal.returns-in-Err-clause-refused
-returns-in-Err-clause-refused g c = (c.in-Err.ensures.cause, free_still c.args.world.now c.order.new.self c.in-Err.ensures.err c.requires.free)
+returns-in-Err-clause-refused g c = (refusal_then c.in-Err.refusal c.args.world.now c.order.new.self c.in-Err.ensures.cause (λ full. c.in-Err.ensures.long (ap (λ (a : Answer). Err a) full)) (ap (λ v. v.marks) c.in-Err.ensures.err), free_still c.args.world.now c.order.new.self c.in-Err.ensures.err c.requires.free)

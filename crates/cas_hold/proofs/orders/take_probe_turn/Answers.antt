@@ -1,8 +1,8 @@
-use Rattle.std.proofs.Common.{sym, subst}
+use Rattle.std.proofs.Common.{sym, subst, ◌∙◌, reverse}
 use Rattle.cas_record.specs.declared.operator.Asked.TheVariants as asked
 use Rattle.cas_world.specs.Plans.{MayTell, was_told}
 use Rattle.cas_hold.specs.Deeds.{harm_by}
-use Rattle.cas_hold.specs.Orders.{IsToldIn, IsAskingHarm}
+use Rattle.cas_hold.specs.Orders.{IsToldIn, IsAskingHarm, IsSilentAtMost, IsTrueProbe}
 use Rattle.cas_hold.proofs.Probes.{frame_waits, turn_held, turn_may_tell, turn_told, has_first}
 use Rattle.cas_hold.proofs.orders.take_probe_turn.Goals as goal
 
@@ -21,8 +21,14 @@ returns-in-Ok-clause-greatest g c = (turn_held _ c.args.world.now c.turn.new.sel
 pub returns-in-Ok-clause-goes_on : goal.returns-in-Ok-clause-goes_on
 returns-in-Ok-clause-goes_on g c = (turn_held _ c.args.world.now c.turn.new.self c.args.key.now c.requires.asks.0 c.args.verdict c.requires.asks.1 c.requires.kept c.in-Ok.ensures.ok).does.0
 
-pub returns-in-Ok-clause-own : goal.returns-in-Ok-clause-own
-returns-in-Ok-clause-own g c = (turn_held _ c.args.world.now c.turn.new.self c.args.key.now c.requires.asks.0 c.args.verdict c.requires.asks.1 c.requires.kept c.in-Ok.ensures.ok).does.1
+pub returns-in-Ok-clause-still : goal.returns-in-Ok-clause-still
+returns-in-Ok-clause-still g c = (turn_held _ c.args.world.now c.turn.new.self c.args.key.now c.requires.asks.0 c.args.verdict c.requires.asks.1 c.requires.kept c.in-Ok.ensures.ok).does.1
+
+pub returns-in-Ok-clause-harms : goal.returns-in-Ok-clause-harms
+returns-in-Ok-clause-harms g c = (turn_held _ c.args.world.now c.turn.new.self c.args.key.now c.requires.asks.0 c.args.verdict c.requires.asks.1 c.requires.kept c.in-Ok.ensures.ok).does.2
+
+pub returns-in-Err-clause-silent : goal.returns-in-Err-clause-silent
+returns-in-Err-clause-silent g c harms = subst (IsSilentAtMost harms) (sym (c.tell.ensures.same ∙ c.no_memory.ensures)) tt
 
 pub returns-in-Err-clause-kept : goal.returns-in-Err-clause-kept
 returns-in-Err-clause-kept g c = (turn_told _ (harm_by c.args.verdict) c.args.world.now c.turn.new.self c.tell.new.self c.args.key.now c.requires.asks.0 c.no_memory.result c.requires.asks.1 c.requires.kept c.in-Err.ensures.err c.tell.ensures.step).kept
@@ -35,3 +41,6 @@ returns-in-Err-clause-told g c = subst (IsToldIn (asked.Probe c.args.key.now) Is
 
 pub returns-in-Ok-clause-first : goal.returns-in-Ok-clause-first
 returns-in-Ok-clause-first g c = has_first c.turn.new.self 0 c.first_frame.result c.first_frame.ensures.first c.first_frame.ensures.none
+
+pub returns-in-Err-clause-truly : goal.returns-in-Err-clause-truly
+returns-in-Err-clause-truly g c = subst (IsTrueProbe (reverse c.tell.new.self.marks)) (sym (c.tell.ensures.same ∙ c.no_memory.ensures)) tt
