@@ -1,3 +1,4 @@
+pub mod Blamed
 mod Collections
 pub mod Losses
 mod Opened

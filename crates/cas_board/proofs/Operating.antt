@@ -1,5 +1,5 @@
 -- What caller 0's pass tells of a call of the operator, by what its holds did.
-use Rattle.std.proofs.Common.{◌≡◌, ℕ, ◌+◌, true, false, inl, inr, List, [], ◌++◌, refl, sym, ap, subst, ◌∙◌, append_assoc, append-nil, arith}
+use Rattle.std.proofs.Common.{◌≡◌, ◌≤◌, ℕ, ◌+◌, length, true, false, inl, inr, List, [], ◌++◌, refl, sym, ap, subst, ◌∙◌, append_assoc, append-nil, length-append, arith}
 use Rattle.std.specs.Prelude.{◌||◌, Result, Ok, Err, IfErr, OnOk}
 use Rattle.std.proofs.lemmas.List.Elements.{All-append, All-nil, All-weaker}
 use Rattle.cas_record.specs.declared.answer.Answer.{Answer}
@@ -7,6 +7,7 @@ use Rattle.cas_record.specs.declared.mark.Mark.{Mark}
 use Rattle.cas_record.specs.declared.operator.Asked.{Asked}
 use Rattle.cas_record.specs.declared.operator.OpAnswer.{OpAnswer}
 use Rattle.cas_record.specs.declared.operator.OpAnswer.TheVariants.{Stopped}
+use Rattle.cas_record.specs.declared.operator.OpAnswer.TheVariants as op
 use Rattle.cas_cluster.specs.StepCouncil.{told_marks, everyone}
 use Rattle.cas_cluster.specs.View.{View, era_at}
 use Rattle.cas_turn.specs.Seen.{HasSeen}
@@ -15,15 +16,15 @@ use Rattle.cas_hold.specs.Deeds.{IsRefusal}
 use Rattle.cas_hold.specs.Kept.{Makes, IsHeldBy}
 use Rattle.cas_hold.specs.Mine.{mine, losses, GoesOn}
 use Rattle.cas_hold.specs.Open.{IsFree}
-use Rattle.cas_hold.specs.Orders.{OperatesIn, IsToldIn, IsProbeAnswer, stops_probe}
+use Rattle.cas_hold.specs.Orders.{HasHarms, MarksHarms, OperatesIn, IsToldIn, IsProbeAnswer, IsSilentAtMost, stops_probe}
 use Rattle.cas_ballot.specs.Members.{members_where, has_member, IsMemberSet}
 use Rattle.cas_ballot.proofs.MemberLemmas.{IsMemberSet-members_where}
 use Rattle.cas_hold.specs.Owners.{owner_of}
 use Rattle.cas_hold.specs.OwnParts.{own_part}
-use Rattle.cas_hold.proofs.Fronts.{front_goes_on, goes_on_then, mine_append}
+use Rattle.cas_hold.proofs.Fronts.{front_goes_on, goes_on_then, mine_append, mine_seen}
 use Rattle.cas_hold.proofs.Operating.{told_mine}
 use Rattle.cas_board.specs.Changes.{IsCounted}
-use Rattle.cas_board.specs.Operations.{HasOperated, WasToldLast, Operates, is_told}
+use Rattle.cas_board.specs.Operations.{HasOperated, HasMarkedHarms, IsSilentSince, WasToldLast, Operates, is_told}
 use Rattle.cas_board.specs.Passes.{IsPassOf}
 use Rattle.cas_board.proofs.Losses.{counted_then}
 use Rattle.cas_board.proofs.Sittings.{WasHeld, few_then, counted_none, counted_less}
@@ -50,6 +51,15 @@ module _ {S V A : Type 0} (before after : View S V) (old new : Sitting A Mark) (
     few = t.few;
     is_free = subst IsFree (sym operator_own) t.is_free;
   }
+
+  pub operator_harms : own_part before 0 ≡ old.own → MarksHarms before after → HasMarkedHarms old new
+  operator_harms own_was marks harms has =
+      let then_ = marks harms (subst (HasHarms harms) (sym own_was) has) in
+      let had : HasSeen owner_of 0 old.seen before.marks = subst (λ (k : ℕ). HasSeen owner_of k old.seen before.marks) (sym was.number) was.has in (
+        then_.0,
+        subst (HasHarms then_.0) (sym operator_own) then_.1,
+        omega (arith, then_.2, ap (λ (l : List Mark). length l) (mine_seen 0 old.seen before.marks had), ap (λ (l : List Mark). length (mine 0 l)) was.seen),
+      )
 
 -- by what a hold answered, it made marks that may be given back
 pub operates_or_tells : {S V T : Type 0} (asked : Asked) (such such_last : Mark → Type 0) (most : ℕ) (before after : View S V) (result : Result T OpAnswer) → OnOk result (OperatesIn such most before after) → IfErr result (IsToldIn asked such_last most before after) → IsHeldBy 0 before after
@@ -129,6 +139,56 @@ module _ {A : Type 0} (such : Mark → Type 0) (harms harms_now : ℕ) (a b c : 
       },
     )
 
+-- a probe that has gone on by one hold more, before which frames strayed in
+pub marked_harms : {A : Type 0} (a b c d : Sitting A Mark) → HasMarkedHarms a b → c.own ≡ b.own → b.number ≡ 0 → GoesOn b.number b.seen c.seen [] → HasMarkedHarms c d → HasMarkedHarms a d
+marked_harms a b c d first own number strays last harms has =
+    let one = first harms has in
+    let two = last one.0 (subst (HasHarms one.0) (sym own) one.1) in
+    let goes : GoesOn 0 b.seen c.seen [] = subst (λ (k : ℕ). GoesOn k b.seen c.seen []) number strays in
+    (two.0, two.1, omega (arith, one.2, two.2, ap (λ (l : List Mark). length l) (goes.own_marks ∙ append-nil (mine 0 b.seen))))
+
+pub none_marked : {A : Type 0} (a : Sitting A Mark) → HasMarkedHarms a a
+none_marked a harms has = (harms, has, omega arith)
+
+-- ---- those that told nothing
+-- a pass whose front went on has no fewer marks of caller 0
+pub own_grown : {A : Type 0} (old new : Sitting A Mark) (marks : List Mark) → old.number ≡ 0 → GoesOn old.number old.seen new.seen marks → length (mine 0 old.seen) ≤ length (mine 0 new.seen)
+own_grown old new marks number front =
+    let goes : GoesOn 0 old.seen new.seen marks = subst (λ (k : ℕ). GoesOn k old.seen new.seen marks) number front in
+    omega (arith, ap (λ (l : List Mark). length l) goes.own_marks, length-append (mine 0 old.seen) marks)
+
+pub silent_since : {A : Type 0} (most harms : ℕ) (old new : Sitting A Mark) (told : OpAnswer) → most + length (mine 0 old.seen) ≤ harms + length (mine 0 new.seen) → IsSilentAtMost most told → IsSilentSince harms old new told
+silent_since most harms old new (op.Probed key found) more few = omega (arith, few, more)
+silent_since most harms old new (op.Joined id era rescanned) more few = tt
+silent_since most harms old new (op.Left id era rescanned) more few = tt
+silent_since most harms old new (op.Refused fault) more few = tt
+silent_since most harms old new (op.Busy era) more few = tt
+silent_since most harms old new (op.Collected key ballot removed kept) more few = tt
+silent_since most harms old new (op.NotEmpty version) more few = tt
+silent_since most harms old new (op.Absent acceptor) more few = tt
+silent_since most harms old new (op.ProposerDown proposer) more few = tt
+silent_since most harms old new (op.Stopped why) more few = tt
+
+-- so it is since a pass that had no more marks
+pub silent_before : {A : Type 0} (harms : ℕ) (first old new : Sitting A Mark) (told : OpAnswer) → length (mine 0 first.seen) ≤ length (mine 0 old.seen) → IsSilentSince harms old new told → IsSilentSince harms first new told
+silent_before harms first old new (op.Probed key found) fewer few = omega (arith, few, fewer)
+silent_before harms first old new (op.Joined id era rescanned) fewer few = tt
+silent_before harms first old new (op.Left id era rescanned) fewer few = tt
+silent_before harms first old new (op.Refused fault) fewer few = tt
+silent_before harms first old new (op.Busy era) fewer few = tt
+silent_before harms first old new (op.Collected key ballot removed kept) fewer few = tt
+silent_before harms first old new (op.NotEmpty version) fewer few = tt
+silent_before harms first old new (op.Absent acceptor) fewer few = tt
+silent_before harms first old new (op.ProposerDown proposer) fewer few = tt
+silent_before harms first old new (op.Stopped why) fewer few = tt
+
+-- a probe that was told in one hold more, before which frames strayed in
+pub silent_then : {A : Type 0} (asked : Asked) (such : Mark → Type 0) (most harms : ℕ) (a b c d : Sitting A Mark) (told : OpAnswer) → HasMarkedHarms a b → HasHarms harms a.own → c.own ≡ b.own → b.number ≡ 0 → c.number ≡ 0 → GoesOn b.number b.seen c.seen []
+    → ((less : ℕ) → HasHarms less c.own → IsSilentAtMost less told) → WasToldLast asked such most c d told → IsSilentSince harms a d told
+silent_then asked such most harms a b c d told first has own b_number c_number strays silent last =
+    let one = first harms has in
+    silent_since one.0 harms a d told (omega (arith, one.2, own_grown b c [] b_number strays, own_grown c d (last.marks ++ told_marks asked told) c_number last.front)) (silent one.0 (subst (HasHarms one.0) (sym own) one.1))
+
 -- ---- marks of which less is known
 module _ {A : Type 0} (such less : Mark → Type 0) (weaker : (mark : Mark) → such mark → less mark) where
   pub operated_less : (most : ℕ) (old new : Sitting A Mark) → HasOperated such most old new → HasOperated less most old new
@@ -170,9 +230,9 @@ pub operator_part : {S V : Type 0} (n : ℕ) (inside before : View S V) (own : L
 operator_part {S} {V} n inside before own is_first same part = ap (λ (v : View S V). own_part v 0) same ∙ ap (own_part before) (sym is_first) ∙ part
 
 -- ---- a probe
-refused_stops : (why : Answer) → IsRefusal why → stops_probe why ≡ true
-refused_stops why (inl full) = ap stops_probe full
-refused_stops why (inr none) = ap stops_probe none
+refused_stops : (made : ℕ) (why : Answer) → IsRefusal made why → stops_probe why ≡ true
+refused_stops made why (inl full) = ap stops_probe full.0
+refused_stops made why (inr none) = ap stops_probe none
 
 no_members : IsMemberSet (members_where (λ n. false))
 no_members = IsMemberSet-members_where (λ n. false)
@@ -183,5 +243,5 @@ everyone_set view = IsMemberSet-members_where (λ n. has_member (era_at view 0).
 pub answers_any : (key : List ℕ) (told : OpAnswer) → ((members : List ℕ) → IsProbeAnswer key members told) → (members : List ℕ) × IsMemberSet members × IsProbeAnswer key members told
 answers_any key told each = (members_where (λ n. false), no_members, each (members_where (λ n. false)))
 
-pub refused_answers : (key : List ℕ) (why : Answer) → IsRefusal why → (members : List ℕ) × IsMemberSet members × IsProbeAnswer key members (Stopped why)
-refused_answers key why refusal = (members_where (λ n. false), no_members, refused_stops why refusal)
+pub refused_answers : (key : List ℕ) (made : ℕ) (why : Answer) → IsRefusal made why → (members : List ℕ) × IsMemberSet members × IsProbeAnswer key members (Stopped why)
+refused_answers key made why refusal = (members_where (λ n. false), no_members, refused_stops made why refusal)

@@ -16,7 +16,7 @@ use Rattle.cas_board.specs.Passes.{IsPassOf}
 use Rattle.cas_board.specs.Changes as changes
 use Rattle.cas_board.specs.Changes.{IsCounted, HasBegun, HasNotBegun, HasGoneOn, HasEnded, Answers}
 use Rattle.cas_hold.specs.Deeds as deeds
-use Rattle.cas_hold.specs.Deeds.{BeginsIn, BeginsNot, GoesOnIn, EndsIn, StraysIn}
+use Rattle.cas_hold.specs.Deeds.{BeginsIn, IsRefusal, BeginsNot, GoesOnIn, EndsIn, StraysIn}
 use Rattle.cas_hold.specs.Kept.{IsKept, Makes, IsHeldBy}
 use Rattle.cas_hold.specs.declared.deeds.Begun.{Begun as Opened}
 use Rattle.cas_hold.specs.Mine.{mine, call_of, losses, wanted_by, GoesOn, IsLast}
@@ -90,7 +90,7 @@ module _ {S V A : Type 0} (before after : View S V) (old new : Sitting A Mark) (
       let ended : Mark = Ended n call rounds told in
       changes.ends_at_once call rounds (front_is (begun ∷ ended ∷ []) (begun ∷ ended ∷ []) makes (mine_own n begun (ended ∷ []) refl ∙ ap (λ (l : List Mark). begun ∷ l) (mine_own n ended [] refl)))
       (last_then (begun ∷ []) ended makes) (free_then (leaves.is_free free)) no_conflict
-  pass_begins_not key program told free (deeds.is_refused refusal makes leaves) = changes.is_refused refusal (front_of [] makes) (free_then (leaves.is_free free))
+  pass_begins_not key program told free (deeds.is_refused refusal makes leaves) = changes.is_refused (subst (λ (l : List Mark). IsRefusal (length l) told) (sym seen) refusal) (front_of [] makes) (free_then (leaves.is_free free))
 
   pub pass_goes_on : (call most : ℕ) → own_part before old.number ≡ old.own → GoesOnIn old.number call most before after → HasGoneOn call most old new
   pass_goes_on call most own_was g = record {

@@ -1,5 +1,5 @@
 -- What a call of the board does for a caller, as its pass tells.
-use Rattle.std.specs.Prelude.{◌≡◌, ◌+◌, ◌-◌, ◌^◌, ◌<◌, ◌≤◌, ℕ, true, false, List, [], ◌∷◌, ◌++◌, Some}
+use Rattle.std.specs.Prelude.{◌≡◌, ◌+◌, ◌-◌, ◌^◌, ◌<◌, ◌≤◌, ℕ, true, false, List, [], length, ◌∷◌, ◌++◌, Some}
 use Rattle.cas_change.specs.declared.program.Clause.{Clause}
 use Rattle.cas_record.specs.declared.answer.Answer.{Answer}
 use Rattle.cas_record.specs.declared.mark.Mark.{Mark}
@@ -33,7 +33,7 @@ module _ {V : Type 0} where
   -- a call for this begins and ends at once, which is no conflict; or it is not begun, and no mark is made
   pub data HasNotBegun (key : List ℕ) (program : List Clause) (old new : Sitting V Mark) (told : Answer) : Type 0 where
     ends_at_once : (call rounds : ℕ) → GoesOn old.number old.seen new.seen (Begun old.number call key program ∷ Ended old.number call rounds told ∷ []) → IsLast new.seen (Ended old.number call rounds told) → IsFree new.own → is_conflict told ≡ false → HasNotBegun key program old new told
-    is_refused : IsRefusal told → GoesOn old.number old.seen new.seen [] → IsFree new.own → HasNotBegun key program old new told
+    is_refused : IsRefusal (length new.seen) told → GoesOn old.number old.seen new.seen [] → IsFree new.own → HasNotBegun key program old new told
 
   -- the open call of that number goes on
   pub record HasGoneOn (call most : ℕ) (old new : Sitting V Mark) : Type 0 where
@@ -61,4 +61,4 @@ module _ {V : Type 0} where
   pub data Answers (key : List ℕ) (program : List Clause) (tries harms harms_then : ℕ) (old new : Sitting V Mark) (told : Answer) : Type 0 where
     is_answered : (call rounds : ℕ) (between : List Mark) → GoesOn old.number old.seen new.seen (Begun old.number call key program ∷ between ++ Ended old.number call rounds told ∷ []) → AreOfCall call between → IsCounted (losses between) harms harms_then
         → IsLast new.seen (Ended old.number call rounds told) → (is_conflict told ≡ true → rounds ≡ tries) → Answers key program tries harms harms_then old new told
-    is_not_begun : IsRefusal told → IsCounted 0 harms harms_then → GoesOn old.number old.seen new.seen [] → Answers key program tries harms harms_then old new told
+    is_not_begun : IsRefusal (length new.seen) told → IsCounted 0 harms harms_then → GoesOn old.number old.seen new.seen [] → Answers key program tries harms harms_then old new told

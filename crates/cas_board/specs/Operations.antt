@@ -1,15 +1,17 @@
 -- What a call of the operator does on a board, as caller 0's pass tells.
-use Rattle.std.specs.Prelude.{◌≡◌, ◌≤◌, ℕ, List, [], ◌++◌, All}
+use Rattle.std.specs.Prelude.{◌≡◌, ◌≤◌, ⊤, ℕ, ◌+◌, List, [], length, ◌++◌, All}
 use Rattle.cas_record.specs.declared.answer.Answer.{Answer}
 use Rattle.cas_record.specs.declared.mark.Mark.{Mark}
 use Rattle.cas_record.specs.declared.operator.Asked.{Asked}
 use Rattle.cas_record.specs.declared.operator.OpAnswer.{OpAnswer}
-use Rattle.cas_record.specs.declared.operator.OpAnswer.TheVariants.{Stopped}
+use Rattle.cas_record.specs.declared.operator.OpAnswer.TheVariants.{Probed, Stopped}
+use Rattle.cas_causes.specs.Answering.{silent_in}
 use Rattle.cas_cluster.specs.StepCouncil.{told_marks}
 use Rattle.cas_turn.specs.Sitting.{Sitting}
 use Rattle.cas_hold.specs.Deeds.{IsRefusal}
-use Rattle.cas_hold.specs.Mine.{losses, GoesOn}
+use Rattle.cas_hold.specs.Mine.{mine, losses, GoesOn}
 use Rattle.cas_hold.specs.Open.{IsFree}
+use Rattle.cas_hold.specs.Orders.{HasHarms}
 use Rattle.cas_board.specs.Changes.{IsCounted}
 
 -- these are the last marks of the front
@@ -26,6 +28,15 @@ module _ {V : Type 0} where
     pub all_such : All such marks
     pub few : losses marks ≤ most
 
+  -- of those that a probe asks no more are harmed as it goes on than marks of caller 0 were made
+  abbrev pub HasMarkedHarms : Sitting V Mark → Sitting V Mark → Type 0
+  HasMarkedHarms old new = (harms : ℕ) → HasHarms harms old.own → (more : ℕ) × HasHarms more new.own × (more + length (mine 0 old.seen) ≤ harms + length (mine 0 new.seen))
+
+  -- no more members told nothing than were harmed before, and marks of caller 0 were made since
+  abbrev pub IsSilentSince : ℕ → Sitting V Mark → Sitting V Mark → OpAnswer → Type 0
+  IsSilentSince harms old new (Probed key found) = silent_in found.probes.items + length (mine 0 old.seen) ≤ harms + length (mine 0 new.seen)
+  IsSilentSince harms old new other = ⊤
+
   -- it has ended with this answer, which the front's last mark tells unless it is what a probe found
   pub record WasToldLast (asked : Asked) (such : Mark → Type 0) (most : ℕ) (old new : Sitting V Mark) (answer : OpAnswer) : Type 0 where
     pub marks : List Mark
@@ -41,4 +52,4 @@ module _ {V : Type 0} where
   -- So many of them at most tell of frames that were lost or made late as the fate's count of harms rose by.
   pub data Operates (asked : Asked) (such : Mark → Type 0) (harms harms_then : ℕ) (old new : Sitting V Mark) (answer : OpAnswer) : Type 0 where
     is_told : (marks : List Mark) → GoesOn old.number old.seen new.seen (marks ++ told_marks asked answer) → AreLast new.seen (told_marks asked answer) → All such marks → IsCounted (losses marks) harms harms_then → Operates asked such harms harms_then old new answer
-    is_not_begun : (why : Answer) → IsRefusal why → answer ≡ Stopped why → IsCounted 0 harms harms_then → GoesOn old.number old.seen new.seen [] → Operates asked such harms harms_then old new answer
+    is_not_begun : (why : Answer) → IsRefusal (length new.seen) why → answer ≡ Stopped why → IsCounted 0 harms harms_then → GoesOn old.number old.seen new.seen [] → Operates asked such harms harms_then old new answer

@@ -3,6 +3,7 @@
 ghost use Rattle.std.specs.Prelude.{◌≡◌, ◌≢◌, ◌⊎◌, ◌≤◌, ◌<◌, ◌+◌, ℕ, reverse, vec_len, vec_capacity, All, None, IsSome, IfOk, IfErr};
 ghost use Rattle.std.specs.Option.{ForSome};
 ghost use Rattle.cas_record.specs.Legal.{IsLegal};
+ghost use Rattle.cas_causes.specs.Tellings.{AreTellingsSo};
 ghost use Rattle.cas_turn.specs.Seen.{Begins};
 ghost use Rattle.cas_turn.specs.Sitting.{fresh_seats};
 ghost use Rattle.cas_hold.specs.Kept.{IsHeldBy};
@@ -11,12 +12,14 @@ ghost use Rattle.cas_hold.specs.Open.{IsFree};
 ghost use Rattle.cas_hold.specs.OwnParts.{own_part};
 ghost use Rattle.cas_rack.specs.Kept.{AreKept};
 ghost use Rattle.cas_rack.specs.Store.{StaysClosed};
+ghost use Rattle.cas_steady.specs.Blame.{AreDeserved};
 ghost use Rattle.cas_board.specs.Passes.{IsPassOf};
 
 use crate::shared::Shared;
 use cas_disk::Disk;
 use cas_rack::{Rack, Store};
 use cas_record::Record;
+use cas_steady::SteadyWorld;
 use cas_turn::{Seat, Turn};
 use cas_world::{Config, OpenFault};
 use std::alloc::Global;
@@ -75,8 +78,10 @@ impl<D: Disk> Board<D> {
         ensures back { IfErr result (λ back. (vec_len back.1.acceptors ≡ 64) × (vec_len back.1.vaults ≡ 17)) }
     {
         let store = Store::open(alloc, config, rack)?;
+        let Store { world, room } = store;
         let shared = Shared {
-            store,
+            world: SteadyWorld::over(world),
+            room,
             greatest: config.proposers,
         };
         let callers = u32::from(config.proposers) + 1;
@@ -86,16 +91,18 @@ impl<D: Disk> Board<D> {
         }
     }
 
-    /// Gives the store back behind a hold. The pass has then seen its record, which is legal where disks tell what they keep.
+    /// Gives the store back behind a hold. The pass has then seen its record. Where disks tell what they keep, the record is legal, and what
+    /// it tells of changes of membership and of collections is so in it.
     pub(crate) fn give_back<R>(&self, rt: &R, pass: &mut Pass<D>, shared: Shared<D>)
         requires turn { pass.old.turn ≡ self.now.id }
         requires holds { IsSome pass.old.holds }
         requires makes { ForSome pass.old.holds (λ before. IsHeldBy pass.old.number before shared) }
         ensures pass { pass.new ≡ record pass.old { holds = None; seen = shared.marks; own = own_part shared pass.old.number } }
         ensures legal { D.tells → IsLegal (reverse pass.new.seen) }
+        ensures tellings { D.tells → AreTellingsSo (reverse pass.new.seen) }
     {
-        // The front that its caller has seen then is the whole record, which is legal where disks tell.
-        let _record = shared.store.world.record();
+        // The front that its caller has seen then is the whole record, which is legal and tells what is so, where disks tell.
+        let _record = shared.world.record();
         self.turn.give_back(rt, pass, shared);
     }
 
@@ -115,14 +122,24 @@ impl<D: Disk> Board<D> {
 
     /// Takes the board apart, with all its passes. It takes no memory, and waits for nobody. What is acknowledged in the record stands on
     /// the disks of the acceptors that confirmed it, whatever a crash of them leaves, until a floor is made at or above it.
+    ///
+    /// Where disks tell what they keep, what the record tells of changes of membership and of collections is so in it: each caller who had
+    /// begun a call by then, and the operator, had entered the era that is told of a join or a leave; and the key that is told to be collected
+    /// had its tombstone as a floor, with the empty state.
+    ///
+    /// Nobody stops an acceptor or a proposer of a board. So whom a mark blames has a disk whose count of faults is above 0: some acceptor,
+    /// where a frame found its acceptor down or brought it down; and a proposer's vault, where the proposer is told to be down or to have
+    /// failed.
     pub fn close(self, passes: Vec<Pass<D>>) -> Closed<D>
         requires turn { All (λ p. p.turn ≡ self.id) passes.items }
         requires all { vec_len passes ≡ self.seats }
         requires idle { All (λ p. p.holds ≡ None) passes.items }
         ensures legal { D.tells → IsLegal (reverse result.book.marks) }
+        ensures tellings { D.tells → AreTellingsSo (reverse result.book.marks) }
         ensures fronts { All (λ p. Begins p.seen result.book.marks) passes.items }
         ensures mine { All (λ p. mine p.number result.book.marks ≡ mine p.number p.seen) passes.items }
         ensures kept { D.tells → AreKept D.may_leave (reverse result.book.marks) result.rack.acceptors.items }
+        ensures deserved { AreDeserved D.fault_count result.rack.acceptors.items result.rack.vaults.items result.book.marks }
         ensures all_acceptors { vec_len result.rack.acceptors ≡ 64 }
         ensures all_vaults { vec_len result.rack.vaults ≡ 17 }
     {
@@ -136,11 +153,21 @@ impl<D: Disk> Shared<D> {
     fn into_closed(self) -> Closed<D>
         ensures marks { result.book.marks ≡ self.marks }
         ensures legal { D.tells → IsLegal (reverse result.book.marks) }
+        ensures tellings { D.tells → AreTellingsSo (reverse result.book.marks) }
         ensures kept { D.tells → AreKept D.may_leave (reverse result.book.marks) result.rack.acceptors.items }
+        ensures deserved { AreDeserved D.fault_count result.rack.acceptors.items result.rack.vaults.items result.book.marks }
         ensures all_acceptors { vec_len result.rack.acceptors ≡ 64 }
         ensures all_vaults { vec_len result.rack.vaults ≡ 17 }
     {
-        let Shared { store, greatest: _ } = self;
+        let Shared {
+            world,
+            room,
+            greatest: _,
+        } = self;
+        let store = Store {
+            world: world.into_world(),
+            room,
+        };
         let (book, rack) = store.close();
         Closed { book, rack }
     }

@@ -163,7 +163,7 @@ impl<D: Disk> Board<D> {
         ensures legal { D.tells → IsLegal (reverse pass.new.seen) }
     {
         let mut shared = self.turn.hold(rt, pass);
-        let world = &mut shared.store.world;
+        let world = &mut shared.world;
         let caller = caller_of(pass);
         let stage = go_on(world, caller, call, key, program, verdict, may_repeat);
         self.give_back(rt, pass, shared);
@@ -186,7 +186,7 @@ fn begin_known<D: Disk>(
     if caller > shared.greatest {
         return Err(Answer::NoMemory { proposed: false });
     }
-    begin(&mut shared.store.world, caller, key, program)
+    begin(&mut shared.world, caller, key, program)
 }
 
 /// How many rounds the call has had once it goes on from that stage.

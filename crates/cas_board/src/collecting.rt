@@ -1,7 +1,8 @@
 //! A collection of a deleted key, from the operator's call to its answer.
 
-ghost use Rattle.std.specs.Prelude.{◌≡◌, ◌≤◌, ℕ, [], IfOk, IfErr, OnOk, reverse};
+ghost use Rattle.std.specs.Prelude.{◌≡◌, ◌≤◌, ℕ, [], length, IfOk, IfErr, OnOk, reverse};
 ghost use Rattle.cas_record.specs.Legal.{IsLegal};
+ghost use Rattle.cas_causes.specs.Tellings.{AreTellingsSo};
 ghost use Rattle.cas_cluster.specs.StepCollect.{keep_always};
 ghost use Rattle.cas_board.specs.Changes.{IsCounted};
 ghost use Rattle.cas_board.specs.Operations.{HasOperated, Operates, WasToldLast};
@@ -46,6 +47,7 @@ impl<D: Disk> Board<D> {
         ensures operates { Operates (Asked.Collect key.now) (IsCollectingMark key.now tries) (F.harm_count fate.old) (F.harm_count fate.new) pass.old pass.new result }
         ensures answer { IsCollectAnswer key.now result }
         ensures legal { D.tells → IsLegal (reverse pass.new.seen) }
+        ensures tellings { D.tells → AreTellingsSo (reverse pass.new.seen) }
     {
         match self.order_collection_once(rt, pass, key, tries) {
             Ok(ordered) => self.run_collection(rt, pass, fate, ordered),
@@ -69,6 +71,7 @@ impl<D: Disk> Board<D> {
         ensures told { (lost : ℕ) × IsCounted lost (F.harm_count fate.old) (F.harm_count fate.new) × WasToldLast (Asked.Collect first.key) (IsCollectingMark first.key (most_rounds first.tries)) lost pass.old pass.new result }
         ensures answer { IsCollectAnswer first.key result }
         ensures legal { D.tells → IsLegal (reverse pass.new.seen) }
+        ensures tellings { D.tells → AreTellingsSo (reverse pass.new.seen) }
     {
         let mut holds = Holds::new();
         let mut collecting = first;
@@ -101,11 +104,12 @@ impl<D: Disk> Board<D> {
         ensures keeps { IfOk result (λ collecting. collecting.program ≡ keep_always) }
         ensures tries { IfOk result (λ collecting. collecting.tries ≡ tries) }
         ensures ordered { IfOk result (λ collecting. HasCourse key.now (most_rounds tries) collecting.course pass.new.own pass.new.seen) }
-        ensures refused { IfErr result (λ why. IsRefusal why × IsFree pass.new.own) }
+        ensures refused { IfErr result (λ why. IsRefusal (length pass.new.seen) why × IsFree pass.new.own) }
         ensures legal { D.tells → IsLegal (reverse pass.new.seen) }
+        ensures tellings { D.tells → AreTellingsSo (reverse pass.new.seen) }
     {
         let mut shared = self.turn.hold(rt, pass);
-        let ordered = order_collection(self.alloc, &mut shared.store.world, key, tries);
+        let ordered = order_collection(self.alloc, &mut shared.world, key, tries);
         self.give_back(rt, pass, shared);
         ordered
     }
@@ -131,9 +135,10 @@ impl<D: Disk> Board<D> {
         ensures told { IfErr result (WasToldLast (Asked.Collect collecting.key) (IsCollectingMark collecting.key (most_rounds collecting.tries)) (harm_by verdict) pass.old pass.new) }
         ensures answer { IfErr result (IsCollectAnswer collecting.key) }
         ensures legal { D.tells → IsLegal (reverse pass.new.seen) }
+        ensures tellings { D.tells → AreTellingsSo (reverse pass.new.seen) }
     {
         let mut shared = self.turn.hold(rt, pass);
-        let next = go_on_collecting(&mut shared.store.world, collecting, verdict);
+        let next = go_on_collecting(&mut shared.world, collecting, verdict);
         self.give_back(rt, pass, shared);
         next
     }

@@ -1,7 +1,8 @@
 //! A change of membership, from the operator's call to its answer.
 
-ghost use Rattle.std.specs.Prelude.{◌≡◌, ◌≢◌, ◌≤◌, ℕ, false, [], Some, IfOk, IfErr, OnOk, reverse};
+ghost use Rattle.std.specs.Prelude.{◌≡◌, ◌≢◌, ◌≤◌, ℕ, false, [], length, Some, IfOk, IfErr, OnOk, reverse};
 ghost use Rattle.cas_record.specs.Legal.{IsLegal};
+ghost use Rattle.cas_causes.specs.Tellings.{AreTellingsSo};
 ghost use Rattle.cas_cluster.specs.StepCollect.{keep_always};
 ghost use Rattle.cas_world.specs.Plans.{asked_to};
 ghost use Rattle.cas_board.specs.Changes.{IsCounted};
@@ -53,6 +54,7 @@ impl<D: Disk> Board<D> {
         ensures operates { Operates (Asked.Join id) (IsRescanMark tries) (F.harm_count fate.old) (F.harm_count fate.new) pass.old pass.new result }
         ensures answer { IsMembersAnswer (Asked.Join id) result }
         ensures legal { D.tells → IsLegal (reverse pass.new.seen) }
+        ensures tellings { D.tells → AreTellingsSo (reverse pass.new.seen) }
     {
         let aim = Aim {
             kind: PlanKind::Join,
@@ -80,6 +82,7 @@ impl<D: Disk> Board<D> {
         ensures operates { Operates (Asked.Leave id) (IsRescanMark tries) (F.harm_count fate.old) (F.harm_count fate.new) pass.old pass.new result }
         ensures answer { IsMembersAnswer (Asked.Leave id) result }
         ensures legal { D.tells → IsLegal (reverse pass.new.seen) }
+        ensures tellings { D.tells → AreTellingsSo (reverse pass.new.seen) }
     {
         let aim = Aim {
             kind: PlanKind::Leave,
@@ -106,6 +109,7 @@ impl<D: Disk> Board<D> {
         ensures operates { Operates (asked_to aim.now.kind aim.now.id) (IsRescanMark tries) (F.harm_count fate.old) (F.harm_count fate.new) pass.old pass.new result }
         ensures answer { IsMembersAnswer (asked_to aim.now.kind aim.now.id) result }
         ensures legal { D.tells → IsLegal (reverse pass.new.seen) }
+        ensures tellings { D.tells → AreTellingsSo (reverse pass.new.seen) }
     {
         match self.order_members_once(rt, pass, aim) {
             Ok(program) => self.carry_out(rt, pass, fate, aim, &program, tries),
@@ -132,6 +136,7 @@ impl<D: Disk> Board<D> {
         ensures told { (lost : ℕ) × IsCounted lost (F.harm_count fate.old) (F.harm_count fate.new) × WasToldLast (asked_to aim.now.kind aim.now.id) (IsRescanMark tries) lost pass.old pass.new result }
         ensures answer { IsMembersAnswer (asked_to aim.now.kind aim.now.id) result }
         ensures legal { D.tells → IsLegal (reverse pass.new.seen) }
+        ensures tellings { D.tells → AreTellingsSo (reverse pass.new.seen) }
     {
         match self.take_up_once(rt, pass, aim) {
             Ok(()) => self.take_steps(rt, pass, fate, aim, program, tries),
@@ -158,6 +163,7 @@ impl<D: Disk> Board<D> {
         ensures told { (lost : ℕ) × IsCounted lost (F.harm_count fate.old) (F.harm_count fate.new) × WasToldLast (asked_to aim.now.kind aim.now.id) (IsRescanMark tries) lost pass.old pass.new result }
         ensures answer { IsMembersAnswer (asked_to aim.now.kind aim.now.id) result }
         ensures legal { D.tells → IsLegal (reverse pass.new.seen) }
+        ensures tellings { D.tells → AreTellingsSo (reverse pass.new.seen) }
     {
         let mut holds = Holds::new();
         for _ in rt.forever() {
@@ -191,6 +197,7 @@ impl<D: Disk> Board<D> {
         ensures told { IfErr result (λ told. (lost : ℕ) × IsCounted lost (F.harm_count fate.old) (F.harm_count fate.new) × WasToldLast (asked_to aim.now.kind aim.now.id) (IsRescanMark tries) lost pass.old pass.new told) }
         ensures answer { IfErr result (IsMembersAnswer (asked_to aim.now.kind aim.now.id)) }
         ensures legal { D.tells → IsLegal (reverse pass.new.seen) }
+        ensures tellings { D.tells → AreTellingsSo (reverse pass.new.seen) }
     {
         match self.advance_once(rt, pass, aim, program) {
             Ok(step) => self.finish_step(rt, pass, fate, holds, aim, step, program, tries),
@@ -214,6 +221,7 @@ impl<D: Disk> Board<D> {
         requires operator { pass.old.number ≡ 0 }
         requires stands { StandsAt (asked_to aim.now.kind aim.now.id) pass.old.own (wanted_by 0 pass.old.seen) step }
         requires legal { D.tells → IsLegal (reverse pass.old.seen) }
+        requires tellings { D.tells → AreTellingsSo (reverse pass.old.seen) }
         requires program { program.now ≡ keep_always }
         requires some { 1 ≤ tries }
         ensures pass { pass.new ≡ record pass.old { seen = pass.new.seen; own = pass.new.own } }
@@ -222,6 +230,7 @@ impl<D: Disk> Board<D> {
         ensures told { IfErr result (λ told. (lost : ℕ) × IsCounted lost (F.harm_count fate.old) (F.harm_count fate.new) × WasToldLast (asked_to aim.now.kind aim.now.id) (IsRescanMark tries) lost pass.old pass.new told) }
         ensures answer { IfErr result (IsMembersAnswer (asked_to aim.now.kind aim.now.id)) }
         ensures legal { D.tells → IsLegal (reverse pass.new.seen) }
+        ensures tellings { D.tells → AreTellingsSo (reverse pass.new.seen) }
     {
         match step {
             MembersStep::Next => Ok(()),
@@ -252,6 +261,7 @@ impl<D: Disk> Board<D> {
         ensures told { IfErr result (λ told. (lost : ℕ) × IsCounted lost (F.harm_count fate.old) (F.harm_count fate.new) × WasToldLast (asked_to aim.now.kind aim.now.id) IsPlanMark lost pass.old pass.new told) }
         ensures answer { IfErr result (IsMembersAnswer (asked_to aim.now.kind aim.now.id)) }
         ensures legal { D.tells → IsLegal (reverse pass.new.seen) }
+        ensures tellings { D.tells → AreTellingsSo (reverse pass.new.seen) }
     {
         let mut waits = first;
         let mut again = false;
@@ -292,6 +302,7 @@ impl<D: Disk> Board<D> {
         ensures told { IfErr result (λ told. (lost : ℕ) × IsCounted lost (F.harm_count fate.old) (F.harm_count fate.new) × WasToldLast (asked_to aim.now.kind aim.now.id) (IsRescanMark tries) lost pass.old pass.new told) }
         ensures answer { IfErr result (IsMembersAnswer (asked_to aim.now.kind aim.now.id)) }
         ensures legal { D.tells → IsLegal (reverse pass.new.seen) }
+        ensures tellings { D.tells → AreTellingsSo (reverse pass.new.seen) }
     {
         let Rescan { key, begun } = rescan;
         let Begun { call, mut stage } = begun;
@@ -325,11 +336,12 @@ impl<D: Disk> Board<D> {
         ensures front { GoesOn pass.old.number pass.old.seen pass.new.seen [] }
         ensures program { IfOk result (λ program. program ≡ keep_always) }
         ensures ordered { OnOk result (HasOrder (asked_to aim.now.kind aim.now.id) pass.new.own) }
-        ensures refused { IfErr result (λ why. IsRefusal why × IsFree pass.new.own) }
+        ensures refused { IfErr result (λ why. IsRefusal (length pass.new.seen) why × IsFree pass.new.own) }
         ensures legal { D.tells → IsLegal (reverse pass.new.seen) }
+        ensures tellings { D.tells → AreTellingsSo (reverse pass.new.seen) }
     {
         let mut shared = self.turn.hold(rt, pass);
-        let ordered = order_members(self.alloc, &mut shared.store.world, aim);
+        let ordered = order_members(self.alloc, &mut shared.world, aim);
         self.give_back(rt, pass, shared);
         ordered
     }
@@ -345,9 +357,10 @@ impl<D: Disk> Board<D> {
         ensures told { IfErr result (WasToldLast (asked_to aim.now.kind aim.now.id) IsPlanMark 0 pass.old pass.new) }
         ensures answer { IfErr result (IsMembersAnswer (asked_to aim.now.kind aim.now.id)) }
         ensures legal { D.tells → IsLegal (reverse pass.new.seen) }
+        ensures tellings { D.tells → AreTellingsSo (reverse pass.new.seen) }
     {
         let mut shared = self.turn.hold(rt, pass);
-        let taken_up = take_up(&mut shared.store.world, aim);
+        let taken_up = take_up(&mut shared.world, aim);
         self.give_back(rt, pass, shared);
         taken_up
     }
@@ -370,9 +383,10 @@ impl<D: Disk> Board<D> {
         ensures told { IfErr result (WasToldLast (asked_to aim.now.kind aim.now.id) IsPlanMark 0 pass.old pass.new) }
         ensures answer { IfErr result (IsMembersAnswer (asked_to aim.now.kind aim.now.id)) }
         ensures legal { D.tells → IsLegal (reverse pass.new.seen) }
+        ensures tellings { D.tells → AreTellingsSo (reverse pass.new.seen) }
     {
         let mut shared = self.turn.hold(rt, pass);
-        let step = advance(&mut shared.store.world, aim, program);
+        let step = advance(&mut shared.world, aim, program);
         self.give_back(rt, pass, shared);
         step
     }
@@ -394,9 +408,10 @@ impl<D: Disk> Board<D> {
         ensures told { IfErr result (WasToldLast (asked_to aim.now.kind aim.now.id) IsPlanMark (harm_by verdict) pass.old pass.new) }
         ensures answer { IfErr result (IsMembersAnswer (asked_to aim.now.kind aim.now.id)) }
         ensures legal { D.tells → IsLegal (reverse pass.new.seen) }
+        ensures tellings { D.tells → AreTellingsSo (reverse pass.new.seen) }
     {
         let mut shared = self.turn.hold(rt, pass);
-        let listing = list_on(&mut shared.store.world, aim, verdict);
+        let listing = list_on(&mut shared.world, aim, verdict);
         self.give_back(rt, pass, shared);
         listing
     }
@@ -425,9 +440,10 @@ impl<D: Disk> Board<D> {
         ensures told { (tries : ℕ) → (may_repeat ≡ false → rounds_after pass.old.own ≡ tries) → IfErr result (WasToldLast (asked_to aim.now.kind aim.now.id) (IsRescanMark tries) (harm_by verdict) pass.old pass.new) }
         ensures answer { IfErr result (IsMembersAnswer (asked_to aim.now.kind aim.now.id)) }
         ensures legal { D.tells → IsLegal (reverse pass.new.seen) }
+        ensures tellings { D.tells → AreTellingsSo (reverse pass.new.seen) }
     {
         let mut shared = self.turn.hold(rt, pass);
-        let world = &mut shared.store.world;
+        let world = &mut shared.world;
         let rescanning = rescan_on(world, aim, call, key, program, verdict, may_repeat);
         self.give_back(rt, pass, shared);
         rescanning

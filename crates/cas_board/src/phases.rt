@@ -73,7 +73,7 @@ impl<D: Disk> Board<D> {
         };
         if index < late {
             let mut shared = self.turn.hold(rt, pass);
-            let_in(&mut shared.store.world, index);
+            let_in(&mut shared.world, index);
             self.give_back(rt, pass, shared);
         }
     }

@@ -1,15 +1,15 @@
 //! A probe of a key, from the operator's call to its answer.
 
-ghost use Rattle.std.specs.Prelude.{◌≡◌, ◌≤◌, ℕ, List, [], IfOk, IfErr, OnOk, reverse};
+ghost use Rattle.std.specs.Prelude.{◌≡◌, ◌≤◌, ℕ, List, [], length, IfOk, IfErr, OnOk, reverse};
 ghost use Rattle.cas_record.specs.Legal.{IsLegal};
 ghost use Rattle.cas_board.specs.Changes.{IsCounted};
-ghost use Rattle.cas_board.specs.Operations.{HasOperated, Operates, WasToldLast};
+ghost use Rattle.cas_board.specs.Operations.{HasMarkedHarms, HasOperated, IsSilentSince, Operates, WasToldLast};
 ghost use Rattle.cas_board.specs.Passes.{IsPassOf};
 ghost use Rattle.cas_ballot.specs.Members.{IsMemberSet};
 ghost use Rattle.cas_hold.specs.Deeds.{IsRefusal, harm_by};
 ghost use Rattle.cas_hold.specs.Mine.{GoesOn};
 ghost use Rattle.cas_hold.specs.Open.{IsFree};
-ghost use Rattle.cas_hold.specs.Orders.{HasOrder, HasProbe, IsAskingHarm, IsProbeAnswer};
+ghost use Rattle.cas_hold.specs.Orders.{HasHarms, HasOrder, HasProbe, IsAskingHarm, IsProbeAnswer, IsSilentAtMost, IsTrueProbe};
 
 use crate::board::{Board, Pass};
 use crate::fates::Holds;
@@ -24,6 +24,11 @@ use std::sync::Wait;
 impl<D: Disk> Board<D> {
     /// Asks each member what it keeps for the key, as a call of the operator, and gives what the operator is told. The pass is caller 0's.
     /// What becomes of each frame the fate says, and it is asked while this call does not hold the turn.
+    ///
+    /// No more members are found to have told nothing than marks of harmed frames were made. Where disks tell what they keep, what each tells
+    /// of the key is so in the record: a state that was proposed at that ballot, or the floor with which the key's history opened, or none; or
+    /// it tells that the request is too old. And each who confirmed what was acknowledged in the era that the operator's proposer was marked
+    /// last as having entered is among those asked.
     ///
     /// A probe is answered with [`OpAnswer::Probed`], which is not marked, or with [`OpAnswer::Stopped`], which is marked last in the front
     /// that the pass has seen then. One that is refused with [`Answer::RecordFull`], or with [`Answer::NoMemory`], may not have been begun:
@@ -42,6 +47,8 @@ impl<D: Disk> Board<D> {
         ensures free { IsFree pass.new.own }
         ensures operates { Operates (Asked.Probe key.now) IsAskingHarm (F.harm_count fate.old) (F.harm_count fate.new) pass.old pass.new result }
         ensures answer { (members : List ℕ) × IsMemberSet members × IsProbeAnswer key.now members result }
+        ensures silent { IsSilentSince 0 pass.old pass.new result }
+        ensures truly { D.tells → IsTrueProbe (reverse pass.new.seen) result }
         ensures legal { D.tells → IsLegal (reverse pass.new.seen) }
     {
         match self.order_probe_once(rt, pass, key) {
@@ -65,6 +72,8 @@ impl<D: Disk> Board<D> {
         ensures pass { pass.new ≡ record pass.old { seen = pass.new.seen; own = pass.new.own } }
         ensures told { (lost : ℕ) × IsCounted lost (F.harm_count fate.old) (F.harm_count fate.new) × WasToldLast (Asked.Probe order.key) IsAskingHarm lost pass.old pass.new result }
         ensures answer { (members : List ℕ) × IsMemberSet members × IsProbeAnswer order.key members result }
+        ensures silent { IsSilentSince 0 pass.old pass.new result }
+        ensures truly { D.tells → IsTrueProbe (reverse pass.new.seen) result }
         ensures legal { D.tells → IsLegal (reverse pass.new.seen) }
     {
         match self.ask_probe_once(rt, pass, order) {
@@ -87,6 +96,8 @@ impl<D: Disk> Board<D> {
         ensures pass { pass.new ≡ record pass.old { seen = pass.new.seen; own = pass.new.own } }
         ensures told { (lost : ℕ) × IsCounted lost (F.harm_count fate.old) (F.harm_count fate.new) × WasToldLast (Asked.Probe first.key) IsAskingHarm lost pass.old pass.new result }
         ensures answer { (members : List ℕ) → HasProbe first.key members pass.old.own → IsProbeAnswer first.key members result }
+        ensures silent { (harms : ℕ) → HasHarms harms pass.old.own → IsSilentSince harms pass.old pass.new result }
+        ensures truly { D.tells → IsTrueProbe (reverse pass.new.seen) result }
         ensures legal { D.tells → IsLegal (reverse pass.new.seen) }
     {
         let mut holds = Holds::new();
@@ -118,11 +129,11 @@ impl<D: Disk> Board<D> {
         ensures ordered { OnOk result (HasOrder (Asked.Probe key.now) pass.new.own) }
         ensures question { IfOk result (λ order. order.question ≡ Exchange.Probe key.now) }
         ensures key { IfOk result (λ order. order.key ≡ key.now) }
-        ensures refused { IfErr result (λ why. IsRefusal why × IsFree pass.new.own) }
+        ensures refused { IfErr result (λ why. IsRefusal (length pass.new.seen) why × IsFree pass.new.own) }
         ensures legal { D.tells → IsLegal (reverse pass.new.seen) }
     {
         let mut shared = self.turn.hold(rt, pass);
-        let ordered = order_probe(&mut shared.store.world, key);
+        let ordered = order_probe(&mut shared.world, key);
         self.give_back(rt, pass, shared);
         ordered
     }
@@ -144,10 +155,13 @@ impl<D: Disk> Board<D> {
         ensures key { IfOk result (λ probing. probing.key ≡ order.key) }
         ensures told { IfErr result (WasToldLast (Asked.Probe order.key) IsAskingHarm 0 pass.old pass.new) }
         ensures answer { IfErr result (λ told. (members : List ℕ) → IsProbeAnswer order.key members told) }
+        ensures harms { OnOk result (HasHarms 0 pass.new.own) }
+        ensures silent { IfErr result (IsSilentAtMost 0) }
+        ensures truly { D.tells → IfErr result (IsTrueProbe (reverse pass.new.seen)) }
         ensures legal { D.tells → IsLegal (reverse pass.new.seen) }
     {
         let mut shared = self.turn.hold(rt, pass);
-        let probing = ask_probe(&mut shared.store.world, order);
+        let probing = ask_probe(&mut shared.world, order);
         self.give_back(rt, pass, shared);
         probing
     }
@@ -165,14 +179,17 @@ impl<D: Disk> Board<D> {
         requires asks { (members : List ℕ) × HasProbe probing.key members pass.old.own }
         ensures pass { pass.new ≡ record pass.old { seen = pass.new.seen; own = pass.new.own } }
         ensures goes_on { OnOk result (HasOperated IsAskingHarm (harm_by verdict) pass.old pass.new) }
-        ensures own { OnOk result (pass.new.own ≡ pass.old.own) }
+        ensures still { OnOk result ((members : List ℕ) → HasProbe probing.key members pass.old.own → HasProbe probing.key members pass.new.own) }
+        ensures harms { OnOk result (HasMarkedHarms pass.old pass.new) }
         ensures key { IfOk result (λ next. next.key ≡ probing.key) }
         ensures told { IfErr result (WasToldLast (Asked.Probe probing.key) IsAskingHarm (harm_by verdict) pass.old pass.new) }
         ensures answer { IfErr result (λ told. (members : List ℕ) → HasProbe probing.key members pass.old.own → IsProbeAnswer probing.key members told) }
+        ensures silent { IfErr result (λ told. (harms : ℕ) → HasHarms harms pass.old.own → IsSilentAtMost harms told) }
+        ensures truly { D.tells → IfErr result (IsTrueProbe (reverse pass.new.seen)) }
         ensures legal { D.tells → IsLegal (reverse pass.new.seen) }
     {
         let mut shared = self.turn.hold(rt, pass);
-        let next = go_on_probing(&mut shared.store.world, probing, verdict);
+        let next = go_on_probing(&mut shared.world, probing, verdict);
         self.give_back(rt, pass, shared);
         next
     }

@@ -1,8 +1,10 @@
 //! The store that callers hold in turns.
 
 use cas_disk::Disk;
-use cas_rack::Store;
+use cas_disk_shelf::DiskShelf;
+use cas_rack::Room;
 use cas_record::Mark;
+use cas_steady::SteadyWorld;
 use cas_turn::Grows;
 use std::marker::Model;
 
@@ -13,7 +15,10 @@ use std::marker::Model;
 /// something; caller 0's also has what the operator has under way.
 #[derive(Drop)]
 pub struct Shared<D: Disk> {
-    pub(crate) store: Store<D>,
+    /// The world of the store, in which no call stops anybody.
+    pub(crate) world: SteadyWorld<DiskShelf<D>, D>,
+    /// Where the disks are put when the board is closed.
+    pub(crate) room: Room<D>,
     /// The greatest number of a caller.
     pub(crate) greatest: u8,
 }
@@ -30,9 +35,9 @@ impl<D: Disk> Model for Shared<D> {
 
     ghost coded = { Prim.hlevel (codes, memory.the_row.coded) };
 
-    ghost view = { λ s. s.store.world };
+    ghost view = { λ s. s.world };
 
-    ghost invariant = { λ s. (s.greatest ≡ s.store.world.greatest) × IsKept s.store.world };
+    ghost invariant = { λ s. (s.greatest ≡ s.world.greatest) × IsKept s.world };
 }
 
 impl<D: Disk> Grows for Shared<D> {
@@ -50,6 +55,6 @@ impl<D: Disk> Grows for Shared<D> {
     ghost may_add = { MayAdd };
 
     fn items(&self) -> u64 {
-        self.store.world.record().marks().len() as u64
+        self.world.record().marks().len() as u64
     }
 }

@@ -11,7 +11,7 @@ use Rattle.cas_board.proofs.board.Board.advance_once.Goals as goal
 
 pub advance-step-requires-clause-planned : goal.advance-step-requires-clause-planned
 advance-step-requires-clause-planned g c =
-    subst (HasPlan (asked_to c.args.aim.now.kind c.args.aim.now.id)) (sym (operator_part c.args.pass.now.number c.shared.inside.store.world c.hold-shared.result c.args.pass.now.own c.requires.operator c.shared.view_is c.hold-shared.ensures.own)) c.requires.planned
+    subst (HasPlan (asked_to c.args.aim.now.kind c.args.aim.now.id)) (sym (operator_part c.args.pass.now.number c.shared.inside.world c.hold-shared.result c.args.pass.now.own c.requires.operator c.shared.view_is c.hold-shared.ensures.own)) c.requires.planned
 
 pub give_back-requires-clause-makes : goal.give_back-requires-clause-makes
 give_back-requires-clause-makes g c =

@@ -1,9 +1,10 @@
-use Rattle.std.proofs.Common.{ℕ, List, sym, ap, subst, ◌∙◌}
+use Rattle.std.proofs.Common.{ℕ, List, [], ◌++◌, arith, sym, ap, subst, ◌∙◌}
 use Rattle.cas_record.specs.declared.operator.Asked.TheVariants as asked
+use Rattle.cas_cluster.specs.StepCouncil.{told_marks}
 use Rattle.cas_board.specs.Operations.{WasToldLast}
 use Rattle.cas_hold.specs.Orders.{HasProbe, IsAskingHarm, IsProbeAnswer}
 use Rattle.cas_board.proofs.Sittings.{counted_none}
-use Rattle.cas_board.proofs.Operating.{told_behind, answers_any}
+use Rattle.cas_board.proofs.Operating.{told_behind, answers_any, own_grown, silent_since, silent_before}
 use Rattle.cas_board.proofs.board.Board.ask_and_probe.Goals as goal
 
 pub run_probe-requires-clause-operator : goal.run_probe-requires-clause-operator
@@ -33,3 +34,9 @@ returns-in-Err-clause-told g c = (0, counted_none (g.F.Fate.harm_count c.args.fa
 
 pub returns-in-Err-clause-answer : goal.returns-in-Err-clause-answer
 returns-in-Err-clause-answer g c = answers_any c.args.order.key c.in-Err.told c.in-Err.ensures.answer
+
+pub returns-in-Ok-clause-silent : goal.returns-in-Ok-clause-silent
+returns-in-Ok-clause-silent g c = silent_before 0 c.args.pass.now c.ask_probe_once.new.pass c.run_probe.new.pass c.run_probe.result (own_grown c.args.pass.now c.ask_probe_once.new.pass [] c.requires.operator c.in-Ok.ensures.front) (c.run_probe.ensures.silent 0 c.in-Ok.ensures.harms)
+
+pub returns-in-Err-clause-silent : goal.returns-in-Err-clause-silent
+returns-in-Err-clause-silent g c = silent_since 0 0 c.args.pass.now c.ask_probe_once.new.pass c.in-Err.told (omega (arith, own_grown c.args.pass.now c.ask_probe_once.new.pass (c.in-Err.ensures.told.marks ++ told_marks (asked.Probe c.args.order.key) c.in-Err.told) c.requires.operator c.in-Err.ensures.told.front)) c.in-Err.ensures.silent

@@ -1,15 +1,16 @@
-use Rattle.std.proofs.Common.{[], sym, ap, subst, ◌∙◌}
+use Rattle.std.proofs.Common.{List, reverse, [], sym, ap, subst, ◌∙◌}
 use Rattle.std.specs.Prelude.{OnOk, IfErr}
 use Rattle.cas_record.specs.declared.operator.Asked.TheVariants as asked
+use Rattle.cas_record.specs.declared.mark.Mark.{Mark}
 use Rattle.cas_cluster.specs.StepCouncil.{everyone}
 use Rattle.cas_hold.specs.Kept.{Makes}
-use Rattle.cas_hold.specs.Orders.{HasOrder, HasProbe, IsToldIn, IsAskingHarm}
+use Rattle.cas_hold.specs.Orders.{HasOrder, HasHarms, HasProbe, IsToldIn, IsTrueProbe, IsAskingHarm}
 use Rattle.cas_board.proofs.Sittings.{was_held, gives_back}
 use Rattle.cas_board.proofs.Operating.{operator_part, operator_made, operator_own, operator_told, asks_or_tells, everyone_set, on_ok, if_err}
 use Rattle.cas_board.proofs.board.Board.ask_probe_once.Goals as goal
 
 pub ask_probe-probing-requires-clause-ordered : goal.ask_probe-probing-requires-clause-ordered
-ask_probe-probing-requires-clause-ordered g c = subst (HasOrder (asked.Probe c.args.order.key)) (sym (operator_part c.args.pass.now.number c.shared.inside.store.world c.hold-shared.result c.args.pass.now.own c.requires.operator c.shared.view_is c.hold-shared.ensures.own)) c.requires.ordered
+ask_probe-probing-requires-clause-ordered g c = subst (HasOrder (asked.Probe c.args.order.key)) (sym (operator_part c.args.pass.now.number c.shared.inside.world c.hold-shared.result c.args.pass.now.own c.requires.operator c.shared.view_is c.hold-shared.ensures.own)) c.requires.ordered
 
 pub give_back-requires-clause-makes : goal.give_back-requires-clause-makes
 give_back-requires-clause-makes g c =
@@ -21,7 +22,13 @@ returns-clause-front g c = on_ok c.ask_probe-probing.result (operator_made c.hol
 
 pub returns-clause-asks : goal.returns-clause-asks
 returns-clause-asks g c =
-    on_ok c.ask_probe-probing.result (λ has. (everyone c.shared.inside.store.world, everyone_set c.shared.inside.store.world, subst (HasProbe c.args.order.key (everyone c.shared.inside.store.world)) (sym (operator_own c.hold-shared.result c.ask_probe-probing.new.world c.args.pass.now c.give_back.new.pass (was_held 0 c.hold-shared.result c.ask_probe-probing.new.world c.args.pass.now c.hold-shared.new.seat c.give_back.new.pass c.hold-shared.ensures.seen c.hold-shared.ensures.seat (sym (ap (λ s. s.number) c.hold-shared.ensures.seat ∙ c.requires.operator)) c.give_back.ensures.pass))) has)) c.ask_probe-probing.ensures.asks
+    on_ok c.ask_probe-probing.result (λ has. (everyone c.shared.inside.world, everyone_set c.shared.inside.world, subst (HasProbe c.args.order.key (everyone c.shared.inside.world)) (sym (operator_own c.hold-shared.result c.ask_probe-probing.new.world c.args.pass.now c.give_back.new.pass (was_held 0 c.hold-shared.result c.ask_probe-probing.new.world c.args.pass.now c.hold-shared.new.seat c.give_back.new.pass c.hold-shared.ensures.seen c.hold-shared.ensures.seat (sym (ap (λ s. s.number) c.hold-shared.ensures.seat ∙ c.requires.operator)) c.give_back.ensures.pass))) has)) c.ask_probe-probing.ensures.asks
 
 pub returns-clause-told : goal.returns-clause-told
 returns-clause-told g c = if_err c.ask_probe-probing.result (operator_told c.hold-shared.result c.ask_probe-probing.new.world c.args.pass.now c.give_back.new.pass (was_held 0 c.hold-shared.result c.ask_probe-probing.new.world c.args.pass.now c.hold-shared.new.seat c.give_back.new.pass c.hold-shared.ensures.seen c.hold-shared.ensures.seat (sym (ap (λ s. s.number) c.hold-shared.ensures.seat ∙ c.requires.operator)) c.give_back.ensures.pass) (asked.Probe c.args.order.key) IsAskingHarm 0) (subst (λ v. IfErr c.ask_probe-probing.result (IsToldIn (asked.Probe c.args.order.key) IsAskingHarm 0 v c.ask_probe-probing.new.world)) c.shared.view_is c.ask_probe-probing.ensures.told)
+
+pub returns-clause-harms : goal.returns-clause-harms
+returns-clause-harms g c = on_ok c.ask_probe-probing.result (subst (HasHarms 0) (sym (operator_own c.hold-shared.result c.ask_probe-probing.new.world c.args.pass.now c.give_back.new.pass (was_held 0 c.hold-shared.result c.ask_probe-probing.new.world c.args.pass.now c.hold-shared.new.seat c.give_back.new.pass c.hold-shared.ensures.seen c.hold-shared.ensures.seat (sym (ap (λ s. s.number) c.hold-shared.ensures.seat ∙ c.requires.operator)) c.give_back.ensures.pass)))) c.ask_probe-probing.ensures.harms
+
+pub returns-clause-truly : goal.returns-clause-truly
+returns-clause-truly g c tells = if_err c.ask_probe-probing.result (λ told. subst (λ (marks : List Mark). IsTrueProbe (reverse marks) told) (sym (ap (λ s. s.seen) c.give_back.ensures.pass))) c.ask_probe-probing.ensures.truly

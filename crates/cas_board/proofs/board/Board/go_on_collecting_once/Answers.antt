@@ -11,7 +11,7 @@ use Rattle.cas_board.proofs.board.Board.go_on_collecting_once.Goals as goal
 
 pub go_on_collecting-next-requires-clause-at : goal.go_on_collecting-next-requires-clause-at
 go_on_collecting-next-requires-clause-at g c =
-    course_held c.args.collecting.key (most_rounds c.args.collecting.tries) c.args.collecting.course c.args.pass.now.number c.shared.inside.store.world c.hold-shared.result c.args.pass.now.own c.args.pass.now.seen c.requires.operator c.shared.view_is c.hold-shared.ensures.own c.hold-shared.ensures.seen c.requires.at
+    course_held c.args.collecting.key (most_rounds c.args.collecting.tries) c.args.collecting.course c.args.pass.now.number c.shared.inside.world c.hold-shared.result c.args.pass.now.own c.args.pass.now.seen c.requires.operator c.shared.view_is c.hold-shared.ensures.own c.hold-shared.ensures.seen c.requires.at
 
 pub give_back-requires-clause-makes : goal.give_back-requires-clause-makes
 give_back-requires-clause-makes g c =

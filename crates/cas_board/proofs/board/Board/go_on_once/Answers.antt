@@ -9,12 +9,12 @@ use Rattle.cas_board.proofs.board.Board.go_on_once.Goals as goal
 
 pub go_on-stage-requires-clause-known : goal.go_on-stage-requires-clause-known
 go_on-stage-requires-clause-known g c =
-    held_known c.caller_of-caller.result c.args.pass.now.number c.args.call c.shared.inside.store.world c.args.pass.now.own (c.caller_of-caller.ensures ∙ ap (λ s. s.number) c.hold-shared.ensures.seat)
+    held_known c.caller_of-caller.result c.args.pass.now.number c.args.call c.shared.inside.world c.args.pass.now.own (c.caller_of-caller.ensures ∙ ap (λ s. s.number) c.hold-shared.ensures.seat)
     (ap (λ v. own_part v c.args.pass.now.number) c.shared.view_is ∙ c.hold-shared.ensures.own) c.requires.called c.shared.invariant.1
 
 pub go_on-stage-requires-clause-wanted : goal.go_on-stage-requires-clause-wanted
 go_on-stage-requires-clause-wanted g c =
-    ap (λ (k : ℕ). wanted_by k c.shared.inside.store.world.marks) (c.caller_of-caller.ensures ∙ ap (λ s. s.number) c.hold-shared.ensures.seat)
+    ap (λ (k : ℕ). wanted_by k c.shared.inside.world.marks) (c.caller_of-caller.ensures ∙ ap (λ s. s.number) c.hold-shared.ensures.seat)
     ∙ ap (λ v. wanted_by c.args.pass.now.number v.marks) c.shared.view_is
     ∙ wanted_seen c.args.pass.now.number c.args.pass.now.seen c.hold-shared.result.marks c.hold-shared.ensures.seen ∙ c.requires.wanted
 

@@ -10,7 +10,7 @@ use Rattle.cas_board.proofs.board.Board.list_on_once.Goals as goal
 
 pub list_on-listing-requires-clause-lists : goal.list_on-listing-requires-clause-lists
 list_on-listing-requires-clause-lists g c =
-    subst (HasListing (asked_to c.args.aim.now.kind c.args.aim.now.id)) (sym (operator_part c.args.pass.now.number c.shared.inside.store.world c.hold-shared.result c.args.pass.now.own c.requires.operator c.shared.view_is c.hold-shared.ensures.own)) c.requires.lists
+    subst (HasListing (asked_to c.args.aim.now.kind c.args.aim.now.id)) (sym (operator_part c.args.pass.now.number c.shared.inside.world c.hold-shared.result c.args.pass.now.own c.requires.operator c.shared.view_is c.hold-shared.ensures.own)) c.requires.lists
 
 pub give_back-requires-clause-makes : goal.give_back-requires-clause-makes
 give_back-requires-clause-makes g c =

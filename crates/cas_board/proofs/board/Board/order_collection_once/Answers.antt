@@ -1,4 +1,4 @@
-use Rattle.std.proofs.Common.{[], sym, ap, subst, ◌∙◌}
+use Rattle.std.proofs.Common.{[], length, sym, ap, subst, ◌∙◌}
 use Rattle.cas_hold.specs.Collecting.{most_rounds}
 use Rattle.cas_hold.specs.Deeds.{IsRefusal}
 use Rattle.cas_hold.specs.Kept.{Makes}
@@ -11,7 +11,7 @@ use Rattle.cas_board.proofs.board.Board.order_collection_once.Goals as goal
 
 pub order_collection-ordered-requires-clause-free : goal.order_collection-ordered-requires-clause-free
 order_collection-ordered-requires-clause-free g c =
-    subst IsFree (sym (operator_part c.args.pass.now.number c.shared.inside.store.world c.hold-shared.result c.args.pass.now.own c.requires.operator c.shared.view_is c.hold-shared.ensures.own)) c.requires.free
+    subst IsFree (sym (operator_part c.args.pass.now.number c.shared.inside.world c.hold-shared.result c.args.pass.now.own c.requires.operator c.shared.view_is c.hold-shared.ensures.own)) c.requires.free
 
 pub give_back-requires-clause-makes : goal.give_back-requires-clause-makes
 give_back-requires-clause-makes g c =
@@ -28,5 +28,5 @@ returns-clause-ordered g c =
 
 pub returns-clause-refused : goal.returns-clause-refused
 returns-clause-refused g c =
-    if_err {P = λ why. IsRefusal why × IsFree (own_part c.order_collection-ordered.new.world 0)} c.order_collection-ordered.result
-    (λ why is. (is.0, subst IsFree (sym (operator_own c.hold-shared.result c.order_collection-ordered.new.world c.args.pass.now c.give_back.new.pass (was_held 0 c.hold-shared.result c.order_collection-ordered.new.world c.args.pass.now c.hold-shared.new.seat c.give_back.new.pass c.hold-shared.ensures.seen c.hold-shared.ensures.seat (sym (ap (λ s. s.number) c.hold-shared.ensures.seat ∙ c.requires.operator)) c.give_back.ensures.pass))) is.1)) c.order_collection-ordered.ensures.refused
+    if_err {P = λ why. IsRefusal (length c.order_collection-ordered.new.world.marks) why × IsFree (own_part c.order_collection-ordered.new.world 0)} c.order_collection-ordered.result
+    (λ why is. (subst (λ l. IsRefusal (length l) why) (sym (ap (λ s. s.seen) c.give_back.ensures.pass)) is.0, subst IsFree (sym (operator_own c.hold-shared.result c.order_collection-ordered.new.world c.args.pass.now c.give_back.new.pass (was_held 0 c.hold-shared.result c.order_collection-ordered.new.world c.args.pass.now c.hold-shared.new.seat c.give_back.new.pass c.hold-shared.ensures.seen c.hold-shared.ensures.seat (sym (ap (λ s. s.number) c.hold-shared.ensures.seat ∙ c.requires.operator)) c.give_back.ensures.pass))) is.1)) c.order_collection-ordered.ensures.refused

@@ -1,11 +1,11 @@
-use Rattle.std.proofs.Common.{ℕ, List, refl, sym, ap, subst, ◌∙◌}
+use Rattle.std.proofs.Common.{ℕ, List, [], refl, sym, ap, subst, ◌∙◌}
 use Rattle.cas_record.specs.declared.operator.Asked.TheVariants as asked
 use Rattle.cas_ballot.specs.Members.{IsMemberSet}
 use Rattle.cas_board.specs.Operations.{WasToldLast, is_not_begun}
 use Rattle.cas_hold.specs.Orders.{HasOrder, IsAskingHarm, IsProbeAnswer}
 use Rattle.cas_world.specs.declared.exchange.Exchange.TheVariants as exchange
 use Rattle.cas_board.proofs.Sittings.{counted_none}
-use Rattle.cas_board.proofs.Operating.{told_behind, operates_told, refused_answers}
+use Rattle.cas_board.proofs.Operating.{told_behind, operates_told, refused_answers, own_grown, silent_before}
 use Rattle.cas_board.proofs.board.Board.probe.Goals as goal
 
 pub ask_and_probe-requires-clause-operator : goal.ask_and_probe-requires-clause-operator
@@ -36,4 +36,7 @@ pub returns-in-Err-clause-operates : goal.returns-in-Err-clause-operates
 returns-in-Err-clause-operates g c = is_not_begun c.in-Err.refusal c.in-Err.ensures.refused.0 refl (counted_none (g.F.Fate.harm_count c.args.fate.now)) c.in-Err.ensures.front
 
 pub returns-in-Err-clause-answer : goal.returns-in-Err-clause-answer
-returns-in-Err-clause-answer g c = refused_answers c.args.key.now c.in-Err.refusal c.in-Err.ensures.refused.0
+returns-in-Err-clause-answer g c = refused_answers c.args.key.now _ c.in-Err.refusal c.in-Err.ensures.refused.0
+
+pub returns-in-Ok-clause-silent : goal.returns-in-Ok-clause-silent
+returns-in-Ok-clause-silent g c = silent_before 0 c.args.pass.now c.order_probe_once.new.pass c.ask_and_probe.new.pass c.ask_and_probe.result (own_grown c.args.pass.now c.order_probe_once.new.pass [] c.requires.operator c.in-Ok.ensures.front) c.ask_and_probe.ensures.silent

@@ -10,7 +10,7 @@ use Rattle.cas_board.proofs.board.Board.take_up_once.Goals as goal
 
 pub take_up-taken_up-requires-clause-ordered : goal.take_up-taken_up-requires-clause-ordered
 take_up-taken_up-requires-clause-ordered g c =
-    subst (HasOrder (asked_to c.args.aim.now.kind c.args.aim.now.id)) (sym (operator_part c.args.pass.now.number c.shared.inside.store.world c.hold-shared.result c.args.pass.now.own c.requires.operator c.shared.view_is c.hold-shared.ensures.own)) c.requires.ordered
+    subst (HasOrder (asked_to c.args.aim.now.kind c.args.aim.now.id)) (sym (operator_part c.args.pass.now.number c.shared.inside.world c.hold-shared.result c.args.pass.now.own c.requires.operator c.shared.view_is c.hold-shared.ensures.own)) c.requires.ordered
 
 pub give_back-requires-clause-makes : goal.give_back-requires-clause-makes
 give_back-requires-clause-makes g c =
