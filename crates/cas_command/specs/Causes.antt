@@ -9,6 +9,7 @@ use Rattle.cas_record.specs.Legal.{IsLegal}
 use Rattle.cas_record.specs.declared.mark.Mark.{Mark}
 use Rattle.cas_race.specs.Race.{WroteRace}
 use Rattle.cas_race.specs.declared.race.RaceFault.{RaceFault}
+use Rattle.cas_causes.specs.Tellings.{AreTellingsSo}
 use Rattle.cas_cluster.specs.SafeLaws.{HasPlaces}
 use Rattle.cas_cluster.specs.Step.{IsOpening}
 use Rattle.cas_world.specs.Opening.{members_to, disks_of, AreDesksBelow}
@@ -19,6 +20,7 @@ use Rattle.cas_rack.specs.Store.{acceptor_disks, AreReached, StaysClosed}
 use Rattle.cas_rack.specs.declared.rack.Rack.{Rack}
 use Rattle.cas_rack.specs.declared.rack.RackFault.{RackFault}
 use Rattle.cas_cluster.specs.View.{Meaning, View, IsAt}
+use Rattle.cas_steady.specs.Blame.{AreDeserved}
 use Rattle.cas_script.specs.Script.{State, LineAnswer, ScriptRun, IsIn, opening_state, transcript_of}
 use Rattle.cas_script.specs.Stage.{Stage}
 use Rattle.cas_undisturbed.specs.Runs.{AreDoneWhereReady}
@@ -194,14 +196,16 @@ pub record Loaded {D : Type 0} (meant : Meaning (DiskShelf D) D) (tells : Type 0
   pub rack : IsRackOf last back
 
 -- ---- a race
--- what a race did whose record was legal, where disks tell what they keep, and what it wrote; what is acknowledged in that stands on the
--- disks that come back
+-- what a race did whose record was legal, where disks tell what they keep, and tells what is so of the operator's calls, and what it wrote;
+-- what is acknowledged in that stands on the disks that come back, and whom a mark of it blames has a disk there that failed
 pub record RacedOver {D : Type 0} (m : RackMeaning D) (options : Options) (input old new : Option (List ℕ)) (harms harms_then : List ℕ) (result : Status) (back : Rack D) : Type 0 where
   pub marks : List Mark
   pub ended : Result (Unit {0}) RaceFault
   pub is : result ≡ status_of_race ended
   pub legal : m.tells → IsLegal (reverse marks)
+  pub tellings : m.tells → AreTellingsSo (reverse marks)
   pub kept : m.tells → AreKept m.may_leave (reverse marks) back.acceptors.items
+  pub deserved : AreDeserved m.faults back.acceptors.items back.vaults.items marks
   pub wrote : WroteRace options.tries options.proposers input old new harms harms_then marks ended
 
 -- ---- a script along its lines

@@ -1,9 +1,10 @@
 -- What the record of a closed board tells of a race.
-use Rattle.std.proofs.Common.{◌≡◌, ◌+◌, ◌≤◌, ℕ, List, [], Option, Some, refl, sym, ap, subst, ◌∙◌, reverse, arith}
+use Rattle.std.proofs.Common.{◌≡◌, ◌+◌, ◌≤◌, ℕ, List, [], length, Option, Some, refl, sym, ap, subst, ◌∙◌, reverse, arith}
 use Rattle.std.specs.Prelude.{slice_get, slice_index_or, All, Ok, Err}
 use Rattle.std.proofs.lemmas.Option.{get_or_from_slice_get, slice_get-get_or}
 use Rattle.cas_cluster.proofs.SafeParts.{low_at, at_low}
 use Rattle.cas_record.specs.declared.mark.Mark.{Mark}
+use Rattle.cas_turn.specs.Seen.{Begins}
 use Rattle.cas_turn.specs.Sitting.{Sitting, TurnId, fresh_seats}
 use Rattle.cas_hold.specs.Mine.{mine, losses}
 use Rattle.cas_board.specs.Changes.{IsCounted}
@@ -19,18 +20,23 @@ use Rattle.cas_race.specs.Race.WroteRace.{whole, cut_off, not_run}
 use Rattle.cas_race.specs.Runs.{HasRun, ArePassesOf, AreRaced}
 use Rattle.cas_race.specs.Texts.{IsRaceText}
 use Rattle.cas_race.proofs.Lined.{fresh_at}
+use Rattle.cas_race.proofs.Racing.{length_begins, ran_longer}
 
 module _ {V : Type 0} (board : TurnId) (proposers : ℕ) (passes : List (Sitting V Mark)) (are : ArePassesOf board proposers passes) where
   pub each_of : (P : Sitting V Mark → Type 0) → ((pass : Sitting V Mark) → IsPassOf board pass → P pass) → All P passes
   each_of P f k d low = f (slice_index_or passes k d) (are.each k (slice_index_or passes k d) (slice_get-get_or passes k d low)).0
 
-  module _ (marks : List Mark) (own : All (λ pass. mine pass.number marks ≡ mine pass.number pass.seen) passes) where
+  module _ (marks : List Mark) (own : All (λ pass. mine pass.number marks ≡ mine pass.number pass.seen) passes) (fronts : All (λ pass. Begins pass.seen marks) passes) where
     -- the record has of a caller what its pass has seen of its own
     own_at : (n : ℕ) (pass : Sitting V Mark) → slice_get passes n ≡ Some pass → mine n marks ≡ mine n pass.seen
     own_at n pass at =
         let same : mine pass.number marks ≡ mine pass.number pass.seen = subst (λ (p : Sitting V Mark). mine p.number marks ≡ mine p.number p.seen) (get_or_from_slice_get passes n pass pass at) (own n pass (low_at passes n at)) in
         let number : pass.number ≡ n = (are.each n pass at).1 in
         ap (λ (k : ℕ). mine k marks) (sym number) ∙ same ∙ ap (λ (k : ℕ). mine k pass.seen) number
+
+    -- and is no shorter than what that has seen
+    longer : (n : ℕ) (pass : Sitting V Mark) → slice_get passes n ≡ Some pass → length pass.seen ≤ length marks
+    longer n pass at = length_begins pass.seen marks (subst (λ (p : Sitting V Mark). Begins p.seen marks) (get_or_from_slice_get passes n pass pass at) (fronts n pass (low_at passes n at)))
 
     pass_at : (n : ℕ) → n ≤ proposers → (pass : Sitting V Mark) × (slice_get passes n ≡ Some pass)
     pass_at n low = at_low passes n (let count = are.count in omega (arith, low, count))
@@ -40,7 +46,7 @@ module _ {V : Type 0} (board : TurnId) (proposers : ℕ) (passes : List (Sitting
       callers = raced.callers;
       runs = λ n of_caller at.
           let pass = pass_at n (let low = low_at answers n at in let count = raced.callers in omega (arith, low, count)) in
-          subst (λ (l : List Mark). HasRun tries n (tasks_of proposers n lines) of_caller l) (sym (own_at n pass.0 pass.1)) (raced.runs n pass.0 of_caller pass.1 at);
+          subst (λ (l : List Mark). HasRun (length marks) tries n (tasks_of proposers n lines) of_caller l) (sym (own_at n pass.0 pass.1)) (ran_longer (length pass.0.seen) (length marks) tries n (longer n pass.0 pass.1) (raced.runs n pass.0 of_caller pass.1 at));
       counted = λ n before after low at_before at_after.
           let pass = pass_at n low in
           subst (λ (l : List Mark). IsCounted (losses l) before after) (sym (own_at n pass.0 pass.1)) (raced.counted n before after pass.0 pass.1 at_before at_after);

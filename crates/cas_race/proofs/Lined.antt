@@ -178,11 +178,11 @@ module _ {R V : Type 0} (pass_of : R → Sitting V Mark) (harms_of : R → ℕ) 
             let raced = ran_at n was.0 now.0 was.1 now.1 in
             let told_is : told_of now.0 ≡ of_caller = ap told_of (one_at new n now.0 told.0 now.1 told.1) ∙ told.2 in
             let number : (pass_of was.0).number ≡ n = ap (λ (s : Sitting V Mark). s.number) (pass_was n was.0 was.1) in
-            subst (λ (p : Sitting V Mark). HasRun tries n (tasks_of proposers n lines) of_caller (mine n p.seen)) now.2
-            (subst (λ (l : List Mark). HasRun tries n (tasks_of proposers n lines) of_caller l) (sym (own_now n was.0 now.0 was.1 now.1))
-            (subst (λ (l : List Told). HasRun tries n (tasks_of proposers n lines) l raced.own) told_is
-            (subst (λ (l : List Task). HasRun tries n l (told_of now.0) raced.own) (asks n was.0 was.1)
-            (subst (λ (k : ℕ). HasRun tries k (asked_of was.0) (told_of now.0) raced.own) number raced.run))));
+            subst (λ (p : Sitting V Mark). HasRun (length p.seen) tries n (tasks_of proposers n lines) of_caller (mine n p.seen)) now.2
+            (subst (λ (l : List Mark). HasRun (length (pass_of now.0).seen) tries n (tasks_of proposers n lines) of_caller l) (sym (own_now n was.0 now.0 was.1 now.1))
+            (subst (λ (l : List Told). HasRun (length (pass_of now.0).seen) tries n (tasks_of proposers n lines) l raced.own) told_is
+            (subst (λ (l : List Task). HasRun (length (pass_of now.0).seen) tries n l (told_of now.0) raced.own) (asks n was.0 was.1)
+            (subst (λ (k : ℕ). HasRun (length (pass_of now.0).seen) tries k (asked_of was.0) (told_of now.0) raced.own) number raced.run))));
         counted = λ n first last pass at_pass at_first at_last.
             let now = at_mapped pass_of new n pass at_pass in
             let was = before n now.0 now.1 in

@@ -1,5 +1,5 @@
 -- What a caller of a race has run, task by task.
-use Rattle.std.proofs.Common.{◌≡◌, ◌+◌, ℕ, List, [], ◌∷◌, ◌++◌, Some, refl, sym, ap, subst, ◌∙◌, append-nil, arith}
+use Rattle.std.proofs.Common.{◌≡◌, ◌≤◌, ◌+◌, ℕ, List, [], ◌∷◌, ◌++◌, length, Some, inl, inr, refl, sym, ap, subst, ◌∙◌, append-nil, length-append, arith}
 use Rattle.cas_change.specs.declared.program.Clause.{Clause}
 use Rattle.cas_record.specs.declared.answer.Answer.{Answer}
 use Rattle.cas_record.specs.declared.mark.Mark.{Mark}
@@ -8,7 +8,9 @@ use Rattle.cas_record.specs.declared.operator.Asked.{Asked}
 use Rattle.cas_record.specs.declared.operator.OpAnswer.{OpAnswer}
 use Rattle.cas_record.specs.declared.operator.OpAnswer.TheVariants as op
 use Rattle.cas_cluster.specs.StepCouncil.{told_marks}
+use Rattle.cas_turn.specs.Seen.{Begins}
 use Rattle.cas_turn.specs.Sitting.{Sitting, TurnId}
+use Rattle.cas_hold.specs.Deeds.{IsRefusal}
 use Rattle.cas_hold.specs.Mine.{mine, losses, GoesOn}
 use Rattle.cas_hold.specs.Open.{IsFree}
 use Rattle.cas_hold.proofs.Fronts.{goes_on_then}
@@ -22,11 +24,36 @@ use Rattle.cas_tasks.specs.declared.tasks.Task.{Task}
 use Rattle.cas_tasks.specs.declared.tasks.Task.TheVariants as task
 use Rattle.cas_race.specs.declared.told.Told.{Told}
 use Rattle.cas_race.specs.declared.told.Told.TheVariants as said
-use Rattle.cas_race.specs.Runs.{asked_by, IsOrderMark, AnswersOrder, IsReady, IsChange, IsAnswered, HasRun, HasRunTask, HasRaced}
+use Rattle.cas_race.specs.Runs.{asked_by, IsOrderMark, AnswersOrder, IsReady, IsChange, IsOperated, IsAnswered, HasRun, HasRunTask, HasRaced}
 use Rattle.cas_race.specs.Runs as runs
 use Rattle.cas_race.specs.Runs.IsChange.{is_called, is_turned_away}
 use Rattle.cas_race.specs.Runs.IsAnswered.{is_change, is_operated}
 use Rattle.cas_race.specs.Runs.HasRun.{nothing, one_more}
+
+-- ---- longer records
+pub length_begins : {I : Type 0} (seen items : List I) → Begins seen items → length seen ≤ length items
+length_begins {I} seen items begins = let whole : length (seen ++ begins.behind) ≡ length items = ap (λ (l : List I). length l) begins.whole in let both = length-append seen begins.behind in omega (arith, whole, both)
+
+-- what is refused before a record is refused before a longer one
+refused_longer : (made longer : ℕ) (why : Answer) → made ≤ longer → IsRefusal made why → IsRefusal longer why
+refused_longer made longer why more (inl full) = let long = full.1 in inl (full.0, omega (arith, more, long))
+refused_longer made longer why more (inr none) = inr none
+
+changed_longer : (made longer tries n : ℕ) (key : List ℕ) (program : List Clause) (answered : Answer) (own : List Mark) → made ≤ longer → IsChange made tries n key program answered own → IsChange longer tries n key program answered own
+changed_longer made longer tries n key program answered own more (is_called call rounds between of_call tried) = is_called call rounds between of_call tried
+changed_longer made longer tries n key program answered own more (is_turned_away refusal) = is_turned_away (refused_longer made longer answered more refusal)
+
+operated_longer : (made longer tries : ℕ) (asked : Asked) (answered : OpAnswer) (own : List Mark) → made ≤ longer → IsOperated made tries asked answered own → IsOperated longer tries asked answered own
+operated_longer made longer tries asked answered own more (runs.is_told before all_such) = runs.is_told before all_such
+operated_longer made longer tries asked answered own more (runs.is_not_begun why refusal stopped) = runs.is_not_begun why (refused_longer made longer why more refusal) stopped
+
+answered_longer : (made longer tries n : ℕ) {asked : Task} {told : Told} {own : List Mark} → made ≤ longer → IsAnswered made tries n asked told own → IsAnswered longer tries n asked told own
+answered_longer made longer tries n more (is_change change) = is_change (changed_longer made longer tries n _ _ _ _ more change)
+answered_longer made longer tries n more (is_operated is operated answers) = is_operated is (operated_longer made longer tries _ _ _ more operated) answers
+
+pub ran_longer : (made longer tries n : ℕ) {tasks : List Task} {answers : List Told} {marks : List Mark} → made ≤ longer → HasRun made tries n tasks answers marks → HasRun longer tries n tasks answers marks
+ran_longer made longer tries n more nothing = nothing
+ran_longer made longer tries n more (one_more before answered) = one_more (ran_longer made longer tries n more before) (answered_longer made longer tries n more answered)
 
 -- ---- losses
 -- the mark that tells an answer tells of no loss
@@ -36,8 +63,8 @@ told_none asked told = refl
 
 -- ---- one task
 module _ {V : Type 0} (tries harms harms_then : ℕ) (old new : Sitting V Mark) where
-  as_asked : (asked : Task) (key : List ℕ) (program : List Clause) (told : Answer) (own : List Mark) → asked ≡ task.Change key program → IsChange tries old.number key program told own → IsAnswered tries old.number asked (said.Change told) own
-  as_asked asked key program told own is change = subst (λ (t : Task). IsAnswered tries old.number t (said.Change told) own) (sym is) (is_change change)
+  as_asked : (asked : Task) (key : List ℕ) (program : List Clause) (told : Answer) (own : List Mark) → asked ≡ task.Change key program → IsChange (length new.seen) tries old.number key program told own → IsAnswered (length new.seen) tries old.number asked (said.Change told) own
+  as_asked asked key program told own is change = subst (λ (t : Task). IsAnswered (length new.seen) tries old.number t (said.Change told) own) (sym is) (is_change change)
 
   pub change_ran : (asked : Task) (key : List ℕ) (program : List Clause) (told : Answer) → asked ≡ task.Change key program → Answers key program tries harms harms_then old new told → HasRunTask tries harms harms_then asked (said.Change told) old new
   change_ran asked key program told is (is_answered call rounds between front of_call counted last tried) = record {
@@ -72,7 +99,7 @@ module _ {V : Type 0} (tries : ℕ) where
     free = ready.free;
     own = [];
     front = record { begins = record { behind = []; whole = append-nil pass.seen }; own_marks = sym (append-nil (mine pass.number pass.seen)) };
-    run = subst (λ (l : List Told). HasRun tries pass.number [] l []) (sym ready.untold) nothing;
+    run = subst (λ (l : List Told). HasRun (length pass.seen) tries pass.number [] l []) (sym ready.untold) nothing;
     counted = record { never_falls = omega arith; counted = λ below. omega arith };
   }
 
@@ -85,7 +112,7 @@ module _ {V : Type 0} (tries : ℕ) where
         free = free;
         own = first.own ++ then_.own;
         front = goes_on_then a.number a.seen b.seen c.seen first.own then_.own first.front (subst (λ (k : ℕ). GoesOn k b.seen c.seen then_.own) number then_.front);
-        run = one_more first.run (subst (λ (k : ℕ). IsAnswered tries k asked answer then_.own) number then_.answered);
+        run = one_more (ran_longer (length b.seen) (length c.seen) tries a.number (length_begins b.seen c.seen then_.front.begins) first.run) (subst (λ (k : ℕ). IsAnswered (length c.seen) tries k asked answer then_.own) number then_.answered);
         counted = subst (λ (k : ℕ). IsCounted k harms harms_then) (sym (losses_append first.own then_.own)) (counted_then (losses first.own) (losses then_.own) harms harms_now harms_then first.counted then_.counted);
       }
 

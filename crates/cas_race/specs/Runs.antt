@@ -40,11 +40,11 @@ abbrev pub IsMeantFor : ℕ → Task → Type 0
 IsMeantFor n asked = IfSome (asked_by asked) (λ other. n ≡ 0)
 
 -- ---- what the marks tell
--- The caller's marks of one change: those of one call, of which the first tells what it is for and the last what it was answered; one that
+-- In a record of so many marks, the caller's marks of one change: those of one call, of which the first tells what it is for and the last what it was answered; one that
 -- ended with a conflict had all its tries. Or there is none, and the change was refused before it was begun.
-pub data IsChange (tries n : ℕ) (key : List ℕ) (program : List Clause) (answered : Answer) : List Mark → Type 0 where
-  is_called : (call rounds : ℕ) (between : List Mark) → AreOfCall call between → (is_conflict answered ≡ true → rounds ≡ tries) → IsChange tries n key program answered (Begun n call key program ∷ between ++ Ended n call rounds answered ∷ [])
-  is_turned_away : IsRefusal answered → IsChange tries n key program answered []
+pub data IsChange (made tries n : ℕ) (key : List ℕ) (program : List Clause) (answered : Answer) : List Mark → Type 0 where
+  is_called : (call rounds : ℕ) (between : List Mark) → AreOfCall call between → (is_conflict answered ≡ true → rounds ≡ tries) → IsChange made tries n key program answered (Begun n call key program ∷ between ++ Ended n call rounds answered ∷ [])
+  is_turned_away : IsRefusal made answered → IsChange made tries n key program answered []
 
 -- A mark of the operator's that a call for this may make before the one that tells its answer. Where it ends a caller's call with a conflict,
 -- that had all its tries.
@@ -54,11 +54,11 @@ IsOrderMark tries (ask.Leave id) = IsRescanMark tries
 IsOrderMark tries (ask.Collect key) = IsCollectingMark key tries
 IsOrderMark tries (ask.Probe key) = IsAskingHarm
 
--- The operator's marks of one call: such marks, and last the one that bears what was asked and what was answered; what a probe found is not
+-- In such a record, the operator's marks of one call: such marks, and last the one that bears what was asked and what was answered; what a probe found is not
 -- marked. Or there is none, and the call was refused before it was begun.
-pub data IsOperated (tries : ℕ) (asked : Asked) (answered : OpAnswer) : List Mark → Type 0 where
-  is_told : (before : List Mark) → All (IsOrderMark tries asked) before → IsOperated tries asked answered (before ++ told_marks asked answered)
-  is_not_begun : (why : Answer) → IsRefusal why → answered ≡ Stopped why → IsOperated tries asked answered []
+pub data IsOperated (made tries : ℕ) (asked : Asked) (answered : OpAnswer) : List Mark → Type 0 where
+  is_told : (before : List Mark) → All (IsOrderMark tries asked) before → IsOperated made tries asked answered (before ++ told_marks asked answered)
+  is_not_begun : (why : Answer) → IsRefusal made why → answered ≡ Stopped why → IsOperated made tries asked answered []
 
 -- The answer names the acceptor or the key that was asked for, or says what stopped the call. A probe asked all members for the key, and tells
 -- what each of them told.
@@ -69,14 +69,14 @@ AnswersOrder (ask.Collect key) answered = IsCollectAnswer key answered
 AnswersOrder (ask.Probe key) answered = (members : List ℕ) × IsMemberSet members × IsProbeAnswer key members answered
 
 -- the caller's marks of one task, with what it was answered
-pub data IsAnswered (tries n : ℕ) : Task → Told → List Mark → Type 0 where
-  is_change : {key : List ℕ} {program : List Clause} {answered : Answer} {own : List Mark} → IsChange tries n key program answered own → IsAnswered tries n (task.Change key program) (said.Change answered) own
-  is_operated : {asked : Asked} {order : Task} {answered : OpAnswer} {own : List Mark} → asked_by order ≡ Some asked → IsOperated tries asked answered own → AnswersOrder asked answered → IsAnswered tries n order (said.Operator answered) own
+pub data IsAnswered (made tries n : ℕ) : Task → Told → List Mark → Type 0 where
+  is_change : {key : List ℕ} {program : List Clause} {answered : Answer} {own : List Mark} → IsChange made tries n key program answered own → IsAnswered made tries n (task.Change key program) (said.Change answered) own
+  is_operated : {asked : Asked} {order : Task} {answered : OpAnswer} {own : List Mark} → asked_by order ≡ Some asked → IsOperated made tries asked answered own → AnswersOrder asked answered → IsAnswered made tries n order (said.Operator answered) own
 
 -- the caller's marks of its tasks, one after another, with these answers
-pub data HasRun (tries n : ℕ) : List Task → List Told → List Mark → Type 0 where
-  nothing : HasRun tries n [] [] []
-  one_more : {tasks : List Task} {answers : List Told} {marks own : List Mark} {asked : Task} {told : Told} → HasRun tries n tasks answers marks → IsAnswered tries n asked told own → HasRun tries n (tasks ++ asked ∷ []) (answers ++ told ∷ []) (marks ++ own)
+pub data HasRun (made tries n : ℕ) : List Task → List Told → List Mark → Type 0 where
+  nothing : HasRun made tries n [] [] []
+  one_more : {tasks : List Task} {answers : List Told} {marks own : List Mark} {asked : Task} {told : Told} → HasRun made tries n tasks answers marks → IsAnswered made tries n asked told own → HasRun made tries n (tasks ++ asked ∷ []) (answers ++ told ∷ []) (marks ++ own)
 
 -- ---- callers in their threads
 module _ {V : Type 0} where
@@ -92,7 +92,7 @@ module _ {V : Type 0} where
   pub record HasRunTask (tries harms harms_then : ℕ) (asked : Task) (told : Told) (old new : Sitting V Mark) : Type 0 where
     pub own : List Mark
     pub front : GoesOn old.number old.seen new.seen own
-    pub answered : IsAnswered tries old.number asked told own
+    pub answered : IsAnswered (length new.seen) tries old.number asked told own
     pub counted : IsCounted (losses own) harms harms_then
 
   -- It has run these tasks: the front that it has seen goes on with their marks, of which at most as many tell of frames that were lost or
@@ -102,7 +102,7 @@ module _ {V : Type 0} where
     pub free : IsFree new.own
     pub own : List Mark
     pub front : GoesOn old.number old.seen new.seen own
-    pub run : HasRun tries old.number tasks told own
+    pub run : HasRun (length new.seen) tries old.number tasks told own
     pub counted : IsCounted (losses own) harms harms_then
 
   -- ---- all callers
@@ -114,7 +114,7 @@ module _ {V : Type 0} where
   -- the callers of these passes have run what the lines ask them for, with these answers, and as their fates count their harms
   pub record AreRaced (tries proposers : ℕ) (lines : List (List ℕ)) (harms harms_then : List ℕ) (answers : List (List Told)) (passes : List (Sitting V Mark)) : Type 0 where
     pub callers : length answers ≡ suc proposers
-    pub runs : (n : ℕ) (pass : Sitting V Mark) (of_caller : List Told) → slice_get passes n ≡ Some pass → slice_get answers n ≡ Some of_caller → HasRun tries n (tasks_of proposers n lines) of_caller (mine n pass.seen)
+    pub runs : (n : ℕ) (pass : Sitting V Mark) (of_caller : List Told) → slice_get passes n ≡ Some pass → slice_get answers n ≡ Some of_caller → HasRun (length pass.seen) tries n (tasks_of proposers n lines) of_caller (mine n pass.seen)
     pub counted : (n before after : ℕ) (pass : Sitting V Mark) → slice_get passes n ≡ Some pass → slice_get harms n ≡ Some before → slice_get harms_then n ≡ Some after → IsCounted (losses (mine n pass.seen)) before after
 
 -- no answer yet, and room for one to each of the tasks

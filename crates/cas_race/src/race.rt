@@ -3,10 +3,12 @@
 ghost use Rattle.std.specs.Prelude.{◌≡◌, ◌≤◌, ◌<◌, ◌+◌, ◌++◌, ℕ, List, [], map, reverse, length, vec_items, vec_len, vec_capacity, slice_index_or, All, IfOk, IfSome, OnOk, OnErr, IsErrOf};
 ghost use Rattle.std.specs.Io.KnownBytes.{Appends, IsAtEnd};
 ghost use Rattle.cas_base.specs.Faults.{Rose};
+ghost use Rattle.cas_causes.specs.Tellings.{AreTellingsSo};
 ghost use Rattle.cas_lines.specs.Lines.{TooLong, TooMany, Whole, ending_of};
 ghost use Rattle.cas_rack.specs.Kept.{AreKept};
 ghost use Rattle.cas_record.specs.Legal.{IsLegal};
 ghost use Rattle.cas_record.specs.declared.mark.Mark.{Mark};
+ghost use Rattle.cas_steady.specs.Blame.{AreDeserved};
 ghost use Rattle.cas_turn.specs.Sitting.{fresh_seats};
 ghost use Rattle.cas_hold.specs.Open.{IsFree};
 ghost use Rattle.cas_board.specs.Passes.{IsPassOf};
@@ -54,6 +56,7 @@ struct Results {
 /// read before any is run, and all have been run before anything is written: the answers to the bad lines in line order, then each caller's
 /// answers, callers in rising order, and then the settled history of each key that has one, the keys in byte order. Each caller runs its lines
 /// with the pass and the fate at the place of its number, in a thread of its own where one can be made. The fates come back in their places.
+/// What the record tells of the operator's changes of membership and collections is so in it, where disks tell what they keep.
 ///
 /// After [`RaceFault::NotRun`], which is as for [`read_sheet`], no line was run and nothing was written. After [`RaceFault::CutOff`] the sink has
 /// a front of the text.
@@ -75,7 +78,7 @@ pub fn race_on<R: Threads + Wait + Sync, S: Source, K: Sink, D: Disk + Send + Dr
     requires idle { All (λ pass. IsPassOf board.id pass × IsFree pass.own) passes.items }
     requires room { vec_capacity passes ≡ proposers + 1 }
     requires fates { vec_len fates.old ≡ 17 }
-    ensures raced { (marks : List Mark) × (D.tells → IsLegal (reverse marks)) × (D.tells → AreKept D.may_leave (reverse marks) result.1.acceptors.items) × WroteRace tries proposers (S.remaining source.old) (K.contents sink.old) (K.contents sink.new) (map F.harm_count fates.old.items) (map F.harm_count fates.new.items) marks result.0 }
+    ensures raced { (marks : List Mark) × (D.tells → IsLegal (reverse marks)) × (D.tells → AreTellingsSo (reverse marks)) × (D.tells → AreKept D.may_leave (reverse marks) result.1.acceptors.items) × WroteRace tries proposers (S.remaining source.old) (K.contents sink.old) (K.contents sink.new) (map F.harm_count fates.old.items) (map F.harm_count fates.new.items) marks result.0 × AreDeserved D.fault_count result.1.acceptors.items result.1.vaults.items marks }
     ensures read { OnOk result.0 (IsAtEnd (S.remaining source.new)) }
     ensures whole { OnOk result.0 (IfSome (S.remaining source.old) (λ input. ending_of input ≡ Whole)) }
     ensures read_fault { IsErrOf result.0 (RaceFault.NotRun LineFault.ReadFault) → Rose (S.faults_of source.old) (S.faults_of source.new) }

@@ -12,9 +12,11 @@ returns-in-Ok-write_race-clause-raced g c =
     let results = c.in-Ok.results in (
       c.close-book.result.book.marks,
       c.close-book.ensures.legal,
+      c.close-book.ensures.tellings,
       c.close-book.ensures.kept,
-      wrote_whole c.args.board.id c.args.proposers c.run_lines-raced.new.passes.items c.run_lines-raced.ensures.passes c.close-book.result.book.marks c.close-book.ensures.mine c.args.tries raced.0 (map g.F.Fate.harm_count c.args.fates.now.items) (map g.F.Fate.harm_count c.run_lines-raced.new.fates.items) (map vec_items results.told.items) raced.3
+      wrote_whole c.args.board.id c.args.proposers c.run_lines-raced.new.passes.items c.run_lines-raced.ensures.passes c.close-book.result.book.marks c.close-book.ensures.mine c.close-book.ensures.fronts c.args.tries raced.0 (map g.F.Fate.harm_count c.args.fates.now.items) (map g.F.Fate.harm_count c.run_lines-raced.new.fates.items) (map vec_items results.told.items) raced.3
           (g.S.Source.remaining c.args.source.now) (g.K.Sink.contents c.args.sink.now) (g.K.Sink.contents c.write_race.new.sink) raced.1 results.bad.items raced.2 c.in-Ok-write_race.ensures.all,
+      c.close-book.ensures.deserved,
     )
 
 pub returns-in-Ok-clause-raced : goal.returns-in-Ok-clause-raced
@@ -23,9 +25,11 @@ returns-in-Ok-clause-raced g c =
     let results = c.in-Ok.results in (
       c.close-book.result.book.marks,
       c.close-book.ensures.legal,
+      c.close-book.ensures.tellings,
       c.close-book.ensures.kept,
-      wrote_front c.args.board.id c.args.proposers c.run_lines-raced.new.passes.items c.run_lines-raced.ensures.passes c.close-book.result.book.marks c.close-book.ensures.mine c.args.tries raced.0 (map g.F.Fate.harm_count c.args.fates.now.items) (map g.F.Fate.harm_count c.run_lines-raced.new.fates.items) (map vec_items results.told.items) raced.3
+      wrote_front c.args.board.id c.args.proposers c.run_lines-raced.new.passes.items c.run_lines-raced.ensures.passes c.close-book.result.book.marks c.close-book.ensures.mine c.close-book.ensures.fronts c.args.tries raced.0 (map g.F.Fate.harm_count c.args.fates.now.items) (map g.F.Fate.harm_count c.run_lines-raced.new.fates.items) (map vec_items results.told.items) raced.3
           (g.S.Source.remaining c.args.source.now) (g.K.Sink.contents c.args.sink.now) (g.K.Sink.contents c.write_race.new.sink) raced.1 results.bad.items raced.2 c.in-Err-write_race.fault c.in-Err-write_race.ensures.front,
+      c.close-book.ensures.deserved,
     )
 
 pub returns-clause-raced : goal.returns-clause-raced
@@ -33,9 +37,11 @@ returns-clause-raced g c =
     let same = c.in-Err.ensures.not_run in (
       c.close-book.result.book.marks,
       c.close-book.ensures.legal,
+      c.close-book.ensures.tellings,
       c.close-book.ensures.kept,
-      wrote_nothing c.args.board.id c.args.proposers c.run_lines-raced.new.passes.items c.run_lines-raced.ensures.passes c.close-book.result.book.marks c.close-book.ensures.mine c.args.tries (g.S.Source.remaining c.args.source.now) (g.K.Sink.contents c.args.sink.now) (map g.F.Fate.harm_count c.args.fates.now.items) (map g.F.Fate.harm_count c.run_lines-raced.new.fates.items) c.in-Err.fault
+      wrote_nothing c.args.board.id c.args.proposers c.run_lines-raced.new.passes.items c.run_lines-raced.ensures.passes c.close-book.result.book.marks c.close-book.ensures.mine c.close-book.ensures.fronts c.args.tries (g.S.Source.remaining c.args.source.now) (g.K.Sink.contents c.args.sink.now) (map g.F.Fate.harm_count c.args.fates.now.items) (map g.F.Fate.harm_count c.run_lines-raced.new.fates.items) c.in-Err.fault
           (ap (λ (v : Vec (Sitting (Shared g.row.D.Denot) Mark) Global). v.items) same.0 ∙ c.requires.passes) (ap (λ (v : Vec g.row.F.Denot Global). map g.F.Fate.harm_count v.items) same.1),
+      c.close-book.ensures.deserved,
     )
 
 pub close-book-requires-clause-turn : goal.close-book-requires-clause-turn
