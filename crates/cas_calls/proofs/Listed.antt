@@ -10,11 +10,11 @@ use Rattle.cas_record.specs.declared.operator.OpAnswer.{OpAnswer}
 use Rattle.cas_record.specs.declared.operator.OpAnswer.TheVariants as op
 use Rattle.cas_record.specs.declared.operator.Probe.{Probe as Answered}
 use Rattle.cas_cluster.specs.Council as cluster
-use Rattle.cas_cluster.specs.Council.{ExchangeView, ListingView, PlanView, hushed, telling}
+use Rattle.cas_cluster.specs.Council.{ExchangeView, ListingView, PlanView}
 use Rattle.cas_cluster.specs.Listings.{why_short}
 use Rattle.cas_cluster.specs.StepCalls.{IsRescan}
 use Rattle.cas_cluster.proofs.Places.{some_is}
-use Rattle.cas_calls.specs.Council.{due_key, first_of, first_where, IsDue, IsListing, IsOfKeys, GoesOnBy, GathersAs, listed_if, listed_with, over_with, crashed, probed, lists, is_short, no_memory}
+use Rattle.cas_calls.specs.Council.{first_where, IsDue, IsListing, IsOfKeys, GoesOnBy, GathersAs, listed_with, over_with, crashed, probed, lists, is_short, no_memory}
 use Rattle.cas_calls.specs.Council as council
 use Rattle.cas_calls.specs.declared.council.Gathered.{Gathered}
 

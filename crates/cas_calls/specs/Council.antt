@@ -44,6 +44,7 @@ exchange_view exchange = record {
   question = question_view exchange.question;
   tag = exchange.tag;
   members = exchange.members;
+  since = exchange.since;
   told = exchange.told.items;
   harmed = exchange.harmed;
   reserved = exchange.reserved;

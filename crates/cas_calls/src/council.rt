@@ -101,6 +101,8 @@ pub struct OpenExchange {
     pub tag: Ballot,
     /// Who is asked.
     pub members: Members,
+    /// How many marks had been made when they were asked.
+    pub since: usize,
     /// What each of them told in its first reply, in rising number.
     pub told: Vec<Probe>,
     /// The members of which a frame was harmed.

@@ -1,9 +1,8 @@
 -- The laws of collections: what is under way below a floor is too old, what was removed is gone, and what is told as collected has a floor.
-use Rattle.std.proofs.Common.{◌≡◌, ℕ, true, false, Bool, List, Option, None, Some, Ok, length, reverse, refl, sym, ap, subst, ◌∙◌, inl, inr, arith}
-use Rattle.std.specs.Prelude.{◌≤◌, ◌<◌, ◌⊎◌, Contains}
-use Rattle.cas_acceptor.specs.Acceptor.{AcceptorView}
+use Rattle.std.proofs.Common.{◌≡◌, ℕ, true, false, List, Option, None, Some, length, reverse, refl, sym, ap, subst, ◌∙◌, inl, inr, arith}
+use Rattle.std.specs.Prelude.{◌<◌, ◌⊎◌}
 use Rattle.cas_ballot.specs.declared.ballot.Ballot.{Ballot}
-use Rattle.cas_ballot.specs.Ballot.{zero_ballot, greater_of, BallotAtMost, BallotLess}
+use Rattle.cas_ballot.specs.Ballot.{zero_ballot, greater_of, BallotLess}
 use Rattle.cas_ballot.specs.Members.{has_member}
 use Rattle.cas_ballot.proofs.MemberLemmas.{members_where_tells}
 use Rattle.cas_base.proofs.Bools.{or_cases}
@@ -12,26 +11,21 @@ use Rattle.cas_ballot.proofs.BallotLemmas.{less_at_most, none_below_zero, at_mos
 use Rattle.cas_change.specs.declared.state.State.TheVariants.{Empty}
 use Rattle.cas_collect.specs.Order.{step_after}
 use Rattle.cas_collect.specs.declared.collect.CollectStep.{CollectStep}
-use Rattle.cas_collect.specs.declared.collect.CollectStep.TheVariants.{Ages, Remove, End}
-use Rattle.cas_flow.specs.Flow.{queue_at}
+use Rattle.cas_collect.specs.declared.collect.CollectStep.TheVariants.{Remove, End}
 use Rattle.cas_flow.specs.declared.message.Message.TheVariants as message
 use Rattle.cas_record.specs.Happening.{Happening, Asked, Drew, Took, marks_of}
 use Rattle.cas_record.specs.Lawful.{SlotTold, slot_told}
 use Rattle.cas_record.specs.Legal.{HasFloor}
-use Rattle.cas_record.specs.Listing.{no_slot_told}
-use Rattle.cas_record.specs.Orderly.{Orderly, IsAgedOut, IsRoundAsk, MayDraw, age_told, MayReply}
+use Rattle.cas_record.specs.Orderly.{Orderly, IsAgedOut, MayDraw, MayReply}
 use Rattle.cas_record.specs.Places.{Stands}
-use Rattle.cas_record.specs.declared.mark.Mark.{Mark}
 use Rattle.cas_record.specs.declared.mark.Mark.TheVariants.{Floor}
 use Rattle.cas_record.specs.declared.operator.OpAnswer.{OpAnswer}
-use Rattle.cas_record.specs.declared.operator.Probe.{Probe as Answered}
 use Rattle.cas_record.proofs.Orders.{drawn_once, reason}
 use Rattle.cas_record.proofs.PlaceLemmas.{stands_deeper}
 use Rattle.cas_record.proofs.Removals.{IsGoneOrAbove, is_gone, promised_above, accepted_above, IsRemovalTold, gone_after}
 use Rattle.cas_slot.specs.Ages.{least_age}
 use Rattle.cas_slot.specs.Contents.{Contents, kept_at}
 use Rattle.cas_slot.specs.Message.{tag_of, phase_of}
-use Rattle.cas_slot.specs.Rules.{key_of}
 use Rattle.cas_slot.specs.Slot.{accepted_ballot, seen_of}
 use Rattle.cas_slot.specs.Table.{seen_at}
 use Rattle.cas_slot.specs.declared.message.Ask.{Ask}
@@ -43,18 +37,16 @@ use Rattle.cas_slot.specs.declared.message.Tell.TheVariants as tell
 use Rattle.cas_slot.specs.declared.slot.Slot.{Slot}
 use Rattle.cas_quorum.specs.declared.era.Era.{Era}
 use Rattle.cas_cluster.specs.Acceptors.{IsAskState, IsEmptyAt, told_of}
-use Rattle.cas_cluster.specs.CollectLaws.{IsUnderWay, waits, is_late, IsMemberUp, RequestsAreAged, IsRemovalDone, RemovalsAreDone, HasItsFloor, CollectedHaveFloors}
+use Rattle.cas_cluster.specs.CollectLaws.{IsUnderWay, waits, is_late, RequestsAreAged, IsRemovalDone, RemovalsAreDone, HasItsFloor, CollectedHaveFloors}
 use Rattle.cas_cluster.specs.Collected.{IsCollectionTrue, IsSoughtTrue, IsTombstoneTrue, is_after_floor, is_round}
 use Rattle.cas_cluster.specs.Collection.{CollectionView, confirmed_step, tomb_of}
-use Rattle.cas_cluster.specs.Council.{ExchangeView, OrderView, Question, Removal}
-use Rattle.cas_cluster.specs.History.{IsRemembered}
+use Rattle.cas_cluster.specs.Council.{ExchangeView, Question, Removal}
 use Rattle.cas_cluster.specs.Listings.{told_by}
 use Rattle.cas_cluster.specs.Parties.{IsExchangeTrue, WasToldBy}
 use Rattle.cas_cluster.specs.Protocol.{IsFloorClear}
-use Rattle.cas_cluster.specs.Safe.{IsSafe}
 use Rattle.cas_cluster.specs.StepCollect as collect
-use Rattle.cas_cluster.specs.StepCouncil.{IsCollectedBy, everyone}
-use Rattle.cas_cluster.specs.View.{Meaning, View, IsAt, era_at}
+use Rattle.cas_cluster.specs.StepCouncil.{everyone}
+use Rattle.cas_cluster.specs.View.{Meaning, View, era_at}
 use Rattle.cas_cluster.proofs.Collecting.{known_of}
 use Rattle.cas_cluster.proofs.Listings.{answer_of}
 use Rattle.cas_cluster.proofs.Places.{some_is}

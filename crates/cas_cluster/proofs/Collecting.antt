@@ -20,7 +20,7 @@ use Rattle.cas_record.specs.declared.mark.Mark.TheVariants.{Acked, EraEntered, P
 use Rattle.cas_record.specs.declared.operator.OpAnswer.{OpAnswer}
 use Rattle.cas_record.specs.Happening.{Happening, Drew, marks_of, Asked, Took as TookIt}
 use Rattle.cas_record.specs.Lawful.{Cluster, AllEntered, Lawful}
-use Rattle.cas_record.specs.Legal.{IsEnded, IsAcked, IsProposed, HasVotes, HasFloor}
+use Rattle.cas_record.specs.Legal.{IsEnded, IsAcked, IsProposed, HasVotes}
 use Rattle.cas_record.specs.Places.{here, Stands}
 use Rattle.cas_record.proofs.Agreement.{took_of_acked}
 use Rattle.cas_record.proofs.LogLemmas.{AckedAt, ack_law, in_log, one_place, InLog, mark_stands, part_of}
@@ -36,7 +36,7 @@ use Rattle.cas_cluster.specs.Protocol.{Made, HasEnded, GlobalState, HasHistory, 
 use Rattle.cas_cluster.specs.Step as step
 use Rattle.cas_cluster.specs.Step.{Event, Step, OpenRoundAt}
 use Rattle.cas_cluster.specs.StepCollect as collect
-use Rattle.cas_cluster.specs.StepCollect.{keep_always, CollectingAt, IsCollecting, collecting, StepBeginCollect, StepReadHeld, StepCountCollect, StepEndCollect, StepGatherRound, GathersRound, stopped_by, StepRenew, RenewsNext, IsRenewedBy, IsQuestionOf, StepMakeFloor, StepAskCollect, AsksCollect, confirms, confirmers_in, GathersCollect, StepGatherCollect}
+use Rattle.cas_cluster.specs.StepCollect.{keep_always, CollectingAt, collecting, StepReadHeld, StepGatherRound, GathersRound, stopped_by, StepRenew, RenewsNext, IsRenewedBy, IsQuestionOf, StepMakeFloor, StepAskCollect, AsksCollect, confirms, confirmers_in, GathersCollect, StepGatherCollect}
 use Rattle.cas_cluster.specs.StepCouncil.{with_council, everyone, question_to, questions_to, new_exchange, gathered}
 use Rattle.cas_cluster.specs.View.{Meaning, View, CallView, CallerView, IsAt, era_at, with_caller, with_desk, DiskMeaning, with_marks}
 use Rattle.cas_cluster.proofs.Around.{whole_of, logged, Whole, around, settles, leaves_both}
@@ -868,10 +868,10 @@ asks_collection {S} {V} m old new disks is by = by_case by.asks
 
     asked : (question : Question) (flow : FlowView) → IsQuestionOf c question → IsAged m.disks (kept_of by.desk.vault).age by.desk.vault
         → Sends old.flow exchange_place (questions_to (kept_of by.desk.vault).age tomb question (everyone old)) flow
-        → IsRemembered m (with_council (record old { flow = flow }) (record old.council { exchange = Some (new_exchange question tomb (everyone old)) }))
+        → IsRemembered m (with_council (record old { flow = flow }) (record old.council { exchange = Some (new_exchange question tomb (everyone old) (length old.marks)) }))
     asked question flow of aged sends = record {
       followed = same_course m old _ refl
-          (logged m is.followed.cluster after _ (counsels m is.followed.cluster after moved (record old.council { exchange = Some (new_exchange question tomb tos) }) (
+          (logged m is.followed.cluster after _ (counsels m is.followed.cluster after moved (record old.council { exchange = Some (new_exchange question tomb tos (length old.marks)) }) (
             λ exchange open_. subst (IsExchangeTrue after.log) (some_is open_) (record {
               own = subst (λ (b : Ballot). b.proposer ≡ 0) (sym same_tomb) sought.own;
               era = c.course.era.number;

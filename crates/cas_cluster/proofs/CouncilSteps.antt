@@ -1,6 +1,6 @@
 -- What the operator's calls do to what is logged: a call is opened and told, all members are asked, they answer, and what they told
 -- is gathered.
-use Rattle.std.proofs.Common.{◌≡◌, ◌<◌, ℕ, suc, Bool, true, false, List, [], ◌∷◌, ◌++◌, Option, None, Some, reverse, refl, sym, ap, subst, ◌∙◌, inl, inr, arith}
+use Rattle.std.proofs.Common.{◌≡◌, ◌<◌, ℕ, suc, Bool, true, false, List, [], ◌∷◌, ◌++◌, length, Option, None, Some, reverse, refl, sym, ap, subst, ◌∙◌, inl, inr, arith}
 use Rattle.std.specs.Prelude.{⊤, ◌⊎◌, ◌||◌, ◌&&◌, ◌==◌, not, if◌then◌else◌, zero, map, position, option_map, slice_get, slice_set}
 use Rattle.std.specs.Option.{option_map_or}
 use Rattle.cas_base.proofs.Bools.{or_cases, and_left, if_true, if_false}
@@ -52,7 +52,7 @@ use Rattle.cas_cluster.specs.Protocol.{IsAskable, GlobalState, HasHistory, Harms
 use Rattle.cas_cluster.specs.StepDesks.{MayHaveDrawn, HasDrawn, HasKept, LosesMemory, FailsToDraw}
 use Rattle.cas_cluster.specs.StepCouncil as council
 use Rattle.cas_cluster.specs.Listings.{ListsOn}
-use Rattle.cas_cluster.specs.StepCouncil.{asked_by, places_from, IsForQuestion, listing_in, listing_for, HasTag, WhereDrawn, begun_listing, listing_begun, plan_asked, ListsFor, listed_view, question_to, StepOrder, told_over, StepGather, Gathers, with_council, with_exchange, told_view, gathered, told_marks, harm_marks, harmed_exchange, questions_to, everyone, new_exchange, awaits, hears, harms, MayAskAll, AsksAll, StepAskAll, TurnsExchange, StepTurnExchange, StepRefuseTurnExchange}
+use Rattle.cas_cluster.specs.StepCouncil.{asked_by, places_from, IsForQuestion, listing_in, listing_for, HasTag, begun_listing, listing_begun, plan_asked, ListsFor, listed_view, question_to, StepOrder, told_over, StepGather, Gathers, with_council, with_exchange, told_view, gathered, told_marks, harm_marks, harmed_exchange, questions_to, everyone, new_exchange, awaits, hears, harms, MayAskAll, AsksAll, StepAskAll, TurnsExchange, StepTurnExchange, StepRefuseTurnExchange}
 use Rattle.cas_cluster.specs.View.{DiskMeaning, Meaning, View, CallView, CallerView, IsAt, era_at, with_desk, with_acceptor}
 use Rattle.cas_cluster.proofs.Around.{Whole, whole_of, logged, around, settles, parties_more, Everyone, leaves_desk}
 use Rattle.cas_cluster.proofs.Renewing.{asks_by}
@@ -447,7 +447,7 @@ asks_all {S} {V} {cluster} m old question new tells is ready by = by_case by.ask
 
     asked : (now : DeskView V) (tag : Ballot) (flow : FlowView) → now ≡ record by.desk { vault = now.vault } → IsAged m.disks (kept_of by.desk.vault).age now.vault → IsTagged m cluster is.global (with_desk old 0 now) tag (plan_asked question tag old.council.plan)
         → Sends old.flow exchange_place (questions_to (kept_of by.desk.vault).age tag question (asked_by old question)) flow
-        → IsLogged m cluster (with_council (record (with_desk old 0 now) { flow = flow }) (record old.council { exchange = Some (new_exchange question tag (asked_by old question)); plan = plan_asked question tag old.council.plan }))
+        → IsLogged m cluster (with_council (record (with_desk old 0 now) { flow = flow }) (record old.council { exchange = Some (new_exchange question tag (asked_by old question) (length old.marks)); plan = plan_asked question tag old.council.plan }))
     asked now tag flow is_now aged tagged sends =
         let view : View S V = with_desk old 0 now in
         let age : ℕ = (kept_of by.desk.vault).age in
@@ -466,7 +466,7 @@ asks_all {S} {V} {cluster} m old question new tells is ready by = by_case by.ask
           late = subst (AreMessagesTrue log) (sym sends.late) then_.parties.late;
         } in
         let moved : View S V = record view { flow = flow } in
-        logged m cluster (asked_global tagged.after f tos) (with_council moved (record old.council { exchange = Some (new_exchange question tag tos); plan = plan_asked question tag old.council.plan }))
+        logged m cluster (asked_global tagged.after f tos) (with_council moved (record old.council { exchange = Some (new_exchange question tag tos (length old.marks)); plan = plan_asked question tag old.council.plan }))
         (counsels m cluster (asked_global tagged.after f tos) moved _ (
           λ exchange open_. subst (IsExchangeTrue log) (some_is open_) (record {
             own = tagged.is_tag.own;

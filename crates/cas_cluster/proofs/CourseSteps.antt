@@ -16,10 +16,10 @@ use Rattle.cas_cluster.specs.Step.{Event, Step, StepEnd, StepRestartProposer}
 use Rattle.cas_cluster.specs.StepCalls as calls
 use Rattle.cas_cluster.specs.StepCalls.{one_more}
 use Rattle.cas_cluster.specs.StepCouncil as told_by
-use Rattle.cas_cluster.specs.StepCouncil.{StepTell, StepAskAll, StepGather, told_over, told_view, with_council}
+use Rattle.cas_cluster.specs.StepCouncil.{StepTell, StepAskAll, StepGather, told_over, with_council}
 use Rattle.cas_cluster.specs.StepDesks.{EntersEra, FailsToEnter}
 use Rattle.cas_cluster.specs.StepPlans as plans
-use Rattle.cas_cluster.specs.StepPlans.{StepOpenPlan, OpensPlan, StepEnterEra, EntersNext, Welcomes, IsPlanned, plan_after, entered_view}
+use Rattle.cas_cluster.specs.StepPlans.{StepOpenPlan, OpensPlan, StepEnterEra, EntersNext, Welcomes, plan_after, entered_view}
 use Rattle.cas_cluster.specs.StepStops.{closed_by, LeavesRound}
 use Rattle.cas_cluster.specs.View.{Meaning, View, era_at, with_desk}
 use Rattle.cas_cluster.proofs.Courses.{course, course_shown, course_opened, course_finished, course_entered, course_relisted, course_listed}

@@ -31,7 +31,7 @@ use Rattle.cas_record.specs.declared.mark.Mark.{Mark}
 use Rattle.cas_record.specs.declared.mark.Mark.TheVariants.{Begun, Proposed, Acked, Floor, Ended}
 use Rattle.cas_record.specs.declared.mark.Proposal.{Proposal}
 use Rattle.cas_record.specs.Chain.{chain_of, link_of}
-use Rattle.cas_record.specs.Happening.{Happening, Marked, Asked, Took, Entered, Drew, Replied, marks_of}
+use Rattle.cas_record.specs.Happening.{Happening, Marked, Asked, Entered, Drew, Replied, marks_of}
 use Rattle.cas_record.specs.Laws.{IsOpened}
 use Rattle.cas_record.specs.Lawful.{Cluster, ClusterMeets, Lawful, AreFirst, May, MayPropose, MayLeave, MayAnswer}
 use Rattle.cas_record.specs.Legal.{HasFloor}

@@ -1,12 +1,8 @@
 -- That all proposers have entered the era of a change of membership that is at its end.
-use Rattle.std.proofs.Common.{◌≡◌, ◌<◌, ◌≤◌, ℕ, List, [], Option, None, Some, sym, subst, reverse}
-use Rattle.cas_members.specs.declared.plan.PlanStep.{PlanStep}
-use Rattle.cas_record.specs.Places.{Stands}
-use Rattle.cas_record.specs.declared.mark.Mark.TheVariants.{EraEntered}
+use Rattle.std.proofs.Common.{◌≡◌, ◌<◌, [], Option, Some, sym, subst, reverse}
 use Rattle.cas_record.specs.declared.operator.Asked.{Asked}
 use Rattle.cas_record.specs.declared.operator.Asked.TheVariants as asked
 use Rattle.cas_record.specs.declared.operator.OpAnswer.{OpAnswer}
-use Rattle.cas_record.specs.declared.operator.OpAnswer.TheVariants as told
 use Rattle.cas_cluster.specs.Council.{PlanView, OrderView}
 use Rattle.cas_cluster.specs.Course.{AreEntries, IsMoving, IsStart, IsUnderWay as IsOnCourse, course_of, entries_in}
 use Rattle.cas_cluster.specs.Safe.{IsSafe}

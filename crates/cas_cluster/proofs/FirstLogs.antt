@@ -1,31 +1,27 @@
 -- The log with which a cluster begins: each floor with which a history opens is marked, and each member of the first era takes it.
-use Rattle.std.proofs.Common.{◌≡◌, ℕ, suc, Bool, true, false, cond, List, [], ◌∷◌, ◌++◌, length, reverse, Option, Some, None, refl, sym, ap, subst, ◌∙◌, inl, inr}
-use Rattle.std.specs.Prelude.{◌⊎◌, ◌==◌, ◌&&◌, ◌||◌, not, map, Contains}
-use Rattle.std.specs.List.{list_any}
-use Rattle.cas_base.proofs.Bools.{if_true, if_false, true_or_false, and_left, and_right, both_true, or_left, or_right, or_cases, not_both, not_of_false}
+use Rattle.std.proofs.Common.{◌≡◌, ℕ, suc, true, false, List, [], ◌∷◌, ◌++◌, refl, sym, ap, subst, ◌∙◌, inl, inr}
+use Rattle.std.specs.Prelude.{◌⊎◌, ◌==◌, ◌&&◌, not, map, Contains}
+use Rattle.cas_base.proofs.Bools.{if_true, if_false, true_or_false, and_left, both_true, or_left, or_right, or_cases, not_both, not_of_false}
 use Rattle.cas_ballot.specs.declared.ballot.Ballot.{Ballot}
-use Rattle.cas_ballot.specs.Ballot.{zero_ballot, BallotAtMost, BallotLess}
+use Rattle.cas_ballot.specs.Ballot.{zero_ballot, BallotAtMost}
 use Rattle.cas_ballot.specs.Members.{has_member}
 use Rattle.cas_ballot.proofs.BallotLemmas.{at_most_refl, zero_at_most}
 use Rattle.cas_change.specs.declared.state.State.{State}
 use Rattle.cas_change.specs.declared.program.Clause.{Clause}
 use Rattle.cas_round.proofs.Lists.{Has, has, contains}
-use Rattle.cas_slot.specs.Contents.{Contents, nothing, kept_at}
-use Rattle.cas_slot.specs.Slot.{accepted_of}
-use Rattle.cas_slot.specs.declared.slot.Slot.{Slot}
+use Rattle.cas_slot.specs.Contents.{nothing}
 use Rattle.cas_record.specs.declared.mark.Mark.{Mark}
 use Rattle.cas_record.specs.declared.mark.Mark.TheVariants.{Floor, Begun}
 use Rattle.cas_record.specs.Chain.{is_key, is_ballot, has_calls, opens_at, has_opening}
 use Rattle.cas_record.specs.Happening.{Happening, Marked, Promised, Took, marks_of}
-use Rattle.cas_record.specs.Lawful.{Cluster, Lawful, AreFirst, HasOpening, HasSeen, in_promise, in_take, in_ride, SlotTold, slot_told, is_slot}
-use Rattle.cas_record.specs.Legal.{HasFloor, IsOpening, calls_of}
+use Rattle.cas_record.specs.Lawful.{Cluster, Lawful, AreFirst, HasOpening, HasSeen, in_promise, in_take, in_ride, slot_told, is_slot}
+use Rattle.cas_record.specs.Legal.{IsOpening, calls_of}
 use Rattle.cas_record.specs.Listing.{no_slot_told}
 use Rattle.cas_record.specs.Orderly.{Orderly, age_told}
 use Rattle.cas_record.specs.Places.{At, Stands, here, past}
 use Rattle.cas_record.specs.Replay.{opening_state}
 use Rattle.cas_record.proofs.LogLemmas.{mark_stands}
-use Rattle.cas_record.proofs.PlaceLemmas.{none_at_nil, newest_or, stands_at, stands_deeper}
-use Rattle.cas_record.proofs.Slots.{slot_of}
+use Rattle.cas_record.proofs.PlaceLemmas.{none_at_nil, stands_at}
 use Rattle.cas_record.proofs.Tests.{key_same, key_is, key_refl, ballot_is, nat_same, nat_is, slot_same}
 use Rattle.cas_cluster.specs.Openings.{Opening, mark_of, KeysDiffer}
 

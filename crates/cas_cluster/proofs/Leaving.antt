@@ -18,7 +18,7 @@ use Rattle.cas_cluster.specs.History.{IsLogged}
 use Rattle.cas_cluster.specs.Parties.{AreMessagesTrue, IsVaultTrue, AreReady, HaveOneEach, IsDeskTrue, IsToldTrue, IsCallTrue, IsCallerTrue}
 use Rattle.cas_cluster.specs.Protocol.{Made, GlobalState}
 use Rattle.cas_cluster.specs.StepStops as stops
-use Rattle.cas_cluster.specs.StepStops.{OpenCallAt, closed_by, closed_by_crash, LeavesRound, GoesDown}
+use Rattle.cas_cluster.specs.StepStops.{closed_by, closed_by_crash, LeavesRound, GoesDown}
 use Rattle.cas_cluster.specs.View.{Meaning, View, CallView, CallerView, IsAt, era_at}
 use Rattle.cas_cluster.proofs.Around.{Whole, whole_of, logged, Around, around, leaves_desk, settles}
 use Rattle.cas_cluster.proofs.CouncilSteps as council

@@ -28,7 +28,7 @@ use Rattle.cas_cluster.specs.Acceptors.{votes_of}
 use Rattle.cas_cluster.specs.Council.{Probe, NextKeys, NewAges, Removal, PlanView, without_partial}
 use Rattle.cas_cluster.specs.Course.{Entry, Course, entries_in, course_of}
 use Rattle.cas_cluster.specs.Step as step
-use Rattle.cas_cluster.specs.Step.{Event, Step, StepBegin, StepTurn, StepRefuseTurn, StepPropose, StepCount, StepEnd, StepCrashAcceptor, StepRestartAcceptor}
+use Rattle.cas_cluster.specs.Step.{Event, Step, StepBegin, StepTurn, StepPropose, StepCount, StepEnd, StepCrashAcceptor, StepRestartAcceptor}
 use Rattle.cas_cluster.specs.StepCalls as calls
 use Rattle.cas_cluster.specs.Collection.{tomb_of}
 use Rattle.cas_cluster.specs.StepCollect as collect

@@ -1,13 +1,12 @@
 -- A proposer with a quorum proposes lawfully, and what it read is the state from which its proposal goes on.
 use Rattle.std.proofs.Common.{◌≡◌, ◌<◌, ◌≤◌, ℕ, suc, arith, true, false, List, [], ◌∷◌, Option, Some, None, refl, sym, ap, subst, ◌∙◌, inl, inr}
 use Rattle.std.specs.Prelude.{◌⊎◌, ◌==◌, ◌&&◌, not, Contains}
-use Rattle.cas_base.proofs.Bools.{and_left, and_right, both_true, or_left, or_right, if_false, not_both, not_tells, not_of_false, false_of_not}
+use Rattle.cas_base.proofs.Bools.{and_left, and_right, both_true, if_false, not_tells, false_of_not}
 use Rattle.cas_ballot.specs.declared.ballot.Ballot.{Ballot}
 use Rattle.cas_ballot.specs.Ballot.{zero_ballot, BallotAtMost, BallotLess}
 use Rattle.cas_ballot.specs.Members.{has_member}
 use Rattle.cas_ballot.proofs.BallotLemmas.{zero_at_most, at_most_antisym, at_most_trans, at_most_or_less, at_most_greater_right, less_irreflexive}
 use Rattle.cas_ballot.proofs.MemberLemmas.{members_where_tells, has-members_where}
-use Rattle.cas_change.specs.declared.state.State.{State}
 use Rattle.cas_change.specs.declared.state.State.TheVariants.{Empty}
 use Rattle.cas_slot.specs.declared.message.Reply.{Reply}
 use Rattle.cas_slot.specs.declared.message.Tell.{Tell}
@@ -36,7 +35,7 @@ use Rattle.cas_record.proofs.LinkLemmas.{link_read}
 use Rattle.cas_record.proofs.Openings.{opening_read}
 use Rattle.cas_record.proofs.Orders.{reason}
 use Rattle.cas_record.proofs.PlaceLemmas.{stands_deeper, stands_at}
-use Rattle.cas_record.proofs.Tests.{nat_same, nat_is, key_same, key_refl, ballot_is}
+use Rattle.cas_record.proofs.Tests.{nat_same, nat_is, key_same}
 use Rattle.cas_cluster.specs.Acceptors.{IsAcceptedState, IsEmptyAt}
 use Rattle.cas_cluster.specs.Laws.{IsStateRead, ProposersProposeLawfully, ProposersCountLawfully}
 use Rattle.cas_cluster.specs.Proposers.{AreRepliesTrue, IsOpenRound, AreFloorsClear, state_read}

@@ -29,7 +29,7 @@ use Rattle.cas_cluster.specs.Parties.{asked_in}
 use Rattle.cas_cluster.specs.Council.{reserved_by}
 use Rattle.cas_cluster.specs.Safe.{requests_in, IsPartySafe, IsRoundSafe, IsOpenSafe, IsSound}
 use Rattle.cas_cluster.specs.StepCalls as calls
-use Rattle.cas_cluster.specs.StepCalls.{most_marks, round_marks, most_round_marks, HasRoom, Opens, opened, with_call, tried_again, over, Sends, prepares_to, accepts_to, BeginsRound}
+use Rattle.cas_cluster.specs.StepCalls.{most_marks, round_marks, most_round_marks, Opens, opened, with_call, tried_again, Sends, prepares_to}
 use Rattle.cas_cluster.specs.StepDesks.{BeginsToPrepare}
 use Rattle.cas_cluster.specs.View.{Meaning, View, CallView, CallerView, IsAt, new_call, new_caller, reserved_in, reserved_of, with_desk, era_at}
 use Rattle.cas_cluster.proofs.Beginnings.{prepare_request}

@@ -1,5 +1,5 @@
 -- The collection that is under way stays as it is to be, whatever is called on a cluster.
-use Rattle.std.proofs.Common.{◌≡◌, ℕ, zero, suc, Bool, true, false, List, [], ◌∷◌, Option, None, Some, refl, sym, ap, subst, ◌∙◌}
+use Rattle.std.proofs.Common.{◌≡◌, ℕ, zero, suc, Bool, true, false, List, [], ◌∷◌, length, Option, None, Some, refl, sym, ap, subst, ◌∙◌}
 use Rattle.std.specs.Prelude.{option_map, if◌then◌else◌, slice_set}
 use Rattle.cas_ballot.specs.declared.ballot.Ballot.{Ballot}
 use Rattle.cas_ballot.specs.Members.{union_of}
@@ -302,8 +302,8 @@ tell_collecting {S} {V} old new answer (council.collects order is_open by view) 
 
 -- all members are asked, and not for a collection
 asked_collecting : {S V : Type 0} (old : View S V) (question : Question) (tag : Ballot) (tos : List ℕ) → is_of_collection question ≡ false → (old.council.plan ≡ None → plan_asked question tag old.council.plan ≡ None)
-    → IsCollectingSafe old → IsCollectingIn (record old.council { exchange = Some (new_exchange question tag tos); plan = plan_asked question tag old.council.plan }) (era_at old 0) old.greatest
-asked_collecting old question tag tos apart unplanned was = left_alone (frame_of old) (record (frame_of old) { council = record old.council { exchange = Some (new_exchange question tag tos); plan = plan_asked question tag old.council.plan } }) (record {
+    → IsCollectingSafe old → IsCollectingIn (record old.council { exchange = Some (new_exchange question tag tos (length old.marks)); plan = plan_asked question tag old.council.plan }) (era_at old 0) old.greatest
+asked_collecting old question tag tos apart unplanned was = left_alone (frame_of old) (record (frame_of old) { council = record old.council { exchange = Some (new_exchange question tag tos (length old.marks)); plan = plan_asked question tag old.council.plan } }) (record {
   collection = refl;
   greatest = refl;
   exchange = λ now is asks. absurd (cc (apart, asks, ap (λ (e : ExchangeView). is_of_collection e.question) (some_is is)));

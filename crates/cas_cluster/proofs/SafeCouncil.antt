@@ -38,7 +38,7 @@ use Rattle.cas_cluster.specs.Council.{place_in, has_ended, Question, NextKeys, N
 use Rattle.cas_cluster.specs.Safe.{IsExchangeSafe, IsAskingSafe, AreListingsSafe, IsAskingOf, IsCouncilSafe, IsSound, requests_in}
 use Rattle.cas_cluster.specs.StepCalls.{Sends}
 use Rattle.cas_cluster.specs.StepCouncil as council
-use Rattle.cas_cluster.specs.StepCouncil.{asked_by, listing_for, plan_asked, StepOrder, StepTell, told_over, StepGather, Gathers, with_council, told_view, gathered, told_marks, with_exchange, everyone, question_to, questions_to, new_exchange, HasRoomToAsk, MayAskAll, AsksAll, StepAskAll, harmed_exchange, hears, harm_marks, harms, TurnsExchange, StepTurnExchange, StepRefuseTurnExchange}
+use Rattle.cas_cluster.specs.StepCouncil.{asked_by, listing_for, plan_asked, StepOrder, StepTell, told_over, StepGather, Gathers, with_council, told_view, gathered, told_marks, everyone, question_to, questions_to, new_exchange, HasRoomToAsk, MayAskAll, AsksAll, StepAskAll, harmed_exchange, hears, harm_marks, harms, TurnsExchange, StepTurnExchange, StepRefuseTurnExchange}
 use Rattle.cas_cluster.specs.Course.{HasFewMembers}
 use Rattle.cas_cluster.specs.View.{Meaning, View, IsAt, CallView, era_at, with_acceptor, with_desk}
 use Rattle.cas_cluster.proofs.Asks.{where_drawn}
@@ -166,9 +166,9 @@ pub none_waiting : {S V : Type 0} (old : View S V) → IsSound old → old.counc
 none_waiting old was none = subst (λ (e : Option ExchangeView). IsAskingSafe e (queue_at old.flow exchange_place)) none was.asking
 
 -- an exchange whose questions were just sent
-pub sent_safe : (old flow : FlowView) (age : ℕ) (tag : Ballot) (question : Question) (tos : List ℕ) → (queue_at old exchange_place).messages ≡ [] → FitsBallot tag → IsMemberSet tos → length tos ≤ 9 → Sends old exchange_place (questions_to age tag question tos) flow
-    → IsExchangeSafe (new_exchange question tag tos) (queue_at flow exchange_place)
-sent_safe old flow age tag question tos none fits set few sends = record {
+pub sent_safe : (old flow : FlowView) (age : ℕ) (tag : Ballot) (question : Question) (tos : List ℕ) (since : ℕ) → (queue_at old exchange_place).messages ≡ [] → FitsBallot tag → IsMemberSet tos → length tos ≤ 9 → Sends old exchange_place (questions_to age tag question tos) flow
+    → IsExchangeSafe (new_exchange question tag tos since) (queue_at flow exchange_place)
+sent_safe old flow age tag question tos since none fits set few sends = record {
   tag = fits;
   member_set = set;
   about = about_members f tos tos (queue_at flow exchange_place).messages (λ to. refl) waiting refl;
@@ -196,15 +196,15 @@ ask_safe {S} {V} m old question new was by = by_case by.asks
     tos : List ℕ
     tos = asked_by old question
 
-    asked : (now : DeskView V) (tag : Ballot) (flow : FlowView) → HasRoomToAsk old question → FitsBallot tag × IsCouncilSafe (record old.council { exchange = Some (new_exchange question tag tos); plan = plan_asked question tag old.council.plan }) → now ≡ record by.desk { vault = now.vault } → Sends old.flow exchange_place (questions_to (kept_of by.desk.vault).age tag question tos) flow
-        → IsSound (with_council (record (with_desk old 0 now) { flow = flow }) (record old.council { exchange = Some (new_exchange question tag tos); plan = plan_asked question tag old.council.plan }))
+    asked : (now : DeskView V) (tag : Ballot) (flow : FlowView) → HasRoomToAsk old question → FitsBallot tag × IsCouncilSafe (record old.council { exchange = Some (new_exchange question tag tos (length old.marks)); plan = plan_asked question tag old.council.plan }) → now ≡ record by.desk { vault = now.vault } → Sends old.flow exchange_place (questions_to (kept_of by.desk.vault).age tag question tos) flow
+        → IsSound (with_council (record (with_desk old 0 now) { flow = flow }) (record old.council { exchange = Some (new_exchange question tag tos (length old.marks)); plan = plan_asked question tag old.council.plan }))
     asked now tag flow room fits is_now sends =
-        council_safe (with_desk old 0 now) flow (record old.council { exchange = Some (new_exchange question tag tos); plan = plan_asked question tag old.council.plan }) old.marks (vault_changes old 0 by.desk now was may.at_desk may.idle is_now) sends.queues sends.others (omega arith)
-        (sent_safe old.flow flow (kept_of by.desk.vault).age tag question tos (none_waiting old was may.none_open) fits.0 (asked_set old question) (asked_few old question (was.few_members 0)) sends) fits.1
+        council_safe (with_desk old 0 now) flow (record old.council { exchange = Some (new_exchange question tag tos (length old.marks)); plan = plan_asked question tag old.council.plan }) old.marks (vault_changes old 0 by.desk now was may.at_desk may.idle is_now) sends.queues sends.others (omega arith)
+        (sent_safe old.flow flow (kept_of by.desk.vault).age tag question tos (length old.marks) (none_waiting old was may.none_open) fits.0 (asked_set old question) (asked_few old question (was.few_members 0)) sends) fits.1
         (omega (arith, room, ap reserved_for_exchange may.none_open))
 
     by_case : AsksAll m old question by.desk new → IsSound new
-    by_case (council.asks now tag flow up room tagged is_now sends view) = subst IsSound (sym view) (asked now tag flow room (asked_safe m.disks (everyone old) tos old.council may.caller.call may.order.asked question by.desk now tag may.is_for tagged.has_tag was.council) is_now sends)
+    by_case (council.asks now tag flow up room tagged is_now sends view) = subst IsSound (sym view) (asked now tag flow room (asked_safe m.disks (everyone old) tos (length old.marks) old.council may.caller.call may.order.asked question by.desk now tag may.is_for tagged.has_tag was.council) is_now sends)
     by_case (council.is_down down view) = subst IsSound (sym view) (told_view_safe old _ was)
     by_case (council.is_full up full view) = subst IsSound (sym view) (told_view_safe old _ was)
     by_case (council.is_spent now up spent kept is_now view) = subst IsSound (sym view) (told_view_safe (with_desk old 0 now) _ (vault_changes old 0 by.desk now was may.at_desk may.idle is_now))

@@ -16,7 +16,7 @@ use Rattle.cas_cluster.specs.StepCouncil.{with_council}
 use Rattle.cas_cluster.specs.StepCalls.{most_marks}
 use Rattle.cas_cluster.specs.StepDesks.{EntersEra, FailsToEnter}
 use Rattle.cas_cluster.specs.StepPlans as plans
-use Rattle.cas_cluster.specs.StepPlans.{StepOpenPlan, OpensPlan, Welcomes, opened_plan, StepEnterEra, EntersNext, plan_after, entered_view}
+use Rattle.cas_cluster.specs.StepPlans.{StepOpenPlan, OpensPlan, Welcomes, StepEnterEra, EntersNext, plan_after, entered_view}
 use Rattle.cas_cluster.specs.StepStops as stops
 use Rattle.cas_cluster.specs.StepStops.{closed_by, LeavesRound}
 use Rattle.cas_cluster.specs.View.{Meaning, View, IsAt, era_at, reserved_in_all, with_desk}

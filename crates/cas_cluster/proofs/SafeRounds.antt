@@ -29,7 +29,7 @@ use Rattle.cas_cluster.specs.Parties.{asked_in}
 use Rattle.cas_cluster.specs.Safe.{requests_in, IsPartySafe, IsRoundSafe, IsOpenSafe, IsSound}
 use Rattle.cas_cluster.specs.Step.{StepBegin, OpenRoundAt, StepPropose, StepCount}
 use Rattle.cas_cluster.specs.StepCalls as calls
-use Rattle.cas_cluster.specs.StepCalls.{most_marks, round_marks, with_call, over, proposing, proposed_view, proposal_of, Sends, accepts_to, offered_by, BeginsRound, ProposesOrEnds, CountsOrEnds}
+use Rattle.cas_cluster.specs.StepCalls.{over, proposing, proposed_view, proposal_of, Sends, accepts_to, BeginsRound, ProposesOrEnds, CountsOrEnds}
 use Rattle.cas_cluster.specs.StepDesks.{MayHaveDrawn}
 use Rattle.cas_cluster.specs.View.{DiskMeaning, Meaning, View, CallView, CallerView, IsAt, reserved_in, era_at}
 use Rattle.cas_cluster.proofs.Caches.{contains_without, contains_promise}

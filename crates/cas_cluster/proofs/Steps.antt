@@ -22,9 +22,9 @@ use Rattle.cas_record.specs.Lawful.{Cluster}
 use Rattle.cas_cluster.specs.History.{IsLogged}
 use Rattle.cas_cluster.specs.Parties.{IsPrepareTrue, IsAcceptTrue, IsRoundTrue, IsOpenTrue, IsCallTrue}
 use Rattle.cas_cluster.specs.Step as step
-use Rattle.cas_cluster.specs.Step.{Step, StepBegin, StepPropose, StepCount, StepEnd, StepCrashAcceptor, StepRestartAcceptor, OpenRoundAt}
+use Rattle.cas_cluster.specs.Step.{Step, StepEnd, StepCrashAcceptor, StepRestartAcceptor, OpenRoundAt}
 use Rattle.cas_cluster.specs.StepCalls as calls
-use Rattle.cas_cluster.specs.StepCalls.{round_marks, Opens, BeginsRound, RefusesCall, ProposesOrEnds, CountsOrEnds, Rescans, EndsCall, over, with_call, tried_again}
+use Rattle.cas_cluster.specs.StepCalls.{BeginsRound, RefusesCall, ProposesOrEnds, CountsOrEnds, Rescans, over, with_call}
 use Rattle.cas_cluster.specs.StepCouncil.{with_council}
 use Rattle.cas_cluster.specs.View.{Meaning, View, CallView, CallerView, IsAt, with_acceptor, with_desk, with_caller, era_at}
 use Rattle.cas_cluster.proofs.AcceptorSteps as acceptor

@@ -21,12 +21,12 @@ use Rattle.cas_record.specs.Happening.{Happening, marks_of}
 use Rattle.cas_record.specs.Orderly.{IsAboveFloors, IsClear, IsNoneOrAbove}
 use Rattle.cas_record.specs.Places.{Stands, IsPrefix}
 use Rattle.cas_record.proofs.LogLemmas.{acked_at, not_zero, acked_proposed}
-use Rattle.cas_cluster.specs.View.{CallerView, Meaning, View, CallView, era_at, IsAt}
+use Rattle.cas_cluster.specs.View.{Meaning, View, CallView, era_at, IsAt}
 use Rattle.cas_cluster.specs.Acceptors.{IsLeft, Tells}
 use Rattle.cas_cluster.specs.Held.{Holds}
 use Rattle.cas_cluster.specs.History.{IsRemembered}
 use Rattle.cas_cluster.specs.Parties.{IsAcceptorTrue, IsDeskTrue, IsPrepareTrue, IsAcceptTrue, IsOpenTrue}
-use Rattle.cas_cluster.specs.Step.{IsOpening, History}
+use Rattle.cas_cluster.specs.Step.{History}
 use Rattle.cas_cluster.specs.Step as step
 use Rattle.cas_cluster.specs.ViewLaws.{OpeningsAreRemembered, OpeningsOnAreRemembered, StepsAreRemembered, HistoriesAreLegal, IsKeptBy, WhatIsDoneIsKept, FloorsArePassed, MembersAreClear}
 use Rattle.cas_cluster.proofs.Held.{held_by}
@@ -37,7 +37,6 @@ use Rattle.cas_cluster.proofs.Proposes.{all_in_low}
 use Rattle.cas_cluster.proofs.SafeParts.{at_low}
 use Rattle.cas_cluster.specs.Protocol.{IsFloorClear}
 use Rattle.cas_cluster.specs.Safe.{IsSafe}
-use Rattle.cas_proposer.specs.Desk.{DeskView}
 use Rattle.cas_record.specs.Lawful.{SlotTold}
 use Rattle.cas_record.proofs.Floors.{accepted_after}
 use Rattle.std.specs.Prelude.{◌≤◌, ◌⊎◌}

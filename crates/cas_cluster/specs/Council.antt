@@ -91,6 +91,8 @@ pub record ExchangeView : Type 0 where
   pub question : Question
   pub tag : Ballot
   pub members : List ℕ
+  -- how many marks had been made when they were asked
+  pub since : ℕ
   -- what each of them told in its first reply, in their order
   pub told : List Answered
   -- the members of which a frame was harmed

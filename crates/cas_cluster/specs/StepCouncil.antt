@@ -150,9 +150,9 @@ IsForQuestion members council call asked other = ⊥
 abbrev pub HasRoomToAsk : {S V : Type 0} → View S V → Question → Type 0
 HasRoomToAsk view question = length view.marks + reserved_in_all view + length (asked_by view question) ≤ most_marks
 
--- what the exchange is at first
-abbrev pub new_exchange : Question → Ballot → List ℕ → ExchangeView
-new_exchange question tag members = record { question = question; tag = tag; members = members; told = map (λ member. record { acceptor = member; told = None }) members; harmed = []; reserved = length members; crashed = false }
+-- what the exchange is at first, which is asked behind so many marks
+abbrev pub new_exchange : Question → Ballot → List ℕ → ℕ → ExchangeView
+new_exchange question tag members since = record { question = question; tag = tag; members = members; since = since; told = map (λ member. record { acceptor = member; told = None }) members; harmed = []; reserved = length members; crashed = false }
 
 -- the listing that goes on, where one does
 abbrev pub listing_in : Option PlanView → Option ListingView
@@ -204,7 +204,7 @@ pub record MayAskAll {S V : Type 0} (old : View S V) (question : Question) (desk
 pub data AsksAll {S V : Type 0} (m : Meaning S V) (old : View S V) (question : Question) (desk : DeskView V) (new : View S V) : Type 0 where
   asks : (now : DeskView V) (tag : Ballot) (flow : FlowView) → desk.down ≡ false → HasRoomToAsk old question → TagsAll m.disks (listing_for old.council question) desk now tag → now ≡ record desk { vault = now.vault }
       → Sends old.flow exchange_place (questions_to (kept_of desk.vault).age tag question (asked_by old question)) flow
-      → new ≡ with_council (record (with_desk old 0 now) { flow = flow }) (record old.council { exchange = Some (new_exchange question tag (asked_by old question)); plan = plan_asked question tag old.council.plan }) → AsksAll m old question desk new
+      → new ≡ with_council (record (with_desk old 0 now) { flow = flow }) (record old.council { exchange = Some (new_exchange question tag (asked_by old question) (length old.marks)); plan = plan_asked question tag old.council.plan }) → AsksAll m old question desk new
   is_down : desk.down ≡ true → new ≡ told_view old (told.Stopped answer.Down) → AsksAll m old question desk new
   is_full : desk.down ≡ false → (HasRoomToAsk old question → ⊥) → new ≡ told_view old (told.Stopped answer.RecordFull) → AsksAll m old question desk new
   is_spent : (now : DeskView V) → desk.down ≡ false → WhereDrawn (listing_for old.council question) (counter_of desk.vault ≡ 2 ^ 48) → HasKept m.disks desk.vault now.vault → now ≡ record desk { vault = now.vault }

@@ -22,7 +22,7 @@ use Rattle.cas_cluster.specs.Step.{Step, StepBegin, StepPropose, StepCount, Begi
 use Rattle.cas_cluster.specs.StepCalls as calls
 use Rattle.cas_cluster.specs.StepCalls.{refusal_by}
 use Rattle.cas_cluster.specs.StepCollect as collects
-use Rattle.cas_cluster.specs.StepCollect.{IsCollecting, BeginsCollection, CountedAs, StepBeginCollect, StepReadHeld, StepCountCollect, StepEndCollect, collecting, keep_always, stopped_by}
+use Rattle.cas_cluster.specs.StepCollect.{IsCollecting, BeginsCollection, CountedAs, StepReadHeld, collecting, keep_always, stopped_by}
 use Rattle.cas_cluster.specs.StepStops.{OpenCallAt}
 use Rattle.cas_cluster.specs.View.{Meaning, View, CallView, CallerView, IsAt}
 use Rattle.cas_cluster.proofs.Places.{at_one, at_set, some_is}

@@ -13,7 +13,7 @@ use Rattle.cas_cluster.specs.Council.{Council, ExchangeView, OrderView, silent_o
 use Rattle.cas_cluster.specs.Step.{Step, StepBegin, BeginCollect, EndCollect, AskCollect, GatherCollect}
 use Rattle.cas_cluster.specs.StepCalls as calls
 use Rattle.cas_cluster.specs.StepCollect as collects
-use Rattle.cas_cluster.specs.StepCollect.{BeginsCollection, GathersRound, RenewsNext, StepReadHeld, StepGatherRound, StepRenew, StepMakeFloor, keep_always}
+use Rattle.cas_cluster.specs.StepCollect.{BeginsCollection, GathersRound, RenewsNext, StepGatherRound, StepRenew, StepMakeFloor, keep_always}
 use Rattle.cas_cluster.specs.View.{Meaning, View, CallerView}
 use Rattle.cas_cluster.proofs.Places.{some_is}
 use Rattle.cas_world.specs.Beginning.{HasNoCall}

@@ -1,5 +1,5 @@
 -- What a call of one caller leaves to the others.
-use Rattle.std.proofs.Common.{◌≡◌, ◌≢◌, ◌≤◌, ℕ, Bool, nat_eq, List, [], ◌∷◌, None, slice_get, slice_set, inl, inr, refl, sym, ap, subst, ◌∙◌, eqb-true}
+use Rattle.std.proofs.Common.{◌≡◌, ◌≢◌, ◌≤◌, ℕ, Bool, nat_eq, List, None, slice_get, slice_set, inl, inr, refl, sym, ap, subst, ◌∙◌, eqb-true}
 use Rattle.std.proofs.lemmas.Bool.{eqb-false}
 use Rattle.cas_base.proofs.Bools.{true_or_false}
 use Rattle.cas_change.specs.declared.program.Clause.{Clause}
@@ -12,7 +12,7 @@ use Rattle.cas_record.specs.declared.answer.Answer.{Answer}
 use Rattle.cas_cluster.specs.Step as step
 use Rattle.std.specs.Prelude.{option_map}
 use Rattle.cas_cluster.specs.Council.{Council, IsAtRest, broken_off, crashed_in}
-use Rattle.cas_cluster.specs.Step.{StepBegin, StepTurn, StepRefuseTurn, StepPropose, StepCount, StepEnd, StepStray, StepCrashAcceptor, StepRestartAcceptor, StepRestartProposer}
+use Rattle.cas_cluster.specs.Step.{StepBegin, StepTurn, StepRefuseTurn, StepPropose, StepCount, StepEnd, StepRestartAcceptor, StepRestartProposer}
 use Rattle.cas_cluster.specs.StepStops as stops
 use Rattle.cas_cluster.specs.StepStops.{CrashesDesk, broken_off_view, StepCrashProposer, OpenCallAt}
 use Rattle.cas_cluster.specs.StepCalls as calls
@@ -21,7 +21,7 @@ use Rattle.cas_cluster.specs.View.{Meaning, View, CallerView}
 use Rattle.cas_cluster.proofs.Places.{at_one}
 use Rattle.cas_world.specs.Beginning.{HasNoCall}
 use Rattle.cas_script.specs.Changes as changes
-use Rattle.cas_script.specs.Changes.{Turned, AllTurned, FailsToTurn, EndsPrepareBy, IsAcceptedBy, IsCutOff, IsCutShort, IsRoundBy, AreRoundsBy, AreRounds, IsChange}
+use Rattle.cas_script.specs.Changes.{Turned, FailsToTurn, EndsPrepareBy, IsAcceptedBy, IsCutOff, IsCutShort, IsRoundBy, AreRoundsBy, AreRounds, IsChange}
 use Rattle.cas_script.specs.Conditions.{NetworkView}
 use Rattle.cas_script.specs.Events as events
 use Rattle.cas_script.specs.Events.{CrashesAcceptor, RestartsAcceptor, RestartsProposer, StraysIn}

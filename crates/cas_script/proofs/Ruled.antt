@@ -1,5 +1,5 @@
 -- Rules stay: whatever is run, a network of rules decides by them still.
-use Rattle.std.proofs.Common.{◌≡◌, ℕ, Bool, List, Option, Result, Ok, Err, refl, sym, ap, subst, ◌∙◌}
+use Rattle.std.proofs.Common.{◌≡◌, ℕ, Bool, List, Option, Result, Ok, Err, refl, sym, subst}
 use Rattle.std.specs.Prelude.{⊤, IfOk, OnErr}
 use Rattle.cas_change.specs.declared.program.Clause.{Clause}
 use Rattle.cas_fate.specs.declared.fate.Leg.{Leg}

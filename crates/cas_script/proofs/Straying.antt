@@ -1,5 +1,5 @@
 -- What a late frame leaves as it is that strays in.
-use Rattle.std.proofs.Common.{◌≡◌, ℕ, Bool, zero, suc, nat_eq, List, ◌∷◌, Some, slice_get, slice_set, inl, inr, refl, sym, ap, subst, ◌∙◌, eqb-true}
+use Rattle.std.proofs.Common.{◌≡◌, ℕ, Bool, zero, suc, nat_eq, List, Some, slice_set, inl, inr, refl, sym, ap, subst, ◌∙◌, eqb-true}
 use Rattle.std.proofs.lemmas.Bool.{eqb-false}
 use Rattle.cas_base.proofs.Bools.{true_or_false}
 use Rattle.cas_flow.specs.declared.message.Message.{Message}
@@ -7,14 +7,13 @@ use Rattle.cas_lines.specs.declared.answer.EventAnswer.{EventAnswer}
 use Rattle.cas_proposer.specs.Desk.{DeskView}
 use Rattle.cas_proposer.specs.Round.{is_preparing}
 use Rattle.cas_proposer.specs.declared.round.Round.{Round}
-use Rattle.cas_cluster.specs.StepDesks.{HearsReply}
 use Rattle.cas_cluster.specs.StepFrames as frames
-use Rattle.cas_cluster.specs.View.{Meaning, View, CallerView, IsAt, with_desk}
+use Rattle.cas_cluster.specs.View.{Meaning, View, CallerView, IsAt}
 use Rattle.cas_cluster.proofs.Places.{at_one, at_set, some_is}
 use Rattle.cas_script.specs.Conditions.{NetworkView}
 use Rattle.cas_script.specs.Events as events
 use Rattle.cas_script.specs.Events.{StraysIn}
-use Rattle.cas_script.specs.Playing.{Asked, IsFor, IsPlaying}
+use Rattle.cas_script.specs.Playing.{Asked, IsPlaying}
 use Rattle.cas_script.specs.Strays as strays
 use Rattle.cas_script.specs.Strays.{LetsIn, KeepsUnderWay}
 use Rattle.cas_script.proofs.Others.{get_other}

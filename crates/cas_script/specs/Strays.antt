@@ -1,5 +1,5 @@
 -- Late frames that stray in by themselves.
-use Rattle.std.specs.Prelude.{◌≡◌, ℕ, Bool, length, Option, None, Some}
+use Rattle.std.specs.Prelude.{◌≡◌, ℕ, Bool, length, None, Some}
 use Rattle.cas_lines.specs.declared.answer.EventAnswer.{EventAnswer}
 use Rattle.cas_cluster.specs.View.{Meaning, View}
 use Rattle.cas_script.specs.Conditions.{NetworkView, Names}

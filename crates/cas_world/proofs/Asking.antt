@@ -123,7 +123,7 @@ tag_fits {S} {V} view what.List safe = by_plan view.council.plan refl
 
 -- ---- it opens
 pub asks : {S V : Type 0} (m : Meaning S V) (greatest : ℕ) (council council_now : Council) (acceptors : List (AcceptorView S)) (desks : List (DeskView V)) (desk now : DeskView V) (callers : List Caller) (flow flow_now : FlowView) (before after : Book) (asking : Query) (opened : Opened)
-    → Opens m.disks desk now flow flow_now (everyone (view_of greatest council acceptors desks callers flow before)) (goes_on_in (council_view council) asking) asking opened
+    → Opens m.disks desk now flow flow_now (everyone (view_of greatest council acceptors desks callers flow before)) (goes_on_in (council_view council) asking) asking (length before.marks) opened
     → length before.marks + reserved_in_all (view_of greatest council acceptors desks callers flow before) + length (asked_from (everyone (view_of greatest council acceptors desks callers flow before)) (goes_on_in (council_view council) asking)) ≤ 1000000
     → after.marks ≡ before.marks → council_now.eras ≡ council.eras
     → council_view council_now ≡ record (council_view council) { exchange = Some (exchange_view opened.exchange); plan = option_map (with_begun opened.begun) (council_view council).plan }
@@ -145,7 +145,7 @@ asks {S} {V} m greatest council council_now acceptors desks desk now callers flo
         plan = (ap (λ (b : Option ListingView). option_map (with_begun b) (council_view council).plan) opens.begun ∙ plan_begun (everyone old) (council_view council) asking opens.tag) i;
       };
     })
-    ∙ ap (λ (l : List ℕ). with_council (record (with_desk old 0 now) { flow = flow_now }) (record old.council { exchange = Some (new_exchange (question_in old asking) opens.tag l); plan = plan_asked (question_in old asking) opens.tag old.council.plan })) members)
+    ∙ ap (λ (l : List ℕ). with_council (record (with_desk old 0 now) { flow = flow_now }) (record old.council { exchange = Some (new_exchange (question_in old asking) opens.tag l (length before.marks)); plan = plan_asked (question_in old asking) opens.tag old.council.plan })) members)
 
 -- the desk has no open round then
 pub idle_then : {V : Type 0} (m : DiskMeaning V) (desk now : DeskView V) (goes_on : Option ListingView) (marks : ℕ) (refusal : Answer) → desk.round ≡ None → FailsToAsk m desk now goes_on marks refusal → now.round ≡ None

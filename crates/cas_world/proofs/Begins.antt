@@ -24,10 +24,10 @@ use Rattle.cas_vault.specs.Vault.{kept_of}
 use Rattle.cas_cluster.specs.Safe.{IsSafe, IsRoundSafe}
 use Rattle.cas_cluster.specs.Step.{StepBegin}
 use Rattle.cas_cluster.specs.StepCalls as calls
-use Rattle.cas_cluster.specs.StepCalls.{Opens, BeginsRound, RefusesCall, Sends, WasMet, most_marks, round_marks, accepts_to}
+use Rattle.cas_cluster.specs.StepCalls.{Opens, BeginsRound, Sends, WasMet, most_marks, round_marks, accepts_to}
 use Rattle.cas_cluster.specs.StepDesks.{FailsToDraw, LosesMemory}
 use Rattle.cas_cluster.specs.View as seen
-use Rattle.cas_cluster.specs.View.{Meaning, DiskMeaning, View, CallView, CallerView, IsAt, new_call, new_caller, era_in}
+use Rattle.cas_cluster.specs.View.{Meaning, View, CallView, CallerView, IsAt, new_call, new_caller, era_in}
 use Rattle.cas_cluster.proofs.Places.{at_one, at_set, some_is, set_set}
 use Rattle.cas_cluster.specs.Council.{reserved_by}
 use Rattle.cas_calls.specs.Council.{council_view}

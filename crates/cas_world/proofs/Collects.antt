@@ -22,7 +22,7 @@ use Rattle.cas_round.specs.declared.verdict.RoundVerdict.{RoundVerdict}
 use Rattle.cas_round.specs.declared.verdict.RoundVerdict.TheVariants as verdicts
 use Rattle.cas_cluster.specs.Collection.{CollectionView, called, new_collection, reserved_for_collection}
 use Rattle.cas_cluster.specs.Council as cluster
-use Rattle.cas_cluster.specs.Council.{OrderView, PlanView, reserved_by, reserved_for_order, silent_order, hushed}
+use Rattle.cas_cluster.specs.Council.{OrderView, reserved_by, reserved_for_order, silent_order, hushed}
 use Rattle.cas_cluster.specs.Protocol.{is_done}
 use Rattle.cas_cluster.specs.Safe.{IsSafe, IsOpenSafe, IsRoundSafe}
 use Rattle.cas_cluster.specs.Step as step
@@ -30,7 +30,7 @@ use Rattle.cas_cluster.specs.Step.{Step, StepBegin, StepCount, StepEnd}
 use Rattle.cas_cluster.specs.StepCalls as calls
 use Rattle.cas_cluster.specs.StepCalls.{IsFull, RefusesCall, Rescans}
 use Rattle.cas_cluster.specs.StepCollect as collect
-use Rattle.cas_cluster.specs.StepCollect.{CountedAs, MayCollect, StepBeginCollect, collecting, CollectingAt, IsCollecting, keep_always, stopped_by}
+use Rattle.cas_cluster.specs.StepCollect.{CountedAs, MayCollect, collecting, IsCollecting, keep_always, stopped_by}
 use Rattle.cas_cluster.specs.StepCouncil.{told_view, with_council}
 use Rattle.cas_cluster.specs.StepDesks.{EndsRound}
 use Rattle.cas_cluster.specs.StepStops.{OpenCallAt}

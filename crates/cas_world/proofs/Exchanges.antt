@@ -32,7 +32,7 @@ use Rattle.cas_cluster.specs.StepStops.{broken_off_view}
 use Rattle.cas_cluster.specs.StepCouncil as steps
 use Rattle.cas_cluster.specs.Listings.{why_short}
 use Rattle.cas_cluster.specs.Remaining.{keys_left}
-use Rattle.cas_cluster.specs.StepCouncil.{IsCollectedBy, IsFinishedBy, finished, ListsFor, StepOrder, StepTell, StepGather, StepTurnExchange, Gathers, SaysTheSame, harmed_exchange, harm_marks, harms, hears, with_exchange, told_marks, told_view}
+use Rattle.cas_cluster.specs.StepCouncil.{IsCollectedBy, IsFinishedBy, finished, ListsFor, StepOrder, StepTell, StepTurnExchange, Gathers, SaysTheSame, harmed_exchange, harm_marks, harms, hears, with_exchange, told_marks, told_view}
 use Rattle.cas_cluster.specs.StepFrames.{replied_flow, votes_marked}
 use Rattle.cas_cluster.specs.View.{Meaning, View, IsAt, era_in, reserved_in_all}
 use Rattle.cas_quorum.specs.declared.era.Era.{Era}

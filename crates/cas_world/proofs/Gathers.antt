@@ -14,10 +14,10 @@ use Rattle.cas_record.specs.declared.operator.OpAnswer.TheVariants as op
 use Rattle.cas_cluster.specs.Collected.{is_after_floor}
 use Rattle.cas_cluster.specs.Collection.{CollectionView, ages_of, confirmed_step, reserved_for_collection, tomb_of}
 use Rattle.cas_cluster.specs.Council as cluster
-use Rattle.cas_cluster.specs.Council.{exchange_place, ExchangeView, OrderView, reserved_by, reserved_for_exchange, reserved_for_order, telling, told_so, hushed}
+use Rattle.cas_cluster.specs.Council.{exchange_place, ExchangeView, OrderView, reserved_by, telling, told_so, hushed}
 use Rattle.cas_cluster.specs.Safe.{IsSafe, IsOfCollection, is_of_collection, renewals_before}
 use Rattle.cas_cluster.specs.StepCollect as collect
-use Rattle.cas_cluster.specs.StepCollect.{CollectingAt, IsQuestionOf, IsRenewedBy, MayAskCollect, StepGatherRound, StepGatherCollect, StepMakeFloor, collecting}
+use Rattle.cas_cluster.specs.StepCollect.{CollectingAt, IsQuestionOf, IsRenewedBy, MayAskCollect, StepGatherRound, StepGatherCollect, StepMakeFloor}
 use Rattle.cas_cluster.specs.History.{IsRemembered}
 use Rattle.cas_cluster.specs.Parties.{IsAged}
 use Rattle.cas_cluster.specs.Step as step
@@ -237,7 +237,7 @@ module _ {S V : Type 0} (m : Meaning S V) (old new : View S V) (desk : DeskView 
 
   pub asks_all : (question : cluster.Question) (flow : FlowView) → desk.down ≡ false → IsQuestionOf of.may.collection question → length old.marks + reserved_in_all old + length (everyone old) ≤ most_marks → (m.disks.tells → IsAged m.disks (kept_of desk.vault).age desk.vault)
       → Sends old.flow exchange_place (questions_to (kept_of desk.vault).age (tomb_of of.may.collection.tombstone) question (everyone old)) flow
-      → new ≡ with_council (record old { flow = flow }) (record old.council { exchange = Some (new_exchange question (tomb_of of.may.collection.tombstone) (everyone old)) }) → Step m old step.AskCollect new
+      → new ≡ with_council (record old { flow = flow }) (record old.council { exchange = Some (new_exchange question (tomb_of of.may.collection.tombstone) (everyone old) (length old.marks)) }) → Step m old step.AskCollect new
   asks_all question flow up is_it few aged sends view =
       asks_so (collect.asks question flow up is_it (omega (arith, few, ap (λ (l : List ℕ). length l) (asked_all old of.may.collection question is_it))) aged sends view)
 

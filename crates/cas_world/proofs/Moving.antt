@@ -23,13 +23,13 @@ use Rattle.cas_vault.specs.declared.error.VaultError.TheVariants as error
 use Rattle.cas_vault.proofs.Keeping.{same_kept}
 use Rattle.cas_cluster.specs.Collection.{reserved_for_collection}
 use Rattle.cas_cluster.specs.Council as cluster
-use Rattle.cas_cluster.specs.Council.{OrderView, PlanView, reserved_by, reserved_for_order, exchange_place, crashed_in, silent_order, told_so, telling, hushed}
+use Rattle.cas_cluster.specs.Council.{OrderView, PlanView, reserved_by, reserved_for_order, silent_order, told_so, telling, hushed}
 use Rattle.cas_cluster.proofs.Rescanning.{told_reserves}
 use Rattle.cas_cluster.specs.StepCalls.{most_marks}
 use Rattle.cas_cluster.specs.StepCouncil.{told_view}
 use Rattle.cas_cluster.specs.StepDesks.{EntersEra, FailsToEnter}
 use Rattle.cas_cluster.specs.StepPlans as plans
-use Rattle.cas_cluster.specs.StepPlans.{StepEnterEra, MayEnterEra, EntersNext, entered_view, plan_after, rest_of}
+use Rattle.cas_cluster.specs.StepPlans.{EntersNext, plan_after, rest_of}
 use Rattle.cas_cluster.specs.StepStops as stops
 use Rattle.cas_cluster.specs.StepStops.{LeavesRound, GoesDown, closed_by, closed_by_crash, broken_off_view}
 use Rattle.cas_cluster.specs.View.{Meaning, View, CallView, CallerView, IsAt, reserved_in, reserved_of, reserved_in_all, with_desk}

@@ -1,11 +1,11 @@
 -- What was taken up is an opening on what stood before.
-use Rattle.std.proofs.Common.{◌≡◌, ◌<◌, ◌≤◌, ℕ, zero, suc, Bool, true, false, List, [], ◌∷◌, ◌++◌, length, map, Option, Some, refl, sym, ap, subst, ◌∙◌, inl, inr, arith, append_assoc}
-use Rattle.std.specs.Prelude.{◌⊎◌, ◌+◌, ◌||◌, max, drop, replicate, Contains}
+use Rattle.std.proofs.Common.{◌≡◌, ◌<◌, ◌≤◌, ℕ, zero, suc, Bool, true, false, List, [], ◌∷◌, ◌++◌, length, map, Option, refl, sym, ap, subst, ◌∙◌, inl, inr, arith, append_assoc}
+use Rattle.std.specs.Prelude.{◌+◌, ◌||◌, max, drop, replicate}
 use Rattle.std.proofs.lemmas.List.{length_push, length-map, length-replicate, length-drop}
 use Rattle.std.proofs.lemmas.Option.{slice_get_within}
 use Rattle.cas_base.proofs.Bools.{or_right}
 use Rattle.cas_acceptor.specs.Acceptor.{AcceptorView}
-use Rattle.cas_ballot.specs.Members.{has_member, union_of, IsMemberSet, members_where}
+use Rattle.cas_ballot.specs.Members.{has_member, union_of, IsMemberSet}
 use Rattle.cas_ballot.proofs.MemberLemmas.{has-members_where, IsMemberSet-members_where}
 use Rattle.cas_flow.specs.Flow.{FlowView, empty_flow}
 use Rattle.cas_proposer.specs.Desk.{DeskView}
@@ -13,18 +13,17 @@ use Rattle.cas_proposer.specs.declared.round.Round.{Round}
 use Rattle.cas_quorum.specs.Era.{majority_era}
 use Rattle.cas_record.specs.Book.{Book}
 use Rattle.cas_record.specs.declared.mark.Mark.{Mark}
-use Rattle.cas_round.proofs.Lists.{Has, has, contains}
-use Rattle.cas_slot.specs.Contents.{Contents}
+use Rattle.cas_round.proofs.Lists.{Has, has}
 use Rattle.cas_slot.specs.Shelf.{OnlyLeaves}
 use Rattle.cas_vault.specs.declared.kept.Kept.{Kept}
 use Rattle.cas_vault.specs.declared.vault.Vault.{Vault}
 use Rattle.cas_vault.specs.Vault.{kept_of, IsPast}
 use Rattle.cas_vault.proofs.Keeping.{same_kept}
 use Rattle.cas_cluster.specs.Council.{reserved_by}
-use Rattle.cas_cluster.specs.Openings.{Opening, mark_of, AreOpenings, IsOpenAcceptor, IsUp, IsOpenDesk, IsOpeningOn}
+use Rattle.cas_cluster.specs.Openings.{Opening, mark_of, AreOpenings, IsOpenAcceptor, IsOpenDesk, IsOpeningOn}
 use Rattle.cas_cluster.specs.SafeLaws.{HasPlaces}
 use Rattle.cas_cluster.specs.StepCalls.{most_marks}
-use Rattle.cas_cluster.specs.View.{Meaning, DiskMeaning, CallerView, IsAt, new_caller}
+use Rattle.cas_cluster.specs.View.{Meaning, DiskMeaning, IsAt}
 use Rattle.cas_cluster.proofs.Harms.{member_low}
 use Rattle.cas_cluster.proofs.Opens.{remembered_on}
 use Rattle.cas_cluster.proofs.Places.{some_is}
@@ -35,7 +34,7 @@ use Rattle.cas_calls.specs.declared.council.Council.{Council}
 use Rattle.cas_calls.specs.declared.call.Caller.{Caller}
 use Rattle.cas_world.specs.Opening.{unbegun, shelves_of}
 use Rattle.cas_world.specs.declared.fault.OpenFault.{OpenFault}
-use Rattle.cas_world.specs.OpeningOn.{opening_of, openings_of, greatest_counter, placed_as, placed, MembersHold, IsTakenUp, IsTakenUpOver, AreTakenUpBelow, AVaultIsNotTakenUp}
+use Rattle.cas_world.specs.OpeningOn.{opening_of, openings_of, greatest_counter, placed_as, placed, MembersHold, IsTakenUpOver, AreTakenUpBelow, AVaultIsNotTakenUp}
 use Rattle.cas_world.specs.World.{HasCopies, IsWorld, view_of, caller_view}
 use Rattle.cas_world.specs.declared.reopen.OpeningFloor.{OpeningFloor}
 use Rattle.cas_world.proofs.Lists.{at_pushed}

@@ -20,18 +20,18 @@ use Rattle.cas_vault.specs.declared.error.VaultError.TheVariants as error
 use Rattle.cas_vault.proofs.Keeping.{same_kept}
 use Rattle.cas_cluster.specs.Collection.{CollectionView, confirmed_step, reserved_for_collection, tomb_of}
 use Rattle.cas_cluster.specs.Council as cluster
-use Rattle.cas_cluster.specs.Council.{OrderView, reserved_by, telling, told_so, hushed}
+use Rattle.cas_cluster.specs.Council.{reserved_by, telling, told_so, hushed}
 use Rattle.cas_cluster.proofs.Rescanning.{told_reserves}
 use Rattle.cas_cluster.proofs.Places.{at_one}
 use Rattle.cas_cluster.specs.StepCollect as collect
-use Rattle.cas_cluster.specs.StepCollect.{CollectingAt, RenewsNext, collecting}
+use Rattle.cas_cluster.specs.StepCollect.{CollectingAt, RenewsNext}
 use Rattle.cas_cluster.specs.Safe.{IsSafe, renewals_before}
 use Rattle.cas_cluster.specs.Step as step
 use Rattle.cas_cluster.specs.Step.{Step}
 use Rattle.cas_cluster.specs.StepCouncil.{SaysTheSame, told_view}
 use Rattle.cas_cluster.specs.StepDesks.{Renews, FailsToRenew, FindsNoAge}
 use Rattle.cas_cluster.specs.StepStops as stops
-use Rattle.cas_cluster.specs.StepStops.{LeavesRound, GoesDown, closed_by, closed_by_crash, broken_off_view}
+use Rattle.cas_cluster.specs.StepStops.{LeavesRound, closed_by, closed_by_crash, broken_off_view}
 use Rattle.cas_cluster.specs.View.{Meaning, View, CallerView, IsAt, reserved_of, reserved_in_all, with_desk}
 use Rattle.cas_calls.specs.Answers.{aged_answer, crash_answer}
 use Rattle.cas_calls.specs.Collecting.{with_collection}

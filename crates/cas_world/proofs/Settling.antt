@@ -24,7 +24,7 @@ use Rattle.cas_cluster.specs.Safe.{IsSafe, IsOpenSafe, IsRoundSafe}
 use Rattle.cas_cluster.specs.Step as step
 use Rattle.cas_cluster.specs.Step.{Event, Step}
 use Rattle.cas_cluster.specs.StepCalls as calls
-use Rattle.cas_cluster.specs.StepCalls.{RefusesCall, most_marks, round_marks}
+use Rattle.cas_cluster.specs.StepCalls.{most_marks, round_marks}
 use Rattle.cas_cluster.specs.View as seen
 use Rattle.cas_cluster.specs.View.{Meaning, DiskMeaning, View, CallView, CallerView, IsAt, new_caller, era_in}
 use Rattle.cas_cluster.proofs.Places.{set_set, some_is, at_one, at_set}

@@ -11,7 +11,7 @@ use Rattle.cas_slot.specs.declared.fault.ShelfFault.{ShelfFault}
 use Rattle.cas_slot.specs.declared.fault.ShelfFault.TheVariants as shelf_fault
 use Rattle.cas_cluster.specs.View.{Meaning, ShelfMeaning, DiskMeaning, IsAt}
 use Rattle.cas_cluster.proofs.Places.{but_set, own_set}
-use Rattle.cas_world.specs.Opening.{unstarted, NoneStarted, IsFaultOf, fault_of_shelf, HasStarted, HasNotStarted, AreStartedBelow, AMemberFails, IsDeskOver, AreDesksBelow, AVaultFails, SomeDiskFails}
+use Rattle.cas_world.specs.Opening.{unstarted, NoneStarted, IsFaultOf, fault_of_shelf, HasStarted, HasNotStarted, AreStartedBelow, AMemberFails, IsDeskOver, AreDesksBelow, SomeDiskFails}
 use Rattle.cas_world.specs.Opening as opening
 use Rattle.cas_world.specs.declared.fault.OpenFault.{OpenFault}
 use Rattle.cas_world.proofs.Lists.{at_pushed}

@@ -167,14 +167,14 @@ abbrev pub IsAsked : {S V : Type 0} → View S V → Request → Type 0
 IsAsked view request = slice_get (queue_at view.flow exchange_place).messages 0 ≡ Some (message.Request request)
 
 -- ---- an exchange that opens
--- it has a tag, and each of those that are to be asked is
-pub record Opens {V : Type 0} (m : DiskMeaning V) (old new : DeskView V) (before after : FlowView) (members : List ℕ) (goes_on : Option ListingView) (what : Query) (opened : Opened) : Type 0 where
+-- it has a tag, and each of those that are to be asked is, behind so many marks
+pub record Opens {V : Type 0} (m : DiskMeaning V) (old new : DeskView V) (before after : FlowView) (members : List ℕ) (goes_on : Option ListingView) (what : Query) (since : ℕ) (opened : Opened) : Type 0 where
   pub up : old.down ≡ false
   pub tag : Ballot
   pub tagged : TagsAll m goes_on old new tag
   pub desk : new ≡ record old { vault = new.vault }
   pub sends : Sends before exchange_place (questions_to (kept_of old.vault).age tag (question_from members goes_on what) (asked_from members goes_on)) after
-  pub exchange : exchange_view opened.exchange ≡ new_exchange (question_from members goes_on what) tag (asked_from members goes_on)
+  pub exchange : exchange_view opened.exchange ≡ new_exchange (question_from members goes_on what) tag (asked_from members goes_on) since
   pub begun : opened.begun ≡ begins_with members goes_on what tag
 
 -- why none opens, and what becomes of the desk

@@ -8,7 +8,6 @@ use Rattle.cas_quorum.specs.declared.fault.PlanFault.{PlanFault}
 use Rattle.cas_record.specs.declared.operator.Asked.{Asked}
 use Rattle.cas_record.specs.declared.operator.Asked.TheVariants.{Join as ToJoin, Leave as ToLeave}
 use Rattle.cas_record.specs.declared.operator.OpAnswer.{OpAnswer}
-use Rattle.cas_record.specs.declared.operator.OpAnswer.TheVariants as op
 use Rattle.cas_cluster.specs.Council.{ListingView, OrderView, PlanView}
 use Rattle.cas_cluster.specs.Course.{next_era}
 use Rattle.cas_cluster.specs.StepCouncil.{IsCollectedBy, IsFinishedBy}

@@ -29,7 +29,8 @@ impl<S: Shelf, V: Disk> World<S, V> {
         }
         let members = self.era().everyone();
         let marks = reserved_in_all(&self.callers, &self.council) + members.count() as usize;
-        if self.record.marks().len() + marks > MOST_MARKS {
+        let since = self.record.marks().len();
+        if since + marks > MOST_MARKS {
             return Err(self.refuse(OpAnswer::Stopped(Answer::RecordFull)));
         }
         if self.record.reserve(None, marks).is_err() {
@@ -44,7 +45,7 @@ impl<S: Shelf, V: Disk> World<S, V> {
         let Ok(question) = question else {
             return Err(self.refuse(no_memory()));
         };
-        match ask_each(alloc, &mut self.flow, age, tag, members, question) {
+        match ask_each(alloc, &mut self.flow, age, tag, since, members, question) {
             Ok(exchange) => {
                 self.council.exchange = Some(exchange);
                 Ok(())

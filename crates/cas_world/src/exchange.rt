@@ -325,7 +325,7 @@ fn open_exchange<V: Disk>(
     requires queue { exchange_place < length flow.old.own }
     requires few { length «record».old.marks + reserved ≤ 1000000 }
     requires tag { IfSome (option_copied goes_on) (λ listing. FitsBallot listing.tag) }
-    ensures ok { IfOk result (λ opened. Opens (disks V.tells V.may_leave V.fault_count) desk.old desk.new flow.old flow.new everyone (option_copied goes_on.entry) what opened) }
+    ensures ok { IfOk result (λ opened. Opens (disks V.tells V.may_leave V.fault_count) desk.old desk.new flow.old flow.new everyone (option_copied goes_on.entry) what (length «record».old.marks) opened) }
     ensures room { OnOk result (reserved + length (asked_from everyone (option_copied goes_on.entry)) ≤ «record».new.room) }
     ensures fits { OnOk result (length «record».old.marks + reserved + length (asked_from everyone (option_copied goes_on.entry)) ≤ 1000000) }
     ensures refused { IfErr result (FailsToAsk (disks V.tells V.may_leave V.fault_count) desk.old desk.new (option_copied goes_on.entry) (length «record».old.marks + reserved + length (asked_from everyone (option_copied goes_on.entry)))) }
@@ -338,7 +338,8 @@ fn open_exchange<V: Disk>(
     }
     let members = members_asked(everyone, goes_on);
     let count = members.count() as usize;
-    if record.marks().len() + reserved + count > MOST_MARKS {
+    let since = record.marks().len();
+    if since + reserved + count > MOST_MARKS {
         return Err(Answer::RecordFull);
     }
     if record.reserve(None, reserved + count).is_err() {
@@ -346,7 +347,7 @@ fn open_exchange<V: Disk>(
     }
     let age = desk.age();
     match tag_for(desk, goes_on) {
-        Ok(tag) => match ask_members(alloc, flow, age, tag, everyone, goes_on, what) {
+        Ok(tag) => match ask_members(alloc, flow, age, tag, since, everyone, goes_on, what) {
             Ok(opened) => Ok(opened),
             Err(_) => Err(Answer::NoMemory { proposed: false }),
         },
@@ -367,19 +368,20 @@ fn members_asked(everyone: Members, goes_on: Option<&Listing>) -> Members
     }
 }
 
-/// Asks each of these members this, with the tag: all of them or, after an `Err`, none.
+/// Asks each of these members this, with the tag, behind so many marks: all of them or, after an `Err`, none.
 fn ask_members(
     alloc: Global,
     flow: &mut Flow,
     age: u64,
     tag: Ballot,
+    since: usize,
     everyone: Members,
     goes_on: Option<&Listing>,
     what: Query,
 ) -> Result<Opened, AllocError>
     requires queue { exchange_place < length flow.old.own }
     requires tag { FitsBallot tag }
-    ensures exchange { IfOk result (λ opened. exchange_view opened.exchange ≡ new_exchange (question_from everyone (option_copied goes_on.entry) what) tag (asked_from everyone (option_copied goes_on.entry))) }
+    ensures exchange { IfOk result (λ opened. exchange_view opened.exchange ≡ new_exchange (question_from everyone (option_copied goes_on.entry) what) tag (asked_from everyone (option_copied goes_on.entry)) since) }
     ensures begun { IfOk result (λ opened. opened.begun ≡ begins_with everyone (option_copied goes_on.entry) what tag) }
     ensures sent { OnOk result (Sends flow.old exchange_place (questions_to age tag (question_from everyone (option_copied goes_on.entry) what) (asked_from everyone (option_copied goes_on.entry))) flow.new) }
     ensures not_sent { OnErr result (flow.new ≡ flow.old) }
@@ -387,22 +389,23 @@ fn ask_members(
     let members = members_asked(everyone, goes_on);
     let begun = begin_listing(alloc, tag, &everyone, goes_on, &what)?;
     let question = question_for(alloc, &everyone, goes_on, what)?;
-    let exchange = ask_each(alloc, flow, age, tag, members, question)?;
+    let exchange = ask_each(alloc, flow, age, tag, since, members, question)?;
     Ok(Opened { exchange, begun })
 }
 
-/// Asks each of these members this, with the tag: all of them or, after an `Err`, none.
+/// Asks each of these members this, with the tag, behind so many marks: all of them or, after an `Err`, none.
 pub(crate) fn ask_each(
     alloc: Global,
     flow: &mut Flow,
     age: u64,
     tag: Ballot,
+    since: usize,
     members: Members,
     question: Question,
 ) -> Result<OpenExchange, AllocError>
     requires queue { exchange_place < length flow.old.own }
     requires tag { FitsBallot tag }
-    ensures exchange { IfOk result (λ exchange. exchange_view exchange ≡ new_exchange (question_view question) tag members) }
+    ensures exchange { IfOk result (λ exchange. exchange_view exchange ≡ new_exchange (question_view question) tag members since) }
     ensures sent { OnOk result (Sends flow.old exchange_place (questions_to age tag (question_view question) members) flow.new) }
     ensures not_sent { OnErr result (flow.new ≡ flow.old) }
 {
@@ -412,6 +415,7 @@ pub(crate) fn ask_each(
         question,
         tag,
         members,
+        since,
         told,
         harmed: Members::new(),
         reserved: members.count() as usize,

@@ -1,15 +1,13 @@
-use Rattle.std.proofs.Common.{◌<◌, ℕ, refl, sym, subst, ◌∙◌}
+use Rattle.std.proofs.Common.{◌<◌, ℕ, refl, sym, subst}
 use Rattle.std.specs.Prelude.{Bool}
 use Rattle.cas_cluster.specs.Council.{exchange_place}
-use Rattle.cas_cluster.specs.StepCouncil.{StepTurnExchange}
 use Rattle.cas_cluster.specs.View.{meaning}
 use Rattle.cas_flow.specs.Flow.{queue_at}
-use Rattle.cas_script.specs.Exchanges.{AskTurned, IsAsking, none}
+use Rattle.cas_script.specs.Exchanges.{AskTurned, none}
 use Rattle.cas_script.specs.Playing.{turns_left}
 use Rattle.cas_script.proofs.Outcomes.{on_err_of}
 use Rattle.cas_script.proofs.Asking.{same_calls, both_calls, same_order, both_orders, turn_order, ask_turn_keeps, still_asks, told_none, as_ask_turn, as_ask_refusal, ask_front, ask_turn_fewer, ask_turned_more, ask_turn_refused, ask_refusal_keeps, near_calls, near_order, near_asks}
 use Rattle.cas_script.proofs.Turns.{none_waits, same_turns}
-use Rattle.cas_script.proofs.exchange.ask_turns.Given.{Over}
 use Rattle.cas_script.proofs.exchange.ask_turns.Goals as goal
 
 pub loop-front-init : goal.loop-front-init

@@ -1,10 +1,8 @@
-use Rattle.std.proofs.Common.{◌≡◌, ◌≤◌, ℕ, Some, Option, sym, ap, subst, ◌∙◌, arith}
-use Rattle.std.specs.Prelude.{IfSome, IfNone}
+use Rattle.std.proofs.Common.{◌≡◌, Some, Option, ap, subst, arith}
+use Rattle.std.specs.Prelude.{IfSome}
 use Rattle.cas_lines.specs.Command.{change_of}
-use Rattle.cas_fate.specs.Generator.{drawn_line}
 use Rattle.cas_fate.specs.declared.generator.Drawn.{Drawn}
 use Rattle.rand_pcg.specs.Lcg.{Lcg}
-use Rattle.cas_cluster.specs.View.{meaning}
 use Rattle.cas_lines.specs.declared.command.Command.{Command}
 use Rattle.cas_script.specs.Load.{command_of}
 use Rattle.cas_script.proofs.Keeping.{change_leaves, idle_then, stays_quiet}

@@ -1,7 +1,4 @@
-use Rattle.std.proofs.Common.{List, ℕ, subst}
-use Rattle.cas_cluster.specs.View.{meaning}
-use Rattle.cas_script.specs.Collections.{IsCollection}
-use Rattle.cas_script.specs.Load.{none, collects, collected}
+use Rattle.cas_script.specs.Load.{none, collects}
 use Rattle.cas_script.proofs.load.collect_behind.Goals as goal
 
 pub returns-in_ok-collect-clause-collects : goal.returns-in_ok-collect-clause-collects

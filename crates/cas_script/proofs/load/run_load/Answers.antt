@@ -1,5 +1,4 @@
 use Rattle.std.proofs.Common.{refl, ap, ◌∙◌, arith}
-use Rattle.cas_cluster.specs.View.{meaning}
 use Rattle.cas_script.proofs.Keeping.{all_idle, still_idle, stays_quiet}
 use Rattle.cas_script.proofs.Loads.{none_yet, one_line, no_line, no_collection, all_lines, stops_keep}
 use Rattle.cas_script.proofs.Outcomes.{on_err_of}

@@ -1,4 +1,3 @@
-use Rattle.std.proofs.Common.{List}
 use Rattle.cas_cluster.specs.View.{meaning}
 use Rattle.cas_script.specs.Conditions.{NetworkView}
 use Rattle.cas_script.specs.Membership.{HasAdvanced, steps_left}

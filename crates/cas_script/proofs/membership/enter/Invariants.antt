@@ -1,4 +1,4 @@
-use Rattle.std.proofs.Common.{◌<◌, ℕ, List}
+use Rattle.std.proofs.Common.{◌<◌, ℕ}
 use Rattle.std.specs.Prelude.{◌⊎◌, IsSome}
 use Rattle.cas_cluster.specs.View.{meaning}
 use Rattle.cas_world.specs.Plans.{entrant_of}

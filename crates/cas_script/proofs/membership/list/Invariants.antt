@@ -1,4 +1,4 @@
-use Rattle.std.proofs.Common.{◌≡◌, ℕ, List, Some}
+use Rattle.std.proofs.Common.{◌≡◌, ℕ, Some}
 use Rattle.cas_cluster.specs.View.{meaning}
 use Rattle.cas_members.specs.declared.plan.PlanStep.TheVariants.{Settle}
 use Rattle.cas_world.specs.Plans.{IsPartial, step_of}

@@ -1,4 +1,3 @@
-use Rattle.std.proofs.Common.{List}
 use Rattle.std.specs.Prelude.{IsSome}
 use Rattle.cas_calls.specs.Council.{due_in}
 use Rattle.cas_cluster.specs.View.{meaning}

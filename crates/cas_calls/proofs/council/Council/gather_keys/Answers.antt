@@ -2,7 +2,6 @@ use Rattle.std.proofs.Common.{List, Option, Some, Ok, Err, Result, ap, subst, â—
 use Rattle.std.specs.Prelude.{IfSome, option_map}
 use Rattle.cas_quorum.specs.declared.era.Era.{Era}
 use Rattle.cas_cluster.specs.Council as cluster
-use Rattle.cas_cluster.specs.Council.{ExchangeView, ListingView, PlanView}
 use Rattle.cas_cluster.specs.View.{era_in}
 use Rattle.cas_record.specs.declared.answer.Answer.{Answer}
 use Rattle.cas_record.specs.declared.operator.OpAnswer.TheVariants as op

@@ -51,15 +51,15 @@ reserved_in_all-requires g c = omega (arith, reserved_fits c.self.inside.config.
 pub overflow_add-marks : goal.overflow_add-marks
 overflow_add-marks g c = omega (arith, reserved_fits c.self.inside.config.proposers c.self.inside.council c.self.inside.acceptors.items c.self.inside.desks.items c.self.inside.callers.items c.self.inside.flow c.self.inside.record c.self.invariant.safe, c.count.ensures.within, c.reserved_in_all.ensures, ap (sum_by reserved_of) c.deref.ensures.value, sum_seen c.self.inside.callers.items)
 
-pub overflow_add-marks-2 : goal.overflow_add-marks-2
-overflow_add-marks-2 g c = omega (arith, reserved_fits c.self.inside.config.proposers c.self.inside.council c.self.inside.acceptors.items c.self.inside.desks.items c.self.inside.callers.items c.self.inside.flow c.self.inside.record c.self.invariant.safe, c.count.ensures.within, ap (λ (l : List Mark). length l) c.marks.ensures, c.reserved_in_all.ensures, ap (sum_by reserved_of) c.deref.ensures.value, sum_seen c.self.inside.callers.items)
+pub overflow_add-since : goal.overflow_add-since
+overflow_add-since g c = omega (arith, reserved_fits c.self.inside.config.proposers c.self.inside.council c.self.inside.acceptors.items c.self.inside.desks.items c.self.inside.callers.items c.self.inside.flow c.self.inside.record c.self.invariant.safe, c.count.ensures.within, ap (λ (l : List Mark). length l) c.marks-since.ensures, c.reserved_in_all.ensures, ap (sum_by reserved_of) c.deref.ensures.value, sum_seen c.self.inside.callers.items)
 
-pub returns-then-marks-gt-MOST_MARKS-clause-step : goal.returns-then-marks-gt-MOST_MARKS-clause-step
-returns-then-marks-gt-MOST_MARKS-clause-step g c = asks_full (meaning g.S.Shelf.contents g.S.Shelf.tells g.S.Shelf.may_leave g.S.Shelf.fault_count g.V.Disk.tells g.V.Disk.may_leave g.V.Disk.fault_count) c.args.self.now c.refuse-then-marks-gt-MOST_MARKS.new.self c.index.result.now (subst (λ (v : (View g.row.S.Denot g.row.V.Denot)). IsSafe v) c.self.view_is c.self.invariant.safe) (asks_either c.args.self.now c.requires) (subst (λ (v : (View g.row.S.Denot g.row.V.Denot)). IsAt v.desks 0 c.index.result.now) c.self.view_is (at_place c.self.inside.desks.items 0 0 c.index.result.now refl (omega (arith, c.self.invariant.safe.sound.desks)) c.index.ensures)) (sym c.is_down.ensures ∙ c.if-is_down.false)
-    (omega (arith, c.if-marks-gt-MOST_MARKS.true, c.count.ensures.value, ap (λ (l : List ℕ). length l) (c.everyone-members.ensures ∙ ap (λ (e : Era). union_of e.prep e.acc) c.era.ensures), c.reserved_in_all.ensures, ap (sum_by reserved_of) c.deref.ensures.value, sum_seen c.self.inside.callers.items, ap (λ (l : List Mark). length l) c.marks.ensures, ap (λ (v : (View g.row.S.Denot g.row.V.Denot)). length v.marks + reserved_in_all v) c.self.view_is)) c.refuse-then-marks-gt-MOST_MARKS.ensures.told
+pub returns-then-since-marks-gt-MOST_MARKS-clause-step : goal.returns-then-since-marks-gt-MOST_MARKS-clause-step
+returns-then-since-marks-gt-MOST_MARKS-clause-step g c = asks_full (meaning g.S.Shelf.contents g.S.Shelf.tells g.S.Shelf.may_leave g.S.Shelf.fault_count g.V.Disk.tells g.V.Disk.may_leave g.V.Disk.fault_count) c.args.self.now c.refuse-then-since-marks-gt-MOST_MARKS.new.self c.index.result.now (subst (λ (v : (View g.row.S.Denot g.row.V.Denot)). IsSafe v) c.self.view_is c.self.invariant.safe) (asks_either c.args.self.now c.requires) (subst (λ (v : (View g.row.S.Denot g.row.V.Denot)). IsAt v.desks 0 c.index.result.now) c.self.view_is (at_place c.self.inside.desks.items 0 0 c.index.result.now refl (omega (arith, c.self.invariant.safe.sound.desks)) c.index.ensures)) (sym c.is_down.ensures ∙ c.if-is_down.false)
+    (omega (arith, c.if-since-marks-gt-MOST_MARKS.true, c.count.ensures.value, ap (λ (l : List ℕ). length l) (c.everyone-members.ensures ∙ ap (λ (e : Era). union_of e.prep e.acc) c.era.ensures), c.reserved_in_all.ensures, ap (sum_by reserved_of) c.deref.ensures.value, sum_seen c.self.inside.callers.items, ap (λ (l : List Mark). length l) c.marks-since.ensures, ap (λ (v : (View g.row.S.Denot g.row.V.Denot)). length v.marks + reserved_in_all v) c.self.view_is)) c.refuse-then-since-marks-gt-MOST_MARKS.ensures.told
 
-pub returns-then-marks-gt-MOST_MARKS-clause-err : goal.returns-then-marks-gt-MOST_MARKS-clause-err
-returns-then-marks-gt-MOST_MARKS-clause-err g c = told_not (meaning g.S.Shelf.contents g.S.Shelf.tells g.S.Shelf.may_leave g.S.Shelf.fault_count g.V.Disk.tells g.V.Disk.may_leave g.V.Disk.fault_count) c.args.self.now c.refuse-then-marks-gt-MOST_MARKS.new.self c.index.result.now (subst (λ (v : (View g.row.S.Denot g.row.V.Denot)). IsSafe v) c.self.view_is c.self.invariant.safe) (asks_either c.args.self.now c.requires) (subst (λ (v : (View g.row.S.Denot g.row.V.Denot)). IsAt v.desks 0 c.index.result.now) c.self.view_is (at_place c.self.inside.desks.items 0 0 c.index.result.now refl (omega (arith, c.self.invariant.safe.sound.desks)) c.index.ensures)) (op.Stopped answer.RecordFull) c.refuse-then-marks-gt-MOST_MARKS.result c.refuse-then-marks-gt-MOST_MARKS.ensures.told c.refuse-then-marks-gt-MOST_MARKS.ensures.answer
+pub returns-then-since-marks-gt-MOST_MARKS-clause-err : goal.returns-then-since-marks-gt-MOST_MARKS-clause-err
+returns-then-since-marks-gt-MOST_MARKS-clause-err g c = told_not (meaning g.S.Shelf.contents g.S.Shelf.tells g.S.Shelf.may_leave g.S.Shelf.fault_count g.V.Disk.tells g.V.Disk.may_leave g.V.Disk.fault_count) c.args.self.now c.refuse-then-since-marks-gt-MOST_MARKS.new.self c.index.result.now (subst (λ (v : (View g.row.S.Denot g.row.V.Denot)). IsSafe v) c.self.view_is c.self.invariant.safe) (asks_either c.args.self.now c.requires) (subst (λ (v : (View g.row.S.Denot g.row.V.Denot)). IsAt v.desks 0 c.index.result.now) c.self.view_is (at_place c.self.inside.desks.items 0 0 c.index.result.now refl (omega (arith, c.self.invariant.safe.sound.desks)) c.index.ensures)) (op.Stopped answer.RecordFull) c.refuse-then-since-marks-gt-MOST_MARKS.result c.refuse-then-since-marks-gt-MOST_MARKS.ensures.told c.refuse-then-since-marks-gt-MOST_MARKS.ensures.answer
 
 -- ---- no memory is found
 pub invariant_of-self : goal.invariant_of-self
@@ -123,17 +123,21 @@ members_are : (g : Over) (c : Joined-self-2 g) → c.everyone-members.result ≡
 members_are g c = c.everyone-members.ensures ∙ ap (λ (e : Era). union_of e.prep e.acc) (c.era.ensures ∙ ap (λ (v : (View g.row.S.Denot g.row.V.Denot)). era_at v 0) (sym c.self.view_is))
 
 few : (g : Over) (c : Joined-self-2 g) → length c.self.inside.record.marks + reserved_in_all (view_of c.self.inside.config.proposers c.self.inside.council c.self.inside.acceptors.items c.self.inside.desks.items c.self.inside.callers.items c.self.inside.flow c.self.inside.record) + length (everyone (view_of c.self.inside.config.proposers c.self.inside.council c.self.inside.acceptors.items c.self.inside.desks.items c.self.inside.callers.items c.self.inside.flow c.self.inside.record)) ≤ 1000000
-few g c = omega (arith, c.if-marks-gt-MOST_MARKS.false, c.count.ensures.value, ap (λ (l : List ℕ). length l) (members_are g c), c.reserved_in_all.ensures, ap (sum_by reserved_of) c.deref.ensures.value, sum_seen c.self.inside.callers.items, ap (λ (l : List Mark). length l) c.marks.ensures)
+few g c = omega (arith, c.if-since-marks-gt-MOST_MARKS.false, c.count.ensures.value, ap (λ (l : List ℕ). length l) (members_are g c), c.reserved_in_all.ensures, ap (sum_by reserved_of) c.deref.ensures.value, sum_seen c.self.inside.callers.items, ap (λ (l : List Mark). length l) c.marks-since.ensures)
 
 is_question : (g : Over) (c : Joined-self-2 g) → IsQuestionOf (of g c).may.collection (question_view c.in-Ok.question)
 is_question g c = subst (λ (x : CollectionView). IsQuestionOf x (question_view c.in-Ok.question)) (same_one g c)
     (subst (λ r. IfOk r (λ question. IsQuestionOf c.in-Some.collection (question_view question))) c.in-Ok.is
     (subst (λ (o : Option CollectionView). IfSome o (λ x. IfOk c.collect_question.result (λ question. IsQuestionOf x (question_view question)))) c.in-Some.is c.collect_question.ensures))
 
-exchange_is : (g : Over) (c : Joined-self-2 g) → exchange_view c.in-Ok-ask_each.exchange ≡ new_exchange (question_view c.in-Ok.question) (tomb_of (of g c).may.collection.tombstone) (everyone (view_of c.self.inside.config.proposers c.self.inside.council c.self.inside.acceptors.items c.self.inside.desks.items c.self.inside.callers.items c.self.inside.flow c.self.inside.record))
+since_is : (g : Over) (c : Joined-self-2 g) → length c.marks-since.result.now ≡ length c.self.inside.record.marks
+since_is g c = ap (λ (l : List Mark). length l) c.marks-since.ensures
+
+exchange_is : (g : Over) (c : Joined-self-2 g) → exchange_view c.in-Ok-ask_each.exchange ≡ new_exchange (question_view c.in-Ok.question) (tomb_of (of g c).may.collection.tombstone) (everyone (view_of c.self.inside.config.proposers c.self.inside.council c.self.inside.acceptors.items c.self.inside.desks.items c.self.inside.callers.items c.self.inside.flow c.self.inside.record)) (length c.self.inside.record.marks)
 exchange_is g c = c.in-Ok-ask_each.ensures.exchange
-    ∙ ap (λ (t : Ballot). new_exchange (question_view c.in-Ok.question) t c.everyone-members.result) (c.tomb.ensures ∙ ap (λ (x : CollectionView). tomb_of x.tombstone) (same_one g c))
-    ∙ ap (new_exchange (question_view c.in-Ok.question) (tomb_of (of g c).may.collection.tombstone)) (members_are g c)
+    ∙ ap (λ (t : Ballot). new_exchange (question_view c.in-Ok.question) t c.everyone-members.result (length c.marks-since.result.now)) (c.tomb.ensures ∙ ap (λ (x : CollectionView). tomb_of x.tombstone) (same_one g c))
+    ∙ ap (λ (l : List ℕ). new_exchange (question_view c.in-Ok.question) (tomb_of (of g c).may.collection.tombstone) l (length c.marks-since.result.now)) (members_are g c)
+    ∙ ap (new_exchange (question_view c.in-Ok.question) (tomb_of (of g c).may.collection.tombstone) (everyone (view_of c.self.inside.config.proposers c.self.inside.council c.self.inside.acceptors.items c.self.inside.desks.items c.self.inside.callers.items c.self.inside.flow c.self.inside.record))) (since_is g c)
 
 did : (g : Over) (c : Joined-self-2 g) → Step (meaning g.S.Shelf.contents g.S.Shelf.tells g.S.Shelf.may_leave g.S.Shelf.fault_count g.V.Disk.tells g.V.Disk.may_leave g.V.Disk.fault_count) (view_of c.self.inside.config.proposers c.self.inside.council c.self.inside.acceptors.items c.self.inside.desks.items c.self.inside.callers.items c.self.inside.flow c.self.inside.record) step.AskCollect (view_of c.self.inside.config.proposers (record c.self.inside.council { exchange = Some c.in-Ok-ask_each.exchange }) c.self.inside.acceptors.items c.self.inside.desks.items c.self.inside.callers.items c.ask_each.new.flow c.reserve.new.self)
 did g c = asks_all (meaning g.S.Shelf.contents g.S.Shelf.tells g.S.Shelf.may_leave g.S.Shelf.fault_count g.V.Disk.tells g.V.Disk.may_leave g.V.Disk.fault_count) (view_of c.self.inside.config.proposers c.self.inside.council c.self.inside.acceptors.items c.self.inside.desks.items c.self.inside.callers.items c.self.inside.flow c.self.inside.record) (view_of c.self.inside.config.proposers (record c.self.inside.council { exchange = Some c.in-Ok-ask_each.exchange }) c.self.inside.acceptors.items c.self.inside.desks.items c.self.inside.callers.items c.ask_each.new.flow c.reserve.new.self) c.index.result.now c.self.invariant.safe (of g c) (at_desk g c) (question_view c.in-Ok.question) c.ask_each.new.flow (is_up g c) (is_question g c) (few g c)
@@ -167,10 +171,10 @@ returns-in-Ok-ask_each-clause-step g c = seen_from (meaning g.S.Shelf.contents g
 pub returns-then-is_down-clause-long : goal.returns-then-is_down-clause-long
 returns-then-is_down-clause-long g c full = absurd (cc (full, c.refuse.ensures.answer))
 
-pub returns-then-marks-gt-MOST_MARKS-clause-long : goal.returns-then-marks-gt-MOST_MARKS-clause-long
-returns-then-marks-gt-MOST_MARKS-clause-long g c full =
+pub returns-then-since-marks-gt-MOST_MARKS-clause-long : goal.returns-then-since-marks-gt-MOST_MARKS-clause-long
+returns-then-since-marks-gt-MOST_MARKS-clause-long g c full =
     let safe = subst (λ (v : (View g.row.S.Denot g.row.V.Denot)). IsSafe v) c.self.view_is c.self.invariant.safe in
-    full_for_exchanges c.args.self.now (Removal []) safe (λ room. omega (arith, room, c.if-marks-gt-MOST_MARKS.true, c.count.ensures.value, ap (λ (l : List ℕ). length l) (c.everyone-members.ensures ∙ ap (λ (e : Era). union_of e.prep e.acc) c.era.ensures), c.reserved_in_all.ensures, ap (sum_by reserved_of) c.deref.ensures.value, sum_seen c.self.inside.callers.items, ap (λ (l : List Mark). length l) c.marks.ensures, ap (λ (v : (View g.row.S.Denot g.row.V.Denot)). length v.marks + reserved_in_all v) c.self.view_is))
+    full_for_exchanges c.args.self.now (Removal []) safe (λ room. omega (arith, room, c.if-since-marks-gt-MOST_MARKS.true, c.count.ensures.value, ap (λ (l : List ℕ). length l) (c.everyone-members.ensures ∙ ap (λ (e : Era). union_of e.prep e.acc) c.era.ensures), c.reserved_in_all.ensures, ap (sum_by reserved_of) c.deref.ensures.value, sum_seen c.self.inside.callers.items, ap (λ (l : List Mark). length l) c.marks-since.ensures, ap (λ (v : (View g.row.S.Denot g.row.V.Denot)). length v.marks + reserved_in_all v) c.self.view_is))
 
 pub returns-then-is_err-clause-long : goal.returns-then-is_err-clause-long
 returns-then-is_err-clause-long g c full = absurd (cc (full, c.refuse-then-is_err.ensures.answer, c.no_memory.ensures))

@@ -46,10 +46,10 @@ open_exchange-opened-requires-clause-tag g c = subst (λ (o : Option ListingView
 members_ok : (g : Over) (c : After-begin_exchange g) → c.everyone-everyone.result ≡ everyone (view_of c.self.inside.config.proposers c.self.inside.council c.self.inside.acceptors.items c.self.inside.desks.items c.self.inside.callers.items c.self.inside.flow c.self.inside.record)
 members_ok g c = c.everyone-everyone.ensures ∙ ap (λ (e : Era). union_of e.prep e.acc) (c.era.ensures ∙ ap (λ (v : View g.row.S.Denot g.row.V.Denot). era_at v 0) (sym c.self.view_is))
 
-opens : (g : Over) (c : After-begin_exchange g) → Opens (disks g.V.Disk.tells g.V.Disk.may_leave g.V.Disk.fault_count) c.index_mut.result.now c.open_exchange-opened.new.desk c.self.inside.flow c.open_exchange-opened.new.flow (everyone (view_of c.self.inside.config.proposers c.self.inside.council c.self.inside.acceptors.items c.self.inside.desks.items c.self.inside.callers.items c.self.inside.flow c.self.inside.record)) (goes_on_in (council_view c.self.inside.council) c.args.what) c.args.what c.in-Ok.opened
+opens : (g : Over) (c : After-begin_exchange g) → Opens (disks g.V.Disk.tells g.V.Disk.may_leave g.V.Disk.fault_count) c.index_mut.result.now c.open_exchange-opened.new.desk c.self.inside.flow c.open_exchange-opened.new.flow (everyone (view_of c.self.inside.config.proposers c.self.inside.council c.self.inside.acceptors.items c.self.inside.desks.items c.self.inside.callers.items c.self.inside.flow c.self.inside.record)) (goes_on_in (council_view c.self.inside.council) c.args.what) c.args.what (length c.self.inside.record.marks) c.in-Ok.opened
 opens g c =
-    subst (λ (l : List ℕ). Opens (disks g.V.Disk.tells g.V.Disk.may_leave g.V.Disk.fault_count) c.index_mut.result.now c.open_exchange-opened.new.desk c.self.inside.flow c.open_exchange-opened.new.flow l (goes_on_in (council_view c.self.inside.council) c.args.what) c.args.what c.in-Ok.opened) (members_ok g c)
-    (subst (λ (o : Option ListingView). Opens (disks g.V.Disk.tells g.V.Disk.may_leave g.V.Disk.fault_count) c.index_mut.result.now c.open_exchange-opened.new.desk c.self.inside.flow c.open_exchange-opened.new.flow c.everyone-everyone.result o c.args.what c.in-Ok.opened) c.listing_for-goes_on.ensures c.in-Ok.ensures.ok)
+    subst (λ (l : List ℕ). Opens (disks g.V.Disk.tells g.V.Disk.may_leave g.V.Disk.fault_count) c.index_mut.result.now c.open_exchange-opened.new.desk c.self.inside.flow c.open_exchange-opened.new.flow l (goes_on_in (council_view c.self.inside.council) c.args.what) c.args.what (length c.self.inside.record.marks) c.in-Ok.opened) (members_ok g c)
+    (subst (λ (o : Option ListingView). Opens (disks g.V.Disk.tells g.V.Disk.may_leave g.V.Disk.fault_count) c.index_mut.result.now c.open_exchange-opened.new.desk c.self.inside.flow c.open_exchange-opened.new.flow c.everyone-everyone.result o c.args.what (length c.self.inside.record.marks) c.in-Ok.opened) c.listing_for-goes_on.ensures c.in-Ok.ensures.ok)
 
 step_ok : (g : Over) (c : After-begin_exchange g) → StepAskAll (meaning g.S.Shelf.contents g.S.Shelf.tells g.S.Shelf.may_leave g.S.Shelf.fault_count g.V.Disk.tells g.V.Disk.may_leave g.V.Disk.fault_count) (view_of c.self.inside.config.proposers c.self.inside.council c.self.inside.acceptors.items c.self.inside.desks.items c.self.inside.callers.items c.self.inside.flow c.self.inside.record) (question_in (view_of c.self.inside.config.proposers c.self.inside.council c.self.inside.acceptors.items c.self.inside.desks.items c.self.inside.callers.items c.self.inside.flow c.self.inside.record) c.args.what) (view_of c.self.inside.config.proposers c.begin_exchange.new.self c.self.inside.acceptors.items (slice_set c.self.inside.desks.items 0 c.open_exchange-opened.new.desk) c.self.inside.callers.items c.open_exchange-opened.new.flow c.open_exchange-opened.new.record)
 step_ok g c = record {

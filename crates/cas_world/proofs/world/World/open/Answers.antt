@@ -9,13 +9,13 @@ use Rattle.cas_vault.specs.Vault.{disk_of}
 use Rattle.cas_calls.specs.Council.{opening_council}
 use Rattle.cas_world.specs.Opening.{members_to}
 use Rattle.cas_world.specs.Opening as opening
-use Rattle.cas_world.specs.Opening.{unstarted, shelves_of, disks_of, AllStart, SomeDiskFails}
+use Rattle.cas_world.specs.Opening.{unstarted, disks_of, AllStart, SomeDiskFails}
 use Rattle.cas_world.proofs.Lists.{unstarted_at, unstarted_places}
 use Rattle.cas_world.proofs.Openings.{is_opening, has_places, is_world}
 use Rattle.cas_world.proofs.Starting.{none_lost, none_lost_either}
 use Rattle.cas_world.proofs.world.World.open.Given.{Over}
 use Rattle.cas_world.proofs.world.World.open.Goals as goal
-use Rattle.cas_world.proofs.world.World.open.Goals.{After-start, In-Ok-start, In-Err-start}
+use Rattle.cas_world.proofs.world.World.open.Goals.{In-Ok-start, In-Err-start}
 
 -- ---- before the start
 pub start-requires-clause-acceptors : goal.start-requires-clause-acceptors

@@ -13,7 +13,7 @@ use Rattle.cas_calls.specs.declared.council.Council.{Council}
 use Rattle.cas_calls.specs.Proposing.{disks}
 use Rattle.cas_world.specs.Opening.{shelves_of, disks_of}
 use Rattle.cas_world.specs.OpeningOn as opening
-use Rattle.cas_world.specs.OpeningOn.{placed, greatest_counter, AreTakenUpBelow, AVaultIsNotTakenUp}
+use Rattle.cas_world.specs.OpeningOn.{greatest_counter, AreTakenUpBelow, AVaultIsNotTakenUp}
 use Rattle.cas_world.specs.World.{IsWorld, view_of}
 use Rattle.cas_cluster.specs.Openings.{IsOpeningOn}
 use Rattle.cas_cluster.specs.SafeLaws.{HasPlaces}
