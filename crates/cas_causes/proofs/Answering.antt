@@ -1,5 +1,5 @@
 -- Whatever is called on a cluster, each that its exchange asks has told something, or is awaited.
-use Rattle.std.proofs.Common.{◌≡◌, ◌≢◌, ◌≤◌, ◌<◌, ℕ, Bool, true, false, List, [], ◌∷◌, ◌++◌, Option, None, Some, option_map, slice_get, refl, sym, ap, subst, ◌∙◌, inl, inr, arith, length-set}
+use Rattle.std.proofs.Common.{◌≡◌, ◌≢◌, ◌≤◌, ◌<◌, ℕ, Bool, true, false, List, [], ◌∷◌, ◌++◌, length, Option, None, Some, option_map, slice_get, refl, sym, ap, subst, ◌∙◌, inl, inr, arith, length-set}
 use Rattle.std.specs.Prelude.{◌⊎◌, ◌==◌, ◌||◌, if◌then◌else◌, Contains}
 use Rattle.cas_base.proofs.Bools.{or_left, or_right}
 use Rattle.cas_ballot.specs.declared.ballot.Ballot.{Ballot}
@@ -217,8 +217,8 @@ renew_answers {S} {V} m old new id sound by was = by_case by.renews
     by_case (collect.no_memory now up finds is) = still old new (alike old _ new is refl refl) was
 
 -- ---- all members are asked
-asked_hears : (age : ℕ) (tag : Ballot) (question : Question) (tos : List ℕ) (waiting : List Message) → waiting ≡ questions_to age tag question tos → IsHeardOut (new_exchange question tag tos) waiting
-asked_hears age tag question tos waiting are = record {
+asked_hears : (age : ℕ) (tag : Ballot) (question : Question) (tos : List ℕ) (since : ℕ) (waiting : List Message) → waiting ≡ questions_to age tag question tos → IsHeardOut (new_exchange question tag tos since) waiting
+asked_hears age tag question tos since waiting are = record {
   tellers = asked_tellers tos;
   silent = λ up place one at none. waits (message.Request (question_to age tag question one.acceptor))
       (subst (λ (l : List Message). Contains l (message.Request (question_to age tag question one.acceptor))) (sym are) (asked_at (λ (to : ℕ). message.Request (question_to age tag question to)) tos place one at)) refl;
@@ -226,9 +226,9 @@ asked_hears age tag question tos waiting are = record {
 
 -- its queue was empty before
 sent_hears : {S V : Type 0} (old : View S V) (flow : FlowView) (age : ℕ) (tag : Ballot) (question : Question) (tos : List ℕ) → IsSound old → old.council.exchange ≡ None → calls.Sends old.flow exchange_place (questions_to age tag question tos) flow
-    → IsHeardOut (new_exchange question tag tos) (queue_at flow exchange_place).messages
+    → IsHeardOut (new_exchange question tag tos (length old.marks)) (queue_at flow exchange_place).messages
 sent_hears old flow age tag question tos sound none sends =
-    asked_hears age tag question tos (queue_at flow exchange_place).messages (sends.own ∙ ap (λ (l : List Message). l ++ questions_to age tag question tos) (none_waiting old sound none))
+    asked_hears age tag question tos (length old.marks) (queue_at flow exchange_place).messages (sends.own ∙ ap (λ (l : List Message). l ++ questions_to age tag question tos) (none_waiting old sound none))
 
 ask_answers : {S V : Type 0} (m : Meaning S V) (old new : View S V) (question : Question) → IsSound old → StepAskAll m old question new → IsAnswering old → IsAnswering new
 ask_answers {S} {V} m old new question sound by was = by_case by.asks

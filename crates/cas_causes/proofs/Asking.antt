@@ -16,7 +16,7 @@ use Rattle.cas_record.specs.declared.operator.Asked.TheVariants as asked
 use Rattle.cas_record.specs.declared.operator.OpAnswer.{OpAnswer}
 use Rattle.cas_record.specs.declared.operator.OpAnswer.TheVariants as op
 use Rattle.cas_cluster.specs.Collection.{CollectionView, tomb_of}
-use Rattle.cas_cluster.specs.Council.{MemberPlace, ListingView, Question, Probe, NextKeys, NewAges, Removal, ExchangeView, OrderView, PlanView, Council, with_listing, without_partial, stepped, telling, told_so, hushed, silent_order, broken_off, crashed_in}
+use Rattle.cas_cluster.specs.Council.{MemberPlace, ListingView, Question, Probe, NextKeys, NewAges, Removal, ExchangeView, OrderView, PlanView, Council, with_listing, without_partial, stepped, telling, told_so, broken_off, crashed_in}
 use Rattle.cas_cluster.specs.Course.{Course, course_of, entries_in, entering, next_era, IsUnderWay, IsCourse, not_yet, entered}
 use Rattle.cas_cluster.specs.Safe.{IsSafe}
 use Rattle.cas_cluster.specs.Step as step
@@ -28,7 +28,7 @@ use Rattle.cas_cluster.specs.StepCouncil.{IsProbeOf, everyone}
 use Rattle.cas_cluster.specs.StepDesks.{Crashes, EntersEra, FailsToEnter, Renews, FailsToRenew}
 use Rattle.cas_cluster.specs.StepPlans as plans
 use Rattle.cas_cluster.specs.StepStops as stops
-use Rattle.cas_cluster.specs.StepStops.{LeavesRound, GoesDown, closed_by, closed_by_crash, broken_off_view}
+use Rattle.cas_cluster.specs.StepStops.{GoesDown, closed_by, closed_by_crash}
 use Rattle.cas_cluster.specs.View.{Meaning, View, era_in, era_at}
 use Rattle.cas_cluster.proofs.Courses.{course, era_set, era_kept, leads}
 use Rattle.cas_cluster.proofs.CourseSteps.{welcome_course, enters_course}
@@ -188,7 +188,7 @@ ask_asked {S} {V} m old new question same by was = by_case by.asks
     by_case (council.asks now tag flow up room tagged is_now sends view) = record {
       changes = λ plan is. plans_then tag plan (sym (ap (λ (w : View S V). w.council.plan) view) ∙ is);
       asks = λ exchange key is_open asks.
-          let it : council.new_exchange question tag (council.asked_by old question) ≡ exchange = some_is (sym (ap (λ (w : View S V). w.council.exchange) view) ∙ is_open) in
+          let it : council.new_exchange question tag (council.asked_by old question) (length old.marks) ≡ exchange = some_is (sym (ap (λ (w : View S V). w.council.exchange) view) ∙ is_open) in
           let question_is : question ≡ Probe key = ap (λ (e : ExchangeView). e.question) it ∙ asks in
           (record { order = by.may.order; is_open = ap (λ (w : View S V). w.council.order) view ∙ by.may.is_open; is_for = is_for_probe key question_is }, ap (λ (e : ExchangeView). e.members) (sym it) ∙ probe_members question key question_is ∙ sym same);
     }
@@ -266,9 +266,6 @@ tell_asked {S} {V} old new told by was = by_case by
     by_case (council.finishes order is_open of view) = asked_none old new (λ p is. absurd (cc (sym (ap (λ (w : View S V). w.council.plan) view) ∙ is))) (ap (λ (w : View S V). w.council.exchange) view) was
 
 -- ---- changes of membership
-goes_hushed : (council : Council) (plan : Option PlanView) (used : List ℕ) → GoesOn (record council { plan = plan; used = used }) (record (hushed council) { plan = plan; used = used })
-goes_hushed council plan used = record { exchange = λ now is. (now, is, refl, refl); order = λ before is. (silent_order before, ap (option_map silent_order) is, refl); plan = λ now is. (now, is, refl) }
-
 planned_change : (era : Era) (used : List ℕ) (of : Asked) {planned : Result Progress PlanFault} → plans.IsPlanned era used of planned → is_change of ≡ true
 planned_change era used of (plans.joins id is planned_is) = ap is_change is
 planned_change era used of (plans.leaves id is planned_is) = ap is_change is

@@ -1,7 +1,7 @@
 -- Who confirmed an acknowledgment was a member of its era, and a proposer is marked last in the era in which it works.
 use Rattle.std.proofs.Common.{◌≡◌, ◌≤◌, ◌<◌, ℕ, suc, Bool, true, false, List, [], ◌∷◌, Option, None, Some, reverse, refl, sym, ap, subst, ◌∙◌, inl, inr, arith}
 use Rattle.std.specs.Prelude.{◌⊎◌, ◌==◌, ◌||◌, if◌then◌else◌}
-use Rattle.cas_base.proofs.Bools.{if_true, or_left, or_right}
+use Rattle.cas_base.proofs.Bools.{or_left, or_right}
 use Rattle.cas_ballot.specs.declared.ballot.Ballot.{Ballot}
 use Rattle.cas_ballot.specs.Members.{has_member}
 use Rattle.cas_ballot.proofs.MemberLemmas.{has-members_where}
@@ -115,12 +115,6 @@ none_lower cluster older proposer era before lawful may stands = elim (le_or_lt 
       let entered_it = enter_law cluster lawful may.entered.at in
       absurd (may.once (marked_before cluster older proposer before era lawful (entered_of_mark cluster older lawful stands) (omega (arith, entered_it.next)) (omega (arith, high))))
 ]
-
-newest_marked : (proposer p era : ℕ) (older : List Mark) → p ≡ proposer → era_marked proposer (EraEntered p era ∷ older) ≡ era
-newest_marked proposer p era older same = if_true (p == proposer) era (era_marked proposer older) (nat_is_it same)
-  where
-    nat_is_it : p ≡ proposer → (p == proposer) ≡ true
-    nat_is_it e = grind (arith, e)
 
 -- so what was marked last is the greatest
 greatest_marked : (cluster : Cluster) (log : List Happening) (proposer era : ℕ) → Lawful cluster log → Stands (EraEntered proposer era) (marks_of log) → era ≤ era_marked proposer (marks_of log)

@@ -16,7 +16,7 @@ use Rattle.cas_record.specs.declared.operator.Asked.{Asked}
 use Rattle.cas_record.specs.declared.operator.OpAnswer.{OpAnswer}
 use Rattle.cas_cluster.specs.Council.{Question}
 use Rattle.cas_cluster.specs.Step as step
-use Rattle.cas_cluster.specs.Step.{Event, Step, StepBegin, StepTurn, StepRefuseTurn, StepPropose, StepCount, StepEnd, StepStray, StepCrashAcceptor, StepRestartAcceptor, StepRestartProposer}
+use Rattle.cas_cluster.specs.Step.{StepBegin, StepTurn, StepPropose, StepCount, StepStray, StepRestartAcceptor, StepRestartProposer}
 use Rattle.cas_cluster.specs.StepStops as stops
 use Rattle.cas_cluster.specs.StepStops.{OpenCallAt, closed_by, closed_by_crash, LeavesRound, GoesDown}
 use Rattle.cas_cluster.specs.StepPlans as plans

@@ -3,6 +3,7 @@ pub mod Asking
 pub mod Collects
 pub mod Coming
 pub mod Confirmed
+pub mod Current
 pub mod Ends
 pub mod Hearing
 pub mod Marks
@@ -11,4 +12,8 @@ pub mod Queues
 pub mod Tellers
 pub mod Tellings
 pub mod Told
+pub mod TooOld
+pub mod Touched
+pub mod Unaged
 pub mod Undisturbed
+pub mod Vaults

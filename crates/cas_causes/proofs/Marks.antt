@@ -24,18 +24,17 @@ use Rattle.cas_cluster.specs.Acceptors.{votes_of}
 use Rattle.cas_cluster.specs.Council.{Council, ExchangeView, OrderView, PlanView, silent_order, told_so as so}
 use Rattle.cas_cluster.specs.Safe.{IsSafe}
 use Rattle.cas_cluster.specs.Step as step
-use Rattle.cas_cluster.specs.Step.{Event, Step, StepBegin, StepTurn, StepPropose, StepCount, StepEnd, StepStray, StepCrashAcceptor, StepRestartAcceptor, StepRestartProposer}
+use Rattle.cas_cluster.specs.Step.{Event, Step, StepBegin, StepEnd, StepCrashAcceptor, StepRestartAcceptor, StepRestartProposer}
 use Rattle.cas_cluster.specs.StepCalls as calls
 use Rattle.cas_cluster.specs.StepCollect as collect
-use Rattle.cas_cluster.specs.StepCollect.{CollectingAt, StepBeginCollect, StepReadHeld, StepCountCollect, StepEndCollect, StepGatherRound, StepRenew, StepAskCollect, StepGatherCollect, StepMakeFloor, keep_always}
+use Rattle.cas_cluster.specs.StepCollect.{CollectingAt, keep_always}
 use Rattle.cas_cluster.specs.StepCouncil as council
-use Rattle.cas_cluster.specs.StepCouncil.{StepOrder, StepTell, StepAskAll, StepTurnExchange, StepRefuseTurnExchange, StepGather, StepRefuseKey, harm_marks}
+use Rattle.cas_cluster.specs.StepCouncil.{StepTell, harm_marks}
 use Rattle.cas_cluster.specs.StepFrames as frames
-use Rattle.cas_cluster.specs.StepFrames.{harms_marked, votes_marked}
+use Rattle.cas_cluster.specs.StepFrames.{harms_marked}
 use Rattle.cas_cluster.specs.StepPlans as plans
-use Rattle.cas_cluster.specs.StepPlans.{StepOpenPlan, StepEnterEra}
 use Rattle.cas_cluster.specs.StepStops as stops
-use Rattle.cas_cluster.specs.StepStops.{OpenCallAt, LeavesRound, GoesDown, StepCrashProposer}
+use Rattle.cas_cluster.specs.StepStops.{LeavesRound, GoesDown}
 use Rattle.cas_cluster.specs.View.{Meaning, View, CallView, CallerView}
 use Rattle.cas_cluster.proofs.SafeParts.{low_at}
 use Rattle.cas_causes.specs.Tellings.{IsPassing, IsPassingBy}

@@ -130,13 +130,13 @@ silent_before members reply told set are place one at none = by_place (position 
     ]
 
 -- what is told then was told before, or is the reply's
-pub told_before : (reply : Reply) (told : List Answered) (place : ℕ) (one : Answered) → IsAt (hears reply told) place one → IsAt told place one ⊎ (one.told ≡ Some reply.tell)
+pub told_before : (reply : Reply) (told : List Answered) (place : ℕ) (one : Answered) → IsAt (hears reply told) place one → IsAt told place one ⊎ ((one.acceptor ≡ reply.from) × (one.told ≡ Some reply.tell))
 told_before reply told place one at = by_place (position (awaits reply.from) told) at
   where
-    by_place : (spot : Option ℕ) → IsAt (put reply told spot) place one → IsAt told place one ⊎ (one.told ≡ Some reply.tell)
+    by_place : (spot : Option ℕ) → IsAt (put reply told spot) place one → IsAt told place one ⊎ ((one.acceptor ≡ reply.from) × (one.told ≡ Some reply.tell))
     by_place None there = inl there
     by_place (Some spot) there = elim (but_set told spot (record { acceptor = reply.from; told = Some reply.tell }) place one there) [
-      | inl now ↦ inr (ap (λ (a : Answered). a.told) now.1)
+      | inl now ↦ inr (ap (λ (a : Answered). a.acceptor) now.1, ap (λ (a : Answered). a.told) now.1)
       | inr other ↦ inl other.1
     ]
 

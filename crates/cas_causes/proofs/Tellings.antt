@@ -16,7 +16,7 @@ use Rattle.cas_cluster.specs.Safe.{IsSafe}
 use Rattle.cas_cluster.specs.SafeLaws.{HaveAllEntered, HaveEnteredIts}
 use Rattle.cas_cluster.specs.Step.{Event, Step}
 use Rattle.cas_cluster.specs.StepCouncil as council
-use Rattle.cas_cluster.specs.StepCouncil.{StepTell, IsCollectedBy, IsFinishedBy, SaysTheSame, told_marks}
+use Rattle.cas_cluster.specs.StepCouncil.{StepTell, SaysTheSame, told_marks}
 use Rattle.cas_cluster.specs.View.{Meaning, View}
 use Rattle.cas_cluster.proofs.CollectLaws.{collected_floors}
 use Rattle.cas_cluster.proofs.Finishing.{finished_have_entered}

@@ -32,7 +32,6 @@ use Rattle.cas_slot.specs.declared.message.Tell.{Tell}
 use Rattle.cas_vault.specs.Vault.{kept_of}
 use Rattle.cas_cluster.specs.Safe.{IsSafe, IsSound}
 use Rattle.cas_cluster.specs.Step as step
-use Rattle.cas_cluster.specs.Step.{OpenRoundAt}
 use Rattle.cas_cluster.specs.StepStops.{OpenCallAt}
 use Rattle.cas_cluster.specs.StepCalls as calls
 use Rattle.cas_cluster.specs.StepCalls.{refusal_by, cause_by, prepares_to, accepts_to}

@@ -2,8 +2,10 @@ pub mod Answering
 pub mod Causes
 pub mod Collects
 pub mod Confirmed
+pub mod Current
 pub mod Probed
 pub mod Rounds
 pub mod Tellings
 pub mod Told
+pub mod Unaged
 pub mod Undisturbed

@@ -8,9 +8,11 @@ ghost use Rattle.cas_causes.specs.Answering.{ClustersAnswer, SilentAreHarmed};
 ghost use Rattle.cas_causes.specs.Causes.{StepsPassOrBring, RoundsBeginAfresh, PreparesEndByReplies, AcceptsEndByReplies};
 ghost use Rattle.cas_causes.specs.Collects.{CollectionsHaveCauses, CollectionsBeginToAsk, UndisturbedCollectionsAreDone};
 ghost use Rattle.cas_causes.specs.Confirmed.{ErasAreMarked, ConfirmersAreAsked, ProbesAskAll, ConfirmersAreProbed};
+ghost use Rattle.cas_causes.specs.Current.{ProbesAreCurrent};
 ghost use Rattle.cas_causes.specs.Probed.{ProbesTellSo};
 ghost use Rattle.cas_causes.specs.Tellings.{StepsTellTruly};
 ghost use Rattle.cas_causes.specs.Told.{AnswersHaveCauses, WhatIsMetIsAbove};
+ghost use Rattle.cas_causes.specs.Unaged.{ProbesAreUnaged, ProbesAreToldSo};
 ghost use Rattle.cas_causes.specs.Undisturbed.{RoundsBeginToAsk, UndisturbedPreparesPropose, UndisturbedAcceptsAreDone, UndisturbedRoundsAreDone};
 
 use cas_disk::Disk;
@@ -140,4 +142,23 @@ pub fn probes_ask_all<S: Shelf, V: Disk>()
 /// the era that proposer 0 was marked last as having entered.
 pub fn confirmers_are_probed<S: Shelf, V: Disk>()
     ensures { ConfirmersAreProbed (meaning S.contents S.tells S.may_leave S.fault_count V.tells V.may_leave V.fault_count) }
+{}
+
+/// Where shelves and disks tell what they keep, no member finds a probe too old: no acceptor asks proposer 0 for more than the age that its
+/// vault keeps. So it is of a cluster that opens with no floors, or whose acceptors ask for no age, and whatever is called on it.
+pub fn probes_are_unaged<S: Shelf, V: Disk>()
+    ensures { ProbesAreUnaged (meaning S.contents S.tells S.may_leave S.fault_count V.tells V.may_leave V.fault_count) }
+{}
+
+/// So whoever tells anything to a probe tells what it keeps of the key; and what it accepted of it is a state that was proposed, or that of the
+/// floor with which the key's history opened.
+pub fn probes_are_told_so<S: Shelf, V: Disk>()
+    ensures { ProbesAreToldSo (meaning S.contents S.tells S.may_leave S.fault_count V.tells V.may_leave V.fault_count) }
+{}
+
+/// Where shelves and disks tell what they keep, whoever tells a probe what it keeps of the key tells no less than it had confirmed: what it
+/// accepted is at or above each ballot of the key that was acknowledged when the members were asked, and that it had confirmed, until a floor of
+/// the key is.
+pub fn probes_are_current<S: Shelf, V: Disk>()
+    ensures { ProbesAreCurrent (meaning S.contents S.tells S.may_leave S.fault_count V.tells V.may_leave V.fault_count) }
 {}
