@@ -25,7 +25,7 @@ use Rattle.cas_cluster.specs.Course.{later_of}
 use Rattle.cas_cluster.specs.Safe.{IsSafe}
 use Rattle.cas_cluster.specs.Step.{StepBegin, StepPropose, StepCount, StepEnd}
 use Rattle.cas_cluster.specs.StepCalls as calls
-use Rattle.cas_cluster.specs.StepCalls.{Opens, IsNoBeginning, BeginsRound, Rescans, RefusesCall, ProposesOrEnds, CountsOrEnds, EndsCall, refusal_by, cause_by, proposing, over, with_call, rescanned_by, one_more}
+use Rattle.cas_cluster.specs.StepCalls.{Opens, IsNoBeginning, BeginsRound, Rescans, RefusesCall, ProposesOrEnds, CountsOrEnds, EndsCall, refusal_by, cause_by, proposing, over, rescanned_by, one_more}
 use Rattle.cas_cluster.specs.StepDesks.{MayHaveDrawn, EndsRound, LosesMemory}
 use Rattle.cas_cluster.specs.View.{DiskMeaning, Meaning, View, CallView, CallerView, IsAt}
 use Rattle.cas_cluster.proofs.Places.{some_is, contains_older}

@@ -1,6 +1,6 @@
 -- What the operator's calls leave true of a cluster that nobody stops, but for changes of membership and collections.
 use Rattle.std.proofs.Common.{◌≡◌, ◌<◌, ℕ, Bool, true, false, List, [], Option, None, Some, refl, sym, ap, subst, ◌∙◌, inl, inr}
-use Rattle.std.specs.Prelude.{not, option_map, unwrap_or, slice_get, slice_set, Contains, if◌then◌else◌}
+use Rattle.std.specs.Prelude.{not, length, option_map, unwrap_or, slice_get, slice_set, Contains, if◌then◌else◌}
 use Rattle.cas_base.proofs.Bools.{and_left}
 use Rattle.cas_ballot.specs.Members.{has_member}
 use Rattle.cas_ballot.specs.declared.ballot.Ballot.{Ballot}
@@ -27,7 +27,7 @@ use Rattle.cas_cluster.specs.Course.{later_of}
 use Rattle.cas_cluster.specs.Listings.{counted, missing, why_short, greatest_age}
 use Rattle.cas_cluster.specs.Safe.{IsSafe, IsAskingSafe, IsExchangeSafe}
 use Rattle.cas_cluster.specs.StepCouncil as council
-use Rattle.cas_cluster.specs.StepCouncil.{StepOrder, StepTell, StepAskAll, StepTurnExchange, StepRefuseTurnExchange, StepGather, SaysTheSame, finished, told_over, told_marks, told_view, everyone, asked_by, new_exchange, plan_asked, listing_begun, listing_for, HasTag, WhereDrawn, harmed_exchange, harms, hears}
+use Rattle.cas_cluster.specs.StepCouncil.{StepOrder, StepTell, StepAskAll, StepTurnExchange, StepRefuseTurnExchange, StepGather, SaysTheSame, finished, told_over, told_marks, everyone, asked_by, new_exchange, plan_asked, listing_begun, listing_for, HasTag, WhereDrawn, harmed_exchange, harms, hears}
 use Rattle.cas_cluster.specs.StepDesks.{FailsToDraw}
 use Rattle.cas_cluster.specs.View.{DiskMeaning, Meaning, View, CallerView, era_at}
 use Rattle.cas_cluster.proofs.Places.{some_is, newest_or_older, contains_none, contains_at}
@@ -107,7 +107,7 @@ ask_blamed {S} {V} m old question new is by = by_case by.asks
     by_case : council.AsksAll m old question by.desk new → IsBlamed m new
     by_case (council.asks now tag flow up room tags now_is sends view) =
         subst (IsBlamed m) (sym view) (on_council m (desk_goes_on m is 0 by.desk now by.may.at_desk (tag_low m.disks _ by.desk now tag tags.has_tag) (ap (λ (d : DeskView V). d.down) now_is))
-        (record old.council { exchange = Some (new_exchange question tag (asked_by old question)); plan = plan_asked question tag old.council.plan }) refl
+        (record old.council { exchange = Some (new_exchange question tag (asked_by old question) (length old.marks)); plan = plan_asked question tag old.council.plan }) refl
         (desk_goes_on m is 0 by.desk now by.may.at_desk (tag_low m.disks _ by.desk now tag tags.has_tag) (ap (λ (d : DeskView V). d.down) now_is)).order tt
         (λ era there. is.later era (later_asked question tag old.council.plan era there))
         (λ exchange same acceptor member. is.used 0 acceptor (asked_everyone old question acceptor (subst (λ (e : ExchangeView). has_member e.members acceptor ≡ true) (sym (some_is same)) member))))

@@ -19,7 +19,9 @@ use Rattle.cas_cluster.proofs.Opens.{opening_remembered}
 use Rattle.cas_cluster.proofs.SafeOpens.{opens_are_safe}
 use Rattle.cas_causes.proofs.Answering.{clusters_answer}
 use Rattle.cas_causes.proofs.Asking.{probes_ask_all}
+use Rattle.cas_causes.proofs.Current.{probes_are_current}
 use Rattle.cas_causes.proofs.Probed.{probes_tell_so}
+use Rattle.cas_causes.proofs.TooOld.{probes_are_unaged}
 use Rattle.cas_causes.specs.Tellings.{AreCallersKnown, AreTellingsSo, IsPassingBy, TellsTruly}
 use Rattle.cas_steady.specs.Steady.{AreDesksUp, AreMembersUp, AreUsed, IsBlamed, IsFair, IsSteady, blame_by_call, blame_by_order, blame_by_exchange}
 
@@ -80,5 +82,7 @@ opening_steady m members view is places members_up desks_up = record {
   asking = (probes_ask_all m).opening members view is;
   remembered = λ shelves disks. opening_remembered m shelves disks members view is;
   probing = λ shelves disks. (probes_tell_so m).opening members view is;
+  unaged = λ shelves disks. (probes_are_unaged m).opening shelves members view is;
+  current = λ shelves disks. (probes_are_current m).opening members view is;
   telling = λ shelves disks. opening_truly m members view is;
 }

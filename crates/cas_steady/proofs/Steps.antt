@@ -8,7 +8,9 @@ use Rattle.cas_cluster.proofs.SafeSteps.{steps_are_safe}
 use Rattle.cas_cluster.proofs.ViewLaws.{steps}
 use Rattle.cas_causes.proofs.Answering.{clusters_answer}
 use Rattle.cas_causes.proofs.Asking.{probes_ask_all}
+use Rattle.cas_causes.proofs.Current.{probes_are_current}
 use Rattle.cas_causes.proofs.Probed.{probes_tell_so}
+use Rattle.cas_causes.proofs.TooOld.{probes_are_unaged}
 use Rattle.cas_causes.proofs.Tellings.{steps_tell_truly}
 use Rattle.cas_record.specs.declared.operator.OpAnswer.TheVariants as told
 use Rattle.cas_record.specs.declared.answer.Answer.TheVariants as answer
@@ -63,5 +65,7 @@ steady_then m old event new none is by = record {
   asking = (probes_ask_all m).steps old event new (λ proposer restarts. absurd (cc (none, ap is_stop restarts))) is.safe is.asking by;
   remembered = λ shelves disks. steps m shelves disks old event new (is.remembered shelves disks) by;
   probing = λ shelves disks. (probes_tell_so m).steps shelves disks old event new is.safe (is.remembered shelves disks) (is.probing shelves disks) by;
+  unaged = λ shelves disks. (probes_are_unaged m).steps shelves disks old event new is.safe (is.remembered shelves disks) (is.unaged shelves disks) by;
+  current = λ shelves disks. (probes_are_current m).steps shelves disks old event new is.safe (is.remembered shelves disks) (is.current shelves disks) by;
   telling = λ shelves disks. steps_tell_truly m old event new is.safe (is.remembered shelves disks) by (is.telling shelves disks);
 }

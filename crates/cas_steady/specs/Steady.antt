@@ -16,8 +16,10 @@ use Rattle.cas_cluster.specs.Step.{Event, CrashAcceptor, RestartAcceptor, CrashP
 use Rattle.cas_cluster.specs.View.{Meaning, View, CallView, CallerView, IsAt, era_in}
 use Rattle.cas_causes.specs.Answering.{IsAnswering}
 use Rattle.cas_causes.specs.Confirmed.{IsAskingAll}
+use Rattle.cas_causes.specs.Current.{AreProbesCurrent}
 use Rattle.cas_causes.specs.Probed.{IsProbing}
 use Rattle.cas_causes.specs.Tellings.{TellsTruly}
+use Rattle.cas_causes.specs.Unaged.{IsUnaged}
 use Rattle.cas_steady.specs.Blame.{Blame, Nobody, VaultOf, blame_by_answer, blame_by_op, blame_by, IsDeserved}
 
 -- ---- stops
@@ -100,6 +102,8 @@ pub record IsSteady {S V : Type 0} (m : Meaning S V) (view : View S V) : Type 0 
   pub asking : IsAskingAll view
   pub remembered : m.shelves.tells → m.disks.tells → IsRemembered m view
   pub probing : m.shelves.tells → m.disks.tells → IsProbing view
+  pub unaged : m.shelves.tells → m.disks.tells → IsUnaged m view
+  pub current : m.shelves.tells → m.disks.tells → AreProbesCurrent view
   pub telling : m.shelves.tells → m.disks.tells → TellsTruly view
 
 -- ---- the beginning
