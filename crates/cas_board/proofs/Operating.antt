@@ -1,6 +1,7 @@
 -- What caller 0's pass tells of a call of the operator, by what its holds did.
 use Rattle.std.proofs.Common.{◌≡◌, ◌≤◌, ℕ, ◌+◌, length, true, false, inl, inr, List, [], ◌++◌, refl, sym, ap, subst, ◌∙◌, append_assoc, append-nil, length-append, arith}
-use Rattle.std.specs.Prelude.{◌||◌, Result, Ok, Err, IfErr, OnOk}
+use Rattle.std.specs.Prelude.{◌||◌, Result, Ok, Err, IfErr, OnOk, take, reverse, Contains}
+use Rattle.std.proofs.Math.Seq.{take-append_seam}
 use Rattle.std.proofs.lemmas.List.Elements.{All-append, All-nil, All-weaker}
 use Rattle.cas_record.specs.declared.answer.Answer.{Answer}
 use Rattle.cas_record.specs.declared.mark.Mark.{Mark}
@@ -10,13 +11,14 @@ use Rattle.cas_record.specs.declared.operator.OpAnswer.TheVariants.{Stopped}
 use Rattle.cas_record.specs.declared.operator.OpAnswer.TheVariants as op
 use Rattle.cas_cluster.specs.StepCouncil.{told_marks, everyone}
 use Rattle.cas_cluster.specs.View.{View, era_at}
-use Rattle.cas_turn.specs.Seen.{HasSeen}
+use Rattle.cas_turn.specs.Seen.{Begins, HasSeen}
 use Rattle.cas_turn.specs.Sitting.{Sitting, TurnId}
 use Rattle.cas_hold.specs.Deeds.{IsRefusal}
 use Rattle.cas_hold.specs.Kept.{Makes, IsHeldBy}
 use Rattle.cas_hold.specs.Mine.{mine, losses, GoesOn}
 use Rattle.cas_hold.specs.Open.{IsFree}
-use Rattle.cas_hold.specs.Orders.{HasHarms, MarksHarms, OperatesIn, IsToldIn, IsProbeAnswer, IsSilentAtMost, stops_probe}
+use Rattle.cas_hold.specs.Orders.{HasHarms, MarksHarms, OperatesIn, IsToldIn, IsProbeAnswer, IsSilentAtMost, IsTrueProbe, WasAskedBehind, stops_probe}
+use Rattle.cas_causes.proofs.Current.{among_fewer}
 use Rattle.cas_ballot.specs.Members.{members_where, has_member, IsMemberSet}
 use Rattle.cas_ballot.proofs.MemberLemmas.{IsMemberSet-members_where}
 use Rattle.cas_hold.specs.Owners.{owner_of}
@@ -188,6 +190,34 @@ pub silent_then : {A : Type 0} (asked : Asked) (such : Mark → Type 0) (most ha
 silent_then asked such most harms a b c d told first has own b_number c_number strays silent last =
     let one = first harms has in
     silent_since one.0 harms a d told (omega (arith, one.2, own_grown b c [] b_number strays, own_grown c d (last.marks ++ told_marks asked told) c_number last.front)) (silent one.0 (subst (HasHarms one.0) (sym own) one.1))
+
+-- ---- what a probe tells
+-- the members were asked behind fewer marks, too
+pub asked_earlier : (few many : ℕ) {own : List ℕ} → few ≤ many → WasAskedBehind many own → WasAskedBehind few own
+asked_earlier few many low has = record { council = has.council; is = has.is; exchange = has.exchange; is_open = has.is_open; behind = omega (arith, low, has.behind) }
+
+-- what a pass had seen is no longer than the record
+pub seen_of : {S V A : Type 0} (before after : View S V) (old new : Sitting A Mark) → WasHeld 0 before after old new → (marks : List Mark) → before.marks ≡ marks → length old.seen ≤ length marks
+seen_of before after old new was marks same = omega (arith, length-append old.seen was.has.behind, ap (λ (l : List Mark). length l) was.has.whole, ap (λ (l : List Mark). length l) same)
+
+-- the marks with which a front began are the first ones of any later front
+pub begun_in : (old mid new : List Mark) {x : Mark} → Begins old mid → Begins mid new → Contains old x → Contains (take (length old) new) x
+begun_in old mid new {x} first second there =
+    let whole : old ++ (first.behind ++ second.behind) ≡ new = sym (append_assoc old first.behind second.behind) ∙ ap (λ (l : List Mark). l ++ second.behind) first.whole ∙ second.whole in
+    subst (λ (l : List Mark). Contains l x) (sym (take-append_seam old (first.behind ++ second.behind)) ∙ ap (λ (l : List Mark). take (length old) l) whole) there
+
+-- what is true by more marks before a probe is so by fewer
+pub true_among : (more fewer all : List Mark) (told : OpAnswer) → ((x : Mark) → Contains fewer x → Contains more x) → IsTrueProbe more all told → IsTrueProbe fewer all told
+true_among more fewer all (op.Probed key found) each is = (is.0, λ place one t at tells. among_fewer (reverse all) more fewer key one.acceptor t each (is.1 place one t at tells), is.2)
+true_among more fewer all (op.Joined id era rescanned) each is = tt
+true_among more fewer all (op.Left id era rescanned) each is = tt
+true_among more fewer all (op.Refused fault) each is = tt
+true_among more fewer all (op.Busy era) each is = tt
+true_among more fewer all (op.Collected key ballot removed kept) each is = tt
+true_among more fewer all (op.NotEmpty version) each is = tt
+true_among more fewer all (op.Absent acceptor) each is = tt
+true_among more fewer all (op.ProposerDown proposer) each is = tt
+true_among more fewer all (op.Stopped why) each is = tt
 
 -- ---- marks of which less is known
 module _ {A : Type 0} (such less : Mark → Type 0) (weaker : (mark : Mark) → such mark → less mark) where

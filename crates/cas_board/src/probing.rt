@@ -1,7 +1,8 @@
 //! A probe of a key, from the operator's call to its answer.
 
-ghost use Rattle.std.specs.Prelude.{◌≡◌, ◌≤◌, ℕ, List, [], length, IfOk, IfErr, OnOk, reverse};
+ghost use Rattle.std.specs.Prelude.{◌≡◌, ◌≤◌, ℕ, List, [], length, take, IfOk, IfErr, OnOk, reverse};
 ghost use Rattle.cas_record.specs.Legal.{IsLegal};
+ghost use Rattle.cas_record.specs.declared.mark.Mark.{Mark};
 ghost use Rattle.cas_board.specs.Changes.{IsCounted};
 ghost use Rattle.cas_board.specs.Operations.{HasMarkedHarms, HasOperated, IsSilentSince, Operates, WasToldLast};
 ghost use Rattle.cas_board.specs.Passes.{IsPassOf};
@@ -9,7 +10,7 @@ ghost use Rattle.cas_ballot.specs.Members.{IsMemberSet};
 ghost use Rattle.cas_hold.specs.Deeds.{IsRefusal, harm_by};
 ghost use Rattle.cas_hold.specs.Mine.{GoesOn};
 ghost use Rattle.cas_hold.specs.Open.{IsFree};
-ghost use Rattle.cas_hold.specs.Orders.{HasHarms, HasOrder, HasProbe, IsAskingHarm, IsProbeAnswer, IsSilentAtMost, IsTrueProbe};
+ghost use Rattle.cas_hold.specs.Orders.{HasHarms, HasOrder, HasProbe, IsAskingHarm, IsProbeAnswer, IsSilentAtMost, IsTrueProbe, WasAskedBehind};
 
 use crate::board::{Board, Pass};
 use crate::fates::Holds;
@@ -25,10 +26,11 @@ impl<D: Disk> Board<D> {
     /// Asks each member what it keeps for the key, as a call of the operator, and gives what the operator is told. The pass is caller 0's.
     /// What becomes of each frame the fate says, and it is asked while this call does not hold the turn.
     ///
-    /// No more members are found to have told nothing than marks of harmed frames were made. Where disks tell what they keep, what each tells
-    /// of the key is so in the record: a state that was proposed at that ballot, or the floor with which the key's history opened, or none; or
-    /// it tells that the request is too old. And each who confirmed what was acknowledged in the era that the operator's proposer was marked
-    /// last as having entered is among those asked.
+    /// No more members are found to have told nothing than marks of harmed frames were made. Where disks tell what they keep, each other one
+    /// tells what it keeps of the key, and that is so in the record: a state that was proposed at that ballot, or the floor with which the key's
+    /// history opened, or none. It is at or above each ballot of the key that was acknowledged in the front before the call, and that the member
+    /// had confirmed, unless a floor of the key is. And each who confirmed what was acknowledged in the era that the operator's proposer was
+    /// marked last as having entered is among those asked.
     ///
     /// A probe is answered with [`OpAnswer::Probed`], which is not marked, or with [`OpAnswer::Stopped`], which is marked last in the front
     /// that the pass has seen then. One that is refused with [`Answer::RecordFull`], or with [`Answer::NoMemory`], may not have been begun:
@@ -48,7 +50,7 @@ impl<D: Disk> Board<D> {
         ensures operates { Operates (Asked.Probe key.now) IsAskingHarm (F.harm_count fate.old) (F.harm_count fate.new) pass.old pass.new result }
         ensures answer { (members : List ℕ) × IsMemberSet members × IsProbeAnswer key.now members result }
         ensures silent { IsSilentSince 0 pass.old pass.new result }
-        ensures truly { D.tells → IsTrueProbe (reverse pass.new.seen) result }
+        ensures truly { D.tells → IsTrueProbe pass.old.seen pass.new.seen result }
         ensures legal { D.tells → IsLegal (reverse pass.new.seen) }
     {
         match self.order_probe_once(rt, pass, key) {
@@ -73,7 +75,7 @@ impl<D: Disk> Board<D> {
         ensures told { (lost : ℕ) × IsCounted lost (F.harm_count fate.old) (F.harm_count fate.new) × WasToldLast (Asked.Probe order.key) IsAskingHarm lost pass.old pass.new result }
         ensures answer { (members : List ℕ) × IsMemberSet members × IsProbeAnswer order.key members result }
         ensures silent { IsSilentSince 0 pass.old pass.new result }
-        ensures truly { D.tells → IsTrueProbe (reverse pass.new.seen) result }
+        ensures truly { D.tells → IsTrueProbe pass.old.seen pass.new.seen result }
         ensures legal { D.tells → IsLegal (reverse pass.new.seen) }
     {
         match self.ask_probe_once(rt, pass, order) {
@@ -97,7 +99,7 @@ impl<D: Disk> Board<D> {
         ensures told { (lost : ℕ) × IsCounted lost (F.harm_count fate.old) (F.harm_count fate.new) × WasToldLast (Asked.Probe first.key) IsAskingHarm lost pass.old pass.new result }
         ensures answer { (members : List ℕ) → HasProbe first.key members pass.old.own → IsProbeAnswer first.key members result }
         ensures silent { (harms : ℕ) → HasHarms harms pass.old.own → IsSilentSince harms pass.old pass.new result }
-        ensures truly { D.tells → IsTrueProbe (reverse pass.new.seen) result }
+        ensures truly { D.tells → (many : ℕ) → WasAskedBehind many pass.old.own → IsTrueProbe (take many pass.new.seen) pass.new.seen result }
         ensures legal { D.tells → IsLegal (reverse pass.new.seen) }
     {
         let mut holds = Holds::new();
@@ -156,8 +158,9 @@ impl<D: Disk> Board<D> {
         ensures told { IfErr result (WasToldLast (Asked.Probe order.key) IsAskingHarm 0 pass.old pass.new) }
         ensures answer { IfErr result (λ told. (members : List ℕ) → IsProbeAnswer order.key members told) }
         ensures harms { OnOk result (HasHarms 0 pass.new.own) }
+        ensures behind { OnOk result (WasAskedBehind (length pass.old.seen) pass.new.own) }
         ensures silent { IfErr result (IsSilentAtMost 0) }
-        ensures truly { D.tells → IfErr result (IsTrueProbe (reverse pass.new.seen)) }
+        ensures truly { D.tells → IfErr result (λ told. (before : List Mark) → IsTrueProbe before pass.new.seen told) }
         ensures legal { D.tells → IsLegal (reverse pass.new.seen) }
     {
         let mut shared = self.turn.hold(rt, pass);
@@ -181,11 +184,12 @@ impl<D: Disk> Board<D> {
         ensures goes_on { OnOk result (HasOperated IsAskingHarm (harm_by verdict) pass.old pass.new) }
         ensures still { OnOk result ((members : List ℕ) → HasProbe probing.key members pass.old.own → HasProbe probing.key members pass.new.own) }
         ensures harms { OnOk result (HasMarkedHarms pass.old pass.new) }
+        ensures behind { OnOk result ((many : ℕ) → WasAskedBehind many pass.old.own → WasAskedBehind many pass.new.own) }
         ensures key { IfOk result (λ next. next.key ≡ probing.key) }
         ensures told { IfErr result (WasToldLast (Asked.Probe probing.key) IsAskingHarm (harm_by verdict) pass.old pass.new) }
         ensures answer { IfErr result (λ told. (members : List ℕ) → HasProbe probing.key members pass.old.own → IsProbeAnswer probing.key members told) }
         ensures silent { IfErr result (λ told. (harms : ℕ) → HasHarms harms pass.old.own → IsSilentAtMost harms told) }
-        ensures truly { D.tells → IfErr result (IsTrueProbe (reverse pass.new.seen)) }
+        ensures truly { D.tells → IfErr result (λ told. (many : ℕ) → WasAskedBehind many pass.old.own → IsTrueProbe (take many pass.new.seen) pass.new.seen told) }
         ensures legal { D.tells → IsLegal (reverse pass.new.seen) }
     {
         let mut shared = self.turn.hold(rt, pass);

@@ -1,5 +1,5 @@
 -- What caller 0's own part tells of what the operator has under way.
-use Rattle.std.proofs.Common.{◌≡◌, ◌≢◌, ℕ, if◌then◌else◌, List, [], ◌∷◌, ◌++◌, length, Option, None, Some, is_some, option_map, slice_get, refl, sym, ap, ap₂, ◌∙◌, append-nil, append_assoc, arith}
+use Rattle.std.proofs.Common.{◌≡◌, ◌≤◌, ◌≢◌, ℕ, if◌then◌else◌, List, [], ◌∷◌, ◌++◌, length, Option, None, Some, is_some, option_map, slice_get, refl, sym, ap, ap₂, ◌∙◌, append-nil, append_assoc, arith}
 use Rattle.cas_record.specs.declared.operator.Asked.{Asked}
 use Rattle.cas_record.specs.declared.operator.Asked.TheVariants as asked
 use Rattle.cas_record.specs.declared.operator.OpAnswer.{OpAnswer}
@@ -10,7 +10,7 @@ use Rattle.cas_cluster.specs.View.{View, CallView, CallerView, IsAt}
 use Rattle.cas_cluster.proofs.Places.{some_is}
 use Rattle.cas_hold.specs.OwnParts.{framed, open_part, caller_part, asked_part, due_part, question_part, asked_of, harms_part, order_part, exchange_part, plan_part, collection_part, council_part, own_part}
 use Rattle.cas_hold.specs.Open.{IsFree}
-use Rattle.cas_hold.specs.Orders.{new_order, HasOrder, HasProbe, HasHarms}
+use Rattle.cas_hold.specs.Orders.{new_order, HasOrder, HasProbe, HasHarms, WasAskedBehind}
 
 -- ---- lists in front of others
 pub append_same : (p q r s : List ℕ) → length p ≡ length q → p ++ r ≡ q ++ s → (p ≡ q) × (r ≡ s)
@@ -58,7 +58,7 @@ order_as_part None = refl
 order_as_part (Some order) = refl
 
 exchange_body : ExchangeView → List ℕ
-exchange_body exchange = harms_part exchange.question exchange.harmed ∷ length (asked_of exchange) ∷ asked_of exchange ++ question_part exchange.question
+exchange_body exchange = exchange.since ∷ harms_part exchange.question exchange.harmed ∷ length (asked_of exchange) ∷ asked_of exchange ++ question_part exchange.question
 
 exchange_as_part : (x : Option ExchangeView) → exchange_part x ≡ part_of 2 (option_map exchange_body x)
 unfolding exchange_body
@@ -172,15 +172,17 @@ pub record IsLikeExchange (open_ : Option ExchangeView) (exchange : ExchangeView
   pub asked : asked_of now ≡ asked_of exchange
   pub question : question_part now.question ≡ question_part exchange.question
   pub harms : harms_part now.question now.harmed ≡ harms_part exchange.question exchange.harmed
+  pub since : now.since ≡ exchange.since
 
 pub exchange_told : (x : Option ExchangeView) (exchange : ExchangeView) → exchange_part x ≡ exchange_part (Some exchange) → IsLikeExchange x exchange
 exchange_told None exchange e = absurd (let h : 9 ≡ 2 = ap kind_of e in omega (arith, h))
 exchange_told (Some now) exchange e =
-    let body : harms_part now.question now.harmed ∷ length (asked_of now) ∷ asked_of now ++ question_part now.question ≡ harms_part exchange.question exchange.harmed ∷ length (asked_of exchange) ∷ asked_of exchange ++ question_part exchange.question = body_same 2 _ _ e in
+    let body : now.since ∷ harms_part now.question now.harmed ∷ length (asked_of now) ∷ asked_of now ++ question_part now.question ≡ exchange.since ∷ harms_part exchange.question exchange.harmed ∷ length (asked_of exchange) ∷ asked_of exchange ++ question_part exchange.question = body_same 2 _ _ e in
+    let since : now.since ≡ exchange.since = cc body in
     let harms : harms_part now.question now.harmed ≡ harms_part exchange.question exchange.harmed = cc body in
     let long : length (asked_of now) ≡ length (asked_of exchange) = cc body in
     let both = append_same (asked_of now) (asked_of exchange) (question_part now.question) (question_part exchange.question) long (cc body) in
-    record { now = now; is_open = refl; asked = both.0; question = both.1; harms = harms }
+    record { now = now; is_open = refl; asked = both.0; question = both.1; harms = harms; since = since }
 
 -- a change of membership for the same, with the same key due
 pub record IsLikePlan (open_ : Option PlanView) (plan : PlanView) : Type 0 where
@@ -320,6 +322,16 @@ is_probed view key members has =
       question = probe_told x.now.question key (x.question ∙ ap question_part has.question);
       asks = x.asked ∙ has.asks;
     }
+
+-- when the members were asked
+pub asked_behind : {S V : Type 0} (view : View S V) (exchange : ExchangeView) (many : ℕ) → ((caller : CallerView) → IsAt view.callers 0 caller → caller.call ≡ None) → view.council.exchange ≡ Some exchange → many ≤ exchange.since → WasAskedBehind many (own_part view 0)
+asked_behind view exchange many none is_open low = record { council = view.council; is = own_is_council view none; exchange = exchange; is_open = is_open; behind = low }
+
+pub behind_is : {S V : Type 0} (view : View S V) (exchange : ExchangeView) (many : ℕ) → view.council.exchange ≡ Some exchange → WasAskedBehind many (own_part view 0) → many ≤ exchange.since
+behind_is view exchange many is_open has =
+    let it = none_beside view has.council has.is in
+    let x = exchange_told view.council.exchange has.exchange (it.like.exchange ∙ ap exchange_part has.is_open) in
+    omega (arith, has.behind, x.since, ap (λ (e : ExchangeView). e.since) (some_is (sym is_open ∙ x.is_open)))
 
 -- those that are harmed
 pub has_harms : {S V : Type 0} (view : View S V) (exchange : ExchangeView) → ((caller : CallerView) → IsAt view.callers 0 caller → caller.call ≡ None) → view.council.exchange ≡ Some exchange → HasHarms (harms_part exchange.question exchange.harmed) (own_part view 0)

@@ -255,6 +255,7 @@ pub record TurnsAsking {S V : Type 0} (most : ℕ) (old new : View S V) (exchang
   pub next : ExchangeView
   pub council : new.council ≡ record old.council { exchange = Some next }
   pub question : next.question ≡ exchange.question
+  pub since : next.since ≡ exchange.since
   pub asked : asked_of next ≡ asked_of exchange
   pub harmed : length next.harmed ≤ length exchange.harmed + length (mine 0 marks)
 
@@ -310,6 +311,7 @@ turns_asking {S} {V} m v old new by = by_case by.turn
       next = council.harmed_exchange by.at.exchange member;
       council = ap (λ (w : View S V). w.council) is ∙ councils;
       question = refl;
+      since = refl;
       asked = refl;
       harmed = harmed_more by.at.exchange member down;
     }
@@ -322,6 +324,7 @@ turns_asking {S} {V} m v old new by = by_case by.turn
       next = by.at.exchange;
       council = ap (λ (w : View S V). w.council) is ∙ same_council;
       question = refl;
+      since = refl;
       asked = refl;
       harmed = omega arith;
     }
@@ -333,6 +336,7 @@ turns_asking {S} {V} m v old new by = by_case by.turn
       next = by.at.exchange;
       council = ap (λ (w : View S V). w.council) is ∙ same_council;
       question = refl;
+      since = refl;
       asked = refl;
       harmed = omega arith;
     }
@@ -345,21 +349,22 @@ turns_asking {S} {V} m v old new by = by_case by.turn
       next = record by.at.exchange { told = hears reply by.at.exchange.told };
       council = ap (λ (w : View S V). w.council) is;
       question = refl;
+      since = refl;
       asked = hears_named reply by.at.exchange.told;
       harmed = omega arith;
     }
 
 -- caller 0's own part stays as it is, where it is no probe
-parts_kept : (c : Council) (next exchange : ExchangeView) → c.exchange ≡ Some exchange → next.question ≡ exchange.question → asked_of next ≡ asked_of exchange → harms_part next.question next.harmed ≡ harms_part exchange.question exchange.harmed → council_part (record c { exchange = Some next }) ≡ council_part c
-parts_kept c next exchange is_open question asks harms =
-    ap (λ (n : ℕ). order_part c.order ++ framed 2 (n ∷ length (asked_of next) ∷ asked_of next ++ question_part next.question) ++ plan_part c.plan ++ collection_part c.collection) harms
-    ∙ ap₂ (λ (q : Question) (l : List ℕ). order_part c.order ++ framed 2 (harms_part exchange.question exchange.harmed ∷ length l ∷ l ++ question_part q) ++ plan_part c.plan ++ collection_part c.collection) question asks
+parts_kept : (c : Council) (next exchange : ExchangeView) → c.exchange ≡ Some exchange → next.question ≡ exchange.question → next.since ≡ exchange.since → asked_of next ≡ asked_of exchange → harms_part next.question next.harmed ≡ harms_part exchange.question exchange.harmed → council_part (record c { exchange = Some next }) ≡ council_part c
+parts_kept c next exchange is_open question since asks harms =
+    ap₂ (λ (s n : ℕ). order_part c.order ++ framed 2 (s ∷ n ∷ length (asked_of next) ∷ asked_of next ++ question_part next.question) ++ plan_part c.plan ++ collection_part c.collection) since harms
+    ∙ ap₂ (λ (q : Question) (l : List ℕ). order_part c.order ++ framed 2 (exchange.since ∷ harms_part exchange.question exchange.harmed ∷ length l ∷ l ++ question_part q) ++ plan_part c.plan ++ collection_part c.collection) question asks
     ∙ ap (λ (o : Option ExchangeView). order_part c.order ++ exchange_part o ++ plan_part c.plan ++ collection_part c.collection) (sym is_open)
 
 pub own_kept : {S V : Type 0} (most : ℕ) (old new : View S V) (exchange : ExchangeView) → old.council.exchange ≡ Some exchange → TurnsAsking most old new exchange → ((caller : CallerView) → IsAt old.callers 0 caller → caller.call ≡ None) → ((harmed : List ℕ) → harms_part exchange.question harmed ≡ 0) → own_part new 0 ≡ own_part old 0
 own_kept most old new exchange is_open turns none no_probe =
     own_is_council new (none_then old new turns.marks turns.leaves none) ∙ ap council_part turns.council
-    ∙ parts_kept old.council turns.next exchange is_open turns.question turns.asked (ap (λ (q : Question). harms_part q turns.next.harmed) turns.question ∙ no_probe turns.next.harmed ∙ sym (no_probe exchange.harmed))
+    ∙ parts_kept old.council turns.next exchange is_open turns.question turns.since turns.asked (ap (λ (q : Question). harms_part q turns.next.harmed) turns.question ∙ no_probe turns.next.harmed ∙ sym (no_probe exchange.harmed))
     ∙ sym (own_is_council old none)
 
 -- no memory is found for it, and the operator is told

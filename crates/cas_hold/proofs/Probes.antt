@@ -1,6 +1,6 @@
 -- What a hold does for a probe.
 use Rattle.std.proofs.Common.{◌≡◌, ◌≢◌, ℕ, true, false, if◌then◌else◌, List, [], ◌∷◌, ◌++◌, length, ◌+◌, ◌≤◌, length-append, map, reverse, Option, None, Some, IsSome, is_some, option_map, slice_get, inl, inr, refl, sym, ap, subst, ◌∙◌, append-nil, arith}
-use Rattle.std.specs.Prelude.{◌⊎◌}
+use Rattle.std.specs.Prelude.{◌⊎◌, take}
 use Rattle.cas_ballot.specs.Members.{has_member}
 use Rattle.cas_fate.specs.declared.fate.Leg.{Leg}
 use Rattle.cas_fate.specs.declared.fate.Verdict.{Verdict}
@@ -34,17 +34,20 @@ use Rattle.cas_world.specs.Exchange.{MayAsk, MayAskThis, asking_of, MayGather, H
 use Rattle.cas_hold.specs.Deeds.{harm_by}
 use Rattle.cas_hold.specs.Kept.{IsKept, Makes}
 use Rattle.cas_hold.specs.Open.{IsFree}
-use Rattle.cas_hold.specs.Orders.{new_order, HasOrder, HasProbe, HasHarms, OperatesIn, IsToldIn, IsAskingHarm, IsProbeAnswer, IsSilentAtMost, IsTrueProbe, AreAllConfirmers, MarksHarms, named_in}
+use Rattle.cas_hold.specs.Orders.{new_order, HasOrder, HasProbe, HasHarms, WasAskedBehind, OperatesIn, IsToldIn, IsAskingHarm, IsProbeAnswer, IsSilentAtMost, IsTrueProbe, AreAllConfirmers, MarksHarms, named_in}
 use Rattle.cas_hold.specs.OwnParts.{asked_of, harms_part, own_part}
 use Rattle.cas_causes.specs.Answering.{silent_in, tellers_of, IsHearing}
-use Rattle.cas_causes.specs.Probed.{AreToldOf}
+use Rattle.cas_causes.specs.Current.{AreCurrentTells}
+use Rattle.cas_causes.specs.Unaged.{AreToldSo}
 use Rattle.cas_causes.proofs.Answering.{silent_are_harmed}
 use Rattle.cas_causes.proofs.Asking.{confirmers_are_probed}
+use Rattle.cas_causes.proofs.Current.{fewer_current}
+use Rattle.cas_causes.proofs.TooOld.{probes_are_told_so}
 use Rattle.cas_steady.specs.Steady.{IsSteady}
 use Rattle.cas_hold.specs.Mine.{mine}
 use Rattle.cas_hold.proofs.Fronts.{mine_append}
 use Rattle.cas_record.specs.declared.mark.Mark.{Mark}
-use Rattle.cas_hold.proofs.Councils.{IsOrdered, IsProbed, has_order, is_ordered, has_probe, is_probed, has_harms, harms_are, free_idle}
+use Rattle.cas_hold.proofs.Councils.{IsOrdered, IsProbed, has_order, is_ordered, has_probe, is_probed, has_harms, harms_are, asked_behind, behind_is, free_idle}
 use Rattle.cas_hold.specs.Stages.{IsFirst, HasFirst, front_of}
 use Rattle.cas_hold.specs.declared.deeds.Waiting.{Waiting}
 use Rattle.std.specs.Prelude.{IfSome}
@@ -97,6 +100,7 @@ record AsksOrTells {S V : Type 0} (old new : View S V) (key : List ℕ) : Type 0
   question : exchange.question ≡ Probe key
   everyone : asked_of exchange ≡ everyone old
   harmless : harms_part exchange.question exchange.harmed ≡ 0
+  since : exchange.since ≡ length old.marks
 
 record IsStopped {S V : Type 0} (old new : View S V) (key : List ℕ) : Type 0 where
   leaves : Leaves old new []
@@ -119,11 +123,12 @@ asks_or_not {S} {V} m old new key was by = by_case by.asks
     by_case (council.asks now tag flow up room drawn is_now sends is) = inl (record {
       leaves = leaves_others old _ new now [] is refl refl refl (sym (append-nil old.marks));
       order = ap (λ (w : View S V). w.council.order) is ∙ was.order;
-      exchange = council.new_exchange (Probe key) tag (everyone old);
+      exchange = council.new_exchange (Probe key) tag (everyone old) (length old.marks);
       is_open = ap (λ (w : View S V). w.council.exchange) is;
       question = refl;
       everyone = names_each (everyone old);
       harmless = refl;
+      since = refl;
     })
     by_case (council.is_down down is) = stopped answer.Down (leaves_desks old _ new [] is refl refl refl (sym (append-nil old.marks))) (ap (λ (w : View S V). w.council.order) is) (ap (λ (w : View S V). w.council.exchange) is) (λ members. refl)
     by_case (council.is_full up full is) = stopped answer.RecordFull (leaves_desks old _ new [] is refl refl refl (sym (append-nil old.marks))) (ap (λ (w : View S V). w.council.order) is) (ap (λ (w : View S V). w.council.exchange) is) (λ members. refl)
@@ -138,10 +143,10 @@ asks_by {S} {V} m old new what key is by = subst (λ (e : Exchange). Step m old 
 pub may_ask : {S V : Type 0} (view : View S V) (what : Exchange) (key : List ℕ) → what ≡ exchange.Probe key → IsKept view → HasOrder (asked.Probe key) (own_part view 0) → MayAskThis view what
 may_ask view what key is kept has = subst (MayAskThis view) (sym is) (may_probe view key kept has)
 
-pub ask_held : {S V : Type 0} (m : Meaning S V) (old new : View S V) (what : Exchange) (key : List ℕ) → what ≡ exchange.Probe key → HasOrder (asked.Probe key) (own_part old 0) → IsKept old → Step m old (asking_of old what) new → IsSome new.council.exchange → Held old new (Makes 0 old new [] × HasProbe key (everyone old) (own_part new 0) × HasHarms 0 (own_part new 0))
+pub ask_held : {S V : Type 0} (m : Meaning S V) (old new : View S V) (what : Exchange) (key : List ℕ) → what ≡ exchange.Probe key → HasOrder (asked.Probe key) (own_part old 0) → IsKept old → Step m old (asking_of old what) new → IsSome new.council.exchange → Held old new (Makes 0 old new [] × HasProbe key (everyone old) (own_part new 0) × HasHarms 0 (own_part new 0) × WasAskedBehind (length old.marks) (own_part new 0))
 ask_held {S} {V} m old new what key is has kept by_what some = elim (asks_or_not m old new key was (asks_by m old new what key is by_what)) [
   | inl asks ↦ let held = silently old new asks.leaves kept was.no_call in record {
-    does = (held.does, has_probe new key (everyone old) (record { no_call = none_then old new [] asks.leaves was.no_call; order = asks.order; exchange = asks.exchange; is_open = asks.is_open; question = asks.question; asks = asks.everyone }), subst (λ (n : ℕ). HasHarms n (own_part new 0)) asks.harmless (has_harms new asks.exchange (none_then old new [] asks.leaves was.no_call) asks.is_open));
+    does = (held.does, has_probe new key (everyone old) (record { no_call = none_then old new [] asks.leaves was.no_call; order = asks.order; exchange = asks.exchange; is_open = asks.is_open; question = asks.question; asks = asks.everyone }), subst (λ (n : ℕ). HasHarms n (own_part new 0)) asks.harmless (has_harms new asks.exchange (none_then old new [] asks.leaves was.no_call) asks.is_open), asked_behind new asks.exchange (length old.marks) (none_then old new [] asks.leaves was.no_call) asks.is_open (omega (arith, asks.since)));
     kept = held.kept;
     greatest = held.greatest;
   }
@@ -159,11 +164,11 @@ stopped_says key members why told stops same = subst (IsProbeAnswer key members)
 stopped_silent : (most : ℕ) (why : Answer) (told : OpAnswer) → SaysTheSame (op.Stopped why) told → IsSilentAtMost most told
 stopped_silent most why told same = subst (IsSilentAtMost most) same tt
 
-stopped_truly : (marks : List Mark) (why : Answer) (told : OpAnswer) → SaysTheSame (op.Stopped why) told → IsTrueProbe marks told
-stopped_truly marks why told same = subst (IsTrueProbe marks) same tt
+stopped_truly : (before marks : List Mark) (why : Answer) (told : OpAnswer) → SaysTheSame (op.Stopped why) told → IsTrueProbe before marks told
+stopped_truly before marks why told same = subst (IsTrueProbe before marks) same tt
 
 pub ask_told : {S V : Type 0} (m : Meaning S V) (old mid new : View S V) (what : Exchange) (key : List ℕ) (told : OpAnswer) → what ≡ exchange.Probe key → HasOrder (asked.Probe key) (own_part old 0) → IsKept old → Step m old (asking_of old what) mid → mid.council.exchange ≡ None → WasToldOrder mid told → StepTell mid told new
-    → Held old new (IsToldIn (asked.Probe key) IsAskingHarm 0 old new told × ((members : List ℕ) → IsProbeAnswer key members told) × IsSilentAtMost 0 told × IsTrueProbe (reverse new.marks) told)
+    → Held old new (IsToldIn (asked.Probe key) IsAskingHarm 0 old new told × ((members : List ℕ) → IsProbeAnswer key members told) × IsSilentAtMost 0 told × ((before : List Mark) → IsTrueProbe before new.marks told))
 ask_told {S} {V} m old mid new what key told is has kept by_what none said ends = elim (asks_or_not m old mid key was (asks_by m old mid what key is by_what)) [
   | inl asks ↦ absurd (cc (sym none ∙ asks.is_open))
   | inr stopped ↦ let held = tells_in IsAskingHarm 0 old mid new (asked.Probe key) told (told_so (op.Stopped stopped.why) (new_order (asked.Probe key))) stopped.leaves stopped.order refl ends kept was.no_call in record {
@@ -171,7 +176,7 @@ ask_told {S} {V} m old mid new what key told is has kept by_what none said ends 
       held.does,
       λ members. stopped_says key members stopped.why told (stopped.stops members) (says_same mid (new_order (asked.Probe key)) (op.Stopped stopped.why) told stopped.order said),
       stopped_silent 0 stopped.why told (says_same mid (new_order (asked.Probe key)) (op.Stopped stopped.why) told stopped.order said),
-      stopped_truly (reverse new.marks) stopped.why told (says_same mid (new_order (asked.Probe key)) (op.Stopped stopped.why) told stopped.order said),
+      λ before. stopped_truly before new.marks stopped.why told (says_same mid (new_order (asked.Probe key)) (op.Stopped stopped.why) told stopped.order said),
     );
     kept = held.kept;
     greatest = held.greatest;
@@ -221,6 +226,11 @@ probe_then {S} {V} most old new key them exchange is_open turns has =
       asks = turns.asked ∙ ap asked_of (sym same) ∙ was.asks;
     })
 
+-- asked when they were
+behind_then : {S V : Type 0} (most : ℕ) (old new : View S V) (exchange : ExchangeView) (many : ℕ) → old.council.exchange ≡ Some exchange → TurnsAsking most old new exchange → ((caller : CallerView) → IsAt old.callers 0 caller → caller.call ≡ None) → WasAskedBehind many (own_part old 0) → WasAskedBehind many (own_part new 0)
+behind_then most old new exchange many is_open turns none has =
+    asked_behind new turns.next many (none_then old new turns.marks turns.leaves none) (ap (λ (c : Council). c.exchange) turns.council) (omega (arith, behind_is old exchange many is_open has, turns.since))
+
 -- and those that are harmed are no more than what was marked since
 harms_then : {S V : Type 0} (most : ℕ) (old new : View S V) (exchange : ExchangeView) → old.council.exchange ≡ Some exchange → TurnsAsking most old new exchange → ((caller : CallerView) → IsAt old.callers 0 caller → caller.call ≡ None) → MarksHarms old new
 harms_then most old new exchange is_open turns none harms has = (
@@ -247,13 +257,13 @@ harms_then most old new exchange is_open turns none harms has = (
           length-append (mine 0 old.marks) (mine 0 turns.marks),
         )
 
-pub turn_held : {S V : Type 0} (m : Meaning S V) (old new : View S V) (key members : List ℕ) (v : Verdict) → HasProbe key members (own_part old 0) → IsKept old → Step m old (turn_of old 0 v) new → Held old new (OperatesIn IsAskingHarm (harm_by v) old new × ((them : List ℕ) → HasProbe key them (own_part old 0) → HasProbe key them (own_part new 0)) × MarksHarms old new)
+pub turn_held : {S V : Type 0} (m : Meaning S V) (old new : View S V) (key members : List ℕ) (v : Verdict) → HasProbe key members (own_part old 0) → IsKept old → Step m old (turn_of old 0 v) new → Held old new (OperatesIn IsAskingHarm (harm_by v) old new × ((them : List ℕ) → HasProbe key them (own_part old 0) → HasProbe key them (own_part new 0)) × MarksHarms old new × ((many : ℕ) → WasAskedBehind many (own_part old 0) → WasAskedBehind many (own_part new 0)))
 turn_held {S} {V} m old new key members v has kept step_ =
     let by : StepTurnExchange m old v new = subst (λ (e : step.Event). Step m old e new) (turn_is old key members v has) step_ in
     let was = is_probed old key members has in
     let turns = turns_asking m v old new by in
     let held = operates (harm_by v) old new turns.marks turns.leaves turns.of_asking kept was.no_call in
-    record { does = (held.does, λ them asks. probe_then (harm_by v) old new key them by.at.exchange by.at.is_open turns asks, harms_then (harm_by v) old new by.at.exchange by.at.is_open turns was.no_call); kept = held.kept; greatest = held.greatest }
+    record { does = (held.does, λ them asks. probe_then (harm_by v) old new key them by.at.exchange by.at.is_open turns asks, harms_then (harm_by v) old new by.at.exchange by.at.is_open turns was.no_call, λ many asked_then. behind_then (harm_by v) old new by.at.exchange many by.at.is_open turns was.no_call asked_then); kept = held.kept; greatest = held.greatest }
 
 pub turn_may_tell : {S V : Type 0} (m : Meaning S V) (old mid : View S V) (key members : List ℕ) → HasProbe key members (own_part old 0) → Step m old (refusal_of old 0) mid → WasToldOrder mid (op.Stopped (answer.NoMemory false))
 turn_may_tell {S} {V} m old mid key members has step_ =
@@ -289,41 +299,42 @@ record GathersProbe {S V : Type 0} (m : Meaning S V) (old new : View S V) (key m
   order : new.council.order ≡ Some (told_so said (new_order (asked.Probe key)))
   answer : (told : OpAnswer) → SaysTheSame said told → IsProbeAnswer key members told
   silent : IsSteady m old → (harms : ℕ) → HasHarms harms (own_part old 0) → (told : OpAnswer) → SaysTheSame said told → IsSilentAtMost harms told
-  truly : m.shelves.tells → m.disks.tells → IsSteady m old → (told : OpAnswer) → SaysTheSame said told → IsTrueProbe (reverse old.marks) told
+  truly : m.shelves.tells → m.disks.tells → IsSteady m old → (many : ℕ) → WasAskedBehind many (own_part old 0) → (told : OpAnswer) → SaysTheSame said told → IsTrueProbe (take many old.marks) old.marks told
 
 -- what they found of the key is true of what says the same
-truly_says : (marks : List Mark) (key : List ℕ) (found : Probes) (told : OpAnswer) → AreToldOf marks key found.probes.items → AreAllConfirmers marks (named_in found) → SaysTheSame (op.Probed key found) told → IsTrueProbe marks told
-truly_says marks key found (op.Probed other seen) so all same = (
-  subst (λ (k : List ℕ). AreToldOf marks k seen.probes.items) same.0 (subst (AreToldOf marks key) same.1 so),
-  subst (AreAllConfirmers marks) (ap (map (λ (p : ProbeOf). p.acceptor)) same.1) all,
+truly_says : (before marks : List Mark) (key : List ℕ) (found : Probes) (told : OpAnswer) → AreToldSo (reverse marks) key found.probes.items → AreCurrentTells (reverse marks) before key found.probes.items → AreAllConfirmers (reverse marks) (named_in found) → SaysTheSame (op.Probed key found) told → IsTrueProbe before marks told
+truly_says before marks key found (op.Probed other seen) so current all same = (
+  subst (λ (k : List ℕ). AreToldSo (reverse marks) k seen.probes.items) same.0 (subst (AreToldSo (reverse marks) key) same.1 so),
+  subst (λ (k : List ℕ). AreCurrentTells (reverse marks) before k seen.probes.items) same.0 (subst (AreCurrentTells (reverse marks) before key) same.1 current),
+  subst (AreAllConfirmers (reverse marks)) (ap (map (λ (p : ProbeOf). p.acceptor)) same.1) all,
 )
-truly_says marks key found (op.Joined id era rescanned) so all same = tt
-truly_says marks key found (op.Left id era rescanned) so all same = tt
-truly_says marks key found (op.Refused fault) so all same = tt
-truly_says marks key found (op.Busy era) so all same = tt
-truly_says marks key found (op.Collected other ballot removed kept) so all same = tt
-truly_says marks key found (op.NotEmpty version) so all same = tt
-truly_says marks key found (op.Absent acceptor) so all same = tt
-truly_says marks key found (op.ProposerDown proposer) so all same = tt
-truly_says marks key found (op.Stopped why) so all same = tt
+truly_says before marks key found (op.Joined id era rescanned) so current all same = tt
+truly_says before marks key found (op.Left id era rescanned) so current all same = tt
+truly_says before marks key found (op.Refused fault) so current all same = tt
+truly_says before marks key found (op.Busy era) so current all same = tt
+truly_says before marks key found (op.Collected other ballot removed kept) so current all same = tt
+truly_says before marks key found (op.NotEmpty version) so current all same = tt
+truly_says before marks key found (op.Absent acceptor) so current all same = tt
+truly_says before marks key found (op.ProposerDown proposer) so current all same = tt
+truly_says before marks key found (op.Stopped why) so current all same = tt
 
 -- what was found is not marked, so it is true of the record then
-truly_then : {S V : Type 0} (mid new : View S V) (told : OpAnswer) → StepTell mid told new → IsTrueProbe (reverse mid.marks) told → IsTrueProbe (reverse new.marks) told
-truly_then {S} {V} mid new (op.Probed key found) by is = subst (λ (marks : List Mark). IsTrueProbe (reverse marks) (op.Probed key found)) (sym (unmarked by)) is
+truly_then : {S V : Type 0} (mid new : View S V) (many : ℕ) (told : OpAnswer) → StepTell mid told new → IsTrueProbe (take many mid.marks) mid.marks told → IsTrueProbe (take many new.marks) new.marks told
+truly_then {S} {V} mid new many (op.Probed key found) by is = subst (λ (marks : List Mark). IsTrueProbe (take many marks) marks (op.Probed key found)) (sym (unmarked by)) is
   where
     unmarked : StepTell mid (op.Probed key found) new → new.marks ≡ mid.marks
     unmarked (council.tells open_order said is_open says same is_new) = ap (λ (w : View S V). w.marks) is_new ∙ append-nil mid.marks
     unmarked (council.finishes open_order is_open finished is_new) = ap (λ (w : View S V). w.marks) is_new ∙ append-nil mid.marks
     unmarked (council.collects open_order is_open collected is_new) = ap (λ (w : View S V). w.marks) is_new ∙ append-nil mid.marks
-truly_then mid new (op.Joined id era rescanned) by is = tt
-truly_then mid new (op.Left id era rescanned) by is = tt
-truly_then mid new (op.Refused fault) by is = tt
-truly_then mid new (op.Busy era) by is = tt
-truly_then mid new (op.Collected other ballot removed kept) by is = tt
-truly_then mid new (op.NotEmpty version) by is = tt
-truly_then mid new (op.Absent acceptor) by is = tt
-truly_then mid new (op.ProposerDown proposer) by is = tt
-truly_then mid new (op.Stopped why) by is = tt
+truly_then mid new many (op.Joined id era rescanned) by is = tt
+truly_then mid new many (op.Left id era rescanned) by is = tt
+truly_then mid new many (op.Refused fault) by is = tt
+truly_then mid new many (op.Busy era) by is = tt
+truly_then mid new many (op.Collected other ballot removed kept) by is = tt
+truly_then mid new many (op.NotEmpty version) by is = tt
+truly_then mid new many (op.Absent acceptor) by is = tt
+truly_then mid new many (op.ProposerDown proposer) by is = tt
+truly_then mid new many (op.Stopped why) by is = tt
 
 -- where those that told nothing are no more than this, it is told so
 silent_says : (most : ℕ) (key : List ℕ) (found : Probes) (told : OpAnswer) → silent_in found.probes.items ≤ most → SaysTheSame (op.Probed key found) told → IsSilentAtMost most told
@@ -364,7 +375,7 @@ gathers_probe {S} {V} m old new key members was by = by_case by.gathers
     leaves changed is greatest desks callers marks = leaves_desks old changed new [] is greatest desks callers (marks ∙ sym (append-nil old.marks))
 
     stopped : (why : Answer) → Leaves old new [] → new.council.order ≡ option_map (told_so (op.Stopped why)) old.council.order → IsProbeAnswer key members (op.Stopped why) → GathersProbe m old new key members
-    stopped why left order stops = record { leaves = left; said = op.Stopped why; order = order ∙ ap (option_map (told_so (op.Stopped why))) was.order; answer = λ told same. stopped_says key members why told stops same; silent = λ steady harms has told same. stopped_silent harms why told same; truly = λ shelves disks steady told same. stopped_truly (reverse old.marks) why told same }
+    stopped why left order stops = record { leaves = left; said = op.Stopped why; order = order ∙ ap (option_map (told_so (op.Stopped why))) was.order; answer = λ told same. stopped_says key members why told stops same; silent = λ steady harms has told same. stopped_silent harms why told same; truly = λ shelves disks steady many asked_then told same. stopped_truly (take many old.marks) old.marks why told same }
 
     few : IsSteady m old → (harms : ℕ) → HasHarms harms (own_part old 0) → (found : Probes) → found.probes.items ≡ by.at.exchange.told → by.at.exchange.crashed ≡ false → silent_in found.probes.items ≤ harms
     few steady harms has found keeps up =
@@ -372,8 +383,13 @@ gathers_probe {S} {V} m old new key members was by = by_case by.gathers
         omega (arith, silent_are_harmed old by.at.exchange steady.safe steady.answering by.at.is_open up by.none_waits, ap silent_in keeps, harmed)
 
     -- each that tells the key, and all who confirmed, are those that were asked
-    so : m.shelves.tells → m.disks.tells → IsSteady m old → (found : Probes) → found.probes.items ≡ by.at.exchange.told → AreToldOf (reverse old.marks) key found.probes.items
-    so shelves disks steady found keeps = subst (AreToldOf (reverse old.marks) key) (sym keeps) ((steady.probing shelves disks) by.at.exchange key by.at.is_open asks).told
+    so : m.shelves.tells → m.disks.tells → IsSteady m old → (found : Probes) → found.probes.items ≡ by.at.exchange.told → AreToldSo (reverse old.marks) key found.probes.items
+    so shelves disks steady found keeps = subst (AreToldSo (reverse old.marks) key) (sym keeps) (probes_are_told_so m old by.at.exchange key (steady.probing shelves disks) (steady.unaged shelves disks) by.at.is_open asks)
+
+    current : m.shelves.tells → m.disks.tells → IsSteady m old → (many : ℕ) → WasAskedBehind many (own_part old 0) → (found : Probes) → found.probes.items ≡ by.at.exchange.told → AreCurrentTells (reverse old.marks) (take many old.marks) key found.probes.items
+    current shelves disks steady many asked_then found keeps =
+        subst (AreCurrentTells (reverse old.marks) (take many old.marks) key) (sym keeps)
+        (λ place one t at told. fewer_current old.marks key many by.at.exchange.since one.acceptor t (behind_is old by.at.exchange many by.at.is_open asked_then) (((steady.current shelves disks) by.at.exchange key by.at.is_open asks).told place one t at told))
 
     heard : IsSteady m old → tellers_of by.at.exchange.told ≡ by.at.exchange.members
     heard steady = (subst (λ (o : Option ExchangeView). IsHearing o (queue_at old.flow exchange_place).messages) by.at.is_open steady.answering).tellers
@@ -392,7 +408,8 @@ gathers_probe {S} {V} m old new key members was by = by_case by.gathers
           order = ap (λ (w : View S V). w.council.order) is ∙ ap (option_map (told_so (op.Probed other found))) was.order;
           answer = λ told same. found_says key members found told (ap (map (λ (p : ProbeOf). p.acceptor)) keeps ∙ ap asked_of same_exchange ∙ was.asks) (subst (λ (k : List ℕ). SaysTheSame (op.Probed k found) told) same_key same);
           silent = λ steady harms has told same. silent_says harms other found told (few steady harms has found keeps up) same;
-          truly = λ shelves disks steady told same. truly_says (reverse old.marks) other found told (subst (λ (k : List ℕ). AreToldOf (reverse old.marks) k found.probes.items) (sym same_key) (so shelves disks steady found keeps)) (all shelves disks steady found keeps) same;
+          truly = λ shelves disks steady many asked_then told same. truly_says (take many old.marks) old.marks other found told (subst (λ (k : List ℕ). AreToldSo (reverse old.marks) k found.probes.items) (sym same_key) (so shelves disks steady found keeps))
+              (subst (λ (k : List ℕ). AreCurrentTells (reverse old.marks) (take many old.marks) k found.probes.items) (sym same_key) (current shelves disks steady many asked_then found keeps)) (all shelves disks steady found keeps) same;
         }
     by_case (council.lists of listing up enough on is) = absurd (cc (sym asks ∙ of.question))
     by_case (council.is_short of short up few is) = absurd (cc (sym asks ∙ of.question))
@@ -413,11 +430,11 @@ gather_silent {S} {V} m old mid key members told has step_ said steady harms har
 
 -- and what is told is true
 pub gather_truly : {S V : Type 0} (m : Meaning S V) (old mid new : View S V) (key members : List ℕ) (told : OpAnswer) → HasProbe key members (own_part old 0) → Step m old (gathering_of old) mid → WasToldOrder mid told → StepTell mid told new → IsSteady m old → m.shelves.tells → m.disks.tells
-    → IsTrueProbe (reverse new.marks) told
-gather_truly {S} {V} m old mid new key members told has step_ said ends steady shelves disks =
+    → (many : ℕ) → WasAskedBehind many (own_part old 0) → IsTrueProbe (take many new.marks) new.marks told
+gather_truly {S} {V} m old mid new key members told has step_ said ends steady shelves disks many asked_then =
     let gathers = gathers_probe m old mid key members (is_probed old key members has) (gathers_by m old mid key members has step_) in
     let marks : mid.marks ≡ old.marks = gathers.leaves.made ∙ append-nil old.marks in
-    truly_then mid new told ends (subst (λ (l : List Mark). IsTrueProbe (reverse l) told) (sym marks) (gathers.truly shelves disks steady told (says_same mid (new_order (asked.Probe key)) gathers.said told gathers.order said)))
+    truly_then mid new many told ends (subst (λ (l : List Mark). IsTrueProbe (take many l) l told) (sym marks) (gathers.truly shelves disks steady many asked_then told (says_same mid (new_order (asked.Probe key)) gathers.said told gathers.order said)))
 
 -- the members' answers were gathered
 record FindsProbe {S V : Type 0} (new : View S V) (key : List ℕ) (result : Gathered) : Type 0 where

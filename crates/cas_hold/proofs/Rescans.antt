@@ -22,7 +22,7 @@ use Rattle.cas_cluster.proofs.Places.{some_is}
 use Rattle.cas_world.specs.Exchange.{WasToldOrder}
 use Rattle.cas_hold.specs.Conflicts.{is_conflict}
 use Rattle.cas_hold.specs.Deeds as deeds
-use Rattle.cas_hold.specs.Deeds.{BeginsIn, BeginsNot, LeavesIdle, GoesOnIn, EndsIn}
+use Rattle.cas_hold.specs.Deeds.{BeginsIn, BeginsNot, GoesOnIn, EndsIn}
 use Rattle.cas_hold.specs.Kept.{IsKept, Makes}
 use Rattle.cas_hold.specs.Membership.{HasPlan, IsDue, HasRescan, IsPlanMark, IsRescanMark}
 use Rattle.cas_hold.specs.Mine.{mine, losses, call_of, AreOfCall, Wanted, wants, wanted_by}

@@ -1,5 +1,5 @@
 -- What a hold does for a call of the operator, whose marks are caller 0's, and what of caller 0's own part tells of it.
-use Rattle.std.specs.Prelude.{◌≡◌, ◌≤◌, ⊤, ℕ, ◌+◌, Bool, true, false, List, ◌++◌, length, map, All, None, Some}
+use Rattle.std.specs.Prelude.{◌≡◌, ◌≤◌, ⊤, ℕ, ◌+◌, Bool, true, false, List, ◌++◌, length, map, reverse, All, None, Some}
 use Rattle.cas_ballot.specs.Members.{has_member}
 use Rattle.cas_record.specs.Places.{Stands}
 use Rattle.cas_record.specs.declared.answer.Answer.{Answer}
@@ -21,7 +21,8 @@ use Rattle.cas_hold.specs.Open.{IsFree}
 use Rattle.cas_hold.specs.OwnParts.{asked_of, harms_part, council_part, own_part}
 use Rattle.cas_causes.specs.Answering.{silent_in}
 use Rattle.cas_causes.specs.Confirmed.{era_marked}
-use Rattle.cas_causes.specs.Probed.{AreToldOf}
+use Rattle.cas_causes.specs.Current.{AreCurrentTells}
+use Rattle.cas_causes.specs.Unaged.{AreToldSo}
 
 -- ---- what is open
 -- a call of the operator that was told nothing
@@ -53,6 +54,14 @@ pub record HasHarms (harms : ℕ) (own : List ℕ) : Type 0 where
   pub exchange : ExchangeView
   pub is_open : council.exchange ≡ Some exchange
   pub harmed : harms_part exchange.question exchange.harmed ≡ harms
+
+-- the members were asked when at least so many marks had been made
+pub record WasAskedBehind (many : ℕ) (own : List ℕ) : Type 0 where
+  pub council : Council
+  pub is : own ≡ council_part council
+  pub exchange : ExchangeView
+  pub is_open : council.exchange ≡ Some exchange
+  pub behind : many ≤ exchange.since
 
 -- ---- what a hold does
 -- the operator's call goes on: it makes such marks, and marks at most so many losses
@@ -105,10 +114,11 @@ IsSilentAtMost most other = ⊤
 abbrev pub AreAllConfirmers : List Mark → List ℕ → Type 0
 AreAllConfirmers marks asked = (a : Acknowledgment) (acceptor : ℕ) → Stands (Acked a) marks → a.era ≡ era_marked 0 marks → has_member a.by acceptor ≡ true → has_member asked acceptor ≡ true
 
--- What each of them told of the key is so by these marks, and they are all such. Marks are read newest first.
-abbrev pub IsTrueProbe : List Mark → OpAnswer → Type 0
-IsTrueProbe marks (told.Probed key found) = AreToldOf marks key found.probes.items × AreAllConfirmers marks (named_in found)
-IsTrueProbe marks other = ⊤
+-- Each that told anything told what it keeps of the key, which is so by all these marks, and at or above what it had confirmed among those
+-- before; and all such confirmers are asked.
+abbrev pub IsTrueProbe : List Mark → List Mark → OpAnswer → Type 0
+IsTrueProbe before all (told.Probed key found) = AreToldSo (reverse all) key found.probes.items × AreCurrentTells (reverse all) before key found.probes.items × AreAllConfirmers (reverse all) (named_in found)
+IsTrueProbe before all other = ⊤
 
 -- No more of them are harmed as a hold goes on with it than marks of caller 0 were made.
 abbrev pub MarksHarms : {S V : Type 0} → View S V → View S V → Type 0

@@ -69,7 +69,7 @@ harms_part other harmed = 0
 
 abbrev pub exchange_part : Option ExchangeView → List ℕ
 exchange_part None = []
-exchange_part (Some exchange) = framed 2 (harms_part exchange.question exchange.harmed ∷ length (asked_of exchange) ∷ asked_of exchange ++ question_part exchange.question)
+exchange_part (Some exchange) = framed 2 (exchange.since ∷ harms_part exchange.question exchange.harmed ∷ length (asked_of exchange) ∷ asked_of exchange ++ question_part exchange.question)
 
 -- the key that it is to propose anew, if one is due
 abbrev pub due_part : Option (List ℕ) → List ℕ

@@ -1,13 +1,14 @@
 //! What one hold does for a call of the operator: one call on the world, with the end of the operator's call where that told its answer.
 
-ghost use Rattle.std.specs.Prelude.{◌≡◌, ◌≢◌, ℕ, List, [], length, reverse, IfOk, IfErr, OnOk};
+ghost use Rattle.std.specs.Prelude.{◌≡◌, ◌≢◌, ℕ, List, [], length, take, IfOk, IfErr, OnOk};
 ghost use Rattle.cas_cluster.specs.Council.{exchange_place};
 ghost use Rattle.cas_cluster.specs.StepCouncil.{everyone};
 ghost use Rattle.cas_flow.specs.Flow.{queue_at};
+ghost use Rattle.cas_record.specs.declared.mark.Mark.{Mark};
 ghost use Rattle.cas_hold.specs.Deeds.{IsRefusal, harm_by};
 ghost use Rattle.cas_hold.specs.Kept.{IsKept, Makes};
 ghost use Rattle.cas_hold.specs.Open.{IsFree};
-ghost use Rattle.cas_hold.specs.Orders.{HasHarms, HasOrder, HasProbe, IsAskingHarm, IsProbeAnswer, IsSilentAtMost, IsToldIn, IsTrueProbe, MarksHarms, OperatesIn};
+ghost use Rattle.cas_hold.specs.Orders.{HasHarms, HasOrder, HasProbe, IsAskingHarm, IsProbeAnswer, IsSilentAtMost, IsToldIn, IsTrueProbe, MarksHarms, OperatesIn, WasAskedBehind};
 ghost use Rattle.cas_hold.specs.OwnParts.{own_part};
 ghost use Rattle.cas_hold.specs.Stages.{HasFirst};
 
@@ -108,12 +109,13 @@ pub fn ask_probe<S: Shelf, V: Disk>(
     ensures makes { OnOk result (Makes 0 world.old world.new []) }
     ensures asks { OnOk result (HasProbe order.key (everyone world.old) (own_part world.new 0)) }
     ensures harms { OnOk result (HasHarms 0 (own_part world.new 0)) }
+    ensures behind { OnOk result (WasAskedBehind (length world.old.marks) (own_part world.new 0)) }
     ensures key { IfOk result (λ probing. probing.key ≡ order.key) }
     ensures waits { IfOk result (λ probing. HasFirst world.new 0 probing.waits) }
     ensures told { IfErr result (IsToldIn (Asked.Probe order.key) IsAskingHarm 0 world.old world.new) }
     ensures answer { IfErr result (λ told. (members : List ℕ) → IsProbeAnswer order.key members told) }
     ensures silent { IfErr result (IsSilentAtMost 0) }
-    ensures truly { IfErr result (IsTrueProbe (reverse world.new.marks)) }
+    ensures truly { IfErr result (λ told. (before : List Mark) → IsTrueProbe before world.new.marks told) }
 {
     let ProbeOrder { question, key } = order;
     match world.ask_all(question) {
@@ -139,12 +141,13 @@ pub fn go_on_probing<S: Shelf, V: Disk>(
     ensures goes_on { OnOk result (OperatesIn IsAskingHarm (harm_by verdict) world.old world.new) }
     ensures still { OnOk result ((members : List ℕ) → HasProbe probing.key members (own_part world.old 0) → HasProbe probing.key members (own_part world.new 0)) }
     ensures harms { OnOk result (MarksHarms world.old world.new) }
+    ensures behind { OnOk result ((many : ℕ) → WasAskedBehind many (own_part world.old 0) → WasAskedBehind many (own_part world.new 0)) }
     ensures key { IfOk result (λ next. next.key ≡ probing.key) }
     ensures waits { IfOk result (λ next. HasFirst world.new 0 next.waits) }
     ensures told { IfErr result (IsToldIn (Asked.Probe probing.key) IsAskingHarm (harm_by verdict) world.old world.new) }
     ensures answer { IfErr result (λ told. (members : List ℕ) → HasProbe probing.key members (own_part world.old 0) → IsProbeAnswer probing.key members told) }
     ensures silent { IfErr result (λ told. (harms : ℕ) → HasHarms harms (own_part world.old 0) → IsSilentAtMost harms told) }
-    ensures truly { S.tells → V.tells → IfErr result (IsTrueProbe (reverse world.new.marks)) }
+    ensures truly { S.tells → V.tells → IfErr result (λ told. (many : ℕ) → WasAskedBehind many (own_part world.old 0) → IsTrueProbe (take many world.new.marks) world.new.marks told) }
 {
     let Probing { key, waits: _ } = probing;
     if world.front(0).is_none() {
@@ -171,11 +174,12 @@ fn take_probe_turn<S: Shelf, V: Disk>(
     ensures goes_on { OnOk result (OperatesIn IsAskingHarm (harm_by verdict) world.old world.new) }
     ensures still { OnOk result ((members : List ℕ) → HasProbe key.now members (own_part world.old 0) → HasProbe key.now members (own_part world.new 0)) }
     ensures harms { OnOk result (MarksHarms world.old world.new) }
+    ensures behind { OnOk result ((many : ℕ) → WasAskedBehind many (own_part world.old 0) → WasAskedBehind many (own_part world.new 0)) }
     ensures first { IfOk result (HasFirst world.new 0) }
     ensures told { IfErr result (IsToldIn (Asked.Probe key.now) IsAskingHarm (harm_by verdict) world.old world.new) }
     ensures answer { IfErr result (λ told. (members : List ℕ) → IsProbeAnswer key.now members told) }
     ensures silent { IfErr result (λ told. (harms : ℕ) → IsSilentAtMost harms told) }
-    ensures truly { IfErr result (IsTrueProbe (reverse world.new.marks)) }
+    ensures truly { IfErr result (λ told. (before : List Mark) → IsTrueProbe before world.new.marks told) }
 {
     match world.turn(0, verdict) {
         Ok(()) => Ok(first_frame(world, 0)),
@@ -193,7 +197,7 @@ fn gather_probe<S: Shelf, V: Disk>(world: &mut SteadyWorld<S, V>, key: Key) -> O
     ensures told { (most : ℕ) → IsToldIn (Asked.Probe key) IsAskingHarm most world.old world.new result }
     ensures answer { (members : List ℕ) → HasProbe key members (own_part world.old 0) → IsProbeAnswer key members result }
     ensures silent { (harms : ℕ) → HasHarms harms (own_part world.old 0) → IsSilentAtMost harms result }
-    ensures truly { S.tells → V.tells → IsTrueProbe (reverse world.new.marks) result }
+    ensures truly { S.tells → V.tells → (many : ℕ) → WasAskedBehind many (own_part world.old 0) → IsTrueProbe (take many world.new.marks) world.new.marks result }
 {
     match world.gather() {
         Ok(gathered) => {

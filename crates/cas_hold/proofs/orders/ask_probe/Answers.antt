@@ -1,5 +1,5 @@
 use Rattle.cas_hold.proofs.Probes.{may_ask, ask_held, ask_told, has_first}
-use Rattle.std.proofs.Common.{sym, subst, reverse}
+use Rattle.std.proofs.Common.{sym, subst}
 use Rattle.cas_record.specs.declared.operator.Asked.TheVariants as asked
 use Rattle.cas_hold.specs.Orders.{IsToldIn, IsAskingHarm, IsProbeAnswer, IsSilentAtMost, IsTrueProbe}
 use Rattle.cas_hold.proofs.orders.ask_probe.Goals as goal
@@ -22,6 +22,9 @@ returns-in-Ok-clause-asks g c = (ask_held _ c.args.world.now c.ask_all.new.self 
 pub returns-in-Ok-clause-harms : goal.returns-in-Ok-clause-harms
 returns-in-Ok-clause-harms g c = (ask_held _ c.args.world.now c.ask_all.new.self c.args.order.question c.args.order.key c.requires.question c.requires.ordered c.requires.kept c.in-Ok.ensures.step c.in-Ok.ensures.ok).does.2
 
+pub returns-in-Ok-clause-behind : goal.returns-in-Ok-clause-behind
+returns-in-Ok-clause-behind g c = (ask_held _ c.args.world.now c.ask_all.new.self c.args.order.question c.args.order.key c.requires.question c.requires.ordered c.requires.kept c.in-Ok.ensures.step c.in-Ok.ensures.ok).does.3
+
 pub returns-in-Err-clause-kept : goal.returns-in-Err-clause-kept
 returns-in-Err-clause-kept g c = (ask_told _ c.args.world.now c.ask_all.new.self c.tell.new.self c.args.order.question c.args.order.key c.in-Err.told c.requires.question c.requires.ordered c.requires.kept c.in-Err.ensures.step c.in-Err.ensures.none c.in-Err.ensures.err c.tell.ensures.step).kept
 
@@ -41,4 +44,4 @@ pub returns-in-Err-clause-silent : goal.returns-in-Err-clause-silent
 returns-in-Err-clause-silent g c = subst (IsSilentAtMost 0) (sym c.tell.ensures.same) (ask_told _ c.args.world.now c.ask_all.new.self c.tell.new.self c.args.order.question c.args.order.key c.in-Err.told c.requires.question c.requires.ordered c.requires.kept c.in-Err.ensures.step c.in-Err.ensures.none c.in-Err.ensures.err c.tell.ensures.step).does.2
 
 pub returns-in-Err-clause-truly : goal.returns-in-Err-clause-truly
-returns-in-Err-clause-truly g c = subst (IsTrueProbe (reverse c.tell.new.self.marks)) (sym c.tell.ensures.same) (ask_told _ c.args.world.now c.ask_all.new.self c.tell.new.self c.args.order.question c.args.order.key c.in-Err.told c.requires.question c.requires.ordered c.requires.kept c.in-Err.ensures.step c.in-Err.ensures.none c.in-Err.ensures.err c.tell.ensures.step).does.3
+returns-in-Err-clause-truly g c before = subst (IsTrueProbe before c.tell.new.self.marks) (sym c.tell.ensures.same) ((ask_told _ c.args.world.now c.ask_all.new.self c.tell.new.self c.args.order.question c.args.order.key c.in-Err.told c.requires.question c.requires.ordered c.requires.kept c.in-Err.ensures.step c.in-Err.ensures.none c.in-Err.ensures.err c.tell.ensures.step).does.3 before)

@@ -1,4 +1,5 @@
-use Rattle.std.proofs.Common.{sym, subst, reverse}
+use Rattle.std.proofs.Common.{sym, subst}
+use Rattle.std.specs.Prelude.{take}
 use Rattle.cas_record.specs.declared.operator.Asked.TheVariants as asked
 use Rattle.cas_record.specs.declared.operator.OpAnswer.TheVariants as op
 use Rattle.cas_world.specs.Plans.{was_told}
@@ -46,7 +47,7 @@ pub returns-in-Err-clause-silent : goal.returns-in-Err-clause-silent
 returns-in-Err-clause-silent g c harms has = subst (IsSilentAtMost harms) (sym c.tell-in-Err.ensures.same) (gather_silent _ c.args.world.now c.gather.new.self c.args.key c.requires.asks.0 c.in-Err.told c.requires.asks.1 c.in-Err.ensures.step c.in-Err.ensures.err c.in-Err.ensures.steady harms has)
 
 pub returns-in-Ok-clause-truly : goal.returns-in-Ok-clause-truly
-returns-in-Ok-clause-truly g c shelves disks = subst (IsTrueProbe (reverse c.tell.new.self.marks)) (sym c.tell.ensures.same) (gather_truly _ c.args.world.now c.gather.new.self c.tell.new.self c.args.key c.requires.asks.0 (op.Probed c.args.key c.into_probes-found.result) c.requires.asks.1 c.in-Ok.ensures.step (found_told c.args.world.now c.gather.new.self c.args.key c.requires.asks.0 c.in-Ok.gathered c.into_probes-found.result c.requires.asks.1 c.in-Ok.ensures.ok c.into_probes-found.ensures) c.tell.ensures.step c.in-Ok.ensures.steady shelves disks)
+returns-in-Ok-clause-truly g c shelves disks many asked_then = subst (IsTrueProbe (take many c.tell.new.self.marks) c.tell.new.self.marks) (sym c.tell.ensures.same) (gather_truly _ c.args.world.now c.gather.new.self c.tell.new.self c.args.key c.requires.asks.0 (op.Probed c.args.key c.into_probes-found.result) c.requires.asks.1 c.in-Ok.ensures.step (found_told c.args.world.now c.gather.new.self c.args.key c.requires.asks.0 c.in-Ok.gathered c.into_probes-found.result c.requires.asks.1 c.in-Ok.ensures.ok c.into_probes-found.ensures) c.tell.ensures.step c.in-Ok.ensures.steady shelves disks many asked_then)
 
 pub returns-in-Err-clause-truly : goal.returns-in-Err-clause-truly
-returns-in-Err-clause-truly g c shelves disks = subst (IsTrueProbe (reverse c.tell-in-Err.new.self.marks)) (sym c.tell-in-Err.ensures.same) (gather_truly _ c.args.world.now c.gather.new.self c.tell-in-Err.new.self c.args.key c.requires.asks.0 c.in-Err.told c.requires.asks.1 c.in-Err.ensures.step c.in-Err.ensures.err c.tell-in-Err.ensures.step c.in-Err.ensures.steady shelves disks)
+returns-in-Err-clause-truly g c shelves disks many asked_then = subst (IsTrueProbe (take many c.tell-in-Err.new.self.marks) c.tell-in-Err.new.self.marks) (sym c.tell-in-Err.ensures.same) (gather_truly _ c.args.world.now c.gather.new.self c.tell-in-Err.new.self c.args.key c.requires.asks.0 c.in-Err.told c.requires.asks.1 c.in-Err.ensures.step c.in-Err.ensures.err c.tell-in-Err.ensures.step c.in-Err.ensures.steady shelves disks many asked_then)

@@ -1,4 +1,5 @@
 use Rattle.std.proofs.Common.{not, ap, ◌∙◌}
+use Rattle.std.specs.Prelude.{take}
 use Rattle.cas_hold.proofs.Probes.{one_waits, no_frame_waits}
 use Rattle.cas_hold.proofs.orders.go_on_probing.Goals as goal
 
@@ -15,4 +16,4 @@ pub returns-in-Err-clause-silent : goal.returns-in-Err-clause-silent
 returns-in-Err-clause-silent g c harms has = c.in-Err.ensures.silent harms
 
 pub returns-in-Err-clause-truly : goal.returns-in-Err-clause-truly
-returns-in-Err-clause-truly g c shelves disks = c.in-Err.ensures.truly
+returns-in-Err-clause-truly g c shelves disks many asked_then = c.in-Err.ensures.truly (take many c.take_probe_turn.new.world.marks)

@@ -1,4 +1,4 @@
-use Rattle.std.proofs.Common.{sym, subst, ◌∙◌, reverse}
+use Rattle.std.proofs.Common.{sym, subst, ◌∙◌}
 use Rattle.cas_record.specs.declared.operator.Asked.TheVariants as asked
 use Rattle.cas_world.specs.Plans.{MayTell, was_told}
 use Rattle.cas_hold.specs.Deeds.{harm_by}
@@ -27,6 +27,9 @@ returns-in-Ok-clause-still g c = (turn_held _ c.args.world.now c.turn.new.self c
 pub returns-in-Ok-clause-harms : goal.returns-in-Ok-clause-harms
 returns-in-Ok-clause-harms g c = (turn_held _ c.args.world.now c.turn.new.self c.args.key.now c.requires.asks.0 c.args.verdict c.requires.asks.1 c.requires.kept c.in-Ok.ensures.ok).does.2
 
+pub returns-in-Ok-clause-behind : goal.returns-in-Ok-clause-behind
+returns-in-Ok-clause-behind g c = (turn_held _ c.args.world.now c.turn.new.self c.args.key.now c.requires.asks.0 c.args.verdict c.requires.asks.1 c.requires.kept c.in-Ok.ensures.ok).does.3
+
 pub returns-in-Err-clause-silent : goal.returns-in-Err-clause-silent
 returns-in-Err-clause-silent g c harms = subst (IsSilentAtMost harms) (sym (c.tell.ensures.same ∙ c.no_memory.ensures)) tt
 
@@ -43,4 +46,4 @@ pub returns-in-Ok-clause-first : goal.returns-in-Ok-clause-first
 returns-in-Ok-clause-first g c = has_first c.turn.new.self 0 c.first_frame.result c.first_frame.ensures.first c.first_frame.ensures.none
 
 pub returns-in-Err-clause-truly : goal.returns-in-Err-clause-truly
-returns-in-Err-clause-truly g c = subst (IsTrueProbe (reverse c.tell.new.self.marks)) (sym (c.tell.ensures.same ∙ c.no_memory.ensures)) tt
+returns-in-Err-clause-truly g c before = subst (IsTrueProbe before c.tell.new.self.marks) (sym (c.tell.ensures.same ∙ c.no_memory.ensures)) tt

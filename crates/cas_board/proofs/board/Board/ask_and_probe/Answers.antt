@@ -1,10 +1,11 @@
 use Rattle.std.proofs.Common.{ℕ, List, [], ◌++◌, arith, sym, ap, subst, ◌∙◌}
+use Rattle.std.specs.Prelude.{take, length}
 use Rattle.cas_record.specs.declared.operator.Asked.TheVariants as asked
 use Rattle.cas_cluster.specs.StepCouncil.{told_marks}
 use Rattle.cas_board.specs.Operations.{WasToldLast}
 use Rattle.cas_hold.specs.Orders.{HasProbe, IsAskingHarm, IsProbeAnswer}
 use Rattle.cas_board.proofs.Sittings.{counted_none}
-use Rattle.cas_board.proofs.Operating.{told_behind, answers_any, own_grown, silent_since, silent_before}
+use Rattle.cas_board.proofs.Operating.{told_behind, answers_any, own_grown, silent_since, silent_before, begun_in, true_among}
 use Rattle.cas_board.proofs.board.Board.ask_and_probe.Goals as goal
 
 pub run_probe-requires-clause-operator : goal.run_probe-requires-clause-operator
@@ -37,6 +38,15 @@ returns-in-Err-clause-answer g c = answers_any c.args.order.key c.in-Err.told c.
 
 pub returns-in-Ok-clause-silent : goal.returns-in-Ok-clause-silent
 returns-in-Ok-clause-silent g c = silent_before 0 c.args.pass.now c.ask_probe_once.new.pass c.run_probe.new.pass c.run_probe.result (own_grown c.args.pass.now c.ask_probe_once.new.pass [] c.requires.operator c.in-Ok.ensures.front) (c.run_probe.ensures.silent 0 c.in-Ok.ensures.harms)
+
+pub returns-in-Ok-clause-truly : goal.returns-in-Ok-clause-truly
+returns-in-Ok-clause-truly g c tells =
+    true_among (take (length c.args.pass.now.seen) c.run_probe.new.pass.seen) c.args.pass.now.seen c.run_probe.new.pass.seen c.run_probe.result
+    (λ x. begun_in c.args.pass.now.seen c.ask_probe_once.new.pass.seen c.run_probe.new.pass.seen c.in-Ok.ensures.front.begins c.run_probe.ensures.told.2.front.begins)
+    (c.run_probe.ensures.truly tells (length c.args.pass.now.seen) c.in-Ok.ensures.behind)
+
+pub returns-in-Err-clause-truly : goal.returns-in-Err-clause-truly
+returns-in-Err-clause-truly g c tells = c.in-Err.ensures.truly tells c.args.pass.now.seen
 
 pub returns-in-Err-clause-silent : goal.returns-in-Err-clause-silent
 returns-in-Err-clause-silent g c = silent_since 0 0 c.args.pass.now c.ask_probe_once.new.pass c.in-Err.told (omega (arith, own_grown c.args.pass.now c.ask_probe_once.new.pass (c.in-Err.ensures.told.marks ++ told_marks (asked.Probe c.args.order.key) c.in-Err.told) c.requires.operator c.in-Err.ensures.told.front)) c.in-Err.ensures.silent

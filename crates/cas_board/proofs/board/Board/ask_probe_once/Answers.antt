@@ -1,12 +1,12 @@
-use Rattle.std.proofs.Common.{List, reverse, [], sym, ap, subst, ◌∙◌}
+use Rattle.std.proofs.Common.{List, length, [], sym, ap, subst, ◌∙◌}
 use Rattle.std.specs.Prelude.{OnOk, IfErr}
 use Rattle.cas_record.specs.declared.operator.Asked.TheVariants as asked
 use Rattle.cas_record.specs.declared.mark.Mark.{Mark}
 use Rattle.cas_cluster.specs.StepCouncil.{everyone}
 use Rattle.cas_hold.specs.Kept.{Makes}
-use Rattle.cas_hold.specs.Orders.{HasOrder, HasHarms, HasProbe, IsToldIn, IsTrueProbe, IsAskingHarm}
+use Rattle.cas_hold.specs.Orders.{HasOrder, HasHarms, HasProbe, IsToldIn, IsTrueProbe, IsAskingHarm, WasAskedBehind}
 use Rattle.cas_board.proofs.Sittings.{was_held, gives_back}
-use Rattle.cas_board.proofs.Operating.{operator_part, operator_made, operator_own, operator_told, asks_or_tells, everyone_set, on_ok, if_err}
+use Rattle.cas_board.proofs.Operating.{operator_part, operator_made, operator_own, operator_told, asks_or_tells, everyone_set, asked_earlier, seen_of, on_ok, if_err}
 use Rattle.cas_board.proofs.board.Board.ask_probe_once.Goals as goal
 
 pub ask_probe-probing-requires-clause-ordered : goal.ask_probe-probing-requires-clause-ordered
@@ -31,4 +31,8 @@ pub returns-clause-harms : goal.returns-clause-harms
 returns-clause-harms g c = on_ok c.ask_probe-probing.result (subst (HasHarms 0) (sym (operator_own c.hold-shared.result c.ask_probe-probing.new.world c.args.pass.now c.give_back.new.pass (was_held 0 c.hold-shared.result c.ask_probe-probing.new.world c.args.pass.now c.hold-shared.new.seat c.give_back.new.pass c.hold-shared.ensures.seen c.hold-shared.ensures.seat (sym (ap (λ s. s.number) c.hold-shared.ensures.seat ∙ c.requires.operator)) c.give_back.ensures.pass)))) c.ask_probe-probing.ensures.harms
 
 pub returns-clause-truly : goal.returns-clause-truly
-returns-clause-truly g c tells = if_err c.ask_probe-probing.result (λ told. subst (λ (marks : List Mark). IsTrueProbe (reverse marks) told) (sym (ap (λ s. s.seen) c.give_back.ensures.pass))) c.ask_probe-probing.ensures.truly
+returns-clause-truly g c tells = if_err {P = λ told. (before : List Mark) → IsTrueProbe before c.ask_probe-probing.new.world.marks told} c.ask_probe-probing.result (λ told each before. subst (λ (marks : List Mark). IsTrueProbe before marks told) (sym (ap (λ s. s.seen) c.give_back.ensures.pass)) (each before)) c.ask_probe-probing.ensures.truly
+
+pub returns-clause-behind : goal.returns-clause-behind
+returns-clause-behind g c =
+    on_ok c.ask_probe-probing.result (λ has. subst (WasAskedBehind (length c.args.pass.now.seen)) (sym (operator_own c.hold-shared.result c.ask_probe-probing.new.world c.args.pass.now c.give_back.new.pass (was_held 0 c.hold-shared.result c.ask_probe-probing.new.world c.args.pass.now c.hold-shared.new.seat c.give_back.new.pass c.hold-shared.ensures.seen c.hold-shared.ensures.seat (sym (ap (λ s. s.number) c.hold-shared.ensures.seat ∙ c.requires.operator)) c.give_back.ensures.pass))) (asked_earlier (length c.args.pass.now.seen) (length c.shared.inside.world.marks) (seen_of c.hold-shared.result c.ask_probe-probing.new.world c.args.pass.now c.give_back.new.pass (was_held 0 c.hold-shared.result c.ask_probe-probing.new.world c.args.pass.now c.hold-shared.new.seat c.give_back.new.pass c.hold-shared.ensures.seen c.hold-shared.ensures.seat (sym (ap (λ s. s.number) c.hold-shared.ensures.seat ∙ c.requires.operator)) c.give_back.ensures.pass) c.shared.inside.world.marks (ap (λ v. v.marks) (sym c.shared.view_is))) has)) c.ask_probe-probing.ensures.behind

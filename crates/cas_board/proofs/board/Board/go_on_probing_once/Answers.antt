@@ -1,9 +1,9 @@
-use Rattle.std.proofs.Common.{ℕ, List, reverse, refl, sym, ap, subst, ◌∙◌}
-use Rattle.std.specs.Prelude.{OnOk, IfErr}
+use Rattle.std.proofs.Common.{ℕ, List, refl, sym, ap, subst, ◌∙◌}
+use Rattle.std.specs.Prelude.{OnOk, IfErr, take}
 use Rattle.cas_record.specs.declared.operator.Asked.TheVariants as asked
 use Rattle.cas_record.specs.declared.mark.Mark.{Mark}
 use Rattle.cas_hold.specs.Deeds.{harm_by}
-use Rattle.cas_hold.specs.Orders.{HasHarms, HasProbe, MarksHarms, OperatesIn, IsToldIn, IsAskingHarm, IsProbeAnswer, IsSilentAtMost, IsTrueProbe}
+use Rattle.cas_hold.specs.Orders.{HasHarms, HasProbe, MarksHarms, OperatesIn, IsToldIn, IsAskingHarm, IsProbeAnswer, IsSilentAtMost, IsTrueProbe, WasAskedBehind}
 use Rattle.cas_hold.specs.OwnParts.{own_part}
 use Rattle.cas_board.proofs.Sittings.{was_held, gives_back}
 use Rattle.cas_board.proofs.Operating.{operator_part, operator_own, operator_goes_on, operator_harms, operator_told, operates_or_tells, on_ok, if_err}
@@ -43,4 +43,10 @@ returns-clause-silent g c =
     (λ told each harms has. each harms (subst (HasHarms harms) (sym (operator_part c.args.pass.now.number c.shared.inside.world c.hold-shared.result c.args.pass.now.own c.requires.operator c.shared.view_is c.hold-shared.ensures.own)) has)) c.go_on_probing-next.ensures.silent
 
 pub returns-clause-truly : goal.returns-clause-truly
-returns-clause-truly g c tells = if_err c.go_on_probing-next.result (λ told. subst (λ (marks : List Mark). IsTrueProbe (reverse marks) told) (sym (ap (λ s. s.seen) c.give_back.ensures.pass))) (c.go_on_probing-next.ensures.truly tells tells)
+returns-clause-truly g c tells =
+    if_err {P = λ told. (many : ℕ) → WasAskedBehind many (own_part c.shared.inside.world 0) → IsTrueProbe (take many c.go_on_probing-next.new.world.marks) c.go_on_probing-next.new.world.marks told} c.go_on_probing-next.result
+    (λ told each many has. subst (λ (marks : List Mark). IsTrueProbe (take many marks) marks told) (sym (ap (λ s. s.seen) c.give_back.ensures.pass)) (each many (subst (WasAskedBehind many) (sym (operator_part c.args.pass.now.number c.shared.inside.world c.hold-shared.result c.args.pass.now.own c.requires.operator c.shared.view_is c.hold-shared.ensures.own)) has))) (c.go_on_probing-next.ensures.truly tells tells)
+
+pub returns-clause-behind : goal.returns-clause-behind
+returns-clause-behind g c =
+    on_ok c.go_on_probing-next.result (λ each many has. subst (WasAskedBehind many) (sym (operator_own c.hold-shared.result c.go_on_probing-next.new.world c.args.pass.now c.give_back.new.pass (was_held 0 c.hold-shared.result c.go_on_probing-next.new.world c.args.pass.now c.hold-shared.new.seat c.give_back.new.pass c.hold-shared.ensures.seen c.hold-shared.ensures.seat (sym (ap (λ s. s.number) c.hold-shared.ensures.seat ∙ c.requires.operator)) c.give_back.ensures.pass))) (each many (subst (WasAskedBehind many) (sym (operator_part c.args.pass.now.number c.shared.inside.world c.hold-shared.result c.args.pass.now.own c.requires.operator c.shared.view_is c.hold-shared.ensures.own)) has))) c.go_on_probing-next.ensures.behind

@@ -1,11 +1,14 @@
 use Rattle.std.proofs.Common.{ℕ, List, [], refl, sym, ap, subst, ◌∙◌}
+use Rattle.std.specs.Prelude.{Contains}
+use Rattle.cas_record.specs.declared.mark.Mark.{Mark}
 use Rattle.cas_record.specs.declared.operator.Asked.TheVariants as asked
+use Rattle.cas_cluster.proofs.Places.{contains_front}
 use Rattle.cas_ballot.specs.Members.{IsMemberSet}
 use Rattle.cas_board.specs.Operations.{WasToldLast, is_not_begun}
 use Rattle.cas_hold.specs.Orders.{HasOrder, IsAskingHarm, IsProbeAnswer}
 use Rattle.cas_world.specs.declared.exchange.Exchange.TheVariants as exchange
 use Rattle.cas_board.proofs.Sittings.{counted_none}
-use Rattle.cas_board.proofs.Operating.{told_behind, operates_told, refused_answers, own_grown, silent_before}
+use Rattle.cas_board.proofs.Operating.{told_behind, operates_told, refused_answers, own_grown, silent_before, true_among}
 use Rattle.cas_board.proofs.board.Board.probe.Goals as goal
 
 pub ask_and_probe-requires-clause-operator : goal.ask_and_probe-requires-clause-operator
@@ -37,6 +40,11 @@ returns-in-Err-clause-operates g c = is_not_begun c.in-Err.refusal c.in-Err.ensu
 
 pub returns-in-Err-clause-answer : goal.returns-in-Err-clause-answer
 returns-in-Err-clause-answer g c = refused_answers c.args.key.now _ c.in-Err.refusal c.in-Err.ensures.refused.0
+
+pub returns-in-Ok-clause-truly : goal.returns-in-Ok-clause-truly
+returns-in-Ok-clause-truly g c tells =
+    true_among c.order_probe_once.new.pass.seen c.args.pass.now.seen c.ask_and_probe.new.pass.seen c.ask_and_probe.result
+    (λ x there. subst (λ (l : List Mark). Contains l x) c.in-Ok.ensures.front.begins.whole (contains_front c.args.pass.now.seen c.in-Ok.ensures.front.begins.behind there)) (c.ask_and_probe.ensures.truly tells)
 
 pub returns-in-Ok-clause-silent : goal.returns-in-Ok-clause-silent
 returns-in-Ok-clause-silent g c = silent_before 0 c.args.pass.now c.order_probe_once.new.pass c.ask_and_probe.new.pass c.ask_and_probe.result (own_grown c.args.pass.now c.order_probe_once.new.pass [] c.requires.operator c.in-Ok.ensures.front) c.ask_and_probe.ensures.silent

@@ -2,13 +2,13 @@ use Rattle.std.proofs.Common.{ℕ, List, refl, sym, ap, subst, ◌∙◌}
 use Rattle.cas_record.specs.declared.operator.Asked.TheVariants as asked
 use Rattle.cas_board.specs.Operations.{WasToldLast}
 use Rattle.cas_hold.specs.Deeds.{harm_by}
-use Rattle.cas_hold.specs.Orders.{HasProbe, IsAskingHarm, IsProbeAnswer}
+use Rattle.cas_hold.specs.Orders.{HasProbe, IsAskingHarm, IsProbeAnswer, WasAskedBehind}
 use Rattle.cas_board.proofs.Sittings.{still_pass}
 use Rattle.cas_board.proofs.Operating.{order_runs, order_pass, order_number, order_own, order_ran, order_goes_on, order_ends, marked_harms, none_marked, silent_then}
 use Rattle.cas_board.proofs.board.Board.run_probe.Goals as goal
 
 pub loop-init : goal.loop-init
-loop-init g c = record { run = order_runs IsAskingHarm (g.F.Fate.harm_count c.args.fate.now) c.args.pass.now; asks = λ members has. has; harms = none_marked c.args.pass.now; key = refl }
+loop-init g c = record { run = order_runs IsAskingHarm (g.F.Fate.harm_count c.args.fate.now) c.args.pass.now; asks = λ members has. has; behind = λ many has. has; harms = none_marked c.args.pass.now; key = refl }
 
 pub verdict_for-verdict-requires : goal.verdict_for-verdict-requires
 verdict_for-verdict-requires g c = record { pass = still_pass c.args.self.now.id c.args.pass.now c.loop.pass c.requires.pass c.loop.invariant.run.pass }
@@ -39,5 +39,9 @@ returns-in-Err-clause-silent g c harms has =
     (order_own IsAskingHarm _ _ c.args.pass.now c.loop.pass c.verdict_for-verdict.new.pass c.loop.invariant.run c.verdict_for-verdict.ensures.pass) (ap (λ s. s.number) c.loop.invariant.run.pass ∙ c.requires.operator)
     (order_number IsAskingHarm _ _ c.args.pass.now c.loop.pass c.verdict_for-verdict.new.pass c.loop.invariant.run c.verdict_for-verdict.ensures.pass ∙ c.requires.operator) c.verdict_for-verdict.ensures.front c.in-Err.ensures.silent c.in-Err.ensures.told
 
+pub returns-in-Err-clause-truly : goal.returns-in-Err-clause-truly
+returns-in-Err-clause-truly g c tells many has =
+    c.in-Err.ensures.truly tells many (subst (WasAskedBehind many) (sym (order_own IsAskingHarm _ _ c.args.pass.now c.loop.pass c.verdict_for-verdict.new.pass c.loop.invariant.run c.verdict_for-verdict.ensures.pass)) (c.loop.invariant.behind many has))
+
 pub loop-preserved : goal.loop-preserved
-loop-preserved g c = record { run = order_goes_on IsAskingHarm _ _ c.args.pass.now c.loop.pass c.verdict_for-verdict.new.pass c.loop.invariant.run c.verdict_for-verdict.ensures.pass (harm_by c.verdict_for-verdict.result) _ c.go_on_probing_once.new.pass c.verdict_for-verdict.ensures.front c.verdict_for-verdict.ensures.counted c.go_on_probing_once.ensures.pass c.in-Ok.ensures.goes_on; asks = λ members has. subst (λ (k : List ℕ). HasProbe k members c.go_on_probing_once.new.pass.own) (sym c.in-Ok.ensures.key) (c.in-Ok.ensures.still members (subst (HasProbe c.loop.probing.key members) (sym (order_own IsAskingHarm _ _ c.args.pass.now c.loop.pass c.verdict_for-verdict.new.pass c.loop.invariant.run c.verdict_for-verdict.ensures.pass)) (c.loop.invariant.asks members has))); harms = marked_harms c.args.pass.now c.loop.pass c.verdict_for-verdict.new.pass c.go_on_probing_once.new.pass c.loop.invariant.harms (order_own IsAskingHarm _ _ c.args.pass.now c.loop.pass c.verdict_for-verdict.new.pass c.loop.invariant.run c.verdict_for-verdict.ensures.pass) (ap (λ s. s.number) c.loop.invariant.run.pass ∙ c.requires.operator) c.verdict_for-verdict.ensures.front c.in-Ok.ensures.harms; key = c.in-Ok.ensures.key ∙ c.loop.invariant.key }
+loop-preserved g c = record { run = order_goes_on IsAskingHarm _ _ c.args.pass.now c.loop.pass c.verdict_for-verdict.new.pass c.loop.invariant.run c.verdict_for-verdict.ensures.pass (harm_by c.verdict_for-verdict.result) _ c.go_on_probing_once.new.pass c.verdict_for-verdict.ensures.front c.verdict_for-verdict.ensures.counted c.go_on_probing_once.ensures.pass c.in-Ok.ensures.goes_on; asks = λ members has. subst (λ (k : List ℕ). HasProbe k members c.go_on_probing_once.new.pass.own) (sym c.in-Ok.ensures.key) (c.in-Ok.ensures.still members (subst (HasProbe c.loop.probing.key members) (sym (order_own IsAskingHarm _ _ c.args.pass.now c.loop.pass c.verdict_for-verdict.new.pass c.loop.invariant.run c.verdict_for-verdict.ensures.pass)) (c.loop.invariant.asks members has))); behind = λ many has. c.in-Ok.ensures.behind many (subst (WasAskedBehind many) (sym (order_own IsAskingHarm _ _ c.args.pass.now c.loop.pass c.verdict_for-verdict.new.pass c.loop.invariant.run c.verdict_for-verdict.ensures.pass)) (c.loop.invariant.behind many has)); harms = marked_harms c.args.pass.now c.loop.pass c.verdict_for-verdict.new.pass c.go_on_probing_once.new.pass c.loop.invariant.harms (order_own IsAskingHarm _ _ c.args.pass.now c.loop.pass c.verdict_for-verdict.new.pass c.loop.invariant.run c.verdict_for-verdict.ensures.pass) (ap (λ s. s.number) c.loop.invariant.run.pass ∙ c.requires.operator) c.verdict_for-verdict.ensures.front c.in-Ok.ensures.harms; key = c.in-Ok.ensures.key ∙ c.loop.invariant.key }
