@@ -4,7 +4,7 @@ use Rattle.std.specs.Prelude.{◌⊎◌, option_map, slice_get, unwrap_or}
 use Rattle.clap.specs.declared.builder.value_parser.ValueParser.TheVariants.{Unsigned}
 use Rattle.clap.proofs.ValueTestLemmas.{accepts-Accepts}
 use Rattle.clap.proofs.OnLiterals.{clap_on_literals}
-use Rattle.clap.specs.Simple.{App, Shape, new_shape, built, entered, names_of, subcommand_of, rows_at}
+use Rattle.clap.specs.Simple.{Shape, new_shape, built, entered, names_of, subcommand_of, rows_at}
 use Rattle.clap.specs.Walk.{Rule, Row, Text, Waiting, walk, walk_from, nothing_held, settled, finished, with_default, default_rows, reading_by, has_row, answers_to, subcommand_met, arg_by_index}
 use Rattle.clap.specs.Walk.Waiting.{idle, option, positional}
 use Rattle.clap.specs.Faults.{level_fault, entered_fault, walk_fault, settle_fault, defaults_fault, check_fault}

@@ -206,7 +206,7 @@ pub record RacedOver {D : Type 0} (m : RackMeaning D) (options : Options) (input
   pub tellings : m.tells → AreTellingsSo (reverse marks)
   pub kept : m.tells → AreKept m.may_leave (reverse marks) back.acceptors.items
   pub deserved : AreDeserved m.faults back.acceptors.items back.vaults.items marks
-  pub wrote : WroteRace options.tries options.proposers input old new harms harms_then marks ended
+  pub wrote : WroteRace m.tells options.tries options.proposers input old new harms harms_then marks ended
 
 -- ---- a script along its lines
 -- Along the run whose answers, or a front of them, were written, each change line that nothing stood against was answered done, or that

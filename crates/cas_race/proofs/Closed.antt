@@ -1,5 +1,5 @@
 -- What the record of a closed board tells of a race.
-use Rattle.std.proofs.Common.{◌≡◌, ◌+◌, ◌≤◌, ℕ, List, [], length, Option, Some, refl, sym, ap, subst, ◌∙◌, reverse, arith}
+use Rattle.std.proofs.Common.{◌≡◌, ◌+◌, ◌≤◌, ℕ, List, [], Option, Some, refl, sym, ap, subst, ◌∙◌, reverse, arith}
 use Rattle.std.specs.Prelude.{slice_get, slice_index_or, All, Ok, Err}
 use Rattle.std.proofs.lemmas.Option.{get_or_from_slice_get, slice_get-get_or}
 use Rattle.cas_cluster.proofs.SafeParts.{low_at, at_low}
@@ -20,7 +20,7 @@ use Rattle.cas_race.specs.Race.WroteRace.{whole, cut_off, not_run}
 use Rattle.cas_race.specs.Runs.{HasRun, ArePassesOf, AreRaced}
 use Rattle.cas_race.specs.Texts.{IsRaceText}
 use Rattle.cas_race.proofs.Lined.{fresh_at}
-use Rattle.cas_race.proofs.Racing.{length_begins, ran_longer}
+use Rattle.cas_race.proofs.Racing.{ran_later}
 
 module _ {V : Type 0} (board : TurnId) (proposers : ℕ) (passes : List (Sitting V Mark)) (are : ArePassesOf board proposers passes) where
   pub each_of : (P : Sitting V Mark → Type 0) → ((pass : Sitting V Mark) → IsPassOf board pass → P pass) → All P passes
@@ -34,19 +34,19 @@ module _ {V : Type 0} (board : TurnId) (proposers : ℕ) (passes : List (Sitting
         let number : pass.number ≡ n = (are.each n pass at).1 in
         ap (λ (k : ℕ). mine k marks) (sym number) ∙ same ∙ ap (λ (k : ℕ). mine k pass.seen) number
 
-    -- and is no shorter than what that has seen
-    longer : (n : ℕ) (pass : Sitting V Mark) → slice_get passes n ≡ Some pass → length pass.seen ≤ length marks
-    longer n pass at = length_begins pass.seen marks (subst (λ (p : Sitting V Mark). Begins p.seen marks) (get_or_from_slice_get passes n pass pass at) (fronts n pass (low_at passes n at)))
+    -- and goes on with what that has seen
+    later : (n : ℕ) (pass : Sitting V Mark) → slice_get passes n ≡ Some pass → Begins pass.seen marks
+    later n pass at = subst (λ (p : Sitting V Mark). Begins p.seen marks) (get_or_from_slice_get passes n pass pass at) (fronts n pass (low_at passes n at))
 
     pass_at : (n : ℕ) → n ≤ proposers → (pass : Sitting V Mark) × (slice_get passes n ≡ Some pass)
     pass_at n low = at_low passes n (let count = are.count in omega (arith, low, count))
 
-    pub raced_whole : (tries : ℕ) (lines : List (List ℕ)) (harms harms_then : List ℕ) (answers : List (List Told)) → AreRaced tries proposers lines harms harms_then answers passes → Raced tries proposers lines harms harms_then answers marks
-    raced_whole tries lines harms harms_then answers raced = record {
+    pub raced_whole : (tells : Type 0) (tries : ℕ) (lines : List (List ℕ)) (harms harms_then : List ℕ) (answers : List (List Told)) → AreRaced tells tries proposers lines harms harms_then answers passes → Raced tells tries proposers lines harms harms_then answers marks
+    raced_whole tells tries lines harms harms_then answers raced = record {
       callers = raced.callers;
       runs = λ n of_caller at.
           let pass = pass_at n (let low = low_at answers n at in let count = raced.callers in omega (arith, low, count)) in
-          subst (λ (l : List Mark). HasRun (length marks) tries n (tasks_of proposers n lines) of_caller l) (sym (own_at n pass.0 pass.1)) (ran_longer (length pass.0.seen) (length marks) tries n (longer n pass.0 pass.1) (raced.runs n pass.0 of_caller pass.1 at));
+          subst (λ (l : List Mark). HasRun tells marks tries n [] (tasks_of proposers n lines) of_caller l) (sym (own_at n pass.0 pass.1)) (ran_later tells pass.0.seen marks (later n pass.0 pass.1) tries n (raced.runs n pass.0 of_caller pass.1 at));
       counted = λ n before after low at_before at_after.
           let pass = pass_at n low in
           subst (λ (l : List Mark). IsCounted (losses l) before after) (sym (own_at n pass.0 pass.1)) (raced.counted n before after pass.0 pass.1 at_before at_after);
@@ -57,13 +57,13 @@ module _ {V : Type 0} (board : TurnId) (proposers : ℕ) (passes : List (Sitting
         let pass = pass_at n low in
         own_at n pass.0 pass.1 ∙ ap (λ (s : Sitting V Mark). mine n s.seen) (fresh_at board (proposers + 1) n pass.0 (subst (λ (l : List (Sitting V Mark)). slice_get l n ≡ Some pass.0) fresh pass.1))
 
-    module _ (tries : ℕ) (lines : List (List ℕ)) (harms harms_then : List ℕ) (answers : List (List Told)) (raced : AreRaced tries proposers lines harms harms_then answers passes)
+    module _ (tells : Type 0) (tries : ℕ) (lines : List (List ℕ)) (harms harms_then : List ℕ) (answers : List (List Told)) (raced : AreRaced tells tries proposers lines harms harms_then answers passes)
         (input old new : Option (List ℕ)) (all : AreAllLines input lines) (bad : List ℕ) (bad_are : bad ≡ bad_lines proposers 1 lines) where
-      pub wrote_whole : WroteText (IsRaceText bad answers (reverse marks)) old new → WroteRace tries proposers input old new harms harms_then marks (Ok tt)
-      wrote_whole wrote = whole lines answers all (raced_whole tries lines harms harms_then answers raced) (subst (λ (l : List ℕ). WroteText (IsRaceText l answers (reverse marks)) old new) bad_are wrote)
+      pub wrote_whole : WroteText (IsRaceText bad answers (reverse marks)) old new → WroteRace tells tries proposers input old new harms harms_then marks (Ok tt)
+      wrote_whole wrote = whole lines answers all (raced_whole tells tries lines harms harms_then answers raced) (subst (λ (l : List ℕ). WroteText (IsRaceText l answers (reverse marks)) old new) bad_are wrote)
 
-      pub wrote_front : (why : HistoryFault) → WroteFront (IsRaceText bad answers (reverse marks)) old new → WroteRace tries proposers input old new harms harms_then marks (Err (fault.CutOff why))
-      wrote_front why wrote = cut_off why lines answers all (raced_whole tries lines harms harms_then answers raced) (subst (λ (l : List ℕ). WroteFront (IsRaceText l answers (reverse marks)) old new) bad_are wrote)
+      pub wrote_front : (why : HistoryFault) → WroteFront (IsRaceText bad answers (reverse marks)) old new → WroteRace tells tries proposers input old new harms harms_then marks (Err (fault.CutOff why))
+      wrote_front why wrote = cut_off why lines answers all (raced_whole tells tries lines harms harms_then answers raced) (subst (λ (l : List ℕ). WroteFront (IsRaceText l answers (reverse marks)) old new) bad_are wrote)
 
-    pub wrote_nothing : (tries : ℕ) (input held : Option (List ℕ)) (harms harms_then : List ℕ) (why : LineFault) → passes ≡ fresh_seats board (proposers + 1) → harms_then ≡ harms → WroteRace tries proposers input held held harms harms_then marks (Err (fault.NotRun why))
-    wrote_nothing tries input held harms harms_then why fresh same = not_run why (none_raced fresh) same refl
+    pub wrote_nothing : (tells : Type 0) (tries : ℕ) (input held : Option (List ℕ)) (harms harms_then : List ℕ) (why : LineFault) → passes ≡ fresh_seats board (proposers + 1) → harms_then ≡ harms → WroteRace tells tries proposers input held held harms harms_then marks (Err (fault.NotRun why))
+    wrote_nothing tells tries input held harms harms_then why fresh same = not_run why (none_raced fresh) same refl

@@ -125,12 +125,12 @@ module _ {R Asks Says : Type 0} (tasks_in : R → Asks) (told_in : R → Says) (
         }
 
 -- ---- racers that have run
-module _ {R V : Type 0} (pass_of : R → Sitting V Mark) (harms_of : R → ℕ) (asked_of : R → List Task) (told_of : R → List Told) (tries : ℕ) (old new : List R) (as_many : length new ≡ length old)
-    (ran : (i : ℕ) (d : R) → i < length old → HasRaced tries (harms_of (slice_index_or old i d)) (harms_of (slice_index_or new i d)) (asked_of (slice_index_or old i d)) (told_of (slice_index_or new i d)) (pass_of (slice_index_or old i d)) (pass_of (slice_index_or new i d))) where
-  ran_at : (n : ℕ) (was now : R) → slice_get old n ≡ Some was → slice_get new n ≡ Some now → HasRaced tries (harms_of was) (harms_of now) (asked_of was) (told_of now) (pass_of was) (pass_of now)
+module _ {R V : Type 0} (pass_of : R → Sitting V Mark) (harms_of : R → ℕ) (asked_of : R → List Task) (told_of : R → List Told) (tells : Type 0) (tries : ℕ) (old new : List R) (as_many : length new ≡ length old)
+    (ran : (i : ℕ) (d : R) → i < length old → HasRaced tells tries (harms_of (slice_index_or old i d)) (harms_of (slice_index_or new i d)) (asked_of (slice_index_or old i d)) (told_of (slice_index_or new i d)) (pass_of (slice_index_or old i d)) (pass_of (slice_index_or new i d))) where
+  ran_at : (n : ℕ) (was now : R) → slice_get old n ≡ Some was → slice_get new n ≡ Some now → HasRaced tells tries (harms_of was) (harms_of now) (asked_of was) (told_of now) (pass_of was) (pass_of now)
   ran_at n was now at_was at_now =
-      subst (λ (r : R). HasRaced tries (harms_of was) (harms_of r) (asked_of was) (told_of r) (pass_of was) (pass_of r)) (get_or_from_slice_get new n now was at_now)
-      (subst (λ (r : R). HasRaced tries (harms_of r) (harms_of (slice_index_or new n was)) (asked_of r) (told_of (slice_index_or new n was)) (pass_of r) (pass_of (slice_index_or new n was))) (get_or_from_slice_get old n was was at_was)
+      subst (λ (r : R). HasRaced tells tries (harms_of was) (harms_of r) (asked_of was) (told_of r) (pass_of was) (pass_of r)) (get_or_from_slice_get new n now was at_now)
+      (subst (λ (r : R). HasRaced tells tries (harms_of r) (harms_of (slice_index_or new n was)) (asked_of r) (told_of (slice_index_or new n was)) (pass_of r) (pass_of (slice_index_or new n was))) (get_or_from_slice_get old n was was at_was)
       (ran n was (low_at old n at_was)))
 
   -- the racer at the same place before
@@ -157,6 +157,10 @@ module _ {R V : Type 0} (pass_of : R → Sitting V Mark) (harms_of : R → ℕ) 
           (still_pass board (pass_of was.0) (pass_of now.0) (idle n was.0 was.1) (ran_at n was.0 now.0 was.1 now.1).pass, number_now n was.0 now.0 was.1 now.1);
     }
 
+    -- its front had none of its own
+    none_before : (n : ℕ) (was : R) → slice_get old n ≡ Some was → mine (pass_of was).number (pass_of was).seen ≡ []
+    none_before n was at = ap (λ (s : Sitting V Mark). mine s.number s.seen) (pass_was n was at)
+
     -- what the front of a caller has of its own
     own_now : (n : ℕ) (was now : R) (at_was : slice_get old n ≡ Some was) (at_now : slice_get new n ≡ Some now) → mine n (pass_of now).seen ≡ (ran_at n was now at_was at_now).own
     own_now n was now at_was at_now =
@@ -168,7 +172,7 @@ module _ {R V : Type 0} (pass_of : R → Sitting V Mark) (harms_of : R → ℕ) 
 
     module _ (lines : List (List ℕ)) (harms harms_then rest : List ℕ) (asks : (n : ℕ) (was : R) → slice_get old n ≡ Some was → asked_of was ≡ tasks_of proposers n lines)
         (harms_are : map harms_of old ++ rest ≡ harms) (harms_then_are : map harms_of new ++ rest ≡ harms_then) where
-      pub are_raced : AreRaced tries proposers lines harms harms_then (map told_of new) (map pass_of new)
+      pub are_raced : AreRaced tells tries proposers lines harms harms_then (map told_of new) (map pass_of new)
       are_raced = record {
         callers = length-map new told_of ∙ as_many ∙ count_old;
         runs = λ n pass of_caller at_pass at_told.
@@ -178,11 +182,12 @@ module _ {R V : Type 0} (pass_of : R → Sitting V Mark) (harms_of : R → ℕ) 
             let raced = ran_at n was.0 now.0 was.1 now.1 in
             let told_is : told_of now.0 ≡ of_caller = ap told_of (one_at new n now.0 told.0 now.1 told.1) ∙ told.2 in
             let number : (pass_of was.0).number ≡ n = ap (λ (s : Sitting V Mark). s.number) (pass_was n was.0 was.1) in
-            subst (λ (p : Sitting V Mark). HasRun (length p.seen) tries n (tasks_of proposers n lines) of_caller (mine n p.seen)) now.2
-            (subst (λ (l : List Mark). HasRun (length (pass_of now.0).seen) tries n (tasks_of proposers n lines) of_caller l) (sym (own_now n was.0 now.0 was.1 now.1))
-            (subst (λ (l : List Told). HasRun (length (pass_of now.0).seen) tries n (tasks_of proposers n lines) l raced.own) told_is
-            (subst (λ (l : List Task). HasRun (length (pass_of now.0).seen) tries n l (told_of now.0) raced.own) (asks n was.0 was.1)
-            (subst (λ (k : ℕ). HasRun (length (pass_of now.0).seen) tries k (asked_of was.0) (told_of now.0) raced.own) number raced.run))));
+            subst (λ (p : Sitting V Mark). HasRun tells p.seen tries n [] (tasks_of proposers n lines) of_caller (mine n p.seen)) now.2
+            (subst (λ (l : List Mark). HasRun tells (pass_of now.0).seen tries n [] (tasks_of proposers n lines) of_caller l) (sym (own_now n was.0 now.0 was.1 now.1))
+            (subst (λ (l : List Told). HasRun tells (pass_of now.0).seen tries n [] (tasks_of proposers n lines) l raced.own) told_is
+            (subst (λ (l : List Task). HasRun tells (pass_of now.0).seen tries n [] l (told_of now.0) raced.own) (asks n was.0 was.1)
+            (subst (λ (l : List Mark). HasRun tells (pass_of now.0).seen tries n l (asked_of was.0) (told_of now.0) raced.own) (none_before n was.0 was.1)
+            (subst (λ (k : ℕ). HasRun tells (pass_of now.0).seen tries k (mine (pass_of was.0).number (pass_of was.0).seen) (asked_of was.0) (told_of now.0) raced.own) number raced.run)))));
         counted = λ n first last pass at_pass at_first at_last.
             let now = at_mapped pass_of new n pass at_pass in
             let was = before n now.0 now.1 in

@@ -1,10 +1,11 @@
 -- What a caller of a race has run, task by task.
-use Rattle.std.proofs.Common.{◌≡◌, ◌≤◌, ◌+◌, ℕ, List, [], ◌∷◌, ◌++◌, length, Some, inl, inr, refl, sym, ap, subst, ◌∙◌, append-nil, length-append, arith}
+use Rattle.std.proofs.Common.{◌≡◌, ◌≤◌, ◌+◌, ℕ, List, [], ◌∷◌, ◌++◌, length, Some, inl, inr, refl, sym, ap, subst, ◌∙◌, append-nil, append_assoc, length-append, arith}
 use Rattle.cas_change.specs.declared.program.Clause.{Clause}
 use Rattle.cas_record.specs.declared.answer.Answer.{Answer}
 use Rattle.cas_record.specs.declared.mark.Mark.{Mark}
 use Rattle.cas_record.specs.declared.mark.Mark.TheVariants as mark
 use Rattle.cas_record.specs.declared.operator.Asked.{Asked}
+use Rattle.cas_record.specs.declared.operator.Asked.TheVariants as ask
 use Rattle.cas_record.specs.declared.operator.OpAnswer.{OpAnswer}
 use Rattle.cas_record.specs.declared.operator.OpAnswer.TheVariants as op
 use Rattle.cas_cluster.specs.StepCouncil.{told_marks}
@@ -13,18 +14,19 @@ use Rattle.cas_turn.specs.Sitting.{Sitting, TurnId}
 use Rattle.cas_hold.specs.Deeds.{IsRefusal}
 use Rattle.cas_hold.specs.Mine.{mine, losses, GoesOn}
 use Rattle.cas_hold.specs.Open.{IsFree}
+use Rattle.cas_hold.specs.Orders.{IsSilentAtMost, IsTrueProbe}
 use Rattle.cas_hold.proofs.Fronts.{goes_on_then}
 use Rattle.cas_board.proofs.Losses.{losses_append, counted_then}
 use Rattle.cas_board.specs.Changes.{IsCounted, Answers}
 use Rattle.cas_board.specs.Changes.Answers.{is_answered, is_not_begun}
-use Rattle.cas_board.specs.Operations.{Operates}
+use Rattle.cas_board.specs.Operations.{IsSilentSince, Operates}
 use Rattle.cas_board.specs.Operations as operations
 use Rattle.cas_board.specs.Passes.{IsPassOf}
 use Rattle.cas_tasks.specs.declared.tasks.Task.{Task}
 use Rattle.cas_tasks.specs.declared.tasks.Task.TheVariants as task
 use Rattle.cas_race.specs.declared.told.Told.{Told}
 use Rattle.cas_race.specs.declared.told.Told.TheVariants as said
-use Rattle.cas_race.specs.Runs.{asked_by, IsOrderMark, AnswersOrder, IsReady, IsChange, IsOperated, IsAnswered, HasRun, HasRunTask, HasRaced}
+use Rattle.cas_race.specs.Runs.{asked_by, IsOrderMark, IsFoundIn, AnswersOrder, IsReady, IsChange, IsOperated, IsAnswered, HasRun, HasRunTask, HasRaced}
 use Rattle.cas_race.specs.Runs as runs
 use Rattle.cas_race.specs.Runs.IsChange.{is_called, is_turned_away}
 use Rattle.cas_race.specs.Runs.IsAnswered.{is_change, is_operated}
@@ -47,13 +49,26 @@ operated_longer : (made longer tries : ℕ) (asked : Asked) (answered : OpAnswer
 operated_longer made longer tries asked answered own more (runs.is_told before all_such) = runs.is_told before all_such
 operated_longer made longer tries asked answered own more (runs.is_not_begun why refusal stopped) = runs.is_not_begun why (refused_longer made longer why more refusal) stopped
 
-answered_longer : (made longer tries n : ℕ) {asked : Task} {told : Told} {own : List Mark} → made ≤ longer → IsAnswered made tries n asked told own → IsAnswered longer tries n asked told own
-answered_longer made longer tries n more (is_change change) = is_change (changed_longer made longer tries n _ _ _ _ more change)
-answered_longer made longer tries n more (is_operated is operated answers) = is_operated is (operated_longer made longer tries _ _ _ more operated) answers
+begins_both : {I : Type 0} (a b c : List I) → Begins a b → Begins b c → Begins a c
+begins_both {I} a b c first second = record { behind = first.behind ++ second.behind; whole = sym (append_assoc a first.behind second.behind) ∙ ap (λ (l : List I). l ++ second.behind) first.whole ∙ second.whole }
 
-pub ran_longer : (made longer tries n : ℕ) {tasks : List Task} {answers : List Told} {marks : List Mark} → made ≤ longer → HasRun made tries n tasks answers marks → HasRun longer tries n tasks answers marks
-ran_longer made longer tries n more nothing = nothing
-ran_longer made longer tries n more (one_more before answered) = one_more (ran_longer made longer tries n more before) (answered_longer made longer tries n more answered)
+module _ (tells : Type 0) (all later : List Mark) (begins : Begins all later) (tries n : ℕ) where
+  found_later : {earlier own : List Mark} {answered : OpAnswer} → IsFoundIn tells all n earlier own answered → IsFoundIn tells later n earlier own answered
+  found_later found = record { before = found.before; front = found.front; goes_on = found.goes_on; begins = begins_both found.front all later found.begins begins; made = found.made; silent = found.silent; truly = found.truly }
+
+  answers_later : (earlier own : List Mark) (asked : Asked) (answered : OpAnswer) → AnswersOrder tells all n earlier own asked answered → AnswersOrder tells later n earlier own asked answered
+  answers_later earlier own (ask.Join id) answered is = is
+  answers_later earlier own (ask.Leave id) answered is = is
+  answers_later earlier own (ask.Collect key) answered is = is
+  answers_later earlier own (ask.Probe key) answered is = (is.0, found_later is.1)
+
+  answered_later : {earlier : List Mark} {asked : Task} {told : Told} {own : List Mark} → IsAnswered tells all tries n earlier asked told own → IsAnswered tells later tries n earlier asked told own
+  answered_later (is_change change) = is_change (changed_longer (length all) (length later) tries n _ _ _ _ (length_begins all later begins) change)
+  answered_later (is_operated is operated answers) = is_operated is (operated_longer (length all) (length later) tries _ _ _ (length_begins all later begins) operated) (answers_later _ _ _ _ answers)
+
+  pub ran_later : {first : List Mark} {tasks : List Task} {answers : List Told} {marks : List Mark} → HasRun tells all tries n first tasks answers marks → HasRun tells later tries n first tasks answers marks
+  ran_later nothing = nothing
+  ran_later (one_more before answered) = one_more (ran_later before) (answered_later answered)
 
 -- ---- losses
 -- the mark that tells an answer tells of no loss
@@ -61,12 +76,40 @@ told_none : (asked : Asked) (told : OpAnswer) → losses (told_marks asked told)
 told_none asked (op.Probed key found) = refl
 told_none asked told = refl
 
--- ---- one task
-module _ {V : Type 0} (tries harms harms_then : ℕ) (old new : Sitting V Mark) where
-  as_asked : (asked : Task) (key : List ℕ) (program : List Clause) (told : Answer) (own : List Mark) → asked ≡ task.Change key program → IsChange (length new.seen) tries old.number key program told own → IsAnswered (length new.seen) tries old.number asked (said.Change told) own
-  as_asked asked key program told own is change = subst (λ (t : Task). IsAnswered (length new.seen) tries old.number t (said.Change told) own) (sym is) (is_change change)
+-- ---- a probe
+-- the front then, and the one before the call
+silent_own : {V : Type 0} (old new : Sitting V Mark) (told : OpAnswer) (own : List Mark) → old.number ≡ 0 → GoesOn old.number old.seen new.seen own → IsSilentSince 0 old new told → IsSilentAtMost (length own) told
+silent_own {V} old new (op.Probed key found) own operator goes few =
+    let made : length (mine 0 new.seen) ≡ length (mine 0 old.seen ++ own) = ap (λ (l : List Mark). length l) (subst (λ (k : ℕ). mine k new.seen ≡ mine k old.seen ++ own) operator goes.own_marks) in
+    omega (arith, few, made, length-append (mine 0 old.seen) own)
+silent_own old new (op.Joined id era rescanned) own operator goes few = tt
+silent_own old new (op.Left id era rescanned) own operator goes few = tt
+silent_own old new (op.Refused fault) own operator goes few = tt
+silent_own old new (op.Busy era) own operator goes few = tt
+silent_own old new (op.Collected key ballot removed kept) own operator goes few = tt
+silent_own old new (op.NotEmpty version) own operator goes few = tt
+silent_own old new (op.Absent acceptor) own operator goes few = tt
+silent_own old new (op.ProposerDown proposer) own operator goes few = tt
+silent_own old new (op.Stopped why) own operator goes few = tt
 
-  pub change_ran : (asked : Task) (key : List ℕ) (program : List Clause) (told : Answer) → asked ≡ task.Change key program → Answers key program tries harms harms_then old new told → HasRunTask tries harms harms_then asked (said.Change told) old new
+pub found_in : {V : Type 0} (tells : Type 0) (old new : Sitting V Mark) (told : OpAnswer) (own : List Mark) → old.number ≡ 0 → GoesOn old.number old.seen new.seen own → IsSilentSince 0 old new told → (tells → IsTrueProbe old.seen new.seen told)
+    → IsFoundIn tells new.seen old.number (mine old.number old.seen) own told
+found_in tells old new told own operator goes few truly = record {
+  before = old.seen;
+  front = new.seen;
+  goes_on = goes.begins;
+  begins = record { behind = []; whole = append-nil new.seen };
+  made = refl;
+  silent = silent_own old new told own operator goes few;
+  truly = truly;
+}
+
+-- ---- one task
+module _ {V : Type 0} (tells : Type 0) (tries harms harms_then : ℕ) (old new : Sitting V Mark) where
+  as_asked : (asked : Task) (key : List ℕ) (program : List Clause) (told : Answer) (own : List Mark) → asked ≡ task.Change key program → IsChange (length new.seen) tries old.number key program told own → IsAnswered tells new.seen tries old.number (mine old.number old.seen) asked (said.Change told) own
+  as_asked asked key program told own is change = subst (λ (t : Task). IsAnswered tells new.seen tries old.number (mine old.number old.seen) t (said.Change told) own) (sym is) (is_change change)
+
+  pub change_ran : (asked : Task) (key : List ℕ) (program : List Clause) (told : Answer) → asked ≡ task.Change key program → Answers key program tries harms harms_then old new told → HasRunTask tells tries harms harms_then asked (said.Change told) old new
   change_ran asked key program told is (is_answered call rounds between front of_call counted last tried) = record {
     own = mark.Begun old.number call key program ∷ between ++ mark.Ended old.number call rounds told ∷ [];
     front = front;
@@ -75,14 +118,14 @@ module _ {V : Type 0} (tries harms harms_then : ℕ) (old new : Sitting V Mark) 
   }
   change_ran asked key program told is (is_not_begun refusal counted front) = record { own = []; front = front; answered = as_asked asked key program told [] is (is_turned_away refusal); counted = counted }
 
-  pub order_ran : (order : Task) (asked : Asked) (told : OpAnswer) → asked_by order ≡ Some asked → AnswersOrder asked told → Operates asked (IsOrderMark tries asked) harms harms_then old new told → HasRunTask tries harms harms_then order (said.Operator told) old new
+  pub order_ran : (order : Task) (asked : Asked) (told : OpAnswer) → asked_by order ≡ Some asked → ((own : List Mark) → GoesOn old.number old.seen new.seen own → AnswersOrder tells new.seen old.number (mine old.number old.seen) own asked told) → Operates asked (IsOrderMark tries asked) harms harms_then old new told → HasRunTask tells tries harms harms_then order (said.Operator told) old new
   order_ran order asked told is answers (operations.is_told marks front last all_such counted) = record {
     own = marks ++ told_marks asked told;
     front = front;
-    answered = is_operated is (runs.is_told marks all_such) answers;
+    answered = is_operated is (runs.is_told marks all_such) (answers (marks ++ told_marks asked told) front);
     counted = subst (λ (k : ℕ). IsCounted k harms harms_then) (sym (losses_append marks (told_marks asked told) ∙ (let none = told_none asked told in let e : losses marks + losses (told_marks asked told) ≡ losses marks = omega (arith, none) in e))) counted;
   }
-  order_ran order asked told is answers (operations.is_not_begun why refusal stopped counted front) = record { own = []; front = front; answered = is_operated is (runs.is_not_begun why refusal stopped) answers; counted = counted }
+  order_ran order asked told is answers (operations.is_not_begun why refusal stopped counted front) = record { own = []; front = front; answered = is_operated is (runs.is_not_begun why refusal stopped) (answers [] front); counted = counted }
 
 -- ---- task by task
 pub still_pass : {V : Type 0} (board : TurnId) (old new : Sitting V Mark) → IsPassOf board old → new ≡ record old { seen = new.seen; own = new.own } → IsPassOf board new
@@ -92,19 +135,19 @@ still_pass {V} board old new is same = record {
   known = let number : new.number ≡ old.number = ap (λ (s : Sitting V Mark). s.number) same in omega (arith, number, is.known);
 }
 
-module _ {V : Type 0} (tries : ℕ) where
-  pub raced_none : (harms : ℕ) (board : TurnId) (pass : Sitting V Mark) (tasks : List Task) (told : List Told) (room : ℕ) → IsReady board pass tasks told room → HasRaced tries harms harms [] told pass pass
+module _ {V : Type 0} (tells : Type 0) (tries : ℕ) where
+  pub raced_none : (harms : ℕ) (board : TurnId) (pass : Sitting V Mark) (tasks : List Task) (told : List Told) (room : ℕ) → IsReady board pass tasks told room → HasRaced tells tries harms harms [] told pass pass
   raced_none harms board pass tasks told room ready = record {
     pass = refl;
     free = ready.free;
     own = [];
     front = record { begins = record { behind = []; whole = append-nil pass.seen }; own_marks = sym (append-nil (mine pass.number pass.seen)) };
-    run = subst (λ (l : List Told). HasRun (length pass.seen) tries pass.number [] l []) (sym ready.untold) nothing;
+    run = subst (λ (l : List Told). HasRun tells pass.seen tries pass.number (mine pass.number pass.seen) [] l []) (sym ready.untold) nothing;
     counted = record { never_falls = omega arith; counted = λ below. omega arith };
   }
 
-  pub raced_more : (harms harms_now harms_then : ℕ) (tasks : List Task) (asked : Task) (told : List Told) (answer : Told) (a b c : Sitting V Mark) → HasRaced tries harms harms_now tasks told a b
-      → c ≡ record b { seen = c.seen; own = c.own } → IsFree c.own → HasRunTask tries harms_now harms_then asked answer b c → HasRaced tries harms harms_then (tasks ++ asked ∷ []) (told ++ answer ∷ []) a c
+  pub raced_more : (harms harms_now harms_then : ℕ) (tasks : List Task) (asked : Task) (told : List Told) (answer : Told) (a b c : Sitting V Mark) → HasRaced tells tries harms harms_now tasks told a b
+      → c ≡ record b { seen = c.seen; own = c.own } → IsFree c.own → HasRunTask tells tries harms_now harms_then asked answer b c → HasRaced tells tries harms harms_then (tasks ++ asked ∷ []) (told ++ answer ∷ []) a c
   raced_more harms harms_now harms_then tasks asked told answer a b c first same free then_ =
       let number : b.number ≡ a.number = ap (λ (s : Sitting V Mark). s.number) first.pass in
       record {
@@ -112,13 +155,14 @@ module _ {V : Type 0} (tries : ℕ) where
         free = free;
         own = first.own ++ then_.own;
         front = goes_on_then a.number a.seen b.seen c.seen first.own then_.own first.front (subst (λ (k : ℕ). GoesOn k b.seen c.seen then_.own) number then_.front);
-        run = one_more (ran_longer (length b.seen) (length c.seen) tries a.number (length_begins b.seen c.seen then_.front.begins) first.run) (subst (λ (k : ℕ). IsAnswered (length c.seen) tries k asked answer then_.own) number then_.answered);
+        run = one_more (ran_later tells b.seen c.seen then_.front.begins tries a.number first.run)
+            (subst (λ (l : List Mark). IsAnswered tells c.seen tries a.number l asked answer then_.own) first.front.own_marks (subst (λ (k : ℕ). IsAnswered tells c.seen tries k (mine k b.seen) asked answer then_.own) number then_.answered));
         counted = subst (λ (k : ℕ). IsCounted k harms harms_then) (sym (losses_append first.own then_.own)) (counted_then (losses first.own) (losses then_.own) harms harms_now harms_then first.counted then_.counted);
       }
 
   -- the same with what was read and noted
   pub raced_next : (harms harms_now harms_then : ℕ) (all tasks : List Task) (asked : Task) (noted told : List Told) (answer : Told) (a b c : Sitting V Mark) → all ≡ tasks ++ asked ∷ [] → noted ≡ told ++ answer ∷ []
-      → HasRaced tries harms harms_now tasks told a b → c ≡ record b { seen = c.seen; own = c.own } → IsFree c.own → HasRunTask tries harms_now harms_then asked answer b c → HasRaced tries harms harms_then all noted a c
+      → HasRaced tells tries harms harms_now tasks told a b → c ≡ record b { seen = c.seen; own = c.own } → IsFree c.own → HasRunTask tells tries harms_now harms_then asked answer b c → HasRaced tells tries harms harms_then all noted a c
   raced_next harms harms_now harms_then all tasks asked noted told answer a b c read notes first same free then_ =
-      subst (λ (l : List Told). HasRaced tries harms harms_then all l a c) (sym notes)
-      (subst (λ (l : List Task). HasRaced tries harms harms_then l (told ++ answer ∷ []) a c) (sym read) (raced_more harms harms_now harms_then tasks asked told answer a b c first same free then_))
+      subst (λ (l : List Told). HasRaced tells tries harms harms_then all l a c) (sym notes)
+      (subst (λ (l : List Task). HasRaced tells tries harms harms_then l (told ++ answer ∷ []) a c) (sym read) (raced_more harms harms_now harms_then tasks asked told answer a b c first same free then_))

@@ -13,18 +13,18 @@ use Rattle.cas_race.specs.declared.race.RaceFault.{RaceFault}
 use Rattle.cas_race.specs.declared.race.RaceFault.TheVariants as fault
 use Rattle.cas_race.specs.declared.told.Told.{Told}
 
--- The record of a race over these lines, read oldest first: each caller's own marks are those of what its lines ask for, in their order, with
+-- The record of a race over these lines, read oldest first, on disks that tell what they keep or do not: each caller's own marks are those of what its lines ask for, in their order, with
 -- these answers; and of its frames at most as many were lost or made late as its fate's count of harms rose by.
-pub record Raced (tries proposers : ℕ) (lines : List (List ℕ)) (harms harms_then : List ℕ) (answers : List (List Told)) (marks : List Mark) : Type 0 where
+pub record Raced (tells : Type 0) (tries proposers : ℕ) (lines : List (List ℕ)) (harms harms_then : List ℕ) (answers : List (List Told)) (marks : List Mark) : Type 0 where
   pub callers : length answers ≡ suc proposers
-  pub runs : (n : ℕ) (of_caller : List Told) → slice_get answers n ≡ Some of_caller → HasRun (length marks) tries n (tasks_of proposers n lines) of_caller (mine n marks)
+  pub runs : (n : ℕ) (of_caller : List Told) → slice_get answers n ≡ Some of_caller → HasRun tells marks tries n [] (tasks_of proposers n lines) of_caller (mine n marks)
   pub counted : (n before after : ℕ) → n ≤ proposers → slice_get harms n ≡ Some before → slice_get harms_then n ≡ Some after → IsCounted (losses (mine n marks)) before after
 
 -- What a race wrote whose record has these marks: its text, or a front of it where the sink failed or there was no memory; or nothing, where not
 -- all lines could be read, or there was no memory before any was run.
-pub data WroteRace (tries proposers : ℕ) (input old new : Option (List ℕ)) (harms harms_then : List ℕ) (marks : List Mark) : Result (Unit {0}) RaceFault → Type 0 where
-  whole : (lines : List (List ℕ)) (answers : List (List Told)) → AreAllLines input lines → Raced tries proposers lines harms harms_then answers marks → WroteText (IsRaceText (bad_lines proposers 1 lines) answers (reverse marks)) old new
-      → WroteRace tries proposers input old new harms harms_then marks (Ok tt)
-  cut_off : (why : HistoryFault) (lines : List (List ℕ)) (answers : List (List Told)) → AreAllLines input lines → Raced tries proposers lines harms harms_then answers marks
-      → WroteFront (IsRaceText (bad_lines proposers 1 lines) answers (reverse marks)) old new → WroteRace tries proposers input old new harms harms_then marks (Err (fault.CutOff why))
-  not_run : (why : LineFault) → ((n : ℕ) → n ≤ proposers → mine n marks ≡ []) → harms_then ≡ harms → new ≡ old → WroteRace tries proposers input old new harms harms_then marks (Err (fault.NotRun why))
+pub data WroteRace (tells : Type 0) (tries proposers : ℕ) (input old new : Option (List ℕ)) (harms harms_then : List ℕ) (marks : List Mark) : Result (Unit {0}) RaceFault → Type 0 where
+  whole : (lines : List (List ℕ)) (answers : List (List Told)) → AreAllLines input lines → Raced tells tries proposers lines harms harms_then answers marks → WroteText (IsRaceText (bad_lines proposers 1 lines) answers (reverse marks)) old new
+      → WroteRace tells tries proposers input old new harms harms_then marks (Ok tt)
+  cut_off : (why : HistoryFault) (lines : List (List ℕ)) (answers : List (List Told)) → AreAllLines input lines → Raced tells tries proposers lines harms harms_then answers marks
+      → WroteFront (IsRaceText (bad_lines proposers 1 lines) answers (reverse marks)) old new → WroteRace tells tries proposers input old new harms harms_then marks (Err (fault.CutOff why))
+  not_run : (why : LineFault) → ((n : ℕ) → n ≤ proposers → mine n marks ≡ []) → harms_then ≡ harms → new ≡ old → WroteRace tells tries proposers input old new harms harms_then marks (Err (fault.NotRun why))

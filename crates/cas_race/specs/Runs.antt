@@ -10,6 +10,7 @@ use Rattle.cas_record.specs.declared.operator.Asked.TheVariants as ask
 use Rattle.cas_record.specs.declared.operator.OpAnswer.{OpAnswer}
 use Rattle.cas_record.specs.declared.operator.OpAnswer.TheVariants.{Stopped}
 use Rattle.cas_cluster.specs.StepCouncil.{told_marks}
+use Rattle.cas_turn.specs.Seen.{Begins}
 use Rattle.cas_turn.specs.Sitting.{Sitting, TurnId}
 use Rattle.cas_hold.specs.Collecting.{IsCollectingMark, IsCollectAnswer}
 use Rattle.cas_hold.specs.Conflicts.{is_conflict}
@@ -17,7 +18,7 @@ use Rattle.cas_hold.specs.Deeds.{IsRefusal}
 use Rattle.cas_hold.specs.Membership.{IsMembersAnswer, IsRescanMark}
 use Rattle.cas_hold.specs.Mine.{mine, AreOfCall, losses, GoesOn}
 use Rattle.cas_hold.specs.Open.{IsFree}
-use Rattle.cas_hold.specs.Orders.{IsAskingHarm, IsProbeAnswer}
+use Rattle.cas_hold.specs.Orders.{IsAskingHarm, IsProbeAnswer, IsSilentAtMost, IsTrueProbe}
 use Rattle.cas_board.specs.Changes.{IsCounted}
 use Rattle.cas_board.specs.Passes.{IsPassOf}
 use Rattle.cas_tasks.specs.Tasks.{tasks_of}
@@ -60,23 +61,36 @@ pub data IsOperated (made tries : ℕ) (asked : Asked) (answered : OpAnswer) : L
   is_told : (before : List Mark) → All (IsOrderMark tries asked) before → IsOperated made tries asked answered (before ++ told_marks asked answered)
   is_not_begun : (why : Answer) → IsRefusal made why → answered ≡ Stopped why → IsOperated made tries asked answered []
 
+-- A probe that made these marks of its own, and before which the caller had made those: no more members told nothing than it made marks. Where
+-- disks tell what they keep, what it found is true of a front of the record, and at or above what was acknowledged in the one with which it
+-- began, in which all the earlier marks stand.
+pub record IsFoundIn (tells : Type 0) (all : List Mark) (n : ℕ) (earlier own : List Mark) (answered : OpAnswer) : Type 0 where
+  pub before : List Mark
+  pub front : List Mark
+  pub goes_on : Begins before front
+  pub begins : Begins front all
+  pub made : mine n before ≡ earlier
+  pub silent : IsSilentAtMost (length own) answered
+  pub truly : tells → IsTrueProbe before front answered
+
 -- The answer names the acceptor or the key that was asked for, or says what stopped the call. A probe asked all members for the key, and tells
 -- what each of them told.
-abbrev pub AnswersOrder : Asked → OpAnswer → Type 0
-AnswersOrder (ask.Join id) answered = IsMembersAnswer (ask.Join id) answered
-AnswersOrder (ask.Leave id) answered = IsMembersAnswer (ask.Leave id) answered
-AnswersOrder (ask.Collect key) answered = IsCollectAnswer key answered
-AnswersOrder (ask.Probe key) answered = (members : List ℕ) × IsMemberSet members × IsProbeAnswer key members answered
+abbrev pub AnswersOrder : Type 0 → List Mark → ℕ → List Mark → List Mark → Asked → OpAnswer → Type 0
+AnswersOrder tells all n earlier own (ask.Join id) answered = IsMembersAnswer (ask.Join id) answered
+AnswersOrder tells all n earlier own (ask.Leave id) answered = IsMembersAnswer (ask.Leave id) answered
+AnswersOrder tells all n earlier own (ask.Collect key) answered = IsCollectAnswer key answered
+AnswersOrder tells all n earlier own (ask.Probe key) answered = ((members : List ℕ) × IsMemberSet members × IsProbeAnswer key members answered) × IsFoundIn tells all n earlier own answered
 
--- the caller's marks of one task, with what it was answered
-pub data IsAnswered (made tries n : ℕ) : Task → Told → List Mark → Type 0 where
-  is_change : {key : List ℕ} {program : List Clause} {answered : Answer} {own : List Mark} → IsChange made tries n key program answered own → IsAnswered made tries n (task.Change key program) (said.Change answered) own
-  is_operated : {asked : Asked} {order : Task} {answered : OpAnswer} {own : List Mark} → asked_by order ≡ Some asked → IsOperated made tries asked answered own → AnswersOrder asked answered → IsAnswered made tries n order (said.Operator answered) own
+-- the caller's marks of one task, with what it was answered, in a record with these marks
+pub data IsAnswered (tells : Type 0) (all : List Mark) (tries n : ℕ) (earlier : List Mark) : Task → Told → List Mark → Type 0 where
+  is_change : {key : List ℕ} {program : List Clause} {answered : Answer} {own : List Mark} → IsChange (length all) tries n key program answered own → IsAnswered tells all tries n earlier (task.Change key program) (said.Change answered) own
+  is_operated : {asked : Asked} {order : Task} {answered : OpAnswer} {own : List Mark} → asked_by order ≡ Some asked → IsOperated (length all) tries asked answered own → AnswersOrder tells all n earlier own asked answered → IsAnswered tells all tries n earlier order (said.Operator answered) own
 
--- the caller's marks of its tasks, one after another, with these answers
-pub data HasRun (made tries n : ℕ) : List Task → List Told → List Mark → Type 0 where
-  nothing : HasRun made tries n [] [] []
-  one_more : {tasks : List Task} {answers : List Told} {marks own : List Mark} {asked : Task} {told : Told} → HasRun made tries n tasks answers marks → IsAnswered made tries n asked told own → HasRun made tries n (tasks ++ asked ∷ []) (answers ++ told ∷ []) (marks ++ own)
+-- the caller's marks of its tasks, one after another behind its first ones, with these answers
+pub data HasRun (tells : Type 0) (all : List Mark) (tries n : ℕ) (first : List Mark) : List Task → List Told → List Mark → Type 0 where
+  nothing : HasRun tells all tries n first [] [] []
+  one_more : {tasks : List Task} {answers : List Told} {marks own : List Mark} {asked : Task} {told : Told} → HasRun tells all tries n first tasks answers marks → IsAnswered tells all tries n (first ++ marks) asked told own
+      → HasRun tells all tries n first (tasks ++ asked ∷ []) (answers ++ told ∷ []) (marks ++ own)
 
 -- ---- callers in their threads
 module _ {V : Type 0} where
@@ -89,20 +103,20 @@ module _ {V : Type 0} where
     pub enough : length tasks ≤ room
 
   -- it has run this task
-  pub record HasRunTask (tries harms harms_then : ℕ) (asked : Task) (told : Told) (old new : Sitting V Mark) : Type 0 where
+  pub record HasRunTask (tells : Type 0) (tries harms harms_then : ℕ) (asked : Task) (told : Told) (old new : Sitting V Mark) : Type 0 where
     pub own : List Mark
     pub front : GoesOn old.number old.seen new.seen own
-    pub answered : IsAnswered (length new.seen) tries old.number asked told own
+    pub answered : IsAnswered tells new.seen tries old.number (mine old.number old.seen) asked told own
     pub counted : IsCounted (losses own) harms harms_then
 
   -- It has run these tasks: the front that it has seen goes on with their marks, of which at most as many tell of frames that were lost or
   -- made late as its fate's count of harms rose by.
-  pub record HasRaced (tries harms harms_then : ℕ) (tasks : List Task) (told : List Told) (old new : Sitting V Mark) : Type 0 where
+  pub record HasRaced (tells : Type 0) (tries harms harms_then : ℕ) (tasks : List Task) (told : List Told) (old new : Sitting V Mark) : Type 0 where
     pub pass : new ≡ record old { seen = new.seen; own = new.own }
     pub free : IsFree new.own
     pub own : List Mark
     pub front : GoesOn old.number old.seen new.seen own
-    pub run : HasRun (length new.seen) tries old.number tasks told own
+    pub run : HasRun tells new.seen tries old.number (mine old.number old.seen) tasks told own
     pub counted : IsCounted (losses own) harms harms_then
 
   -- ---- all callers
@@ -112,9 +126,9 @@ module _ {V : Type 0} where
     pub each : (n : ℕ) (pass : Sitting V Mark) → slice_get passes n ≡ Some pass → IsPassOf board pass × (pass.number ≡ n)
 
   -- the callers of these passes have run what the lines ask them for, with these answers, and as their fates count their harms
-  pub record AreRaced (tries proposers : ℕ) (lines : List (List ℕ)) (harms harms_then : List ℕ) (answers : List (List Told)) (passes : List (Sitting V Mark)) : Type 0 where
+  pub record AreRaced (tells : Type 0) (tries proposers : ℕ) (lines : List (List ℕ)) (harms harms_then : List ℕ) (answers : List (List Told)) (passes : List (Sitting V Mark)) : Type 0 where
     pub callers : length answers ≡ suc proposers
-    pub runs : (n : ℕ) (pass : Sitting V Mark) (of_caller : List Told) → slice_get passes n ≡ Some pass → slice_get answers n ≡ Some of_caller → HasRun (length pass.seen) tries n (tasks_of proposers n lines) of_caller (mine n pass.seen)
+    pub runs : (n : ℕ) (pass : Sitting V Mark) (of_caller : List Told) → slice_get passes n ≡ Some pass → slice_get answers n ≡ Some of_caller → HasRun tells pass.seen tries n [] (tasks_of proposers n lines) of_caller (mine n pass.seen)
     pub counted : (n before after : ℕ) (pass : Sitting V Mark) → slice_get passes n ≡ Some pass → slice_get harms n ≡ Some before → slice_get harms_then n ≡ Some after → IsCounted (losses (mine n pass.seen)) before after
 
 -- no answer yet, and room for one to each of the tasks

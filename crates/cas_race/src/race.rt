@@ -56,7 +56,8 @@ struct Results {
 /// read before any is run, and all have been run before anything is written: the answers to the bad lines in line order, then each caller's
 /// answers, callers in rising order, and then the settled history of each key that has one, the keys in byte order. Each caller runs its lines
 /// with the pass and the fate at the place of its number, in a thread of its own where one can be made. The fates come back in their places.
-/// What the record tells of the operator's changes of membership and collections is so in it, where disks tell what they keep.
+/// What the record tells of the operator's changes of membership and collections is so in it, where disks tell what they keep; and so is what
+/// a probe found, in a front of it.
 ///
 /// After [`RaceFault::NotRun`], which is as for [`read_sheet`], no line was run and nothing was written. After [`RaceFault::CutOff`] the sink has
 /// a front of the text.
@@ -78,7 +79,7 @@ pub fn race_on<R: Threads + Wait + Sync, S: Source, K: Sink, D: Disk + Send + Dr
     requires idle { All (λ pass. IsPassOf board.id pass × IsFree pass.own) passes.items }
     requires room { vec_capacity passes ≡ proposers + 1 }
     requires fates { vec_len fates.old ≡ 17 }
-    ensures raced { (marks : List Mark) × (D.tells → IsLegal (reverse marks)) × (D.tells → AreTellingsSo (reverse marks)) × (D.tells → AreKept D.may_leave (reverse marks) result.1.acceptors.items) × WroteRace tries proposers (S.remaining source.old) (K.contents sink.old) (K.contents sink.new) (map F.harm_count fates.old.items) (map F.harm_count fates.new.items) marks result.0 × AreDeserved D.fault_count result.1.acceptors.items result.1.vaults.items marks }
+    ensures raced { (marks : List Mark) × (D.tells → IsLegal (reverse marks)) × (D.tells → AreTellingsSo (reverse marks)) × (D.tells → AreKept D.may_leave (reverse marks) result.1.acceptors.items) × WroteRace D.tells tries proposers (S.remaining source.old) (K.contents sink.old) (K.contents sink.new) (map F.harm_count fates.old.items) (map F.harm_count fates.new.items) marks result.0 × AreDeserved D.fault_count result.1.acceptors.items result.1.vaults.items marks }
     ensures read { OnOk result.0 (IsAtEnd (S.remaining source.new)) }
     ensures whole { OnOk result.0 (IfSome (S.remaining source.old) (λ input. ending_of input ≡ Whole)) }
     ensures read_fault { IsErrOf result.0 (RaceFault.NotRun LineFault.ReadFault) → Rose (S.faults_of source.old) (S.faults_of source.new) }
@@ -128,7 +129,7 @@ fn run_lines<R: Threads + Wait + Sync, S: Source, D: Disk + Send, F: Fate + Send
     requires room { vec_capacity passes.old ≡ proposers + 1 }
     requires fates { vec_len fates.old ≡ 17 }
     ensures raced { IfOk result (λ results. (lines : List (List ℕ)) × AreAllLines (S.remaining source.old) lines × (results.bad.items ≡ bad_lines proposers 1 lines)
-        × AreRaced tries proposers lines (map F.harm_count fates.old.items) (map F.harm_count fates.new.items) (map vec_items results.told.items) passes.new.items) }
+        × AreRaced D.tells tries proposers lines (map F.harm_count fates.old.items) (map F.harm_count fates.new.items) (map vec_items results.told.items) passes.new.items) }
     ensures not_run { OnErr result ((passes.new ≡ passes.old) × (fates.new ≡ fates.old)) }
     ensures passes { ArePassesOf board.now.id proposers passes.new.items }
     ensures fates { vec_len fates.new ≡ 17 }

@@ -109,7 +109,7 @@ pub(crate) fn run_all<R: Threads + Wait + Sync, D: Disk + Send, F: Fate + Send>(
     requires tries { 1 ≤ tries }
     requires ready { All (λ racer. IsReady board.now.id racer.pass racer.tasks.items racer.told.items (vec_capacity racer.told)) racers.old.items }
     ensures count { vec_len racers.new ≡ vec_len racers.old }
-    ensures raced { (i : ℕ) (d : _) → i < vec_len racers.old → HasRaced tries (F.harm_count (slice_index_or racers.old.items i d).fate) (F.harm_count (slice_index_or racers.new.items i d).fate) (slice_index_or racers.old.items i d).tasks.items (slice_index_or racers.new.items i d).told.items (slice_index_or racers.old.items i d).pass (slice_index_or racers.new.items i d).pass }
+    ensures raced { (i : ℕ) (d : _) → i < vec_len racers.old → HasRaced D.tells tries (F.harm_count (slice_index_or racers.old.items i d).fate) (F.harm_count (slice_index_or racers.new.items i d).fate) (slice_index_or racers.old.items i d).tasks.items (slice_index_or racers.new.items i d).told.items (slice_index_or racers.old.items i d).pass (slice_index_or racers.new.items i d).pass }
 {
     let threads = racers.len();
     thread::for_each_mut(
@@ -125,7 +125,7 @@ impl<D: Disk, F: Fate> Racer<D, F> {
     fn run<R: Wait>(&mut self, rt: &R, board: &Board<D>, tries: u32)
         requires tries { 1 ≤ tries }
         requires ready { IsReady board.now.id self.old.pass self.old.tasks.items self.old.told.items (vec_capacity self.old.told) }
-        ensures raced { HasRaced tries (F.harm_count self.old.fate) (F.harm_count self.new.fate) self.old.tasks.items self.new.told.items self.old.pass self.new.pass }
+        ensures raced { HasRaced D.tells tries (F.harm_count self.old.fate) (F.harm_count self.new.fate) self.old.tasks.items self.new.told.items self.old.pass self.new.pass }
     {
         let Racer {
             pass,
@@ -149,7 +149,7 @@ fn run_tasks<R: Wait, D: Disk, F: Fate>(
 )
     requires tries { 1 ≤ tries }
     requires ready { IsReady board.now.id pass.old tasks.now told.old.items (vec_capacity told.old) }
-    ensures raced { HasRaced tries (F.harm_count fate.old) (F.harm_count fate.new) tasks.now told.new.items pass.old pass.new }
+    ensures raced { HasRaced D.tells tries (F.harm_count fate.old) (F.harm_count fate.new) tasks.now told.new.items pass.old pass.new }
 {
     for task in tasks {
         let answer = run_task(rt, board, pass, fate, task, tries);
@@ -172,7 +172,7 @@ fn run_task<R: Wait, D: Disk, F: Fate>(
     requires tries { 1 ≤ tries }
     ensures pass { pass.new ≡ record pass.old { seen = pass.new.seen; own = pass.new.own } }
     ensures free { IsFree pass.new.own }
-    ensures ran { HasRunTask tries (F.harm_count fate.old) (F.harm_count fate.new) task.now result pass.old pass.new }
+    ensures ran { HasRunTask D.tells tries (F.harm_count fate.old) (F.harm_count fate.new) task.now result pass.old pass.new }
 {
     match task {
         Task::Change { key, program } => {

@@ -14,7 +14,7 @@ returns-in-Ok-write_race-clause-raced g c =
       c.close-book.ensures.legal,
       c.close-book.ensures.tellings,
       c.close-book.ensures.kept,
-      wrote_whole c.args.board.id c.args.proposers c.run_lines-raced.new.passes.items c.run_lines-raced.ensures.passes c.close-book.result.book.marks c.close-book.ensures.mine c.close-book.ensures.fronts c.args.tries raced.0 (map g.F.Fate.harm_count c.args.fates.now.items) (map g.F.Fate.harm_count c.run_lines-raced.new.fates.items) (map vec_items results.told.items) raced.3
+      wrote_whole c.args.board.id c.args.proposers c.run_lines-raced.new.passes.items c.run_lines-raced.ensures.passes c.close-book.result.book.marks c.close-book.ensures.mine c.close-book.ensures.fronts g.D.Disk.tells c.args.tries raced.0 (map g.F.Fate.harm_count c.args.fates.now.items) (map g.F.Fate.harm_count c.run_lines-raced.new.fates.items) (map vec_items results.told.items) raced.3
           (g.S.Source.remaining c.args.source.now) (g.K.Sink.contents c.args.sink.now) (g.K.Sink.contents c.write_race.new.sink) raced.1 results.bad.items raced.2 c.in-Ok-write_race.ensures.all,
       c.close-book.ensures.deserved,
     )
@@ -27,7 +27,7 @@ returns-in-Ok-clause-raced g c =
       c.close-book.ensures.legal,
       c.close-book.ensures.tellings,
       c.close-book.ensures.kept,
-      wrote_front c.args.board.id c.args.proposers c.run_lines-raced.new.passes.items c.run_lines-raced.ensures.passes c.close-book.result.book.marks c.close-book.ensures.mine c.close-book.ensures.fronts c.args.tries raced.0 (map g.F.Fate.harm_count c.args.fates.now.items) (map g.F.Fate.harm_count c.run_lines-raced.new.fates.items) (map vec_items results.told.items) raced.3
+      wrote_front c.args.board.id c.args.proposers c.run_lines-raced.new.passes.items c.run_lines-raced.ensures.passes c.close-book.result.book.marks c.close-book.ensures.mine c.close-book.ensures.fronts g.D.Disk.tells c.args.tries raced.0 (map g.F.Fate.harm_count c.args.fates.now.items) (map g.F.Fate.harm_count c.run_lines-raced.new.fates.items) (map vec_items results.told.items) raced.3
           (g.S.Source.remaining c.args.source.now) (g.K.Sink.contents c.args.sink.now) (g.K.Sink.contents c.write_race.new.sink) raced.1 results.bad.items raced.2 c.in-Err-write_race.fault c.in-Err-write_race.ensures.front,
       c.close-book.ensures.deserved,
     )
@@ -39,7 +39,7 @@ returns-clause-raced g c =
       c.close-book.ensures.legal,
       c.close-book.ensures.tellings,
       c.close-book.ensures.kept,
-      wrote_nothing c.args.board.id c.args.proposers c.run_lines-raced.new.passes.items c.run_lines-raced.ensures.passes c.close-book.result.book.marks c.close-book.ensures.mine c.close-book.ensures.fronts c.args.tries (g.S.Source.remaining c.args.source.now) (g.K.Sink.contents c.args.sink.now) (map g.F.Fate.harm_count c.args.fates.now.items) (map g.F.Fate.harm_count c.run_lines-raced.new.fates.items) c.in-Err.fault
+      wrote_nothing c.args.board.id c.args.proposers c.run_lines-raced.new.passes.items c.run_lines-raced.ensures.passes c.close-book.result.book.marks c.close-book.ensures.mine c.close-book.ensures.fronts g.D.Disk.tells c.args.tries (g.S.Source.remaining c.args.source.now) (g.K.Sink.contents c.args.sink.now) (map g.F.Fate.harm_count c.args.fates.now.items) (map g.F.Fate.harm_count c.run_lines-raced.new.fates.items) c.in-Err.fault
           (ap (λ (v : Vec (Sitting (Shared g.row.D.Denot) Mark) Global). v.items) same.0 ∙ c.requires.passes) (ap (λ (v : Vec g.row.F.Denot Global). map g.F.Fate.harm_count v.items) same.1),
       c.close-book.ensures.deserved,
     )

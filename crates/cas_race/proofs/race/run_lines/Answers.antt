@@ -62,16 +62,16 @@ as_many : (g : Over) (c : goal.After-drop-tasks-2 g) → length c.run_all.new.ra
 as_many g c = let count = c.run_all.ensures.count in let old = c.line_up.new.racers.ok.0 in let new = c.run_all.new.racers.ok.0 in omega (arith, count, old, new)
 
 ran : (g : Over) (c : goal.After-drop-tasks-2 g) → (i : ℕ) (d : ARacer g) → i < length c.line_up.new.racers.items
-    → HasRaced c.args.tries (g.F.Fate.harm_count (get_or c.line_up.new.racers.items i d).fate) (g.F.Fate.harm_count (get_or c.run_all.new.racers.items i d).fate) (get_or c.line_up.new.racers.items i d).tasks.items (get_or c.run_all.new.racers.items i d).told.items (get_or c.line_up.new.racers.items i d).pass (get_or c.run_all.new.racers.items i d).pass
+    → HasRaced g.D.Disk.tells c.args.tries (g.F.Fate.harm_count (get_or c.line_up.new.racers.items i d).fate) (g.F.Fate.harm_count (get_or c.run_all.new.racers.items i d).fate) (get_or c.line_up.new.racers.items i d).tasks.items (get_or c.run_all.new.racers.items i d).told.items (get_or c.line_up.new.racers.items i d).pass (get_or c.run_all.new.racers.items i d).pass
 ran g c i d low =
     let old = c.line_up.new.racers.ok.0 in
-    subst (λ (k : ℕ). HasRaced k (g.F.Fate.harm_count (get_or c.line_up.new.racers.items i d).fate) (g.F.Fate.harm_count (get_or c.run_all.new.racers.items i d).fate) (get_or c.line_up.new.racers.items i d).tasks.items (get_or c.run_all.new.racers.items i d).told.items (get_or c.line_up.new.racers.items i d).pass (get_or c.run_all.new.racers.items i d).pass) c.from.ensures
+    subst (λ (k : ℕ). HasRaced g.D.Disk.tells k (g.F.Fate.harm_count (get_or c.line_up.new.racers.items i d).fate) (g.F.Fate.harm_count (get_or c.run_all.new.racers.items i d).fate) (get_or c.line_up.new.racers.items i d).tasks.items (get_or c.run_all.new.racers.items i d).told.items (get_or c.line_up.new.racers.items i d).pass (get_or c.run_all.new.racers.items i d).pass) c.from.ensures
     (c.run_all.ensures.raced i d (omega (arith, low, old)))
 
 pub returns-clause-passes : goal.returns-clause-passes
 returns-clause-passes g c =
     subst (ArePassesOf c.args.board.now.id c.args.proposers) (sym c.take_back.ensures.passes)
-    (passes_are (pass_in g) (λ racer. g.F.Fate.harm_count racer.fate) (λ racer. racer.tasks.items) (λ racer. racer.told.items) c.args.tries c.line_up.new.racers.items c.run_all.new.racers.items (as_many g c) (ran g c) c.args.board.now.id c.args.proposers (c.line_up.ensures.passes ∙ c.requires.passes)
+    (passes_are (pass_in g) (λ racer. g.F.Fate.harm_count racer.fate) (λ racer. racer.tasks.items) (λ racer. racer.told.items) g.D.Disk.tells c.args.tries c.line_up.new.racers.items c.run_all.new.racers.items (as_many g c) (ran g c) c.args.board.now.id c.args.proposers (c.line_up.ensures.passes ∙ c.requires.passes)
     (racers_idle c.args.board.now.id c.args.proposers c.args.passes.now.items c.requires.passes c.requires.idle (pass_in g) c.line_up.new.racers.items c.line_up.ensures.passes))
 
 pub returns-clause-raced : goal.returns-clause-raced
@@ -85,9 +85,9 @@ returns-clause-raced g c =
       lines,
       c.in_ok-bad.ensures.parted.1,
       c.in_ok-bad.ensures.parted.2.bad_are,
-      subst (λ (l : List (Sitting (Shared g.row.D.Denot) Mark)). AreRaced c.args.tries c.args.proposers lines (map g.F.Fate.harm_count c.args.fates.now.items) (map g.F.Fate.harm_count c.take_back.new.fates.items) (map vec_items c.take_back.new.told.items) l) (sym c.take_back.ensures.passes)
-          (subst (λ (l : List (List Told)). AreRaced c.args.tries c.args.proposers lines (map g.F.Fate.harm_count c.args.fates.now.items) (map g.F.Fate.harm_count c.take_back.new.fates.items) l (map (pass_in g) new)) (sym told_are)
-          (are_raced (pass_in g) (λ racer. g.F.Fate.harm_count racer.fate) (λ racer. racer.tasks.items) (λ racer. racer.told.items) c.args.tries old new (as_many g c) (ran g c) c.args.board.now.id c.args.proposers (c.line_up.ensures.passes ∙ c.requires.passes) lines _ _ rest asks
+      subst (λ (l : List (Sitting (Shared g.row.D.Denot) Mark)). AreRaced g.D.Disk.tells c.args.tries c.args.proposers lines (map g.F.Fate.harm_count c.args.fates.now.items) (map g.F.Fate.harm_count c.take_back.new.fates.items) (map vec_items c.take_back.new.told.items) l) (sym c.take_back.ensures.passes)
+          (subst (λ (l : List (List Told)). AreRaced g.D.Disk.tells c.args.tries c.args.proposers lines (map g.F.Fate.harm_count c.args.fates.now.items) (map g.F.Fate.harm_count c.take_back.new.fates.items) l (map (pass_in g) new)) (sym told_are)
+          (are_raced (pass_in g) (λ racer. g.F.Fate.harm_count racer.fate) (λ racer. racer.tasks.items) (λ racer. racer.told.items) g.D.Disk.tells c.args.tries old new (as_many g c) (ran g c) c.args.board.now.id c.args.proposers (c.line_up.ensures.passes ∙ c.requires.passes) lines _ _ rest asks
           (map_parts (λ racer. racer.fate) g.F.Fate.harm_count old (reverse c.line_up.new.fates.items) c.args.fates.now.items c.line_up.ensures.fates)
           (map_parts (λ racer. racer.fate) g.F.Fate.harm_count new (reverse c.line_up.new.fates.items) c.take_back.new.fates.items (sym c.take_back.ensures.fates)))),
     )
