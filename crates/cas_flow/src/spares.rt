@@ -26,6 +26,7 @@ impl Model for Spares {
 }
 
 impl Spares {
+    /// No frame is spared yet, and there is room for as many as may be.
     pub fn new(alloc: Global) -> Result<Spares, AllocError> {
         Ok(Spares {
             frames: Vec::with_capacity(alloc, MOST_SPARE)?,

@@ -1,5 +1,5 @@
 -- What is kept on the shelves of a world is kept on the disks below them.
-use Rattle.std.proofs.Common.{◌≡◌, ℕ, List, reverse, Ok, refl, sym, subst}
+use Rattle.std.proofs.Common.{ℕ, List, reverse, Ok, refl, sym, subst}
 use Rattle.cas_acceptor.specs.Acceptor.{AcceptorView}
 use Rattle.cas_record.specs.declared.mark.Acknowledgment.{Acknowledgment}
 use Rattle.cas_record.specs.declared.mark.Mark.TheVariants.{Acked}

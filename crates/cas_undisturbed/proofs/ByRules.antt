@@ -1,5 +1,5 @@
 -- A change whose frames rules decide of: no late frame strays in, and the rules stay.
-use Rattle.std.proofs.Common.{◌≡◌, ◌-◌, ◌<◌, ℕ, Bool, true, false, Option, None, Some, List, [], refl, sym, ap, subst, ◌∙◌}
+use Rattle.std.proofs.Common.{◌≡◌, ◌-◌, ◌<◌, ℕ, Bool, true, false, Option, None, Some, List, [], refl, ap, subst}
 use Rattle.cas_change.specs.declared.program.Clause.{Clause}
 use Rattle.cas_fate.specs.declared.fate.Leg.{Leg}
 use Rattle.cas_fate.specs.declared.fate.Verdict.{Verdict}
@@ -7,7 +7,7 @@ use Rattle.cas_flow.specs.Flow.{queue_at}
 use Rattle.cas_flow.specs.Message.{head_of}
 use Rattle.cas_flow.specs.declared.message.Message.{Message}
 use Rattle.cas_record.specs.declared.answer.Answer.{Answer}
-use Rattle.cas_cluster.specs.Step.{Step, Begin, RefuseBegin, Turn, RefuseTurn, Propose, Count, End, CrashProposer}
+use Rattle.cas_cluster.specs.Step.{Step, Begin, RefuseBegin, Turn, RefuseTurn, End, CrashProposer}
 use Rattle.cas_cluster.specs.View.{Meaning, View, IsAt}
 use Rattle.cas_script.specs.Changes as of
 use Rattle.cas_script.specs.Changes.{Strikes, IsAccepting, IsMet, IsRefused, ProposesAt, CountsAt}

@@ -22,7 +22,7 @@ use Rattle.cas_cluster.proofs.Places.{at_one, at_set, same_or_not}
 use Rattle.cas_causes.specs.Rounds.{Brings, nothing, one}
 use Rattle.cas_causes.proofs.Hearing.{at_other, steps}
 use Rattle.cas_undisturbed.proofs.ByRules as script
-use Rattle.cas_undisturbed.proofs.ByRules.{Turned, AllTurned, FailsToTurn, EndsPrepare, IsAccepted, IsRound, AreRounds}
+use Rattle.cas_undisturbed.proofs.ByRules.{Turned, FailsToTurn, EndsPrepare, IsAccepted, IsRound, AreRounds}
 use Rattle.cas_script.specs.Conditions.{Rule, verdict_on}
 use Rattle.cas_script.specs.declared.halt.Halt.{Halt}
 use Rattle.cas_undisturbed.specs.Lines.{IsMemberOf}

@@ -1,18 +1,14 @@
 -- What the calls of a collection leave to the callers, and how far they lead it on.
-use Rattle.std.proofs.Common.{◌≡◌, ◌≢◌, ◌≤◌, ℕ, nat_eq, nat_lt, Bool, true, false, List, Option, None, Some, Ok, Err, slice_get, inl, inr, refl, sym, ap, subst, ◌∙◌, eqb-true}
-use Rattle.std.specs.Prelude.{Result, IfErr, OnErr, OnOk, if◌then◌else◌}
+use Rattle.std.proofs.Common.{◌≡◌, ◌≤◌, ℕ, nat_eq, true, false, List, None, Some, Ok, Err, slice_get, inl, inr, refl, sym, ap, subst, ◌∙◌, eqb-true}
+use Rattle.std.specs.Prelude.{Result, OnErr, if◌then◌else◌}
 use Rattle.std.proofs.lemmas.Bool.{eqb-false}
 use Rattle.cas_base.proofs.Bools.{true_or_false}
-use Rattle.cas_collect.specs.Order.{step_after}
-use Rattle.cas_collect.specs.declared.collect.CollectStep.{CollectStep}
 use Rattle.cas_collect.specs.declared.collect.CollectStep.TheVariants as due
-use Rattle.cas_fate.specs.declared.fate.Verdict.{Verdict}
 use Rattle.cas_record.specs.declared.answer.Answer.{Answer}
 use Rattle.cas_record.specs.declared.answer.Answer.TheVariants as answer
 use Rattle.cas_record.specs.declared.operator.Asked.{Asked}
 use Rattle.cas_record.specs.declared.operator.OpAnswer.{OpAnswer}
 use Rattle.cas_cluster.specs.Protocol.{is_done}
-use Rattle.cas_cluster.specs.Safe.{IsSafe}
 use Rattle.cas_cluster.specs.Step as step
 use Rattle.cas_cluster.specs.Step.{Step, Event, StepBegin, StepPropose, BeginCollect, CountCollect, EndCollect}
 use Rattle.cas_cluster.specs.StepCalls as calls

@@ -7,7 +7,6 @@ use Rattle.cas_flow.specs.declared.message.Message.{Message}
 use Rattle.cas_record.specs.declared.answer.Answer.{Answer}
 use Rattle.cas_collect.specs.declared.collect.CollectStep.{CollectStep}
 use Rattle.cas_collect.specs.declared.collect.CollectStep.TheVariants as due
-use Rattle.cas_record.specs.declared.operator.Asked.{Asked}
 use Rattle.cas_record.specs.declared.operator.OpAnswer.{OpAnswer}
 use Rattle.cas_cluster.specs.Council.{Council, IsAtRest}
 use Rattle.cas_cluster.specs.Safe.{IsSafe}
@@ -16,7 +15,7 @@ use Rattle.cas_cluster.specs.Step.{Step, Event, StepBegin, StepEnd, StepStray, S
 use Rattle.cas_cluster.specs.StepCalls as calls
 use Rattle.cas_cluster.specs.StepCalls.{Rescans, RefusesCall}
 use Rattle.cas_cluster.specs.StepCouncil as council
-use Rattle.cas_cluster.specs.StepCouncil.{StepOrder, StepTell}
+use Rattle.cas_cluster.specs.StepCouncil.{StepTell}
 use Rattle.cas_cluster.specs.StepFrames as frames
 use Rattle.cas_cluster.specs.StepPlans.{StepEnterEra}
 use Rattle.cas_cluster.specs.StepStops as stops
@@ -28,7 +27,7 @@ use Rattle.cas_world.specs.Beginning.{HasNoCall}
 use Rattle.cas_world.specs.Exchange.{turn_of, refusal_of}
 use Rattle.cas_world.specs.Plans.{IsFor, IsUnderWay, asked_to}
 use Rattle.cas_script.specs.Orders.{KeepsIdle}
-use Rattle.cas_script.proofs.Asking.{keeps_idle, order_keeps, tell_keeps}
+use Rattle.cas_script.proofs.Asking.{keeps_idle, tell_keeps}
 use Rattle.cas_script.proofs.Entering.{enter_idle, enters_so}
 use Rattle.cas_script.proofs.Keeping.{KeepsOthers, begin_keeps, turn_keeps, refuse_keeps, crash_keeps}
 use Rattle.cas_script.proofs.Others.{get_other}
