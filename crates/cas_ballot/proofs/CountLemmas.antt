@@ -1,5 +1,5 @@
 -- How many acceptors sets have.
-use Rattle.std.proofs.Common.{◌≡◌, ℕ, ◌+◌, suc, zero, ◌<◌, ◌≤◌, Bool, true, false, not, List, [], ◌∷◌, length, arith, sym, ◌∙◌, ap, refl, eqb-true}
+use Rattle.std.proofs.Common.{◌≡◌, ℕ, ◌+◌, suc, zero, ◌<◌, ◌≤◌, Bool, true, false, not, List, [], ◌∷◌, length, arith, sym, ◌∙◌, ap, refl}
 use Rattle.std.specs.Prelude.{cond, ◌==◌, ◌&&◌, ◌||◌, filter}
 use Rattle.std.specs.List.{range_with_len}
 use Rattle.std.proofs.lemmas.Bool.Decides.{nat_tests, eqb_tells}

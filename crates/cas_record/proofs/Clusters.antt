@@ -12,7 +12,7 @@ use Rattle.cas_record.specs.declared.mark.Proposal.{Proposal}
 use Rattle.cas_record.specs.declared.mark.Acknowledgment.{Acknowledgment}
 use Rattle.cas_record.specs.Happening.{Happening, Marked, Asked, Took, Entered, Drew}
 use Rattle.cas_record.specs.Lawful.{Cluster, IsWidened, AllEntered, IsRescanned, MayLeave, MayPropose, MayAck, MayMark, May, Lawful}
-use Rattle.cas_record.specs.Orderly.{MayDraw, MayAskFor, MayAsk, MayTakeFirst, HasReason, Orderly}
+use Rattle.cas_record.specs.Orderly.{MayDraw, MayAskFor, MayAsk, HasReason, Orderly}
 
 -- ---- lawful
 all_more : {old new : Cluster} → IsWidened old new → {era : ℕ} {marks : List Mark} → AllEntered old era marks → AllEntered new era marks

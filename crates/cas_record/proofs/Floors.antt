@@ -4,14 +4,11 @@ use mathlib.Core.Logic.{inl, inr}
 use Rattle.cas_base.proofs.Bools.{if_true, if_false, true_or_false, not_both}
 use Rattle.cas_ballot.specs.declared.ballot.Ballot.{Ballot}
 use Rattle.cas_ballot.specs.Ballot.{BallotAtMost, BallotLess}
-use Rattle.cas_ballot.proofs.BallotLemmas.{at_most_refl, at_most_of_less, less_not_at_most}
-use Rattle.cas_slot.specs.declared.message.Ask.{Ask}
-use Rattle.cas_slot.specs.Message.{tag_of}
-use Rattle.cas_slot.specs.Rules.{key_of}
+use Rattle.cas_ballot.proofs.BallotLemmas.{at_most_refl, less_not_at_most}
 use Rattle.cas_record.specs.Places.{At, Stands, here}
 use Rattle.cas_record.specs.Happening.{Happening, Promised, Took, Dropped}
 use Rattle.cas_record.specs.Lawful.{Cluster, Lawful, SlotTold, slot_told, is_slot, MayTake, in_take, in_promise}
-use Rattle.cas_record.specs.Orderly.{IsRoundAsk, MayPromiseBy, MayTakeBy, IsClear, took_it, never_asked, IsNoneOrAbove, Orderly}
+use Rattle.cas_record.specs.Orderly.{MayPromiseBy, IsClear, took_it, never_asked, IsNoneOrAbove, Orderly}
 use Rattle.cas_record.proofs.PlaceLemmas.{stands_deeper, stands_at, newest_or, order, older_than, newer_than, at_one}
 use Rattle.cas_record.proofs.Tests.{slot_same}
 use Rattle.cas_record.proofs.LogLemmas.{law, lawful_older}

@@ -9,7 +9,7 @@ use Rattle.cas_record.specs.declared.mark.Proposal.{Proposal}
 use Rattle.cas_record.specs.Places.{At, Stands}
 use Rattle.cas_record.specs.Happening.{Happening, Promised, Took, Drew}
 use Rattle.cas_record.specs.Lawful.{Cluster, IsIn, Granted, by_promise, by_ride}
-use Rattle.cas_record.specs.Orderly.{MayDraw, MayAsk, MayAskFor, MayRide, MayPromiseBy, MayTakeBy, Orderly}
+use Rattle.cas_record.specs.Orderly.{MayDraw, MayAsk, MayAskFor, MayRide, MayPromiseBy, Orderly}
 use Rattle.cas_record.proofs.PlaceLemmas.{deeper, stands_deeper}
 use Rattle.cas_record.proofs.Orders.{reason, orderly_older, drawn_once}
 

@@ -6,7 +6,7 @@ use Rattle.cas_record.specs.declared.mark.Mark.TheVariants.{Proposed}
 use Rattle.cas_record.specs.declared.mark.Proposal.{Proposal}
 use Rattle.cas_record.specs.Places.{Stands, IsOlderPart, whole, later}
 use Rattle.cas_record.specs.Happening.{Happening, Entered, marks_of}
-use Rattle.cas_record.specs.Lawful.{Cluster, Lawful, HasOpening, AllEntered, IsRescanned, MayLeave}
+use Rattle.cas_record.specs.Lawful.{Cluster, Lawful, AllEntered, IsRescanned, MayLeave}
 use Rattle.cas_record.proofs.PlaceLemmas.{stands_at, at_part, stands_part, newest_or}
 use Rattle.cas_record.proofs.LogLemmas.{mark_at, in_log}
 use Rattle.cas_record.proofs.Eras.{entered_of_mark}

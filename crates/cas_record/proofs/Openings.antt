@@ -1,24 +1,24 @@
 -- What follows from the floors with which histories open: they stand before all else, a proposal that read nothing does not go on from
 -- one, and each has its stone when an era is left.
-use Rattle.std.proofs.Common.{◌≡◌, ℕ, suc, ◌<◌, true, false, List, [], ◌∷◌, arith, refl, sym, ap, ◌∙◌, subst}
+use Rattle.std.proofs.Common.{◌≡◌, ℕ, suc, ◌<◌, true, false, List, [], ◌∷◌, arith, refl, sym, ◌∙◌, subst}
 use Rattle.std.specs.Prelude.{⊤, ◌⊎◌}
 use mathlib.Core.Logic.{inl, inr}
 use Rattle.cas_ballot.specs.declared.ballot.Ballot.{Ballot}
 use Rattle.cas_change.specs.declared.state.State.{State}
 use Rattle.cas_ballot.specs.Ballot.{zero_ballot, BallotAtMost, BallotLess}
 use Rattle.cas_ballot.specs.Members.{has_member}
-use Rattle.cas_ballot.proofs.BallotLemmas.{at_most_refl, at_most_trans, at_most_antisym, at_most_or_less, at_most_less, less_at_most, less_irreflexive, less_not_at_most, at_most_greater_right}
+use Rattle.cas_ballot.proofs.BallotLemmas.{at_most_refl, at_most_trans, at_most_antisym, at_most_or_less, less_at_most, less_irreflexive, less_not_at_most, at_most_greater_right}
 use Rattle.cas_slot.specs.declared.message.Ask.TheVariants as ask
-use Rattle.cas_record.specs.declared.mark.Mark.TheVariants.{Proposed, Acked, Floor}
+use Rattle.cas_record.specs.declared.mark.Mark.TheVariants.{Proposed, Floor}
 use Rattle.cas_record.specs.declared.mark.Proposal.{Proposal}
 use Rattle.cas_record.specs.Places.{At, Stands, IsOlderPart, here, past, whole, later}
 use Rattle.cas_record.specs.Chain.{has_calls, has_opening, floor_below, link_of}
-use Rattle.cas_record.specs.Legal.{HasFloor, HasProposal, IsAcked, IsOpening}
-use Rattle.cas_record.specs.Happening.{Happening, Marked, Promised, Took, Dropped, Entered, marks_of}
-use Rattle.cas_record.specs.Lawful.{Cluster, ClusterMeets, Lawful, AreFirst, HasOpening, HasFloorAbove, MayTake, MayDrop, MayLeave, HasSeen, in_promise, in_take, in_ride, AllEntered, IsRescanned, IsCollected, Granted, by_promise, by_ride, SlotTold}
+use Rattle.cas_record.specs.Legal.{HasFloor, IsAcked}
+use Rattle.cas_record.specs.Happening.{Happening, Marked, Took, Entered, marks_of}
+use Rattle.cas_record.specs.Lawful.{Cluster, ClusterMeets, Lawful, AreFirst, HasOpening, HasFloorAbove, MayTake, MayDrop, in_promise, in_take, in_ride, AllEntered, IsRescanned, Granted, by_promise, by_ride, SlotTold}
 use Rattle.cas_record.specs.Laws.{IsOpened}
 use Rattle.cas_record.specs.Listing.{no_slot_told, WasAbsent}
-use Rattle.cas_record.specs.Orderly.{IsAgedOut, MayAsk, MayAskFor, MayPromiseBy, MayTakeBy, MayTakeFirst, MayDropBy, Orderly}
+use Rattle.cas_record.specs.Orderly.{IsAgedOut, MayAsk, MayPromiseBy, MayTakeBy, MayTakeFirst, MayDropBy, Orderly}
 use Rattle.cas_record.proofs.PlaceLemmas.{none_at_nil, deeper, stands_deeper, stands_at, stands_part, older_than, newer_than, at_one, order}
 use Rattle.cas_record.proofs.Agreement.{one_opening}
 use Rattle.cas_record.proofs.ChainLemmas.{at_most_floor_below, opening_tells, no_calls}
@@ -26,8 +26,8 @@ use Rattle.cas_record.proofs.LogLemmas.{law, lawful_older, mark_at, in_log, part
 use Rattle.cas_record.proofs.LegalLemmas.{lawful_part}
 use Rattle.cas_record.proofs.Slots.{IsDropped, SlotBounds, slot_bounds}
 use Rattle.cas_record.proofs.Orders.{reason}
-use Rattle.cas_record.proofs.Eras.{le_or_lt, enter_law, entered_of_mark, EnteredAt, entered_at, rescan_at, rescan_below}
-use Rattle.cas_record.proofs.Listings.{marks_part, Early, early_of, none_early, greatest_early, IsGreatestEarly, stones_of_listing}
+use Rattle.cas_record.proofs.Eras.{le_or_lt, enter_law, entered_of_mark, entered_at, rescan_at, rescan_below}
+use Rattle.cas_record.proofs.Listings.{early_of, none_early, greatest_early, stones_of_listing}
 
 -- ---- what stands first
 -- a floor was marked or taken

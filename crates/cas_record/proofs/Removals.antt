@@ -23,7 +23,7 @@ use Rattle.cas_record.specs.Listing.{no_slot_told}
 use Rattle.cas_record.specs.Orderly.{IsRoundAsk, WasAsked, MayPromiseBy, MayTakeBy, MayDropBy, IsTombstoneTold, IsTold, MayReply, HasReason, Orderly}
 use Rattle.cas_record.proofs.PlaceLemmas.{deeper, stands_deeper, stands_at}
 use Rattle.cas_record.proofs.Tests.{slot_same}
-use Rattle.cas_record.proofs.Slots.{IsDropped, IsAboveDropped, slot_bounds, slot_of}
+use Rattle.cas_record.proofs.Slots.{IsAboveDropped, slot_bounds, slot_of}
 use Rattle.cas_record.proofs.Openings.{first_at}
 use Rattle.cas_record.proofs.Orders.{reason, above_dropped, removed_above}
 

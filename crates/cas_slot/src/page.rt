@@ -52,13 +52,6 @@ impl Page {
             keys: copy_keys(*self.keys.allocator(), &self.keys)?,
         })
     }
-
-    /// The list of the keys, in the memory that they were given in.
-    pub fn into_keys(self) -> Vec<Key>
-        ensures { result.items ≡ self }
-    {
-        self.keys
-    }
 }
 
 fn copy_keys(alloc: Global, keys: &[Key]) -> Result<Vec<Key>, AllocError>

@@ -1,4 +1,4 @@
-use Rattle.std.proofs.Common.{rules, ◌≡◌, ℕ, List, length, sym, ap, ◌∙◌, arith}
+use Rattle.std.proofs.Common.{rules, ◌≡◌, length, ap, ◌∙◌}
 use Rattle.std.specs.Prelude.{take}
 use Rattle.cas_slot.specs.Slots.{keys_above}
 use Rattle.cas_acceptor.proofs.Pages.{four_of_five, five_tell}
