@@ -24,6 +24,7 @@ use Rattle.cas_slot.proofs.SlotsLemmas.{slot_at-with_slot_same, slot_at-without_
 use Rattle.cas_slot.specs.Table.{Handles, Answers, IsAnswered, IsTombstone, seen_at, accepted_at, promised_at}
 use Rattle.cas_record.specs.declared.mark.Mark.{Mark}
 use Rattle.cas_record.specs.declared.mark.Mark.TheVariants.{Voted}
+use Rattle.cas_record.proofs.PlaceLemmas.{stands_later}
 use Rattle.cas_record.proofs.LogLemmas.{stands_in_log, not_zero, ProposedAt, proposed_at, not_opened}
 use Rattle.cas_record.proofs.Slots.{took_tells}
 use Rattle.cas_record.specs.Happening.{Happening, Marked, Asked, Promised, Took, Dropped, marks_of}
@@ -208,11 +209,6 @@ accepted_low : (slot : Option Slot) → BallotAtMost (accepted_ballot (accepted_
 accepted_low None = at_most_refl zero_ballot
 accepted_low (Some slot) = at_most_greater_right slot.promise (accepted_ballot slot.accepted)
 
--- what stands behind others stands
-pub behind : {x : Happening} (front : List Happening) {log : List Happening} → Stands x log → Stands x (front ++ log)
-behind [] s = s
-behind (y ∷ ys) s = let rest = behind ys s in record { older = rest.older; at = past rest.at }
-
 -- a tombstone holds the empty state, so a slot that is kept holds none
 not_tombstone : (cluster : Cluster) {log : List Happening} (id : ℕ) (old : Contents) (key : List ℕ) (tomb : Ballot) → GoesOn cluster log id old → IsEmptyAt (marks_of log) key tomb
     → (IsTombstone old key tomb → ⊥) → IsTombstoneTold (slot_told log id key) tomb → ⊥
@@ -277,7 +273,7 @@ answers cluster {log} old new request reply on asked state known is =
         orderly = (
           vote.orderly,
           record {
-            asked = behind (votes_of request.to request.ask reply.tell) (behind (deeds_of request.to old request.ask reply.tell) asked);
+            asked = stands_later (votes_of request.to request.ask reply.tell) (stands_later (deeds_of request.to old request.ask reply.tell) asked);
             from = is.from;
             to = is.to;
             phase = is.phase;

@@ -21,11 +21,10 @@ use Rattle.cas_record.proofs.ChainLemmas.{chain_zero, top_cases}
 use Rattle.cas_record.proofs.Eras.{seam_of}
 use Rattle.cas_record.proofs.LogLemmas.{law, stands_in_log, ack_law, AckedAt, acked_at, proposed_at, part_of}
 use Rattle.cas_record.proofs.Openings.{opening_in_log}
-use Rattle.cas_record.proofs.PlaceLemmas.{stands_deeper, stands_part, prefix_same}
+use Rattle.cas_record.proofs.PlaceLemmas.{stands_later, stands_deeper, stands_part, prefix_same}
 use Rattle.cas_cluster.specs.Acceptors.{Tells, IsAcceptedState, IsLeft}
 use Rattle.cas_cluster.specs.Held.{Holds}
 use Rattle.cas_cluster.specs.Laws.{GoesOn, WhatIsAckedIsHeld, WhatIsSettledIsHeld}
-use Rattle.cas_cluster.proofs.Answered.{behind}
 use Rattle.cas_cluster.proofs.Staying.{goes_on_from, taken}
 
 -- no slot of the key was removed at or above a ballot that is above its floors
@@ -59,7 +58,7 @@ holds cluster meets log key ballot ride lawful orderly acked above acceptor kept
     let after = goes_on_from cluster log acceptor kept on new left in
     let above_after : IsAboveFloors (marks_of (after.0 ++ log)) key ballot = subst (λ (marks : List Mark). IsAboveFloors marks key ballot) (sym after.2) above in
     let low : BallotAtMost ballot (accepted_ballot (accepted_at new key)) =
-    taken cluster (after.0 ++ log) acceptor new key ballot ride after.1 (behind after.0 took) (dropped_less cluster (after.0 ++ log) after.1.lawful above_after) in
+    taken cluster (after.0 ++ log) acceptor new key ballot ride after.1 (stands_later after.0 took) (dropped_less cluster (after.0 ++ log) after.1.lawful above_after) in
     let made : IsAcceptedState (marks_of log) key (accepted_at new key) = subst (λ (marks : List Mark). IsAcceptedState marks key (accepted_at new key)) after.2 (after.1.tells.states key) in
     record {
       at_least = low;

@@ -38,7 +38,7 @@ use Rattle.cas_record.specs.declared.answer.Answer.TheVariants as answer
 use Rattle.cas_record.specs.Orderly.{MayAskFor, MayAsk}
 use Rattle.cas_record.specs.Places.{Stands, here, past}
 use Rattle.cas_record.specs.Witness.{small_cluster, members_in, key_a, at, ask_of}
-use Rattle.cas_record.proofs.PlaceLemmas.{newest_or, none_at_nil}
+use Rattle.cas_record.proofs.PlaceLemmas.{stands_later, newest_or, none_at_nil}
 use Rattle.cas_record.proofs.LogLemmas.{mark_stands}
 use Rattle.cas_record.proofs.Tests.{neither, neither_left, neither_right, ballot_same, ballot_is, nat_is}
 use Rattle.cas_record.proofs.Checks.{le_tells}
@@ -49,7 +49,7 @@ use Rattle.cas_cluster.specs.Acceptors.{deeds_of}
 use Rattle.cas_cluster.specs.Desks.{IsPastAll}
 use Rattle.cas_cluster.specs.Proposers.{AllRide}
 use Rattle.cas_cluster.specs.Protocol.{Made, GlobalState, opening, AllReplied, HasMade, IsPrepared, IsAccepted, Event, Begins, Draws, Asks, Answers, StopsWithin, Proposes, Counts, EndsDone, after, opened, then, SomeRunIsDone, IsPreparedByRide, ProposesByRide}
-use Rattle.cas_cluster.proofs.Answered.{behind, deeds_marks}
+use Rattle.cas_cluster.proofs.Answered.{deeds_marks}
 use Rattle.cas_cluster.proofs.Handling as handling
 use Rattle.cas_cluster.proofs.Handling.{none_kept, accepted_kept, room, reply_to, answered}
 
@@ -307,7 +307,7 @@ abbrev wrote : List Happening
 wrote = deeds_of 1 promised (ask_accept 1).ask tell.Accepted
 
 asked_before : Stands (Asked (ask_accept 1)) stopped.log
-asked_before = behind wrote (record { older = drawn_ride.log; at = here })
+asked_before = stands_later wrote (record { older = drawn_ride.log; at = here })
 
 abbrev third : Reply
 third = reply_to (ask_accept 1) tell.Accepted
@@ -321,13 +321,13 @@ accepted_again = after small_cluster stopped first_accepts
 
 -- what stood before stands still
 stopped_has : {x : Happening} → Stands x asked_to_accept.log → Stands x stopped.log
-stopped_has stands = behind wrote stands
+stopped_has stands = stands_later wrote stands
 
 abbrev wrote_again : List Happening
 wrote_again = deeds_of 1 accepted (ask_accept 1).ask tell.Accepted
 
 again_has : {x : Happening} → Stands x stopped.log → Stands x accepted_again.log
-again_has stands = let deeper = behind wrote_again stands in record { older = deeper.older; at = past (past deeper.at) }
+again_has stands = let deeper = stands_later wrote_again stands in record { older = deeper.older; at = past (past deeper.at) }
 
 drawn_still : Stands (Drew one key_a 0) accepted_again.log
 drawn_still = again_has (stopped_has (record { older = begun.log; at = past (past (past drawn_stands.at)) }))
@@ -367,7 +367,7 @@ abbrev wrote_other : List Happening
 wrote_other = deeds_of 2 promised (ask_accept 2).ask tell.Accepted
 
 other_has : {x : Happening} → Stands x accepted_again.log → Stands x accepted_by_other.log
-other_has stands = let deeper = behind wrote_other {log = asked_other.log} (record { older = stands.older; at = past stands.at }) in record { older = deeper.older; at = past (past deeper.at) }
+other_has stands = let deeper = stands_later wrote_other {all = asked_other.log} (record { older = stands.older; at = past stands.at }) in record { older = deeper.older; at = past (past deeper.at) }
 
 marks_other : marks_of accepted_by_other.log ≡ Voted 2 key_a one ∷ Voted 1 key_a one ∷ marks_of asked_to_accept.log
 marks_other = ap (λ (marks : List Mark). Voted 2 key_a one ∷ marks) (deeds_marks 2 promised asked_other.log (ask_accept 2).ask tell.Accepted ∙ marks_again)
@@ -570,7 +570,7 @@ abbrev all_over : GlobalState
 all_over = after small_cluster proposed_next answers_late
 
 over_has : {x : Happening} → Stands x proposed_next.log → Stands x all_over.log
-over_has stands = let deeper = behind wrote_late stands in record { older = deeper.older; at = past (past deeper.at) }
+over_has stands = let deeper = stands_later wrote_late stands in record { older = deeper.older; at = past (past deeper.at) }
 
 -- ---- another proposer draws a ballot that is too low, and is met
 abbrev other_ballot : Ballot

@@ -17,6 +17,11 @@ stands_deeper s q = record { older = s.older; at = deeper s.at q }
 pub stands_at : {A : Type 0} {x : A} {xs all : List A} → At x xs all → Stands x all
 stands_at {xs = xs} p = record { older = xs; at = p }
 
+-- what stands behind others stands
+pub stands_later : {A : Type 0} {x : A} (front : List A) {all : List A} → Stands x all → Stands x (front ++ all)
+stands_later [] s = s
+stands_later (y ∷ front) s = let rest = stands_later front s in record { older = rest.older; at = past rest.at }
+
 -- what stands in a list is the newest, or stands behind it
 pub newest_or : {A : Type 0} {x h : A} {older : List A} → Stands x (h ∷ older) → (x ≡ h) ⊎ Stands x older
 newest_or s = go s.at
