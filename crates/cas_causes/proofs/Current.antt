@@ -11,6 +11,7 @@ use Rattle.cas_flow.specs.Flow.{queue_at}
 use Rattle.cas_record.specs.Orderly.{IsAboveFloors}
 use Rattle.cas_record.specs.Happening.{marks_of}
 use Rattle.cas_record.specs.Places.{At, Stands, here, past}
+use Rattle.cas_record.proofs.PlaceLemmas.{stands_later}
 use Rattle.cas_record.specs.declared.mark.Acknowledgment.{Acknowledgment}
 use Rattle.cas_record.specs.declared.mark.Mark.{Mark}
 use Rattle.cas_record.specs.declared.mark.Mark.TheVariants.{Acked}
@@ -40,10 +41,6 @@ use Rattle.cas_causes.proofs.Marks.{IsLater, record_goes_on}
 use Rattle.cas_causes.proofs.Touched.{Touched, is_same, is_over, is_broken, is_asked, turned, touched, broken_told, IsSameExchange, AnswersFirst, AreTellsSo, tells_then}
 
 -- ---- marks
-further : {x : Mark} (more : List Mark) {older : List Mark} → Stands x older → Stands x (more ++ older)
-further [] stands = stands
-further (mark ∷ more) stands = let behind = further more stands in record { older = behind.older; at = past behind.at }
-
 before : {x : Mark} {older marks : List Mark} (first : List Mark) → At x older marks → At x (older ++ first) (marks ++ first)
 before first here = here
 before first (past at) = past (before first at)
@@ -52,14 +49,14 @@ before first (past at) = past (before first at)
 stands_in : {x : Mark} (marks : List Mark) → Contains marks x → Stands x (reverse marks)
 stands_in [] there = absurd (contains_none there)
 stands_in {x} (mark ∷ marks) there = subst (Stands x) (sym (reverse-append (mark ∷ []) marks)) (elim (newest_or_older marks there) [
-  | inl same ↦ further (reverse marks) (record { older = []; at = subst (λ (m : Mark). At x [] (m ∷ [])) (sym same) here })
+  | inl same ↦ stands_later (reverse marks) (record { older = []; at = subst (λ (m : Mark). At x [] (m ∷ [])) (sym same) here })
   | inr later ↦ let stands = stands_in marks later in record { older = stands.older ++ mark ∷ []; at = before (mark ∷ []) stands.at }
 ])
 
 -- what is above the floors was above those that were there before
 above_before : (old new : List Mark) (key : List ℕ) (ballot : Ballot) → IsLater old new → IsAboveFloors (reverse new) key ballot → IsAboveFloors (reverse old) key ballot
 above_before old new key ballot later above = record {
-  above = λ stands. above.above (subst (Stands _) (sym (ap (λ (l : List Mark). reverse l) later.1 ∙ reverse-append old later.0)) (further (reverse later.0) stands));
+  above = λ stands. above.above (subst (Stands _) (sym (ap (λ (l : List Mark). reverse l) later.1 ∙ reverse-append old later.0)) (stands_later (reverse later.0) stands));
 }
 
 -- ---- as marks are made
@@ -174,7 +171,7 @@ current_then {S} {V} m shelves disks old event new safe is was by exchange key i
 }
   where
     later : IsLater old.marks new.marks
-    later = record_goes_on m old event new safe by
+    later = record_goes_on m old event new by
 
     touches : Touched m old new
     touches = touched m old event new safe.sound by

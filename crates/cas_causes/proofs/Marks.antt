@@ -1,5 +1,5 @@
 -- Which marks a step makes.
-use Rattle.std.proofs.Common.{◌≡◌, ◌≤◌, ℕ, Bool, true, false, Option, None, Some, suc, if◌then◌else◌, List, [], ◌∷◌, ◌++◌, inl, inr, refl, sym, ap, subst, ◌∙◌, append-nil, append_assoc, arith}
+use Rattle.std.proofs.Common.{◌≡◌, ℕ, Bool, true, false, Option, None, Some, suc, if◌then◌else◌, List, [], ◌∷◌, ◌++◌, inl, inr, refl, sym, ap, subst, ◌∙◌, append-nil, append_assoc}
 use Rattle.std.specs.Prelude.{⊤, ◌⊎◌, IfSome, option_map}
 use Rattle.cas_ballot.specs.Members.{has_member}
 use Rattle.cas_flow.specs.declared.message.Message.{Message}
@@ -22,7 +22,6 @@ use Rattle.cas_slot.specs.declared.message.Tell.{Tell}
 use Rattle.cas_slot.specs.declared.message.Tell.TheVariants as tell
 use Rattle.cas_cluster.specs.Acceptors.{votes_of}
 use Rattle.cas_cluster.specs.Council.{Council, ExchangeView, OrderView, PlanView, silent_order, told_so as so}
-use Rattle.cas_cluster.specs.Safe.{IsSafe}
 use Rattle.cas_cluster.specs.Step as step
 use Rattle.cas_cluster.specs.Step.{Event, Step, StepBegin, StepEnd, StepCrashAcceptor, StepRestartAcceptor, StepRestartProposer}
 use Rattle.cas_cluster.specs.StepCalls as calls
@@ -36,35 +35,33 @@ use Rattle.cas_cluster.specs.StepPlans as plans
 use Rattle.cas_cluster.specs.StepStops as stops
 use Rattle.cas_cluster.specs.StepStops.{LeavesRound, GoesDown}
 use Rattle.cas_cluster.specs.View.{Meaning, View, CallView, CallerView}
-use Rattle.cas_cluster.proofs.SafeParts.{low_at}
 use Rattle.cas_causes.specs.Tellings.{IsPassing, IsPassingBy}
 
 -- ---- marks
--- it tells of no call but a known caller's, and nothing that an operator was told
-abbrev pub IsPlain : ℕ → Mark → Type 0
-IsPlain greatest (Begun caller call key program) = caller ≤ greatest
-IsPlain greatest (Told asked answer) = ⊥
-IsPlain greatest other = ⊤
+-- it says nothing that the operator was told
+abbrev pub IsPlain : Mark → Type 0
+IsPlain (Told asked answer) = ⊥
+IsPlain other = ⊤
 
-abbrev pub ArePlain : ℕ → List Mark → Type 0
-ArePlain greatest [] = ⊤
-ArePlain greatest (mark ∷ later) = IsPlain greatest mark × ArePlain greatest later
+abbrev pub ArePlain : List Mark → Type 0
+ArePlain [] = ⊤
+ArePlain (mark ∷ later) = IsPlain mark × ArePlain later
 
-plain_both : (greatest : ℕ) (marks more : List Mark) → ArePlain greatest marks → ArePlain greatest more → ArePlain greatest (marks ++ more)
-plain_both greatest [] more none plain = plain
-plain_both greatest (mark ∷ marks) more these plain = (these.0, plain_both greatest marks more these.1 plain)
+plain_both : (marks more : List Mark) → ArePlain marks → ArePlain more → ArePlain (marks ++ more)
+plain_both [] more none plain = plain
+plain_both (mark ∷ marks) more these plain = (these.0, plain_both marks more these.1 plain)
 
 -- a step makes such marks and no others, and tells the open call of no end
 pub record Adds {S V : Type 0} (old new : View S V) : Type 0 where
   pub greatest : new.greatest ≡ old.greatest
   pub more : List Mark
   pub marks : new.marks ≡ old.marks ++ more
-  pub plain : ArePlain old.greatest more
+  pub plain : ArePlain more
   pub passing : IsPassingBy old.council.order → IsPassingBy new.council.order
 
 module _ {S V : Type 0} where
   -- it is as another view, whose marks are those of the old one and these
-  still : (old new middle : View S V) (more : List Mark) → new ≡ middle → ArePlain old.greatest more → middle.greatest ≡ old.greatest → middle.marks ≡ old.marks ++ more → (IsPassingBy old.council.order → IsPassingBy middle.council.order) → Adds old new
+  still : (old new middle : View S V) (more : List Mark) → new ≡ middle → ArePlain more → middle.greatest ≡ old.greatest → middle.marks ≡ old.marks ++ more → (IsPassingBy old.council.order → IsPassingBy middle.council.order) → Adds old new
   still old new middle more is plain greatest marks passing = record {
     greatest = ap (λ (v : View S V). v.greatest) is ∙ greatest;
     more = more;
@@ -78,7 +75,7 @@ module _ {S V : Type 0} where
     greatest = next.greatest ∙ first.greatest;
     more = first.more ++ next.more;
     marks = next.marks ∙ ap (λ (l : List Mark). l ++ next.more) first.marks ∙ append_assoc a.marks first.more next.more;
-    plain = plain_both a.greatest first.more next.more first.plain (subst (λ (g : ℕ). ArePlain g next.more) first.greatest next.plain);
+    plain = plain_both first.more next.more first.plain next.plain;
     passing = λ was. next.passing (first.passing was);
   }
 
@@ -119,38 +116,38 @@ stopped_so answers.RecordFull = tt
 stopped_so (answers.NoMemory proposed) = tt
 
 -- ---- votes and harms
-plain_votes : (greatest id : ℕ) (question : Ask) (answer : Tell) → ArePlain greatest (marks_of (votes_of id question answer))
-plain_votes greatest id (ask.Accept key ballot era ride state) tell.Accepted = (tt, tt)
-plain_votes greatest id (ask.Accept key ballot era ride state) (tell.Promised accepted) = tt
-plain_votes greatest id (ask.Accept key ballot era ride state) (tell.Met seen) = tt
-plain_votes greatest id (ask.Accept key ballot era ride state) (tell.Aged least) = tt
-plain_votes greatest id (ask.Accept key ballot era ride state) tell.Full = tt
-plain_votes greatest id (ask.Accept key ballot era ride state) tell.AgesSet = tt
-plain_votes greatest id (ask.Accept key ballot era ride state) tell.Removed = tt
-plain_votes greatest id (ask.Accept key ballot era ride state) tell.Kept = tt
-plain_votes greatest id (ask.Accept key ballot era ride state) (tell.Listed past keys more) = tt
-plain_votes greatest id (ask.Accept key ballot era ride state) (tell.Probed promise accepted) = tt
-plain_votes greatest id (ask.Prepare key ballot) answer = tt
-plain_votes greatest id (ask.Ages tag least) answer = tt
-plain_votes greatest id (ask.Remove key tomb) answer = tt
-plain_votes greatest id (ask.List tag after) answer = tt
-plain_votes greatest id (ask.Probe tag key) answer = tt
+plain_votes : (id : ℕ) (question : Ask) (answer : Tell) → ArePlain (marks_of (votes_of id question answer))
+plain_votes id (ask.Accept key ballot era ride state) tell.Accepted = (tt, tt)
+plain_votes id (ask.Accept key ballot era ride state) (tell.Promised accepted) = tt
+plain_votes id (ask.Accept key ballot era ride state) (tell.Met seen) = tt
+plain_votes id (ask.Accept key ballot era ride state) (tell.Aged least) = tt
+plain_votes id (ask.Accept key ballot era ride state) tell.Full = tt
+plain_votes id (ask.Accept key ballot era ride state) tell.AgesSet = tt
+plain_votes id (ask.Accept key ballot era ride state) tell.Removed = tt
+plain_votes id (ask.Accept key ballot era ride state) tell.Kept = tt
+plain_votes id (ask.Accept key ballot era ride state) (tell.Listed past keys more) = tt
+plain_votes id (ask.Accept key ballot era ride state) (tell.Probed promise accepted) = tt
+plain_votes id (ask.Prepare key ballot) answer = tt
+plain_votes id (ask.Ages tag least) answer = tt
+plain_votes id (ask.Remove key tomb) answer = tt
+plain_votes id (ask.List tag after) answer = tt
+plain_votes id (ask.Probe tag key) answer = tt
 
-plain_if : (greatest : ℕ) (known : Bool) (mark : Mark) → IsPlain greatest mark → ArePlain greatest (if known then [] else mark ∷ [])
-plain_if greatest true mark plain = tt
-plain_if greatest false mark plain = (plain, tt)
+plain_if : (known : Bool) (mark : Mark) → IsPlain mark → ArePlain (if known then [] else mark ∷ [])
+plain_if true mark plain = tt
+plain_if false mark plain = (plain, tt)
 
-plain_harms : (greatest id number acceptor : ℕ) (call : CallView) (down : Bool) → ArePlain greatest (harms_marked id number call acceptor down)
-plain_harms greatest id number acceptor call down = plain_if greatest (has_member call.harmed acceptor) (Harmed id number down) tt
+plain_harms : (id number acceptor : ℕ) (call : CallView) (down : Bool) → ArePlain (harms_marked id number call acceptor down)
+plain_harms id number acceptor call down = plain_if (has_member call.harmed acceptor) (Harmed id number down) tt
 
-plain_asked : (greatest member : ℕ) (exchange : ExchangeView) (down : Bool) → ArePlain greatest (harm_marks exchange member down)
-plain_asked greatest member exchange down = plain_if greatest (has_member exchange.harmed member) (Harmed 0 0 down) tt
+plain_asked : (member : ℕ) (exchange : ExchangeView) (down : Bool) → ArePlain (harm_marks exchange member down)
+plain_asked member exchange down = plain_if (has_member exchange.harmed member) (Harmed 0 0 down) tt
 
 -- ---- steps
-module _ {S V : Type 0} (m : Meaning S V) (old new : View S V) (safe : IsSafe old) where
+module _ {S V : Type 0} (m : Meaning S V) (old new : View S V) where
   opens : (middle : View S V) (id : ℕ) (key : List ℕ) (program : List Clause) → calls.Opens old id key program middle → Adds old middle
   opens middle id key program (calls.first caller at none_open room is) =
-      still old middle _ (Begun id (suc caller.number) key program ∷ []) is (let low = low_at old.callers id at in let count = safe.sound.callers in omega (arith, low, count), tt) refl refl (λ u. u)
+      still old middle _ (Begun id (suc caller.number) key program ∷ []) is (tt, tt) refl refl (λ u. u)
   opens middle id key program (calls.again caller call reserved at is_open same_key same_program unproposed met idle room for_round is) = same old middle _ is refl refl (λ u. u)
 
   begins_round : (middle : View S V) (id : ℕ) (caller : CallerView) (call : CallView) (after_it : View S V) → calls.BeginsRound m middle id caller call after_it → Adds middle after_it
@@ -175,10 +172,10 @@ module _ {S V : Type 0} (m : Meaning S V) (old new : View S V) (safe : IsSafe ol
 
   turns : (id : ℕ) (verdict : Verdict) (front : Message) (caller : CallerView) (call : CallView) → frames.TakesTurn m old id verdict front caller call new → Adds old new
   turns id verdict front caller call (frames.held falls is) = same old new _ is refl refl (λ u. u)
-  turns id verdict front caller call (frames.gone falls is) = still old new _ _ is (plain_harms old.greatest id caller.number _ call false) refl refl (λ u. u)
-  turns id verdict front caller call (frames.answers request acceptor now reply falls front_is at by is) = still old new _ _ is (plain_votes old.greatest request.to request.ask reply.tell) refl refl (λ u. u)
-  turns id verdict front caller call (frames.finds_down request acceptor falls front_is at down is) = still old new _ _ is (plain_harms old.greatest id caller.number _ call true) refl refl (λ u. u)
-  turns id verdict front caller call (frames.brings_down request acceptor now falls front_is at stops_it is) = still old new _ _ is (plain_harms old.greatest id caller.number _ call true) refl refl (λ u. u)
+  turns id verdict front caller call (frames.gone falls is) = still old new _ _ is (plain_harms id caller.number _ call false) refl refl (λ u. u)
+  turns id verdict front caller call (frames.answers request acceptor now reply falls front_is at by is) = still old new _ _ is (plain_votes request.to request.ask reply.tell) refl refl (λ u. u)
+  turns id verdict front caller call (frames.finds_down request acceptor falls front_is at down is) = still old new _ _ is (plain_harms id caller.number _ call true) refl refl (λ u. u)
+  turns id verdict front caller call (frames.brings_down request acceptor now falls front_is at stops_it is) = still old new _ _ is (plain_harms id caller.number _ call true) refl refl (λ u. u)
   turns id verdict front caller call (frames.arrives reply desk now round heard falls front_is at open_ hears is) = same old new _ is refl refl (λ u. u)
 
   proposes : (id : ℕ) (desk : DeskView V) (round : Round) (caller : CallerView) (call : CallView) → calls.ProposesOrEnds m old id desk round caller call new → Adds old new
@@ -196,7 +193,7 @@ module _ {S V : Type 0} (m : Meaning S V) (old new : View S V) (safe : IsSafe ol
   ends ended id answer by = still old ended _ (Ended id _ _ answer ∷ []) by.ends.view (tt, tt) refl refl (rescanned_so old.council by.ends.council id by.of_call.call.key answer by.ends.rescans)
 
   strays : (index : ℕ) (late : Message) → frames.Strays m old index late new → Adds old new
-  strays index late (frames.answers request acceptor now reply late_is at by is) = still old new _ _ is (plain_votes old.greatest request.to request.ask reply.tell) refl refl (λ u. u)
+  strays index late (frames.answers request acceptor now reply late_is at by is) = still old new _ _ is (plain_votes request.to request.ask reply.tell) refl refl (λ u. u)
   strays index late (frames.brings_down request acceptor now late_is at stops_it is) = same old new _ is refl refl (λ u. u)
   strays index late (frames.arrives reply desk now round heard late_is at open_ hears is) = same old new _ is refl refl (λ u. u)
   strays index late (frames.drops ignored is) = same old new _ is refl refl (λ u. u)
@@ -231,10 +228,10 @@ module _ {S V : Type 0} (m : Meaning S V) (old new : View S V) (safe : IsSafe ol
 
   turns_exchange : (verdict : Verdict) (front : Message) (exchange : ExchangeView) → council.TurnsExchange m old verdict front exchange new → Adds old new
   turns_exchange verdict front exchange (council.held falls is) = same old new _ is refl refl (λ u. u)
-  turns_exchange verdict front exchange (council.gone falls is) = still old new _ _ is (plain_asked old.greatest _ exchange false) refl refl (λ u. u)
-  turns_exchange verdict front exchange (council.answers request acceptor now reply falls front_is at by is) = still old new _ _ is (plain_votes old.greatest request.to request.ask reply.tell) refl refl (λ u. u)
-  turns_exchange verdict front exchange (council.finds_down request acceptor falls front_is at down is) = still old new _ _ is (plain_asked old.greatest _ exchange true) refl refl (λ u. u)
-  turns_exchange verdict front exchange (council.brings_down request acceptor now falls front_is at stops_it is) = still old new _ _ is (plain_asked old.greatest _ exchange true) refl refl (λ u. u)
+  turns_exchange verdict front exchange (council.gone falls is) = still old new _ _ is (plain_asked _ exchange false) refl refl (λ u. u)
+  turns_exchange verdict front exchange (council.answers request acceptor now reply falls front_is at by is) = still old new _ _ is (plain_votes request.to request.ask reply.tell) refl refl (λ u. u)
+  turns_exchange verdict front exchange (council.finds_down request acceptor falls front_is at down is) = still old new _ _ is (plain_asked _ exchange true) refl refl (λ u. u)
+  turns_exchange verdict front exchange (council.brings_down request acceptor now falls front_is at stops_it is) = still old new _ _ is (plain_asked _ exchange true) refl refl (λ u. u)
   turns_exchange verdict front exchange (council.arrives reply falls front_is to_it is) = same old new _ is refl refl (λ u. u)
 
   gathers : (exchange : ExchangeView) → council.Gathers old exchange new → Adds old new
@@ -297,40 +294,40 @@ module _ {S V : Type 0} (m : Meaning S V) (old new : View S V) (safe : IsSafe ol
   gathers_collect at exchange (collect.is_absent acceptor running least is) = same old new _ is refl refl (λ u. told_so old.council.order _ tt)
 
 -- every step makes plain marks alone and tells the open call of no end, but one that ends that call
-pub adds_by : {S V : Type 0} (m : Meaning S V) (old : View S V) (event : Event) (new : View S V) → ((answer : OpAnswer) → event ≡ step.Tell answer → ⊥) → IsSafe old → Step m old event new → Adds old new
-adds_by m old (step.Begin caller key program) new untold safe by = begins m old new safe caller key program new by
-adds_by m old (step.RefuseBegin caller key) new untold safe by = refuses m old new safe caller key new by
-adds_by m old (step.Turn proposer verdict) new untold safe by = turns m old new safe proposer verdict by.front by.of_call.caller by.of_call.call by.turn
-adds_by m old (step.RefuseTurn proposer) new untold safe by = after old by.middle new _ (finds m old new safe by.middle by.refuses) by.view refl refl (λ u. u)
-adds_by m old (step.Propose proposer) new untold safe by = proposes m old new safe proposer by.at_round.desk by.at_round.round by.at_round.of_call.caller by.at_round.of_call.call by.proposes
-adds_by m old (step.Count proposer) new untold safe by = counts m old new safe new proposer by.at_round.desk by.at_round.round by.at_round.of_call.caller by.at_round.of_call.call by.counts
-adds_by m old (step.End caller answer) new untold safe by = ends m old new safe new caller answer by
-adds_by m old (step.Stray index) new untold safe by = strays m old new safe index by.late by.strays
-adds_by m old step.RefuseStray new untold safe by = finds m old new safe new by
-adds_by m old (step.CrashAcceptor id) new untold safe by = crashes m old new safe id by
-adds_by m old (step.RestartAcceptor id) new untold safe by = restarts m old new safe id by
-adds_by m old (step.CrashProposer proposer) new untold safe by = goes_down m old new safe proposer new by
-adds_by m old (step.RestartProposer proposer) new untold safe by = restarts_desk m old new safe proposer by
-adds_by m old (step.Order asked) new untold safe by = same old new _ by.view refl refl (λ u. tt)
-adds_by m old step.RefuseOrder new untold safe by = same old new old by refl refl (λ u. u)
-adds_by m old (step.Tell answer) new untold safe by = absurd (untold answer refl)
-adds_by m old (step.AskAll question) new untold safe by = asks m old new safe question by.desk by.asks
-adds_by m old (step.TurnExchange verdict) new untold safe by = turns_exchange m old new safe verdict by.front by.at.exchange by.turn
-adds_by m old step.RefuseTurnExchange new untold safe by = after old by.middle new _ (finds m old new safe by.middle by.refuses) by.view refl refl (λ u. told_so by.middle.council.order _ tt)
-adds_by m old step.Gather new untold safe by = gathers m old new safe by.at.exchange by.gathers
-adds_by m old step.RefuseKey new untold safe by = same old new _ by.view refl refl (λ u. told_so old.council.order _ tt)
-adds_by m old step.OpenPlan new untold safe by = opens_plan m old new safe by.order.asked by.desk by.opens
-adds_by m old (step.EnterEra proposer) new untold safe by = enters m old new safe by.plan by.next by.desk by.enters
-adds_by m old (step.BeginCollect key) new untold safe by = begins_collection m old new safe key by.may.order by.desk by.caller by.begins
-adds_by m old step.ReadHeld new untold safe by = same old new _ by.view refl refl (λ u. tt)
-adds_by m old step.CountCollect new untold safe by =
-    after old by.middle new _ (counts m old new safe by.middle 0 by.counts.at_round.desk by.counts.at_round.round by.counts.at_round.of_call.caller by.counts.at_round.of_call.call by.counts.counts) by.view refl refl (λ u. tt)
-adds_by m old (step.EndCollect answer) new untold safe by = after old by.middle new _ (ends m old new safe by.middle 0 answer by.ends) by.view refl refl (λ u. stopped_so answer)
-adds_by m old step.GatherRound new untold safe by = gathers_round m old new safe by.at by.gathers
-adds_by m old (step.Renew proposer) new untold safe by = renews m old new safe by.at proposer by.desk by.renews
-adds_by m old step.AskCollect new untold safe by = asks_collect m old new safe by.may.at by.desk by.asks
-adds_by m old step.GatherCollect new untold safe by = gathers_collect m old new safe by.at by.of_exchange.exchange by.gathers
-adds_by {S} {V} m old step.MakeFloor new untold safe by = still old new _ (Floor _ _ _ ∷ []) by.view (tt, tt) refl refl (λ u. tt)
+pub adds_by : {S V : Type 0} (m : Meaning S V) (old : View S V) (event : Event) (new : View S V) → ((answer : OpAnswer) → event ≡ step.Tell answer → ⊥) → Step m old event new → Adds old new
+adds_by m old (step.Begin caller key program) new untold by = begins m old new caller key program new by
+adds_by m old (step.RefuseBegin caller key) new untold by = refuses m old new caller key new by
+adds_by m old (step.Turn proposer verdict) new untold by = turns m old new proposer verdict by.front by.of_call.caller by.of_call.call by.turn
+adds_by m old (step.RefuseTurn proposer) new untold by = after old by.middle new _ (finds m old new by.middle by.refuses) by.view refl refl (λ u. u)
+adds_by m old (step.Propose proposer) new untold by = proposes m old new proposer by.at_round.desk by.at_round.round by.at_round.of_call.caller by.at_round.of_call.call by.proposes
+adds_by m old (step.Count proposer) new untold by = counts m old new new proposer by.at_round.desk by.at_round.round by.at_round.of_call.caller by.at_round.of_call.call by.counts
+adds_by m old (step.End caller answer) new untold by = ends m old new new caller answer by
+adds_by m old (step.Stray index) new untold by = strays m old new index by.late by.strays
+adds_by m old step.RefuseStray new untold by = finds m old new new by
+adds_by m old (step.CrashAcceptor id) new untold by = crashes m old new id by
+adds_by m old (step.RestartAcceptor id) new untold by = restarts m old new id by
+adds_by m old (step.CrashProposer proposer) new untold by = goes_down m old new proposer new by
+adds_by m old (step.RestartProposer proposer) new untold by = restarts_desk m old new proposer by
+adds_by m old (step.Order asked) new untold by = same old new _ by.view refl refl (λ u. tt)
+adds_by m old step.RefuseOrder new untold by = same old new old by refl refl (λ u. u)
+adds_by m old (step.Tell answer) new untold by = absurd (untold answer refl)
+adds_by m old (step.AskAll question) new untold by = asks m old new question by.desk by.asks
+adds_by m old (step.TurnExchange verdict) new untold by = turns_exchange m old new verdict by.front by.at.exchange by.turn
+adds_by m old step.RefuseTurnExchange new untold by = after old by.middle new _ (finds m old new by.middle by.refuses) by.view refl refl (λ u. told_so by.middle.council.order _ tt)
+adds_by m old step.Gather new untold by = gathers m old new by.at.exchange by.gathers
+adds_by m old step.RefuseKey new untold by = same old new _ by.view refl refl (λ u. told_so old.council.order _ tt)
+adds_by m old step.OpenPlan new untold by = opens_plan m old new by.order.asked by.desk by.opens
+adds_by m old (step.EnterEra proposer) new untold by = enters m old new by.plan by.next by.desk by.enters
+adds_by m old (step.BeginCollect key) new untold by = begins_collection m old new key by.may.order by.desk by.caller by.begins
+adds_by m old step.ReadHeld new untold by = same old new _ by.view refl refl (λ u. tt)
+adds_by m old step.CountCollect new untold by =
+    after old by.middle new _ (counts m old new by.middle 0 by.counts.at_round.desk by.counts.at_round.round by.counts.at_round.of_call.caller by.counts.at_round.of_call.call by.counts.counts) by.view refl refl (λ u. tt)
+adds_by m old (step.EndCollect answer) new untold by = after old by.middle new _ (ends m old new by.middle 0 answer by.ends) by.view refl refl (λ u. stopped_so answer)
+adds_by m old step.GatherRound new untold by = gathers_round m old new by.at by.gathers
+adds_by m old (step.Renew proposer) new untold by = renews m old new by.at proposer by.desk by.renews
+adds_by m old step.AskCollect new untold by = asks_collect m old new by.may.at by.desk by.asks
+adds_by m old step.GatherCollect new untold by = gathers_collect m old new by.at by.of_exchange.exchange by.gathers
+adds_by {S} {V} m old step.MakeFloor new untold by = still old new _ (Floor _ _ _ ∷ []) by.view (tt, tt) refl refl (λ u. tt)
 
 -- it tells the operator its answer, or not
 pub tells_or_not : (event : Event) → ((answer : OpAnswer) × (event ≡ step.Tell answer)) ⊎ ((answer : OpAnswer) → event ≡ step.Tell answer → ⊥)
@@ -378,8 +375,8 @@ told_later {S} {V} old answer new (council.finishes order is_open by is) = (_, a
 told_later {S} {V} old answer new (council.collects order is_open by is) = (_, ap (λ (v : View S V). v.marks) is)
 
 -- whatever is called on a cluster, its record goes on
-pub record_goes_on : {S V : Type 0} (m : Meaning S V) (old : View S V) (event : Event) (new : View S V) → IsSafe old → Step m old event new → IsLater old.marks new.marks
-record_goes_on {S} {V} m old event new safe by = elim (tells_or_not event) [
+pub record_goes_on : {S V : Type 0} (m : Meaning S V) (old : View S V) (event : Event) (new : View S V) → Step m old event new → IsLater old.marks new.marks
+record_goes_on {S} {V} m old event new by = elim (tells_or_not event) [
   | inl tells ↦ told_later old tells.0 new (subst (λ (e : Event). Step m old e new) tells.1 by)
-  | inr untold ↦ let adds = adds_by m old event new untold safe by in (adds.more, adds.marks)
+  | inr untold ↦ let adds = adds_by m old event new untold by in (adds.more, adds.marks)
 ]

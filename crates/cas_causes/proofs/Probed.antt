@@ -92,7 +92,7 @@ probing_then {S} {V} m shelves disks old event new safe is_old was by exchange k
     is = laws.steps m shelves disks old event new is_old by
 
     later : IsLater old.marks new.marks
-    later = record_goes_on m old event new safe by
+    later = record_goes_on m old event new by
 
     asked : (before : ExchangeView) (reply : Reply) → IsSameExchange before exchange → (first : AnswersFirst m old before reply) → first.request.ask ≡ ask.Probe before.tag key
     asked before reply same first = first.asked ∙ ap (λ (q : Question). ask_of before.tag q first.request.to) (same.question ∙ asks)

@@ -1,10 +1,9 @@
 -- That what the operator was told of a change of membership and of a collection is so in the record. Marks are read newest first.
-use Rattle.std.specs.Prelude.{◌≡◌, ◌⊎◌, ◌≤◌, ⊤, ℕ, List, reverse, Option, None, Some, IfSome}
-use Rattle.cas_change.specs.declared.program.Clause.{Clause}
+use Rattle.std.specs.Prelude.{◌<◌, ⊤, ℕ, suc, List, reverse, Option, None, Some, IfSome}
 use Rattle.cas_change.specs.declared.state.State.TheVariants.{Empty}
 use Rattle.cas_record.specs.Places.{At, Stands}
 use Rattle.cas_record.specs.declared.mark.Mark.{Mark}
-use Rattle.cas_record.specs.declared.mark.Mark.TheVariants.{Begun, EraEntered, Floor, Told}
+use Rattle.cas_record.specs.declared.mark.Mark.TheVariants.{EraEntered, Floor, Told}
 use Rattle.cas_record.specs.declared.operator.Asked.{Asked}
 use Rattle.cas_record.specs.declared.operator.OpAnswer.{OpAnswer}
 use Rattle.cas_record.specs.declared.operator.OpAnswer.TheVariants as told
@@ -14,31 +13,23 @@ use Rattle.cas_cluster.specs.Safe.{IsSafe}
 use Rattle.cas_cluster.specs.Step.{Event, Step}
 use Rattle.cas_cluster.specs.View.{Meaning, View}
 
--- the proposer is the operator's, or that of a caller who has begun a call
-abbrev pub HasWorked : ℕ → List Mark → Type 0
-HasWorked proposer marks = (proposer ≡ 0) ⊎ ((call : ℕ) × (key : List ℕ) × (program : List Clause) × Stands (Begun proposer call key program) marks)
+-- each of so many proposers, of whom the operator's is the first, entered the era
+abbrev pub HaveAllMoved : ℕ → ℕ → List Mark → Type 0
+HaveAllMoved proposers era marks = (proposer : ℕ) → proposer < proposers → Stands (EraEntered proposer era) marks
 
--- each of them entered the era
-abbrev pub HaveAllMoved : ℕ → List Mark → Type 0
-HaveAllMoved era marks = (proposer : ℕ) → HasWorked proposer marks → Stands (EraEntered proposer era) marks
-
--- What the operator is told is so: all had moved to the era of a join or a leave, and the key of a collection had its tombstone as a floor,
--- with the empty state.
-abbrev pub IsSo : OpAnswer → List Mark → Type 0
-IsSo (told.Joined id era rescanned) marks = HaveAllMoved era marks
-IsSo (told.Left id era rescanned) marks = HaveAllMoved era marks
-IsSo (told.Collected key ballot removed kept) marks = Stands (Floor key ballot Empty) marks
-IsSo other marks = ⊤
+-- What the operator is told is so: all proposers had moved to the era of a join or a leave, and the key of a collection had its tombstone as
+-- a floor, with the empty state.
+abbrev pub IsSo : ℕ → OpAnswer → List Mark → Type 0
+IsSo proposers (told.Joined id era rescanned) marks = HaveAllMoved proposers era marks
+IsSo proposers (told.Left id era rescanned) marks = HaveAllMoved proposers era marks
+IsSo proposers (told.Collected key ballot removed kept) marks = Stands (Floor key ballot Empty) marks
+IsSo proposers other marks = ⊤
 
 -- each telling is so in the marks before it
-pub record AreTellingsSo (marks : List Mark) : Type 0 where
-  pub so : {asked : Asked} {answer : OpAnswer} {older : List Mark} → At (Told asked answer) older marks → IsSo answer older
+pub record AreTellingsSo (proposers : ℕ) (marks : List Mark) : Type 0 where
+  pub so : {asked : Asked} {answer : OpAnswer} {older : List Mark} → At (Told asked answer) older marks → IsSo proposers answer older
 
 -- ---- in the cluster
--- who has begun a call is one of these callers
-pub record AreCallersKnown (greatest : ℕ) (marks : List Mark) : Type 0 where
-  pub known : {caller call : ℕ} {key : List ℕ} {program : List Clause} → Stands (Begun caller call key program) marks → caller ≤ greatest
-
 -- it does not tell that a change of membership or a collection is at its end
 abbrev pub IsPassing : OpAnswer → Type 0
 IsPassing (told.Joined id era rescanned) = ⊥
@@ -51,10 +42,9 @@ abbrev pub IsPassingBy : Option OrderView → Type 0
 IsPassingBy None = ⊤
 IsPassingBy (Some order) = IfSome order.told IsPassing
 
--- all callers are known, all tellings are so, and no open call was told of an end yet
+-- all tellings are so of its proposers, and no open call was told of an end yet
 pub record TellsTruly {S V : Type 0} (view : View S V) : Type 0 where
-  pub callers : AreCallersKnown view.greatest (reverse view.marks)
-  pub tellings : AreTellingsSo (reverse view.marks)
+  pub tellings : AreTellingsSo (suc view.greatest) (reverse view.marks)
   pub passing : IsPassingBy view.council.order
 
 -- Where shelves and disks tell what they keep, each step leaves it so.

@@ -95,9 +95,9 @@ pub fn undisturbed_collections_are_done<S: Shelf, V: Disk>()
     ensures { UndisturbedCollectionsAreDone (meaning S.contents S.tells S.may_leave S.fault_count V.tells V.may_leave V.fault_count) }
 {}
 
-/// What the operator is told of a change of membership and of a collection is so in the record, and each step leaves it so: each caller who
-/// had begun a call by then, and the operator, entered the era that is told of a join or a leave; and a key that is told to be collected has
-/// its tombstone as a floor, with the empty state.
+/// What the operator is told of a change of membership and of a collection is so in the record, and each step leaves it so: each proposer,
+/// that of the operator among them, entered the era that is told of a join or a leave; and a key that is told to be collected has its
+/// tombstone as a floor, with the empty state.
 pub fn steps_tell_truly<S: Shelf, V: Disk>()
     ensures { StepsTellTruly (meaning S.contents S.tells S.may_leave S.fault_count V.tells V.may_leave V.fault_count) }
 {}

@@ -22,7 +22,7 @@ use Rattle.cas_causes.proofs.Asking.{probes_ask_all}
 use Rattle.cas_causes.proofs.Current.{probes_are_current}
 use Rattle.cas_causes.proofs.Probed.{probes_tell_so}
 use Rattle.cas_causes.proofs.TooOld.{probes_are_unaged}
-use Rattle.cas_causes.specs.Tellings.{AreCallersKnown, AreTellingsSo, IsPassingBy, TellsTruly}
+use Rattle.cas_causes.specs.Tellings.{AreTellingsSo, IsPassingBy, TellsTruly}
 use Rattle.cas_steady.specs.Steady.{AreDesksUp, AreMembersUp, AreUsed, IsBlamed, IsFair, IsSteady, blame_by_call, blame_by_order, blame_by_exchange}
 
 -- each proposer works in the first era, and one that is not there in one without members
@@ -69,8 +69,7 @@ none_at (past at) none = cc none
 -- no mark tells anything yet
 opening_truly : {S V : Type 0} (m : Meaning S V) (members : List ℕ) (view : View S V) → IsOpening m members view → TellsTruly view
 opening_truly {S} {V} m members view is = record {
-  callers = subst (λ (l : List Mark). AreCallersKnown view.greatest (reverse l)) (sym is.marks) (record { known = λ stands. absurd (none_at stands.at refl) });
-  tellings = subst (λ (l : List Mark). AreTellingsSo (reverse l)) (sym is.marks) (record { so = λ at. absurd (none_at at refl) });
+  tellings = subst (λ (l : List Mark). AreTellingsSo (suc view.greatest) (reverse l)) (sym is.marks) (record { so = λ at. absurd (none_at at refl) });
   passing = subst (λ (c : Council). IsPassingBy c.order) (sym is.council) tt;
 }
 

@@ -1,6 +1,6 @@
 //! What is read of the world.
 
-ghost use Rattle.std.specs.Prelude.{◌≡◌, ◌<◌, ◌≤◌, slice_get, option_map, reverse, Some, is_some, not, IfSome, length, ◌↔◌, option_copied, IsTrue, IfNone};
+ghost use Rattle.std.specs.Prelude.{◌≡◌, ◌<◌, ◌≤◌, slice_get, option_map, suc, reverse, Some, is_some, not, IfSome, length, ◌↔◌, option_copied, IsTrue, IfNone};
 ghost use Rattle.cas_calls.specs.Council.{due_in};
 ghost use Rattle.cas_causes.specs.Tellings.{AreTellingsSo};
 ghost use Rattle.cas_cluster.specs.Collection.{tomb_of};
@@ -31,7 +31,7 @@ impl<S: Shelf, V: Disk> SteadyWorld<S, V> {
     pub fn record(&self) -> &Record
         ensures marks { result.now.marks ≡ self.now.marks }
         ensures legal { S.tells → V.tells → IsLegal (reverse result.now.marks) }
-        ensures tellings { S.tells → V.tells → AreTellingsSo (reverse result.now.marks) }
+        ensures tellings { S.tells → V.tells → AreTellingsSo (suc self.now.greatest) (reverse result.now.marks) }
     {
         self.world.record()
     }

@@ -1,6 +1,6 @@
 //! The world, and what is known of it because no call stops anybody.
 
-ghost use Rattle.std.specs.Prelude.{◌≡◌, List, ℕ, reverse};
+ghost use Rattle.std.specs.Prelude.{◌≡◌, List, ℕ, suc, reverse};
 ghost use Rattle.cas_causes.specs.Tellings.{AreTellingsSo};
 ghost use Rattle.cas_cluster.specs.SafeLaws.{HasPlaces};
 ghost use Rattle.cas_cluster.specs.Step.{IsOpening};
@@ -46,7 +46,7 @@ impl<S: Shelf, V: Disk> SteadyWorld<S, V> {
     pub fn into_world(self) -> World<S, V>
         ensures same { result ≡ self }
         ensures blamed { IsBlamed (meaning S.contents S.tells S.may_leave S.fault_count V.tells V.may_leave V.fault_count) self }
-        ensures tellings { S.tells → V.tells → AreTellingsSo (reverse self.marks) }
+        ensures tellings { S.tells → V.tells → AreTellingsSo (suc self.greatest) (reverse self.marks) }
     {
         let SteadyWorld { world } = self;
         world
