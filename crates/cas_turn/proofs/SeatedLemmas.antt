@@ -5,7 +5,7 @@ use mathlib.Core.List.{map-append}
 use Rattle.std.specs.List.{range_with_len}
 use Rattle.std.proofs.lemmas.List.Elements.{All-nil, All-cons, All-head, All-tail, All-map}
 use Rattle.std.proofs.lemmas.List.FromFn.{map-range_with_len_more}
-use Rattle.cas_turn.specs.Sitting.{Sitting, TurnId, fresh_seat, fresh_seats}
+use Rattle.cas_turn.specs.Sitting.{Sitting, TurnId, fresh_seat, first_seats, fresh_seats}
 use Rattle.cas_turn.specs.declared.view.Stage.{Stage}
 use Rattle.cas_turn.specs.declared.view.Stage.TheVariants.{Idle, Waiting, Holding}
 use Rattle.cas_turn.specs.declared.view.Known.{Known}
@@ -29,8 +29,9 @@ module _ {V I : Type 0} where
       (h.0, h.1, ap (λ (x : View V I). (x, me.1)) view ∙ h.2)
 
   -- the seats of a new turn, with one more
-  pub fresh_more : (turn : TurnId) (n : ℕ) (before after : List (Sitting V I)) (s : Sitting V I) → after ≡ before ++ s ∷ [] → before ≡ fresh_seats turn n → s ≡ fresh_seat turn n → after ≡ fresh_seats turn (n + 1)
-  fresh_more turn n before after s pushed given is = pushed ∙ ((λ i. given i ++ is i ∷ []) ∙ sym (map-range_with_len_more (fresh_seat turn) 0 n n (omega arith)))
+  pub fresh_more : (turn : TurnId) (count n : ℕ) (before after : List (Sitting V I)) (s : Sitting V I) → after ≡ before ++ s ∷ [] → before ≡ first_seats turn count n → s ≡ fresh_seat turn count n
+      → after ≡ first_seats turn count (n + 1)
+  fresh_more turn count n before after s pushed given is = pushed ∙ ((λ i. given i ++ is i ∷ []) ∙ sym (map-range_with_len_more (fresh_seat turn count) 0 n n (omega arith)))
 
   idle_by_stage : (k : Known I) (stage : Stage V) (slots : List (ℕ × Option V)) → SlotFits stage slots → held_by stage ≡ None → ◌≡◌ {A = Sat V I} (sat k stage, slots) (idle k)
   idle_by_stage k Idle slots fits none = ap (λ (x : List (ℕ × Option V)). (sat k Idle, x)) fits
@@ -69,4 +70,4 @@ module _ {V I : Type 0} where
 
   -- each seat of a new turn is that turn's, and holds nothing
   pub fresh_all : (turn : TurnId) (count : ℕ) → All (λ (s : Sitting V I). (s.turn ≡ turn) × (s.holds ≡ None)) (fresh_seats turn count)
-  fresh_all turn count = All-map (λ (s : Sitting V I). (s.turn ≡ turn) × (s.holds ≡ None)) (fresh_seat turn) (range_with_len 0 count) (λ k d _. (refl, refl))
+  fresh_all turn count = All-map (λ (s : Sitting V I). (s.turn ≡ turn) × (s.holds ≡ None)) (fresh_seat turn count) (range_with_len 0 count) (λ k d _. (refl, refl))

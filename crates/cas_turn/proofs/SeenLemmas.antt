@@ -32,6 +32,9 @@ module _ {I : Type 0} where
   pub begins_grows : (a l new : List I) → Begins a l → Begins a (l ++ new)
   begins_grows a l new b = record { behind = b.behind ++ new; whole = sym (append_assoc a b.behind new) ∙ ap (λ t. t ++ new) b.whole }
 
+  pub begins_both : (a b c : List I) → Begins a b → Begins b c → Begins a c
+  begins_both a b c first second = record { behind = first.behind ++ second.behind; whole = sym (append_assoc a first.behind second.behind) ∙ ap (λ (l : List I). l ++ second.behind) first.whole ∙ second.whole }
+
   -- a beginning as long as the whole is the whole
   all_of : (a m : List I) → length (a ++ m) ≤ length a → a ++ m ≡ a
   all_of [] [] l = refl

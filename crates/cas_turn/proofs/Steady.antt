@@ -2,7 +2,7 @@
 use Rattle.std.proofs.Common.{◌≡◌, ℕ, ◌+◌, ◌<◌, ◌≢◌, Bool, true, eqb, cond, List, [], ◌∷◌, ◌++◌, length, set, refl, sym, ap, ◌∙◌, subst, ⊎_elim, arith, eq-eqb, ne_eqb, length-set}
 use Rattle.std.specs.Prelude.{Option}
 use mathlib.Core.Logic.{dite}
-use mathlib.Core.Option.{some, some-injective, some-ne-none}
+use mathlib.Core.Option.{some, some-injective}
 use native.Mathlib.Decide.{ℕ_discrete}
 use lib.ListN.{get_elem?}
 use Rattle.std.proofs.lemmas.List.Sums.{sum_by_push}
@@ -24,7 +24,7 @@ at_one_here f n x = ap (λ b. cond b x (f n)) (eq-eqb n n refl)
 pub at_one_else : (f : ℕ → ℕ) (n x k : ℕ) → k ≢ n → at_one f n x k ≡ f k
 at_one_else f n x k other = ap (λ b. cond b x (f k)) (ne_eqb k n other)
 
-module _ {V I : Type 0} (list : V → List I) (owner : I → Option ℕ) (part : V → ℕ → List ℕ) (seats : ℕ) where
+module _ {V I : Type 0} (list : V → List I) (owner : I → Option ℕ) (part : V → ℕ → List ℕ) (made_for : V → ℕ) (seats : ℕ) where
   abbrev D : Type 0
   D = View V I
 
@@ -32,38 +32,40 @@ module _ {V I : Type 0} (list : V → List I) (owner : I → Option ℕ) (part :
   St = State (Option V) D
 
   abbrev Rule : St → Type 0
-  Rule = Kept list owner part seats
+  Rule = Kept list owner part made_for seats
 
   abbrev F : Moment V → ℕ → D → Type 0
-  F = Fits list owner part
+  F = Fits list owner part made_for
 
   -- a seat that neither gives nor takes keeps what it knows, where the value and the desks stay
   pub on_stages : (m : Moment V) (out : Bool) (drawn served : ℕ) (queue : ℕ → ℕ) (j : ℕ) (d : D)
-      → ((t : ℕ) → StageFits list owner part m j (Waiting t) → StageFits list owner part (record { now = m.now; out = out; drawn = drawn; served = served; queue = queue; desk = m.desk }) j (Waiting t))
-      → ((t : ℕ) (v : V) → StageFits list owner part m j (Holding t v) → StageFits list owner part (record { now = m.now; out = out; drawn = drawn; served = served; queue = queue; desk = m.desk }) j (Holding t v))
+      → ((t : ℕ) → StageFits list owner part made_for m j (Waiting t) → StageFits list owner part made_for (record { now = m.now; out = out; drawn = drawn; served = served; queue = queue; desk = m.desk }) j (Waiting t))
+      → ((t : ℕ) (v : V) → StageFits list owner part made_for m j (Holding t v) → StageFits list owner part made_for (record { now = m.now; out = out; drawn = drawn; served = served; queue = queue; desk = m.desk }) j (Holding t v))
       → F m j d → F (record { now = m.now; out = out; drawn = drawn; served = served; queue = queue; desk = m.desk }) j d
-  on_stages m out drawn served queue j (Opens n) waits holds f = f
+  on_stages m out drawn served queue j (Opens n count) waits holds f = f
   on_stages m out drawn served queue j (Tells seen) waits holds f = f
-  on_stages m out drawn served queue j (Sits k Idle learned) waits holds f = record { stands = f.stands; own_part = f.own_part; stage_fits = tt; learned_fits = f.learned_fits }
-  on_stages m out drawn served queue j (Sits k (Waiting t) learned) waits holds f = record { stands = f.stands; own_part = f.own_part; stage_fits = waits t f.stage_fits; learned_fits = f.learned_fits }
-  on_stages m out drawn served queue j (Sits k (Holding t v) learned) waits holds f = record { stands = f.stands; own_part = f.own_part; stage_fits = holds t v f.stage_fits; learned_fits = f.learned_fits }
+  on_stages m out drawn served queue j (Sits k Idle learned) waits holds f = record { stands = f.stands; own_part = f.own_part; for_seats = f.for_seats; stage_fits = tt; learned_fits = f.learned_fits }
+  on_stages m out drawn served queue j (Sits k (Waiting t) learned) waits holds f = record { stands = f.stands; own_part = f.own_part; for_seats = f.for_seats; stage_fits = waits t f.stage_fits; learned_fits = f.learned_fits }
+  on_stages m out drawn served queue j (Sits k (Holding t v) learned) waits holds f = record { stands = f.stands; own_part = f.own_part; for_seats = f.for_seats; stage_fits = holds t v f.stage_fits; learned_fits = f.learned_fits }
   on_stages m out drawn served queue j (Gathers them) waits holds f = f
 
   -- one seat steps
   pub moved : (s : St) (r : Rule s) (ws : List ℕ) (hs : List (mathlib.Core.Option.Option (Option V))) (me : ℕ) (v w : D) (m : Moment V) → get_elem? s.views me ≡ some v
-      → ws ≡ words_of list owner part m → hs ≡ home_of m.out m.now ∷ []
+      → ws ≡ words_of list owner part made_for m → hs ≡ home_of m.out m.now ∷ []
       → (tickets_of w + m.served) + r.moment.drawn ≡ (tickets_of v + r.moment.served) + m.drawn
       → numbers_of seats w ≡ numbers_of seats v
+      → made_for m.now ≡ made_for r.moment.now
       → (m.out ≡ true → (d : D) × (get_elem? (set s.views me w) (m.queue m.served) ≡ some d) × IsHolder d)
       → F m me w
       → ((j : ℕ) (d : D) → j ≢ me → get_elem? s.views j ≡ some d → F r.moment j d → F m j d)
       → Rule (record { words = ws; homes = hs; views = set s.views me w })
-  moved s r ws hs me v w m at words homes tickets numbers holder mine others = record {
+  moved s r ws hs me v w m at words homes tickets numbers still holder mine others = record {
     moment = m;
     words = words;
     homes = homes;
     tickets = (let t = sum_set tickets_of s.views me v w at in let old = r.tickets in omega arith);
     numbers = (let t = sum_set (numbers_of seats) s.views me v w at in let old = r.numbers in omega arith);
+    for_seats = still ∙ r.for_seats;
     holder = holder;
     each_seat = λ j d e. ⊎_elim (λ (t : (j ≡ me) × (w ≡ d)). subst (λ (x : ℕ × D). F m x.0 x.1) (λ i. (sym t.0 i, t.1 i)) mine)
         (λ (t : (j ≢ me) × (get_elem? s.views j ≡ some d)). others j d t.0 t.1 (r.each_seat j d t.1)) (at_set s.views me j w d e);
@@ -92,6 +94,7 @@ module _ {V I : Type 0} (list : V → List I) (owner : I → Option ℕ) (part :
     homes = r.homes;
     tickets = (let t = sum_set tickets_of s.views me v left at in let u = sum_by_push tickets_of front right in let old = r.tickets in omega arith);
     numbers = (let t = sum_set (numbers_of seats) s.views me v left at in let u = sum_by_push (numbers_of seats) front right in let old = r.numbers in omega arith);
+    for_seats = r.for_seats;
     holder = λ out. let h = holder_stays s.views me (r.moment.queue r.moment.served) v left at still (r.holder out) in (h.0, at_longer front (right ∷ []) (r.moment.queue r.moment.served) (h.0) h.1, h.2);
     each_seat = λ j d x. ⊎_elim
         (λ (t : get_elem? front j ≡ some d). ⊎_elim
@@ -117,6 +120,7 @@ module _ {V I : Type 0} (list : V → List I) (owner : I → Option ℕ) (part :
     homes = r.homes;
     tickets = (let t = sum_set tickets_of s.views me v both at in let u = sum_set tickets_of (set s.views me both) other e spent there in let old = r.tickets in omega arith);
     numbers = (let t = sum_set (numbers_of seats) s.views me v both at in let u = sum_set (numbers_of seats) (set s.views me both) other e spent there in let old = r.numbers in omega arith);
+    for_seats = r.for_seats;
     holder = λ out. holder_stays (set s.views me both) other (r.moment.queue r.moment.served) e spent there still' (holder_stays s.views me (r.moment.queue r.moment.served) v both at still (r.holder out));
     each_seat = λ j d x. ⊎_elim (λ (t : (j ≡ other) × (spent ≡ d)). subst (λ (y : ℕ × D). F (record r.moment { desk = desk }) y.0 y.1) (λ i. (sym t.0 i, t.1 i)) spent_fits)
         (λ (t : (j ≢ other) × (get_elem? (set s.views me both) j ≡ some d)). ⊎_elim

@@ -37,14 +37,14 @@ module _ {V I : Type 0} where
 
   -- 1 for a seat that has a ticket
   abbrev pub tickets_of : View V I → ℕ
-  tickets_of (Opens n) = 0
+  tickets_of (Opens n count) = 0
   tickets_of (Tells seen) = 0
   tickets_of (Sits k stage learned) = stage_weight stage
   tickets_of (Gathers them) = 0
 
   -- how many of the numbers below `seats` a seat has
   abbrev pub numbers_of : ℕ → View V I → ℕ
-  numbers_of seats (Opens n) = seats - n
+  numbers_of seats (Opens n count) = seats - n
   numbers_of seats (Tells seen) = 0
   numbers_of seats (Sits k stage learned) = 1
   numbers_of seats (Gathers them) = length them
@@ -58,7 +58,7 @@ abbrev pub home_of : {V : Type 0} → Bool → V → slot.Option (Option V)
 home_of true v = slot.none
 home_of false v = slot.some (Some v)
 
-module _ {V I : Type 0} (list : V → List I) (owner : I → Option ℕ) (part : V → ℕ → List ℕ) where
+module _ {V I : Type 0} (list : V → List I) (owner : I → Option ℕ) (part : V → ℕ → List ℕ) (made_for : V → ℕ) where
   -- the seat `me` has the number n, which has seen this much of the list
   pub record Stands (now : V) (desk : ℕ → ℕ) (me n : ℕ) (seen : List I) : Type 0 where
     pub at_desk : desk n ≡ me
@@ -108,12 +108,13 @@ module _ {V I : Type 0} (list : V → List I) (owner : I → Option ℕ) (part :
   pub record SeatFits (m : Moment V) (me : ℕ) (k : Known I) (stage : Stage V) (learned : Option (List I × List I)) : Type 0 where
     pub stands : Stands m.now m.desk me k.number k.seen
     pub own_part : part m.now k.number ≡ k.own
+    pub for_seats : made_for m.now ≡ k.seats
     pub stage_fits : StageFits m me stage
     pub learned_fits : LearnedFits k.number k.seen learned
 
   -- what is true of any seat
   abbrev pub Fits : Moment V → ℕ → View V I → Type 0
-  Fits m me (Opens next) = (n : ℕ) → next ≤ n → IsUngiven m.now m.desk me n
+  Fits m me (Opens next count) = (made_for m.now ≡ count) × ((n : ℕ) → next ≤ n → IsUngiven m.now m.desk me n)
   Fits m me (Tells seen) = Begins seen (list m.now)
   Fits m me (Sits k stage learned) = SeatFits m me k stage learned
   Fits m me (Gathers them) = All (λ k. Knows m.now m.desk me k) them
@@ -129,5 +130,6 @@ module _ {V I : Type 0} (list : V → List I) (owner : I → Option ℕ) (part :
     pub homes : s.homes ≡ home_of moment.out moment.now ∷ []
     pub tickets : sum_by tickets_of s.views + moment.served ≡ moment.drawn
     pub numbers : sum_by (numbers_of seats) s.views ≡ seats
+    pub for_seats : made_for moment.now ≡ seats
     pub holder : moment.out ≡ true → (d : View V I) × (get_elem? s.views (moment.queue moment.served) ≡ slot.some d) × IsHolder d
     pub each_seat : (j : ℕ) (d : View V I) → get_elem? s.views j ≡ slot.some d → Fits moment j d

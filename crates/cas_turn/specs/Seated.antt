@@ -29,7 +29,7 @@ module _ {V I : Type 0} where
 
   -- a seat as its user sees it
   abbrev pub sitting : TurnId → Known I → Option V → Sitting V I
-  sitting turn k holds = record { turn = turn; number = k.number; holds = holds; seen = k.seen; own = k.own }
+  sitting turn k holds = record { turn = turn; number = k.number; seats = k.seats; holds = holds; seen = k.seen; own = k.own }
 
   abbrev pub sitting_at : Seat (Option V) (View V I) → Sitting V I
   sitting_at p = sitting p.table_id (known_of p.me.0) (held_by (stage_of p.me.0))

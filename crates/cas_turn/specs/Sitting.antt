@@ -12,6 +12,8 @@ pub record Sitting (V I : Type 0) : Type 0 where
   -- the turn that the seat belongs to
   pub turn : TurnId
   pub number : ℕ
+  -- how many seats its turn has
+  pub seats : ℕ
   -- while the seat holds, the value as the hold gave it
   pub holds : Option V
   -- what it has seen of the value's list
@@ -19,13 +21,17 @@ pub record Sitting (V I : Type 0) : Type 0 where
   -- the part of the value that is its number's own, as it left it
   pub own : List ℕ
 
--- a seat of a new turn
-abbrev pub fresh_seat : {V I : Type 0} → TurnId → ℕ → Sitting V I
-fresh_seat turn n = record { turn = turn; number = n; holds = None; seen = []; own = [] }
+-- a seat of a new turn that has so many
+abbrev pub fresh_seat : {V I : Type 0} → TurnId → ℕ → ℕ → Sitting V I
+fresh_seat turn count n = record { turn = turn; number = n; seats = count; holds = None; seen = []; own = [] }
 
--- the seats of a new turn, in order
+-- the first seats of a new turn, in order
+abbrev pub first_seats : {V I : Type 0} → TurnId → ℕ → ℕ → List (Sitting V I)
+first_seats turn count given = map (fresh_seat turn count) (range_with_len 0 given)
+
+-- all of them
 abbrev pub fresh_seats : {V I : Type 0} → TurnId → ℕ → List (Sitting V I)
-fresh_seats turn count = map (fresh_seat turn) (range_with_len 0 count)
+fresh_seats turn count = first_seats turn count count
 
 -- a turn as its user sees it: which one it is, and how many seats it gave out
 pub record Turning : Type 0 where

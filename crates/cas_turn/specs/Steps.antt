@@ -16,9 +16,9 @@ use Rattle.cas_turn.specs.Sitting.{Sitting}
 abbrev pub Sat : Type 0 → Type 0 → Type 0
 Sat V I = Me (Option V) (View V I)
 
--- a number that has seen nothing and owns nothing
-abbrev pub newcomer : {I : Type 0} → ℕ → Known I
-newcomer n = record { number = n; seen = []; own = [] }
+-- one of so many numbers, which has seen nothing and owns nothing
+abbrev pub newcomer : {I : Type 0} → ℕ → ℕ → Known I
+newcomer count n = record { number = n; seats = count; seen = []; own = [] }
 
 -- the ticket of a seat that waits or holds
 abbrev pub ticket_of : {V : Type 0} → Stage V → ℕ
@@ -30,13 +30,13 @@ module _ {V I : Type 0} where
   -- what a seat with a number knows for it
   abbrev pub known_of : View V I → Known I
   known_of (Sits k stage learned) = k
-  known_of (Opens n) = newcomer 0
-  known_of (Tells seen) = newcomer 0
-  known_of (Gathers them) = newcomer 0
+  known_of (Opens n count) = newcomer 0 0
+  known_of (Tells seen) = newcomer 0 0
+  known_of (Gathers them) = newcomer 0 0
 
   abbrev pub stage_of : View V I → Stage V
   stage_of (Sits k stage learned) = stage
-  stage_of (Opens n) = Idle
+  stage_of (Opens n count) = Idle
   stage_of (Tells seen) = Idle
   stage_of (Gathers them) = Idle
 
@@ -84,14 +84,14 @@ module _ {V I : Type 0} where
 
   -- the next number comes off the seat that has all from there on
   abbrev pub without_next : View V I → View V I
-  without_next (Opens n) = Opens (n + 1)
+  without_next (Opens n count) = Opens (n + 1) count
   without_next (Tells seen) = Tells seen
   without_next (Sits k stage learned) = Sits k stage learned
   without_next (Gathers them) = Gathers them
 
   -- the seat of that number
   abbrev pub next_seat : View V I → View V I
-  next_seat (Opens n) = sat (newcomer n) Idle
+  next_seat (Opens n count) = sat (newcomer count n) Idle
   next_seat (Tells seen) = Tells []
   next_seat (Sits k stage learned) = Tells []
   next_seat (Gathers them) = Tells []
@@ -104,7 +104,7 @@ module _ {V I : Type 0} where
   abbrev pub told : View V I → View V I → View V I
   told (Sits k stage learned) (Tells theirs) = Sits (record k { seen = longer_of k.seen theirs }) stage (Some (k.seen, theirs))
   told (Sits k stage learned) w = Sits k stage learned
-  told (Opens n) w = Opens n
+  told (Opens n count) w = Opens n count
   told (Tells seen) w = Tells seen
   told (Gathers them) w = Gathers them
 
@@ -113,7 +113,7 @@ module _ {V I : Type 0} where
   gathered (Gathers them) (Sits k stage learned) = Gathers (k ∷ them)
   gathered (Gathers them) w = Gathers them
   gathered (Sits k stage learned) w = Sits k stage learned
-  gathered (Opens n) w = Opens n
+  gathered (Opens n count) w = Opens n count
   gathered (Tells seen) w = Tells seen
 
 -- a place at a table of this shape
@@ -122,26 +122,28 @@ pub record IsPlaceOf {V I : Type 0} (id : TableId) (p : Seat (Option V) (View V 
   pub three_words : id.words ≡ 3
   pub one_slot : id.slots ≡ 1
 
-module _ {V I : Type 0} (list : V → List I) (owner : I → Option ℕ) (part : V → ℕ → List ℕ) where
+module _ {V I : Type 0} (list : V → List I) (owner : I → Option ℕ) (part : V → ℕ → List ℕ) (made_for : V → ℕ) where
   -- what a number knows once it has the value v
-  abbrev pub known_from : ℕ → V → Known I
-  known_from n v = record { number = n; seen = list v; own = part v n }
+  abbrev pub known_from : Known I → V → Known I
+  known_from k v = record k { seen = list v; own = part v k.number }
 
-  -- the seat has the value v, which begins with what it had seen and has its own part as it was left
+  -- the seat has the value v, which begins with what it had seen, has its own part as it was left, and is for as many seats
   pub record Took (me me' : Sat V I) (v : V) : Type 0 where
-    pub holds : me' ≡ holding (known_from (known_of me.0).number v) (ticket_in me) v (Some v)
+    pub holds : me' ≡ holding (known_from (known_of me.0) v) (ticket_in me) v (Some v)
     pub has_seen : HasSeen owner (known_of me.0).number (known_of me.0).seen (list v)
     pub own_part : part v (known_of me.0).number ≡ (known_of me.0).own
+    pub for_seats : made_for v ≡ (known_of me.0).seats
 
   -- it takes the value where its ticket is served, and else goes on waiting
   abbrev pub looked : Step (Option V) → Sat V I → ℕ → Sat V I → Type 0
   looked st me r me' = (r ≡ ticket_in me % 2 ^ 64 → (v : V) × Took me me' v) × (r ≢ ticket_in me % 2 ^ 64 → me' ≡ me)
 
-  -- from before to after, the number's holder only added what it may own, and changed no other number's own part
+  -- from before to after, the number's holder only added what it may own, and changed no other number's own part, nor for how many seats the value is
   pub record Grew (n : ℕ) (before after : V) : Type 0 where
     pub whole : list before ++ added_to (list before) (list after) ≡ list after
     pub owned : OnlyOwnedBy owner n (added_to (list before) (list after))
     pub others : (m : ℕ) → m ≢ n → part after m ≡ part before m
+    pub for_seats : made_for after ≡ made_for before
 
   -- a seat with what it had seen has now seen the longer of that and of what the note brought
   pub record Heard (theirs : List I) (me me' : Sat V I) : Type 0 where
@@ -153,22 +155,22 @@ module _ {V I : Type 0} (list : V → List I) (owner : I → Option ℕ) (part :
   abbrev pub measured : Step (Option V) → Sat V I → ℕ → Sat V I → Type 0
   measured st me r me' = (me' ≡ me) × ((v : V) → stage_of me.0 ≡ Holding (ticket_in me) v → r ≡ length (list v))
 
-  -- the value in the slot is now the turn's
+  -- the value in the slot is now the turn's, and is for as many seats as the turn has
   abbrev pub published : Step (Option V) → Sat V I → ℕ → Sat V I → Type 0
-  published st me r me' = (w : V) → me.1 ≡ (0, Some w) ∷ [] → me' ≡ holding (known_from (known_of me.0).number w) (ticket_in me) w (Some w)
+  published st me r me' = (w : V) → me.1 ≡ (0, Some w) ∷ [] → (me' ≡ holding (known_from (known_of me.0) w) (ticket_in me) w (Some w)) × (made_for w ≡ (known_of me.0).seats)
 
   -- the seat is told what its two lists have made it see, and keeps the longer one alone
   abbrev pub settled : Step (Option V) → Sat V I → ℕ → Sat V I → Type 0
   settled st me r me' = (me' ≡ (sat (known_of me.0) (stage_of me.0), me.1))
-      × ((mine theirs : List I) → me.0 ≡ Sits (known_of me.0) (stage_of me.0) (Some (mine, theirs)) → Learned list owner part (known_of me.0).number mine theirs (known_of me.0).seen)
+      × ((mine theirs : List I) → me.0 ≡ Sits (known_of me.0) (stage_of me.0) (Some (mine, theirs)) → Learned list owner part made_for (known_of me.0).number mine theirs (known_of me.0).seen)
 
 -- what a seat knows for its number
 abbrev pub known_by : {V I : Type 0} → Sitting V I → Known I
-known_by s = record { number = s.number; seen = s.seen; own = s.own }
+known_by s = record { number = s.number; seats = s.seats; seen = s.seen; own = s.own }
 
 -- what a seat that closes the turn took in
 abbrev pub them_of : {V I : Type 0} → View V I → List (Known I)
 them_of (Gathers them) = them
-them_of (Opens n) = []
+them_of (Opens n count) = []
 them_of (Tells seen) = []
 them_of (Sits k stage learned) = []

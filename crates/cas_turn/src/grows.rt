@@ -15,6 +15,9 @@ pub trait Grows {
     // The part of the value that is a number's own.
     ghost part: { Self → ℕ → List ℕ };
 
+    // For how many seats the value is made. No hold changes it.
+    ghost seats: { Self → ℕ };
+
     // Whether one hold may add these items.
     ghost may_add: { List Self.Item → Type 0 };
 

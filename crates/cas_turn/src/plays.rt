@@ -18,21 +18,21 @@ impl<V: Grows> Play<Option<V>, View<V, V::Item>> for Draw {
 pub(crate) struct Look;
 
 impl<V: Grows> Play<Option<V>, View<V, V::Item>> for Look {
-    ghost then = { looked V.list V.owner V.part };
+    ghost then = { looked V.list V.owner V.part V.seats };
 }
 
 /// Finds the length of the list.
 pub(crate) struct Measure;
 
 impl<V: Grows> Play<Option<V>, View<V, V::Item>> for Measure {
-    ghost then = { measured V.list V.owner V.part };
+    ghost then = { measured V.list V.owner V.part V.seats };
 }
 
 /// Publishes the list of the value that is given back.
 pub(crate) struct Publish;
 
 impl<V: Grows> Play<Option<V>, View<V, V::Item>> for Publish {
-    ghost then = { published V.list V.owner V.part };
+    ghost then = { published V.list V.owner V.part V.seats };
 }
 
 /// Serves the next ticket, and leaves the value at home.
@@ -46,7 +46,7 @@ impl<V: Grows> Play<Option<V>, View<V, V::Item>> for Leave {
 pub(crate) struct Settle;
 
 impl<V: Grows> Play<Option<V>, View<V, V::Item>> for Settle {
-    ghost then = { settled V.list V.owner V.part };
+    ghost then = { settled V.list V.owner V.part V.seats };
 }
 
 /// Makes the next numbered seat.

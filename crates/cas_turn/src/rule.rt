@@ -23,9 +23,9 @@ impl<V: Grows> TableRule<Option<V>, View<V, V::Item>, u32> for Law<V> {
     ghost use Rattle.cas_turn.specs.Rule.{Kept};
     ghost use Rattle.cas_turn.specs.declared.view.View.TheVariants.{Opens};
 
-    ghost holds = { Kept V.list V.owner V.part };
+    ghost holds = { Kept V.list V.owner V.part V.seats };
 
-    ghost first = { λ _. Opens 0 };
+    ghost first = { λ seats. Opens 0 seats };
 }
 
 /// What all seats share.

@@ -15,6 +15,7 @@ use std::thread::Threads;
 struct Tally {
     log: Vec<u32>,
     counts: [u32; 4],
+    threads: u32,
 }
 
 impl Grows for Tally {
@@ -28,6 +29,8 @@ impl Grows for Tally {
 
     ghost part = { λ _ _. [] };
 
+    ghost seats = { λ t. t.threads };
+
     ghost may_add = { λ new. length new ≤ 1 };
 
     fn items(&self) -> u64 {
@@ -36,19 +39,20 @@ impl Grows for Tally {
 }
 
 impl Tally {
-    /// A tally of nobody, with room for so many holds.
-    fn empty(alloc: Global, room: usize) -> Result<Tally, AllocError>
-        ensures { IfOk result (λ t. t.log.items ≡ []) }
+    /// A tally of nobody for so many threads, with room for so many holds.
+    fn empty(alloc: Global, threads: u32, room: usize) -> Result<Tally, AllocError>
+        ensures { IfOk result (λ t. (t.log.items ≡ []) × (t.threads ≡ threads)) }
     {
         Ok(Tally {
             log: Vec::with_capacity(alloc, room)?,
             counts: [0; 4],
+            threads,
         })
     }
 
     /// Counts a hold, unless there is no memory for it.
     fn add(&mut self, number: u32)
-        ensures { (added : List ℕ) × (self.new.log.items ≡ self.old.log.items ++ added) × (length added ≤ 1) × All (λ n. n ≡ number) added }
+        ensures { (added : List ℕ) × (self.new.log.items ≡ self.old.log.items ++ added) × (length added ≤ 1) × All (λ n. n ≡ number) added × (self.new.threads ≡ self.old.threads) }
     {
         if self.log.push(number).is_ok() {
             let count = &mut self.counts[number as usize % 4];
@@ -108,7 +112,7 @@ fn tally_of<R: Threads + Wait + Sync>(
 ) -> Result<Tally, AllocError>
     requires { 1 ≤ threads }
 {
-    let empty = Tally::empty(alloc, threads as usize * holds as usize)?;
+    let empty = Tally::empty(alloc, threads, threads as usize * holds as usize)?;
     let (turn, mut seats) = match Turn::new(alloc, empty, threads) {
         Ok(made) => made,
         Err((error, _empty)) => return Err(error),
@@ -141,6 +145,8 @@ impl Grows for Notes {
     ghost owner = { λ _. None };
 
     ghost part = { λ _ _. [] };
+
+    ghost seats = { λ _. 1 };
 
     ghost may_add = { λ _. Unit {0} };
 
@@ -202,7 +208,7 @@ fn a_bound_serves_a_value_with_a_model(rt: HostRuntime) -> Result<(), Fail> {
 
 #[test]
 fn seats_meet_between_holds(rt: HostRuntime) -> Result<(), Fail> {
-    let empty = Tally::empty(rt.alloc(), 4)?;
+    let empty = Tally::empty(rt.alloc(), 2, 4)?;
     let Ok((turn, mut seats)) = Turn::new(rt.alloc(), empty, 2) else {
         return Err(AllocError)?;
     };

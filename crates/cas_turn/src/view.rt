@@ -13,6 +13,8 @@ pub enum Stage<V> {
 /// What a seat knows for its number.
 pub struct Known<I> {
     pub number: u64,
+    /// How many seats the turn has.
+    pub seats: u64,
     /// What it has seen of the list.
     pub seen: LinkedList<I>,
     /// The part of the value that is its number's own.
@@ -20,8 +22,8 @@ pub struct Known<I> {
 }
 
 pub enum View<V, I> {
-    /// The seat that makes the numbered ones, and has all numbers from this on.
-    Opens(u64),
+    /// The seat that makes the numbered ones, and has all numbers from the first on, of so many.
+    Opens(u64, u64),
     /// A note, which tells another seat what was seen. It has no number.
     Tells(LinkedList<I>),
     /// A seat with a number. After it took in a note it has the two lists that it then knew, its own first.

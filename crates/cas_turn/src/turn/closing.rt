@@ -55,7 +55,8 @@ fn value_at_home<V: Grows>(board: Board<V>, gatherer: Place<V>) -> V
     requires table { IsPlaceOf board.shared.table_id gatherer }
     requires gathers { gatherer.me ≡ (Gathers (them_of gatherer.me.0), []) }
     requires all { length (them_of gatherer.me.0) ≡ board.shared.key }
-    ensures { All (λ k. HasSeen V.owner k.number k.seen (V.list result) × (V.part result k.number ≡ k.own)) (them_of gatherer.me.0) }
+    ensures seats { V.seats result ≡ board.shared.key }
+    ensures them { All (λ k. HasSeen V.owner k.number k.seen (V.list result) × (V.part result k.number ≡ k.own)) (them_of gatherer.me.0) }
 {
     let mut closed = board.close_with(gatherer);
     let home = closed.take(VALUE);
@@ -69,13 +70,14 @@ impl<V: Grows> Turn<V> {
     ///
     /// It takes all seats that the turn gave. Each is there once, since a seat cannot be copied, and none holds. The
     /// value's list begins with what each seat has seen, and has nothing of that seat's number behind that. The own part of
-    /// each is as the seat left it. It takes no memory, and waits for nobody.
+    /// each is as the seat left it, and the value is for as many seats as the turn has. It takes no memory, and waits for nobody.
     pub fn close(self, mut seats: Vec<Seat<V>>) -> V
         requires turn { All (λ s. s.turn ≡ self.id) seats.items }
         requires all { vec_len seats ≡ self.seats }
         requires idle { All (λ s. s.holds ≡ None) seats.items }
         ensures seen { All (λ s. HasSeen V.owner s.number s.seen (V.list result)) seats.items }
         ensures own { All (λ s. V.part result s.number ≡ s.own) seats.items }
+        ensures seats { V.seats result ≡ self.seats }
     {
         let Turn { board } = self;
         let Some(mut last) = seats.pop() else {

@@ -32,8 +32,9 @@ fn board_of<V: Grows>(
 ) -> Result<(Board<V>, Place<V>), (AllocError, V)>
     requires unowned { All (λ i. V.owner i ≡ None) (V.list value) }
     requires no_parts { (n : ℕ) → V.part value n ≡ [] }
+    requires seats { V.seats value ≡ seats }
     ensures board { IfOk result (λ b. IsPlaceOf b.0.shared.table_id b.1 × (b.0.shared.key ≡ seats)) }
-    ensures place { IfOk result (λ b. b.1.me ≡ (Opens 0, [])) }
+    ensures place { IfOk result (λ b. b.1.me ≡ (Opens 0 seats, [])) }
     ensures err { IfErr result (λ e. e.1 ≡ value) }
 {
     let words = [0, 0, value.items()];
@@ -51,11 +52,11 @@ fn board_of<V: Grows>(
 /// The seat of the next number.
 fn next_seat<V: Grows>(top: &Top<V>, opener: &mut Place<V>, number: u32) -> Seat<V>
     requires table { IsPlaceOf top.now.table_id opener.old }
-    requires opens { opener.old.me ≡ (Opens number, []) }
+    requires opens { opener.old.me ≡ (Opens number top.now.key, []) }
     requires room { number < top.now.key }
     ensures same { IsSamePlace opener.old opener.new }
-    ensures opens { opener.new.me ≡ (Opens (number + 1), []) }
-    ensures seat { result ≡ fresh_seat top.now.table_id number }
+    ensures opens { opener.new.me ≡ (Opens (number + 1) top.now.key, []) }
+    ensures seat { result ≡ fresh_seat top.now.table_id top.now.key number }
 {
     Seat {
         place: top.split_seat::<Number>(opener),
@@ -71,7 +72,7 @@ fn seats_of<V: Grows>(
     count: u32,
 ) -> Vec<Seat<V>>
     requires table { IsPlaceOf top.now.table_id opener }
-    requires opens { opener.me ≡ (Opens 0, []) }
+    requires opens { opener.me ≡ (Opens 0 count, []) }
     requires count { count ≡ top.now.key }
     requires room { (room.items ≡ []) × (vec_len room ≡ 0) × (count ≤ vec_capacity room) }
     ensures seats { result.items ≡ fresh_seats top.now.table_id count }
@@ -98,6 +99,7 @@ impl<V: Grows> Turn<V> {
         requires some { 1 ≤ seats }
         requires unowned { All (λ i. V.owner i ≡ None) (V.list value) }
         requires no_parts { (n : ℕ) → V.part value n ≡ [] }
+        requires seats { V.seats value ≡ seats }
         ensures count { IfOk result (λ t. (t.0.seats ≡ seats) × (vec_len t.1 ≡ seats)) }
         ensures seats { IfOk result (λ t. t.1.items ≡ fresh_seats t.0.id seats) }
         ensures room { IfOk result (λ t. vec_capacity t.1 ≡ seats) }

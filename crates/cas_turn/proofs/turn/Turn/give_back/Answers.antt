@@ -14,9 +14,10 @@ give_turn-requires-clause-grew g c =
     let number = ap (λ (s : Sitting g.row.V.Denot g.row.V-Item.Denot). s.number) same in (
       h.0,
       h.2,
-      subst (λ (n : ℕ). Grew g.V.Grows.list g.V.Grows.owner g.V.Grows.part n (h.0) c.args.value) (sym number) (record {
+      subst (λ (n : ℕ). Grew g.V.Grows.list g.V.Grows.owner g.V.Grows.part g.V.Grows.seats n (h.0) c.args.value) (sym number) (record {
         whole = added_whole _ _ (c.requires.grows (h.0) held);
         owned = c.requires.owned (h.0) held;
         others = c.requires.others (h.0) held;
+        for_seats = c.requires.seats (h.0) held;
       }),
     )

@@ -12,5 +12,5 @@ join_seat-requires g c =
       ap (λ (s : Sitting g.row.V.Denot g.row.V-Item.Denot). s.turn) c.seat.view_is ∙ c.requires.turn,
       ap (λ (m : Sat g.row.V.Denot g.row.V-Item.Denot). m.1) is,
       c.requires.words,
-      gathers_at _ _ _ _ _ _ _ _ _ (ap (λ (m : Sat g.row.V.Denot g.row.V-Item.Denot). m.0) c.requires.gathers) (ap (λ (m : Sat g.row.V.Denot g.row.V-Item.Denot). m.0) is),
+      gathers_at _ _ _ _ _ _ _ _ _ _ (ap (λ (m : Sat g.row.V.Denot g.row.V-Item.Denot). m.0) c.requires.gathers) (ap (λ (m : Sat g.row.V.Denot g.row.V-Item.Denot). m.0) is),
     )
