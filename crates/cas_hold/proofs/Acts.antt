@@ -77,14 +77,14 @@ part_same old new zero callers council = ap₂ (λ (c : Option CallerView) (k : 
 part_same old new (suc m) callers council = ap caller_part callers
 
 pub makes_of : {S V : Type 0} (n : ℕ) (old new : View S V) (marks : List Mark) → Acts n old new marks → MayAdd marks → OnlyOwnedBy owner_of n marks → Makes n old new marks
-makes_of n old new marks acts may only = record { made = acts.made; may_add = may; owned = only; others = λ m other. part_same old new m (acts.callers.others m other) acts.council }
+makes_of n old new marks acts may only = record { greatest = acts.greatest; made = acts.made; may_add = may; owned = only; others = λ m other. part_same old new m (acts.callers.others m other) acts.council }
 
 -- where it changes what the operator has under way, that is as if it had been so before
 pub acts_aside : {S V : Type 0} (n : ℕ) (old new : View S V) (council : Council) (marks : List Mark) → Acts n old new marks → Acts n (record old { council = council }) (record new { council = council }) marks
 acts_aside n old new council marks acts = record { greatest = acts.greatest; desks = acts.desks; callers = acts.callers; council = refl; made = acts.made }
 
 pub makes_aside : {S V : Type 0} (n : ℕ) (old new : View S V) (marks : List Mark) → Acts n (record old { council = new.council }) new marks → MayAdd marks → OnlyOwnedBy owner_of n marks → (n ≢ 0 → new.council ≡ old.council) → Makes n old new marks
-makes_aside {S} {V} n old new marks acts may only council = record { made = acts.made; may_add = may; owned = only; others = others }
+makes_aside {S} {V} n old new marks acts may only council = record { greatest = acts.greatest; made = acts.made; may_add = may; owned = only; others = others }
   where
     others : (m : ℕ) → m ≢ n → own_part new m ≡ own_part old m
     others zero other = part_same old new zero (acts.callers.others zero other) (council (λ is. other (sym is)))

@@ -40,6 +40,7 @@ use Rattle.cas_world.specs.Readers.{closed_in, next_number}
 use Rattle.cas_world.specs.Reading.{HasProposed}
 use Rattle.cas_world.specs.World.{WasTold}
 use Rattle.cas_hold.specs.Collecting as collecting_
+use Rattle.cas_hold.specs.Counting.{EntersEras}
 use Rattle.cas_hold.specs.Collecting.{CollectsAt, HasBurial, IsBurialMark, IsCollectAnswer, IsCollectingMark, IsRefusedBurial, IsWithin, TellsRefusal, Stops}
 use Rattle.cas_hold.specs.Conflicts.{is_conflict, told_conflict}
 use Rattle.cas_hold.specs.Deeds.{harm_by}
@@ -186,7 +187,7 @@ begun_held {S} {V} m key call most old new next has kept by round = by_case (beg
         let wanted : wanted_by 0 new.marks ≡ Some (wants (suc caller.number) key keep_always) = ap (wanted_by 0) leads.made ∙ wanted_begun (suc caller.number) key old.marks b.more b.fine.asks in
         record {
           does = (
-            record { marks = all; makes = makes_led old new all leads (tt, b.fine.may_add) only; all_such = begun_such (suc caller.number) key b.more (such_marks key (suc caller.number) b.more b.fine.of_call (b.fine.asks None)); few = begun_few (suc caller.number) most key b.more (let low : losses (mine 0 b.more) ≤ 0 = b.fine.few in omega (arith, low)) },
+            record { marks = all; makes = makes_led old new all leads (tt, b.fine.may_add) only; all_such = begun_such (suc caller.number) key b.more (such_marks key (suc caller.number) b.more b.fine.of_call (b.fine.asks None)); few = begun_few (suc caller.number) most key b.more (let low : losses (mine 0 b.more) ≤ 0 = b.fine.few in omega (arith, low)); counts = λ enters. absurd (enters 0 0) },
             has_burial new key call (record { caller = now; at_caller = at_next; number = number; open_call = b.next; is_open = refl; at = subst (λ (w : View S V). CollectsAt key step.Round 0 w.council) (sym is) at; none_asked = ap (λ (w : View S V). w.council.exchange) is ∙ none_asked }) (wanted ∙ ap (λ (k : ℕ). Some (wants k key keep_always)) number),
           );
           kept = kept_led old new all leads only kept (record {
@@ -269,7 +270,7 @@ refusal_held {S} {V} m key call most old mid new told next has kept by not ends 
         let there = next_at old 0 call next in
         let number : suc caller.number ≡ call = ap (λ (c : CallerView). suc c.number) (at_one old.callers 0 at_old there.at_caller) ∙ there.number in
         subst (λ (a : OpAnswer). Held old new (IsToldIn (asked.Collect key) (IsBurialMark key) most old new a × IsCollectAnswer key a)) (sym is)
-        (stops_held (IsBurialMark key) m key call most old mid new said (λ mark such. such) (no_conflict_where mid call said told_ (record { number = suc caller.number; call = Some b.next }) b.next (subst (λ (w : View S V). IsAt w.callers 0 (record { number = suc caller.number; call = Some b.next })) (sym same) b.at_next) refl b.unmet)
+        (stops_held (IsBurialMark key) m key call most old mid new said (λ mark such. such) (λ enters. enters 0 0) (no_conflict_where mid call said told_ (record { number = suc caller.number; call = Some b.next }) b.next (subst (λ (w : View S V). IsAt w.callers 0 (record { number = suc caller.number; call = Some b.next })) (sym same) b.at_next) refl b.unmet)
         (reaches_begun key call most old middle mid caller council said number b same told_)
         (λ order is_order. ap (λ (o : OrderView). o.asked) (some_is (sym is_order ∙ ap (λ (w : View S V). w.council.order) same ∙ at.order))) undone kept (stop_held (fresh (no_call_at old kept was.no_call)) said is ends))
 
@@ -313,7 +314,7 @@ again_stops {S} {V} m key call most old mid new said has kept by told undone end
     let at_middle : IsAt parts.0.callers 0 told.caller = subst (λ (l : List CallerView). IsAt l 0 told.caller) (ap (λ (w : View S V). w.callers) is) told.at_caller in
     let over = over_where_told 0 most old parts.0 was.caller (calls.tried_again was.open_call again.reserved) call said again.round (record { caller = told.caller; at_caller = at_middle; same_number = told.same_number; call = told.call; is_open = told.is_open; told = told.told }) in
     let reaches = reaches_over key call most old parts.0 was.caller (calls.tried_again was.open_call again.reserved) was.number over in
-    stops_held (IsBurialMark key) m key call most old mid new said (λ mark such. such) (no_conflict_where mid call said told (record was.caller { call = Some again.round.goes.next }) again.round.goes.next (subst (λ (w : View S V). IsAt w.callers 0 (record was.caller { call = Some again.round.goes.next })) (sym is) again.round.goes.at_next) refl again.unmet) (record {
+    stops_held (IsBurialMark key) m key call most old mid new said (λ mark such. such) (λ enters. enters 0 0) (no_conflict_where mid call said told (record was.caller { call = Some again.round.goes.next }) again.round.goes.next (subst (λ (w : View S V). IsAt w.callers 0 (record was.caller { call = Some again.round.goes.next })) (sym is) again.round.goes.at_next) refl again.unmet) (record {
       marks = reaches.marks;
       leads = leads_council old parts.0 mid reaches.marks parts.2 reaches.leads is;
       only = reaches.only;
@@ -365,16 +366,16 @@ stops_by {S} {V} m old mid new told said same by tells = (mid, by, subst (λ (a 
 
 -- its phases end
 -- where the operator's collection stays
-burial_over : {S V : Type 0} (such : Mark → Type 0) (m : Meaning S V) (key : List ℕ) (call most : ℕ) (old mid new : View S V) (said : Answer) (caller : CallerView) (one : CallView) → ((mark : Mark) → IsBurialMark key mark → such mark) → such (kinds.Ended 0 call (rounds_in (own_part mid 0)) said) → HasBurial key call (own_part old 0) old.marks → IsAt old.callers 0 caller → CallIsOver 0 most old mid caller one → IsKept old → is_done said ≡ false → Stops m mid said new
+burial_over : {S V : Type 0} (such : Mark → Type 0) (m : Meaning S V) (key : List ℕ) (call most : ℕ) (old mid new : View S V) (said : Answer) (caller : CallerView) (one : CallView) → ((mark : Mark) → IsBurialMark key mark → such mark) → (EntersEras such → ⊥) → such (kinds.Ended 0 call (rounds_in (own_part mid 0)) said) → HasBurial key call (own_part old 0) old.marks → IsAt old.callers 0 caller → CallIsOver 0 most old mid caller one → IsKept old → is_done said ≡ false → Stops m mid said new
     → Held old new (IsToldIn (asked.Collect key) such most old new (op.Stopped said) × IsCollectAnswer key (op.Stopped said))
-burial_over such m key call most old mid new said caller one weaker last has at over kept undone ends =
+burial_over such m key call most old mid new said caller one weaker not_entering last has at over kept undone ends =
     let is = is_burying old key call old.marks has in
-    stops_held such m key call most old mid new said weaker last (reaches_over key call most old mid caller one (ap (λ (c : CallerView). c.number) (at_one old.callers 0 at is.at_caller) ∙ is.number) over) (asks_there key old mid call is over.goes.acts.council) undone kept ends
+    stops_held such m key call most old mid new said weaker not_entering last (reaches_over key call most old mid caller one (ap (λ (c : CallerView). c.number) (at_one old.callers 0 at is.at_caller) ∙ is.number) over) (asks_there key old mid call is over.goes.acts.council) undone kept ends
 
 pub turn_stops : {S V : Type 0} (m : Meaning S V) (key : List ℕ) (call most : ℕ) (old mid new : View S V) (said : Answer) → HasBurial key call (own_part old 0) old.marks → IsKept old → StepRefuseTurn m old 0 mid → WasTold mid 0 call said → is_done said ≡ false → is_conflict said ≡ false → Stops m mid said new
     → Held old new (IsToldIn (asked.Collect key) (IsBurialMark key) most old new (op.Stopped said) × IsCollectAnswer key (op.Stopped said))
 turn_stops m key call most old mid new said has kept by was undone no_conflict ends =
-    burial_over (IsBurialMark key) m key call most old mid new said by.of_call.caller by.of_call.call (λ mark such. such) no_conflict has by.of_call.at_caller (over_where_told 0 most old mid by.of_call.caller by.of_call.call call said (refused_turn_goes_on m 0 most old mid by) was) kept undone ends
+    burial_over (IsBurialMark key) m key call most old mid new said by.of_call.caller by.of_call.call (λ mark such. such) (λ enters. enters 0 0) no_conflict has by.of_call.at_caller (over_where_told 0 most old mid by.of_call.caller by.of_call.call call said (refused_turn_goes_on m 0 most old mid by) was) kept undone ends
 
 -- a turn, or the end of a phase, leaves it the rounds that it had
 same_rounds : {S V : Type 0} (most : ℕ) (old new : View S V) (caller : CallerView) (one : CallView) → IsAt old.callers 0 caller → caller.call ≡ Some one → (goes : CallGoesOn 0 most old new caller one) → rounds_in (own_part new 0) ≡ rounds_in (own_part old 0)
@@ -386,18 +387,18 @@ propose_rounds m old new by = same_rounds 0 old new by.at_round.of_call.caller b
 pub propose_stops : {S V : Type 0} (tries : ℕ) (m : Meaning S V) (key : List ℕ) (call most : ℕ) (old mid new : View S V) (said : Answer) → (is_conflict said ≡ true → rounds_in (own_part old 0) ≡ tries) → HasBurial key call (own_part old 0) old.marks → IsKept old → StepPropose m old 0 mid → WasTold mid 0 call said → is_done said ≡ false → Stops m mid said new
     → Held old new (IsToldIn (asked.Collect key) (IsCollectingMark key tries) most old new (op.Stopped said) × IsCollectAnswer key (op.Stopped said))
 propose_stops tries m key call most old mid new said spent has kept by was undone ends =
-    burial_over (IsCollectingMark key tries) m key call most old mid new said by.at_round.of_call.caller by.at_round.of_call.call (burial_within key tries) (λ conflict. propose_rounds m old mid by ∙ spent conflict) has by.at_round.of_call.at_caller (over_where_told 0 most old mid by.at_round.of_call.caller by.at_round.of_call.call call said (propose_goes_on m 0 most old mid by) was) kept undone ends
+    burial_over (IsCollectingMark key tries) m key call most old mid new said by.at_round.of_call.caller by.at_round.of_call.call (burial_within key tries) (λ enters. enters 0 0) (λ conflict. propose_rounds m old mid by ∙ spent conflict) has by.at_round.of_call.at_caller (over_where_told 0 most old mid by.at_round.of_call.caller by.at_round.of_call.call call said (propose_goes_on m 0 most old mid by) was) kept undone ends
 
 pub count_stops : {S V : Type 0} (m : Meaning S V) (key : List ℕ) (call most : ℕ) (old mid new : View S V) (said : Answer) → HasBurial key call (own_part old 0) old.marks → IsKept old → StepCount m old 0 mid → WasTold mid 0 call said → is_done said ≡ false → Stops m mid said new
     → Held old new (IsToldIn (asked.Collect key) (IsBurialMark key) most old new (op.Stopped said) × IsCollectAnswer key (op.Stopped said))
 count_stops m key call most old mid new said has kept by was undone ends =
-    burial_over (IsBurialMark key) m key call most old mid new said by.at_round.of_call.caller by.at_round.of_call.call (λ mark such. such) (no_conflict_where mid call said was was.caller was.call was.at_caller was.is_open (count_unmet m 0 old mid by was.caller was.call was.at_caller was.is_open)) has by.at_round.of_call.at_caller (count_is_over m 0 most old mid by) kept undone ends
+    burial_over (IsBurialMark key) m key call most old mid new said by.at_round.of_call.caller by.at_round.of_call.call (λ mark such. such) (λ enters. enters 0 0) (no_conflict_where mid call said was was.caller was.call was.at_caller was.is_open (count_unmet m 0 old mid by was.caller was.call was.at_caller was.is_open)) has by.at_round.of_call.at_caller (count_is_over m 0 most old mid by) kept undone ends
 
 pub closed_stops : {S V : Type 0} (m : Meaning S V) (key : List ℕ) (call most : ℕ) (old new : View S V) (said : Answer) → HasBurial key call (own_part old 0) old.marks → IsKept old → is_done said ≡ false → is_conflict said ≡ false → Stops m old said new
     → Held old new (IsToldIn (asked.Collect key) (IsBurialMark key) most old new (op.Stopped said) × IsCollectAnswer key (op.Stopped said))
 closed_stops m key call most old new said has kept undone no_conflict ends =
     let is = is_burying old key call old.marks has in
-    burial_over (IsBurialMark key) m key call most old old new said is.caller is.open_call (λ mark such. such) no_conflict has is.at_caller (over_at_once 0 most old is.caller is.open_call is.at_caller is.is_open) kept undone ends
+    burial_over (IsBurialMark key) m key call most old old new said is.caller is.open_call (λ mark such. such) (λ enters. enters 0 0) no_conflict has is.at_caller (over_at_once 0 most old is.caller is.open_call is.at_caller is.is_open) kept undone ends
 
 -- the tombstone is proposed, or another round may follow a conflict
 pub proposed_held : {S V : Type 0} (m : Meaning S V) (key : List ℕ) (call most : ℕ) (old new : View S V) → HasBurial key call (own_part old 0) old.marks → IsKept old → HasProposed new 0 → StepPropose m old 0 new

@@ -62,7 +62,7 @@ read_held {S} {V} m key call most old new has kept by =
     let at : CollectsAt key step.Round 2 _ = over_at key old.council by.is.at.order (record (called by.is.at.collection) { tombstone = cluster.FoundHeld by.version }) (some_is (sym by.is.at.is_open ∙ is.at.order)) is.at.none_planned by.is.is_due (ap (λ (c : CollectionView). c.course.key) same ∙ is.at.same_key) refl refl in
     record {
       does = (
-        record { marks = []; makes = makes_led old new [] leads tt only; all_such = All-nil (IsBurialMark key); few = omega arith },
+        record { marks = []; makes = makes_led old new [] leads tt only; all_such = All-nil (IsBurialMark key); few = omega arith; counts = λ enters. absurd (enters 0 0) },
         has_step new key step.Round (record { no_call = none; at = subst (λ (w : View S V). CollectsAt key step.Round 2 w.council) (sym by.view) at; none_asked = ap (λ (w : View S V). w.council.exchange) by.view ∙ is.none_asked }),
       );
       kept = kept_led old new [] leads only kept (none_kept new none);
@@ -161,7 +161,7 @@ done_held {S} {V} m key call most old mid new told has kept done counts by =
     let silent : new ≡ collect.collecting by.middle by.is.at.order None (called by.is.at.collection) = by.view ∙ ap (λ (o : _). collect.collecting by.middle by.is.at.order o (called by.is.at.collection)) (stopped_none told done) in
     record {
       does = (
-        record { marks = all; makes = makes_led old new all leads (reaches.may_end rounds told) only; all_such = such_ended (IsBurialMark key) key call rounds told reaches.marks (λ mark such. such) (done_no_conflict told done) reaches.such; few = few_ended call rounds most told reaches.marks reaches.few },
+        record { marks = all; makes = makes_led old new all leads (reaches.may_end rounds told) only; all_such = such_ended (IsBurialMark key) key call rounds told reaches.marks (λ mark such. such) (done_no_conflict told done) reaches.such; few = few_ended call rounds most told reaches.marks reaches.few; counts = λ enters. absurd (enters 0 0) },
         has_step new key step.Round (record { no_call = none; at = subst (λ (w : View S V). CollectsAt key step.Round 2 w.council) (sym silent) at_now; none_asked = ap (λ (w : View S V). w.council.exchange) silent ∙ ap (λ (k : Council). k.exchange) second ∙ ap (λ (w : View S V). w.council.exchange) c.view ∙ ap (λ (k : Council). k.exchange) first_council ∙ is.none_asked }),
       );
       kept = kept_led old new all leads only kept (none_kept new none);

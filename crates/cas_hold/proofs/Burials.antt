@@ -20,6 +20,7 @@ use Rattle.cas_cluster.specs.StepCouncil.{told_marks}
 use Rattle.cas_cluster.specs.View.{Meaning, View, CallView, CallerView, IsAt}
 use Rattle.cas_cluster.proofs.Places.{at_one, at_set, some_is}
 use Rattle.cas_turn.specs.Seen.{OnlyOwnedBy}
+use Rattle.cas_hold.specs.Counting.{EntersEras}
 use Rattle.cas_hold.specs.Collecting.{CollectsAt, HasBurial, IsBurialMark, IsCollectAnswer, Stops}
 use Rattle.cas_hold.specs.Kept.{IsStaged, IsKept, Makes}
 use Rattle.cas_hold.specs.Mine.{mine, call_of, losses, Wanted, wants, wanted_after, wanted_by}
@@ -142,7 +143,7 @@ leads_by : {S V : Type 0} (old new : View S V) (l : List Mark) → Leads old new
 leads_by old new l leads = record { greatest = leads.greatest; desks = leads.desks; callers = leads.callers; council = refl; made = leads.made }
 
 pub makes_led : {S V : Type 0} (old new : View S V) (l : List Mark) → Leads old new l → MayAdd l → OnlyOwnedBy owner_of 0 l → Makes 0 old new l
-makes_led {S} {V} old new l leads may only = record { made = leads.made; may_add = may; owned = only; others = others }
+makes_led {S} {V} old new l leads may only = record { greatest = leads.greatest; made = leads.made; may_add = may; owned = only; others = others }
   where
     others : (m : ℕ) → m ≢ 0 → own_part new m ≡ own_part old m
     others zero other = absurd (other refl)
@@ -220,9 +221,9 @@ few_ended number rounds most told l few =
     subst (λ (k : List Mark). losses k ≤ most) (sym (mine_append 0 l (kinds.Ended 0 number rounds told ∷ []) ∙ ap (λ (k : List Mark). mine 0 l ++ k) (mine_own 0 (kinds.Ended 0 number rounds told) [] refl))) (losses_ended number rounds most told (mine 0 l) few)
 
 -- it ends, and the operator is told that it stopped
-pub stops_held : {S V : Type 0} (such : Mark → Type 0) (m : Meaning S V) (key : List ℕ) (call most : ℕ) (old mid new : View S V) (told : Answer) → ((mark : Mark) → IsBurialMark key mark → such mark) → such (kinds.Ended 0 call (rounds_in (own_part mid 0)) told) → Reaches key call most old mid → ((order : OrderView) → mid.council.order ≡ Some order → order.asked ≡ asked.Collect key) → is_done told ≡ false → IsKept old → Stops m mid told new
+pub stops_held : {S V : Type 0} (such : Mark → Type 0) (m : Meaning S V) (key : List ℕ) (call most : ℕ) (old mid new : View S V) (told : Answer) → ((mark : Mark) → IsBurialMark key mark → such mark) → (EntersEras such → ⊥) → such (kinds.Ended 0 call (rounds_in (own_part mid 0)) told) → Reaches key call most old mid → ((order : OrderView) → mid.council.order ≡ Some order → order.asked ≡ asked.Collect key) → is_done told ≡ false → IsKept old → Stops m mid told new
     → Held old new (IsToldIn (asked.Collect key) such most old new (op.Stopped told) × IsCollectAnswer key (op.Stopped told))
-stops_held {S} {V} such m key call most old mid new told weaker last reaches asks undone kept (after, by, tells) =
+stops_held {S} {V} such m key call most old mid new told weaker not_entering last reaches asks undone kept (after, by, tells) =
     let ends = ends_last m told mid by.middle by.ends in
     let rounds : ℕ = by.ends.of_call.call.rounds in
     let number : by.ends.of_call.caller.number ≡ call = ap (λ (c : CallerView). c.number) (at_one mid.callers 0 by.ends.of_call.at_caller reaches.at_caller) ∙ reaches.number in
@@ -243,6 +244,7 @@ stops_held {S} {V} such m key call most old mid new told weaker last reaches ask
           all_such = such_ended such key call rounds told reaches.marks weaker (subst (λ (k : ℕ). such (kinds.Ended 0 call k told)) (rounds_part mid 0 by.ends.of_call.caller by.ends.of_call.call by.ends.of_call.at_caller by.ends.of_call.is_open) last) reaches.such;
           few = few_ended call rounds most told reaches.marks reaches.few;
           is_free = idle_free new (record { no_call = none; order = t.order; exchange = t.exchange; collection = t.collection });
+          counts = λ enters. absurd (not_entering enters);
         },
         tt,
       );
@@ -280,7 +282,7 @@ burial_held {S} {V} key call most old mid new caller was council number goes is 
     let at_now : CollectsAt key step.Round 0 new.council = subst (λ (w : View S V). CollectsAt key step.Round 0 w.council) (sym is) at in
     record {
       does = (
-        record { marks = goes.marks; makes = makes_led old new goes.marks leads goes.fine.may_add goes.fine.only; all_such = such_marks key caller.number goes.marks goes.fine.of_call (goes.fine.asks None); few = goes.fine.few },
+        record { marks = goes.marks; makes = makes_led old new goes.marks leads goes.fine.may_add goes.fine.only; all_such = such_marks key caller.number goes.marks goes.fine.of_call (goes.fine.asks None); few = goes.fine.few; counts = λ enters. absurd (enters 0 0) },
         has_burial new key call (record { caller = next; at_caller = at_next; number = number; open_call = goes.next; is_open = refl; at = at_now; none_asked = ap (λ (w : View S V). w.council.exchange) is ∙ none_asked }) wanted_now,
       );
       kept = kept_led old new goes.marks leads goes.fine.only kept (record {

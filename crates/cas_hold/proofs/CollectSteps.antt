@@ -67,7 +67,7 @@ all_asking key [] all = All-nil (IsBurialMark key)
 all_asking key (mark ∷ l) all = All-cons (IsBurialMark key) mark l (such_asking key mark (All-head IsAskingHarm mark l all)) (all_asking key l (All-tail IsAskingHarm mark l all))
 
 pub no_marks : {S V : Type 0} (key : List ℕ) (most : ℕ) (old new : View S V) → Makes 0 old new [] → OperatesIn (IsBurialMark key) most old new
-no_marks key most old new makes = record { marks = []; makes = makes; all_such = All-nil (IsBurialMark key); few = omega arith }
+no_marks key most old new makes = record { marks = []; makes = makes; all_such = All-nil (IsBurialMark key); few = omega arith; counts = λ enters. absurd (enters 0 0) }
 
 -- ---- the next step
 -- what the operator's call asks
@@ -132,7 +132,7 @@ stops_so {S} {V} old mid changed key due round said at is greatest desks callers
 pub stopped_held : {S V : Type 0} (key : List ℕ) (most : ℕ) (old mid new : View S V) (told : OpAnswer) → StopsSo old mid key → WasToldOrder mid told → StepTell mid told new → IsKept old → ((caller : CallerView) → IsAt old.callers 0 caller → caller.call ≡ None)
     → Held old new (IsToldIn (asked.Collect key) (IsBurialMark key) most old new told × IsCollectAnswer key told)
 stopped_held key most old mid new told stops said ends kept none =
-    let held = tells_in (IsBurialMark key) most old mid new (asked.Collect key) told (told_so stops.said (new_order (asked.Collect key))) stops.leaves stops.order refl ends kept none in
+    let held = tells_in (IsBurialMark key) most old mid new (asked.Collect key) told (told_so stops.said (new_order (asked.Collect key))) stops.leaves stops.order refl ends kept none (λ enters. absurd (enters 0 0)) in
     record { does = (held.does, answers_same key stops.said told stops.answers (says_same mid (new_order (asked.Collect key)) stops.said told stops.order said)); kept = held.kept; greatest = held.greatest }
 
 -- ---- the round
@@ -291,7 +291,7 @@ turn_held {S} {V} m key due v old new has kept step_ =
     let held = operates (harm_by v) old new turns.marks turns.leaves turns.of_asking kept was.no_call in
     record {
       does = (
-        record { marks = held.does.marks; makes = held.does.makes; all_such = all_asking key (mine 0 held.does.marks) held.does.all_such; few = held.does.few },
+        record { marks = held.does.marks; makes = held.does.makes; all_such = all_asking key (mine 0 held.does.marks) held.does.all_such; few = held.does.few; counts = λ enters. absurd (enters 0 0) },
         subst (HasQuestion key due) (sym (own_kept (harm_by v) old new by.at.exchange by.at.is_open turns was.no_call (collecting_harms by.at.exchange.question (ap (λ (x : ExchangeView). is_of_collection x.question) (some_is (sym by.at.is_open ∙ was.is_open)) ∙ was.of_it)))) has,
       );
       kept = held.kept;
@@ -310,7 +310,7 @@ turn_told {S} {V} m key due most old mid new told is has kept step_ ends =
     let by : StepRefuseTurnExchange m old mid = subst (λ (e : steps.Event). Step m old e mid) (refusal_is old key due has) step_ in
     let was = is_asked old key due has in
     let refuses = refuses_asking m old mid (new_order (asked.Collect key)) was.at.order by in
-    let held = tells_in (IsBurialMark key) most old mid new (asked.Collect key) told (told_so (op.Stopped (answer.NoMemory false)) (new_order (asked.Collect key))) refuses.0 refuses.1 refl ends kept was.no_call in
+    let held = tells_in (IsBurialMark key) most old mid new (asked.Collect key) told (told_so (op.Stopped (answer.NoMemory false)) (new_order (asked.Collect key))) refuses.0 refuses.1 refl ends kept was.no_call (λ enters. absurd (enters 0 0)) in
     record { does = (held.does, subst (IsCollectAnswer key) (sym is) tt); kept = held.kept; greatest = held.greatest }
 
 -- ---- what they told
@@ -361,7 +361,7 @@ floor_held {S} {V} key most old new has kept by =
     let at = steps_on key step.Floor step.Remove old.council new.council was.at by.at.order by.at.collection _ by.at.is_open by.at.is_collection (ap (λ (w : View S V). w.council.order) by.view) (ap (λ (w : View S V). w.council.plan) by.view) (ap (λ (w : View S V). w.council.collection) by.view) refl (ap (step_after by.at.collection.course.proposers) by.is_due) refl in
     record {
       does = (
-        record { marks = made; makes = makes_by old new made leaves (tt, tt) only; all_such = All-nil (IsBurialMark key); few = omega arith },
+        record { marks = made; makes = makes_by old new made leaves (tt, tt) only; all_such = All-nil (IsBurialMark key); few = omega arith; counts = λ enters. absurd (enters 0 0) },
         has_step new key step.Remove (record { no_call = none; at = at; none_asked = ap (λ (w : View S V). w.council.exchange) by.view ∙ was.none_asked }),
       );
       kept = kept_then old new made leaves only kept none;
@@ -394,7 +394,7 @@ collected_told {S} {V} m key most old mid new result told is has kept by ok ends
     was = is_asked old key step.Remove has
 
     by_case : GoesOrStops key step.End old mid → Held old new (IsToldIn (asked.Collect key) (IsBurialMark key) most old new told × IsCollectAnswer key told)
-    by_case (goes leaves at exchange) = let held = tells_in (IsBurialMark key) most old mid new (asked.Collect key) told (new_order (asked.Collect key)) leaves at.order refl ends kept was.no_call in record { does = (held.does, is); kept = held.kept; greatest = held.greatest }
+    by_case (goes leaves at exchange) = let held = tells_in (IsBurialMark key) most old mid new (asked.Collect key) told (new_order (asked.Collect key)) leaves at.order refl ends kept was.no_call (λ enters. absurd (enters 0 0)) in record { does = (held.does, is); kept = held.kept; greatest = held.greatest }
     by_case (stops so) = absurd (cc (ap (option_map (λ (o : OrderView). o.told)) (sym (gathered_now key step.Remove old mid result was ok) ∙ so.order)))
 
 -- what is read of it then

@@ -66,14 +66,14 @@ exchange_as_part None = refl
 exchange_as_part (Some exchange) = refl
 
 plan_body : PlanView → List ℕ
-plan_body plan = length plan.progress.left ∷ plan.entered ∷ length (asked_part plan.asked) ∷ asked_part plan.asked ++ due_part (due_key plan)
+plan_body plan = length plan.progress.left ∷ plan.entered ∷ plan.rescanned ∷ length (asked_part plan.asked) ∷ asked_part plan.asked ++ due_part (due_key plan)
 
 plan_as_part : (p : Option PlanView) → plan_part p ≡ part_of 3 (option_map plan_body p)
 unfolding plan_body
 plan_as_part None = refl
 plan_as_part (Some plan) = refl
 
-whole_is : (c : Council) → council_part c ≡ order_part c.order ++ (exchange_part c.exchange ++ (plan_part c.plan ++ collection_part c.collection))
+pub whole_is : (c : Council) → council_part c ≡ order_part c.order ++ (exchange_part c.exchange ++ (plan_part c.plan ++ collection_part c.collection))
 whole_is c = append_assoc (order_part c.order ++ exchange_part c.exchange) (plan_part c.plan) (collection_part c.collection) ∙ append_assoc (order_part c.order) (exchange_part c.exchange) (plan_part c.plan ++ collection_part c.collection)
 
 no_order_behind : (x : Option ExchangeView) (p : Option PlanView) (c : Option CollectionView) → kind_of (exchange_part x ++ (plan_part p ++ collection_part c)) ≢ 1
@@ -200,7 +200,7 @@ due_same (Some a) (Some b) e = let same : a ≡ b = cc e in ap (λ (k : List ℕ
 pub plan_told : (p : Option PlanView) (plan : PlanView) → plan_part p ≡ plan_part (Some plan) → IsLikePlan p plan
 plan_told None plan e = absurd (let h : 9 ≡ 3 = ap kind_of e in omega (arith, h))
 plan_told (Some now) plan e =
-    let body : length now.progress.left ∷ now.entered ∷ length (asked_part now.asked) ∷ asked_part now.asked ++ due_part (due_key now) ≡ length plan.progress.left ∷ plan.entered ∷ length (asked_part plan.asked) ∷ asked_part plan.asked ++ due_part (due_key plan) = body_same 3 _ _ e in
+    let body : length now.progress.left ∷ now.entered ∷ now.rescanned ∷ length (asked_part now.asked) ∷ asked_part now.asked ++ due_part (due_key now) ≡ length plan.progress.left ∷ plan.entered ∷ plan.rescanned ∷ length (asked_part plan.asked) ∷ asked_part plan.asked ++ due_part (due_key plan) = body_same 3 _ _ e in
     let long : length (asked_part now.asked) ≡ length (asked_part plan.asked) = cc body in
     let both = append_same (asked_part now.asked) (asked_part plan.asked) (due_part (due_key now)) (due_part (due_key plan)) long (cc body) in
     record { now = now; is_plan = refl; asked = asked_same now.asked plan.asked both.0; due = due_same (due_key now) (due_key plan) both.1 }

@@ -6,7 +6,7 @@ use Rattle.cas_record.proofs.Tests.{nat_same, nat_is}
 use Rattle.cas_record.specs.declared.mark.Mark.{Mark}
 use Rattle.cas_record.specs.declared.mark.Mark.TheVariants.{Begun, Proposed, Voted, Acked, Floor, EraEntered, Ended, Harmed, Told}
 use Rattle.cas_turn.specs.Seen.{Begins, HasSeen, NoneOwned, OnlyOwnedBy, added_to}
-use Rattle.cas_turn.proofs.SeenLemmas.{begins_grows, sees_begins, none_else}
+use Rattle.cas_turn.proofs.SeenLemmas.{begins_both, begins_grows, sees_begins, none_else}
 use Rattle.cas_hold.specs.Mine.{is_owner, mine, Wanted, wants, wanted_after, wanted_by, GoesOn}
 use Rattle.cas_hold.specs.Owners.{owner_of}
 
@@ -59,7 +59,7 @@ front_goes_on n seen all new marks has made = record {
 
 pub goes_on_then : (n : ℕ) (a b c own more : List Mark) → GoesOn n a b own → GoesOn n b c more → GoesOn n a c (own ++ more)
 goes_on_then n a b c own more first then_ = record {
-  begins = record { behind = first.begins.behind ++ then_.begins.behind; whole = sym (append_assoc a first.begins.behind then_.begins.behind) ∙ ap (λ (l : List Mark). l ++ then_.begins.behind) first.begins.whole ∙ then_.begins.whole };
+  begins = begins_both a b c first.begins then_.begins;
   own_marks = then_.own_marks ∙ ap (λ (l : List Mark). l ++ more) first.own_marks ∙ append_assoc (mine n a) own more;
 }
 

@@ -34,7 +34,7 @@ use Rattle.cas_hold.proofs.Acts.{Acts, acts_then, acts_aside, makes_aside, kept_
 use Rattle.cas_hold.proofs.Events.{Fine, fine_none, CallGoesOn, CallIsOver, LetsIn, quiet_rescans, rescans_unasked, end_ends, stray_lets_in, refused_stray_lets_in, first_begins, again_goes_on, over_where_told, turn_goes_on, refused_turn_goes_on, propose_goes_on, count_is_over, refused_acts}
 use Rattle.cas_hold.proofs.Fronts.{wanted_append}
 use Rattle.cas_hold.proofs.Councils.{is_like, no_order, with_plan}
-use Rattle.cas_hold.proofs.Parts.{rest_of, rest_same, open_at, open_quiet, idle_quiet, idle_call, stays_open, is_open_then, own_closed, now_idle, now_free, beside_part, rounds_part, met_part, after_part}
+use Rattle.cas_hold.proofs.Parts.{rest_of, rest_same, open_at, open_quiet, idle_quiet, idle_call, stays_open, is_open_then, own_closed, now_idle, beside_part, rounds_part, met_part, after_part}
 use Rattle.cas_hold.proofs.Stages.{NextAt, next_at, IsRunning, running_call, runs_there, met_told, turn_running, proposed_running, propose_met}
 
 -- ---- calls that go on
@@ -112,12 +112,12 @@ over_at_once n most old caller was at is = record {
   may_end = λ rounds told. (tt, tt);
 }
 
--- the end of a call leaves nothing open where nothing was beside it
-free_rest : {S V : Type 0} (n : ℕ) (key : List ℕ) (told : Answer) (old new : View S V) → calls.Rescans old.council n key told new.council → IsFree (rest_of old n) → IsFree (rest_of new n)
-free_rest zero key told old new then_ free =
+-- the end of a call leaves what stood beside it, where that was no call of the operator
+rest_still : {S V : Type 0} (n : ℕ) (key : List ℕ) (told : Answer) (old new : View S V) → calls.Rescans old.council n key told new.council → IsFree (rest_of old n) → rest_of new n ≡ rest_of old n
+rest_still zero key told old new then_ free =
     let none : old.council.order ≡ None = no_order old.council.order (is_like old.council (with_plan free.plan) (free.is ∙ sym (append-nil (plan_part free.plan)))).order in
-    record { plan = free.plan; is = ap council_part (quiet_rescans 0 old.council new.council key told (λ first_. none) then_) ∙ free.is }
-free_rest (suc n) key told old new then_ free = record { plan = None; is = refl }
+    ap council_part (quiet_rescans 0 old.council new.council key told (λ first_. none) then_)
+rest_still (suc n) key told old new then_ free = refl
 
 -- a caller with no open call has nothing of its own to keep
 pub idle_kept : {S V : Type 0} (n : ℕ) (view : View S V) (caller : CallerView) → IsAt view.callers n caller → caller.call ≡ None → OwnKept n view
@@ -157,7 +157,7 @@ ends_in {S} {V} m n call most told old mid new caller was entered at is enters h
         few = over.goes.fine.few;
         rescans = λ one one_was at_one_ one_is. subst (λ (k : List ℕ). calls.Rescans old.council n k told new.council) (ap (λ (c : CallView). c.key) (some_is (sym is ∙ ap (λ (c : CallerView). c.call) (at_one old.callers n at at_one_) ∙ one_is))) then_;
         is_idle = now_idle new n next_none ended.at_next refl (λ is_first. rescans_unasked n old.council new.council was.key told then_ ∙ (open_quiet old n call has is_first).exchange);
-        is_free = λ free. now_free new n next_none ended.at_next refl (free_rest n was.key told old new then_ (subst IsFree (beside_part old n caller was at is) free));
+        still = λ free. own_closed new n next_none ended.at_next refl ∙ rest_still n was.key told old new then_ (subst IsFree (beside_part old n caller was at is) free) ∙ sym (beside_part old n caller was at is);
       };
       kept = kept_aside n old new all acts only kept (idle_kept n new next_none ended.at_next refl);
       greatest = acts.greatest;
@@ -215,7 +215,7 @@ leaves_idle : {S V : Type 0} (n : ℕ) (key : List ℕ) (told : Answer) (old new
 leaves_idle n key told old new caller next at none idle at_next next_none then_ = record {
   rescans = then_;
   is_idle = now_idle new n next at_next next_none (λ is_first. rescans_unasked n old.council new.council key told then_ ∙ (idle_quiet old n idle is_first).exchange);
-  is_free = λ free. now_free new n next at_next next_none (free_rest n key told old new then_ (subst IsFree (own_closed old n caller at none) free));
+  still = λ free. own_closed new n next at_next next_none ∙ rest_still n key told old new then_ (subst IsFree (own_closed old n caller at none) free) ∙ sym (own_closed old n caller at none);
 }
 
 -- it is told why no round begins, and ends at once
@@ -446,7 +446,7 @@ pub strays_in : {S V : Type 0} (old new : View S V) → IsKept old → LetsIn ol
 strays_in {S} {V} old new kept by = record {
   does = record {
     marks = by.marks;
-    makes = λ n. record { made = by.made; may_add = (by.fine n 0 0).may_add; owned = (by.fine n 0 0).only; others = λ m other. own m };
+    makes = λ n. record { greatest = by.greatest; made = by.made; may_add = (by.fine n 0 0).may_add; owned = (by.fine n 0 0).only; others = λ m other. own m };
     none_own = λ n. none_of_call (mine n by.marks) (by.fine n 0 0).of_call (by.fine n 1 0).of_call;
     own = own;
     wanted = λ n. ap (wanted_by n) by.made ∙ wanted_append n None old.marks by.marks ∙ (by.fine n 0 0).asks (wanted_by n old.marks);

@@ -6,6 +6,7 @@ mod Burials
 mod Closing
 mod Collecting
 mod CollectSteps
+pub mod Counting
 pub mod Councils
 mod Events
 pub mod Fronts

@@ -37,6 +37,7 @@ use Rattle.cas_cluster.proofs.SafeOpens.{no_members}
 use Rattle.cas_cluster.proofs.SafeParts.{at_low}
 use Rattle.cas_turn.specs.Seen.{OnlyOwnedBy}
 use Rattle.cas_world.specs.Exchange.{WasToldOrder}
+use Rattle.cas_hold.specs.Counting.{EntersEras, TellsCount}
 use Rattle.cas_hold.specs.Deeds.{harm_by}
 use Rattle.cas_hold.specs.Kept.{IsKept, Makes}
 use Rattle.cas_hold.specs.Mine.{mine, losses}
@@ -76,7 +77,7 @@ acts_by : {S V : Type 0} (old new : View S V) (marks : List Mark) → Leaves old
 acts_by old new marks leaves = record { greatest = leaves.greatest; desks = leaves.desks; callers = spares_same 0 old.callers new.callers leaves.callers; council = refl; made = leaves.made }
 
 pub makes_by : {S V : Type 0} (old new : View S V) (marks : List Mark) → Leaves old new marks → MayAdd marks → OnlyOwnedBy owner_of 0 marks → Makes 0 old new marks
-makes_by {S} {V} old new marks leaves may only = record { made = leaves.made; may_add = may; owned = only; others = others }
+makes_by {S} {V} old new marks leaves may only = record { greatest = leaves.greatest; made = leaves.made; may_add = may; owned = only; others = others }
   where
     others : (m : ℕ) → m ≢ 0 → own_part new m ≡ own_part old m
     others zero other = absurd (other refl)
@@ -105,7 +106,7 @@ pub record IsOfAsking (most : ℕ) (marks : List Mark) : Type 0 where
 
 pub operates : {S V : Type 0} (most : ℕ) (old new : View S V) (marks : List Mark) → Leaves old new marks → IsOfAsking most marks → IsKept old → ((caller : CallerView) → IsAt old.callers 0 caller → caller.call ≡ None) → Held old new (OperatesIn IsAskingHarm most old new)
 operates most old new marks leaves of kept none = record {
-  does = record { marks = marks; makes = makes_by old new marks leaves of.fine.may_add of.fine.only; all_such = of.harms; few = of.fine.few };
+  does = record { marks = marks; makes = makes_by old new marks leaves of.fine.may_add of.fine.only; all_such = of.harms; few = of.fine.few; counts = λ enters. absurd (enters 0 0) };
   kept = kept_then old new marks leaves of.fine.only kept (none_then old new marks leaves none);
   greatest = leaves.greatest;
 }
@@ -127,6 +128,7 @@ quiet_deed old new leaves kept none = let fine = fine_none 0 0 0 in deed_of old 
 
 pub makes_then : {S V : Type 0} (a b c : View S V) (marks more : List Mark) → Makes 0 a b marks → Makes 0 b c more → MayAdd (marks ++ more) → Makes 0 a c (marks ++ more)
 makes_then a b c marks more first then_ may = record {
+  greatest = then_.greatest ∙ first.greatest;
   made = then_.made ∙ ap (λ (l : List Mark). l ++ more) first.made ∙ append_assoc a.marks marks more;
   may_add = may;
   owned = All-append (λ i. (m : ℕ) → owner_of i ≡ Some m → m ≡ 0) marks more first.owned then_.owned;
@@ -195,8 +197,8 @@ tells_of {S} {V} old new asks told order is_order is_asked by = by_case by
 
 -- what was done told the operator its answer, and its call ends
 pub tells_after : {S V : Type 0} (such : Mark → Type 0) (most : ℕ) (old mid new : View S V) (marks : List Mark) (asks : Asked) (told : OpAnswer) (order : OrderView) → Deed old mid marks → All such (mine 0 marks) → losses (mine 0 marks) ≤ most → MayAdd (marks ++ told_marks asks told)
-    → mid.council.order ≡ Some order → order.asked ≡ asks → StepTell mid told new → Held old new (IsToldIn asks such most old new told)
-tells_after such most old mid new marks asks told order deed all_such few may is_order is_asked by =
+    → mid.council.order ≡ Some order → order.asked ≡ asks → StepTell mid told new → (EntersEras such → TellsCount told old new) → Held old new (IsToldIn asks such most old new told)
+tells_after such most old mid new marks asks told order deed all_such few may is_order is_asked by counts =
     let t = tells_of mid new asks told order is_order is_asked by in
     let tells = deed_of mid new (told_marks asks told) t.leaves (told_may_add asks told) (told_only asks told) deed.kept deed.none in
     let all = deed_then old mid new marks (told_marks asks told) deed tells may in
@@ -207,15 +209,16 @@ tells_after such most old mid new marks asks told order deed all_such few may is
         all_such = all_such;
         few = few;
         is_free = idle_free new (record { no_call = all.none; order = t.order; exchange = t.exchange; collection = t.collection });
+        counts = counts;
       };
       kept = all.kept;
       greatest = all.greatest;
     }
 
 pub tells_in : {S V : Type 0} (such : Mark → Type 0) (most : ℕ) (old mid new : View S V) (asks : Asked) (told : OpAnswer) (order : OrderView) → Leaves old mid [] → mid.council.order ≡ Some order → order.asked ≡ asks → StepTell mid told new → IsKept old
-    → ((caller : CallerView) → IsAt old.callers 0 caller → caller.call ≡ None) → Held old new (IsToldIn asks such most old new told)
-tells_in such most old mid new asks told order leaves is_order is_asked by kept none =
-    tells_after such most old mid new [] asks told order (quiet_deed old mid leaves kept none) (All-nil such) (omega arith) (told_may_add asks told) is_order is_asked by
+    → ((caller : CallerView) → IsAt old.callers 0 caller → caller.call ≡ None) → (EntersEras such → TellsCount told old new) → Held old new (IsToldIn asks such most old new told)
+tells_in such most old mid new asks told order leaves is_order is_asked by kept none counts =
+    tells_after such most old mid new [] asks told order (quiet_deed old mid leaves kept none) (All-nil such) (omega arith) (told_may_add asks told) is_order is_asked by counts
 
 -- ---- a turn of an exchange
 of_none : (most : ℕ) → IsOfAsking most []

@@ -115,9 +115,6 @@ unfolding no_council
 now_idle view zero caller at none unasked = record { council = view.council; unasked = unasked refl; is = own_closed view zero caller at none }
 now_idle view (suc n) caller at none unasked = record { council = no_council; unasked = refl; is = own_closed view (suc n) caller at none }
 
-pub now_free : {S V : Type 0} (view : View S V) (n : ℕ) (caller : CallerView) → IsAt view.callers n caller → caller.call ≡ None → IsFree (rest_of view n) → IsFree (own_part view n)
-now_free view n caller at none free = record { plan = free.plan; is = own_closed view n caller at none ∙ free.is }
-
 -- ---- rounds
 met_phase : (call : CallView) → (phase_of call == 2) ≡ told_conflict call.told
 met_phase call = by_tests (told_conflict call.told) (is_some call.proposed)

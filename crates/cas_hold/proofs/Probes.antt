@@ -171,7 +171,7 @@ pub ask_told : {S V : Type 0} (m : Meaning S V) (old mid new : View S V) (what :
     → Held old new (IsToldIn (asked.Probe key) IsAskingHarm 0 old new told × ((members : List ℕ) → IsProbeAnswer key members told) × IsSilentAtMost 0 told × ((before : List Mark) → IsTrueProbe before new.marks told))
 ask_told {S} {V} m old mid new what key told is has kept by_what none said ends = elim (asks_or_not m old mid key was (asks_by m old mid what key is by_what)) [
   | inl asks ↦ absurd (cc (sym none ∙ asks.is_open))
-  | inr stopped ↦ let held = tells_in IsAskingHarm 0 old mid new (asked.Probe key) told (told_so (op.Stopped stopped.why) (new_order (asked.Probe key))) stopped.leaves stopped.order refl ends kept was.no_call in record {
+  | inr stopped ↦ let held = tells_in IsAskingHarm 0 old mid new (asked.Probe key) told (told_so (op.Stopped stopped.why) (new_order (asked.Probe key))) stopped.leaves stopped.order refl ends kept was.no_call (λ enters. absurd (enters 0 0)) in record {
     does = (
       held.does,
       λ members. stopped_says key members stopped.why told (stopped.stops members) (says_same mid (new_order (asked.Probe key)) (op.Stopped stopped.why) told stopped.order said),
@@ -276,7 +276,7 @@ turn_told {S} {V} m most old mid new key members told has kept step_ ends =
     let by : StepRefuseTurnExchange m old mid = subst (λ (e : step.Event). Step m old e mid) (refusal_is old key members has) step_ in
     let was = is_probed old key members has in
     let refuses = refuses_asking m old mid (new_order (asked.Probe key)) was.order by in
-    tells_in IsAskingHarm most old mid new (asked.Probe key) told (told_so (op.Stopped (answer.NoMemory false)) (new_order (asked.Probe key))) refuses.0 refuses.1 refl ends kept was.no_call
+    tells_in IsAskingHarm most old mid new (asked.Probe key) told (told_so (op.Stopped (answer.NoMemory false)) (new_order (asked.Probe key))) refuses.0 refuses.1 refl ends kept was.no_call (λ enters. absurd (enters 0 0))
 
 -- ---- what it found
 pub may_gather : {S V : Type 0} (view : View S V) (key members : List ℕ) → HasProbe key members (own_part view 0) → (queue_at view.flow exchange_place).messages ≡ [] → MayGather view
@@ -419,7 +419,7 @@ pub gather_told : {S V : Type 0} (m : Meaning S V) (most : ℕ) (old mid new : V
     → Held old new (IsToldIn (asked.Probe key) IsAskingHarm most old new told × IsProbeAnswer key members told)
 gather_told {S} {V} m most old mid new key members told has kept step_ said ends =
     let gathers = gathers_probe m old mid key members (is_probed old key members has) (gathers_by m old mid key members has step_) in
-    let held = tells_in IsAskingHarm most old mid new (asked.Probe key) told (told_so gathers.said (new_order (asked.Probe key))) gathers.leaves gathers.order refl ends kept (is_probed old key members has).no_call in
+    let held = tells_in IsAskingHarm most old mid new (asked.Probe key) told (told_so gathers.said (new_order (asked.Probe key))) gathers.leaves gathers.order refl ends kept (is_probed old key members has).no_call (λ enters. absurd (enters 0 0)) in
     record { does = (held.does, gathers.answer told (says_same mid (new_order (asked.Probe key)) gathers.said told gathers.order said)); kept = held.kept; greatest = held.greatest }
 
 -- no more are silent than were harmed

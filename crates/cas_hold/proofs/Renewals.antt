@@ -50,7 +50,7 @@ pub record Passes {S V : Type 0} (old mid : View S V) : Type 0 where
 
 passes_council : {S V : Type 0} (old mid new : View S V) (council : Council) → Passes old mid → new ≡ record mid { council = council } → Passes old new
 passes_council {S} {V} old mid new council passes is = subst (λ (w : View S V). Passes old w) (sym is) (record {
-  makes = record { made = passes.makes.made; may_add = passes.makes.may_add; owned = passes.makes.owned; others = others };
+  makes = record { greatest = passes.makes.greatest; made = passes.makes.made; may_add = passes.makes.may_add; owned = passes.makes.owned; others = others };
   kept = record { places = record { desks = passes.kept.places.desks; callers = passes.kept.places.callers }; staged = passes.kept.staged; wanted = passes.kept.wanted };
   greatest = passes.greatest;
   none = passes.none;
@@ -62,6 +62,7 @@ passes_council {S} {V} old mid new council passes is = subst (λ (w : View S V).
 
 makes_behind : {S V : Type 0} (a b c : View S V) (l : List Mark) → Makes 0 a b [] → Makes 0 b c l → Makes 0 a c l
 makes_behind a b c l first then_ = record {
+  greatest = then_.greatest ∙ first.greatest;
   made = then_.made ∙ ap (λ (k : List Mark). k ++ l) (first.made ∙ append-nil a.marks);
   may_add = then_.may_add;
   owned = then_.owned;
@@ -75,7 +76,7 @@ passes_told key most old mid new said told passes order answers was ends =
     let held = stopped_held key most mid mid new told (record { leaves = leaves_desks mid mid mid [] refl refl refl refl (sym (append-nil mid.marks)); said = said; order = order; answers = answers }) was ends passes.kept passes.none in
     let d = held.does.0 in
     record {
-      does = (record { marks = d.marks; makes = makes_behind old mid new _ passes.makes d.makes; all_such = d.all_such; few = d.few; is_free = d.is_free }, held.does.1);
+      does = (record { marks = d.marks; makes = makes_behind old mid new _ passes.makes d.makes; all_such = d.all_such; few = d.few; is_free = d.is_free; counts = λ enters. absurd (enters 0 0) }, held.does.1);
       kept = held.kept;
       greatest = held.greatest ∙ passes.greatest;
     }
@@ -84,7 +85,7 @@ passes_told key most old mid new said told passes order answers was ends =
 passes_desk : {S V : Type 0} (old mid : View S V) (p : ℕ) (desk now : DeskView V) → IsAt old.desks p desk → is_some now.round ≡ is_some desk.round → mid.greatest ≡ old.greatest → mid.desks ≡ slice_set old.desks p now → mid.callers ≡ old.callers → mid.marks ≡ old.marks
     → IsKept old → ((caller : CallerView) → IsAt old.callers 0 caller → caller.call ≡ None) → Passes old mid
 passes_desk {S} {V} old mid p desk now at same greatest desks callers made kept none = record {
-  makes = record { made = made ∙ sym (append-nil old.marks); may_add = tt; owned = All-nil (λ i. (m : ℕ) → owner_of i ≡ Some m → m ≡ 0); others = others };
+  makes = record { greatest = greatest; made = made ∙ sym (append-nil old.marks); may_add = tt; owned = All-nil (λ i. (m : ℕ) → owner_of i ≡ Some m → m ≡ 0); others = others };
   kept = record {
     places = record { desks = ap (λ (l : List (DeskView V)). length l) desks ∙ length-set old.desks p now ∙ kept.places.desks ∙ ap suc (sym greatest); callers = ap (λ (l : List CallerView). length l) callers ∙ kept.places.callers ∙ ap suc (sym greatest) };
     staged = λ id one caller call at_desk at_caller is_call.
@@ -122,7 +123,7 @@ passes_closed : {S V : Type 0} (old mid : View S V) (p : ℕ) (told : Answer) (w
     → mid.greatest ≡ old.greatest → mid.desks ≡ slice_set old.desks p now → mid.callers ≡ slice_set old.callers p (record of_call.caller { call = Some (closed_by told why of_call.call) }) → mid.marks ≡ old.marks
     → IsKept old → ((caller : CallerView) → IsAt old.callers 0 caller → caller.call ≡ None) → Passes old mid
 passes_closed {S} {V} old mid p told why desk now round of_call no_conflict undone at is_round idle greatest desks callers made kept none = record {
-  makes = record { made = made ∙ sym (append-nil old.marks); may_add = tt; owned = All-nil (λ i. (m : ℕ) → owner_of i ≡ Some m → m ≡ 0); others = others };
+  makes = record { greatest = greatest; made = made ∙ sym (append-nil old.marks); may_add = tt; owned = All-nil (λ i. (m : ℕ) → owner_of i ≡ Some m → m ≡ 0); others = others };
   kept = record {
     places = record { desks = ap (λ (l : List (DeskView V)). length l) desks ∙ length-set old.desks p now ∙ kept.places.desks ∙ ap suc (sym greatest); callers = ap (λ (l : List CallerView). length l) callers ∙ length-set old.callers p next ∙ kept.places.callers ∙ ap suc (sym greatest) };
     staged = staged;
@@ -201,11 +202,11 @@ leaves_round {S} {V} {T} old mid p told why unmet undone ends (stops.closes desk
 
 -- nothing happens, or an exchange that none is of is broken off
 passes_none : {S V : Type 0} (view : View S V) → IsKept view → ((caller : CallerView) → IsAt view.callers 0 caller → caller.call ≡ None) → Passes view view
-passes_none view kept none = record { makes = record { made = sym (append-nil view.marks); may_add = tt; owned = All-nil (λ i. (m : ℕ) → owner_of i ≡ Some m → m ≡ 0); others = λ m other. refl }; kept = kept; greatest = refl; none = none }
+passes_none view kept none = record { makes = record { greatest = refl; made = sym (append-nil view.marks); may_add = tt; owned = All-nil (λ i. (m : ℕ) → owner_of i ≡ Some m → m ≡ 0); others = λ m other. refl }; kept = kept; greatest = refl; none = none }
 
 passes_broken : {S V : Type 0} (old inner middle : View S V) → Passes old inner → middle ≡ stops.broken_off_view inner → Passes old middle
 passes_broken {S} {V} old inner middle passes is = subst (λ (w : View S V). Passes old w) (sym is) (record {
-  makes = record { made = passes.makes.made; may_add = passes.makes.may_add; owned = passes.makes.owned; others = others };
+  makes = record { greatest = passes.makes.greatest; made = passes.makes.made; may_add = passes.makes.may_add; owned = passes.makes.owned; others = others };
   kept = record { places = record { desks = passes.kept.places.desks; callers = passes.kept.places.callers }; staged = passes.kept.staged; wanted = passes.kept.wanted };
   greatest = passes.greatest;
   none = passes.none;

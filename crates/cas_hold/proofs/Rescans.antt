@@ -1,5 +1,5 @@
 -- What a hold does for a call of caller 0 that proposes a key anew, by what it does for any call.
-use Rattle.std.proofs.Common.{◌≡◌, ◌≤◌, ℕ, true, false, List, [], ◌∷◌, ◌++◌, drop, None, Some, option_map, refl, sym, ap, subst, ◌∙◌, arith}
+use Rattle.std.proofs.Common.{◌≡◌, ◌≤◌, ◌+◌, ℕ, Bool, true, false, if◌then◌else◌, inl, inr, List, [], ◌∷◌, ◌++◌, drop, None, Some, option_map, refl, sym, ap, subst, ◌∙◌, arith}
 use Rattle.std.specs.Prelude.{All}
 use Rattle.std.proofs.lemmas.List.Elements.{All-append, All-nil, All-cons, All-head, All-tail, All-weaker}
 use Rattle.cas_change.specs.declared.program.Clause.{Clause}
@@ -20,17 +20,20 @@ use Rattle.cas_cluster.specs.StepCouncil.{StepTell, told_marks}
 use Rattle.cas_cluster.specs.View.{View, CallerView, IsAt}
 use Rattle.cas_cluster.proofs.Places.{some_is}
 use Rattle.cas_world.specs.Exchange.{WasToldOrder}
+use Rattle.cas_world.specs.Plans.{rescanned_of}
 use Rattle.cas_hold.specs.Conflicts.{is_conflict}
 use Rattle.cas_hold.specs.Deeds as deeds
-use Rattle.cas_hold.specs.Deeds.{BeginsIn, BeginsNot, GoesOnIn, EndsIn}
+use Rattle.cas_hold.specs.Counting.{CountsTo}
+use Rattle.cas_hold.specs.Deeds.{BeginsIn, BeginsNot, GoesOnIn, EndsIn, IsRefusal}
 use Rattle.cas_hold.specs.Kept.{IsKept, Makes}
 use Rattle.cas_hold.specs.Membership.{HasPlan, IsDue, HasRescan, IsPlanMark, IsRescanMark}
-use Rattle.cas_hold.specs.Mine.{mine, losses, call_of, AreOfCall, Wanted, wants, wanted_by}
+use Rattle.cas_hold.specs.Mine.{mine, losses, done_calls, call_of, AreOfCall, Wanted, wants, wanted_by}
 use Rattle.cas_hold.specs.Open.{IsIdle, rounds_after}
 use Rattle.cas_hold.specs.Orders.{new_order, OperatesIn, IsToldIn}
 use Rattle.cas_hold.specs.Owners.{is_answer, MayAdd}
 use Rattle.cas_hold.specs.OwnParts.{council_part, order_part, exchange_part, plan_part, own_part}
 use Rattle.cas_hold.proofs.Councils.{own_is_council, is_like, IsLikeCouncil, order_told, no_exchange, plan_told}
+use Rattle.cas_hold.proofs.Counting.{counts_by, counts_still, done_at_end, none_done, rescans_count, told_counts}
 use Rattle.cas_hold.proofs.Fronts.{mine_append, mine_own}
 use Rattle.cas_hold.proofs.Holds.{Held}
 use Rattle.cas_hold.proofs.Plans.{IsChanging, has_plan, is_changing, with_asked}
@@ -139,6 +142,8 @@ rescan_begins call old new asked key has due b = (
     makes = b.makes;
     all_such = subst (All IsPlanMark) (sym (mine_own 0 (Begun 0 call key keep_always) b.more refl)) (All-cons IsPlanMark (Begun 0 call key keep_always) (mine 0 b.more) refl (call_of_rescan call (mine 0 b.more) b.of_call));
     few = subst (λ (l : List Mark). losses l ≤ 0) (sym (mine_own 0 (Begun 0 call key keep_always) b.more refl)) (let none = b.none_lost in omega (arith, none));
+    counts = λ enters. counts_still old new (Begun 0 call key keep_always ∷ b.more) b.makes.made
+        (ap done_calls (mine_own 0 (Begun 0 call key keep_always) b.more refl) ∙ none_done call (mine 0 b.more) b.of_call) (ap (λ (k : Council). rescanned_of k.plan) b.council);
   },
   record { called = b.is_open; due = subst (IsDue asked key) (sym b.beside) (is_due old asked key has due) },
 )
@@ -152,6 +157,12 @@ record EndsRescan {S V : Type 0} (such : Mark → Type 0) (most : ℕ) (old mid 
   few : losses (mine 0 marks) ≤ most
   none : (caller : CallerView) → IsAt mid.callers 0 caller → caller.call ≡ None
   becomes : Rescanned mid asked told
+  counts : CountsTo (rescanned_of mid.council.plan) old mid
+
+-- a call that is not begun is not done
+refused_undone : {made : ℕ} {told : Answer} → IsRefusal made told → is_done told ≡ false
+refused_undone (inl full) = ap is_done full.0
+refused_undone (inr none) = ap is_done none
 
 begins_not : {S V : Type 0} (old mid : View S V) (asked : Asked) (key : List ℕ) (told : Answer) → HasPlan asked (own_part old 0) → due_in old.council.plan ≡ Some key → BeginsNot 0 key keep_always old mid told → EndsRescan IsPlanMark 0 old mid asked told
 begins_not old mid asked key told has due (deeds.ends_at_once call rounds makes leaves no_conflict) =
@@ -167,6 +178,8 @@ begins_not old mid asked key told has due (deeds.ends_at_once call rounds makes 
       few = subst (λ (l : List Mark). losses l ≤ 0) (sym own) (omega arith);
       none = none;
       becomes = rescanned old mid asked key told (due_there old asked key has due) leaves.rescans none;
+      counts = counts_by old mid (begun ∷ ended ∷ []) makes.made (rescanned_of mid.council.plan)
+          (λ low. rescans_count old.council mid.council key told (due_rescan old.council asked key (due_there old asked key has due)) leaves.rescans low ∙ ap (λ (n : ℕ). rescanned_of old.council.plan + n) (sym (ap done_calls own)));
     }
 begins_not old mid asked key told has due (deeds.is_refused refusal makes leaves) =
     let none = idle_call mid 0 leaves.is_idle in
@@ -178,12 +191,14 @@ begins_not old mid asked key told has due (deeds.is_refused refusal makes leaves
       few = omega arith;
       none = none;
       becomes = rescanned old mid asked key told (due_there old asked key has due) leaves.rescans none;
+      counts = counts_by old mid [] makes.made (rescanned_of mid.council.plan)
+          (λ low. rescans_count old.council mid.council key told (due_rescan old.council asked key (due_there old asked key has due)) leaves.rescans low ∙ ap (λ (b : Bool). rescanned_of old.council.plan + (if b then 1 else 0)) (refused_undone refusal));
     }
 
 -- ---- it goes on, and ends
 pub rescan_goes_on : {S V : Type 0} (call most : ℕ) (old new : View S V) (asked : Asked) (key : List ℕ) → HasRescan asked call key (own_part old 0) → GoesOnIn 0 call most old new → OperatesIn IsPlanMark most old new × HasRescan asked call key (own_part new 0)
 rescan_goes_on call most old new asked key has g = (
-  record { marks = g.marks; makes = g.makes; all_such = call_of_rescan call (mine 0 g.marks) g.of_call; few = g.few },
+  record { marks = g.marks; makes = g.makes; all_such = call_of_rescan call (mine 0 g.marks) g.of_call; few = g.few; counts = λ enters. counts_still old new g.marks g.makes.made (none_done call (mine 0 g.marks) g.of_call) (ap (λ (k : Council). rescanned_of k.plan) g.council) },
   record { called = g.is_open; due = subst (IsDue asked key) (sym g.beside) has.due },
 )
 
@@ -209,6 +224,7 @@ ends_rescan {S} {V} such call most old mid asked key program told weaker such_en
     let own : mine 0 (e.marks ++ ended ∷ []) ≡ mine 0 e.marks ++ ended ∷ [] = mine_append 0 e.marks (ended ∷ []) ∙ ap (λ (l : List Mark). mine 0 e.marks ++ l) (mine_own 0 ended [] refl) in
     let none = idle_call mid 0 e.is_idle in
     let same_key : o.open_call.key ≡ key = ap (λ (w : Wanted). w.key) (some_is (sym (kept.wanted 0 o.caller o.open_call o.at_caller o.is_open) ∙ wanted)) in
+    let rescans_so : Rescans old.council 0 key told mid.council = subst (λ (k : List ℕ). Rescans old.council 0 k told mid.council) same_key (e.rescans o.caller o.open_call o.at_caller o.is_open) in
     let due = due_in_council old.council asked key (subst (IsDue asked key) (beside_part old 0 o.caller o.open_call o.at_caller o.is_open) has.due) in
     record {
       marks = e.marks ++ ended ∷ [];
@@ -217,12 +233,14 @@ ends_rescan {S} {V} such call most old mid asked key program told weaker such_en
       all_such = subst (All such) (sym own) (All-append such (mine 0 e.marks) (ended ∷ []) (All-weaker IsPlanMark such weaker (mine 0 e.marks) (call_of_rescan call (mine 0 e.marks) e.of_call)) (All-cons such ended [] such_end (All-nil such)));
       few = subst (λ (l : List Mark). losses l ≤ most) (sym own) (let same = losses_end (mine 0 e.marks) 0 call rounds told in let low = e.few in omega (arith, same, low));
       none = none;
-      becomes = rescanned old mid asked key told due (subst (λ (k : List ℕ). Rescans old.council 0 k told mid.council) same_key (e.rescans o.caller o.open_call o.at_caller o.is_open)) none;
+      becomes = rescanned old mid asked key told due rescans_so none;
+      counts = counts_by old mid (e.marks ++ ended ∷ []) e.makes.made (rescanned_of mid.council.plan)
+          (λ low. rescans_count old.council mid.council key told (due_rescan old.council asked key due) rescans_so low ∙ ap (λ (n : ℕ). rescanned_of old.council.plan + n) (sym (done_at_end call rounds told e.marks (none_done call (mine 0 e.marks) e.of_call))));
     }
 
 -- the key is counted, and the change of membership goes on
 counted_on : {S V : Type 0} (most : ℕ) (old mid : View S V) (asked : Asked) (told : Answer) → EndsRescan IsPlanMark most old mid asked told → is_done told ≡ true → OperatesIn IsPlanMark most old mid × HasPlan asked (own_part mid 0)
-counted_on {S} {V} most old mid asked told e done = (record { marks = e.marks; makes = e.makes; all_such = e.all_such; few = e.few }, has_plan mid asked (by_case e.becomes))
+counted_on {S} {V} most old mid asked told e done = (record { marks = e.marks; makes = e.makes; all_such = e.all_such; few = e.few; counts = λ enters. e.counts }, has_plan mid asked (by_case e.becomes))
   where
     by_case : Rescanned mid asked told → IsChanging mid asked
     by_case (is_counted did is) = is
@@ -239,6 +257,7 @@ may_stop such most old mid asked told e undone = record { order = told_so (op.St
 stops_so : {S V : Type 0} (such : Mark → Type 0) (most : ℕ) (old mid new : View S V) (asked : Asked) (told : Answer) → EndsRescan such most old mid asked told → IsKept mid → mid.greatest ≡ old.greatest → is_done told ≡ false → StepTell mid (op.Stopped told) new → Held old new (IsToldIn asked such most old new (op.Stopped told))
 stops_so such most old mid new asked told e kept greatest undone ends =
     tells_after such most old mid new e.marks asked (op.Stopped told) (told_so (op.Stopped told) (new_order asked)) (record { makes = e.makes; kept = kept; greatest = greatest; none = e.none }) e.all_such e.few (e.may_tell (op.Stopped told)) (stopped_order mid asked told e.becomes undone) refl ends
+    (λ enters. told_counts asked (op.Stopped told) (told_so (op.Stopped told) (new_order asked)) mid new (stopped_order mid asked told e.becomes undone) refl ends old tt e.counts)
 
 -- ---- by how it began
 module _ {S V : Type 0} (old mid : View S V) (asked : Asked) (key : List ℕ) (told : Answer) (has : HasPlan asked (own_part old 0)) (due : due_in old.council.plan ≡ Some key) (begun : BeginsNot 0 key keep_always old mid told) where

@@ -44,11 +44,11 @@ pub record BeginsIn {S V : Type 0} (n call : ℕ) (key : List ℕ) (program : Li
 abbrev pub IsRefusal : ℕ → Answer → Type 0
 IsRefusal made told = ((told ≡ answer.RecordFull) × (999000 < made)) ⊎ (told ≡ answer.NoMemory false)
 
--- no call is open then, and of the operator's call is told what the end of this one tells; nothing is open where nothing was
+-- no call is open then, and of the operator's call is told what the end of this one tells; its own part is as it was where nothing was open
 pub record LeavesIdle {S V : Type 0} (n : ℕ) (key : List ℕ) (told : Answer) (old new : View S V) : Type 0 where
   pub rescans : Rescans old.council n key told new.council
   pub is_idle : IsIdle (own_part new n)
-  pub is_free : IsFree (own_part old n) → IsFree (own_part new n)
+  pub still : IsFree (own_part old n) → own_part new n ≡ own_part old n
 
 -- a call for this begins and ends at once, which is no conflict; or it is not begun, and no mark is made
 pub data BeginsNot {S V : Type 0} (n : ℕ) (key : List ℕ) (program : List Clause) (old new : View S V) (told : Answer) : Type 0 where
@@ -75,4 +75,4 @@ pub record EndsIn {S V : Type 0} (n call most : ℕ) (old new : View S V) (told 
   pub few : losses (mine n marks) ≤ most
   pub rescans : (caller : CallerView) (call_was : CallView) → IsAt old.callers n caller → caller.call ≡ Some call_was → Rescans old.council n call_was.key told new.council
   pub is_idle : IsIdle (own_part new n)
-  pub is_free : IsFree (beside_in (own_part old n)) → IsFree (own_part new n)
+  pub still : IsFree (beside_in (own_part old n)) → own_part new n ≡ beside_in (own_part old n)

@@ -33,8 +33,9 @@ pub record IsKept {S V : Type 0} (view : View S V) : Type 0 where
   pub wanted : (id : ℕ) (caller : CallerView) (call : CallView) → IsAt view.callers id caller → caller.call ≡ Some call → IsWanted id caller call view.marks
 
 -- ---- what a hold does
--- a hold of the caller makes these marks, and leaves what is the others' own
+-- a hold of the caller makes these marks, and leaves what is the others' own, and how many proposers there are
 pub record Makes {S V : Type 0} (n : ℕ) (old new : View S V) (marks : List Mark) : Type 0 where
+  pub greatest : new.greatest ≡ old.greatest
   pub made : new.marks ≡ old.marks ++ marks
   pub may_add : MayAdd marks
   pub owned : OnlyOwnedBy owner_of n marks

@@ -1,5 +1,6 @@
 pub mod Collecting
 pub mod Conflicts
+pub mod Counting
 pub mod Deeds
 pub mod Kept
 pub mod Membership

@@ -1,8 +1,9 @@
 -- A caller's own marks in a front of the record, and those of one of its calls.
-use Rattle.std.specs.Prelude.{◌≡◌, ℕ, ◌==◌, ◌+◌, Bool, false, if◌then◌else◌, List, [], ◌∷◌, ◌++◌, All, Option, None, Some}
+use Rattle.std.specs.Prelude.{◌≡◌, ℕ, suc, ◌==◌, ◌+◌, Bool, false, if◌then◌else◌, List, [], ◌∷◌, ◌++◌, All, Option, None, Some}
 use Rattle.cas_change.specs.declared.program.Clause.{Clause}
 use Rattle.cas_record.specs.declared.mark.Mark.{Mark}
-use Rattle.cas_record.specs.declared.mark.Mark.TheVariants.{Begun, Proposed, Harmed}
+use Rattle.cas_record.specs.declared.mark.Mark.TheVariants.{Begun, Proposed, Ended, Harmed}
+use Rattle.cas_cluster.specs.Protocol.{is_done}
 use Rattle.cas_turn.specs.Seen.{Begins}
 use Rattle.cas_hold.specs.Owners.{owner_of}
 
@@ -30,6 +31,12 @@ abbrev pub losses : List Mark → ℕ
 losses [] = 0
 losses (Harmed caller call false ∷ later) = 1 + losses later
 losses (mark ∷ later) = losses later
+
+-- how many calls were answered done, as they tell
+abbrev pub done_calls : List Mark → ℕ
+done_calls [] = 0
+done_calls (Ended caller call rounds answer ∷ later) = if is_done answer then suc (done_calls later) else done_calls later
+done_calls (mark ∷ later) = done_calls later
 
 -- ---- what a caller asks for
 pub record Wanted : Type 0 where

@@ -1,5 +1,5 @@
 -- What a caller's own part tells of what it has open.
-use Rattle.std.specs.Prelude.{◌≡◌, ℕ, ◌==◌, Bool, false, if◌then◌else◌, List, [], ◌∷◌, ◌++◌, Option, None}
+use Rattle.std.specs.Prelude.{◌≡◌, ℕ, zero, suc, ◌==◌, get_or, Bool, false, if◌then◌else◌, List, [], ◌∷◌, ◌++◌, Option, None}
 use Rattle.cas_cluster.specs.Council.{Council, PlanView}
 use Rattle.cas_cluster.specs.StepCalls.{one_more}
 use Rattle.cas_hold.specs.OwnParts.{call_part, plan_part, council_part}
@@ -41,3 +41,14 @@ is_met_in other = false
 -- how many it has had once it goes on: behind a conflict comes another one
 abbrev pub rounds_after : List ℕ → ℕ
 rounds_after own = if is_met_in own then one_more (rounds_in own) else rounds_in own
+
+-- ---- a change of membership
+-- how many keys the one that is under way has proposed anew, behind so many numbers that are of something else
+abbrev pub rescanned_behind : ℕ → List ℕ → ℕ
+rescanned_behind others [] = 0
+rescanned_behind (suc others) (number ∷ later) = rescanned_behind others later
+rescanned_behind zero (kind ∷ []) = 0
+rescanned_behind zero (kind ∷ size ∷ later) = if kind == 3 then get_or later 2 0 else rescanned_behind size later
+
+abbrev pub rescanned_in : List ℕ → ℕ
+rescanned_in own = rescanned_behind 0 own

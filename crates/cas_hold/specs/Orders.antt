@@ -15,6 +15,8 @@ use Rattle.cas_record.specs.declared.operator.Probes.{Probes}
 use Rattle.cas_cluster.specs.Council.{Probe, ExchangeView, OrderView, Council}
 use Rattle.cas_cluster.specs.StepCouncil.{told_marks}
 use Rattle.cas_cluster.specs.View.{View}
+use Rattle.cas_world.specs.Plans.{rescanned_of}
+use Rattle.cas_hold.specs.Counting.{CountsTo, EntersEras, TellsCount}
 use Rattle.cas_hold.specs.Kept.{Makes}
 use Rattle.cas_hold.specs.Mine.{mine, losses}
 use Rattle.cas_hold.specs.Open.{IsFree}
@@ -64,12 +66,13 @@ pub record WasAskedBehind (many : ℕ) (own : List ℕ) : Type 0 where
   pub behind : many ≤ exchange.since
 
 -- ---- what a hold does
--- the operator's call goes on: it makes such marks, and marks at most so many losses
+-- the operator's call goes on: it makes such marks, marks at most so many losses, and counts what a change of membership proposes anew
 pub record OperatesIn {S V : Type 0} (such : Mark → Type 0) (most : ℕ) (old new : View S V) : Type 0 where
   pub marks : List Mark
   pub makes : Makes 0 old new marks
   pub all_such : All such (mine 0 marks)
   pub few : losses (mine 0 marks) ≤ most
+  pub counts : EntersEras such → CountsTo (rescanned_of new.council.plan) old new
 
 -- it ends, and is told this, which is marked last but for what a probe found
 pub record IsToldIn {S V : Type 0} (asked : Asked) (such : Mark → Type 0) (most : ℕ) (old new : View S V) (answer : OpAnswer) : Type 0 where
@@ -78,6 +81,7 @@ pub record IsToldIn {S V : Type 0} (asked : Asked) (such : Mark → Type 0) (mos
   pub all_such : All such (mine 0 marks)
   pub few : losses (mine 0 marks) ≤ most
   pub is_free : IsFree (own_part new 0)
+  pub counts : EntersEras such → TellsCount answer old new
 
 -- ---- a probe
 -- it tells of a frame that was harmed within an exchange, which is of no caller's call

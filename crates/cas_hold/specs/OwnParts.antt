@@ -78,7 +78,7 @@ due_part (Some key) = 1 ∷ key
 
 abbrev pub plan_part : Option PlanView → List ℕ
 plan_part None = []
-plan_part (Some plan) = framed 3 (length plan.progress.left ∷ plan.entered ∷ length (asked_part plan.asked) ∷ asked_part plan.asked ++ due_part (due_key plan))
+plan_part (Some plan) = framed 3 (length plan.progress.left ∷ plan.entered ∷ plan.rescanned ∷ length (asked_part plan.asked) ∷ asked_part plan.asked ++ due_part (due_key plan))
 
 -- whether the call of its round is open, or it is over, and whether it is known then what became of it
 abbrev pub round_part : CollectionView → ℕ

@@ -7,7 +7,7 @@ ghost use Rattle.cas_cluster.specs.Council.{exchange_place};
 ghost use Rattle.cas_cluster.specs.StepCollect.{keep_always};
 ghost use Rattle.cas_flow.specs.Flow.{queue_at};
 ghost use Rattle.cas_members.specs.declared.plan.PlanStep.TheVariants as step;
-ghost use Rattle.cas_world.specs.Plans.{HasFinished, IsAtEnd, IsFor, IsPartial, IsUnderWay, asked_to, step_of};
+ghost use Rattle.cas_world.specs.Plans.{HasFinished, IsAtEnd, IsFor, IsPartial, IsUnderWay, asked_to, rescanned_of, step_of};
 ghost use Rattle.cas_hold.specs.Deeds.{IsRefusal, harm_by};
 ghost use Rattle.cas_hold.specs.Kept.{IsKept, Makes};
 ghost use Rattle.cas_hold.specs.Membership.{HasListing, HasPlan, HasRescan, HasRounds, IsListedTo, IsMembersAnswer, IsPlanMark, IsRescanMark, IsRescannedTo, StandsAt};
@@ -75,6 +75,7 @@ pub fn order_members<S: Shelf, V: Disk>(
     ensures kept { IsKept world.new }
     ensures greatest { world.new.greatest ≡ world.old.greatest }
     ensures makes { Makes 0 world.old world.new [] }
+    ensures counted { rescanned_of world.new.council.plan ≡ rescanned_of world.old.council.plan }
     ensures program { IfOk result (λ program. program ≡ keep_always) }
     ensures ordered { OnOk result (HasOrder (asked_to aim.now.kind aim.now.id) (own_part world.new 0)) }
     ensures refused { IfErr result (λ why. IsRefusal (length world.new.marks) why × IsFree (own_part world.new 0)) }
@@ -110,6 +111,7 @@ pub fn take_up<S: Shelf, V: Disk>(world: &mut SteadyWorld<S, V>, aim: &Aim) -> R
     ensures kept { IsKept world.new }
     ensures greatest { world.new.greatest ≡ world.old.greatest }
     ensures makes { OnOk result (Makes 0 world.old world.new []) }
+    ensures counted { OnOk result (rescanned_of world.new.council.plan ≡ rescanned_of world.old.council.plan) }
     ensures planned { OnOk result (HasPlan (asked_to aim.now.kind aim.now.id) (own_part world.new 0)) }
     ensures told { IfErr result (IsToldIn (asked_to aim.now.kind aim.now.id) IsPlanMark 0 world.old world.new) }
     ensures answer { IfErr result (IsMembersAnswer (asked_to aim.now.kind aim.now.id)) }
@@ -155,6 +157,7 @@ fn list<S: Shelf, V: Disk>(
     ensures kept { IsKept world.new }
     ensures greatest { world.new.greatest ≡ world.old.greatest }
     ensures makes { OnOk result (Makes 0 world.old world.new []) }
+    ensures counted { OnOk result (rescanned_of world.new.council.plan ≡ rescanned_of world.old.council.plan) }
     ensures lists { OnOk result (HasListing (asked_to aim.now.kind aim.now.id) (own_part world.new 0)) }
     ensures told { IfErr result (IsToldIn (asked_to aim.now.kind aim.now.id) IsPlanMark 0 world.old world.new) }
     ensures answer { IfErr result (IsMembersAnswer (asked_to aim.now.kind aim.now.id)) }

@@ -5,6 +5,7 @@ ghost use Rattle.cas_cluster.specs.Council.{exchange_place};
 ghost use Rattle.cas_cluster.specs.StepCouncil.{everyone};
 ghost use Rattle.cas_flow.specs.Flow.{queue_at};
 ghost use Rattle.cas_record.specs.declared.mark.Mark.{Mark};
+ghost use Rattle.cas_world.specs.Plans.{rescanned_of};
 ghost use Rattle.cas_hold.specs.Deeds.{IsRefusal, harm_by};
 ghost use Rattle.cas_hold.specs.Kept.{IsKept, Makes};
 ghost use Rattle.cas_hold.specs.Open.{IsFree};
@@ -50,6 +51,7 @@ pub(crate) fn open_order<S: Shelf, V: Disk>(
     ensures kept { IsKept world.new }
     ensures greatest { world.new.greatest ≡ world.old.greatest }
     ensures makes { Makes 0 world.old world.new [] }
+    ensures counted { rescanned_of world.new.council.plan ≡ rescanned_of world.old.council.plan }
     ensures ordered { OnOk result (HasOrder asked.now (own_part world.new 0)) }
     ensures refused { IfErr result (λ why. IsRefusal (length world.new.marks) why × IsFree (own_part world.new 0)) }
 {

@@ -15,7 +15,7 @@ pub returns-in-Ok-clause-greatest : goal.returns-in-Ok-clause-greatest
 returns-in-Ok-clause-greatest g c = (gather_list_held _ c.args.world.now c.gather.new.self (asked_to c.args.aim.now.kind c.args.aim.now.id) c.in-Ok.field-0 c.requires.lists c.requires.kept c.in-Ok.ensures.step c.in-Ok.ensures.ok).greatest
 
 pub returns-in-Ok-clause-goes_on : goal.returns-in-Ok-clause-goes_on
-returns-in-Ok-clause-goes_on g c most = made_none most c.args.world.now c.gather.new.self ((gather_list_held _ c.args.world.now c.gather.new.self (asked_to c.args.aim.now.kind c.args.aim.now.id) c.in-Ok.field-0 c.requires.lists c.requires.kept c.in-Ok.ensures.step c.in-Ok.ensures.ok).does.0)
+returns-in-Ok-clause-goes_on g c most = made_none most c.args.world.now c.gather.new.self ((gather_list_held _ c.args.world.now c.gather.new.self (asked_to c.args.aim.now.kind c.args.aim.now.id) c.in-Ok.field-0 c.requires.lists c.requires.kept c.in-Ok.ensures.step c.in-Ok.ensures.ok).does.0) ((gather_list_held _ c.args.world.now c.gather.new.self (asked_to c.args.aim.now.kind c.args.aim.now.id) c.in-Ok.field-0 c.requires.lists c.requires.kept c.in-Ok.ensures.step c.in-Ok.ensures.ok).does.2)
 
 pub returns-in-Ok-clause-planned : goal.returns-in-Ok-clause-planned
 returns-in-Ok-clause-planned g c = (gather_list_held _ c.args.world.now c.gather.new.self (asked_to c.args.aim.now.kind c.args.aim.now.id) c.in-Ok.field-0 c.requires.lists c.requires.kept c.in-Ok.ensures.step c.in-Ok.ensures.ok).does.1

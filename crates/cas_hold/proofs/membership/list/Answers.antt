@@ -31,3 +31,6 @@ returns-in-Err-clause-told g c = subst (IsToldIn (asked_to c.args.aim.now.kind c
 
 pub returns-in-Err-clause-answer : goal.returns-in-Err-clause-answer
 returns-in-Err-clause-answer g c = subst (IsMembersAnswer (asked_to c.args.aim.now.kind c.args.aim.now.id)) (sym c.tell.ensures.same) (list_told _ c.args.world.now c.ask_all.new.self c.tell.new.self (asked_to c.args.aim.now.kind c.args.aim.now.id) c.in-Err.told c.requires.planned c.requires.kept c.in-Err.ensures.step c.in-Err.ensures.err c.tell.ensures.step).does.1
+
+pub returns-in-Ok-clause-counted : goal.returns-in-Ok-clause-counted
+returns-in-Ok-clause-counted g c = (list_held _ c.args.world.now c.ask_all.new.self (asked_to c.args.aim.now.kind c.args.aim.now.id) c.requires.planned c.requires.kept c.in-Ok.ensures.step c.in-Ok.ensures.ok).does.2

@@ -1,4 +1,4 @@
-use Rattle.std.proofs.Common.{sym, subst}
+use Rattle.std.proofs.Common.{refl, sym, subst}
 use Rattle.cas_world.specs.Plans.{asked_to}
 use Rattle.cas_hold.specs.Membership.{IsPlanMark, IsMembersAnswer}
 use Rattle.cas_hold.specs.Orders.{IsToldIn}
@@ -37,3 +37,9 @@ returns-in-Err-clause-told g c = subst (IsToldIn (asked_to c.args.aim.now.kind c
 
 pub returns-in-Err-clause-answer : goal.returns-in-Err-clause-answer
 returns-in-Err-clause-answer g c = subst (IsMembersAnswer (asked_to c.args.aim.now.kind c.args.aim.now.id)) (sym c.tell.ensures.same) (open_told _ c.args.world.now c.open_plan.new.self c.tell.new.self (asked_to c.args.aim.now.kind c.args.aim.now.id) c.in-Err.told c.requires.ordered c.requires.kept c.in-Err.ensures.step c.in-Err.ensures.err c.tell.ensures.step).does.1
+
+pub returns-then-is_under_way-clause-counted : goal.returns-then-is_under_way-clause-counted
+returns-then-is_under_way-clause-counted g c = refl
+
+pub returns-in-Ok-clause-counted : goal.returns-in-Ok-clause-counted
+returns-in-Ok-clause-counted g c = (open_held _ c.args.world.now c.open_plan.new.self (asked_to c.args.aim.now.kind c.args.aim.now.id) c.requires.ordered c.requires.kept c.in-Ok.ensures.step c.in-Ok.ensures.ok).does.2

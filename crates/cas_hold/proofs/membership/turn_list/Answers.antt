@@ -1,5 +1,6 @@
 use Rattle.std.proofs.Common.{sym, subst, ◌∙◌}
 use Rattle.cas_world.specs.Plans.{MayTell, asked_to, was_told}
+use Rattle.cas_causes.specs.Tellings.{IsPassing}
 use Rattle.cas_hold.specs.Deeds.{harm_by}
 use Rattle.cas_hold.specs.Membership.{IsPlanMark, IsMembersAnswer}
 use Rattle.cas_hold.specs.Orders.{IsToldIn}
@@ -25,13 +26,13 @@ pub returns-in-Ok-clause-lists : goal.returns-in-Ok-clause-lists
 returns-in-Ok-clause-lists g c = still_listing c.args.world.now c.turn.new.self (asked_to c.args.aim.now.kind c.args.aim.now.id) c.requires.lists ((list_turn_held _ c.args.world.now c.turn.new.self (asked_to c.args.aim.now.kind c.args.aim.now.id) c.args.verdict c.requires.lists c.requires.kept c.in-Ok.ensures.ok).does.1)
 
 pub returns-in-Err-clause-kept : goal.returns-in-Err-clause-kept
-returns-in-Err-clause-kept g c = (list_turn_told _ (harm_by c.args.verdict) c.args.world.now c.turn.new.self c.tell.new.self (asked_to c.args.aim.now.kind c.args.aim.now.id) c.no_memory.result c.requires.lists c.requires.kept c.in-Err.ensures.err c.tell.ensures.step).kept
+returns-in-Err-clause-kept g c = (list_turn_told _ (harm_by c.args.verdict) c.args.world.now c.turn.new.self c.tell.new.self (asked_to c.args.aim.now.kind c.args.aim.now.id) c.no_memory.result c.requires.lists c.requires.kept c.in-Err.ensures.err c.tell.ensures.step (subst IsPassing (sym c.no_memory.ensures) tt)).kept
 
 pub returns-in-Err-clause-greatest : goal.returns-in-Err-clause-greatest
-returns-in-Err-clause-greatest g c = (list_turn_told _ (harm_by c.args.verdict) c.args.world.now c.turn.new.self c.tell.new.self (asked_to c.args.aim.now.kind c.args.aim.now.id) c.no_memory.result c.requires.lists c.requires.kept c.in-Err.ensures.err c.tell.ensures.step).greatest
+returns-in-Err-clause-greatest g c = (list_turn_told _ (harm_by c.args.verdict) c.args.world.now c.turn.new.self c.tell.new.self (asked_to c.args.aim.now.kind c.args.aim.now.id) c.no_memory.result c.requires.lists c.requires.kept c.in-Err.ensures.err c.tell.ensures.step (subst IsPassing (sym c.no_memory.ensures) tt)).greatest
 
 pub returns-in-Err-clause-told : goal.returns-in-Err-clause-told
-returns-in-Err-clause-told g c = subst (IsToldIn (asked_to c.args.aim.now.kind c.args.aim.now.id) IsPlanMark (harm_by c.args.verdict) c.args.world.now c.tell.new.self) (sym c.tell.ensures.same) (list_turn_told _ (harm_by c.args.verdict) c.args.world.now c.turn.new.self c.tell.new.self (asked_to c.args.aim.now.kind c.args.aim.now.id) c.no_memory.result c.requires.lists c.requires.kept c.in-Err.ensures.err c.tell.ensures.step).does
+returns-in-Err-clause-told g c = subst (IsToldIn (asked_to c.args.aim.now.kind c.args.aim.now.id) IsPlanMark (harm_by c.args.verdict) c.args.world.now c.tell.new.self) (sym c.tell.ensures.same) (list_turn_told _ (harm_by c.args.verdict) c.args.world.now c.turn.new.self c.tell.new.self (asked_to c.args.aim.now.kind c.args.aim.now.id) c.no_memory.result c.requires.lists c.requires.kept c.in-Err.ensures.err c.tell.ensures.step (subst IsPassing (sym c.no_memory.ensures) tt)).does
 
 pub returns-in-Err-clause-answer : goal.returns-in-Err-clause-answer
 returns-in-Err-clause-answer g c = subst (IsMembersAnswer (asked_to c.args.aim.now.kind c.args.aim.now.id)) (sym (c.tell.ensures.same ∙ c.no_memory.ensures)) tt

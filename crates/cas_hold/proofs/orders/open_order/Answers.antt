@@ -1,5 +1,6 @@
 use Rattle.std.proofs.Common.{Err, ap}
 use Rattle.cas_record.specs.declared.answer.Answer.{Answer}
+use Rattle.cas_world.specs.Plans.{rescanned_of}
 use Rattle.cas_hold.proofs.Holds.{refusal_then}
 use Rattle.cas_hold.proofs.Councils.{free_idle}
 use Rattle.cas_hold.proofs.Probes.{order_held, unordered, free_still}
@@ -31,3 +32,9 @@ returns-in-Err-clause-makes g c = (unordered c.args.world.now c.order.new.self c
 
 pub returns-in-Err-clause-refused : goal.returns-in-Err-clause-refused
 returns-in-Err-clause-refused g c = (refusal_then c.in-Err.refusal c.args.world.now c.order.new.self c.in-Err.ensures.cause (λ full. c.in-Err.ensures.long (ap (λ (a : Answer). Err a) full)) (ap (λ v. v.marks) c.in-Err.ensures.err), free_still c.args.world.now c.order.new.self c.in-Err.ensures.err c.requires.free)
+
+pub returns-in-Ok-clause-counted : goal.returns-in-Ok-clause-counted
+returns-in-Ok-clause-counted g c = ap (λ v. rescanned_of v.council.plan) c.in-Ok.ensures.ok.view
+
+pub returns-in-Err-clause-counted : goal.returns-in-Err-clause-counted
+returns-in-Err-clause-counted g c = ap (λ v. rescanned_of v.council.plan) c.in-Err.ensures.err

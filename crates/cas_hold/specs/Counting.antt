@@ -1,0 +1,36 @@
+-- How many keys a change of membership has proposed anew: as many as calls of caller 0 were answered done on its way.
+use Rattle.std.specs.Prelude.{◌≡◌, ⊤, ℕ, ◌+◌, ◌-◌, ◌<◌, ◌^◌}
+use Rattle.cas_record.specs.declared.mark.Mark.{Mark}
+use Rattle.cas_record.specs.declared.mark.Mark.TheVariants.{EraEntered}
+use Rattle.cas_record.specs.declared.operator.OpAnswer.{OpAnswer}
+use Rattle.cas_record.specs.declared.operator.OpAnswer.TheVariants as told
+use Rattle.cas_cluster.specs.View.{View}
+use Rattle.cas_world.specs.Plans.{rescanned_of}
+use Rattle.cas_hold.specs.Mine.{mine, done_calls}
+
+-- the count stands still there
+abbrev pub most_counted : ℕ
+most_counted = 2 ^ 32 - 1
+
+-- A count that does not stand at its end has grown by the calls of caller 0 that were answered done from the earlier view to the later one.
+abbrev pub CountsTo : {S V : Type 0} → ℕ → View S V → View S V → Type 0
+CountsTo count old new = count < most_counted → count + done_calls (mine 0 old.marks) ≡ rescanned_of old.council.plan + done_calls (mine 0 new.marks)
+
+-- what is told at the end of the change is its count; until then it is kept
+abbrev pub count_told : OpAnswer → ℕ → ℕ
+count_told (told.Joined id era rescanned) kept = rescanned
+count_told (told.Left id era rescanned) kept = rescanned
+count_told other kept = kept
+
+-- at its end none is kept
+abbrev pub LeavesNone : OpAnswer → ℕ → Type 0
+LeavesNone (told.Joined id era rescanned) kept = kept ≡ 0
+LeavesNone (told.Left id era rescanned) kept = kept ≡ 0
+LeavesNone other kept = ⊤
+
+abbrev pub TellsCount : {S V : Type 0} → OpAnswer → View S V → View S V → Type 0
+TellsCount told old new = CountsTo (count_told told (rescanned_of new.council.plan)) old new × LeavesNone told (rescanned_of new.council.plan)
+
+-- proposers may enter eras on the way of a call that makes such marks, as they do for a change of membership alone
+abbrev pub EntersEras : (Mark → Type 0) → Type 0
+EntersEras such = (proposer era : ℕ) → such (EraEntered proposer era)
