@@ -8,7 +8,7 @@ use Rattle.cas_record.specs.declared.mark.Mark.{Mark}
 use Rattle.cas_cluster.specs.SafeLaws.{HasPlaces}
 use Rattle.cas_cluster.specs.Step.{IsOpening}
 use Rattle.cas_cluster.specs.View.{Meaning, View, CallerView, IsAt, new_caller}
-use Rattle.cas_turn.specs.Sitting.{Sitting, TurnId, fresh_seat, fresh_seats}
+use Rattle.cas_turn.specs.Sitting.{Sitting, Turning, fresh_seat, fresh_seats}
 use Rattle.cas_board.specs.Passes.{IsPassOf}
 use Rattle.cas_hold.specs.Open.{IsFree}
 use Rattle.cas_hold.specs.Kept.{IsKept}
@@ -37,11 +37,14 @@ opening_parts m members view opening zero = ap (λ (l : List ℕ). l ++ council_
 opening_parts m members view opening (suc n) = caller_none m members view opening (suc n)
 
 -- each pass of a new board is that board's, and has nothing open
-pub fresh_passes : {V : Type 0} (turn : TurnId) (count : ℕ) → count ≤ 17 → All (λ (p : Sitting V Mark). IsPassOf turn p × IsFree p.own) (fresh_seats turn count)
-fresh_passes {V} turn count few = All-map (λ (p : Sitting V Mark). IsPassOf turn p × IsFree p.own) (fresh_seat turn) (range_with_len 0 count) (λ k d low. (record { turn = refl; idle = refl; known = place k d low }, record { plan = None; is = refl }))
+pub fresh_passes : {V : Type 0} (turn : Turning) (count : ℕ) → turn.seats ≡ count → count ≤ 17 → All (λ (p : Sitting V Mark). IsPassOf turn p × IsFree p.own) (fresh_seats turn.id count)
+fresh_passes {V} turn count many few = All-map (λ (p : Sitting V Mark). IsPassOf turn p × IsFree p.own) (fresh_seat turn.id count) (range_with_len 0 count) (λ k d low. (
+  record { turn = refl; seats = sym many; idle = refl; seated = (let below = place k d low in omega (arith, below, many)); known = (let below = place k d low in omega (arith, below, few)) },
+  record { plan = None; is = refl },
+))
   where
-    place : (k d : ℕ) → k < length (range_with_len 0 count) → slice_index_or (range_with_len 0 count) k d ≤ 16
+    place : (k d : ℕ) → k < length (range_with_len 0 count) → slice_index_or (range_with_len 0 count) k d < count
     place k d low =
         let long = length-range_with_len 0 count in
         let here : slice_index_or (range_with_len 0 count) k d ≡ 0 + k = get_or-range_with_len 0 count k d (omega (arith, low, long)) in
-        omega (arith, here, low, long, few)
+        omega (arith, here, low, long)

@@ -1,5 +1,5 @@
 -- What caller 0's pass tells of a call of the operator, by what its holds did.
-use Rattle.std.proofs.Common.{◌≡◌, ◌≤◌, ℕ, ◌+◌, length, true, false, inl, inr, List, [], ◌++◌, refl, sym, ap, subst, ◌∙◌, append_assoc, append-nil, length-append, arith}
+use Rattle.std.proofs.Common.{◌≡◌, ◌≤◌, ◌<◌, ℕ, ◌+◌, length, true, false, inl, inr, List, [], ◌++◌, refl, sym, ap, subst, ◌∙◌, append_assoc, append-nil, length-append, arith}
 use Rattle.std.specs.Prelude.{◌||◌, Result, Ok, Err, IfErr, OnOk, take, reverse, Contains}
 use Rattle.std.proofs.Math.Seq.{take-append_seam}
 use Rattle.std.proofs.lemmas.List.Elements.{All-append, All-nil, All-weaker}
@@ -12,21 +12,25 @@ use Rattle.cas_record.specs.declared.operator.OpAnswer.TheVariants as op
 use Rattle.cas_cluster.specs.StepCouncil.{told_marks, everyone}
 use Rattle.cas_cluster.specs.View.{View, era_at}
 use Rattle.cas_turn.specs.Seen.{Begins, HasSeen}
-use Rattle.cas_turn.specs.Sitting.{Sitting, TurnId}
+use Rattle.cas_turn.specs.Sitting.{Sitting, Turning}
+use Rattle.cas_turn.proofs.SeenLemmas.{begins_both}
+use Rattle.cas_hold.specs.Counting.{most_counted, count_told, CountsTo, EntersEras, LeavesNone}
 use Rattle.cas_hold.specs.Deeds.{IsRefusal}
 use Rattle.cas_hold.specs.Kept.{Makes, IsHeldBy}
-use Rattle.cas_hold.specs.Mine.{mine, losses, GoesOn}
-use Rattle.cas_hold.specs.Open.{IsFree}
+use Rattle.cas_hold.specs.Mine.{mine, losses, done_calls, GoesOn}
+use Rattle.cas_hold.specs.Open.{IsFree, rescanned_in}
 use Rattle.cas_hold.specs.Orders.{HasHarms, MarksHarms, OperatesIn, IsToldIn, IsProbeAnswer, IsSilentAtMost, IsTrueProbe, WasAskedBehind, stops_probe}
 use Rattle.cas_causes.proofs.Current.{among_fewer}
 use Rattle.cas_ballot.specs.Members.{members_where, has_member, IsMemberSet}
 use Rattle.cas_ballot.proofs.MemberLemmas.{IsMemberSet-members_where}
 use Rattle.cas_hold.specs.Owners.{owner_of}
 use Rattle.cas_hold.specs.OwnParts.{own_part}
+use Rattle.cas_world.specs.Plans.{rescanned_of}
+use Rattle.cas_hold.proofs.Counting.{done_append, own_rescanned}
 use Rattle.cas_hold.proofs.Fronts.{front_goes_on, goes_on_then, mine_append, mine_seen}
 use Rattle.cas_hold.proofs.Operating.{told_mine}
 use Rattle.cas_board.specs.Changes.{IsCounted}
-use Rattle.cas_board.specs.Operations.{HasOperated, HasMarkedHarms, IsSilentSince, WasToldLast, Operates, is_told}
+use Rattle.cas_board.specs.Operations.{HasCountedTo, HasOperated, HasMarkedHarms, IsSilentSince, WasToldLast, Operates, is_told}
 use Rattle.cas_board.specs.Passes.{IsPassOf}
 use Rattle.cas_board.proofs.Losses.{counted_then}
 use Rattle.cas_board.proofs.Sittings.{WasHeld, few_then, counted_none, counted_less}
@@ -41,8 +45,23 @@ module _ {S V A : Type 0} (before after : View S V) (old new : Sitting A Mark) (
   pub operator_own : new.own ≡ own_part after 0
   operator_own = was.own ∙ ap (own_part after) (sym was.number)
 
+  -- what is counted
+  kept_count : rescanned_in new.own ≡ rescanned_of after.council.plan
+  kept_count = ap rescanned_in operator_own ∙ own_rescanned after
+
+  operator_counts : (count : ℕ) → CountsTo count before after → HasCountedTo count old new
+  operator_counts count counts low =
+      let was_seen : done_calls (mine old.number before.marks) ≡ done_calls (mine old.number old.seen) = ap done_calls (mine_seen old.number old.seen before.marks was.has) in
+      let before_is : done_calls (mine 0 before.marks) ≡ done_calls (mine old.number before.marks) = ap (λ (k : ℕ). done_calls (mine k before.marks)) was.number in
+      let after_is : done_calls (mine 0 after.marks) ≡ done_calls (mine old.number new.seen) = ap (λ (k : ℕ). done_calls (mine k after.marks)) was.number ∙ ap (λ (l : List Mark). done_calls (mine old.number l)) (sym was.seen) in
+      let kept_before : rescanned_of before.council.plan ≡ rescanned_in old.own = sym (own_rescanned before) ∙ ap rescanned_in (ap (own_part before) was.number ∙ was.part) in
+      omega (arith, counts low, was_seen, before_is, after_is, kept_before)
+
+  pub still_counted : rescanned_of after.council.plan ≡ rescanned_of before.council.plan → rescanned_in new.own ≡ rescanned_in old.own
+  still_counted same = kept_count ∙ same ∙ sym (own_rescanned before) ∙ ap rescanned_in (ap (own_part before) was.number ∙ was.part)
+
   pub operator_goes_on : (such : Mark → Type 0) (most : ℕ) → OperatesIn such most before after → HasOperated such most old new
-  operator_goes_on such most o = record { marks = mine 0 o.marks; front = operator_made o.marks o.makes; all_such = o.all_such; few = o.few }
+  operator_goes_on such most o = record { marks = mine 0 o.marks; front = operator_made o.marks o.makes; all_such = o.all_such; few = o.few; counts = λ enters. subst (λ (n : ℕ). HasCountedTo n old new) (sym kept_count) (operator_counts (rescanned_of after.council.plan) (o.counts enters)) }
 
   pub operator_told : (asked : Asked) (such : Mark → Type 0) (most : ℕ) (answer : OpAnswer) → IsToldIn asked such most before after answer → WasToldLast asked such most old new answer
   operator_told asked such most answer t = record {
@@ -52,6 +71,8 @@ module _ {S V A : Type 0} (before after : View S V) (old new : Sitting A Mark) (
     all_such = t.all_such;
     few = t.few;
     is_free = subst IsFree (sym operator_own) t.is_free;
+    counts = λ enters. let tells = t.counts enters in
+        subst (λ (n : ℕ). HasCountedTo (count_told answer n) old new × LeavesNone answer n) (sym kept_count) (operator_counts (count_told answer (rescanned_of after.council.plan)) tells.0, tells.1);
   }
 
   pub operator_harms : own_part before 0 ≡ old.own → MarksHarms before after → HasMarkedHarms old new
@@ -85,8 +106,15 @@ order_runs such harms pass = record {
   pass = refl;
   lost = 0;
   counted = counted_none harms;
-  operated = record { marks = []; front = record { begins = record { behind = []; whole = append-nil pass.seen }; own_marks = sym (append-nil (mine pass.number pass.seen)) }; all_such = All-nil such; few = omega arith };
+  operated = record { marks = []; front = record { begins = record { behind = []; whole = append-nil pass.seen }; own_marks = sym (append-nil (mine pass.number pass.seen)) }; all_such = All-nil such; few = omega arith; counts = λ enters low. refl };
 }
+
+-- counts over two spans, between which neither changes
+counted_on : (ra rb rc rd da db dc dd : ℕ) → (rb < most_counted → rb + da ≡ ra + db) → rc ≡ rb → dc ≡ db → dc ≤ dd → (rd < most_counted → rd + dc ≡ rc + dd) → rd < most_counted → rd + da ≡ ra + dd
+counted_on ra rb rc rd da db dc dd first same_r same_d more last low =
+    let two = last low in
+    let one = first (omega (arith, two, more, same_r, low)) in
+    omega (arith, one, two, same_r, same_d)
 
 module _ {A : Type 0} (such : Mark → Type 0) (harms harms_now : ℕ) (a b c : Sitting A Mark) (run : HasRunOrder such harms harms_now a b) (strayed : c ≡ record b { seen = c.seen }) where
   number_b : b.number ≡ a.number
@@ -95,10 +123,12 @@ module _ {A : Type 0} (such : Mark → Type 0) (harms harms_now : ℕ) (a b c : 
   pub order_number : c.number ≡ a.number
   order_number = ap (λ (s : Sitting A Mark). s.number) strayed ∙ number_b
 
-  pub order_pass : (board : TurnId) → IsPassOf board a → IsPassOf board c
+  pub order_pass : (board : Turning) → IsPassOf board a → IsPassOf board c
   order_pass board is = record {
     turn = ap (λ (s : Sitting A Mark). s.turn) strayed ∙ ap (λ (s : Sitting A Mark). s.turn) run.pass ∙ is.turn;
+    seats = ap (λ (s : Sitting A Mark). s.seats) strayed ∙ ap (λ (s : Sitting A Mark). s.seats) run.pass ∙ is.seats;
     idle = ap (λ (s : Sitting A Mark). s.holds) strayed ∙ ap (λ (s : Sitting A Mark). s.holds) run.pass ∙ is.idle;
+    seated = let number : c.number ≡ a.number = order_number in omega (arith, number, is.seated);
     known = let number : c.number ≡ a.number = order_number in omega (arith, number, is.known);
   }
 
@@ -114,6 +144,15 @@ module _ {A : Type 0} (such : Mark → Type 0) (harms harms_now : ℕ) (a b c : 
         goes_on_then a.number a.seen b.seen d.seen run.operated.marks more run.operated.front
         (goes_on_then a.number b.seen c.seen d.seen [] more (subst (λ (k : ℕ). GoesOn k b.seen c.seen []) number_b strays) (subst (λ (k : ℕ). GoesOn k c.seen d.seen more) order_number then_))
 
+    counts_whole : EntersEras such → (count : ℕ) (more : List Mark) → GoesOn c.number c.seen d.seen more → HasCountedTo count c d → HasCountedTo count a d
+    counts_whole enters count more then_ last =
+        let goes : GoesOn a.number c.seen d.seen more = subst (λ (k : ℕ). GoesOn k c.seen d.seen more) order_number then_ in
+        let between : GoesOn a.number b.seen c.seen [] = subst (λ (k : ℕ). GoesOn k b.seen c.seen []) number_b strays in
+        let grown : done_calls (mine a.number d.seen) ≡ done_calls (mine a.number c.seen) + done_calls more = ap done_calls goes.own_marks ∙ done_append (mine a.number c.seen) more in
+        counted_on (rescanned_in a.own) (rescanned_in b.own) (rescanned_in c.own) count (done_calls (mine a.number a.seen)) (done_calls (mine a.number b.seen)) (done_calls (mine a.number c.seen)) (done_calls (mine a.number d.seen))
+        (run.operated.counts enters) (ap rescanned_in order_own) (ap done_calls (between.own_marks ∙ append-nil (mine a.number b.seen))) (omega (arith, grown))
+        (subst (λ (k : ℕ). count < most_counted → count + done_calls (mine k c.seen) ≡ rescanned_in c.own + done_calls (mine k d.seen)) order_number last)
+
     pub order_goes_on : HasOperated such most c d → HasRunOrder such harms harms_then a d
     order_goes_on then_ = record {
       pass = order_ran;
@@ -124,6 +163,7 @@ module _ {A : Type 0} (such : Mark → Type 0) (harms harms_now : ℕ) (a b c : 
         front = whole_front then_.marks then_.front;
         all_such = All-append such run.operated.marks then_.marks run.operated.all_such then_.all_such;
         few = few_then run.operated.marks then_.marks run.lost most run.operated.few then_.few;
+        counts = λ enters. counts_whole enters (rescanned_in d.own) then_.marks then_.front (then_.counts enters);
       };
     }
 
@@ -138,6 +178,7 @@ module _ {A : Type 0} (such : Mark → Type 0) (harms harms_now : ℕ) (a b c : 
         all_such = All-append such run.operated.marks then_.marks run.operated.all_such then_.all_such;
         few = few_then run.operated.marks then_.marks run.lost most run.operated.few then_.few;
         is_free = then_.is_free;
+        counts = λ enters. let tells = then_.counts enters in (counts_whole enters (count_told answer (rescanned_in d.own)) (then_.marks ++ told_marks asked answer) then_.front tells.0, tells.1);
       },
     )
 
@@ -203,8 +244,8 @@ seen_of before after old new was marks same = omega (arith, length-append old.se
 -- the marks with which a front began are the first ones of any later front
 pub begun_in : (old mid new : List Mark) {x : Mark} → Begins old mid → Begins mid new → Contains old x → Contains (take (length old) new) x
 begun_in old mid new {x} first second there =
-    let whole : old ++ (first.behind ++ second.behind) ≡ new = sym (append_assoc old first.behind second.behind) ∙ ap (λ (l : List Mark). l ++ second.behind) first.whole ∙ second.whole in
-    subst (λ (l : List Mark). Contains l x) (sym (take-append_seam old (first.behind ++ second.behind)) ∙ ap (λ (l : List Mark). take (length old) l) whole) there
+    let both = begins_both old mid new first second in
+    subst (λ (l : List Mark). Contains l x) (sym (take-append_seam old both.behind) ∙ ap (λ (l : List Mark). take (length old) l) both.whole) there
 
 -- what is true by more marks before a probe is so by fewer
 pub true_among : (more fewer all : List Mark) (told : OpAnswer) → ((x : Mark) → Contains fewer x → Contains more x) → IsTrueProbe more all told → IsTrueProbe fewer all told
@@ -220,30 +261,37 @@ true_among more fewer all (op.ProposerDown proposer) each is = tt
 true_among more fewer all (op.Stopped why) each is = tt
 
 -- ---- marks of which less is known
-module _ {A : Type 0} (such less : Mark → Type 0) (weaker : (mark : Mark) → such mark → less mark) where
+module _ {A : Type 0} (such less : Mark → Type 0) (weaker : (mark : Mark) → such mark → less mark) (back : EntersEras less → EntersEras such) where
   pub operated_less : (most : ℕ) (old new : Sitting A Mark) → HasOperated such most old new → HasOperated less most old new
-  operated_less most old new o = record { marks = o.marks; front = o.front; all_such = All-weaker such less weaker o.marks o.all_such; few = o.few }
+  operated_less most old new o = record { marks = o.marks; front = o.front; all_such = All-weaker such less weaker o.marks o.all_such; few = o.few; counts = λ enters. o.counts (back enters) }
 
   pub told_less : (asked : Asked) (most : ℕ) (old new : Sitting A Mark) (answer : OpAnswer) → WasToldLast asked such most old new answer → WasToldLast asked less most old new answer
-  told_less asked most old new answer t = record { marks = t.marks; front = t.front; last = t.last; all_such = All-weaker such less weaker t.marks t.all_such; few = t.few; is_free = t.is_free }
+  told_less asked most old new answer t = record { marks = t.marks; front = t.front; last = t.last; all_such = All-weaker such less weaker t.marks t.all_such; few = t.few; is_free = t.is_free; counts = λ enters. t.counts (back enters) }
 
   pub run_less : (harms harms_now : ℕ) (old now : Sitting A Mark) → HasRunOrder such harms harms_now old now → HasRunOrder less harms harms_now old now
   run_less harms harms_now old now run = record { pass = run.pass; lost = run.lost; counted = run.counted; operated = operated_less run.lost old now run.operated }
 
 -- ---- the whole
 -- holds that made no mark of caller 0's stood before it
-pub told_behind : {A : Type 0} (asked : Asked) (such : Mark → Type 0) (most : ℕ) (a b c : Sitting A Mark) (answer : OpAnswer) → b.number ≡ a.number → GoesOn a.number a.seen b.seen [] → WasToldLast asked such most b c answer → WasToldLast asked such most a c answer
-told_behind asked such most a b c answer number first told = record {
+pub told_behind : {A : Type 0} (asked : Asked) (such : Mark → Type 0) (most : ℕ) (a b c : Sitting A Mark) (answer : OpAnswer) → b.number ≡ a.number → GoesOn a.number a.seen b.seen [] → (EntersEras such → rescanned_in b.own ≡ rescanned_in a.own)
+    → WasToldLast asked such most b c answer → WasToldLast asked such most a c answer
+told_behind asked such most a b c answer number first counted told = record {
   marks = told.marks;
   front = goes_on_then a.number a.seen b.seen c.seen [] (told.marks ++ told_marks asked answer) first (subst (λ (k : ℕ). GoesOn k b.seen c.seen (told.marks ++ told_marks asked answer)) number told.front);
   last = told.last;
   all_such = told.all_such;
   few = told.few;
   is_free = told.is_free;
+  counts = λ enters. let tells = told.counts enters in (
+    (λ low.
+        let last = subst (λ (k : ℕ). count_told answer (rescanned_in c.own) + done_calls (mine k b.seen) ≡ rescanned_in b.own + done_calls (mine k c.seen)) number (tells.0 low) in
+        omega (arith, last, counted enters, ap done_calls (first.own_marks ∙ append-nil (mine a.number a.seen)))),
+    tells.1,
+  );
 }
 
 pub operates_told : {A : Type 0} (asked : Asked) (such : Mark → Type 0) (lost harms harms_then : ℕ) (a c : Sitting A Mark) (answer : OpAnswer) → IsCounted lost harms harms_then → WasToldLast asked such lost a c answer → Operates asked such harms harms_then a c answer
-operates_told asked such lost harms harms_then a c answer counted told = is_told told.marks told.front told.last told.all_such (counted_less (losses told.marks) lost harms harms_then told.few counted)
+operates_told asked such lost harms harms_then a c answer counted told = is_told told.marks told.front told.last told.all_such (counted_less (losses told.marks) lost harms harms_then told.few counted) told.counts
 
 -- ---- by how a result goes
 pub on_ok : {A E P Q : Type 0} (result : Result A E) → (P → Q) → OnOk result P → OnOk result Q

@@ -1,5 +1,5 @@
 -- What a pass tells of a hold, by what the hold did.
-use Rattle.std.proofs.Common.{◌≡◌, ◌≤◌, ◌<◌, ℕ, zero, suc, ◌+◌, ◌-◌, ◌^◌, Bool, if◌then◌else◌, ap₂, List, [], ◌∷◌, ◌++◌, length, None, Some, slice_get, true, false, refl, sym, ap, subst, ◌∙◌, append_assoc, append-nil, arith, inr}
+use Rattle.std.proofs.Common.{◌≡◌, ◌≤◌, ◌<◌, ℕ, zero, suc, ◌+◌, ◌-◌, ◌^◌, Bool, if◌then◌else◌, ap₂, List, [], ◌∷◌, ◌++◌, length, None, Some, slice_get, true, false, refl, sym, ap, subst, ◌∙◌, append_assoc, append-nil, arith}
 use Rattle.std.specs.Prelude.{Result, Ok, Err, IfOk, IfErr, OnOk}
 use Rattle.std.proofs.lemmas.List.Elements.{All-append, All-nil}
 use Rattle.std.proofs.Math.Nat.{min-le_left}
@@ -11,7 +11,7 @@ use Rattle.cas_cluster.specs.StepCalls.{one_more}
 use Rattle.cas_cluster.specs.View.{View}
 use Rattle.cas_cluster.proofs.Places.{some_is}
 use Rattle.cas_turn.specs.Seen.{Begins, HasSeen, OnlyOwnedBy, added_to}
-use Rattle.cas_turn.specs.Sitting.{Sitting, TurnId}
+use Rattle.cas_turn.specs.Sitting.{Sitting, Turning}
 use Rattle.cas_board.specs.Passes.{IsPassOf}
 use Rattle.cas_board.specs.Changes as changes
 use Rattle.cas_board.specs.Changes.{IsCounted, HasBegun, HasNotBegun, HasGoneOn, HasEnded, Answers}
@@ -28,7 +28,7 @@ use Rattle.cas_hold.specs.Stages.{tells_met}
 use Rattle.cas_hold.specs.declared.deeds.Stage.{Stage}
 use Rattle.cas_board.proofs.Losses.{losses_append, counted_then}
 use Rattle.cas_hold.proofs.Fronts.{added_is, mine_append, mine_own, front_goes_on, goes_on_then, wanted_seen}
-use Rattle.cas_hold.proofs.Parts.{open_at, free_is_idle}
+use Rattle.cas_hold.proofs.Parts.{open_at}
 use Rattle.cas_cluster.specs.StepCalls as calls
 use Rattle.cas_record.specs.declared.answer.Answer.TheVariants as answer
 
@@ -61,9 +61,6 @@ module _ {S V A : Type 0} (before after : View S V) (old new : Sitting A Mark) (
   front_is : (marks mine_ : List Mark) → Makes old.number before after marks → mine old.number marks ≡ mine_ → GoesOn old.number old.seen new.seen mine_
   front_is marks mine_ makes same = subst (GoesOn old.number old.seen new.seen) same (front_of marks makes)
 
-  free_then : IsFree (own_part after old.number) → IsFree new.own
-  free_then free = subst IsFree (sym own) free
-
   open_then : (call : ℕ) → HasOpen call (own_part after old.number) → HasOpen call new.own
   open_then call has_open = subst (HasOpen call) (sym own) has_open
 
@@ -83,14 +80,14 @@ module _ {S V A : Type 0} (before after : View S V) (old new : Sitting A Mark) (
     wanted = ap (wanted_by old.number) seen ∙ b.wanted;
   }
 
-  pub pass_begins_not : (key : List ℕ) (program : List Clause) (told : Answer) → IsFree (own_part before old.number) → BeginsNot old.number key program before after told → HasNotBegun key program old new told
-  pass_begins_not key program told free (deeds.ends_at_once call rounds makes leaves no_conflict) =
+  pub pass_begins_not : (key : List ℕ) (program : List Clause) (told : Answer) → own_part before old.number ≡ old.own → IsFree (own_part before old.number) → BeginsNot old.number key program before after told → HasNotBegun key program old new told
+  pass_begins_not key program told own_was free (deeds.ends_at_once call rounds makes leaves no_conflict) =
       let n : ℕ = old.number in
       let begun : Mark = Begun n call key program in
       let ended : Mark = Ended n call rounds told in
       changes.ends_at_once call rounds (front_is (begun ∷ ended ∷ []) (begun ∷ ended ∷ []) makes (mine_own n begun (ended ∷ []) refl ∙ ap (λ (l : List Mark). begun ∷ l) (mine_own n ended [] refl)))
-      (last_then (begun ∷ []) ended makes) (free_then (leaves.is_free free)) no_conflict
-  pass_begins_not key program told free (deeds.is_refused refusal makes leaves) = changes.is_refused (subst (λ (l : List Mark). IsRefusal (length l) told) (sym seen) refusal) (front_of [] makes) (free_then (leaves.is_free free))
+      (last_then (begun ∷ []) ended makes) (own ∙ leaves.still free ∙ own_was) no_conflict
+  pass_begins_not key program told own_was free (deeds.is_refused refusal makes leaves) = changes.is_refused (subst (λ (l : List Mark). IsRefusal (length l) told) (sym seen) refusal) (front_of [] makes) (own ∙ leaves.still free ∙ own_was)
 
   pub pass_goes_on : (call most : ℕ) → own_part before old.number ≡ old.own → GoesOnIn old.number call most before after → HasGoneOn call most old new
   pass_goes_on call most own_was g = record {
@@ -103,8 +100,8 @@ module _ {S V A : Type 0} (before after : View S V) (old new : Sitting A Mark) (
     wanted = ap (wanted_by old.number) seen ∙ g.wanted ∙ wanted_seen old.number old.seen before.marks has;
   }
 
-  pub pass_ends : (call most : ℕ) (told : Answer) → IsFree (beside_in (own_part before old.number)) → EndsIn old.number call most before after told → HasEnded call (rounds_after (own_part before old.number)) most old new told
-  pass_ends call most told alone e =
+  pub pass_ends : (call most : ℕ) (told : Answer) → own_part before old.number ≡ old.own → IsFree (beside_in (own_part before old.number)) → EndsIn old.number call most before after told → HasEnded call (rounds_after (own_part before old.number)) most old new told
+  pass_ends call most told own_was alone e =
       let ended : Mark = Ended old.number call (rounds_after (own_part before old.number)) told in
       record {
         marks = mine old.number e.marks;
@@ -112,7 +109,7 @@ module _ {S V A : Type 0} (before after : View S V) (old new : Sitting A Mark) (
         last = last_then e.marks ended e.makes;
         of_call = e.of_call;
         few = e.few;
-        is_free = free_then (e.is_free alone);
+        still = own ∙ e.still alone ∙ ap beside_in own_was;
       }
 
   pub pass_strays : StraysIn before after → GoesOn old.number old.seen new.seen []
@@ -128,10 +125,12 @@ pub record WasHeld {S V A : Type 0} (n : ℕ) (before after : View S V) (old new
   pub has : HasSeen owner_of old.number old.seen before.marks
   pub seen : new.seen ≡ after.marks
   pub own : new.own ≡ own_part after old.number
+  pub part : own_part before old.number ≡ old.own
 
-pub was_held : {S V : Type 0} (n : ℕ) (before after : View S V) (old held new : Sitting (View S V) Mark) → HasSeen owner_of old.number old.seen before.marks → held ≡ record old { holds = Some before; seen = before.marks } → n ≡ held.number
+pub was_held : {S V : Type 0} (n : ℕ) (before after : View S V) (old held new : Sitting (View S V) Mark) → HasSeen owner_of old.number old.seen before.marks → own_part before old.number ≡ old.own → held ≡ record old { holds = Some before; seen = before.marks } → n ≡ held.number
     → new ≡ record held { holds = None; seen = after.marks; own = own_part after held.number } → WasHeld n before after old new
-was_held {S} {V} n before after old held new has holds number gave = record {
+was_held {S} {V} n before after old held new has part holds number gave = record {
+  part = part;
   number = number ∙ ap (λ (s : Sitting (View S V) Mark). s.number) holds;
   has = has;
   seen = ap (λ (s : Sitting (View S V) Mark). s.seen) gave;
@@ -162,7 +161,7 @@ module _ {S V A : Type 0} (n : ℕ) (before after : View S V) (key : List ℕ) (
 
   pub refused_told : (old new : Sitting A Mark) (result : Result Opened Answer) → WasHeld n before after old new → IsFree (own_part before old.number) → IfErr result (BeginsNot n key program before after) → IfErr result (HasNotBegun key program old new)
   refused_told old new (Ok begun) was free e = tt
-  refused_told old new (Err told) was free e = pass_begins_not before after old new was.has was.seen was.own key program told free (subst (λ (k : ℕ). BeginsNot k key program before after told) was.number e)
+  refused_told old new (Err told) was free e = pass_begins_not before after old new was.has was.seen was.own key program told was.part free (subst (λ (k : ℕ). BeginsNot k key program before after told) was.number e)
 
 module _ {S V Stage : Type 0} (n call most : ℕ) (before after : View S V) where
   pub gone_makes : (result : Result Stage Answer) → OnOk result (GoesOnIn n call most before after) → IfErr result (EndsIn n call most before after) → IsHeldBy n before after
@@ -178,7 +177,7 @@ module _ {S V A Stage : Type 0} (n call most : ℕ) (before after : View S V) wh
   ended_told old new (Ok stage) was own_was alone e = tt
   ended_told old new (Err told) was own_was alone e =
       subst (λ (own : List ℕ). HasEnded call (rounds_after own) most old new told) own_was
-      (pass_ends before after old new was.has was.seen was.own call most told (subst (λ (l : List ℕ). IsFree (beside_in l)) (sym own_was) alone) (subst (λ (k : ℕ). EndsIn k call most before after told) was.number e))
+      (pass_ends before after old new was.has was.seen was.own call most told own_was (subst (λ (l : List ℕ). IsFree (beside_in l)) (sym own_was) alone) (subst (λ (k : ℕ). EndsIn k call most before after told) was.number e))
 
   pub rounds_told : (old new : Sitting A Mark) (result : Result Stage Answer) → WasHeld n before after old new → own_part before old.number ≡ old.own → OnOk result (GoesOnIn n call most before after) → OnOk result (rounds_in new.own ≡ rounds_after old.own)
   rounds_told old new (Ok stage) was own_was g = ap rounds_in was.own ∙ (subst (λ (k : ℕ). GoesOnIn k call most before after) was.number g).rounds ∙ ap rounds_after own_was
@@ -234,7 +233,7 @@ module _ {A : Type 0} (call lost most : ℕ) (a b c d : Sitting A Mark) (number 
     last = subst (λ (k : ℕ). IsLast d.seen (Ended k call rounds told)) at_first then_.last;
     of_call = All-append (λ mark. call_of mark ≡ Some call) first.marks then_.marks first.of_call then_.of_call;
     few = few_then first.marks then_.marks lost most first.few then_.few;
-    is_free = then_.is_free;
+    still = then_.still ∙ ap (λ (s : Sitting A Mark). beside_in s.own) asked ∙ first.beside;
   }
 
 -- a call that has just begun has gone on by nothing
@@ -260,18 +259,22 @@ pub record HasRun {A : Type 0} (call harms harms_now : ℕ) (old now : Sitting A
 pub run_begins : {A : Type 0} (call harms : ℕ) (pass : Sitting A Mark) → HasOpen call pass.own → HasRun call harms harms pass pass
 run_begins call harms pass has = record { pass = refl; lost = 0; counted = counted_none harms; gone = goes_on_none call pass has }
 
-pub still_pass : {A : Type 0} (board : TurnId) (old now : Sitting A Mark) → IsPassOf board old → now ≡ record old { seen = now.seen; own = now.own } → IsPassOf board now
+pub still_pass : {A : Type 0} (board : Turning) (old now : Sitting A Mark) → IsPassOf board old → now ≡ record old { seen = now.seen; own = now.own } → IsPassOf board now
 still_pass {A} board old now is same = record {
   turn = ap (λ (s : Sitting A Mark). s.turn) same ∙ is.turn;
+  seats = ap (λ (s : Sitting A Mark). s.seats) same ∙ is.seats;
   idle = ap (λ (s : Sitting A Mark). s.holds) same ∙ is.idle;
+  seated = let number : now.number ≡ old.number = ap (λ (s : Sitting A Mark). s.number) same in omega (arith, number, is.seated);
   known = let number : now.number ≡ old.number = ap (λ (s : Sitting A Mark). s.number) same in omega (arith, number, is.known);
 }
 
 module _ {A : Type 0} (call harms harms_now : ℕ) (a b c : Sitting A Mark) (run : HasRun call harms harms_now a b) (asked : c ≡ record b { seen = c.seen }) where
-  pub asked_pass : (board : TurnId) → IsPassOf board a → IsPassOf board c
+  pub asked_pass : (board : Turning) → IsPassOf board a → IsPassOf board c
   asked_pass board is = let now = still_pass board a b is run.pass in record {
     turn = ap (λ (s : Sitting A Mark). s.turn) asked ∙ now.turn;
+    seats = ap (λ (s : Sitting A Mark). s.seats) asked ∙ now.seats;
     idle = ap (λ (s : Sitting A Mark). s.holds) asked ∙ now.idle;
+    seated = let number : c.number ≡ b.number = ap (λ (s : Sitting A Mark). s.number) asked in omega (arith, number, now.seated);
     known = let number : c.number ≡ b.number = ap (λ (s : Sitting A Mark). s.number) asked in omega (arith, number, now.known);
   }
 
@@ -360,8 +363,7 @@ module _ {A : Type 0} (key : List ℕ) (program : List Clause) (harms harms_then
   change_refused tries a c told counted (changes.ends_at_once call rounds front last free no_conflict) = changes.is_answered call rounds [] front (All-nil (λ mark. call_of mark ≡ Some call)) counted last (λ conflict. absurd (cc (no_conflict, conflict)))
   change_refused tries a c told counted (changes.is_refused refusal front free) = changes.is_not_begun refusal counted front
 
--- one that the store does not know begins nothing
-pub never_begun : {S V : Type 0} (n : ℕ) (key : List ℕ) (program : List Clause) (view : View S V) → 0 < n → IsFree (own_part view n) → BeginsNot n key program view view (answer.NoMemory false)
-never_begun n key program view some free = deeds.is_refused (inr refl)
-    (record { made = sym (append-nil view.marks); may_add = tt; owned = All-nil (λ i. (m : ℕ) → owner_of i ≡ Some m → m ≡ n); others = λ m other. refl })
-    (record { rescans = calls.is_none (λ of. absurd (let first_ : n ≡ 0 = of.by_operator in omega (arith, first_, some))) refl; is_idle = free_is_idle (own_part view n) free; is_free = λ still. still })
+-- a call that was not begun, or ended at once, leaves the pass's own part
+pub refused_own : {A : Type 0} (key : List ℕ) (program : List Clause) (a c : Sitting A Mark) (told : Answer) → HasNotBegun key program a c told → c.own ≡ a.own
+refused_own key program a c told (changes.ends_at_once call rounds front last still no_conflict) = still
+refused_own key program a c told (changes.is_refused refusal front still) = still

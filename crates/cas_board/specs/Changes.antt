@@ -8,7 +8,7 @@ use Rattle.cas_turn.specs.Sitting.{Sitting}
 use Rattle.cas_hold.specs.Conflicts.{is_conflict}
 use Rattle.cas_hold.specs.Deeds.{IsRefusal}
 use Rattle.cas_hold.specs.Mine.{AreOfCall, losses, wants, wanted_by, GoesOn, IsLast}
-use Rattle.cas_hold.specs.Open.{IsFree, HasOpen, beside_in, rounds_in, is_met_in}
+use Rattle.cas_hold.specs.Open.{HasOpen, beside_in, rounds_in, is_met_in}
 
 -- ---- harms
 -- a fate's count of harms did not fall, and rose by at least so much unless it stands at the greatest u64
@@ -32,8 +32,8 @@ module _ {V : Type 0} where
 
   -- a call for this begins and ends at once, which is no conflict; or it is not begun, and no mark is made
   pub data HasNotBegun (key : List ℕ) (program : List Clause) (old new : Sitting V Mark) (told : Answer) : Type 0 where
-    ends_at_once : (call rounds : ℕ) → GoesOn old.number old.seen new.seen (Begun old.number call key program ∷ Ended old.number call rounds told ∷ []) → IsLast new.seen (Ended old.number call rounds told) → IsFree new.own → is_conflict told ≡ false → HasNotBegun key program old new told
-    is_refused : IsRefusal (length new.seen) told → GoesOn old.number old.seen new.seen [] → IsFree new.own → HasNotBegun key program old new told
+    ends_at_once : (call rounds : ℕ) → GoesOn old.number old.seen new.seen (Begun old.number call key program ∷ Ended old.number call rounds told ∷ []) → IsLast new.seen (Ended old.number call rounds told) → new.own ≡ old.own → is_conflict told ≡ false → HasNotBegun key program old new told
+    is_refused : IsRefusal (length new.seen) told → GoesOn old.number old.seen new.seen [] → new.own ≡ old.own → HasNotBegun key program old new told
 
   -- the open call of that number goes on
   pub record HasGoneOn (call most : ℕ) (old new : Sitting V Mark) : Type 0 where
@@ -52,7 +52,7 @@ module _ {V : Type 0} where
     pub last : IsLast new.seen (Ended old.number call rounds told)
     pub of_call : AreOfCall call marks
     pub few : losses marks ≤ most
-    pub is_free : IsFree new.own
+    pub still : new.own ≡ beside_in old.own
 
   -- ---- a change
   -- A change is a call of its caller, with the marks of its beginning and its end, and between them marks of that call alone; a conflict

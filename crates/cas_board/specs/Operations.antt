@@ -1,5 +1,5 @@
 -- What a call of the operator does on a board, as caller 0's pass tells.
-use Rattle.std.specs.Prelude.{◌≡◌, ◌≤◌, ⊤, ℕ, ◌+◌, List, [], length, ◌++◌, All}
+use Rattle.std.specs.Prelude.{◌≡◌, ◌≤◌, ◌<◌, ⊤, ℕ, ◌+◌, List, [], length, ◌++◌, All}
 use Rattle.cas_record.specs.declared.answer.Answer.{Answer}
 use Rattle.cas_record.specs.declared.mark.Mark.{Mark}
 use Rattle.cas_record.specs.declared.operator.Asked.{Asked}
@@ -8,9 +8,10 @@ use Rattle.cas_record.specs.declared.operator.OpAnswer.TheVariants.{Probed, Stop
 use Rattle.cas_causes.specs.Answering.{silent_in}
 use Rattle.cas_cluster.specs.StepCouncil.{told_marks}
 use Rattle.cas_turn.specs.Sitting.{Sitting}
+use Rattle.cas_hold.specs.Counting.{most_counted, count_told, EntersEras, LeavesNone}
 use Rattle.cas_hold.specs.Deeds.{IsRefusal}
-use Rattle.cas_hold.specs.Mine.{mine, losses, GoesOn}
-use Rattle.cas_hold.specs.Open.{IsFree}
+use Rattle.cas_hold.specs.Mine.{mine, losses, done_calls, GoesOn}
+use Rattle.cas_hold.specs.Open.{IsFree, rescanned_in}
 use Rattle.cas_hold.specs.Orders.{HasHarms}
 use Rattle.cas_board.specs.Changes.{IsCounted}
 
@@ -21,12 +22,22 @@ pub record AreLast (front marks : List Mark) : Type 0 where
 
 module _ {V : Type 0} where
   -- ---- holds
+  -- Of the keys that a change of membership proposed anew that many are counted by then: as many as the pass's own part told, and one for each
+  -- call of caller 0 that was answered done since; this is not said of a count that stands at its end.
+  abbrev pub HasCountedTo : ℕ → Sitting V Mark → Sitting V Mark → Type 0
+  HasCountedTo count old new = count < most_counted → count + done_calls (mine old.number old.seen) ≡ rescanned_in old.own + done_calls (mine old.number new.seen)
+
+  -- the count is told at the end of the change, and none is kept then; else it is kept
+  abbrev pub HasToldCount : OpAnswer → Sitting V Mark → Sitting V Mark → Type 0
+  HasToldCount answer old new = HasCountedTo (count_told answer (rescanned_in new.own)) old new × LeavesNone answer (rescanned_in new.own)
+
   -- the operator's call goes on with such marks of caller 0, of which at most so many tell of losses
   pub record HasOperated (such : Mark → Type 0) (most : ℕ) (old new : Sitting V Mark) : Type 0 where
     pub marks : List Mark
     pub front : GoesOn old.number old.seen new.seen marks
     pub all_such : All such marks
     pub few : losses marks ≤ most
+    pub counts : EntersEras such → HasCountedTo (rescanned_in new.own) old new
 
   -- of those that a probe asks no more are harmed as it goes on than marks of caller 0 were made
   abbrev pub HasMarkedHarms : Sitting V Mark → Sitting V Mark → Type 0
@@ -45,11 +56,13 @@ module _ {V : Type 0} where
     pub all_such : All such marks
     pub few : losses marks ≤ most
     pub is_free : IsFree new.own
+    pub counts : EntersEras such → HasToldCount answer old new
 
   -- ---- a call of the operator
   -- It was begun, and caller 0's marks in it are such marks and then the one that tells the answer; what a probe found is not marked. Or
   -- it was not begun, and no mark of caller 0 is made.
-  -- So many of them at most tell of frames that were lost or made late as the fate's count of harms rose by.
+  -- So many of them at most tell of frames that were lost or made late as the fate's count of harms rose by. A call for a change of membership
+  -- counts what it proposes anew, and tells so at the end of the change.
   pub data Operates (asked : Asked) (such : Mark → Type 0) (harms harms_then : ℕ) (old new : Sitting V Mark) (answer : OpAnswer) : Type 0 where
-    is_told : (marks : List Mark) → GoesOn old.number old.seen new.seen (marks ++ told_marks asked answer) → AreLast new.seen (told_marks asked answer) → All such marks → IsCounted (losses marks) harms harms_then → Operates asked such harms harms_then old new answer
-    is_not_begun : (why : Answer) → IsRefusal (length new.seen) why → answer ≡ Stopped why → IsCounted 0 harms harms_then → GoesOn old.number old.seen new.seen [] → Operates asked such harms harms_then old new answer
+    is_told : (marks : List Mark) → GoesOn old.number old.seen new.seen (marks ++ told_marks asked answer) → AreLast new.seen (told_marks asked answer) → All such marks → IsCounted (losses marks) harms harms_then → (EntersEras such → HasToldCount answer old new) → Operates asked such harms harms_then old new answer
+    is_not_begun : (why : Answer) → IsRefusal (length new.seen) why → answer ≡ Stopped why → IsCounted 0 harms harms_then → GoesOn old.number old.seen new.seen [] → (EntersEras such → rescanned_in new.own ≡ rescanned_in old.own) → Operates asked such harms harms_then old new answer

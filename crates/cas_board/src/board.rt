@@ -1,6 +1,6 @@
 //! The board: how it is opened and closed, and where two callers meet.
 
-ghost use Rattle.std.specs.Prelude.{◌≡◌, ◌≢◌, ◌⊎◌, ◌≤◌, ◌<◌, ◌+◌, ℕ, reverse, vec_len, vec_capacity, All, None, IsSome, IfOk, IfErr};
+ghost use Rattle.std.specs.Prelude.{◌≡◌, ◌≢◌, ◌⊎◌, ◌≤◌, ◌<◌, ◌+◌, ℕ, suc, reverse, vec_len, vec_capacity, All, None, IsSome, IfOk, IfErr};
 ghost use Rattle.std.specs.Option.{ForSome};
 ghost use Rattle.cas_record.specs.Legal.{IsLegal};
 ghost use Rattle.cas_causes.specs.Tellings.{AreTellingsSo};
@@ -73,7 +73,7 @@ impl<D: Disk> Board<D> {
         ensures callers { IfOk result (λ opened. opened.0.seats ≡ config.proposers + 1) }
         ensures passes { IfOk result (λ opened. opened.1.items ≡ fresh_seats opened.0.id (config.proposers + 1)) }
         ensures count { IfOk result (λ opened. (vec_len opened.1 ≡ config.proposers + 1) × (vec_capacity opened.1 ≡ config.proposers + 1)) }
-        ensures idle { IfOk result (λ opened. All (λ p. IsPassOf opened.0.id p × IsFree p.own) opened.1.items) }
+        ensures idle { IfOk result (λ opened. All (λ p. IsPassOf opened.0 p × IsFree p.own) opened.1.items) }
         ensures fault { IfErr result (λ back. (back.0 ≡ OpenFault.NoMemory) ⊎ StaysClosed D.fault_count config.acceptors config.proposers rack.acceptors.items rack.vaults.items back.0 back.1.acceptors.items back.1.vaults.items) }
         ensures back { IfErr result (λ back. (vec_len back.1.acceptors ≡ 64) × (vec_len back.1.vaults ≡ 17)) }
     {
@@ -82,7 +82,6 @@ impl<D: Disk> Board<D> {
         let shared = Shared {
             world: SteadyWorld::over(world),
             room,
-            greatest: config.proposers,
         };
         let callers = u32::from(config.proposers) + 1;
         match Turn::new(alloc, shared, callers) {
@@ -95,11 +94,12 @@ impl<D: Disk> Board<D> {
     /// it tells of changes of membership and of collections is so in it.
     pub(crate) fn give_back<R>(&self, rt: &R, pass: &mut Pass<D>, shared: Shared<D>)
         requires turn { pass.old.turn ≡ self.now.id }
+        requires seats { pass.old.seats ≡ self.now.seats }
         requires holds { IsSome pass.old.holds }
         requires makes { ForSome pass.old.holds (λ before. IsHeldBy pass.old.number before shared) }
         ensures pass { pass.new ≡ record pass.old { holds = None; seen = shared.marks; own = own_part shared pass.old.number } }
         ensures legal { D.tells → IsLegal (reverse pass.new.seen) }
-        ensures tellings { D.tells → AreTellingsSo (reverse pass.new.seen) }
+        ensures tellings { D.tells → AreTellingsSo self.now.seats (reverse pass.new.seen) }
     {
         // The front that its caller has seen then is the whole record, which is legal and tells what is so, where disks tell.
         let _record = shared.world.record();
@@ -108,8 +108,8 @@ impl<D: Disk> Board<D> {
 
     /// Both passes have then seen one front, which begins with what each had seen. It takes no memory, and waits for nobody.
     pub fn meet(&self, a: &mut Pass<D>, b: &mut Pass<D>)
-        requires a_pass { IsPassOf self.now.id a.old }
-        requires b_pass { IsPassOf self.now.id b.old }
+        requires a_pass { IsPassOf self.now a.old }
+        requires b_pass { IsPassOf self.now b.old }
         ensures a_pass { a.new ≡ record a.old { seen = a.new.seen } }
         ensures b_pass { b.new ≡ record b.old { seen = b.new.seen } }
         ensures one_front { a.new.seen ≡ b.new.seen }
@@ -123,9 +123,9 @@ impl<D: Disk> Board<D> {
     /// Takes the board apart, with all its passes. It takes no memory, and waits for nobody. What is acknowledged in the record stands on
     /// the disks of the acceptors that confirmed it, whatever a crash of them leaves, until a floor is made at or above it.
     ///
-    /// Where disks tell what they keep, what the record tells of changes of membership and of collections is so in it: each caller who had
-    /// begun a call by then, and the operator, had entered the era that is told of a join or a leave; and the key that is told to be collected
-    /// had its tombstone as a floor, with the empty state.
+    /// Where disks tell what they keep, what the record tells of changes of membership and of collections is so in it: each proposer
+    /// of the board, the operator's among them, had entered the era that is told of a join or a leave; and the key that is told to be
+    /// collected had its tombstone as a floor, with the empty state.
     ///
     /// Nobody stops an acceptor or a proposer of a board. So whom a mark blames has a disk whose count of faults is above 0: some acceptor,
     /// where a frame found its acceptor down or brought it down; and a proposer's vault, where the proposer is told to be down or to have
@@ -135,7 +135,7 @@ impl<D: Disk> Board<D> {
         requires all { vec_len passes ≡ self.seats }
         requires idle { All (λ p. p.holds ≡ None) passes.items }
         ensures legal { D.tells → IsLegal (reverse result.book.marks) }
-        ensures tellings { D.tells → AreTellingsSo (reverse result.book.marks) }
+        ensures tellings { D.tells → AreTellingsSo self.seats (reverse result.book.marks) }
         ensures fronts { All (λ p. Begins p.seen result.book.marks) passes.items }
         ensures mine { All (λ p. mine p.number result.book.marks ≡ mine p.number p.seen) passes.items }
         ensures kept { D.tells → AreKept D.may_leave (reverse result.book.marks) result.rack.acceptors.items }
@@ -153,17 +153,13 @@ impl<D: Disk> Shared<D> {
     fn into_closed(self) -> Closed<D>
         ensures marks { result.book.marks ≡ self.marks }
         ensures legal { D.tells → IsLegal (reverse result.book.marks) }
-        ensures tellings { D.tells → AreTellingsSo (reverse result.book.marks) }
+        ensures tellings { D.tells → AreTellingsSo (suc self.greatest) (reverse result.book.marks) }
         ensures kept { D.tells → AreKept D.may_leave (reverse result.book.marks) result.rack.acceptors.items }
         ensures deserved { AreDeserved D.fault_count result.rack.acceptors.items result.rack.vaults.items result.book.marks }
         ensures all_acceptors { vec_len result.rack.acceptors ≡ 64 }
         ensures all_vaults { vec_len result.rack.vaults ≡ 17 }
     {
-        let Shared {
-            world,
-            room,
-            greatest: _,
-        } = self;
+        let Shared { world, room } = self;
         let store = Store {
             world: world.into_world(),
             room,

@@ -4,9 +4,8 @@ ghost use Rattle.std.specs.Prelude.{◌≡◌, ◌≤◌, ℕ, true, false, if�
 ghost use Rattle.cas_record.specs.Legal.{IsLegal};
 ghost use Rattle.cas_cluster.specs.StepCalls.{one_more};
 ghost use Rattle.cas_board.specs.Changes.{Answers, HasBegun, HasEnded, HasGoneOn, HasNotBegun, IsCounted};
-ghost use Rattle.cas_hold.specs.Deeds.{BeginsIn, BeginsNot, harm_by};
+ghost use Rattle.cas_hold.specs.Deeds.{harm_by};
 ghost use Rattle.cas_hold.specs.Mine.{GoesOn, wanted_by, wants};
-ghost use Rattle.cas_hold.specs.OwnParts.{own_part};
 ghost use Rattle.cas_hold.specs.Conflicts.{is_conflict};
 ghost use Rattle.cas_hold.specs.Open.{HasOpen, IsFree, is_met_in, rounds_after, rounds_in, beside_in};
 ghost use Rattle.cas_hold.specs.Stages.{tells_met};
@@ -14,7 +13,6 @@ ghost use Rattle.cas_board.specs.Passes.{IsPassOf};
 
 use crate::board::{Board, Pass, caller_of};
 use crate::fates::Holds;
-use crate::shared::Shared;
 use cas_change::{Key, Program};
 use cas_disk::Disk;
 use cas_fate::{Fate, Verdict};
@@ -38,10 +36,11 @@ impl<D: Disk> Board<D> {
         program: &Program,
         tries: u32,
     ) -> Answer
-        requires pass { IsPassOf self.now.id pass.old }
+        requires pass { IsPassOf self.now pass.old }
         requires free { IsFree pass.old.own }
         requires some { 1 ≤ tries }
         ensures pass { pass.new ≡ record pass.old { seen = pass.new.seen; own = pass.new.own } }
+        ensures own { pass.new.own ≡ pass.old.own }
         ensures free { IsFree pass.new.own }
         ensures answers { Answers key.now program.now tries (F.harm_count fate.old) (F.harm_count fate.new) pass.old pass.new result }
         ensures legal { D.tells → IsLegal (reverse pass.new.seen) }
@@ -66,7 +65,7 @@ impl<D: Disk> Board<D> {
         program: &Program,
         tries: u32,
     ) -> Answer
-        requires pass { IsPassOf self.now.id pass.old }
+        requires pass { IsPassOf self.now pass.old }
         requires called { HasOpen begun.call pass.old.own }
         requires alone { IsFree (beside_in pass.old.own) }
         requires wanted { wanted_by pass.old.number pass.old.seen ≡ Some (wants begun.call key.now program.now) }
@@ -104,7 +103,7 @@ impl<D: Disk> Board<D> {
         stage: &Stage,
         again: bool,
     ) -> Verdict
-        requires pass { IsPassOf self.now.id pass.old }
+        requires pass { IsPassOf self.now pass.old }
         ensures pass { pass.new ≡ record pass.old { seen = pass.new.seen } }
         ensures front { GoesOn pass.old.number pass.old.seen pass.new.seen [] }
         ensures wanted { wanted_by pass.old.number pass.new.seen ≡ wanted_by pass.old.number pass.old.seen }
@@ -124,7 +123,7 @@ impl<D: Disk> Board<D> {
         key: &Key,
         program: &Program,
     ) -> Result<Begun, Answer>
-        requires pass { IsPassOf self.now.id pass.old }
+        requires pass { IsPassOf self.now pass.old }
         requires free { IsFree pass.old.own }
         ensures pass { pass.new ≡ record pass.old { seen = pass.new.seen; own = pass.new.own } }
         ensures begun { IfOk result (λ begun. HasBegun begun.call key.now program.now pass.old pass.new) }
@@ -133,7 +132,7 @@ impl<D: Disk> Board<D> {
         ensures legal { D.tells → IsLegal (reverse pass.new.seen) }
     {
         let mut shared = self.turn.hold(rt, pass);
-        let begun = begin_known(&mut shared, caller_of(pass), key, program);
+        let begun = begin(&mut shared.world, caller_of(pass), key, program);
         self.give_back(rt, pass, shared);
         begun
     }
@@ -149,7 +148,7 @@ impl<D: Disk> Board<D> {
         verdict: Verdict,
         may_repeat: bool,
     ) -> Result<Stage, Answer>
-        requires pass { IsPassOf self.now.id pass.old }
+        requires pass { IsPassOf self.now pass.old }
         requires called { HasOpen call pass.old.own }
         requires alone { IsFree (beside_in pass.old.own) }
         requires wanted { wanted_by pass.old.number pass.old.seen ≡ Some (wants call key.now program.now) }
@@ -169,24 +168,6 @@ impl<D: Disk> Board<D> {
         self.give_back(rt, pass, shared);
         stage
     }
-}
-
-/// Begins a change of the caller, if it is one of the store's.
-fn begin_known<D: Disk>(
-    shared: &mut Shared<D>,
-    caller: u8,
-    key: &Key,
-    program: &Program,
-) -> Result<Begun, Answer>
-    requires free { IsFree (own_part shared.old caller) }
-    ensures begun { IfOk result (λ begun. BeginsIn caller begun.call key.now program.now shared.old shared.new) }
-    ensures fresh { IfOk result (λ begun. tells_met begun.stage ≡ false) }
-    ensures not_begun { IfErr result (BeginsNot caller key.now program.now shared.old shared.new) }
-{
-    if caller > shared.greatest {
-        return Err(Answer::NoMemory { proposed: false });
-    }
-    begin(&mut shared.world, caller, key, program)
 }
 
 /// How many rounds the call has had once it goes on from that stage.

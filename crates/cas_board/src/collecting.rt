@@ -38,7 +38,7 @@ impl<D: Disk> Board<D> {
         key: &Key,
         tries: u32,
     ) -> OpAnswer
-        requires pass { IsPassOf self.now.id pass.old }
+        requires pass { IsPassOf self.now pass.old }
         requires operator { pass.old.number ≡ 0 }
         requires free { IsFree pass.old.own }
         requires some { 1 ≤ tries }
@@ -47,7 +47,7 @@ impl<D: Disk> Board<D> {
         ensures operates { Operates (Asked.Collect key.now) (IsCollectingMark key.now tries) (F.harm_count fate.old) (F.harm_count fate.new) pass.old pass.new result }
         ensures answer { IsCollectAnswer key.now result }
         ensures legal { D.tells → IsLegal (reverse pass.new.seen) }
-        ensures tellings { D.tells → AreTellingsSo (reverse pass.new.seen) }
+        ensures tellings { D.tells → AreTellingsSo self.now.seats (reverse pass.new.seen) }
     {
         match self.order_collection_once(rt, pass, key, tries) {
             Ok(ordered) => self.run_collection(rt, pass, fate, ordered),
@@ -63,7 +63,7 @@ impl<D: Disk> Board<D> {
         fate: &mut F,
         first: KeyCollection,
     ) -> OpAnswer
-        requires pass { IsPassOf self.now.id pass.old }
+        requires pass { IsPassOf self.now pass.old }
         requires operator { pass.old.number ≡ 0 }
         requires keeps { first.program ≡ keep_always }
         requires at { HasCourse first.key (most_rounds first.tries) first.course pass.old.own pass.old.seen }
@@ -71,7 +71,7 @@ impl<D: Disk> Board<D> {
         ensures told { (lost : ℕ) × IsCounted lost (F.harm_count fate.old) (F.harm_count fate.new) × WasToldLast (Asked.Collect first.key) (IsCollectingMark first.key (most_rounds first.tries)) lost pass.old pass.new result }
         ensures answer { IsCollectAnswer first.key result }
         ensures legal { D.tells → IsLegal (reverse pass.new.seen) }
-        ensures tellings { D.tells → AreTellingsSo (reverse pass.new.seen) }
+        ensures tellings { D.tells → AreTellingsSo self.now.seats (reverse pass.new.seen) }
     {
         let mut holds = Holds::new();
         let mut collecting = first;
@@ -95,7 +95,7 @@ impl<D: Disk> Board<D> {
         key: &Key,
         tries: u32,
     ) -> Result<KeyCollection, Answer>
-        requires pass { IsPassOf self.now.id pass.old }
+        requires pass { IsPassOf self.now pass.old }
         requires operator { pass.old.number ≡ 0 }
         requires free { IsFree pass.old.own }
         ensures pass { pass.new ≡ record pass.old { seen = pass.new.seen; own = pass.new.own } }
@@ -106,7 +106,7 @@ impl<D: Disk> Board<D> {
         ensures ordered { IfOk result (λ collecting. HasCourse key.now (most_rounds tries) collecting.course pass.new.own pass.new.seen) }
         ensures refused { IfErr result (λ why. IsRefusal (length pass.new.seen) why × IsFree pass.new.own) }
         ensures legal { D.tells → IsLegal (reverse pass.new.seen) }
-        ensures tellings { D.tells → AreTellingsSo (reverse pass.new.seen) }
+        ensures tellings { D.tells → AreTellingsSo self.now.seats (reverse pass.new.seen) }
     {
         let mut shared = self.turn.hold(rt, pass);
         let ordered = order_collection(self.alloc, &mut shared.world, key, tries);
@@ -122,7 +122,7 @@ impl<D: Disk> Board<D> {
         collecting: KeyCollection,
         verdict: Verdict,
     ) -> Result<KeyCollection, OpAnswer>
-        requires pass { IsPassOf self.now.id pass.old }
+        requires pass { IsPassOf self.now pass.old }
         requires operator { pass.old.number ≡ 0 }
         requires keeps { collecting.program ≡ keep_always }
         requires at { HasCourse collecting.key (most_rounds collecting.tries) collecting.course pass.old.own pass.old.seen }
@@ -135,7 +135,7 @@ impl<D: Disk> Board<D> {
         ensures told { IfErr result (WasToldLast (Asked.Collect collecting.key) (IsCollectingMark collecting.key (most_rounds collecting.tries)) (harm_by verdict) pass.old pass.new) }
         ensures answer { IfErr result (IsCollectAnswer collecting.key) }
         ensures legal { D.tells → IsLegal (reverse pass.new.seen) }
-        ensures tellings { D.tells → AreTellingsSo (reverse pass.new.seen) }
+        ensures tellings { D.tells → AreTellingsSo self.now.seats (reverse pass.new.seen) }
     {
         let mut shared = self.turn.hold(rt, pass);
         let next = go_on_collecting(&mut shared.world, collecting, verdict);

@@ -11,7 +11,7 @@ ghost use Rattle.cas_board.specs.Passes.{IsPassOf};
 ghost use Rattle.cas_hold.specs.Deeds.{IsRefusal, harm_by};
 ghost use Rattle.cas_hold.specs.Membership.{HasListing, HasPlan, HasRescan, HasRounds, IsFirstRound, IsListedTo, IsMembersAnswer, IsPlanMark, IsRescanMark, IsRescannedTo, StandsAt};
 ghost use Rattle.cas_hold.specs.Mine.{GoesOn, wanted_by, wants};
-ghost use Rattle.cas_hold.specs.Open.{IsFree, rounds_after};
+ghost use Rattle.cas_hold.specs.Open.{IsFree, rescanned_in, rounds_after};
 ghost use Rattle.cas_hold.specs.Orders.{HasOrder};
 
 use crate::board::{Board, Pass};
@@ -45,7 +45,7 @@ impl<D: Disk> Board<D> {
         id: AcceptorId,
         tries: u32,
     ) -> OpAnswer
-        requires pass { IsPassOf self.now.id pass.old }
+        requires pass { IsPassOf self.now pass.old }
         requires operator { pass.old.number ≡ 0 }
         requires free { IsFree pass.old.own }
         requires some { 1 ≤ tries }
@@ -54,7 +54,7 @@ impl<D: Disk> Board<D> {
         ensures operates { Operates (Asked.Join id) (IsRescanMark tries) (F.harm_count fate.old) (F.harm_count fate.new) pass.old pass.new result }
         ensures answer { IsMembersAnswer (Asked.Join id) result }
         ensures legal { D.tells → IsLegal (reverse pass.new.seen) }
-        ensures tellings { D.tells → AreTellingsSo (reverse pass.new.seen) }
+        ensures tellings { D.tells → AreTellingsSo self.now.seats (reverse pass.new.seen) }
     {
         let aim = Aim {
             kind: PlanKind::Join,
@@ -73,7 +73,7 @@ impl<D: Disk> Board<D> {
         id: AcceptorId,
         tries: u32,
     ) -> OpAnswer
-        requires pass { IsPassOf self.now.id pass.old }
+        requires pass { IsPassOf self.now pass.old }
         requires operator { pass.old.number ≡ 0 }
         requires free { IsFree pass.old.own }
         requires some { 1 ≤ tries }
@@ -82,7 +82,7 @@ impl<D: Disk> Board<D> {
         ensures operates { Operates (Asked.Leave id) (IsRescanMark tries) (F.harm_count fate.old) (F.harm_count fate.new) pass.old pass.new result }
         ensures answer { IsMembersAnswer (Asked.Leave id) result }
         ensures legal { D.tells → IsLegal (reverse pass.new.seen) }
-        ensures tellings { D.tells → AreTellingsSo (reverse pass.new.seen) }
+        ensures tellings { D.tells → AreTellingsSo self.now.seats (reverse pass.new.seen) }
     {
         let aim = Aim {
             kind: PlanKind::Leave,
@@ -100,7 +100,7 @@ impl<D: Disk> Board<D> {
         aim: &Aim,
         tries: u32,
     ) -> OpAnswer
-        requires pass { IsPassOf self.now.id pass.old }
+        requires pass { IsPassOf self.now pass.old }
         requires operator { pass.old.number ≡ 0 }
         requires free { IsFree pass.old.own }
         requires some { 1 ≤ tries }
@@ -109,7 +109,7 @@ impl<D: Disk> Board<D> {
         ensures operates { Operates (asked_to aim.now.kind aim.now.id) (IsRescanMark tries) (F.harm_count fate.old) (F.harm_count fate.new) pass.old pass.new result }
         ensures answer { IsMembersAnswer (asked_to aim.now.kind aim.now.id) result }
         ensures legal { D.tells → IsLegal (reverse pass.new.seen) }
-        ensures tellings { D.tells → AreTellingsSo (reverse pass.new.seen) }
+        ensures tellings { D.tells → AreTellingsSo self.now.seats (reverse pass.new.seen) }
     {
         match self.order_members_once(rt, pass, aim) {
             Ok(program) => self.carry_out(rt, pass, fate, aim, &program, tries),
@@ -127,7 +127,7 @@ impl<D: Disk> Board<D> {
         program: &Program,
         tries: u32,
     ) -> OpAnswer
-        requires pass { IsPassOf self.now.id pass.old }
+        requires pass { IsPassOf self.now pass.old }
         requires operator { pass.old.number ≡ 0 }
         requires ordered { HasOrder (asked_to aim.now.kind aim.now.id) pass.old.own }
         requires program { program.now ≡ keep_always }
@@ -136,7 +136,7 @@ impl<D: Disk> Board<D> {
         ensures told { (lost : ℕ) × IsCounted lost (F.harm_count fate.old) (F.harm_count fate.new) × WasToldLast (asked_to aim.now.kind aim.now.id) (IsRescanMark tries) lost pass.old pass.new result }
         ensures answer { IsMembersAnswer (asked_to aim.now.kind aim.now.id) result }
         ensures legal { D.tells → IsLegal (reverse pass.new.seen) }
-        ensures tellings { D.tells → AreTellingsSo (reverse pass.new.seen) }
+        ensures tellings { D.tells → AreTellingsSo self.now.seats (reverse pass.new.seen) }
     {
         match self.take_up_once(rt, pass, aim) {
             Ok(()) => self.take_steps(rt, pass, fate, aim, program, tries),
@@ -154,7 +154,7 @@ impl<D: Disk> Board<D> {
         program: &Program,
         tries: u32,
     ) -> OpAnswer
-        requires pass { IsPassOf self.now.id pass.old }
+        requires pass { IsPassOf self.now pass.old }
         requires operator { pass.old.number ≡ 0 }
         requires planned { HasPlan (asked_to aim.now.kind aim.now.id) pass.old.own }
         requires program { program.now ≡ keep_always }
@@ -163,7 +163,7 @@ impl<D: Disk> Board<D> {
         ensures told { (lost : ℕ) × IsCounted lost (F.harm_count fate.old) (F.harm_count fate.new) × WasToldLast (asked_to aim.now.kind aim.now.id) (IsRescanMark tries) lost pass.old pass.new result }
         ensures answer { IsMembersAnswer (asked_to aim.now.kind aim.now.id) result }
         ensures legal { D.tells → IsLegal (reverse pass.new.seen) }
-        ensures tellings { D.tells → AreTellingsSo (reverse pass.new.seen) }
+        ensures tellings { D.tells → AreTellingsSo self.now.seats (reverse pass.new.seen) }
     {
         let mut holds = Holds::new();
         for _ in rt.forever() {
@@ -186,7 +186,7 @@ impl<D: Disk> Board<D> {
         program: &Program,
         tries: u32,
     ) -> Result<(), OpAnswer>
-        requires pass { IsPassOf self.now.id pass.old }
+        requires pass { IsPassOf self.now pass.old }
         requires operator { pass.old.number ≡ 0 }
         requires planned { HasPlan (asked_to aim.now.kind aim.now.id) pass.old.own }
         requires program { program.now ≡ keep_always }
@@ -197,7 +197,7 @@ impl<D: Disk> Board<D> {
         ensures told { IfErr result (λ told. (lost : ℕ) × IsCounted lost (F.harm_count fate.old) (F.harm_count fate.new) × WasToldLast (asked_to aim.now.kind aim.now.id) (IsRescanMark tries) lost pass.old pass.new told) }
         ensures answer { IfErr result (IsMembersAnswer (asked_to aim.now.kind aim.now.id)) }
         ensures legal { D.tells → IsLegal (reverse pass.new.seen) }
-        ensures tellings { D.tells → AreTellingsSo (reverse pass.new.seen) }
+        ensures tellings { D.tells → AreTellingsSo self.now.seats (reverse pass.new.seen) }
     {
         match self.advance_once(rt, pass, aim, program) {
             Ok(step) => self.finish_step(rt, pass, fate, holds, aim, step, program, tries),
@@ -217,11 +217,11 @@ impl<D: Disk> Board<D> {
         program: &Program,
         tries: u32,
     ) -> Result<(), OpAnswer>
-        requires pass { IsPassOf self.now.id pass.old }
+        requires pass { IsPassOf self.now pass.old }
         requires operator { pass.old.number ≡ 0 }
         requires stands { StandsAt (asked_to aim.now.kind aim.now.id) pass.old.own (wanted_by 0 pass.old.seen) step }
         requires legal { D.tells → IsLegal (reverse pass.old.seen) }
-        requires tellings { D.tells → AreTellingsSo (reverse pass.old.seen) }
+        requires tellings { D.tells → AreTellingsSo self.now.seats (reverse pass.old.seen) }
         requires program { program.now ≡ keep_always }
         requires some { 1 ≤ tries }
         ensures pass { pass.new ≡ record pass.old { seen = pass.new.seen; own = pass.new.own } }
@@ -230,7 +230,7 @@ impl<D: Disk> Board<D> {
         ensures told { IfErr result (λ told. (lost : ℕ) × IsCounted lost (F.harm_count fate.old) (F.harm_count fate.new) × WasToldLast (asked_to aim.now.kind aim.now.id) (IsRescanMark tries) lost pass.old pass.new told) }
         ensures answer { IfErr result (IsMembersAnswer (asked_to aim.now.kind aim.now.id)) }
         ensures legal { D.tells → IsLegal (reverse pass.new.seen) }
-        ensures tellings { D.tells → AreTellingsSo (reverse pass.new.seen) }
+        ensures tellings { D.tells → AreTellingsSo self.now.seats (reverse pass.new.seen) }
     {
         match step {
             MembersStep::Next => Ok(()),
@@ -252,7 +252,7 @@ impl<D: Disk> Board<D> {
         aim: &Aim,
         first: Option<Waiting>,
     ) -> Result<(), OpAnswer>
-        requires pass { IsPassOf self.now.id pass.old }
+        requires pass { IsPassOf self.now pass.old }
         requires operator { pass.old.number ≡ 0 }
         requires lists { HasListing (asked_to aim.now.kind aim.now.id) pass.old.own }
         ensures pass { pass.new ≡ record pass.old { seen = pass.new.seen; own = pass.new.own } }
@@ -261,7 +261,7 @@ impl<D: Disk> Board<D> {
         ensures told { IfErr result (λ told. (lost : ℕ) × IsCounted lost (F.harm_count fate.old) (F.harm_count fate.new) × WasToldLast (asked_to aim.now.kind aim.now.id) IsPlanMark lost pass.old pass.new told) }
         ensures answer { IfErr result (IsMembersAnswer (asked_to aim.now.kind aim.now.id)) }
         ensures legal { D.tells → IsLegal (reverse pass.new.seen) }
-        ensures tellings { D.tells → AreTellingsSo (reverse pass.new.seen) }
+        ensures tellings { D.tells → AreTellingsSo self.now.seats (reverse pass.new.seen) }
     {
         let mut waits = first;
         let mut again = false;
@@ -290,7 +290,7 @@ impl<D: Disk> Board<D> {
         program: &Program,
         tries: u32,
     ) -> Result<(), OpAnswer>
-        requires pass { IsPassOf self.now.id pass.old }
+        requires pass { IsPassOf self.now pass.old }
         requires operator { pass.old.number ≡ 0 }
         requires rescans { HasRescan (asked_to aim.now.kind aim.now.id) rescan.begun.call rescan.key pass.old.own }
         requires wanted { wanted_by 0 pass.old.seen ≡ Some (wants rescan.begun.call rescan.key program.now) }
@@ -302,7 +302,7 @@ impl<D: Disk> Board<D> {
         ensures told { IfErr result (λ told. (lost : ℕ) × IsCounted lost (F.harm_count fate.old) (F.harm_count fate.new) × WasToldLast (asked_to aim.now.kind aim.now.id) (IsRescanMark tries) lost pass.old pass.new told) }
         ensures answer { IfErr result (IsMembersAnswer (asked_to aim.now.kind aim.now.id)) }
         ensures legal { D.tells → IsLegal (reverse pass.new.seen) }
-        ensures tellings { D.tells → AreTellingsSo (reverse pass.new.seen) }
+        ensures tellings { D.tells → AreTellingsSo self.now.seats (reverse pass.new.seen) }
     {
         let Rescan { key, begun } = rescan;
         let Begun { call, mut stage } = begun;
@@ -329,16 +329,17 @@ impl<D: Disk> Board<D> {
         pass: &mut Pass<D>,
         aim: &Aim,
     ) -> Result<Program, Answer>
-        requires pass { IsPassOf self.now.id pass.old }
+        requires pass { IsPassOf self.now pass.old }
         requires operator { pass.old.number ≡ 0 }
         requires free { IsFree pass.old.own }
         ensures pass { pass.new ≡ record pass.old { seen = pass.new.seen; own = pass.new.own } }
         ensures front { GoesOn pass.old.number pass.old.seen pass.new.seen [] }
+        ensures counted { rescanned_in pass.new.own ≡ rescanned_in pass.old.own }
         ensures program { IfOk result (λ program. program ≡ keep_always) }
         ensures ordered { OnOk result (HasOrder (asked_to aim.now.kind aim.now.id) pass.new.own) }
         ensures refused { IfErr result (λ why. IsRefusal (length pass.new.seen) why × IsFree pass.new.own) }
         ensures legal { D.tells → IsLegal (reverse pass.new.seen) }
-        ensures tellings { D.tells → AreTellingsSo (reverse pass.new.seen) }
+        ensures tellings { D.tells → AreTellingsSo self.now.seats (reverse pass.new.seen) }
     {
         let mut shared = self.turn.hold(rt, pass);
         let ordered = order_members(self.alloc, &mut shared.world, aim);
@@ -348,16 +349,17 @@ impl<D: Disk> Board<D> {
 
     /// A hold in which the change of membership begins, unless it is under way.
     fn take_up_once<R: Wait>(&self, rt: &R, pass: &mut Pass<D>, aim: &Aim) -> Result<(), OpAnswer>
-        requires pass { IsPassOf self.now.id pass.old }
+        requires pass { IsPassOf self.now pass.old }
         requires operator { pass.old.number ≡ 0 }
         requires ordered { HasOrder (asked_to aim.now.kind aim.now.id) pass.old.own }
         ensures pass { pass.new ≡ record pass.old { seen = pass.new.seen; own = pass.new.own } }
         ensures front { OnOk result (GoesOn pass.old.number pass.old.seen pass.new.seen []) }
+        ensures counted { OnOk result (rescanned_in pass.new.own ≡ rescanned_in pass.old.own) }
         ensures planned { OnOk result (HasPlan (asked_to aim.now.kind aim.now.id) pass.new.own) }
         ensures told { IfErr result (WasToldLast (asked_to aim.now.kind aim.now.id) IsPlanMark 0 pass.old pass.new) }
         ensures answer { IfErr result (IsMembersAnswer (asked_to aim.now.kind aim.now.id)) }
         ensures legal { D.tells → IsLegal (reverse pass.new.seen) }
-        ensures tellings { D.tells → AreTellingsSo (reverse pass.new.seen) }
+        ensures tellings { D.tells → AreTellingsSo self.now.seats (reverse pass.new.seen) }
     {
         let mut shared = self.turn.hold(rt, pass);
         let taken_up = take_up(&mut shared.world, aim);
@@ -373,7 +375,7 @@ impl<D: Disk> Board<D> {
         aim: &Aim,
         program: &Program,
     ) -> Result<MembersStep, OpAnswer>
-        requires pass { IsPassOf self.now.id pass.old }
+        requires pass { IsPassOf self.now pass.old }
         requires operator { pass.old.number ≡ 0 }
         requires planned { HasPlan (asked_to aim.now.kind aim.now.id) pass.old.own }
         requires program { program.now ≡ keep_always }
@@ -383,7 +385,7 @@ impl<D: Disk> Board<D> {
         ensures told { IfErr result (WasToldLast (asked_to aim.now.kind aim.now.id) IsPlanMark 0 pass.old pass.new) }
         ensures answer { IfErr result (IsMembersAnswer (asked_to aim.now.kind aim.now.id)) }
         ensures legal { D.tells → IsLegal (reverse pass.new.seen) }
-        ensures tellings { D.tells → AreTellingsSo (reverse pass.new.seen) }
+        ensures tellings { D.tells → AreTellingsSo self.now.seats (reverse pass.new.seen) }
     {
         let mut shared = self.turn.hold(rt, pass);
         let step = advance(&mut shared.world, aim, program);
@@ -399,7 +401,7 @@ impl<D: Disk> Board<D> {
         aim: &Aim,
         verdict: Verdict,
     ) -> Result<Listing, OpAnswer>
-        requires pass { IsPassOf self.now.id pass.old }
+        requires pass { IsPassOf self.now pass.old }
         requires operator { pass.old.number ≡ 0 }
         requires lists { HasListing (asked_to aim.now.kind aim.now.id) pass.old.own }
         ensures pass { pass.new ≡ record pass.old { seen = pass.new.seen; own = pass.new.own } }
@@ -408,7 +410,7 @@ impl<D: Disk> Board<D> {
         ensures told { IfErr result (WasToldLast (asked_to aim.now.kind aim.now.id) IsPlanMark (harm_by verdict) pass.old pass.new) }
         ensures answer { IfErr result (IsMembersAnswer (asked_to aim.now.kind aim.now.id)) }
         ensures legal { D.tells → IsLegal (reverse pass.new.seen) }
-        ensures tellings { D.tells → AreTellingsSo (reverse pass.new.seen) }
+        ensures tellings { D.tells → AreTellingsSo self.now.seats (reverse pass.new.seen) }
     {
         let mut shared = self.turn.hold(rt, pass);
         let listing = list_on(&mut shared.world, aim, verdict);
@@ -428,7 +430,7 @@ impl<D: Disk> Board<D> {
         verdict: Verdict,
         may_repeat: bool,
     ) -> Result<Rescanning, OpAnswer>
-        requires pass { IsPassOf self.now.id pass.old }
+        requires pass { IsPassOf self.now pass.old }
         requires operator { pass.old.number ≡ 0 }
         requires rescans { HasRescan (asked_to aim.now.kind aim.now.id) call key.now pass.old.own }
         requires wanted { wanted_by 0 pass.old.seen ≡ Some (wants call key.now program.now) }
@@ -440,7 +442,7 @@ impl<D: Disk> Board<D> {
         ensures told { (tries : ℕ) → (may_repeat ≡ false → rounds_after pass.old.own ≡ tries) → IfErr result (WasToldLast (asked_to aim.now.kind aim.now.id) (IsRescanMark tries) (harm_by verdict) pass.old pass.new) }
         ensures answer { IfErr result (IsMembersAnswer (asked_to aim.now.kind aim.now.id)) }
         ensures legal { D.tells → IsLegal (reverse pass.new.seen) }
-        ensures tellings { D.tells → AreTellingsSo (reverse pass.new.seen) }
+        ensures tellings { D.tells → AreTellingsSo self.now.seats (reverse pass.new.seen) }
     {
         let mut shared = self.turn.hold(rt, pass);
         let world = &mut shared.world;

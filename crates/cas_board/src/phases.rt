@@ -25,7 +25,7 @@ impl<D: Disk> Board<D> {
         frame: &Waiting,
         again: bool,
     ) -> Verdict
-        requires pass { IsPassOf self.now.id pass.old }
+        requires pass { IsPassOf self.now pass.old }
         ensures pass { pass.new ≡ record pass.old { seen = pass.new.seen } }
         ensures front { GoesOn pass.old.number pass.old.seen pass.new.seen [] }
         ensures wanted { wanted_by pass.old.number pass.new.seen ≡ wanted_by pass.old.number pass.old.seen }
@@ -48,7 +48,7 @@ impl<D: Disk> Board<D> {
         waits: &Option<Waiting>,
         again: bool,
     ) -> Verdict
-        requires pass { IsPassOf self.now.id pass.old }
+        requires pass { IsPassOf self.now pass.old }
         ensures pass { pass.new ≡ record pass.old { seen = pass.new.seen } }
         ensures front { GoesOn pass.old.number pass.old.seen pass.new.seen [] }
         ensures wanted { wanted_by pass.old.number pass.new.seen ≡ wanted_by pass.old.number pass.old.seen }
@@ -62,7 +62,7 @@ impl<D: Disk> Board<D> {
 
     /// A hold in which a late frame strays in, if the fate names one.
     fn let_in_once<R: Wait, F: Fate>(&self, rt: &R, pass: &mut Pass<D>, fate: &mut F, late: usize)
-        requires pass { IsPassOf self.now.id pass.old }
+        requires pass { IsPassOf self.now pass.old }
         ensures pass { pass.new ≡ record pass.old { seen = pass.new.seen } }
         ensures front { GoesOn pass.old.number pass.old.seen pass.new.seen [] }
         ensures wanted { wanted_by pass.old.number pass.new.seen ≡ wanted_by pass.old.number pass.old.seen }

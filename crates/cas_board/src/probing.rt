@@ -42,7 +42,7 @@ impl<D: Disk> Board<D> {
         fate: &mut F,
         key: &Key,
     ) -> OpAnswer
-        requires pass { IsPassOf self.now.id pass.old }
+        requires pass { IsPassOf self.now pass.old }
         requires operator { pass.old.number ≡ 0 }
         requires free { IsFree pass.old.own }
         ensures pass { pass.new ≡ record pass.old { seen = pass.new.seen; own = pass.new.own } }
@@ -67,7 +67,7 @@ impl<D: Disk> Board<D> {
         fate: &mut F,
         order: ProbeOrder,
     ) -> OpAnswer
-        requires pass { IsPassOf self.now.id pass.old }
+        requires pass { IsPassOf self.now pass.old }
         requires operator { pass.old.number ≡ 0 }
         requires question { order.question ≡ Exchange.Probe order.key }
         requires ordered { HasOrder (Asked.Probe order.key) pass.old.own }
@@ -92,7 +92,7 @@ impl<D: Disk> Board<D> {
         fate: &mut F,
         first: Probing,
     ) -> OpAnswer
-        requires pass { IsPassOf self.now.id pass.old }
+        requires pass { IsPassOf self.now pass.old }
         requires operator { pass.old.number ≡ 0 }
         requires asks { (members : List ℕ) × HasProbe first.key members pass.old.own }
         ensures pass { pass.new ≡ record pass.old { seen = pass.new.seen; own = pass.new.own } }
@@ -123,7 +123,7 @@ impl<D: Disk> Board<D> {
         pass: &mut Pass<D>,
         key: &Key,
     ) -> Result<ProbeOrder, Answer>
-        requires pass { IsPassOf self.now.id pass.old }
+        requires pass { IsPassOf self.now pass.old }
         requires operator { pass.old.number ≡ 0 }
         requires free { IsFree pass.old.own }
         ensures pass { pass.new ≡ record pass.old { seen = pass.new.seen; own = pass.new.own } }
@@ -147,7 +147,7 @@ impl<D: Disk> Board<D> {
         pass: &mut Pass<D>,
         order: ProbeOrder,
     ) -> Result<Probing, OpAnswer>
-        requires pass { IsPassOf self.now.id pass.old }
+        requires pass { IsPassOf self.now pass.old }
         requires operator { pass.old.number ≡ 0 }
         requires question { order.question ≡ Exchange.Probe order.key }
         requires ordered { HasOrder (Asked.Probe order.key) pass.old.own }
@@ -177,7 +177,7 @@ impl<D: Disk> Board<D> {
         probing: Probing,
         verdict: Verdict,
     ) -> Result<Probing, OpAnswer>
-        requires pass { IsPassOf self.now.id pass.old }
+        requires pass { IsPassOf self.now pass.old }
         requires operator { pass.old.number ≡ 0 }
         requires asks { (members : List ℕ) × HasProbe probing.key members pass.old.own }
         ensures pass { pass.new ≡ record pass.old { seen = pass.new.seen; own = pass.new.own } }

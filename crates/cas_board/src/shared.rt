@@ -19,12 +19,9 @@ pub struct Shared<D: Disk> {
     pub(crate) world: SteadyWorld<DiskShelf<D>, D>,
     /// Where the disks are put when the board is closed.
     pub(crate) room: Room<D>,
-    /// The greatest number of a caller.
-    pub(crate) greatest: u8,
 }
 
 impl<D: Disk> Model for Shared<D> {
-    ghost use Rattle.std.specs.Prelude.{◌≡◌};
     ghost use Rattle.std.specs.Coded.{codes};
     ghost use Rattle.cas_disk_shelf.specs.contracts.memory.Memory as memory;
     ghost use Rattle.cas_hold.specs.Kept.{IsKept};
@@ -37,12 +34,13 @@ impl<D: Disk> Model for Shared<D> {
 
     ghost view = { λ s. s.world };
 
-    ghost invariant = { λ s. (s.greatest ≡ s.world.greatest) × IsKept s.world };
+    ghost invariant = { λ s. IsKept s.world };
 }
 
 impl<D: Disk> Grows for Shared<D> {
     type Item = Mark;
 
+    ghost use Rattle.std.specs.Prelude.{suc};
     ghost use Rattle.cas_hold.specs.Owners.{owner_of, MayAdd};
     ghost use Rattle.cas_hold.specs.OwnParts.{own_part};
 
@@ -51,6 +49,8 @@ impl<D: Disk> Grows for Shared<D> {
     ghost owner = { owner_of };
 
     ghost part = { own_part };
+
+    ghost seats = { λ s. suc s.greatest };
 
     ghost may_add = { MayAdd };
 

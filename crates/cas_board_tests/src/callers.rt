@@ -72,9 +72,9 @@ fn change_often<R: Wait>(
     pass: &mut Pass<MemoryDisk>,
     asked: Asked<'_>,
 )
-    requires pass { IsPassOf board.now.id pass.old }
+    requires pass { IsPassOf board.now pass.old }
     requires free { IsFree pass.old.own }
-    ensures { IsPassOf board.now.id pass.new × IsFree pass.new.own }
+    ensures { IsPassOf board.now pass.new × IsFree pass.new.own }
 {
     let mut fate = Links::new();
     for _ in 0..asked.changes {
@@ -91,8 +91,8 @@ pub fn change_in_threads<R: Threads + Wait + Sync>(
     asked: Asked<'_>,
 )
     requires some { 0 < threads }
-    requires idle { All (λ p. IsPassOf board.now.id p × IsFree p.own) passes.old }
-    ensures { All (λ p. IsPassOf board.now.id p × IsFree p.own) passes.new }
+    requires idle { All (λ p. IsPassOf board.now p × IsFree p.own) passes.old }
+    ensures { All (λ p. IsPassOf board.now p × IsFree p.own) passes.new }
 {
     thread::for_each_mut(
         rt,

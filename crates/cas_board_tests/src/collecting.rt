@@ -39,8 +39,8 @@ fn change<R: Wait>(
     key: &Key,
     act: Act,
 ) -> Option<Answer>
-    requires { All (λ p. IsPassOf board.now.id p × IsFree p.own) passes.old }
-    ensures { All (λ p. IsPassOf board.now.id p × IsFree p.own) passes.new }
+    requires { All (λ p. IsPassOf board.now p × IsFree p.own) passes.old }
+    ensures { All (λ p. IsPassOf board.now p × IsFree p.own) passes.new }
 {
     let Ok(program) = always(alloc, act) else {
         return None;
@@ -59,8 +59,8 @@ fn collect_first<R: Wait>(
     passes: &mut [Pass<MemoryDisk>],
     key: &Key,
 ) -> Option<OpAnswer>
-    requires { All (λ p. IsPassOf board.now.id p × IsFree p.own) passes.old }
-    ensures { All (λ p. IsPassOf board.now.id p × IsFree p.own) passes.new }
+    requires { All (λ p. IsPassOf board.now p × IsFree p.own) passes.old }
+    ensures { All (λ p. IsPassOf board.now p × IsFree p.own) passes.new }
 {
     if passes.is_empty() || passes[0].number() != 0 {
         return None;
@@ -78,8 +78,8 @@ fn told_in_turn<R: Wait>(
     key: &Key,
     text: Text,
 ) -> Told
-    requires { All (λ p. IsPassOf board.now.id p × IsFree p.own) passes.old }
-    ensures { All (λ p. IsPassOf board.now.id p × IsFree p.own) passes.new }
+    requires { All (λ p. IsPassOf board.now p × IsFree p.own) passes.old }
+    ensures { All (λ p. IsPassOf board.now p × IsFree p.own) passes.new }
 {
     let set = change(rt, alloc, board, passes, key, Act::PutText(text));
     let deleted = change(rt, alloc, board, passes, key, Act::Clear);

@@ -20,12 +20,12 @@ give_back-requires-clause-makes g c =
 
 pub returns-clause-goes_on : goal.returns-clause-goes_on
 returns-clause-goes_on g c =
-    on_ok c.advance-step.result (operator_goes_on c.hold-shared.result c.advance-step.new.world c.args.pass.now c.give_back.new.pass (was_held 0 c.hold-shared.result c.advance-step.new.world c.args.pass.now c.hold-shared.new.seat c.give_back.new.pass c.hold-shared.ensures.seen c.hold-shared.ensures.seat (sym (ap (λ s. s.number) c.hold-shared.ensures.seat ∙ c.requires.operator)) c.give_back.ensures.pass) IsPlanMark 0) (subst (λ v. OnOk c.advance-step.result (OperatesIn IsPlanMark 0 v c.advance-step.new.world)) c.shared.view_is c.advance-step.ensures.goes_on)
+    on_ok c.advance-step.result (operator_goes_on c.hold-shared.result c.advance-step.new.world c.args.pass.now c.give_back.new.pass (was_held 0 c.hold-shared.result c.advance-step.new.world c.args.pass.now c.hold-shared.new.seat c.give_back.new.pass c.hold-shared.ensures.seen c.hold-shared.ensures.own c.hold-shared.ensures.seat (sym (ap (λ s. s.number) c.hold-shared.ensures.seat ∙ c.requires.operator)) c.give_back.ensures.pass) IsPlanMark 0) (subst (λ v. OnOk c.advance-step.result (OperatesIn IsPlanMark 0 v c.advance-step.new.world)) c.shared.view_is c.advance-step.ensures.goes_on)
 
 pub returns-clause-step : goal.returns-clause-step
 returns-clause-step g c =
-    stands_then (asked_to c.args.aim.now.kind c.args.aim.now.id) c.advance-step.result c.give_back.new.pass.own (own_part c.advance-step.new.world 0) c.give_back.new.pass.seen c.advance-step.new.world.marks (operator_own c.hold-shared.result c.advance-step.new.world c.args.pass.now c.give_back.new.pass (was_held 0 c.hold-shared.result c.advance-step.new.world c.args.pass.now c.hold-shared.new.seat c.give_back.new.pass c.hold-shared.ensures.seen c.hold-shared.ensures.seat (sym (ap (λ s. s.number) c.hold-shared.ensures.seat ∙ c.requires.operator)) c.give_back.ensures.pass)) (was_held 0 c.hold-shared.result c.advance-step.new.world c.args.pass.now c.hold-shared.new.seat c.give_back.new.pass c.hold-shared.ensures.seen c.hold-shared.ensures.seat (sym (ap (λ s. s.number) c.hold-shared.ensures.seat ∙ c.requires.operator)) c.give_back.ensures.pass).seen c.advance-step.ensures.step
+    stands_then (asked_to c.args.aim.now.kind c.args.aim.now.id) c.advance-step.result c.give_back.new.pass.own (own_part c.advance-step.new.world 0) c.give_back.new.pass.seen c.advance-step.new.world.marks (operator_own c.hold-shared.result c.advance-step.new.world c.args.pass.now c.give_back.new.pass (was_held 0 c.hold-shared.result c.advance-step.new.world c.args.pass.now c.hold-shared.new.seat c.give_back.new.pass c.hold-shared.ensures.seen c.hold-shared.ensures.own c.hold-shared.ensures.seat (sym (ap (λ s. s.number) c.hold-shared.ensures.seat ∙ c.requires.operator)) c.give_back.ensures.pass)) (was_held 0 c.hold-shared.result c.advance-step.new.world c.args.pass.now c.hold-shared.new.seat c.give_back.new.pass c.hold-shared.ensures.seen c.hold-shared.ensures.own c.hold-shared.ensures.seat (sym (ap (λ s. s.number) c.hold-shared.ensures.seat ∙ c.requires.operator)) c.give_back.ensures.pass).seen c.advance-step.ensures.step
 
 pub returns-clause-told : goal.returns-clause-told
 returns-clause-told g c =
-    if_err c.advance-step.result (operator_told c.hold-shared.result c.advance-step.new.world c.args.pass.now c.give_back.new.pass (was_held 0 c.hold-shared.result c.advance-step.new.world c.args.pass.now c.hold-shared.new.seat c.give_back.new.pass c.hold-shared.ensures.seen c.hold-shared.ensures.seat (sym (ap (λ s. s.number) c.hold-shared.ensures.seat ∙ c.requires.operator)) c.give_back.ensures.pass) (asked_to c.args.aim.now.kind c.args.aim.now.id) IsPlanMark 0) (subst (λ v. IfErr c.advance-step.result (IsToldIn (asked_to c.args.aim.now.kind c.args.aim.now.id) IsPlanMark 0 v c.advance-step.new.world)) c.shared.view_is c.advance-step.ensures.told)
+    if_err c.advance-step.result (operator_told c.hold-shared.result c.advance-step.new.world c.args.pass.now c.give_back.new.pass (was_held 0 c.hold-shared.result c.advance-step.new.world c.args.pass.now c.hold-shared.new.seat c.give_back.new.pass c.hold-shared.ensures.seen c.hold-shared.ensures.own c.hold-shared.ensures.seat (sym (ap (λ s. s.number) c.hold-shared.ensures.seat ∙ c.requires.operator)) c.give_back.ensures.pass) (asked_to c.args.aim.now.kind c.args.aim.now.id) IsPlanMark 0) (subst (λ v. IfErr c.advance-step.result (IsToldIn (asked_to c.args.aim.now.kind c.args.aim.now.id) IsPlanMark 0 v c.advance-step.new.world)) c.shared.view_is c.advance-step.ensures.told)

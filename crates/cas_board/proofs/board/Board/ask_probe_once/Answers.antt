@@ -18,21 +18,21 @@ give_back-requires-clause-makes g c =
     (asks_or_tells (asked.Probe c.args.order.key) IsAskingHarm 0 c.hold-shared.result c.ask_probe-probing.new.world c.ask_probe-probing.result (subst (λ v. OnOk c.ask_probe-probing.result (Makes 0 v c.ask_probe-probing.new.world [])) c.shared.view_is c.ask_probe-probing.ensures.makes) (subst (λ v. IfErr c.ask_probe-probing.result (IsToldIn (asked.Probe c.args.order.key) IsAskingHarm 0 v c.ask_probe-probing.new.world)) c.shared.view_is c.ask_probe-probing.ensures.told))
 
 pub returns-clause-front : goal.returns-clause-front
-returns-clause-front g c = on_ok c.ask_probe-probing.result (operator_made c.hold-shared.result c.ask_probe-probing.new.world c.args.pass.now c.give_back.new.pass (was_held 0 c.hold-shared.result c.ask_probe-probing.new.world c.args.pass.now c.hold-shared.new.seat c.give_back.new.pass c.hold-shared.ensures.seen c.hold-shared.ensures.seat (sym (ap (λ s. s.number) c.hold-shared.ensures.seat ∙ c.requires.operator)) c.give_back.ensures.pass) []) (subst (λ v. OnOk c.ask_probe-probing.result (Makes 0 v c.ask_probe-probing.new.world [])) c.shared.view_is c.ask_probe-probing.ensures.makes)
+returns-clause-front g c = on_ok c.ask_probe-probing.result (operator_made c.hold-shared.result c.ask_probe-probing.new.world c.args.pass.now c.give_back.new.pass (was_held 0 c.hold-shared.result c.ask_probe-probing.new.world c.args.pass.now c.hold-shared.new.seat c.give_back.new.pass c.hold-shared.ensures.seen c.hold-shared.ensures.own c.hold-shared.ensures.seat (sym (ap (λ s. s.number) c.hold-shared.ensures.seat ∙ c.requires.operator)) c.give_back.ensures.pass) []) (subst (λ v. OnOk c.ask_probe-probing.result (Makes 0 v c.ask_probe-probing.new.world [])) c.shared.view_is c.ask_probe-probing.ensures.makes)
 
 pub returns-clause-asks : goal.returns-clause-asks
 returns-clause-asks g c =
-    on_ok c.ask_probe-probing.result (λ has. (everyone c.shared.inside.world, everyone_set c.shared.inside.world, subst (HasProbe c.args.order.key (everyone c.shared.inside.world)) (sym (operator_own c.hold-shared.result c.ask_probe-probing.new.world c.args.pass.now c.give_back.new.pass (was_held 0 c.hold-shared.result c.ask_probe-probing.new.world c.args.pass.now c.hold-shared.new.seat c.give_back.new.pass c.hold-shared.ensures.seen c.hold-shared.ensures.seat (sym (ap (λ s. s.number) c.hold-shared.ensures.seat ∙ c.requires.operator)) c.give_back.ensures.pass))) has)) c.ask_probe-probing.ensures.asks
+    on_ok c.ask_probe-probing.result (λ has. (everyone c.shared.inside.world, everyone_set c.shared.inside.world, subst (HasProbe c.args.order.key (everyone c.shared.inside.world)) (sym (operator_own c.hold-shared.result c.ask_probe-probing.new.world c.args.pass.now c.give_back.new.pass (was_held 0 c.hold-shared.result c.ask_probe-probing.new.world c.args.pass.now c.hold-shared.new.seat c.give_back.new.pass c.hold-shared.ensures.seen c.hold-shared.ensures.own c.hold-shared.ensures.seat (sym (ap (λ s. s.number) c.hold-shared.ensures.seat ∙ c.requires.operator)) c.give_back.ensures.pass))) has)) c.ask_probe-probing.ensures.asks
 
 pub returns-clause-told : goal.returns-clause-told
-returns-clause-told g c = if_err c.ask_probe-probing.result (operator_told c.hold-shared.result c.ask_probe-probing.new.world c.args.pass.now c.give_back.new.pass (was_held 0 c.hold-shared.result c.ask_probe-probing.new.world c.args.pass.now c.hold-shared.new.seat c.give_back.new.pass c.hold-shared.ensures.seen c.hold-shared.ensures.seat (sym (ap (λ s. s.number) c.hold-shared.ensures.seat ∙ c.requires.operator)) c.give_back.ensures.pass) (asked.Probe c.args.order.key) IsAskingHarm 0) (subst (λ v. IfErr c.ask_probe-probing.result (IsToldIn (asked.Probe c.args.order.key) IsAskingHarm 0 v c.ask_probe-probing.new.world)) c.shared.view_is c.ask_probe-probing.ensures.told)
+returns-clause-told g c = if_err c.ask_probe-probing.result (operator_told c.hold-shared.result c.ask_probe-probing.new.world c.args.pass.now c.give_back.new.pass (was_held 0 c.hold-shared.result c.ask_probe-probing.new.world c.args.pass.now c.hold-shared.new.seat c.give_back.new.pass c.hold-shared.ensures.seen c.hold-shared.ensures.own c.hold-shared.ensures.seat (sym (ap (λ s. s.number) c.hold-shared.ensures.seat ∙ c.requires.operator)) c.give_back.ensures.pass) (asked.Probe c.args.order.key) IsAskingHarm 0) (subst (λ v. IfErr c.ask_probe-probing.result (IsToldIn (asked.Probe c.args.order.key) IsAskingHarm 0 v c.ask_probe-probing.new.world)) c.shared.view_is c.ask_probe-probing.ensures.told)
 
 pub returns-clause-harms : goal.returns-clause-harms
-returns-clause-harms g c = on_ok c.ask_probe-probing.result (subst (HasHarms 0) (sym (operator_own c.hold-shared.result c.ask_probe-probing.new.world c.args.pass.now c.give_back.new.pass (was_held 0 c.hold-shared.result c.ask_probe-probing.new.world c.args.pass.now c.hold-shared.new.seat c.give_back.new.pass c.hold-shared.ensures.seen c.hold-shared.ensures.seat (sym (ap (λ s. s.number) c.hold-shared.ensures.seat ∙ c.requires.operator)) c.give_back.ensures.pass)))) c.ask_probe-probing.ensures.harms
+returns-clause-harms g c = on_ok c.ask_probe-probing.result (subst (HasHarms 0) (sym (operator_own c.hold-shared.result c.ask_probe-probing.new.world c.args.pass.now c.give_back.new.pass (was_held 0 c.hold-shared.result c.ask_probe-probing.new.world c.args.pass.now c.hold-shared.new.seat c.give_back.new.pass c.hold-shared.ensures.seen c.hold-shared.ensures.own c.hold-shared.ensures.seat (sym (ap (λ s. s.number) c.hold-shared.ensures.seat ∙ c.requires.operator)) c.give_back.ensures.pass)))) c.ask_probe-probing.ensures.harms
 
 pub returns-clause-truly : goal.returns-clause-truly
 returns-clause-truly g c tells = if_err {P = λ told. (before : List Mark) → IsTrueProbe before c.ask_probe-probing.new.world.marks told} c.ask_probe-probing.result (λ told each before. subst (λ (marks : List Mark). IsTrueProbe before marks told) (sym (ap (λ s. s.seen) c.give_back.ensures.pass)) (each before)) c.ask_probe-probing.ensures.truly
 
 pub returns-clause-behind : goal.returns-clause-behind
 returns-clause-behind g c =
-    on_ok c.ask_probe-probing.result (λ has. subst (WasAskedBehind (length c.args.pass.now.seen)) (sym (operator_own c.hold-shared.result c.ask_probe-probing.new.world c.args.pass.now c.give_back.new.pass (was_held 0 c.hold-shared.result c.ask_probe-probing.new.world c.args.pass.now c.hold-shared.new.seat c.give_back.new.pass c.hold-shared.ensures.seen c.hold-shared.ensures.seat (sym (ap (λ s. s.number) c.hold-shared.ensures.seat ∙ c.requires.operator)) c.give_back.ensures.pass))) (asked_earlier (length c.args.pass.now.seen) (length c.shared.inside.world.marks) (seen_of c.hold-shared.result c.ask_probe-probing.new.world c.args.pass.now c.give_back.new.pass (was_held 0 c.hold-shared.result c.ask_probe-probing.new.world c.args.pass.now c.hold-shared.new.seat c.give_back.new.pass c.hold-shared.ensures.seen c.hold-shared.ensures.seat (sym (ap (λ s. s.number) c.hold-shared.ensures.seat ∙ c.requires.operator)) c.give_back.ensures.pass) c.shared.inside.world.marks (ap (λ v. v.marks) (sym c.shared.view_is))) has)) c.ask_probe-probing.ensures.behind
+    on_ok c.ask_probe-probing.result (λ has. subst (WasAskedBehind (length c.args.pass.now.seen)) (sym (operator_own c.hold-shared.result c.ask_probe-probing.new.world c.args.pass.now c.give_back.new.pass (was_held 0 c.hold-shared.result c.ask_probe-probing.new.world c.args.pass.now c.hold-shared.new.seat c.give_back.new.pass c.hold-shared.ensures.seen c.hold-shared.ensures.own c.hold-shared.ensures.seat (sym (ap (λ s. s.number) c.hold-shared.ensures.seat ∙ c.requires.operator)) c.give_back.ensures.pass))) (asked_earlier (length c.args.pass.now.seen) (length c.shared.inside.world.marks) (seen_of c.hold-shared.result c.ask_probe-probing.new.world c.args.pass.now c.give_back.new.pass (was_held 0 c.hold-shared.result c.ask_probe-probing.new.world c.args.pass.now c.hold-shared.new.seat c.give_back.new.pass c.hold-shared.ensures.seen c.hold-shared.ensures.own c.hold-shared.ensures.seat (sym (ap (λ s. s.number) c.hold-shared.ensures.seat ∙ c.requires.operator)) c.give_back.ensures.pass) c.shared.inside.world.marks (ap (λ v. v.marks) (sym c.shared.view_is))) has)) c.ask_probe-probing.ensures.behind

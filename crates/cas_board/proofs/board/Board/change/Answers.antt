@@ -1,6 +1,6 @@
-use Rattle.std.proofs.Common.{ap, sym, subst}
+use Rattle.std.proofs.Common.{ap, sym, subst, ◌∙◌}
 use Rattle.cas_hold.specs.Open.{IsFree}
-use Rattle.cas_board.proofs.Sittings.{counted_none, change_answered, change_refused}
+use Rattle.cas_board.proofs.Sittings.{counted_none, change_answered, change_refused, refused_own}
 use Rattle.cas_board.proofs.board.Board.change.Goals as goal
 
 pub run_call-requires-clause-alone : goal.run_call-requires-clause-alone
@@ -14,3 +14,15 @@ returns-in-Ok-clause-answers g c =
 pub returns-in-Err-clause-answers : goal.returns-in-Err-clause-answers
 returns-in-Err-clause-answers g c =
     change_refused c.args.key.now c.args.program.now _ _ c.args.tries c.args.pass.now c.begin_once.new.pass c.in-Err.answer (counted_none (g.F.Fate.harm_count c.args.fate.now)) c.in-Err.ensures.not_begun
+
+pub returns-in-Ok-clause-own : goal.returns-in-Ok-clause-own
+returns-in-Ok-clause-own g c = c.run_call.ensures.ended.3.still ∙ c.in-Ok.ensures.begun.beside
+
+pub returns-in-Ok-clause-free : goal.returns-in-Ok-clause-free
+returns-in-Ok-clause-free g c = subst IsFree (sym (c.run_call.ensures.ended.3.still ∙ c.in-Ok.ensures.begun.beside)) c.requires.free
+
+pub returns-in-Err-clause-own : goal.returns-in-Err-clause-own
+returns-in-Err-clause-own g c = refused_own c.args.key.now c.args.program.now c.args.pass.now c.begin_once.new.pass c.in-Err.answer c.in-Err.ensures.not_begun
+
+pub returns-in-Err-clause-free : goal.returns-in-Err-clause-free
+returns-in-Err-clause-free g c = subst IsFree (sym (refused_own c.args.key.now c.args.program.now c.args.pass.now c.begin_once.new.pass c.in-Err.answer c.in-Err.ensures.not_begun)) c.requires.free

@@ -35,4 +35,4 @@ run_rescan-requires-clause-first g c =
 
 pub returns-in-Lists-clause-told : goal.returns-in-Lists-clause-told
 returns-in-Lists-clause-told g c =
-    if_err c.run_listing.result (λ told t. (t.0, t.1, told_less IsPlanMark (IsRescanMark c.args.tries) (rescan_within c.args.tries) (asked_to c.args.aim.now.kind c.args.aim.now.id) t.0 c.args.pass.now c.run_listing.new.pass told t.2)) c.run_listing.ensures.told
+    if_err c.run_listing.result (λ told t. (t.0, t.1, told_less IsPlanMark (IsRescanMark c.args.tries) (rescan_within c.args.tries) (λ enters proposer era. tt) (asked_to c.args.aim.now.kind c.args.aim.now.id) t.0 c.args.pass.now c.run_listing.new.pass told t.2)) c.run_listing.ensures.told

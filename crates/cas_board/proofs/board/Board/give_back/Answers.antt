@@ -1,3 +1,7 @@
+use Rattle.std.proofs.Common.{ℕ, suc, List, reverse, sym, ap, subst, ◌∙◌}
+use Rattle.cas_record.specs.Legal.{IsLegal}
+use Rattle.cas_record.specs.declared.mark.Mark.{Mark}
+use Rattle.cas_causes.specs.Tellings.{AreTellingsSo}
 use Rattle.cas_board.proofs.Sittings.{gives_more, gives_lawful, gives_own}
 use Rattle.cas_board.proofs.board.Board.give_back.Goals as goal
 
@@ -12,3 +16,19 @@ give_back-requires-clause-owned g c x is = let made = c.requires.makes x is in g
 
 pub give_back-requires-clause-others : goal.give_back-requires-clause-others
 give_back-requires-clause-others g c x is = let made = c.requires.makes x is in made.1.others
+
+pub give_back-requires-clause-seats : goal.give_back-requires-clause-seats
+give_back-requires-clause-seats g c x is = let made = c.requires.makes x is in ap suc made.1.greatest
+
+-- the pass has seen the record that was read
+pub returns-clause-legal : goal.returns-clause-legal
+returns-clause-legal g c tells =
+    let seen = c.record-record.ensures.marks ∙ ap (λ v. v.marks) c.shared.view_is ∙ sym (ap (λ s. s.seen) c.give_back.ensures.seat) in
+    subst (λ (marks : List Mark). IsLegal (reverse marks)) seen (c.record-record.ensures.legal tells tells)
+
+pub returns-clause-tellings : goal.returns-clause-tellings
+returns-clause-tellings g c tells =
+    let seen = c.record-record.ensures.marks ∙ ap (λ v. v.marks) c.shared.view_is ∙ sym (ap (λ s. s.seen) c.give_back.ensures.seat) in
+    let proposers = ap (λ v. suc v.greatest) c.shared.view_is ∙ c.give_back.ensures.seats ∙ c.requires.seats in
+    subst (λ (n : ℕ). AreTellingsSo n (reverse c.give_back.new.seat.seen)) proposers
+    (subst (λ (marks : List Mark). AreTellingsSo (suc c.shared.inside.world.greatest) (reverse marks)) seen (c.record-record.ensures.tellings tells tells))

@@ -20,12 +20,12 @@ give_back-requires-clause-makes g c =
 
 pub returns-clause-goes_on : goal.returns-clause-goes_on
 returns-clause-goes_on g c =
-    on_ok c.go_on_collecting-next.result (operator_goes_on c.hold-shared.result c.go_on_collecting-next.new.world c.args.pass.now c.give_back.new.pass (was_held 0 c.hold-shared.result c.go_on_collecting-next.new.world c.args.pass.now c.hold-shared.new.seat c.give_back.new.pass c.hold-shared.ensures.seen c.hold-shared.ensures.seat (sym (ap (λ s. s.number) c.hold-shared.ensures.seat ∙ c.requires.operator)) c.give_back.ensures.pass) (IsBurialMark c.args.collecting.key) (harm_by c.args.verdict)) (subst (λ v. OnOk c.go_on_collecting-next.result (OperatesIn (IsBurialMark c.args.collecting.key) (harm_by c.args.verdict) v c.go_on_collecting-next.new.world)) c.shared.view_is c.go_on_collecting-next.ensures.goes_on)
+    on_ok c.go_on_collecting-next.result (operator_goes_on c.hold-shared.result c.go_on_collecting-next.new.world c.args.pass.now c.give_back.new.pass (was_held 0 c.hold-shared.result c.go_on_collecting-next.new.world c.args.pass.now c.hold-shared.new.seat c.give_back.new.pass c.hold-shared.ensures.seen c.hold-shared.ensures.own c.hold-shared.ensures.seat (sym (ap (λ s. s.number) c.hold-shared.ensures.seat ∙ c.requires.operator)) c.give_back.ensures.pass) (IsBurialMark c.args.collecting.key) (harm_by c.args.verdict)) (subst (λ v. OnOk c.go_on_collecting-next.result (OperatesIn (IsBurialMark c.args.collecting.key) (harm_by c.args.verdict) v c.go_on_collecting-next.new.world)) c.shared.view_is c.go_on_collecting-next.ensures.goes_on)
 
 pub returns-clause-at : goal.returns-clause-at
 returns-clause-at g c =
-    course_then c.args.collecting.key (most_rounds c.args.collecting.tries) c.go_on_collecting-next.result _ _ _ _ (operator_own c.hold-shared.result c.go_on_collecting-next.new.world c.args.pass.now c.give_back.new.pass (was_held 0 c.hold-shared.result c.go_on_collecting-next.new.world c.args.pass.now c.hold-shared.new.seat c.give_back.new.pass c.hold-shared.ensures.seen c.hold-shared.ensures.seat (sym (ap (λ s. s.number) c.hold-shared.ensures.seat ∙ c.requires.operator)) c.give_back.ensures.pass)) (was_held 0 c.hold-shared.result c.go_on_collecting-next.new.world c.args.pass.now c.hold-shared.new.seat c.give_back.new.pass c.hold-shared.ensures.seen c.hold-shared.ensures.seat (sym (ap (λ s. s.number) c.hold-shared.ensures.seat ∙ c.requires.operator)) c.give_back.ensures.pass).seen c.go_on_collecting-next.ensures.at
+    course_then c.args.collecting.key (most_rounds c.args.collecting.tries) c.go_on_collecting-next.result _ _ _ _ (operator_own c.hold-shared.result c.go_on_collecting-next.new.world c.args.pass.now c.give_back.new.pass (was_held 0 c.hold-shared.result c.go_on_collecting-next.new.world c.args.pass.now c.hold-shared.new.seat c.give_back.new.pass c.hold-shared.ensures.seen c.hold-shared.ensures.own c.hold-shared.ensures.seat (sym (ap (λ s. s.number) c.hold-shared.ensures.seat ∙ c.requires.operator)) c.give_back.ensures.pass)) (was_held 0 c.hold-shared.result c.go_on_collecting-next.new.world c.args.pass.now c.hold-shared.new.seat c.give_back.new.pass c.hold-shared.ensures.seen c.hold-shared.ensures.own c.hold-shared.ensures.seat (sym (ap (λ s. s.number) c.hold-shared.ensures.seat ∙ c.requires.operator)) c.give_back.ensures.pass).seen c.go_on_collecting-next.ensures.at
 
 pub returns-clause-told : goal.returns-clause-told
 returns-clause-told g c =
-    if_err c.go_on_collecting-next.result (operator_told c.hold-shared.result c.go_on_collecting-next.new.world c.args.pass.now c.give_back.new.pass (was_held 0 c.hold-shared.result c.go_on_collecting-next.new.world c.args.pass.now c.hold-shared.new.seat c.give_back.new.pass c.hold-shared.ensures.seen c.hold-shared.ensures.seat (sym (ap (λ s. s.number) c.hold-shared.ensures.seat ∙ c.requires.operator)) c.give_back.ensures.pass) (asked.Collect c.args.collecting.key) (IsCollectingMark c.args.collecting.key (most_rounds c.args.collecting.tries)) (harm_by c.args.verdict)) (subst (λ v. IfErr c.go_on_collecting-next.result (IsToldIn (asked.Collect c.args.collecting.key) (IsCollectingMark c.args.collecting.key (most_rounds c.args.collecting.tries)) (harm_by c.args.verdict) v c.go_on_collecting-next.new.world)) c.shared.view_is c.go_on_collecting-next.ensures.told)
+    if_err c.go_on_collecting-next.result (operator_told c.hold-shared.result c.go_on_collecting-next.new.world c.args.pass.now c.give_back.new.pass (was_held 0 c.hold-shared.result c.go_on_collecting-next.new.world c.args.pass.now c.hold-shared.new.seat c.give_back.new.pass c.hold-shared.ensures.seen c.hold-shared.ensures.own c.hold-shared.ensures.seat (sym (ap (λ s. s.number) c.hold-shared.ensures.seat ∙ c.requires.operator)) c.give_back.ensures.pass) (asked.Collect c.args.collecting.key) (IsCollectingMark c.args.collecting.key (most_rounds c.args.collecting.tries)) (harm_by c.args.verdict)) (subst (λ v. IfErr c.go_on_collecting-next.result (IsToldIn (asked.Collect c.args.collecting.key) (IsCollectingMark c.args.collecting.key (most_rounds c.args.collecting.tries)) (harm_by c.args.verdict) v c.go_on_collecting-next.new.world)) c.shared.view_is c.go_on_collecting-next.ensures.told)

@@ -10,7 +10,7 @@ use Rattle.cas_board.proofs.board.Board.go_on_once.Goals as goal
 pub go_on-stage-requires-clause-known : goal.go_on-stage-requires-clause-known
 go_on-stage-requires-clause-known g c =
     held_known c.caller_of-caller.result c.args.pass.now.number c.args.call c.shared.inside.world c.args.pass.now.own (c.caller_of-caller.ensures ∙ ap (λ s. s.number) c.hold-shared.ensures.seat)
-    (ap (λ v. own_part v c.args.pass.now.number) c.shared.view_is ∙ c.hold-shared.ensures.own) c.requires.called c.shared.invariant.1
+    (ap (λ v. own_part v c.args.pass.now.number) c.shared.view_is ∙ c.hold-shared.ensures.own) c.requires.called c.shared.invariant
 
 pub go_on-stage-requires-clause-wanted : goal.go_on-stage-requires-clause-wanted
 go_on-stage-requires-clause-wanted g c =
@@ -28,27 +28,27 @@ give_back-requires-clause-makes g c =
 pub returns-clause-goes_on : goal.returns-clause-goes_on
 returns-clause-goes_on g c =
     gone_told c.caller_of-caller.result c.args.call (harm_by c.args.verdict) c.hold-shared.result c.go_on-stage.new.world c.args.pass.now c.give_back.new.pass c.go_on-stage.result
-    (was_held c.caller_of-caller.result c.hold-shared.result c.go_on-stage.new.world c.args.pass.now c.hold-shared.new.seat c.give_back.new.pass c.hold-shared.ensures.seen c.hold-shared.ensures.seat c.caller_of-caller.ensures c.give_back.ensures.pass)
+    (was_held c.caller_of-caller.result c.hold-shared.result c.go_on-stage.new.world c.args.pass.now c.hold-shared.new.seat c.give_back.new.pass c.hold-shared.ensures.seen c.hold-shared.ensures.own c.hold-shared.ensures.seat c.caller_of-caller.ensures c.give_back.ensures.pass)
     c.hold-shared.ensures.own (subst (λ v. OnOk c.go_on-stage.result (GoesOnIn c.caller_of-caller.result c.args.call (harm_by c.args.verdict) v c.go_on-stage.new.world)) c.shared.view_is c.go_on-stage.ensures.goes_on)
 
 pub returns-clause-ends : goal.returns-clause-ends
 returns-clause-ends g c =
     ended_told c.caller_of-caller.result c.args.call (harm_by c.args.verdict) c.hold-shared.result c.go_on-stage.new.world c.args.pass.now c.give_back.new.pass c.go_on-stage.result
-    (was_held c.caller_of-caller.result c.hold-shared.result c.go_on-stage.new.world c.args.pass.now c.hold-shared.new.seat c.give_back.new.pass c.hold-shared.ensures.seen c.hold-shared.ensures.seat c.caller_of-caller.ensures c.give_back.ensures.pass)
+    (was_held c.caller_of-caller.result c.hold-shared.result c.go_on-stage.new.world c.args.pass.now c.hold-shared.new.seat c.give_back.new.pass c.hold-shared.ensures.seen c.hold-shared.ensures.own c.hold-shared.ensures.seat c.caller_of-caller.ensures c.give_back.ensures.pass)
     c.hold-shared.ensures.own c.requires.alone (subst (λ v. IfErr c.go_on-stage.result (EndsIn c.caller_of-caller.result c.args.call (harm_by c.args.verdict) v c.go_on-stage.new.world)) c.shared.view_is c.go_on-stage.ensures.ends)
 
 pub returns-clause-rounds : goal.returns-clause-rounds
 returns-clause-rounds g c =
     rounds_told c.caller_of-caller.result c.args.call (harm_by c.args.verdict) c.hold-shared.result c.go_on-stage.new.world c.args.pass.now c.give_back.new.pass c.go_on-stage.result
-    (was_held c.caller_of-caller.result c.hold-shared.result c.go_on-stage.new.world c.args.pass.now c.hold-shared.new.seat c.give_back.new.pass c.hold-shared.ensures.seen c.hold-shared.ensures.seat c.caller_of-caller.ensures c.give_back.ensures.pass)
+    (was_held c.caller_of-caller.result c.hold-shared.result c.go_on-stage.new.world c.args.pass.now c.hold-shared.new.seat c.give_back.new.pass c.hold-shared.ensures.seen c.hold-shared.ensures.own c.hold-shared.ensures.seat c.caller_of-caller.ensures c.give_back.ensures.pass)
     c.hold-shared.ensures.own (subst (λ v. OnOk c.go_on-stage.result (GoesOnIn c.caller_of-caller.result c.args.call (harm_by c.args.verdict) v c.go_on-stage.new.world)) c.shared.view_is c.go_on-stage.ensures.goes_on)
 
 pub returns-clause-met : goal.returns-clause-met
 returns-clause-met g c =
     met_told c.caller_of-caller.result c.hold-shared.result c.go_on-stage.new.world c.args.pass.now c.give_back.new.pass
-    (was_held c.caller_of-caller.result c.hold-shared.result c.go_on-stage.new.world c.args.pass.now c.hold-shared.new.seat c.give_back.new.pass c.hold-shared.ensures.seen c.hold-shared.ensures.seat c.caller_of-caller.ensures c.give_back.ensures.pass) c.go_on-stage.result c.go_on-stage.ensures.met
+    (was_held c.caller_of-caller.result c.hold-shared.result c.go_on-stage.new.world c.args.pass.now c.hold-shared.new.seat c.give_back.new.pass c.hold-shared.ensures.seen c.hold-shared.ensures.own c.hold-shared.ensures.seat c.caller_of-caller.ensures c.give_back.ensures.pass) c.go_on-stage.result c.go_on-stage.ensures.met
 
 pub returns-clause-repeats : goal.returns-clause-repeats
 returns-clause-repeats g c =
     repeats_told c.caller_of-caller.result c.hold-shared.result c.go_on-stage.new.world c.args.pass.now c.give_back.new.pass
-    (was_held c.caller_of-caller.result c.hold-shared.result c.go_on-stage.new.world c.args.pass.now c.hold-shared.new.seat c.give_back.new.pass c.hold-shared.ensures.seen c.hold-shared.ensures.seat c.caller_of-caller.ensures c.give_back.ensures.pass) c.args.may_repeat c.go_on-stage.result c.go_on-stage.ensures.repeats
+    (was_held c.caller_of-caller.result c.hold-shared.result c.go_on-stage.new.world c.args.pass.now c.hold-shared.new.seat c.give_back.new.pass c.hold-shared.ensures.seen c.hold-shared.ensures.own c.hold-shared.ensures.seat c.caller_of-caller.ensures c.give_back.ensures.pass) c.args.may_repeat c.go_on-stage.result c.go_on-stage.ensures.repeats

@@ -18,19 +18,19 @@ give_back-requires-clause-makes g c =
     (operates_or_tells (asked.Probe c.args.probing.key) IsAskingHarm IsAskingHarm (harm_by c.args.verdict) c.hold-shared.result c.go_on_probing-next.new.world c.go_on_probing-next.result (subst (λ v. OnOk c.go_on_probing-next.result (OperatesIn IsAskingHarm (harm_by c.args.verdict) v c.go_on_probing-next.new.world)) c.shared.view_is c.go_on_probing-next.ensures.goes_on) (subst (λ v. IfErr c.go_on_probing-next.result (IsToldIn (asked.Probe c.args.probing.key) IsAskingHarm (harm_by c.args.verdict) v c.go_on_probing-next.new.world)) c.shared.view_is c.go_on_probing-next.ensures.told))
 
 pub returns-clause-goes_on : goal.returns-clause-goes_on
-returns-clause-goes_on g c = on_ok c.go_on_probing-next.result (operator_goes_on c.hold-shared.result c.go_on_probing-next.new.world c.args.pass.now c.give_back.new.pass (was_held 0 c.hold-shared.result c.go_on_probing-next.new.world c.args.pass.now c.hold-shared.new.seat c.give_back.new.pass c.hold-shared.ensures.seen c.hold-shared.ensures.seat (sym (ap (λ s. s.number) c.hold-shared.ensures.seat ∙ c.requires.operator)) c.give_back.ensures.pass) IsAskingHarm (harm_by c.args.verdict)) (subst (λ v. OnOk c.go_on_probing-next.result (OperatesIn IsAskingHarm (harm_by c.args.verdict) v c.go_on_probing-next.new.world)) c.shared.view_is c.go_on_probing-next.ensures.goes_on)
+returns-clause-goes_on g c = on_ok c.go_on_probing-next.result (operator_goes_on c.hold-shared.result c.go_on_probing-next.new.world c.args.pass.now c.give_back.new.pass (was_held 0 c.hold-shared.result c.go_on_probing-next.new.world c.args.pass.now c.hold-shared.new.seat c.give_back.new.pass c.hold-shared.ensures.seen c.hold-shared.ensures.own c.hold-shared.ensures.seat (sym (ap (λ s. s.number) c.hold-shared.ensures.seat ∙ c.requires.operator)) c.give_back.ensures.pass) IsAskingHarm (harm_by c.args.verdict)) (subst (λ v. OnOk c.go_on_probing-next.result (OperatesIn IsAskingHarm (harm_by c.args.verdict) v c.go_on_probing-next.new.world)) c.shared.view_is c.go_on_probing-next.ensures.goes_on)
 
 pub returns-clause-still : goal.returns-clause-still
-returns-clause-still g c = on_ok c.go_on_probing-next.result (λ each members has. subst (HasProbe c.args.probing.key members) (sym (operator_own c.hold-shared.result c.go_on_probing-next.new.world c.args.pass.now c.give_back.new.pass (was_held 0 c.hold-shared.result c.go_on_probing-next.new.world c.args.pass.now c.hold-shared.new.seat c.give_back.new.pass c.hold-shared.ensures.seen c.hold-shared.ensures.seat (sym (ap (λ s. s.number) c.hold-shared.ensures.seat ∙ c.requires.operator)) c.give_back.ensures.pass))) (each members (subst (HasProbe c.args.probing.key members) (sym (operator_part c.args.pass.now.number c.shared.inside.world c.hold-shared.result c.args.pass.now.own c.requires.operator c.shared.view_is c.hold-shared.ensures.own)) has))) c.go_on_probing-next.ensures.still
+returns-clause-still g c = on_ok c.go_on_probing-next.result (λ each members has. subst (HasProbe c.args.probing.key members) (sym (operator_own c.hold-shared.result c.go_on_probing-next.new.world c.args.pass.now c.give_back.new.pass (was_held 0 c.hold-shared.result c.go_on_probing-next.new.world c.args.pass.now c.hold-shared.new.seat c.give_back.new.pass c.hold-shared.ensures.seen c.hold-shared.ensures.own c.hold-shared.ensures.seat (sym (ap (λ s. s.number) c.hold-shared.ensures.seat ∙ c.requires.operator)) c.give_back.ensures.pass))) (each members (subst (HasProbe c.args.probing.key members) (sym (operator_part c.args.pass.now.number c.shared.inside.world c.hold-shared.result c.args.pass.now.own c.requires.operator c.shared.view_is c.hold-shared.ensures.own)) has))) c.go_on_probing-next.ensures.still
 
 pub returns-clause-harms : goal.returns-clause-harms
 returns-clause-harms g c =
-    on_ok c.go_on_probing-next.result (operator_harms c.hold-shared.result c.go_on_probing-next.new.world c.args.pass.now c.give_back.new.pass (was_held 0 c.hold-shared.result c.go_on_probing-next.new.world c.args.pass.now c.hold-shared.new.seat c.give_back.new.pass c.hold-shared.ensures.seen c.hold-shared.ensures.seat (sym (ap (λ s. s.number) c.hold-shared.ensures.seat ∙ c.requires.operator)) c.give_back.ensures.pass)
+    on_ok c.go_on_probing-next.result (operator_harms c.hold-shared.result c.go_on_probing-next.new.world c.args.pass.now c.give_back.new.pass (was_held 0 c.hold-shared.result c.go_on_probing-next.new.world c.args.pass.now c.hold-shared.new.seat c.give_back.new.pass c.hold-shared.ensures.seen c.hold-shared.ensures.own c.hold-shared.ensures.seat (sym (ap (λ s. s.number) c.hold-shared.ensures.seat ∙ c.requires.operator)) c.give_back.ensures.pass)
     (operator_part c.args.pass.now.number c.hold-shared.result c.hold-shared.result c.args.pass.now.own c.requires.operator refl c.hold-shared.ensures.own))
     (subst (λ v. OnOk c.go_on_probing-next.result (MarksHarms v c.go_on_probing-next.new.world)) c.shared.view_is c.go_on_probing-next.ensures.harms)
 
 pub returns-clause-told : goal.returns-clause-told
-returns-clause-told g c = if_err c.go_on_probing-next.result (operator_told c.hold-shared.result c.go_on_probing-next.new.world c.args.pass.now c.give_back.new.pass (was_held 0 c.hold-shared.result c.go_on_probing-next.new.world c.args.pass.now c.hold-shared.new.seat c.give_back.new.pass c.hold-shared.ensures.seen c.hold-shared.ensures.seat (sym (ap (λ s. s.number) c.hold-shared.ensures.seat ∙ c.requires.operator)) c.give_back.ensures.pass) (asked.Probe c.args.probing.key) IsAskingHarm (harm_by c.args.verdict)) (subst (λ v. IfErr c.go_on_probing-next.result (IsToldIn (asked.Probe c.args.probing.key) IsAskingHarm (harm_by c.args.verdict) v c.go_on_probing-next.new.world)) c.shared.view_is c.go_on_probing-next.ensures.told)
+returns-clause-told g c = if_err c.go_on_probing-next.result (operator_told c.hold-shared.result c.go_on_probing-next.new.world c.args.pass.now c.give_back.new.pass (was_held 0 c.hold-shared.result c.go_on_probing-next.new.world c.args.pass.now c.hold-shared.new.seat c.give_back.new.pass c.hold-shared.ensures.seen c.hold-shared.ensures.own c.hold-shared.ensures.seat (sym (ap (λ s. s.number) c.hold-shared.ensures.seat ∙ c.requires.operator)) c.give_back.ensures.pass) (asked.Probe c.args.probing.key) IsAskingHarm (harm_by c.args.verdict)) (subst (λ v. IfErr c.go_on_probing-next.result (IsToldIn (asked.Probe c.args.probing.key) IsAskingHarm (harm_by c.args.verdict) v c.go_on_probing-next.new.world)) c.shared.view_is c.go_on_probing-next.ensures.told)
 
 pub returns-clause-answer : goal.returns-clause-answer
 returns-clause-answer g c =
@@ -49,4 +49,4 @@ returns-clause-truly g c tells =
 
 pub returns-clause-behind : goal.returns-clause-behind
 returns-clause-behind g c =
-    on_ok c.go_on_probing-next.result (λ each many has. subst (WasAskedBehind many) (sym (operator_own c.hold-shared.result c.go_on_probing-next.new.world c.args.pass.now c.give_back.new.pass (was_held 0 c.hold-shared.result c.go_on_probing-next.new.world c.args.pass.now c.hold-shared.new.seat c.give_back.new.pass c.hold-shared.ensures.seen c.hold-shared.ensures.seat (sym (ap (λ s. s.number) c.hold-shared.ensures.seat ∙ c.requires.operator)) c.give_back.ensures.pass))) (each many (subst (WasAskedBehind many) (sym (operator_part c.args.pass.now.number c.shared.inside.world c.hold-shared.result c.args.pass.now.own c.requires.operator c.shared.view_is c.hold-shared.ensures.own)) has))) c.go_on_probing-next.ensures.behind
+    on_ok c.go_on_probing-next.result (λ each many has. subst (WasAskedBehind many) (sym (operator_own c.hold-shared.result c.go_on_probing-next.new.world c.args.pass.now c.give_back.new.pass (was_held 0 c.hold-shared.result c.go_on_probing-next.new.world c.args.pass.now c.hold-shared.new.seat c.give_back.new.pass c.hold-shared.ensures.seen c.hold-shared.ensures.own c.hold-shared.ensures.seat (sym (ap (λ s. s.number) c.hold-shared.ensures.seat ∙ c.requires.operator)) c.give_back.ensures.pass))) (each many (subst (WasAskedBehind many) (sym (operator_part c.args.pass.now.number c.shared.inside.world c.hold-shared.result c.args.pass.now.own c.requires.operator c.shared.view_is c.hold-shared.ensures.own)) has))) c.go_on_probing-next.ensures.behind

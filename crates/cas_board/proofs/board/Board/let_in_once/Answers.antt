@@ -11,11 +11,11 @@ give_back-requires-clause-makes g c =
 pub returns-then-index-late-clause-front : goal.returns-then-index-late-clause-front
 returns-then-index-late-clause-front g c =
     let strays = subst (λ v. StraysIn v c.let_in.new.world) c.shared.view_is c.let_in.ensures.strays in
-    let was = was_held c.hold-shared.new.seat.number c.hold-shared.result c.let_in.new.world c.args.pass.now c.hold-shared.new.seat c.give_back.new.pass c.hold-shared.ensures.seen c.hold-shared.ensures.seat refl c.give_back.ensures.pass in
+    let was = was_held c.hold-shared.new.seat.number c.hold-shared.result c.let_in.new.world c.args.pass.now c.hold-shared.new.seat c.give_back.new.pass c.hold-shared.ensures.seen c.hold-shared.ensures.own c.hold-shared.ensures.seat refl c.give_back.ensures.pass in
     pass_strays c.hold-shared.result c.let_in.new.world c.args.pass.now c.give_back.new.pass was.has was.seen was.own strays
 
 pub returns-then-index-late-clause-wanted : goal.returns-then-index-late-clause-wanted
 returns-then-index-late-clause-wanted g c =
     let strays = subst (λ v. StraysIn v c.let_in.new.world) c.shared.view_is c.let_in.ensures.strays in
-    let was = was_held c.hold-shared.new.seat.number c.hold-shared.result c.let_in.new.world c.args.pass.now c.hold-shared.new.seat c.give_back.new.pass c.hold-shared.ensures.seen c.hold-shared.ensures.seat refl c.give_back.ensures.pass in
+    let was = was_held c.hold-shared.new.seat.number c.hold-shared.result c.let_in.new.world c.args.pass.now c.hold-shared.new.seat c.give_back.new.pass c.hold-shared.ensures.seen c.hold-shared.ensures.own c.hold-shared.ensures.seat refl c.give_back.ensures.pass in
     pass_strays_wanted c.hold-shared.result c.let_in.new.world c.args.pass.now c.give_back.new.pass was.has was.seen was.own strays

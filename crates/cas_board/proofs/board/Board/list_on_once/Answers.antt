@@ -19,12 +19,12 @@ give_back-requires-clause-makes g c =
 
 pub returns-clause-goes_on : goal.returns-clause-goes_on
 returns-clause-goes_on g c =
-    on_ok c.list_on-listing.result (operator_goes_on c.hold-shared.result c.list_on-listing.new.world c.args.pass.now c.give_back.new.pass (was_held 0 c.hold-shared.result c.list_on-listing.new.world c.args.pass.now c.hold-shared.new.seat c.give_back.new.pass c.hold-shared.ensures.seen c.hold-shared.ensures.seat (sym (ap (λ s. s.number) c.hold-shared.ensures.seat ∙ c.requires.operator)) c.give_back.ensures.pass) IsPlanMark (harm_by c.args.verdict)) (subst (λ v. OnOk c.list_on-listing.result (OperatesIn IsPlanMark (harm_by c.args.verdict) v c.list_on-listing.new.world)) c.shared.view_is c.list_on-listing.ensures.goes_on)
+    on_ok c.list_on-listing.result (operator_goes_on c.hold-shared.result c.list_on-listing.new.world c.args.pass.now c.give_back.new.pass (was_held 0 c.hold-shared.result c.list_on-listing.new.world c.args.pass.now c.hold-shared.new.seat c.give_back.new.pass c.hold-shared.ensures.seen c.hold-shared.ensures.own c.hold-shared.ensures.seat (sym (ap (λ s. s.number) c.hold-shared.ensures.seat ∙ c.requires.operator)) c.give_back.ensures.pass) IsPlanMark (harm_by c.args.verdict)) (subst (λ v. OnOk c.list_on-listing.result (OperatesIn IsPlanMark (harm_by c.args.verdict) v c.list_on-listing.new.world)) c.shared.view_is c.list_on-listing.ensures.goes_on)
 
 pub returns-clause-listed : goal.returns-clause-listed
 returns-clause-listed g c =
-    subst (λ (o : List ℕ). IfOk c.list_on-listing.result (IsListedTo (asked_to c.args.aim.now.kind c.args.aim.now.id) o)) (sym (operator_own c.hold-shared.result c.list_on-listing.new.world c.args.pass.now c.give_back.new.pass (was_held 0 c.hold-shared.result c.list_on-listing.new.world c.args.pass.now c.hold-shared.new.seat c.give_back.new.pass c.hold-shared.ensures.seen c.hold-shared.ensures.seat (sym (ap (λ s. s.number) c.hold-shared.ensures.seat ∙ c.requires.operator)) c.give_back.ensures.pass))) c.list_on-listing.ensures.listed
+    subst (λ (o : List ℕ). IfOk c.list_on-listing.result (IsListedTo (asked_to c.args.aim.now.kind c.args.aim.now.id) o)) (sym (operator_own c.hold-shared.result c.list_on-listing.new.world c.args.pass.now c.give_back.new.pass (was_held 0 c.hold-shared.result c.list_on-listing.new.world c.args.pass.now c.hold-shared.new.seat c.give_back.new.pass c.hold-shared.ensures.seen c.hold-shared.ensures.own c.hold-shared.ensures.seat (sym (ap (λ s. s.number) c.hold-shared.ensures.seat ∙ c.requires.operator)) c.give_back.ensures.pass))) c.list_on-listing.ensures.listed
 
 pub returns-clause-told : goal.returns-clause-told
 returns-clause-told g c =
-    if_err c.list_on-listing.result (operator_told c.hold-shared.result c.list_on-listing.new.world c.args.pass.now c.give_back.new.pass (was_held 0 c.hold-shared.result c.list_on-listing.new.world c.args.pass.now c.hold-shared.new.seat c.give_back.new.pass c.hold-shared.ensures.seen c.hold-shared.ensures.seat (sym (ap (λ s. s.number) c.hold-shared.ensures.seat ∙ c.requires.operator)) c.give_back.ensures.pass) (asked_to c.args.aim.now.kind c.args.aim.now.id) IsPlanMark (harm_by c.args.verdict)) (subst (λ v. IfErr c.list_on-listing.result (IsToldIn (asked_to c.args.aim.now.kind c.args.aim.now.id) IsPlanMark (harm_by c.args.verdict) v c.list_on-listing.new.world)) c.shared.view_is c.list_on-listing.ensures.told)
+    if_err c.list_on-listing.result (operator_told c.hold-shared.result c.list_on-listing.new.world c.args.pass.now c.give_back.new.pass (was_held 0 c.hold-shared.result c.list_on-listing.new.world c.args.pass.now c.hold-shared.new.seat c.give_back.new.pass c.hold-shared.ensures.seen c.hold-shared.ensures.own c.hold-shared.ensures.seat (sym (ap (λ s. s.number) c.hold-shared.ensures.seat ∙ c.requires.operator)) c.give_back.ensures.pass) (asked_to c.args.aim.now.kind c.args.aim.now.id) IsPlanMark (harm_by c.args.verdict)) (subst (λ v. IfErr c.list_on-listing.result (IsToldIn (asked_to c.args.aim.now.kind c.args.aim.now.id) IsPlanMark (harm_by c.args.verdict) v c.list_on-listing.new.world)) c.shared.view_is c.list_on-listing.ensures.told)

@@ -20,13 +20,13 @@ give_back-requires-clause-makes g c =
 
 pub returns-clause-front : goal.returns-clause-front
 returns-clause-front g c =
-    operator_made c.hold-shared.result c.order_collection-ordered.new.world c.args.pass.now c.give_back.new.pass (was_held 0 c.hold-shared.result c.order_collection-ordered.new.world c.args.pass.now c.hold-shared.new.seat c.give_back.new.pass c.hold-shared.ensures.seen c.hold-shared.ensures.seat (sym (ap (λ s. s.number) c.hold-shared.ensures.seat ∙ c.requires.operator)) c.give_back.ensures.pass) [] (subst (λ v. Makes 0 v c.order_collection-ordered.new.world []) c.shared.view_is c.order_collection-ordered.ensures.makes)
+    operator_made c.hold-shared.result c.order_collection-ordered.new.world c.args.pass.now c.give_back.new.pass (was_held 0 c.hold-shared.result c.order_collection-ordered.new.world c.args.pass.now c.hold-shared.new.seat c.give_back.new.pass c.hold-shared.ensures.seen c.hold-shared.ensures.own c.hold-shared.ensures.seat (sym (ap (λ s. s.number) c.hold-shared.ensures.seat ∙ c.requires.operator)) c.give_back.ensures.pass) [] (subst (λ v. Makes 0 v c.order_collection-ordered.new.world []) c.shared.view_is c.order_collection-ordered.ensures.makes)
 
 pub returns-clause-ordered : goal.returns-clause-ordered
 returns-clause-ordered g c =
-    course_then c.args.key.now (most_rounds c.args.tries) c.order_collection-ordered.result _ _ _ _ (operator_own c.hold-shared.result c.order_collection-ordered.new.world c.args.pass.now c.give_back.new.pass (was_held 0 c.hold-shared.result c.order_collection-ordered.new.world c.args.pass.now c.hold-shared.new.seat c.give_back.new.pass c.hold-shared.ensures.seen c.hold-shared.ensures.seat (sym (ap (λ s. s.number) c.hold-shared.ensures.seat ∙ c.requires.operator)) c.give_back.ensures.pass)) (was_held 0 c.hold-shared.result c.order_collection-ordered.new.world c.args.pass.now c.hold-shared.new.seat c.give_back.new.pass c.hold-shared.ensures.seen c.hold-shared.ensures.seat (sym (ap (λ s. s.number) c.hold-shared.ensures.seat ∙ c.requires.operator)) c.give_back.ensures.pass).seen c.order_collection-ordered.ensures.ordered
+    course_then c.args.key.now (most_rounds c.args.tries) c.order_collection-ordered.result _ _ _ _ (operator_own c.hold-shared.result c.order_collection-ordered.new.world c.args.pass.now c.give_back.new.pass (was_held 0 c.hold-shared.result c.order_collection-ordered.new.world c.args.pass.now c.hold-shared.new.seat c.give_back.new.pass c.hold-shared.ensures.seen c.hold-shared.ensures.own c.hold-shared.ensures.seat (sym (ap (λ s. s.number) c.hold-shared.ensures.seat ∙ c.requires.operator)) c.give_back.ensures.pass)) (was_held 0 c.hold-shared.result c.order_collection-ordered.new.world c.args.pass.now c.hold-shared.new.seat c.give_back.new.pass c.hold-shared.ensures.seen c.hold-shared.ensures.own c.hold-shared.ensures.seat (sym (ap (λ s. s.number) c.hold-shared.ensures.seat ∙ c.requires.operator)) c.give_back.ensures.pass).seen c.order_collection-ordered.ensures.ordered
 
 pub returns-clause-refused : goal.returns-clause-refused
 returns-clause-refused g c =
     if_err {P = λ why. IsRefusal (length c.order_collection-ordered.new.world.marks) why × IsFree (own_part c.order_collection-ordered.new.world 0)} c.order_collection-ordered.result
-    (λ why is. (subst (λ l. IsRefusal (length l) why) (sym (ap (λ s. s.seen) c.give_back.ensures.pass)) is.0, subst IsFree (sym (operator_own c.hold-shared.result c.order_collection-ordered.new.world c.args.pass.now c.give_back.new.pass (was_held 0 c.hold-shared.result c.order_collection-ordered.new.world c.args.pass.now c.hold-shared.new.seat c.give_back.new.pass c.hold-shared.ensures.seen c.hold-shared.ensures.seat (sym (ap (λ s. s.number) c.hold-shared.ensures.seat ∙ c.requires.operator)) c.give_back.ensures.pass))) is.1)) c.order_collection-ordered.ensures.refused
+    (λ why is. (subst (λ l. IsRefusal (length l) why) (sym (ap (λ s. s.seen) c.give_back.ensures.pass)) is.0, subst IsFree (sym (operator_own c.hold-shared.result c.order_collection-ordered.new.world c.args.pass.now c.give_back.new.pass (was_held 0 c.hold-shared.result c.order_collection-ordered.new.world c.args.pass.now c.hold-shared.new.seat c.give_back.new.pass c.hold-shared.ensures.seen c.hold-shared.ensures.own c.hold-shared.ensures.seat (sym (ap (λ s. s.number) c.hold-shared.ensures.seat ∙ c.requires.operator)) c.give_back.ensures.pass))) is.1)) c.order_collection-ordered.ensures.refused

@@ -5,8 +5,9 @@ use Rattle.cas_hold.specs.Kept.{Makes}
 use Rattle.cas_hold.specs.Open.{IsFree}
 use Rattle.cas_hold.specs.Orders.{HasOrder}
 use Rattle.cas_hold.specs.OwnParts.{own_part}
+use Rattle.cas_world.specs.Plans.{rescanned_of}
 use Rattle.cas_board.proofs.Sittings.{was_held, gives_back}
-use Rattle.cas_board.proofs.Operating.{operator_part, operator_made, operator_own, on_ok, if_err}
+use Rattle.cas_board.proofs.Operating.{operator_part, operator_made, operator_own, on_ok, if_err, still_counted}
 use Rattle.cas_board.proofs.board.Board.order_members_once.Goals as goal
 
 pub order_members-ordered-requires-clause-free : goal.order_members-ordered-requires-clause-free
@@ -20,13 +21,17 @@ give_back-requires-clause-makes g c =
 
 pub returns-clause-front : goal.returns-clause-front
 returns-clause-front g c =
-    operator_made c.hold-shared.result c.order_members-ordered.new.world c.args.pass.now c.give_back.new.pass (was_held 0 c.hold-shared.result c.order_members-ordered.new.world c.args.pass.now c.hold-shared.new.seat c.give_back.new.pass c.hold-shared.ensures.seen c.hold-shared.ensures.seat (sym (ap (λ s. s.number) c.hold-shared.ensures.seat ∙ c.requires.operator)) c.give_back.ensures.pass) [] (subst (λ v. Makes 0 v c.order_members-ordered.new.world []) c.shared.view_is c.order_members-ordered.ensures.makes)
+    operator_made c.hold-shared.result c.order_members-ordered.new.world c.args.pass.now c.give_back.new.pass (was_held 0 c.hold-shared.result c.order_members-ordered.new.world c.args.pass.now c.hold-shared.new.seat c.give_back.new.pass c.hold-shared.ensures.seen c.hold-shared.ensures.own c.hold-shared.ensures.seat (sym (ap (λ s. s.number) c.hold-shared.ensures.seat ∙ c.requires.operator)) c.give_back.ensures.pass) [] (subst (λ v. Makes 0 v c.order_members-ordered.new.world []) c.shared.view_is c.order_members-ordered.ensures.makes)
 
 pub returns-clause-ordered : goal.returns-clause-ordered
 returns-clause-ordered g c =
-    on_ok c.order_members-ordered.result (subst (HasOrder (asked_to c.args.aim.now.kind c.args.aim.now.id)) (sym (operator_own c.hold-shared.result c.order_members-ordered.new.world c.args.pass.now c.give_back.new.pass (was_held 0 c.hold-shared.result c.order_members-ordered.new.world c.args.pass.now c.hold-shared.new.seat c.give_back.new.pass c.hold-shared.ensures.seen c.hold-shared.ensures.seat (sym (ap (λ s. s.number) c.hold-shared.ensures.seat ∙ c.requires.operator)) c.give_back.ensures.pass)))) c.order_members-ordered.ensures.ordered
+    on_ok c.order_members-ordered.result (subst (HasOrder (asked_to c.args.aim.now.kind c.args.aim.now.id)) (sym (operator_own c.hold-shared.result c.order_members-ordered.new.world c.args.pass.now c.give_back.new.pass (was_held 0 c.hold-shared.result c.order_members-ordered.new.world c.args.pass.now c.hold-shared.new.seat c.give_back.new.pass c.hold-shared.ensures.seen c.hold-shared.ensures.own c.hold-shared.ensures.seat (sym (ap (λ s. s.number) c.hold-shared.ensures.seat ∙ c.requires.operator)) c.give_back.ensures.pass)))) c.order_members-ordered.ensures.ordered
 
 pub returns-clause-refused : goal.returns-clause-refused
 returns-clause-refused g c =
     if_err {P = λ why. IsRefusal (length c.order_members-ordered.new.world.marks) why × IsFree (own_part c.order_members-ordered.new.world 0)} c.order_members-ordered.result
-    (λ why is. (subst (λ l. IsRefusal (length l) why) (sym (ap (λ s. s.seen) c.give_back.ensures.pass)) is.0, subst IsFree (sym (operator_own c.hold-shared.result c.order_members-ordered.new.world c.args.pass.now c.give_back.new.pass (was_held 0 c.hold-shared.result c.order_members-ordered.new.world c.args.pass.now c.hold-shared.new.seat c.give_back.new.pass c.hold-shared.ensures.seen c.hold-shared.ensures.seat (sym (ap (λ s. s.number) c.hold-shared.ensures.seat ∙ c.requires.operator)) c.give_back.ensures.pass))) is.1)) c.order_members-ordered.ensures.refused
+    (λ why is. (subst (λ l. IsRefusal (length l) why) (sym (ap (λ s. s.seen) c.give_back.ensures.pass)) is.0, subst IsFree (sym (operator_own c.hold-shared.result c.order_members-ordered.new.world c.args.pass.now c.give_back.new.pass (was_held 0 c.hold-shared.result c.order_members-ordered.new.world c.args.pass.now c.hold-shared.new.seat c.give_back.new.pass c.hold-shared.ensures.seen c.hold-shared.ensures.own c.hold-shared.ensures.seat (sym (ap (λ s. s.number) c.hold-shared.ensures.seat ∙ c.requires.operator)) c.give_back.ensures.pass))) is.1)) c.order_members-ordered.ensures.refused
+
+pub returns-clause-counted : goal.returns-clause-counted
+returns-clause-counted g c =
+    still_counted c.hold-shared.result c.order_members-ordered.new.world c.args.pass.now c.give_back.new.pass (was_held 0 c.hold-shared.result c.order_members-ordered.new.world c.args.pass.now c.hold-shared.new.seat c.give_back.new.pass c.hold-shared.ensures.seen c.hold-shared.ensures.own c.hold-shared.ensures.seat (sym (ap (λ s. s.number) c.hold-shared.ensures.seat ∙ c.requires.operator)) c.give_back.ensures.pass) (c.order_members-ordered.ensures.counted ∙ ap (λ v. rescanned_of v.council.plan) c.shared.view_is)

@@ -26,7 +26,7 @@ returns-in-Ok-clause-free g c = c.ask_and_probe.ensures.told.2.is_free
 pub returns-in-Ok-clause-operates : goal.returns-in-Ok-clause-operates
 returns-in-Ok-clause-operates g c =
     operates_told (asked.Probe c.args.key.now) IsAskingHarm c.ask_and_probe.ensures.told.0 _ _ c.args.pass.now c.ask_and_probe.new.pass c.ask_and_probe.result c.ask_and_probe.ensures.told.1
-    (told_behind (asked.Probe c.args.key.now) IsAskingHarm c.ask_and_probe.ensures.told.0 c.args.pass.now c.order_probe_once.new.pass c.ask_and_probe.new.pass c.ask_and_probe.result (ap (λ s. s.number) c.order_probe_once.ensures.pass) c.in-Ok.ensures.front
+    (told_behind (asked.Probe c.args.key.now) IsAskingHarm c.ask_and_probe.ensures.told.0 c.args.pass.now c.order_probe_once.new.pass c.ask_and_probe.new.pass c.ask_and_probe.result (ap (λ s. s.number) c.order_probe_once.ensures.pass) c.in-Ok.ensures.front (λ enters. absurd (enters 0 0))
     (subst (λ (k : List ℕ). WasToldLast (asked.Probe k) IsAskingHarm c.ask_and_probe.ensures.told.0 c.order_probe_once.new.pass c.ask_and_probe.new.pass c.ask_and_probe.result) c.in-Ok.ensures.key c.ask_and_probe.ensures.told.2))
 
 pub returns-in-Ok-clause-answer : goal.returns-in-Ok-clause-answer
@@ -36,7 +36,7 @@ pub returns-in-Err-clause-free : goal.returns-in-Err-clause-free
 returns-in-Err-clause-free g c = c.in-Err.ensures.refused.1
 
 pub returns-in-Err-clause-operates : goal.returns-in-Err-clause-operates
-returns-in-Err-clause-operates g c = is_not_begun c.in-Err.refusal c.in-Err.ensures.refused.0 refl (counted_none (g.F.Fate.harm_count c.args.fate.now)) c.in-Err.ensures.front
+returns-in-Err-clause-operates g c = is_not_begun c.in-Err.refusal c.in-Err.ensures.refused.0 refl (counted_none (g.F.Fate.harm_count c.args.fate.now)) c.in-Err.ensures.front (λ enters. absurd (enters 0 0))
 
 pub returns-in-Err-clause-answer : goal.returns-in-Err-clause-answer
 returns-in-Err-clause-answer g c = refused_answers c.args.key.now _ c.in-Err.refusal c.in-Err.ensures.refused.0

@@ -12,10 +12,10 @@ loop-init g c = (
 )
 
 pub verdict_at-verdict-requires : goal.verdict_at-verdict-requires
-verdict_at-verdict-requires g c = record { pass = still_pass c.args.self.now.id c.args.pass.now c.loop.pass c.requires.pass c.loop.invariant.0.pass }
+verdict_at-verdict-requires g c = record { pass = still_pass c.args.self.now c.args.pass.now c.loop.pass c.requires.pass c.loop.invariant.0.pass }
 
 pub go_on_once-requires-clause-pass : goal.go_on_once-requires-clause-pass
-go_on_once-requires-clause-pass g c = asked_pass c.args.begun.call _ _ c.args.pass.now c.loop.pass c.verdict_at-verdict.new.pass c.loop.invariant.0 c.verdict_at-verdict.ensures.pass c.args.self.now.id c.requires.pass
+go_on_once-requires-clause-pass g c = asked_pass c.args.begun.call _ _ c.args.pass.now c.loop.pass c.verdict_at-verdict.new.pass c.loop.invariant.0 c.verdict_at-verdict.ensures.pass c.args.self.now c.requires.pass
 
 pub go_on_once-requires-clause-called : goal.go_on_once-requires-clause-called
 go_on_once-requires-clause-called g c = asked_open c.args.begun.call _ _ c.args.pass.now c.loop.pass c.verdict_at-verdict.new.pass c.loop.invariant.0 c.verdict_at-verdict.ensures.pass

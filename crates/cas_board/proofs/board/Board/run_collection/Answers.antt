@@ -15,11 +15,11 @@ loop-init g c =
 
 pub verdict_for-verdict-requires : goal.verdict_for-verdict-requires
 verdict_for-verdict-requires g c =
-    record { pass = still_pass c.args.self.now.id c.args.pass.now c.loop.pass c.requires.pass c.loop.invariant.run.pass }
+    record { pass = still_pass c.args.self.now c.args.pass.now c.loop.pass c.requires.pass c.loop.invariant.run.pass }
 
 pub go_on_collecting_once-requires-clause-pass : goal.go_on_collecting_once-requires-clause-pass
 go_on_collecting_once-requires-clause-pass g c =
-    order_pass (IsBurialMark c.args.first.key) _ _ c.args.pass.now c.loop.pass c.verdict_for-verdict.new.pass c.loop.invariant.run c.verdict_for-verdict.ensures.pass c.args.self.now.id c.requires.pass
+    order_pass (IsBurialMark c.args.first.key) _ _ c.args.pass.now c.loop.pass c.verdict_for-verdict.new.pass c.loop.invariant.run c.verdict_for-verdict.ensures.pass c.args.self.now c.requires.pass
 
 pub go_on_collecting_once-requires-clause-operator : goal.go_on_collecting_once-requires-clause-operator
 go_on_collecting_once-requires-clause-operator g c =
@@ -38,7 +38,7 @@ returns-in-Err-clause-pass g c =
 pub returns-in-Err-clause-told : goal.returns-in-Err-clause-told
 returns-in-Err-clause-told g c =
     order_ends (IsCollectingMark c.args.first.key (most_rounds c.args.first.tries)) _ _ c.args.pass.now c.loop.pass c.verdict_for-verdict.new.pass
-    (run_less (IsBurialMark c.args.first.key) (IsCollectingMark c.args.first.key (most_rounds c.args.first.tries)) (burial_within c.args.first.key (most_rounds c.args.first.tries)) _ _ c.args.pass.now c.loop.pass c.loop.invariant.run) c.verdict_for-verdict.ensures.pass (harm_by c.verdict_for-verdict.result) _ c.go_on_collecting_once.new.pass c.verdict_for-verdict.ensures.front c.verdict_for-verdict.ensures.counted c.go_on_collecting_once.ensures.pass (asked.Collect c.args.first.key) c.in-Err.told
+    (run_less (IsBurialMark c.args.first.key) (IsCollectingMark c.args.first.key (most_rounds c.args.first.tries)) (burial_within c.args.first.key (most_rounds c.args.first.tries)) (λ enters. absurd (enters 0 0)) _ _ c.args.pass.now c.loop.pass c.loop.invariant.run) c.verdict_for-verdict.ensures.pass (harm_by c.verdict_for-verdict.result) _ c.go_on_collecting_once.new.pass c.verdict_for-verdict.ensures.front c.verdict_for-verdict.ensures.counted c.go_on_collecting_once.ensures.pass (asked.Collect c.args.first.key) c.in-Err.told
     (subst (λ (n : ℕ). WasToldLast (asked.Collect c.args.first.key) (IsCollectingMark c.args.first.key (most_rounds n)) (harm_by c.verdict_for-verdict.result) c.verdict_for-verdict.new.pass c.go_on_collecting_once.new.pass c.in-Err.told) c.loop.invariant.tries
     (subst (λ (k : List ℕ). WasToldLast (asked.Collect k) (IsCollectingMark k (most_rounds c.loop.collecting.tries)) (harm_by c.verdict_for-verdict.result) c.verdict_for-verdict.new.pass c.go_on_collecting_once.new.pass c.in-Err.told) c.loop.invariant.key c.in-Err.ensures.told))
 

@@ -9,11 +9,11 @@ use Rattle.cas_board.proofs.board.Board.run_listing.Goals as goal
 
 pub verdict_for-verdict-requires : goal.verdict_for-verdict-requires
 verdict_for-verdict-requires g c =
-    record { pass = still_pass c.args.self.now.id c.args.pass.now c.loop.pass c.requires.pass c.loop.invariant.run.pass }
+    record { pass = still_pass c.args.self.now c.args.pass.now c.loop.pass c.requires.pass c.loop.invariant.run.pass }
 
 pub list_on_once-requires-clause-pass : goal.list_on_once-requires-clause-pass
 list_on_once-requires-clause-pass g c =
-    order_pass IsPlanMark _ _ c.args.pass.now c.loop.pass c.verdict_for-verdict.new.pass c.loop.invariant.run c.verdict_for-verdict.ensures.pass c.args.self.now.id c.requires.pass
+    order_pass IsPlanMark _ _ c.args.pass.now c.loop.pass c.verdict_for-verdict.new.pass c.loop.invariant.run c.verdict_for-verdict.ensures.pass c.args.self.now c.requires.pass
 
 pub list_on_once-requires-clause-operator : goal.list_on_once-requires-clause-operator
 list_on_once-requires-clause-operator g c =

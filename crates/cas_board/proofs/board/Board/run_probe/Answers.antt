@@ -11,10 +11,10 @@ pub loop-init : goal.loop-init
 loop-init g c = record { run = order_runs IsAskingHarm (g.F.Fate.harm_count c.args.fate.now) c.args.pass.now; asks = λ members has. has; behind = λ many has. has; harms = none_marked c.args.pass.now; key = refl }
 
 pub verdict_for-verdict-requires : goal.verdict_for-verdict-requires
-verdict_for-verdict-requires g c = record { pass = still_pass c.args.self.now.id c.args.pass.now c.loop.pass c.requires.pass c.loop.invariant.run.pass }
+verdict_for-verdict-requires g c = record { pass = still_pass c.args.self.now c.args.pass.now c.loop.pass c.requires.pass c.loop.invariant.run.pass }
 
 pub go_on_probing_once-requires-clause-pass : goal.go_on_probing_once-requires-clause-pass
-go_on_probing_once-requires-clause-pass g c = order_pass IsAskingHarm _ _ c.args.pass.now c.loop.pass c.verdict_for-verdict.new.pass c.loop.invariant.run c.verdict_for-verdict.ensures.pass c.args.self.now.id c.requires.pass
+go_on_probing_once-requires-clause-pass g c = order_pass IsAskingHarm _ _ c.args.pass.now c.loop.pass c.verdict_for-verdict.new.pass c.loop.invariant.run c.verdict_for-verdict.ensures.pass c.args.self.now c.requires.pass
 
 pub go_on_probing_once-requires-clause-operator : goal.go_on_probing_once-requires-clause-operator
 go_on_probing_once-requires-clause-operator g c = order_number IsAskingHarm _ _ c.args.pass.now c.loop.pass c.verdict_for-verdict.new.pass c.loop.invariant.run c.verdict_for-verdict.ensures.pass ∙ c.requires.operator

@@ -12,11 +12,11 @@ use Rattle.cas_board.proofs.board.Board.run_rescan.Goals as goal
 
 pub verdict_at-verdict-requires : goal.verdict_at-verdict-requires
 verdict_at-verdict-requires g c =
-    record { pass = still_pass c.args.self.now.id c.args.pass.now c.loop.pass c.requires.pass c.loop.invariant.run.pass }
+    record { pass = still_pass c.args.self.now c.args.pass.now c.loop.pass c.requires.pass c.loop.invariant.run.pass }
 
 pub rescan_on_once-requires-clause-pass : goal.rescan_on_once-requires-clause-pass
 rescan_on_once-requires-clause-pass g c =
-    order_pass IsPlanMark _ _ c.args.pass.now c.loop.pass c.verdict_at-verdict.new.pass c.loop.invariant.run c.verdict_at-verdict.ensures.pass c.args.self.now.id c.requires.pass
+    order_pass IsPlanMark _ _ c.args.pass.now c.loop.pass c.verdict_at-verdict.new.pass c.loop.invariant.run c.verdict_at-verdict.ensures.pass c.args.self.now c.requires.pass
 
 pub rescan_on_once-requires-clause-operator : goal.rescan_on_once-requires-clause-operator
 rescan_on_once-requires-clause-operator g c =
@@ -36,7 +36,7 @@ returns-in-Err-clause-pass g c =
 
 pub returns-in-Err-clause-told : goal.returns-in-Err-clause-told
 returns-in-Err-clause-told g c =
-    order_ends (IsRescanMark c.args.tries) _ _ c.args.pass.now c.loop.pass c.verdict_at-verdict.new.pass (run_less IsPlanMark (IsRescanMark c.args.tries) (rescan_within c.args.tries) _ _ c.args.pass.now c.loop.pass c.loop.invariant.run) c.verdict_at-verdict.ensures.pass (harm_by c.verdict_at-verdict.result) _ c.rescan_on_once.new.pass c.verdict_at-verdict.ensures.front c.verdict_at-verdict.ensures.counted c.rescan_on_once.ensures.pass (asked_to c.args.aim.now.kind c.args.aim.now.id) c.in-Err.told
+    order_ends (IsRescanMark c.args.tries) _ _ c.args.pass.now c.loop.pass c.verdict_at-verdict.new.pass (run_less IsPlanMark (IsRescanMark c.args.tries) (rescan_within c.args.tries) (λ enters proposer era. tt) _ _ c.args.pass.now c.loop.pass c.loop.invariant.run) c.verdict_at-verdict.ensures.pass (harm_by c.verdict_at-verdict.result) _ c.rescan_on_once.new.pass c.verdict_at-verdict.ensures.front c.verdict_at-verdict.ensures.counted c.rescan_on_once.ensures.pass (asked_to c.args.aim.now.kind c.args.aim.now.id) c.in-Err.told
     (c.in-Err.ensures.told c.args.tries (λ no_more. rounds_spent c.args.tries c.loop.rounds (tells_met c.loop.stage) c.verdict_at-verdict.new.pass.own (tried_asked c.args.tries c.loop.rounds (tells_met c.loop.stage) c.loop.pass c.verdict_at-verdict.new.pass c.verdict_at-verdict.ensures.pass c.loop.invariant.tried) c.rounds_with-rounds.result c.rounds_with-rounds.ensures (ltb-false _ _ no_more)))
 
 pub loop-init : goal.loop-init

@@ -13,7 +13,7 @@ loop-init g c =
 
 pub take_step-requires-clause-pass : goal.take_step-requires-clause-pass
 take_step-requires-clause-pass g c =
-    still_pass c.args.self.now.id c.args.pass.now c.loop.pass c.requires.pass c.loop.invariant.run.pass
+    still_pass c.args.self.now c.args.pass.now c.loop.pass c.requires.pass c.loop.invariant.run.pass
 
 pub take_step-requires-clause-operator : goal.take_step-requires-clause-operator
 take_step-requires-clause-operator g c =
@@ -29,7 +29,7 @@ returns-in-Err-clause-pass g c =
 
 pub returns-in-Err-clause-told : goal.returns-in-Err-clause-told
 returns-in-Err-clause-told g c =
-    order_ends (IsRescanMark c.args.tries) _ _ c.args.pass.now c.loop.pass c.loop.pass (run_less IsPlanMark (IsRescanMark c.args.tries) (rescan_within c.args.tries) _ _ c.args.pass.now c.loop.pass c.loop.invariant.run) refl c.in-Err.ensures.told.0 _ c.take_step.new.pass (stays c.loop.pass) c.in-Err.ensures.told.1 c.take_step.ensures.pass (asked_to c.args.aim.now.kind c.args.aim.now.id) c.in-Err.told c.in-Err.ensures.told.2
+    order_ends (IsRescanMark c.args.tries) _ _ c.args.pass.now c.loop.pass c.loop.pass (run_less IsPlanMark (IsRescanMark c.args.tries) (rescan_within c.args.tries) (λ enters proposer era. tt) _ _ c.args.pass.now c.loop.pass c.loop.invariant.run) refl c.in-Err.ensures.told.0 _ c.take_step.new.pass (stays c.loop.pass) c.in-Err.ensures.told.1 c.take_step.ensures.pass (asked_to c.args.aim.now.kind c.args.aim.now.id) c.in-Err.told c.in-Err.ensures.told.2
 
 pub loop-preserved : goal.loop-preserved
 loop-preserved g c =

@@ -1,4 +1,4 @@
-use Rattle.std.proofs.Common.{List, reverse, refl, sym, ap, subst, ◌∙◌}
+use Rattle.std.proofs.Common.{ℕ, suc, List, reverse, refl, sym, ap, subst, ◌∙◌}
 use Rattle.cas_causes.specs.Tellings.{AreTellingsSo}
 use Rattle.cas_record.specs.declared.mark.Mark.{Mark}
 use Rattle.cas_steady.specs.Steady.{IsBlamed}
@@ -10,4 +10,6 @@ returns-clause-deserved g c =
     deserved_closed _ g.D.Disk.fault_count c.into_world.result c.close-book.result.1.acceptors.items c.close-book.result.1.vaults.items c.close-book.result.0.marks (subst (IsBlamed _) (sym c.into_world.ensures.same) c.into_world.ensures.blamed) (λ shelf. refl) (λ disk. refl) c.close-book.ensures.acceptors c.close-book.ensures.vaults c.close-book.ensures.marks
 
 pub returns-clause-tellings : goal.returns-clause-tellings
-returns-clause-tellings g c tells = subst (λ (marks : List Mark). AreTellingsSo (reverse marks)) (sym (c.close-book.ensures.marks ∙ ap (λ w. w.marks) c.into_world.ensures.same)) (c.into_world.ensures.tellings tells tells)
+returns-clause-tellings g c tells =
+    subst (λ (n : ℕ). AreTellingsSo (suc n) (reverse c.close-book.result.0.marks)) (ap (λ v. v.greatest) c.self.view_is)
+    (subst (λ (marks : List Mark). AreTellingsSo (suc c.self.inside.world.greatest) (reverse marks)) (sym (c.close-book.ensures.marks ∙ ap (λ w. w.marks) c.into_world.ensures.same)) (c.into_world.ensures.tellings tells tells))
