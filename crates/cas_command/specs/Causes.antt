@@ -203,7 +203,7 @@ pub record RacedOver {D : Type 0} (m : RackMeaning D) (options : Options) (input
   pub ended : Result (Unit {0}) RaceFault
   pub is : result ≡ status_of_race ended
   pub legal : m.tells → IsLegal (reverse marks)
-  pub tellings : m.tells → AreTellingsSo (reverse marks)
+  pub tellings : m.tells → AreTellingsSo (options.proposers + 1) (reverse marks)
   pub kept : m.tells → AreKept m.may_leave (reverse marks) back.acceptors.items
   pub deserved : AreDeserved m.faults back.acceptors.items back.vaults.items marks
   pub wrote : WroteRace m.tells options.tries options.proposers input old new harms harms_then marks ended

@@ -45,7 +45,7 @@ pub(crate) fn race_board<
     requires range { AreOptionsInRange options }
     requires seats { board.seats ≡ options.proposers + 1 }
     requires passes { passes.items ≡ fresh_seats board.id (options.proposers + 1) }
-    requires idle { All (λ pass. IsPassOf board.id pass × IsFree pass.own) passes.items }
+    requires idle { All (λ pass. IsPassOf board pass × IsFree pass.own) passes.items }
     requires room { vec_capacity passes ≡ options.proposers + 1 }
     requires fates { vec_len fates.old ≡ 17 }
     ensures raced { RacedOver (rack_meaning D.tells D.seen D.may_leave D.fault_count) options (S.remaining source.old) (K.contents sink.old) (K.contents sink.new) (map F.harm_count fates.old.items) (map F.harm_count fates.new.items) result.0 result.1 }

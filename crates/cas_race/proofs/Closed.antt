@@ -5,7 +5,7 @@ use Rattle.std.proofs.lemmas.Option.{get_or_from_slice_get, slice_get-get_or}
 use Rattle.cas_cluster.proofs.SafeParts.{low_at, at_low}
 use Rattle.cas_record.specs.declared.mark.Mark.{Mark}
 use Rattle.cas_turn.specs.Seen.{Begins}
-use Rattle.cas_turn.specs.Sitting.{Sitting, TurnId, fresh_seats}
+use Rattle.cas_turn.specs.Sitting.{Sitting, Turning, fresh_seats}
 use Rattle.cas_hold.specs.Mine.{mine, losses}
 use Rattle.cas_board.specs.Changes.{IsCounted}
 use Rattle.cas_board.specs.Passes.{IsPassOf}
@@ -22,7 +22,7 @@ use Rattle.cas_race.specs.Texts.{IsRaceText}
 use Rattle.cas_race.proofs.Lined.{fresh_at}
 use Rattle.cas_race.proofs.Racing.{ran_later}
 
-module _ {V : Type 0} (board : TurnId) (proposers : ℕ) (passes : List (Sitting V Mark)) (are : ArePassesOf board proposers passes) where
+module _ {V : Type 0} (board : Turning) (proposers : ℕ) (passes : List (Sitting V Mark)) (are : ArePassesOf board proposers passes) where
   pub each_of : (P : Sitting V Mark → Type 0) → ((pass : Sitting V Mark) → IsPassOf board pass → P pass) → All P passes
   each_of P f k d low = f (slice_index_or passes k d) (are.each k (slice_index_or passes k d) (slice_get-get_or passes k d low)).0
 
@@ -52,10 +52,10 @@ module _ {V : Type 0} (board : TurnId) (proposers : ℕ) (passes : List (Sitting
           subst (λ (l : List Mark). IsCounted (losses l) before after) (sym (own_at n pass.0 pass.1)) (raced.counted n before after pass.0 pass.1 at_before at_after);
     }
 
-    pub none_raced : passes ≡ fresh_seats board (proposers + 1) → (n : ℕ) → n ≤ proposers → mine n marks ≡ []
+    pub none_raced : passes ≡ fresh_seats board.id (proposers + 1) → (n : ℕ) → n ≤ proposers → mine n marks ≡ []
     none_raced fresh n low =
         let pass = pass_at n low in
-        own_at n pass.0 pass.1 ∙ ap (λ (s : Sitting V Mark). mine n s.seen) (fresh_at board (proposers + 1) n pass.0 (subst (λ (l : List (Sitting V Mark)). slice_get l n ≡ Some pass.0) fresh pass.1))
+        own_at n pass.0 pass.1 ∙ ap (λ (s : Sitting V Mark). mine n s.seen) (fresh_at board.id (proposers + 1) n pass.0 (subst (λ (l : List (Sitting V Mark)). slice_get l n ≡ Some pass.0) fresh pass.1))
 
     module _ (tells : Type 0) (tries : ℕ) (lines : List (List ℕ)) (harms harms_then : List ℕ) (answers : List (List Told)) (raced : AreRaced tells tries proposers lines harms harms_then answers passes)
         (input old new : Option (List ℕ)) (all : AreAllLines input lines) (bad : List ℕ) (bad_are : bad ≡ bad_lines proposers 1 lines) where
@@ -65,5 +65,5 @@ module _ {V : Type 0} (board : TurnId) (proposers : ℕ) (passes : List (Sitting
       pub wrote_front : (why : HistoryFault) → WroteFront (IsRaceText bad answers (reverse marks)) old new → WroteRace tells tries proposers input old new harms harms_then marks (Err (fault.CutOff why))
       wrote_front why wrote = cut_off why lines answers all (raced_whole tells tries lines harms harms_then answers raced) (subst (λ (l : List ℕ). WroteFront (IsRaceText l answers (reverse marks)) old new) bad_are wrote)
 
-    pub wrote_nothing : (tells : Type 0) (tries : ℕ) (input held : Option (List ℕ)) (harms harms_then : List ℕ) (why : LineFault) → passes ≡ fresh_seats board (proposers + 1) → harms_then ≡ harms → WroteRace tells tries proposers input held held harms harms_then marks (Err (fault.NotRun why))
+    pub wrote_nothing : (tells : Type 0) (tries : ℕ) (input held : Option (List ℕ)) (harms harms_then : List ℕ) (why : LineFault) → passes ≡ fresh_seats board.id (proposers + 1) → harms_then ≡ harms → WroteRace tells tries proposers input held held harms harms_then marks (Err (fault.NotRun why))
     wrote_nothing tells tries input held harms harms_then why fresh same = not_run why (none_raced fresh) same refl

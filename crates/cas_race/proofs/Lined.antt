@@ -8,7 +8,7 @@ use Rattle.std.proofs.lemmas.Option.{get_or_from_slice_get, slice_get-get_or}
 use Rattle.cas_cluster.proofs.Places.{some_is}
 use Rattle.cas_cluster.proofs.SafeParts.{low_at, at_low}
 use Rattle.cas_record.specs.declared.mark.Mark.{Mark}
-use Rattle.cas_turn.specs.Sitting.{Sitting, TurnId, fresh_seat, fresh_seats}
+use Rattle.cas_turn.specs.Sitting.{Sitting, TurnId, Turning, fresh_seat, fresh_seats}
 use Rattle.cas_hold.specs.Mine.{mine, losses}
 use Rattle.cas_hold.specs.Open.{IsFree}
 use Rattle.cas_board.specs.Changes.{IsCounted}
@@ -55,30 +55,30 @@ range_at from zero n k at = absurd (cc at)
 range_at from (suc count) zero k at = let same = some_is at in omega (arith, same)
 range_at from (suc count) (suc n) k at = let later = range_at (from + 1) count n k at in omega (arith, later)
 
-pub fresh_at : {V : Type 0} (turn : TurnId) (count n : ℕ) (pass : Sitting V Mark) → slice_get (fresh_seats turn count) n ≡ Some pass → pass ≡ fresh_seat turn n
+pub fresh_at : {V : Type 0} (turn : TurnId) (count n : ℕ) (pass : Sitting V Mark) → slice_get (fresh_seats turn count) n ≡ Some pass → pass ≡ fresh_seat turn count n
 fresh_at turn count n pass at =
-    let found = at_mapped (fresh_seat turn) (range_with_len 0 count) n pass at in
-    sym found.2 ∙ ap (fresh_seat turn) (let k = range_at 0 count n found.0 found.1 in let e : found.0 ≡ n = omega (arith, k) in e)
+    let found = at_mapped (fresh_seat turn count) (range_with_len 0 count) n pass at in
+    sym found.2 ∙ ap (fresh_seat turn count) (let k = range_at 0 count n found.0 found.1 in let e : found.0 ≡ n = omega (arith, k) in e)
 
 seats_count : (V : Type 0) (board : TurnId) (proposers : ℕ) → length (fresh_seats {V = V} {I = Mark} board (proposers + 1)) ≡ suc proposers
 seats_count V board proposers =
-    let seats = length-map (range_with_len 0 (proposers + 1)) (fresh_seat {V = V} {I = Mark} board) in
+    let seats = length-map (range_with_len 0 (proposers + 1)) (fresh_seat {V = V} {I = Mark} board (proposers + 1)) in
     let range = length-range_with_len 0 (proposers + 1) in
     omega (arith, seats, range)
 
 pub count_of : {V : Type 0} (board : TurnId) (proposers : ℕ) (passes : List (Sitting V Mark)) → passes ≡ fresh_seats board (proposers + 1) → length passes ≡ suc proposers
 count_of {V} board proposers passes fresh = ap (λ (l : List (Sitting V Mark)). length l) fresh ∙ seats_count V board proposers
 
-module _ {V : Type 0} (board : TurnId) (proposers : ℕ) (passes : List (Sitting V Mark)) (fresh : passes ≡ fresh_seats board (proposers + 1)) (idle : All (λ pass. IsPassOf board pass × IsFree pass.own) passes) where
+module _ {V : Type 0} (board : Turning) (proposers : ℕ) (passes : List (Sitting V Mark)) (fresh : passes ≡ fresh_seats board.id (proposers + 1)) (idle : All (λ pass. IsPassOf board pass × IsFree pass.own) passes) where
   pub idle_at : (n : ℕ) (pass : Sitting V Mark) → slice_get passes n ≡ Some pass → IsPassOf board pass × IsFree pass.own
   idle_at n pass at = subst (λ (p : Sitting V Mark). IsPassOf board p × IsFree p.own) (get_or_from_slice_get passes n pass pass at) (idle n pass (low_at passes n at))
 
   pub number_at : (n : ℕ) (pass : Sitting V Mark) → slice_get passes n ≡ Some pass → pass.number ≡ n
-  number_at n pass at = ap (λ (s : Sitting V Mark). s.number) (fresh_at board (proposers + 1) n pass (subst (λ (l : List (Sitting V Mark)). slice_get l n ≡ Some pass) fresh at))
+  number_at n pass at = ap (λ (s : Sitting V Mark). s.number) (fresh_at board.id (proposers + 1) n pass (subst (λ (l : List (Sitting V Mark)). slice_get l n ≡ Some pass) fresh at))
 
   -- those of a board on which nothing has happened
   pub new_passes : ArePassesOf board proposers passes
-  new_passes = record { count = count_of board proposers passes fresh; each = λ n pass at. ((idle_at n pass at).0, number_at n pass at) }
+  new_passes = record { count = count_of board.id proposers passes fresh; each = λ n pass at. ((idle_at n pass at).0, number_at n pass at) }
 
   -- and so are those of the racers that are made of them
   pub racers_idle : {R : Type 0} (pass_of : R → Sitting V Mark) (racers : List R) → map pass_of racers ≡ passes → (n : ℕ) (r : R) → slice_get racers n ≡ Some r → IsPassOf board (pass_of r)
@@ -106,7 +106,7 @@ module _ {R Asks Says : Type 0} (tasks_in : R → Asks) (told_in : R → Says) (
         let here : slice_get (map asks tasks) n ≡ Some (asks (tasks_in r)) = map_at asks tasks n (tasks_in r) (tasks_at n r at) in
         sym (get_or_from_slice_get (map asks tasks) n (asks (tasks_in r)) [] here) ∙ parted.tasks_are n (let low = low_at (map asks tasks) n here in let callers = parted.callers in omega (arith, low, callers))
 
-    pub ready_all : {V : Type 0} (pass_of : R → Sitting V Mark) (board : TurnId) (passes : List (Sitting V Mark)) → map pass_of racers ≡ passes → passes ≡ fresh_seats board (proposers + 1) → All (λ pass. IsPassOf board pass × IsFree pass.own) passes
+    pub ready_all : {V : Type 0} (pass_of : R → Sitting V Mark) (board : Turning) (passes : List (Sitting V Mark)) → map pass_of racers ≡ passes → passes ≡ fresh_seats board.id (proposers + 1) → All (λ pass. IsPassOf board pass × IsFree pass.own) passes
         → ((n : ℕ) (of_caller : Asks) (of_answers : Says) → n < length tasks → HasRoomFor (asks (slice_index_or tasks n of_caller)) (says (slice_index_or told n of_answers)) (room (slice_index_or told n of_answers)))
         → All (λ r. IsReady board (pass_of r) (asks (tasks_in r)) (says (told_in r)) (room (told_in r))) racers
     ready_all {V} pass_of board passes passes_are fresh idle rooms k d low =
@@ -137,12 +137,12 @@ module _ {R V : Type 0} (pass_of : R → Sitting V Mark) (harms_of : R → ℕ) 
   before : (n : ℕ) (now : R) → slice_get new n ≡ Some now → (was : R) × (slice_get old n ≡ Some was)
   before n now at = at_low old n (let low = low_at new n at in omega (arith, low, as_many))
 
-  module _ (board : TurnId) (proposers : ℕ) (fresh : map pass_of old ≡ fresh_seats board (proposers + 1)) where
+  module _ (board : Turning) (proposers : ℕ) (fresh : map pass_of old ≡ fresh_seats board.id (proposers + 1)) where
     count_old : length old ≡ suc proposers
-    count_old = sym (length-map old pass_of) ∙ count_of board proposers (map pass_of old) fresh
+    count_old = sym (length-map old pass_of) ∙ count_of board.id proposers (map pass_of old) fresh
 
-    pass_was : (n : ℕ) (was : R) → slice_get old n ≡ Some was → pass_of was ≡ fresh_seat board n
-    pass_was n was at = fresh_at board (proposers + 1) n (pass_of was) (subst (λ (l : List (Sitting V Mark)). slice_get l n ≡ Some (pass_of was)) fresh (map_at pass_of old n was at))
+    pass_was : (n : ℕ) (was : R) → slice_get old n ≡ Some was → pass_of was ≡ fresh_seat board.id (proposers + 1) n
+    pass_was n was at = fresh_at board.id (proposers + 1) n (pass_of was) (subst (λ (l : List (Sitting V Mark)). slice_get l n ≡ Some (pass_of was)) fresh (map_at pass_of old n was at))
 
     number_now : (n : ℕ) (was now : R) → slice_get old n ≡ Some was → slice_get new n ≡ Some now → (pass_of now).number ≡ n
     number_now n was now at_was at_now = ap (λ (s : Sitting V Mark). s.number) (ran_at n was now at_was at_now).pass ∙ ap (λ (s : Sitting V Mark). s.number) (pass_was n was at_was)

@@ -1,5 +1,5 @@
 -- What a caller of a race has run, task by task.
-use Rattle.std.proofs.Common.{◌≡◌, ◌≤◌, ◌+◌, ℕ, List, [], ◌∷◌, ◌++◌, length, Some, inl, inr, refl, sym, ap, subst, ◌∙◌, append-nil, append_assoc, length-append, arith}
+use Rattle.std.proofs.Common.{◌≡◌, ◌≤◌, ◌+◌, ℕ, List, [], ◌∷◌, ◌++◌, length, Some, inl, inr, refl, sym, ap, subst, ◌∙◌, append-nil, length-append, arith}
 use Rattle.cas_change.specs.declared.program.Clause.{Clause}
 use Rattle.cas_record.specs.declared.answer.Answer.{Answer}
 use Rattle.cas_record.specs.declared.mark.Mark.{Mark}
@@ -10,7 +10,8 @@ use Rattle.cas_record.specs.declared.operator.OpAnswer.{OpAnswer}
 use Rattle.cas_record.specs.declared.operator.OpAnswer.TheVariants as op
 use Rattle.cas_cluster.specs.StepCouncil.{told_marks}
 use Rattle.cas_turn.specs.Seen.{Begins}
-use Rattle.cas_turn.specs.Sitting.{Sitting, TurnId}
+use Rattle.cas_turn.specs.Sitting.{Sitting, Turning}
+use Rattle.cas_turn.proofs.SeenLemmas.{begins_both}
 use Rattle.cas_hold.specs.Deeds.{IsRefusal}
 use Rattle.cas_hold.specs.Mine.{mine, losses, GoesOn}
 use Rattle.cas_hold.specs.Open.{IsFree}
@@ -48,9 +49,6 @@ changed_longer made longer tries n key program answered own more (is_turned_away
 operated_longer : (made longer tries : ℕ) (asked : Asked) (answered : OpAnswer) (own : List Mark) → made ≤ longer → IsOperated made tries asked answered own → IsOperated longer tries asked answered own
 operated_longer made longer tries asked answered own more (runs.is_told before all_such) = runs.is_told before all_such
 operated_longer made longer tries asked answered own more (runs.is_not_begun why refusal stopped) = runs.is_not_begun why (refused_longer made longer why more refusal) stopped
-
-begins_both : {I : Type 0} (a b c : List I) → Begins a b → Begins b c → Begins a c
-begins_both {I} a b c first second = record { behind = first.behind ++ second.behind; whole = sym (append_assoc a first.behind second.behind) ∙ ap (λ (l : List I). l ++ second.behind) first.whole ∙ second.whole }
 
 module _ (tells : Type 0) (all later : List Mark) (begins : Begins all later) (tries n : ℕ) where
   found_later : {earlier own : List Mark} {answered : OpAnswer} → IsFoundIn tells all n earlier own answered → IsFoundIn tells later n earlier own answered
@@ -119,24 +117,26 @@ module _ {V : Type 0} (tells : Type 0) (tries harms harms_then : ℕ) (old new :
   change_ran asked key program told is (is_not_begun refusal counted front) = record { own = []; front = front; answered = as_asked asked key program told [] is (is_turned_away refusal); counted = counted }
 
   pub order_ran : (order : Task) (asked : Asked) (told : OpAnswer) → asked_by order ≡ Some asked → ((own : List Mark) → GoesOn old.number old.seen new.seen own → AnswersOrder tells new.seen old.number (mine old.number old.seen) own asked told) → Operates asked (IsOrderMark tries asked) harms harms_then old new told → HasRunTask tells tries harms harms_then order (said.Operator told) old new
-  order_ran order asked told is answers (operations.is_told marks front last all_such counted) = record {
+  order_ran order asked told is answers (operations.is_told marks front last all_such counted counts) = record {
     own = marks ++ told_marks asked told;
     front = front;
     answered = is_operated is (runs.is_told marks all_such) (answers (marks ++ told_marks asked told) front);
     counted = subst (λ (k : ℕ). IsCounted k harms harms_then) (sym (losses_append marks (told_marks asked told) ∙ (let none = told_none asked told in let e : losses marks + losses (told_marks asked told) ≡ losses marks = omega (arith, none) in e))) counted;
   }
-  order_ran order asked told is answers (operations.is_not_begun why refusal stopped counted front) = record { own = []; front = front; answered = is_operated is (runs.is_not_begun why refusal stopped) (answers [] front); counted = counted }
+  order_ran order asked told is answers (operations.is_not_begun why refusal stopped counted front counts) = record { own = []; front = front; answered = is_operated is (runs.is_not_begun why refusal stopped) (answers [] front); counted = counted }
 
 -- ---- task by task
-pub still_pass : {V : Type 0} (board : TurnId) (old new : Sitting V Mark) → IsPassOf board old → new ≡ record old { seen = new.seen; own = new.own } → IsPassOf board new
+pub still_pass : {V : Type 0} (board : Turning) (old new : Sitting V Mark) → IsPassOf board old → new ≡ record old { seen = new.seen; own = new.own } → IsPassOf board new
 still_pass {V} board old new is same = record {
   turn = ap (λ (s : Sitting V Mark). s.turn) same ∙ is.turn;
+  seats = ap (λ (s : Sitting V Mark). s.seats) same ∙ is.seats;
   idle = ap (λ (s : Sitting V Mark). s.holds) same ∙ is.idle;
+  seated = let number : new.number ≡ old.number = ap (λ (s : Sitting V Mark). s.number) same in omega (arith, number, is.seated);
   known = let number : new.number ≡ old.number = ap (λ (s : Sitting V Mark). s.number) same in omega (arith, number, is.known);
 }
 
 module _ {V : Type 0} (tells : Type 0) (tries : ℕ) where
-  pub raced_none : (harms : ℕ) (board : TurnId) (pass : Sitting V Mark) (tasks : List Task) (told : List Told) (room : ℕ) → IsReady board pass tasks told room → HasRaced tells tries harms harms [] told pass pass
+  pub raced_none : (harms : ℕ) (board : Turning) (pass : Sitting V Mark) (tasks : List Task) (told : List Told) (room : ℕ) → IsReady board pass tasks told room → HasRaced tells tries harms harms [] told pass pass
   raced_none harms board pass tasks told room ready = record {
     pass = refl;
     free = ready.free;

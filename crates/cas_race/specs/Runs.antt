@@ -11,7 +11,7 @@ use Rattle.cas_record.specs.declared.operator.OpAnswer.{OpAnswer}
 use Rattle.cas_record.specs.declared.operator.OpAnswer.TheVariants.{Stopped}
 use Rattle.cas_cluster.specs.StepCouncil.{told_marks}
 use Rattle.cas_turn.specs.Seen.{Begins}
-use Rattle.cas_turn.specs.Sitting.{Sitting, TurnId}
+use Rattle.cas_turn.specs.Sitting.{Sitting, Turning}
 use Rattle.cas_hold.specs.Collecting.{IsCollectingMark, IsCollectAnswer}
 use Rattle.cas_hold.specs.Conflicts.{is_conflict}
 use Rattle.cas_hold.specs.Deeds.{IsRefusal}
@@ -95,7 +95,7 @@ pub data HasRun (tells : Type 0) (all : List Mark) (tries n : ℕ) (first : List
 -- ---- callers in their threads
 module _ {V : Type 0} where
   -- a caller can begin with these tasks, and has room for so many answers
-  pub record IsReady (board : TurnId) (pass : Sitting V Mark) (tasks : List Task) (told : List Told) (room : ℕ) : Type 0 where
+  pub record IsReady (board : Turning) (pass : Sitting V Mark) (tasks : List Task) (told : List Told) (room : ℕ) : Type 0 where
     pub is_pass : IsPassOf board pass
     pub free : IsFree pass.own
     pub meant : All (IsMeantFor pass.number) tasks
@@ -121,7 +121,7 @@ module _ {V : Type 0} where
 
   -- ---- all callers
   -- a pass of the board for the operator and for each caller, at the place of its number
-  pub record ArePassesOf (board : TurnId) (proposers : ℕ) (passes : List (Sitting V Mark)) : Type 0 where
+  pub record ArePassesOf (board : Turning) (proposers : ℕ) (passes : List (Sitting V Mark)) : Type 0 where
     pub count : length passes ≡ suc proposers
     pub each : (n : ℕ) (pass : Sitting V Mark) → slice_get passes n ≡ Some pass → IsPassOf board pass × (pass.number ≡ n)
 

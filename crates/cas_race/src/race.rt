@@ -76,10 +76,10 @@ pub fn race_on<R: Threads + Wait + Sync, S: Source, K: Sink, D: Disk + Send + Dr
     requires tries { 1 ≤ tries }
     requires seats { board.seats ≡ proposers + 1 }
     requires passes { passes.items ≡ fresh_seats board.id (proposers + 1) }
-    requires idle { All (λ pass. IsPassOf board.id pass × IsFree pass.own) passes.items }
+    requires idle { All (λ pass. IsPassOf board pass × IsFree pass.own) passes.items }
     requires room { vec_capacity passes ≡ proposers + 1 }
     requires fates { vec_len fates.old ≡ 17 }
-    ensures raced { (marks : List Mark) × (D.tells → IsLegal (reverse marks)) × (D.tells → AreTellingsSo (reverse marks)) × (D.tells → AreKept D.may_leave (reverse marks) result.1.acceptors.items) × WroteRace D.tells tries proposers (S.remaining source.old) (K.contents sink.old) (K.contents sink.new) (map F.harm_count fates.old.items) (map F.harm_count fates.new.items) marks result.0 × AreDeserved D.fault_count result.1.acceptors.items result.1.vaults.items marks }
+    ensures raced { (marks : List Mark) × (D.tells → IsLegal (reverse marks)) × (D.tells → AreTellingsSo (proposers + 1) (reverse marks)) × (D.tells → AreKept D.may_leave (reverse marks) result.1.acceptors.items) × WroteRace D.tells tries proposers (S.remaining source.old) (K.contents sink.old) (K.contents sink.new) (map F.harm_count fates.old.items) (map F.harm_count fates.new.items) marks result.0 × AreDeserved D.fault_count result.1.acceptors.items result.1.vaults.items marks }
     ensures read { OnOk result.0 (IsAtEnd (S.remaining source.new)) }
     ensures whole { OnOk result.0 (IfSome (S.remaining source.old) (λ input. ending_of input ≡ Whole)) }
     ensures read_fault { IsErrOf result.0 (RaceFault.NotRun LineFault.ReadFault) → Rose (S.faults_of source.old) (S.faults_of source.new) }
@@ -125,13 +125,13 @@ fn run_lines<R: Threads + Wait + Sync, S: Source, D: Disk + Send, F: Fate + Send
     requires proposers { proposers ≤ 16 }
     requires tries { 1 ≤ tries }
     requires passes { passes.old.items ≡ fresh_seats board.now.id (proposers + 1) }
-    requires idle { All (λ pass. IsPassOf board.now.id pass × IsFree pass.own) passes.old.items }
+    requires idle { All (λ pass. IsPassOf board.now pass × IsFree pass.own) passes.old.items }
     requires room { vec_capacity passes.old ≡ proposers + 1 }
     requires fates { vec_len fates.old ≡ 17 }
     ensures raced { IfOk result (λ results. (lines : List (List ℕ)) × AreAllLines (S.remaining source.old) lines × (results.bad.items ≡ bad_lines proposers 1 lines)
         × AreRaced D.tells tries proposers lines (map F.harm_count fates.old.items) (map F.harm_count fates.new.items) (map vec_items results.told.items) passes.new.items) }
     ensures not_run { OnErr result ((passes.new ≡ passes.old) × (fates.new ≡ fates.old)) }
-    ensures passes { ArePassesOf board.now.id proposers passes.new.items }
+    ensures passes { ArePassesOf board.now proposers passes.new.items }
     ensures fates { vec_len fates.new ≡ 17 }
     ensures read { OnOk result (IsAtEnd (S.remaining source.new)) }
     ensures whole { OnOk result (IfSome (S.remaining source.old) (λ input. ending_of input ≡ Whole)) }

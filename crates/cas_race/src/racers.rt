@@ -107,7 +107,7 @@ pub(crate) fn run_all<R: Threads + Wait + Sync, D: Disk + Send, F: Fate + Send>(
 )
     requires some { 0 < vec_len racers.old }
     requires tries { 1 ≤ tries }
-    requires ready { All (λ racer. IsReady board.now.id racer.pass racer.tasks.items racer.told.items (vec_capacity racer.told)) racers.old.items }
+    requires ready { All (λ racer. IsReady board.now racer.pass racer.tasks.items racer.told.items (vec_capacity racer.told)) racers.old.items }
     ensures count { vec_len racers.new ≡ vec_len racers.old }
     ensures raced { (i : ℕ) (d : _) → i < vec_len racers.old → HasRaced D.tells tries (F.harm_count (slice_index_or racers.old.items i d).fate) (F.harm_count (slice_index_or racers.new.items i d).fate) (slice_index_or racers.old.items i d).tasks.items (slice_index_or racers.new.items i d).told.items (slice_index_or racers.old.items i d).pass (slice_index_or racers.new.items i d).pass }
 {
@@ -124,7 +124,7 @@ impl<D: Disk, F: Fate> Racer<D, F> {
     /// Runs all tasks in their order.
     fn run<R: Wait>(&mut self, rt: &R, board: &Board<D>, tries: u32)
         requires tries { 1 ≤ tries }
-        requires ready { IsReady board.now.id self.old.pass self.old.tasks.items self.old.told.items (vec_capacity self.old.told) }
+        requires ready { IsReady board.now self.old.pass self.old.tasks.items self.old.told.items (vec_capacity self.old.told) }
         ensures raced { HasRaced D.tells tries (F.harm_count self.old.fate) (F.harm_count self.new.fate) self.old.tasks.items self.new.told.items self.old.pass self.new.pass }
     {
         let Racer {
@@ -148,7 +148,7 @@ fn run_tasks<R: Wait, D: Disk, F: Fate>(
     tries: u32,
 )
     requires tries { 1 ≤ tries }
-    requires ready { IsReady board.now.id pass.old tasks.now told.old.items (vec_capacity told.old) }
+    requires ready { IsReady board.now pass.old tasks.now told.old.items (vec_capacity told.old) }
     ensures raced { HasRaced D.tells tries (F.harm_count fate.old) (F.harm_count fate.new) tasks.now told.new.items pass.old pass.new }
 {
     for task in tasks {
@@ -166,7 +166,7 @@ fn run_task<R: Wait, D: Disk, F: Fate>(
     task: &Task,
     tries: u32,
 ) -> Told
-    requires pass { IsPassOf board.now.id pass.old }
+    requires pass { IsPassOf board.now pass.old }
     requires free { IsFree pass.old.own }
     requires meant { IsMeantFor pass.old.number task.now }
     requires tries { 1 ≤ tries }
