@@ -36,6 +36,7 @@ use Rattle.cas_world.specs.Beginning.{MayBegin, first, another}
 use Rattle.cas_world.specs.Collect.{MayCollectKey, HasCollected, CollectsNot, is_refused, is_told, leaves_no_call, IsCollectingCall}
 use Rattle.cas_flow.specs.Flow.{queue_at}
 use Rattle.cas_world.specs.Exchange.{WasToldOrder, place_of, turn_of, refusal_of}
+use Rattle.cas_world.specs.Plans.{rescanned_of}
 use Rattle.cas_world.specs.Readers.{closed_in, next_number}
 use Rattle.cas_world.specs.Reading.{HasProposed}
 use Rattle.cas_world.specs.World.{WasTold}
@@ -50,7 +51,7 @@ use Rattle.cas_hold.specs.Open.{rounds_in, is_met_in}
 use Rattle.cas_hold.specs.Orders.{new_order, HasOrder, OperatesIn, IsToldIn}
 use Rattle.cas_hold.specs.Owners.{owner_of, MayAdd}
 use Rattle.cas_hold.specs.OwnParts.{round_part, own_part}
-use Rattle.cas_hold.proofs.Burials.{Leads, leads_acts, leads_council, makes_led, kept_led, Reaches, reaches_over, asks_there, burial_held, stops_held, such_marks}
+use Rattle.cas_hold.proofs.Burials.{Leads, leads_acts, leads_council, makes_led, kept_led, none_rescanned, Reaches, reaches_over, asks_there, burial_held, stops_held, such_marks}
 use Rattle.cas_hold.proofs.Collecting.{IsBurying, is_burying, has_burial, IsKeeping, is_keeping}
 use Rattle.cas_hold.proofs.CollectSteps.{stopped_held, no_call_at}
 use Rattle.cas_hold.proofs.Councils.{IsOrdered, is_ordered}
@@ -135,8 +136,8 @@ wanted_begun number key old more asks = wanted_append 0 None old (kinds.Begun 0 
 
 -- by what its beginning does
 data BeginsBurial {S V : Type 0} (m : Meaning S V) (key : List ℕ) (old new : View S V) : Type 0 where
-  refuses : Leaves old new [] → (said : OpAnswer) → new.council.order ≡ Some (told_so said (new_order (asked.Collect key))) → IsCollectAnswer key said → BeginsBurial m key old new
-  begins : (caller : CallerView) → IsAt old.callers 0 caller → (middle : View S V) → CallBegins 0 0 old middle (suc caller.number) key keep_always → (council : Council) → new ≡ record middle { council = council } → CollectsAt key step.Round 0 council → council.exchange ≡ None → BeginsBurial m key old new
+  refuses : Leaves old new [] → (said : OpAnswer) → new.council.order ≡ Some (told_so said (new_order (asked.Collect key))) → IsCollectAnswer key said → rescanned_of new.council.plan ≡ rescanned_of old.council.plan → BeginsBurial m key old new
+  begins : (caller : CallerView) → IsAt old.callers 0 caller → (middle : View S V) → CallBegins 0 0 old middle (suc caller.number) key keep_always → (council : Council) → new ≡ record middle { council = council } → CollectsAt key step.Round 0 council → council.exchange ≡ None → old.council.plan ≡ None → BeginsBurial m key old new
 
 begins_burial : {S V : Type 0} (m : Meaning S V) (key : List ℕ) (old new : View S V) → IsOrdered old (asked.Collect key) → StepBeginCollect m (λ before after. StepBegin m before 0 key keep_always after) old key new → BeginsBurial m key old new
 begins_burial {S} {V} m key old new was by = by_case by.begins
@@ -144,27 +145,24 @@ begins_burial {S} {V} m key old new was by = by_case by.begins
     told_order : (said : OpAnswer) (council : Council) → council.order ≡ old.council.order → option_map (told_so said) council.order ≡ Some (told_so said (new_order (asked.Collect key)))
     told_order said council same = ap (option_map (told_so said)) (same ∙ was.order)
 
-    none_rescanned : (told : Answer) (council : Council) → old.council.plan ≡ None → calls.Rescans old.council 0 key told council → council ≡ old.council
-    none_rescanned told council none (calls.rescans of done same) = absurd (cc (sym none ∙ of.is_plan))
-    none_rescanned told council none (calls.stops of undone same) = absurd (cc (sym none ∙ of.is_plan))
-    none_rescanned told council none (calls.is_none not same) = same
-
     by_refusal : (middle : View S V) → old.council.plan ≡ None → calls.RefusesCall m old 0 key middle → new ≡ told_view middle (op.Stopped (answer.NoMemory false)) → BeginsBurial m key old new
     by_refusal middle none (calls.stays told council refusal anew same) is =
         refuses (leaves_desks old (told_view middle (op.Stopped (answer.NoMemory false))) new [] is (ap (λ (w : View S V). w.greatest) same) (ap (λ (w : View S V). w.desks) same) (ap (λ (w : View S V). w.callers) same) (ap (λ (w : View S V). w.marks) same ∙ sym (append-nil old.marks)))
-        (op.Stopped (answer.NoMemory false)) (ap (λ (w : View S V). w.council.order) is ∙ told_order (op.Stopped (answer.NoMemory false)) middle.council (ap (λ (w : View S V). w.council.order) same ∙ ap (λ (c : Council). c.order) (none_rescanned told council none anew))) tt
+        (op.Stopped (answer.NoMemory false)) (ap (λ (w : View S V). w.council.order) is ∙ told_order (op.Stopped (answer.NoMemory false)) middle.council (ap (λ (w : View S V). w.council.order) same ∙ ap (λ (c : Council). c.order) (none_rescanned key told old.council council none anew))) tt
+        (ap (λ (w : View S V). rescanned_of w.council.plan) is ∙ ap (λ (w : View S V). rescanned_of w.council.plan) same ∙ ap (λ (c : Council). rescanned_of c.plan) (none_rescanned key told old.council council none anew))
     by_refusal middle none (calls.loses caller desk now ballot council at_caller at_desk no_round up loses anew same) is =
         refuses (leaves_others old (told_view middle (op.Stopped (answer.NoMemory false))) new now [] is (ap (λ (w : View S V). w.greatest) same) (ap (λ (w : View S V). w.desks) same) (ap (λ (w : View S V). w.callers) same) (ap (λ (w : View S V). w.marks) same ∙ sym (append-nil old.marks)))
-        (op.Stopped (answer.NoMemory false)) (ap (λ (w : View S V). w.council.order) is ∙ told_order (op.Stopped (answer.NoMemory false)) middle.council (ap (λ (w : View S V). w.council.order) same ∙ ap (λ (c : Council). c.order) (none_rescanned (answer.NoMemory false) council none anew))) tt
+        (op.Stopped (answer.NoMemory false)) (ap (λ (w : View S V). w.council.order) is ∙ told_order (op.Stopped (answer.NoMemory false)) middle.council (ap (λ (w : View S V). w.council.order) same ∙ ap (λ (c : Council). c.order) (none_rescanned key (answer.NoMemory false) old.council council none anew))) tt
+        (ap (λ (w : View S V). rescanned_of w.council.plan) is ∙ ap (λ (w : View S V). rescanned_of w.council.plan) same ∙ ap (λ (c : Council). rescanned_of c.plan) (none_rescanned key (answer.NoMemory false) old.council council none anew))
 
     by_case : BeginsCollection m (λ before after. StepBegin m before 0 key keep_always after) old key by.may.order by.desk by.caller new → BeginsBurial m key old new
-    by_case (collect.is_down none down is) = refuses (leaves_desks old _ new [] is refl refl refl (sym (append-nil old.marks))) (op.Stopped answer.Down) (ap (λ (w : View S V). w.council.order) is ∙ told_order (op.Stopped answer.Down) old.council refl) tt
-    by_case (collect.is_busy plan none up planned is) = refuses (leaves_desks old _ new [] is refl refl refl (sym (append-nil old.marks))) (op.Busy (era_at old 0).number) (ap (λ (w : View S V). w.council.order) is ∙ told_order (op.Busy (era_at old 0).number) old.council refl) tt
-    by_case (collect.is_full none up unplanned full is) = refuses (leaves_desks old _ new [] is refl refl refl (sym (append-nil old.marks))) (op.Stopped answer.RecordFull) (ap (λ (w : View S V). w.council.order) is ∙ told_order (op.Stopped answer.RecordFull) old.council refl) tt
+    by_case (collect.is_down none down is) = refuses (leaves_desks old _ new [] is refl refl refl (sym (append-nil old.marks))) (op.Stopped answer.Down) (ap (λ (w : View S V). w.council.order) is ∙ told_order (op.Stopped answer.Down) old.council refl) tt (ap (λ (w : View S V). rescanned_of w.council.plan) is)
+    by_case (collect.is_busy plan none up planned is) = refuses (leaves_desks old _ new [] is refl refl refl (sym (append-nil old.marks))) (op.Busy (era_at old 0).number) (ap (λ (w : View S V). w.council.order) is ∙ told_order (op.Busy (era_at old 0).number) old.council refl) tt (ap (λ (w : View S V). rescanned_of w.council.plan) is)
+    by_case (collect.is_full none up unplanned full is) = refuses (leaves_desks old _ new [] is refl refl refl (sym (append-nil old.marks))) (op.Stopped answer.RecordFull) (ap (λ (w : View S V). w.council.order) is ∙ told_order (op.Stopped answer.RecordFull) old.council refl) tt (ap (λ (w : View S V). rescanned_of w.council.plan) is)
     by_case (collect.no_memory middle none up unplanned refused is) = by_refusal middle unplanned refused is
     by_case (collect.begins middle none unplanned begun is) =
         let b = first_begins m 0 0 key keep_always old middle by.caller by.may.at_caller none begun in
-        begins by.caller by.may.at_caller middle b _ is (new_at key middle.council by.may.order (new_collection key (era_at old 0) old.greatest) by.may.is_for (ap (λ (c : Council). c.plan) b.acts.council ∙ unplanned) refl refl refl) (ap (λ (c : Council). c.exchange) b.acts.council ∙ was.exchange)
+        begins by.caller by.may.at_caller middle b _ is (new_at key middle.council by.may.order (new_collection key (era_at old 0) old.greatest) by.may.is_for (ap (λ (c : Council). c.plan) b.acts.council ∙ unplanned) refl refl refl) (ap (λ (c : Council). c.exchange) b.acts.council ∙ was.exchange) unplanned
     by_case (collect.goes_on middle call is_it open_ begun is) = absurd (cc (sym (was.no_call by.caller by.may.at_caller) ∙ open_))
 
 pub begun_held : {S V : Type 0} (m : Meaning S V) (key : List ℕ) (call most : ℕ) (old new : View S V) → option_map next_number (slice_get old.callers 0) ≡ Some call → HasOrder (asked.Collect key) (own_part old 0) → IsKept old → StepBeginCollect m (λ before after. StepBegin m before 0 key keep_always after) old key new → HasCollected new call key
@@ -175,8 +173,8 @@ begun_held {S} {V} m key call most old new next has kept by round = by_case (beg
     was = is_ordered old (asked.Collect key) has
 
     by_case : BeginsBurial m key old new → Held old new (OperatesIn (IsBurialMark key) most old new × HasBurial key call (own_part new 0) new.marks)
-    by_case (refuses leaves said order answers) = absurd (cc (sym (was.no_call round.of_round.caller (subst (λ (l : List CallerView). IsAt l 0 round.of_round.caller) leaves.callers round.of_round.at_caller)) ∙ round.of_round.is_call))
-    by_case (begins caller at_old middle b council is at none_asked) =
+    by_case (refuses leaves said order answers planned) = absurd (cc (sym (was.no_call round.of_round.caller (subst (λ (l : List CallerView). IsAt l 0 round.of_round.caller) leaves.callers round.of_round.at_caller)) ∙ round.of_round.is_call))
+    by_case (begins caller at_old middle b council is at none_asked unplanned) =
         let there = next_at old 0 call next in
         let number : suc caller.number ≡ call = ap (λ (c : CallerView). suc c.number) (at_one old.callers 0 at_old there.at_caller) ∙ there.number in
         let now : CallerView = record { number = suc caller.number; call = Some b.next } in
@@ -187,7 +185,7 @@ begun_held {S} {V} m key call most old new next has kept by round = by_case (beg
         let wanted : wanted_by 0 new.marks ≡ Some (wants (suc caller.number) key keep_always) = ap (wanted_by 0) leads.made ∙ wanted_begun (suc caller.number) key old.marks b.more b.fine.asks in
         record {
           does = (
-            record { marks = all; makes = makes_led old new all leads (tt, b.fine.may_add) only; all_such = begun_such (suc caller.number) key b.more (such_marks key (suc caller.number) b.more b.fine.of_call (b.fine.asks None)); few = begun_few (suc caller.number) most key b.more (let low : losses (mine 0 b.more) ≤ 0 = b.fine.few in omega (arith, low)); counts = λ enters. absurd (enters 0 0) },
+            record { marks = all; makes = makes_led old new all leads (tt, b.fine.may_add) only; all_such = begun_such (suc caller.number) key b.more (such_marks key (suc caller.number) b.more b.fine.of_call (b.fine.asks None)); few = begun_few (suc caller.number) most key b.more (let low : losses (mine 0 b.more) ≤ 0 = b.fine.few in omega (arith, low)); counts = λ enters. absurd (enters 0 0); keeps = λ not. ap (λ (w : View S V). rescanned_of w.council.plan) is ∙ ap rescanned_of (at.none_planned ∙ sym unplanned) },
             has_burial new key call (record { caller = now; at_caller = at_next; number = number; open_call = b.next; is_open = refl; at = subst (λ (w : View S V). CollectsAt key step.Round 0 w.council) (sym is) at; none_asked = ap (λ (w : View S V). w.council.exchange) is ∙ none_asked }) (wanted ∙ ap (λ (k : ℕ). Some (wants k key keep_always)) number),
           );
           kept = kept_led old new all leads only kept (record {
@@ -214,8 +212,8 @@ refused_burial {S} {V} m key call old new told kept has by (is_told said is undo
     ordered = is_ordered old (asked.Collect key) has
 
     by_case : BeginsBurial m key old new → IsRefusedBurial new call told
-    by_case (refuses leaves other order answers) = absurd (cc (sym (ordered.no_call was.caller (subst (λ (l : List CallerView). IsAt l 0 was.caller) leaves.callers was.at_caller)) ∙ was.is_open))
-    by_case (begins caller at_old middle b council same at none_asked) =
+    by_case (refuses leaves other order answers planned) = absurd (cc (sym (ordered.no_call was.caller (subst (λ (l : List CallerView). IsAt l 0 was.caller) leaves.callers was.at_caller)) ∙ was.is_open))
+    by_case (begins caller at_old middle b council same at none_asked unplanned) =
         let now : CallerView = record { number = suc caller.number; call = Some b.next } in
         let at_next : IsAt new.callers 0 now = subst (λ (w : View S V). IsAt w.callers 0 now) (sym same) b.at_next in
         let same_call : b.next ≡ was.call = some_is (ap (λ (c : CallerView). c.call) (at_one new.callers 0 at_next was.at_caller) ∙ was.is_open) in
@@ -262,17 +260,17 @@ refusal_held {S} {V} m key call most old mid new told next has kept by not ends 
     stop_held is_no said is (collecting_.stops other is_other leaves stops) = let same : other ≡ said = cc (sym is_other ∙ is) in subst (λ (a : Answer). Stops m mid a new) same stops
 
     by_case : CollectsNot old mid call key told → BeginsBurial m key old mid → Held old new (IsToldIn (asked.Collect key) (IsBurialMark key) most old new told × IsCollectAnswer key told)
-    by_case (is_refused none_old none_new said leaves) (refuses left what order answers) = stopped_held key most old mid new told (record { leaves = left; said = what; order = order; answers = answers }) said (tell_held leaves ends) kept was.no_call
-    by_case (is_refused none_old none_new said leaves) (begins caller at_old middle b council is at none_asked) =
+    by_case (is_refused none_old none_new said leaves) (refuses left what order answers planned) = stopped_held key most old mid new told (record { leaves = left; said = what; order = order; answers = answers; planned = planned }) said (tell_held leaves ends) kept was.no_call
+    by_case (is_refused none_old none_new said leaves) (begins caller at_old middle b council is at none_asked unplanned) =
         absurd (cc (sym none_new.none_open ∙ ap (λ (c : CallerView). c.call) (at_one mid.callers 0 none_new.at_caller (subst (λ (w : View S V). IsAt w.callers 0 (record { number = suc caller.number; call = Some b.next })) (sym is) b.at_next))))
-    by_case (is_told said is undone fresh told_ of_it) (refuses left what order answers) = absurd (cc (sym (was.no_call told_.caller (subst (λ (l : List CallerView). IsAt l 0 told_.caller) left.callers told_.at_caller)) ∙ told_.is_open))
-    by_case (is_told said is undone fresh told_ of_it) (begins caller at_old middle b council same at none_asked) =
+    by_case (is_told said is undone fresh told_ of_it) (refuses left what order answers planned) = absurd (cc (sym (was.no_call told_.caller (subst (λ (l : List CallerView). IsAt l 0 told_.caller) left.callers told_.at_caller)) ∙ told_.is_open))
+    by_case (is_told said is undone fresh told_ of_it) (begins caller at_old middle b council same at none_asked unplanned) =
         let there = next_at old 0 call next in
         let number : suc caller.number ≡ call = ap (λ (c : CallerView). suc c.number) (at_one old.callers 0 at_old there.at_caller) ∙ there.number in
         subst (λ (a : OpAnswer). Held old new (IsToldIn (asked.Collect key) (IsBurialMark key) most old new a × IsCollectAnswer key a)) (sym is)
         (stops_held (IsBurialMark key) m key call most old mid new said (λ mark such. such) (λ enters. enters 0 0) (no_conflict_where mid call said told_ (record { number = suc caller.number; call = Some b.next }) b.next (subst (λ (w : View S V). IsAt w.callers 0 (record { number = suc caller.number; call = Some b.next })) (sym same) b.at_next) refl b.unmet)
         (reaches_begun key call most old middle mid caller council said number b same told_)
-        (λ order is_order. ap (λ (o : OrderView). o.asked) (some_is (sym is_order ∙ ap (λ (w : View S V). w.council.order) same ∙ at.order))) undone kept (stop_held (fresh (no_call_at old kept was.no_call)) said is ends))
+        (λ order is_order. ap (λ (o : OrderView). o.asked) (some_is (sym is_order ∙ ap (λ (w : View S V). w.council.order) same ∙ at.order))) unplanned (ap (λ (w : View S V). w.council.plan) same ∙ at.none_planned) undone kept (stop_held (fresh (no_call_at old kept was.no_call)) said is ends))
 
 -- ---- another round of it
 again_begins : {S V : Type 0} (m : Meaning S V) (key : List ℕ) (call : ℕ) (old new : View S V) (was : IsBurying old key call) → StepBeginCollect m (λ before after. StepBegin m before 0 key keep_always after) old key new
@@ -300,7 +298,7 @@ again_held {S} {V} m key call most old new has kept by round =
     let again = again_goes_on m 0 most key keep_always old parts.0 was.caller was.open_call was.at_caller was.is_open parts.1 in
     let goes = again.round.goes in
     let council = parts.4 goes.acts.council in
-    burial_held key call most old parts.0 new was.caller (calls.tried_again was.open_call again.reserved) parts.2 was.number goes parts.3 council.0 council.1 (record { key_is = keeping.key_is; program_is = keeping.program_is }) has.wanted
+    burial_held key call most old parts.0 new was.caller (calls.tried_again was.open_call again.reserved) parts.2 was.number goes parts.3 council.0 council.1 was.at.none_planned (record { key_is = keeping.key_is; program_is = keeping.program_is }) has.wanted
     (λ desk at_desk. let some : IsSome desk.round = subst (λ (d : DeskView V). IsSome d.round) (at_one new.desks 0 round.of_round.at_desk (subst (λ (w : View S V). IsAt w.desks 0 desk) (sym parts.3) at_desk)) round.of_round.is_open in running some (goes.told desk at_desk some refl) (goes.closed refl)) kept
 
 -- where no round of it begins, its call was told why
@@ -324,7 +322,7 @@ again_stops {S} {V} m key call most old mid new said has kept by told undone end
       at_caller = subst (λ (w : View S V). IsAt w.callers 0 reaches.caller) (sym is) reaches.at_caller;
       number = reaches.number;
       may_end = reaches.may_end;
-    }) (λ order is_order. ap (λ (o : OrderView). o.asked) (some_is (sym is_order ∙ ap (λ (w : View S V). w.council.order) is ∙ (parts.4 over.goes.acts.council).0.order))) undone kept ends
+    }) (λ order is_order. ap (λ (o : OrderView). o.asked) (some_is (sym is_order ∙ ap (λ (w : View S V). w.council.order) is ∙ (parts.4 over.goes.acts.council).0.order))) was.at.none_planned (ap (λ (w : View S V). w.council.plan) is ∙ (parts.4 over.goes.acts.council).0.none_planned) undone kept ends
 
 -- ---- a turn
 same_council : {S V : Type 0} (old mid : View S V) → mid.council ≡ old.council → mid ≡ record mid { council = old.council }
@@ -339,7 +337,7 @@ turn_held {S} {V} m key call v old new has kept was by =
     let goes = turn_goes_on m 0 v old new by in
     let runs = runs_there old 0 by.of_call.caller by.of_call.call kept by.of_call.at_caller by.of_call.is_open was in
     let keeping : IsKeeping by.of_call.call key = subst (λ (c : CallView). IsKeeping c key) (sym same_call) (is_keeping old key call is has.wanted kept) in
-    burial_held key call (harm_by v) old new new by.of_call.caller by.of_call.call old.council (ap (λ (c : CallerView). c.number) same ∙ is.number) goes (same_council old new goes.acts.council) is.at is.none_asked keeping has.wanted
+    burial_held key call (harm_by v) old new new by.of_call.caller by.of_call.call old.council (ap (λ (c : CallerView). c.number) same ∙ is.number) goes (same_council old new goes.acts.council) is.at is.none_asked is.at.none_planned keeping has.wanted
     (λ desk at_desk. let some = turn_running m 0 v old new was by desk at_desk in running some (goes.told desk at_desk some runs.unmet) (goes.closed runs.unclosed)) kept
 
 -- ---- it ends
@@ -370,7 +368,7 @@ burial_over : {S V : Type 0} (such : Mark → Type 0) (m : Meaning S V) (key : L
     → Held old new (IsToldIn (asked.Collect key) such most old new (op.Stopped said) × IsCollectAnswer key (op.Stopped said))
 burial_over such m key call most old mid new said caller one weaker not_entering last has at over kept undone ends =
     let is = is_burying old key call old.marks has in
-    stops_held such m key call most old mid new said weaker not_entering last (reaches_over key call most old mid caller one (ap (λ (c : CallerView). c.number) (at_one old.callers 0 at is.at_caller) ∙ is.number) over) (asks_there key old mid call is over.goes.acts.council) undone kept ends
+    stops_held such m key call most old mid new said weaker not_entering last (reaches_over key call most old mid caller one (ap (λ (c : CallerView). c.number) (at_one old.callers 0 at is.at_caller) ∙ is.number) over) (asks_there key old mid call is over.goes.acts.council) is.at.none_planned (ap (λ (c : Council). c.plan) over.goes.acts.council ∙ is.at.none_planned) undone kept ends
 
 pub turn_stops : {S V : Type 0} (m : Meaning S V) (key : List ℕ) (call most : ℕ) (old mid new : View S V) (said : Answer) → HasBurial key call (own_part old 0) old.marks → IsKept old → StepRefuseTurn m old 0 mid → WasTold mid 0 call said → is_done said ≡ false → is_conflict said ≡ false → Stops m mid said new
     → Held old new (IsToldIn (asked.Collect key) (IsBurialMark key) most old new (op.Stopped said) × IsCollectAnswer key (op.Stopped said))
@@ -410,7 +408,7 @@ proposed_held {S} {V} m key call most old new has kept proposed by =
     let same_call : at.call ≡ is.open_call = some_is (sym at.is_open ∙ ap (λ (c : CallerView). c.call) same ∙ is.is_open) in
     let goes = (propose_goes_on m 0 most old new by).goes in
     let runs = running_call old 0 at.caller at.call by.at_round.desk kept at.at_caller at.is_open by.at_round.at_desk (subst IsSome (sym by.at_round.is_open) refl) in
-    burial_held key call most old new new at.caller at.call old.council (ap (λ (c : CallerView). c.number) same ∙ is.number) goes (same_council old new goes.acts.council) is.at is.none_asked
+    burial_held key call most old new new at.caller at.call old.council (ap (λ (c : CallerView). c.number) same ∙ is.number) goes (same_council old new goes.acts.council) is.at is.none_asked is.at.none_planned
     (subst (λ (c : CallView). IsKeeping c key) (sym same_call) (is_keeping old key call is has.wanted kept)) has.wanted
     (λ desk at_desk. let some = proposed_running new 0 proposed desk at_desk in running some (goes.told desk at_desk some runs.unmet) (goes.closed runs.unclosed)) kept
 
@@ -423,7 +421,7 @@ met_held {S} {V} m key call most old new said has kept unproposed was conflict b
     let same_call : at.call ≡ is.open_call = some_is (sym at.is_open ∙ ap (λ (c : CallerView). c.call) same ∙ is.is_open) in
     let goes = (propose_goes_on m 0 most old new by).goes in
     let runs = running_call old 0 at.caller at.call by.at_round.desk kept at.at_caller at.is_open by.at_round.at_desk (subst IsSome (sym by.at_round.is_open) refl) in
-    burial_held key call most old new new at.caller at.call old.council (ap (λ (c : CallerView). c.number) same ∙ is.number) goes (same_council old new goes.acts.council) is.at is.none_asked
+    burial_held key call most old new new at.caller at.call old.council (ap (λ (c : CallerView). c.number) same ∙ is.number) goes (same_council old new goes.acts.council) is.at is.none_asked is.at.none_planned
     (subst (λ (c : CallView). IsKeeping c key) (sym same_call) (is_keeping old key call is has.wanted kept)) has.wanted
     (λ desk at_desk. propose_met m 0 call said old new unproposed was conflict by (record at.caller { call = Some goes.next }) goes.next goes.at_next refl (goes.closed runs.unclosed) desk at_desk) kept
 
@@ -566,8 +564,8 @@ begun_within {S} {V} m key call tries old new has by round some = by_case (begin
     was = is_ordered old (asked.Collect key) has
 
     by_case : BeginsBurial m key old new → IsWithin tries 1 (own_part new 0)
-    by_case (refuses leaves said order answers) = absurd (cc (sym (was.no_call round.of_round.caller (subst (λ (l : List CallerView). IsAt l 0 round.of_round.caller) leaves.callers round.of_round.at_caller)) ∙ round.of_round.is_call))
-    by_case (begins caller at_old middle b council is at none_asked) =
+    by_case (refuses leaves said order answers planned) = absurd (cc (sym (was.no_call round.of_round.caller (subst (λ (l : List CallerView). IsAt l 0 round.of_round.caller) leaves.callers round.of_round.at_caller)) ∙ round.of_round.is_call))
+    by_case (begins caller at_old middle b council is at none_asked unplanned) =
         let now : CallerView = record { number = suc caller.number; call = Some b.next } in
         let at_next : IsAt new.callers 0 now = subst (λ (w : View S V). IsAt w.callers 0 now) (sym is) b.at_next in
         let unmet : is_met_in (own_part new 0) ≡ false = met_part new 0 now b.next at_next refl ∙ b.unmet in

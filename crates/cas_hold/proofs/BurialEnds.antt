@@ -13,21 +13,22 @@ use Rattle.cas_cluster.specs.Collection.{CollectionView, called}
 use Rattle.cas_cluster.specs.Council.{Council, OrderView}
 use Rattle.cas_cluster.specs.Protocol.{is_done}
 use Rattle.cas_cluster.specs.Step.{StepCount, StepEnd}
-use Rattle.cas_cluster.specs.StepCalls as calls
 use Rattle.cas_cluster.specs.StepCollect as collect
 use Rattle.cas_cluster.specs.StepCollect.{StepReadHeld, StepCountCollect, CountedAs, StepEndCollect}
 use Rattle.cas_cluster.specs.View.{Meaning, View, CallView, CallerView, IsAt}
 use Rattle.cas_cluster.proofs.Places.{at_one, at_set, some_is}
 use Rattle.cas_turn.specs.Seen.{OnlyOwnedBy}
 use Rattle.cas_world.specs.Collect.{CountsTombstone}
+use Rattle.cas_world.specs.Plans.{rescanned_of}
 use Rattle.cas_hold.specs.Collecting.{CollectsAt, HasBurial, HasStep, IsBurialMark}
 use Rattle.cas_hold.specs.Kept.{IsKept}
 use Rattle.cas_hold.specs.Orders.{new_order, OperatesIn}
 use Rattle.cas_hold.specs.Owners.{owner_of}
 use Rattle.cas_hold.specs.OwnParts.{own_part}
 use Rattle.cas_hold.proofs.Acts.{spares_set, spares_rounds}
-use Rattle.cas_hold.proofs.Burials.{Leads, leads_council, leads_then, makes_led, kept_led, none_kept, reaches_over, ends_last, only_ended, such_ended, few_ended}
+use Rattle.cas_hold.proofs.Burials.{Leads, leads_council, leads_then, makes_led, kept_led, none_kept, none_rescanned, reaches_over, ends_last, only_ended, such_ended, few_ended}
 use Rattle.cas_hold.proofs.Collecting.{is_burying, has_step}
+use Rattle.cas_hold.proofs.CollectSteps.{none_counted}
 use Rattle.cas_hold.proofs.Events.{count_is_over}
 use Rattle.cas_hold.proofs.Holds.{Held}
 use Rattle.cas_hold.proofs.Tries.{done_no_conflict}
@@ -62,7 +63,7 @@ read_held {S} {V} m key call most old new has kept by =
     let at : CollectsAt key step.Round 2 _ = over_at key old.council by.is.at.order (record (called by.is.at.collection) { tombstone = cluster.FoundHeld by.version }) (some_is (sym by.is.at.is_open ∙ is.at.order)) is.at.none_planned by.is.is_due (ap (λ (c : CollectionView). c.course.key) same ∙ is.at.same_key) refl refl in
     record {
       does = (
-        record { marks = []; makes = makes_led old new [] leads tt only; all_such = All-nil (IsBurialMark key); few = omega arith; counts = λ enters. absurd (enters 0 0) },
+        record { marks = []; makes = makes_led old new [] leads tt only; all_such = All-nil (IsBurialMark key); few = omega arith; counts = λ enters. absurd (enters 0 0); keeps = λ not. ap (λ (w : View S V). rescanned_of w.council.plan) by.view ∙ none_counted is.at at },
         has_step new key step.Round (record { no_call = none; at = subst (λ (w : View S V). CollectsAt key step.Round 2 w.council) (sym by.view) at; none_asked = ap (λ (w : View S V). w.council.exchange) by.view ∙ is.none_asked }),
       );
       kept = kept_led old new [] leads only kept (none_kept new none);
@@ -124,11 +125,6 @@ counts_as : {S V : Type 0} (old middle : View S V) (call : CallView) (c now : Co
 counts_as old middle call c now (collect.acknowledges took a told made key era is) = record { course = ap (λ (k : CollectionView). k.course) is; known = ap (λ (k : CollectionView). is_sought k.tombstone) is }
 counts_as old middle call c now (collect.finds_held version body took ballot told is) = record { course = ap (λ (k : CollectionView). k.course) is; known = ap (λ (k : CollectionView). is_sought k.tombstone) is }
 
-none_rescanned : (key : List ℕ) (told : Answer) (old council : Council) → old.plan ≡ None → calls.Rescans old 0 key told council → council ≡ old
-none_rescanned key told old council none (calls.rescans of done same) = absurd (cc (sym none ∙ of.is_plan))
-none_rescanned key told old council none (calls.stops of undone same) = absurd (cc (sym none ∙ of.is_plan))
-none_rescanned key told old council none (calls.is_none not same) = same
-
 -- it is done, and its call ends
 pub done_held : {S V : Type 0} (m : Meaning S V) (key : List ℕ) (call most : ℕ) (old mid new : View S V) (told : Answer) → HasBurial key call (own_part old 0) old.marks → IsKept old → is_done told ≡ true → CountsTombstone m old told mid → StepEndCollect (λ before after. StepEnd m before 0 told after) mid told new
     → Held old new (OperatesIn (IsBurialMark key) most old new × HasStep key step.Round (own_part new 0))
@@ -161,7 +157,7 @@ done_held {S} {V} m key call most old mid new told has kept done counts by =
     let silent : new ≡ collect.collecting by.middle by.is.at.order None (called by.is.at.collection) = by.view ∙ ap (λ (o : _). collect.collecting by.middle by.is.at.order o (called by.is.at.collection)) (stopped_none told done) in
     record {
       does = (
-        record { marks = all; makes = makes_led old new all leads (reaches.may_end rounds told) only; all_such = such_ended (IsBurialMark key) key call rounds told reaches.marks (λ mark such. such) (done_no_conflict told done) reaches.such; few = few_ended call rounds most told reaches.marks reaches.few; counts = λ enters. absurd (enters 0 0) },
+        record { marks = all; makes = makes_led old new all leads (reaches.may_end rounds told) only; all_such = such_ended (IsBurialMark key) key call rounds told reaches.marks (λ mark such. such) (done_no_conflict told done) reaches.such; few = few_ended call rounds most told reaches.marks reaches.few; counts = λ enters. absurd (enters 0 0); keeps = λ not. ap (λ (w : View S V). rescanned_of w.council.plan) silent ∙ none_counted is.at at_now },
         has_step new key step.Round (record { no_call = none; at = subst (λ (w : View S V). CollectsAt key step.Round 2 w.council) (sym silent) at_now; none_asked = ap (λ (w : View S V). w.council.exchange) silent ∙ ap (λ (k : Council). k.exchange) second ∙ ap (λ (w : View S V). w.council.exchange) c.view ∙ ap (λ (k : Council). k.exchange) first_council ∙ is.none_asked }),
       );
       kept = kept_led old new all leads only kept (none_kept new none);

@@ -15,11 +15,13 @@ use Rattle.cas_record.specs.declared.operator.OpAnswer.TheVariants as op
 use Rattle.cas_cluster.specs.Council.{Council, OrderView}
 use Rattle.cas_cluster.specs.Protocol.{is_done}
 use Rattle.cas_cluster.specs.Step.{StepEnd}
+use Rattle.cas_cluster.specs.StepCalls as calls
 use Rattle.cas_cluster.specs.StepCollect.{keep_always, stopped_by}
 use Rattle.cas_cluster.specs.StepCouncil.{told_marks}
 use Rattle.cas_cluster.specs.View.{Meaning, View, CallView, CallerView, IsAt}
 use Rattle.cas_cluster.proofs.Places.{at_one, at_set, some_is}
 use Rattle.cas_turn.specs.Seen.{OnlyOwnedBy}
+use Rattle.cas_world.specs.Plans.{rescanned_of}
 use Rattle.cas_hold.specs.Counting.{EntersEras}
 use Rattle.cas_hold.specs.Collecting.{CollectsAt, HasBurial, IsBurialMark, IsCollectAnswer, Stops}
 use Rattle.cas_hold.specs.Kept.{IsStaged, IsKept, Makes}
@@ -31,6 +33,7 @@ use Rattle.cas_hold.specs.OwnParts.{own_part}
 use Rattle.cas_hold.proofs.Acts.{Acts, Spares, spares_same, spares_set, spares_then, SparesRounds, spares_rounds, rounds_then, OwnKept, makes_of, kept_by}
 use Rattle.cas_hold.proofs.Collecting.{IsBurying, has_burial, IsKeeping}
 use Rattle.cas_hold.proofs.Councils.{idle_free}
+use Rattle.cas_hold.proofs.Counting.{lasts_told}
 use Rattle.cas_hold.proofs.Events.{CallGoesOn, CallIsOver}
 use Rattle.cas_hold.proofs.Fronts.{mine_append, mine_own, wanted_append}
 use Rattle.cas_hold.proofs.Holds.{Held}
@@ -220,10 +223,16 @@ pub few_ended : (number rounds most : ℕ) (told : Answer) (l : List Mark) → l
 few_ended number rounds most told l few =
     subst (λ (k : List Mark). losses k ≤ most) (sym (mine_append 0 l (kinds.Ended 0 number rounds told ∷ []) ∙ ap (λ (k : List Mark). mine 0 l ++ k) (mine_own 0 (kinds.Ended 0 number rounds told) [] refl))) (losses_ended number rounds most told (mine 0 l) few)
 
+-- no key is counted where no change of membership is under way
+pub none_rescanned : (key : List ℕ) (told : Answer) (old council : Council) → old.plan ≡ None → calls.Rescans old 0 key told council → council ≡ old
+none_rescanned key told old council none (calls.rescans of done same) = absurd (cc (sym none ∙ of.is_plan))
+none_rescanned key told old council none (calls.stops of undone same) = absurd (cc (sym none ∙ of.is_plan))
+none_rescanned key told old council none (calls.is_none not same) = same
+
 -- it ends, and the operator is told that it stopped
-pub stops_held : {S V : Type 0} (such : Mark → Type 0) (m : Meaning S V) (key : List ℕ) (call most : ℕ) (old mid new : View S V) (told : Answer) → ((mark : Mark) → IsBurialMark key mark → such mark) → (EntersEras such → ⊥) → such (kinds.Ended 0 call (rounds_in (own_part mid 0)) told) → Reaches key call most old mid → ((order : OrderView) → mid.council.order ≡ Some order → order.asked ≡ asked.Collect key) → is_done told ≡ false → IsKept old → Stops m mid told new
+pub stops_held : {S V : Type 0} (such : Mark → Type 0) (m : Meaning S V) (key : List ℕ) (call most : ℕ) (old mid new : View S V) (told : Answer) → ((mark : Mark) → IsBurialMark key mark → such mark) → (EntersEras such → ⊥) → such (kinds.Ended 0 call (rounds_in (own_part mid 0)) told) → Reaches key call most old mid → ((order : OrderView) → mid.council.order ≡ Some order → order.asked ≡ asked.Collect key) → old.council.plan ≡ None → mid.council.plan ≡ None → is_done told ≡ false → IsKept old → Stops m mid told new
     → Held old new (IsToldIn (asked.Collect key) such most old new (op.Stopped told) × IsCollectAnswer key (op.Stopped told))
-stops_held {S} {V} such m key call most old mid new told weaker not_entering last reaches asks undone kept (after, by, tells) =
+stops_held {S} {V} such m key call most old mid new told weaker not_entering last reaches asks none_old none_mid undone kept (after, by, tells) =
     let ends = ends_last m told mid by.middle by.ends in
     let rounds : ℕ = by.ends.of_call.call.rounds in
     let number : by.ends.of_call.caller.number ≡ call = ap (λ (c : CallerView). c.number) (at_one mid.callers 0 by.ends.of_call.at_caller reaches.at_caller) ∙ reaches.number in
@@ -245,6 +254,9 @@ stops_held {S} {V} such m key call most old mid new told weaker not_entering las
           few = few_ended call rounds most told reaches.marks reaches.few;
           is_free = idle_free new (record { no_call = none; order = t.order; exchange = t.exchange; collection = t.collection });
           counts = λ enters. absurd (not_entering enters);
+          keeps = λ not. lasts_told after new (asked.Collect key) (op.Stopped told) (record by.is.at.order { told = stopped_by told }) (ap (λ (w : View S V). w.council.order) by.view) (asks by.is.at.order by.is.at.is_open) (λ era rescanned is. is) tells
+              ∙ ap (λ (w : View S V). rescanned_of w.council.plan) by.view ∙ ap (λ (w : View S V). rescanned_of w.council.plan) by.ends.ends.view
+              ∙ ap (λ (c : Council). rescanned_of c.plan) (none_rescanned by.ends.of_call.call.key told mid.council by.ends.ends.council none_mid by.ends.ends.rescans) ∙ ap rescanned_of (none_mid ∙ sym none_old);
         },
         tt,
       );
@@ -273,8 +285,8 @@ asks_there key old mid call was same order is = ap (λ (o : OrderView). o.asked)
 
 -- the call goes on with another state of it, and what the operator has under way is this
 pub burial_held : {S V : Type 0} (key : List ℕ) (call most : ℕ) (old mid new : View S V) (caller : CallerView) (was : CallView) (council : Council) → caller.number ≡ call → (goes : CallGoesOn 0 most old mid caller was) → new ≡ record mid { council = council } → CollectsAt key step.Round 0 council → council.exchange ≡ None
-    → IsKeeping was key → wanted_by 0 old.marks ≡ Some (wants call key keep_always) → ((desk : DeskView V) → IsAt mid.desks 0 desk → IsStaged desk goes.next) → IsKept old → Held old new (OperatesIn (IsBurialMark key) most old new × HasBurial key call (own_part new 0) new.marks)
-burial_held {S} {V} key call most old mid new caller was council number goes is at none_asked keeping wanted staged kept =
+    → old.council.plan ≡ None → IsKeeping was key → wanted_by 0 old.marks ≡ Some (wants call key keep_always) → ((desk : DeskView V) → IsAt mid.desks 0 desk → IsStaged desk goes.next) → IsKept old → Held old new (OperatesIn (IsBurialMark key) most old new × HasBurial key call (own_part new 0) new.marks)
+burial_held {S} {V} key call most old mid new caller was council number goes is at none_asked none_old keeping wanted staged kept =
     let next : CallerView = record caller { call = Some goes.next } in
     let leads : Leads old new goes.marks = leads_council old mid new goes.marks council (leads_acts old mid goes.marks goes.acts) is in
     let at_next : IsAt new.callers 0 next = subst (λ (w : View S V). IsAt w.callers 0 next) (sym is) goes.at_next in
@@ -282,7 +294,7 @@ burial_held {S} {V} key call most old mid new caller was council number goes is 
     let at_now : CollectsAt key step.Round 0 new.council = subst (λ (w : View S V). CollectsAt key step.Round 0 w.council) (sym is) at in
     record {
       does = (
-        record { marks = goes.marks; makes = makes_led old new goes.marks leads goes.fine.may_add goes.fine.only; all_such = such_marks key caller.number goes.marks goes.fine.of_call (goes.fine.asks None); few = goes.fine.few; counts = λ enters. absurd (enters 0 0) },
+        record { marks = goes.marks; makes = makes_led old new goes.marks leads goes.fine.may_add goes.fine.only; all_such = such_marks key caller.number goes.marks goes.fine.of_call (goes.fine.asks None); few = goes.fine.few; counts = λ enters. absurd (enters 0 0); keeps = λ not. ap rescanned_of (at_now.none_planned ∙ sym none_old) },
         has_burial new key call (record { caller = next; at_caller = at_next; number = number; open_call = goes.next; is_open = refl; at = at_now; none_asked = ap (λ (w : View S V). w.council.exchange) is ∙ none_asked }) wanted_now,
       );
       kept = kept_led old new goes.marks leads goes.fine.only kept (record {

@@ -36,7 +36,7 @@ use Rattle.cas_world.specs.Beginning.{HasNoCall}
 use Rattle.cas_world.specs.Collect.{IsDueStep}
 use Rattle.cas_world.specs.Exchange as world
 use Rattle.cas_world.specs.Exchange.{MayAskCollected, MayGather, WasToldOrder, asks_as, place_of, turn_of, refusal_of, gathering_by, gathering_of}
-use Rattle.cas_world.specs.Plans.{HasCollectedAll}
+use Rattle.cas_world.specs.Plans.{HasCollectedAll, rescanned_of}
 use Rattle.cas_hold.specs.Collecting.{CollectsAt, HasStep, HasQuestion, IsBurialMark, IsCollectAnswer}
 use Rattle.cas_hold.specs.Deeds.{harm_by}
 use Rattle.cas_hold.specs.Kept.{IsKept, Makes}
@@ -45,9 +45,10 @@ use Rattle.cas_hold.specs.Orders.{new_order, OperatesIn, IsToldIn, IsAskingHarm}
 use Rattle.cas_hold.specs.OwnParts.{harms_part, round_part, own_part}
 use Rattle.cas_hold.specs.Stages.{front_of}
 use Rattle.cas_hold.proofs.Collecting.{IsStep, has_step, is_step, IsAsked, has_question, is_asked}
+use Rattle.cas_hold.proofs.Counting.{lasts_told}
 use Rattle.cas_hold.proofs.Events.{only_one}
 use Rattle.cas_hold.proofs.Holds.{Held}
-use Rattle.cas_hold.proofs.Operating.{Leaves, leaves_desks, none_then, makes_by, kept_then, silently, operates, tells_in, turns_asking, own_kept, refuses_asking, says_same, was_told_so}
+use Rattle.cas_hold.proofs.Operating.{Leaves, leaves_desks, none_then, makes_by, kept_then, silently, operates, tells_in, turns_asking, own_kept, refuses_asking, refusal_planned, says_same, turns_planned, was_told_so}
 use Rattle.cas_hold.proofs.Stages.{some_waits, none_waits}
 
 -- ---- marks
@@ -66,8 +67,8 @@ all_asking : (key : List ℕ) (l : List Mark) → All IsAskingHarm l → All (Is
 all_asking key [] all = All-nil (IsBurialMark key)
 all_asking key (mark ∷ l) all = All-cons (IsBurialMark key) mark l (such_asking key mark (All-head IsAskingHarm mark l all)) (all_asking key l (All-tail IsAskingHarm mark l all))
 
-pub no_marks : {S V : Type 0} (key : List ℕ) (most : ℕ) (old new : View S V) → Makes 0 old new [] → OperatesIn (IsBurialMark key) most old new
-no_marks key most old new makes = record { marks = []; makes = makes; all_such = All-nil (IsBurialMark key); few = omega arith; counts = λ enters. absurd (enters 0 0) }
+pub no_marks : {S V : Type 0} (key : List ℕ) (most : ℕ) (old new : View S V) → Makes 0 old new [] → rescanned_of new.council.plan ≡ rescanned_of old.council.plan → OperatesIn (IsBurialMark key) most old new
+no_marks key most old new makes planned = record { marks = []; makes = makes; all_such = All-nil (IsBurialMark key); few = omega arith; counts = λ enters. absurd (enters 0 0); keeps = λ not. planned }
 
 -- ---- the next step
 -- what the operator's call asks
@@ -76,6 +77,10 @@ order_is key due round council order at is = some_is (sym is ∙ at.order)
 
 collection_is : (key : List ℕ) (due : CollectStep) (round : ℕ) (council : Council) (at : CollectsAt key due round council) (collection : CollectionView) → council.collection ≡ Some collection → collection ≡ at.collection
 collection_is key due round council at collection is = some_is (sym is ∙ at.is_collection)
+
+-- a collection has no change of membership beside it
+pub none_counted : {key : List ℕ} {due next : CollectStep} {round rounds : ℕ} {council now : Council} → CollectsAt key due round council → CollectsAt key next rounds now → rescanned_of now.plan ≡ rescanned_of council.plan
+none_counted was at = ap rescanned_of (at.none_planned ∙ sym was.none_planned)
 
 -- it is due then, and the operator's call was told nothing
 pub steps_on : (key : List ℕ) (due next : CollectStep) (council now : Council) (at : CollectsAt key due 2 council) (order : OrderView) (collection then_ : CollectionView) → council.order ≡ Some order → council.collection ≡ Some collection
@@ -94,10 +99,10 @@ steps_on key due next council now at order collection then_ is_order is_collecti
 
 -- a hold that makes none of the operator's marks, after which a step is due
 pub step_held : {S V : Type 0} (key : List ℕ) (most : ℕ) (next : CollectStep) (old new : View S V) → Leaves old new [] → IsKept old → ((caller : CallerView) → IsAt old.callers 0 caller → caller.call ≡ None) → CollectsAt key next 2 new.council → new.council.exchange ≡ None
-    → Held old new (OperatesIn (IsBurialMark key) most old new × HasStep key next (own_part new 0))
-step_held key most next old new leaves kept none at exchange =
+    → rescanned_of new.council.plan ≡ rescanned_of old.council.plan → Held old new (OperatesIn (IsBurialMark key) most old new × HasStep key next (own_part new 0))
+step_held key most next old new leaves kept none at exchange planned =
     let held = silently old new leaves kept none in
-    record { does = (no_marks key most old new held.does, has_step new key next (record { no_call = none_then old new [] leaves none; at = at; none_asked = exchange })); kept = held.kept; greatest = held.greatest }
+    record { does = (no_marks key most old new held.does planned, has_step new key next (record { no_call = none_then old new [] leaves none; at = at; none_asked = exchange })); kept = held.kept; greatest = held.greatest }
 
 -- ---- what the operator is told
 -- what says the same of such an answer is one, too
@@ -119,20 +124,23 @@ pub record StopsSo {S V : Type 0} (old mid : View S V) (key : List ℕ) : Type 0
   pub said : OpAnswer
   pub order : mid.council.order ≡ Some (told_so said (new_order (asked.Collect key)))
   pub answers : IsCollectAnswer key said
+  pub planned : rescanned_of mid.council.plan ≡ rescanned_of old.council.plan
 
 pub stops_so : {S V : Type 0} (old mid changed : View S V) (key : List ℕ) (due : CollectStep) (round : ℕ) (said : OpAnswer) → CollectsAt key due round old.council → mid ≡ changed → changed.greatest ≡ old.greatest → changed.desks ≡ old.desks → changed.callers ≡ old.callers → changed.marks ≡ old.marks
-    → changed.council.order ≡ option_map (told_so said) old.council.order → IsCollectAnswer key said → StopsSo old mid key
-stops_so {S} {V} old mid changed key due round said at is greatest desks callers made order answers = record {
+    → changed.council.order ≡ option_map (told_so said) old.council.order → rescanned_of changed.council.plan ≡ rescanned_of old.council.plan → IsCollectAnswer key said → StopsSo old mid key
+stops_so {S} {V} old mid changed key due round said at is greatest desks callers made order planned answers = record {
   leaves = leaves_desks old changed mid [] is greatest desks callers (made ∙ sym (append-nil old.marks));
   said = said;
   order = ap (λ (w : View S V). w.council.order) is ∙ order ∙ ap (option_map (told_so said)) at.order;
   answers = answers;
+  planned = ap (λ (w : View S V). rescanned_of w.council.plan) is ∙ planned;
 }
 
 pub stopped_held : {S V : Type 0} (key : List ℕ) (most : ℕ) (old mid new : View S V) (told : OpAnswer) → StopsSo old mid key → WasToldOrder mid told → StepTell mid told new → IsKept old → ((caller : CallerView) → IsAt old.callers 0 caller → caller.call ≡ None)
     → Held old new (IsToldIn (asked.Collect key) (IsBurialMark key) most old new told × IsCollectAnswer key told)
 stopped_held key most old mid new told stops said ends kept none =
-    let held = tells_in (IsBurialMark key) most old mid new (asked.Collect key) told (told_so stops.said (new_order (asked.Collect key))) stops.leaves stops.order refl ends kept none (λ enters. absurd (enters 0 0)) in
+    let held = tells_in (IsBurialMark key) most old mid new (asked.Collect key) told (told_so stops.said (new_order (asked.Collect key))) stops.leaves stops.order refl ends kept none (λ enters. absurd (enters 0 0))
+    (λ not. lasts_told mid new (asked.Collect key) told (told_so stops.said (new_order (asked.Collect key))) stops.order refl (λ era rescanned is. is) ends ∙ stops.planned) in
     record { does = (held.does, answers_same key stops.said told stops.answers (says_same mid (new_order (asked.Collect key)) stops.said told stops.order said)); kept = held.kept; greatest = held.greatest }
 
 -- ---- the round
@@ -159,7 +167,7 @@ as_round {S} {V} m old new none by = subst (λ (e : steps.Event). Step m old e n
 
 -- it goes on, or the operator is told why not
 data GoesOrStops {S V : Type 0} (key : List ℕ) (next : CollectStep) (old new : View S V) : Type 0 where
-  goes : Leaves old new [] → CollectsAt key next 2 new.council → new.council.exchange ≡ None → GoesOrStops key next old new
+  goes : Leaves old new [] → CollectsAt key next 2 new.council → new.council.exchange ≡ None → rescanned_of new.council.plan ≡ rescanned_of old.council.plan → GoesOrStops key next old new
   stops : StopsSo old new key → GoesOrStops key next old new
 
 round_goes : {S V : Type 0} (old new : View S V) (key : List ℕ) → IsStep old key step.Round → StepGatherRound old new → GoesOrStops key (step.Renew 0) old new
@@ -168,9 +176,9 @@ round_goes {S} {V} old new key was by = by_case by.gathers
     by_case : GathersRound old by.at new → GoesOrStops key (step.Renew 0) old new
     by_case (collect.all ballot confirmers is_acknowledged each is) = goes (leaves_desks old _ new [] is refl refl refl (sym (append-nil old.marks)))
         (steps_on key step.Round (step.Renew 0) old.council new.council was.at by.at.order by.at.collection (confirmed_step by.at.collection) by.at.is_open by.at.is_collection (ap (λ (w : View S V). w.council.order) is) (ap (λ (w : View S V). w.council.plan) is) (ap (λ (w : View S V). w.council.collection) is) refl (ap (step_after by.at.collection.course.proposers) by.is_due) refl)
-        (ap (λ (w : View S V). w.council.exchange) is ∙ was.none_asked)
-    by_case (collect.is_absent ballot confirmers acceptor is_acknowledged least is) = stops (stops_so old new _ key step.Round 2 (op.Absent acceptor) was.at is refl refl refl refl refl tt)
-    by_case (collect.is_held version found is) = stops (stops_so old new _ key step.Round 2 (op.NotEmpty version) was.at is refl refl refl refl refl tt)
+        (ap (λ (w : View S V). w.council.exchange) is ∙ was.none_asked) (ap (λ (w : View S V). rescanned_of w.council.plan) is)
+    by_case (collect.is_absent ballot confirmers acceptor is_acknowledged least is) = stops (stops_so old new _ key step.Round 2 (op.Absent acceptor) was.at is refl refl refl refl refl refl tt)
+    by_case (collect.is_held version found is) = stops (stops_so old new _ key step.Round 2 (op.NotEmpty version) was.at is refl refl refl refl refl refl tt)
 
 -- what was told nothing was told no answer
 untold : {S V : Type 0} (view : View S V) (a : Asked) (told : OpAnswer) → view.council.order ≡ Some (new_order a) → WasToldOrder view told → ⊥
@@ -179,12 +187,12 @@ untold view a told is was = cc (sym (ap (λ (o : OrderView). o.told) (some_is (s
 -- what a hold answers then
 goes_held : {S V : Type 0} (key : List ℕ) (most : ℕ) (next : CollectStep) (old new : View S V) → GoesOrStops key next old new → new.council.order ≡ Some (new_order (asked.Collect key)) → IsKept old → ((caller : CallerView) → IsAt old.callers 0 caller → caller.call ≡ None)
     → Held old new (OperatesIn (IsBurialMark key) most old new × HasStep key next (own_part new 0))
-goes_held key most next old new (goes leaves at exchange) none_told kept none = step_held key most next old new leaves kept none at exchange
+goes_held key most next old new (goes leaves at exchange planned) none_told kept none = step_held key most next old new leaves kept none at exchange planned
 goes_held key most next old new (stops so) none_told kept none = absurd (cc (ap (option_map (λ (o : OrderView). o.told)) (sym none_told ∙ so.order)))
 
 stops_held : {S V : Type 0} (key : List ℕ) (most : ℕ) (next : CollectStep) (old mid new : View S V) (told : OpAnswer) → GoesOrStops key next old mid → WasToldOrder mid told → StepTell mid told new → IsKept old → ((caller : CallerView) → IsAt old.callers 0 caller → caller.call ≡ None)
     → Held old new (IsToldIn (asked.Collect key) (IsBurialMark key) most old new told × IsCollectAnswer key told)
-stops_held key most next old mid new told (goes leaves at exchange) said ends kept none = absurd (untold mid (asked.Collect key) told at.order said)
+stops_held key most next old mid new told (goes leaves at exchange planned) said ends kept none = absurd (untold mid (asked.Collect key) told at.order said)
 stops_held key most next old mid new told (stops so) said ends kept none = stopped_held key most old mid new told so said ends kept none
 
 -- its last step told nothing
@@ -230,9 +238,9 @@ asks_or_not {S} {V} m key due old new was by = by_case by.asks
     by_case : AsksCollect m old by.may.at by.desk new → AsksOrStops key due old new
     by_case (collect.asks question flow up is_question room aged sends is) = asks (leaves_desks old _ new [] is refl refl refl (sym (append-nil old.marks)))
         (same_council key due old.council new.council was.at (ap (λ (w : View S V). w.council.order) is) (ap (λ (w : View S V). w.council.plan) is) (ap (λ (w : View S V). w.council.collection) is)) _ (ap (λ (w : View S V). w.council.exchange) is) (of_question by.may.at.collection question is_question)
-    by_case (collect.is_down down is) = stops_asking (stops_so old new _ key due 2 (op.Stopped answer.Down) was.at is refl refl refl refl refl tt) (ap (λ (w : View S V). w.council.exchange) is ∙ was.none_asked)
-    by_case (collect.is_full question up is_question full is) = stops_asking (stops_so old new _ key due 2 (op.Stopped answer.RecordFull) was.at is refl refl refl refl refl tt) (ap (λ (w : View S V). w.council.exchange) is ∙ was.none_asked)
-    by_case (collect.no_memory up is) = stops_asking (stops_so old new _ key due 2 (op.Stopped (answer.NoMemory false)) was.at is refl refl refl refl refl tt) (ap (λ (w : View S V). w.council.exchange) is ∙ was.none_asked)
+    by_case (collect.is_down down is) = stops_asking (stops_so old new _ key due 2 (op.Stopped answer.Down) was.at is refl refl refl refl refl refl tt) (ap (λ (w : View S V). w.council.exchange) is ∙ was.none_asked)
+    by_case (collect.is_full question up is_question full is) = stops_asking (stops_so old new _ key due 2 (op.Stopped answer.RecordFull) was.at is refl refl refl refl refl refl tt) (ap (λ (w : View S V). w.council.exchange) is ∙ was.none_asked)
+    by_case (collect.no_memory up is) = stops_asking (stops_so old new _ key due 2 (op.Stopped (answer.NoMemory false)) was.at is refl refl refl refl refl refl tt) (ap (λ (w : View S V). w.council.exchange) is ∙ was.none_asked)
 
 pub ask_held : {S V : Type 0} (m : Meaning S V) (key : List ℕ) (due : CollectStep) (most : ℕ) (old new : View S V) → HasStep key due (own_part old 0) → IsKept old → StepAskCollect m old new → IsSome new.council.exchange → Held old new (OperatesIn (IsBurialMark key) most old new × HasQuestion key due (own_part new 0))
 ask_held {S} {V} m key due most old new has kept by some = by_case (asks_or_not m key due old new was by)
@@ -243,7 +251,7 @@ ask_held {S} {V} m key due most old new has kept by some = by_case (asks_or_not 
     by_case : AsksOrStops key due old new → Held old new (OperatesIn (IsBurialMark key) most old new × HasQuestion key due (own_part new 0))
     by_case (asks leaves at exchange is_open of_it) =
         let held = silently old new leaves kept was.no_call in
-        record { does = (no_marks key most old new held.does, has_question new key due (record { no_call = none_then old new [] leaves was.no_call; at = at; exchange = exchange; is_open = is_open; of_it = of_it })); kept = held.kept; greatest = held.greatest }
+        record { does = (no_marks key most old new held.does (none_counted was.at at), has_question new key due (record { no_call = none_then old new [] leaves was.no_call; at = at; exchange = exchange; is_open = is_open; of_it = of_it })); kept = held.kept; greatest = held.greatest }
     by_case (stops_asking so none) = absurd (cc (subst (λ (o : Option ExchangeView). IsSome o) none some))
 
 pub ask_told : {S V : Type 0} (m : Meaning S V) (key : List ℕ) (due : CollectStep) (most : ℕ) (old mid new : View S V) (told : OpAnswer) → HasStep key due (own_part old 0) → IsKept old → StepAskCollect m old mid → WasToldOrder mid told → StepTell mid told new
@@ -288,10 +296,10 @@ turn_held {S} {V} m key due v old new has kept step_ =
     let by : StepTurnExchange m old v new = subst (λ (e : steps.Event). Step m old e new) (turn_is old key due v has) step_ in
     let was = is_asked old key due has in
     let turns = turns_asking m v old new by in
-    let held = operates (harm_by v) old new turns.marks turns.leaves turns.of_asking kept was.no_call in
+    let held = operates (harm_by v) old new turns.marks turns.leaves turns.of_asking kept was.no_call (turns_planned turns) in
     record {
       does = (
-        record { marks = held.does.marks; makes = held.does.makes; all_such = all_asking key (mine 0 held.does.marks) held.does.all_such; few = held.does.few; counts = λ enters. absurd (enters 0 0) },
+        record { marks = held.does.marks; makes = held.does.makes; all_such = all_asking key (mine 0 held.does.marks) held.does.all_such; few = held.does.few; counts = λ enters. absurd (enters 0 0); keeps = λ not. turns_planned turns },
         subst (HasQuestion key due) (sym (own_kept (harm_by v) old new by.at.exchange by.at.is_open turns was.no_call (collecting_harms by.at.exchange.question (ap (λ (x : ExchangeView). is_of_collection x.question) (some_is (sym by.at.is_open ∙ was.is_open)) ∙ was.of_it)))) has,
       );
       kept = held.kept;
@@ -310,7 +318,8 @@ turn_told {S} {V} m key due most old mid new told is has kept step_ ends =
     let by : StepRefuseTurnExchange m old mid = subst (λ (e : steps.Event). Step m old e mid) (refusal_is old key due has) step_ in
     let was = is_asked old key due has in
     let refuses = refuses_asking m old mid (new_order (asked.Collect key)) was.at.order by in
-    let held = tells_in (IsBurialMark key) most old mid new (asked.Collect key) told (told_so (op.Stopped (answer.NoMemory false)) (new_order (asked.Collect key))) refuses.0 refuses.1 refl ends kept was.no_call (λ enters. absurd (enters 0 0)) in
+    let held = tells_in (IsBurialMark key) most old mid new (asked.Collect key) told (told_so (op.Stopped (answer.NoMemory false)) (new_order (asked.Collect key))) refuses.0 refuses.1 refl ends kept was.no_call (λ enters. absurd (enters 0 0))
+    (λ not. lasts_told mid new (asked.Collect key) told (told_so (op.Stopped (answer.NoMemory false)) (new_order (asked.Collect key))) refuses.1 refl (λ era rescanned is. is) ends ∙ refusal_planned m old mid by) in
     record { does = (held.does, subst (IsCollectAnswer key) (sym is) tt); kept = held.kept; greatest = held.greatest }
 
 -- ---- what they told
@@ -324,12 +333,12 @@ gathers_or_not : {S V : Type 0} (key : List ℕ) (due next : CollectStep) (old n
 gathers_or_not {S} {V} key due next old new after was by = by_case by.gathers
   where
     by_case : GathersCollect old by.at by.of_exchange.exchange new → GoesOrStops key next old new
-    by_case (collect.crashed down is) = stops (stops_so old new _ key due 2 (op.Stopped answer.Crashed) was.at is refl refl refl refl refl tt)
+    by_case (collect.crashed down is) = stops (stops_so old new _ key due 2 (op.Stopped answer.Crashed) was.at is refl refl refl refl refl refl tt)
     by_case (collect.all up each is) = goes (leaves_desks old _ new [] is refl refl refl (sym (append-nil old.marks)))
         (steps_on key due next old.council new.council was.at by.at.order by.at.collection _ by.at.is_open by.at.is_collection (ap (λ (w : View S V). w.council.order) is) (ap (λ (w : View S V). w.council.plan) is) (ap (λ (w : View S V). w.council.collection) is) refl
         (ap (step_after by.at.collection.course.proposers) (ap (λ (c : CollectionView). c.course.step) (collection_is key due 2 old.council was.at by.at.collection by.at.is_collection) ∙ was.at.is_due) ∙ after by.at.collection.course.proposers) refl)
-        (ap (λ (w : View S V). w.council.exchange) is)
-    by_case (collect.is_absent acceptor up least is) = stops (stops_so old new _ key due 2 (op.Absent acceptor) was.at is refl refl refl refl refl tt)
+        (ap (λ (w : View S V). w.council.exchange) is) (ap (λ (w : View S V). rescanned_of w.council.plan) is)
+    by_case (collect.is_absent acceptor up least is) = stops (stops_so old new _ key due 2 (op.Absent acceptor) was.at is refl refl refl refl refl refl tt)
 
 gathered_now : {S V : Type 0} (key : List ℕ) (due : CollectStep) (old new : View S V) (result : Gathered) → IsAsked old key due → world.HasGathered old result new → new.council.order ≡ Some (new_order (asked.Collect key))
 gathered_now key due old new result was ok =
@@ -361,7 +370,7 @@ floor_held {S} {V} key most old new has kept by =
     let at = steps_on key step.Floor step.Remove old.council new.council was.at by.at.order by.at.collection _ by.at.is_open by.at.is_collection (ap (λ (w : View S V). w.council.order) by.view) (ap (λ (w : View S V). w.council.plan) by.view) (ap (λ (w : View S V). w.council.collection) by.view) refl (ap (step_after by.at.collection.course.proposers) by.is_due) refl in
     record {
       does = (
-        record { marks = made; makes = makes_by old new made leaves (tt, tt) only; all_such = All-nil (IsBurialMark key); few = omega arith; counts = λ enters. absurd (enters 0 0) },
+        record { marks = made; makes = makes_by old new made leaves (tt, tt) only; all_such = All-nil (IsBurialMark key); few = omega arith; counts = λ enters. absurd (enters 0 0); keeps = λ not. none_counted was.at at },
         has_step new key step.Remove (record { no_call = none; at = at; none_asked = ap (λ (w : View S V). w.council.exchange) by.view ∙ was.none_asked }),
       );
       kept = kept_then old new made leaves only kept none;
@@ -378,7 +387,7 @@ collected_all {S} {V} m key old new result told has by ok says = by_case (gather
     was = is_asked old key step.Remove has
 
     by_case : GoesOrStops key step.End old new → HasCollectedAll new told
-    by_case (goes leaves at exchange) = record {
+    by_case (goes leaves at exchange planned) = record {
       order = new_order (asked.Collect key);
       is_open = at.order;
       untold = refl;
@@ -394,7 +403,8 @@ collected_told {S} {V} m key most old mid new result told is has kept by ok ends
     was = is_asked old key step.Remove has
 
     by_case : GoesOrStops key step.End old mid → Held old new (IsToldIn (asked.Collect key) (IsBurialMark key) most old new told × IsCollectAnswer key told)
-    by_case (goes leaves at exchange) = let held = tells_in (IsBurialMark key) most old mid new (asked.Collect key) told (new_order (asked.Collect key)) leaves at.order refl ends kept was.no_call (λ enters. absurd (enters 0 0)) in record { does = (held.does, is); kept = held.kept; greatest = held.greatest }
+    by_case (goes leaves at exchange planned) = let held = tells_in (IsBurialMark key) most old mid new (asked.Collect key) told (new_order (asked.Collect key)) leaves at.order refl ends kept was.no_call (λ enters. absurd (enters 0 0))
+        (λ not. lasts_told mid new (asked.Collect key) told (new_order (asked.Collect key)) at.order refl (λ era rescanned is. is) ends ∙ planned) in record { does = (held.does, is); kept = held.kept; greatest = held.greatest }
     by_case (stops so) = absurd (cc (ap (option_map (λ (o : OrderView). o.told)) (sym (gathered_now key step.Remove old mid result was ok) ∙ so.order)))
 
 -- what is read of it then

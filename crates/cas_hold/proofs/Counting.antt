@@ -203,6 +203,13 @@ module _ {S V : Type 0} (asks : Asked) (told : OpAnswer) (order : OrderView) (mi
       by_asked (asked.Collect key) is = absurd is
       by_asked (asked.Probe key) is = absurd is
 
+-- what is told of no change of membership leaves what one has counted
+pub lasts_told : {S V : Type 0} (mid new : View S V) (asks : Asked) (told : OpAnswer) (order : OrderView) → mid.council.order ≡ Some order → order.asked ≡ asks → ((era rescanned : ℕ) → council.finished asks era rescanned told → ⊥) → StepTell mid told new → rescanned_of new.council.plan ≡ rescanned_of mid.council.plan
+lasts_told {S} {V} mid new asks told order is_order is_asked lasting (council.tells other said is_open was says is) = ap (λ (w : View S V). rescanned_of w.council.plan) is ∙ rested_same mid.council.plan
+lasts_told mid new asks told order is_order is_asked lasting (council.finishes other is_open by is) =
+    absurd (lasting by.plan.progress.era.number by.plan.rescanned (subst (λ (a : Asked). council.finished a by.plan.progress.era.number by.plan.rescanned told) (ap (λ (o : OrderView). o.asked) (some_is (sym is_open ∙ is_order)) ∙ is_asked) by.tells))
+lasts_told {S} {V} mid new asks told order is_order is_asked lasting (council.collects other is_open by is) = ap (λ (w : View S V). rescanned_of w.council.plan) is ∙ rested_same mid.council.plan
+
 -- ---- its own part
 skip_part : (part later : List ℕ) → rescanned_behind (length part) (part ++ later) ≡ rescanned_behind 0 later
 skip_part [] later = refl

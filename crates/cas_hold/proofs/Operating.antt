@@ -37,6 +37,7 @@ use Rattle.cas_cluster.proofs.SafeOpens.{no_members}
 use Rattle.cas_cluster.proofs.SafeParts.{at_low}
 use Rattle.cas_turn.specs.Seen.{OnlyOwnedBy}
 use Rattle.cas_world.specs.Exchange.{WasToldOrder}
+use Rattle.cas_world.specs.Plans.{rescanned_of}
 use Rattle.cas_hold.specs.Counting.{EntersEras, TellsCount}
 use Rattle.cas_hold.specs.Deeds.{harm_by}
 use Rattle.cas_hold.specs.Kept.{IsKept, Makes}
@@ -104,9 +105,9 @@ pub record IsOfAsking (most : ℕ) (marks : List Mark) : Type 0 where
   pub fine : Fine 0 0 most marks
   pub harms : All IsAskingHarm (mine 0 marks)
 
-pub operates : {S V : Type 0} (most : ℕ) (old new : View S V) (marks : List Mark) → Leaves old new marks → IsOfAsking most marks → IsKept old → ((caller : CallerView) → IsAt old.callers 0 caller → caller.call ≡ None) → Held old new (OperatesIn IsAskingHarm most old new)
-operates most old new marks leaves of kept none = record {
-  does = record { marks = marks; makes = makes_by old new marks leaves of.fine.may_add of.fine.only; all_such = of.harms; few = of.fine.few; counts = λ enters. absurd (enters 0 0) };
+pub operates : {S V : Type 0} (most : ℕ) (old new : View S V) (marks : List Mark) → Leaves old new marks → IsOfAsking most marks → IsKept old → ((caller : CallerView) → IsAt old.callers 0 caller → caller.call ≡ None) → rescanned_of new.council.plan ≡ rescanned_of old.council.plan → Held old new (OperatesIn IsAskingHarm most old new)
+operates most old new marks leaves of kept none planned = record {
+  does = record { marks = marks; makes = makes_by old new marks leaves of.fine.may_add of.fine.only; all_such = of.harms; few = of.fine.few; counts = λ enters. absurd (enters 0 0); keeps = λ not. planned };
   kept = kept_then old new marks leaves of.fine.only kept (none_then old new marks leaves none);
   greatest = leaves.greatest;
 }
@@ -197,8 +198,8 @@ tells_of {S} {V} old new asks told order is_order is_asked by = by_case by
 
 -- what was done told the operator its answer, and its call ends
 pub tells_after : {S V : Type 0} (such : Mark → Type 0) (most : ℕ) (old mid new : View S V) (marks : List Mark) (asks : Asked) (told : OpAnswer) (order : OrderView) → Deed old mid marks → All such (mine 0 marks) → losses (mine 0 marks) ≤ most → MayAdd (marks ++ told_marks asks told)
-    → mid.council.order ≡ Some order → order.asked ≡ asks → StepTell mid told new → (EntersEras such → TellsCount told old new) → Held old new (IsToldIn asks such most old new told)
-tells_after such most old mid new marks asks told order deed all_such few may is_order is_asked by counts =
+    → mid.council.order ≡ Some order → order.asked ≡ asks → StepTell mid told new → (EntersEras such → TellsCount told old new) → ((EntersEras such → ⊥) → rescanned_of new.council.plan ≡ rescanned_of old.council.plan) → Held old new (IsToldIn asks such most old new told)
+tells_after such most old mid new marks asks told order deed all_such few may is_order is_asked by counts keeps =
     let t = tells_of mid new asks told order is_order is_asked by in
     let tells = deed_of mid new (told_marks asks told) t.leaves (told_may_add asks told) (told_only asks told) deed.kept deed.none in
     let all = deed_then old mid new marks (told_marks asks told) deed tells may in
@@ -210,15 +211,16 @@ tells_after such most old mid new marks asks told order deed all_such few may is
         few = few;
         is_free = idle_free new (record { no_call = all.none; order = t.order; exchange = t.exchange; collection = t.collection });
         counts = counts;
+        keeps = keeps;
       };
       kept = all.kept;
       greatest = all.greatest;
     }
 
 pub tells_in : {S V : Type 0} (such : Mark → Type 0) (most : ℕ) (old mid new : View S V) (asks : Asked) (told : OpAnswer) (order : OrderView) → Leaves old mid [] → mid.council.order ≡ Some order → order.asked ≡ asks → StepTell mid told new → IsKept old
-    → ((caller : CallerView) → IsAt old.callers 0 caller → caller.call ≡ None) → (EntersEras such → TellsCount told old new) → Held old new (IsToldIn asks such most old new told)
-tells_in such most old mid new asks told order leaves is_order is_asked by kept none counts =
-    tells_after such most old mid new [] asks told order (quiet_deed old mid leaves kept none) (All-nil such) (omega arith) (told_may_add asks told) is_order is_asked by counts
+    → ((caller : CallerView) → IsAt old.callers 0 caller → caller.call ≡ None) → (EntersEras such → TellsCount told old new) → ((EntersEras such → ⊥) → rescanned_of new.council.plan ≡ rescanned_of old.council.plan) → Held old new (IsToldIn asks such most old new told)
+tells_in such most old mid new asks told order leaves is_order is_asked by kept none counts keeps =
+    tells_after such most old mid new [] asks told order (quiet_deed old mid leaves kept none) (All-nil such) (omega arith) (told_may_add asks told) is_order is_asked by counts keeps
 
 -- ---- a turn of an exchange
 of_none : (most : ℕ) → IsOfAsking most []
@@ -261,6 +263,9 @@ pub record TurnsAsking {S V : Type 0} (most : ℕ) (old new : View S V) (exchang
   pub since : next.since ≡ exchange.since
   pub asked : asked_of next ≡ asked_of exchange
   pub harmed : length next.harmed ≤ length exchange.harmed + length (mine 0 marks)
+
+pub turns_planned : {S V : Type 0} {most : ℕ} {old new : View S V} {exchange : ExchangeView} → TurnsAsking most old new exchange → rescanned_of new.council.plan ≡ rescanned_of old.council.plan
+turns_planned turns = ap (λ (c : Council). rescanned_of c.plan) turns.council
 
 get_at : (all : List ProbeOf) (place : ℕ) (probe d : ProbeOf) → IsAt all place probe → get_or all place d ≡ probe
 get_at [] place probe d at = absurd (cc at)
@@ -384,6 +389,13 @@ refuses_asking {S} {V} m old new order is_order by = (
     same_order : {middle : View S V} → frames.FindsNoRoom m old middle → middle.council.order ≡ old.council.order
     same_order (frames.stays is) = ap (λ (w : View S V). w.council.order) is
     same_order (frames.kept id acceptor now there finds is) = ap (λ (w : View S V). w.council.order) is
+
+pub refusal_planned : {S V : Type 0} (m : Meaning S V) (old new : View S V) → StepRefuseTurnExchange m old new → rescanned_of new.council.plan ≡ rescanned_of old.council.plan
+refusal_planned {S} {V} m old new by = ap (λ (w : View S V). rescanned_of w.council.plan) by.view ∙ room by.refuses
+  where
+    room : {left : View S V} → frames.FindsNoRoom m old left → rescanned_of left.council.plan ≡ rescanned_of old.council.plan
+    room (frames.stays is) = ap (λ (w : View S V). rescanned_of w.council.plan) is
+    room (frames.kept id acceptor now there finds is) = ap (λ (w : View S V). rescanned_of w.council.plan) is
 
 -- ---- what the operator was told
 -- what a call of it was told last is what may be told

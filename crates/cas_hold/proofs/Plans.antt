@@ -27,7 +27,6 @@ use Rattle.cas_cluster.specs.Step.{Step}
 use Rattle.cas_cluster.specs.StepCouncil as council
 use Rattle.cas_cluster.specs.StepCouncil.{IsFinishedBy, StepTell, StepAskAll, AsksAll, StepTurnExchange, StepRefuseTurnExchange, StepGather, Gathers, StepRefuseKey, SaysTheSame, everyone, listing_begun, told_marks}
 use Rattle.cas_cluster.specs.StepDesks.{EntersEra, FailsToEnter}
-use Rattle.cas_cluster.specs.StepFrames as frames
 use Rattle.cas_cluster.specs.StepPlans as plans
 use Rattle.cas_cluster.specs.StepPlans.{StepOpenPlan, OpensPlan, Welcomes, StepEnterEra, EntersNext}
 use Rattle.cas_cluster.specs.StepStops as stops
@@ -50,12 +49,11 @@ use Rattle.cas_hold.specs.Membership.{HasPlan, HasListing, IsPlanMark, IsMembers
 use Rattle.cas_hold.specs.Mine.{mine, losses, done_calls, wanted_by}
 use Rattle.cas_hold.specs.Orders.{new_order, HasOrder, OperatesIn, IsToldIn, IsAskingHarm}
 use Rattle.cas_hold.specs.OwnParts.{exchange_part, harms_part, question_part, order_part, plan_part, caller_part, own_part}
-use Rattle.cas_hold.specs.Open.{rescanned_in}
-use Rattle.cas_hold.proofs.Counting.{after_same, begun_same, counts_still, end_counts, harms_undone, listed_same, own_rescanned, told_counts}
+use Rattle.cas_hold.proofs.Counting.{after_same, begun_same, counts_still, end_counts, harms_undone, listed_same, told_counts}
 use Rattle.cas_hold.proofs.Closing.{ClosesRound, closes_round, kept_marked}
 use Rattle.cas_hold.proofs.Councils.{is_ordered, IsOrdered, none_beside, own_is_council, order_told, no_exchange, exchange_told, plan_told, listing_told}
 use Rattle.cas_hold.proofs.Holds.{Held}
-use Rattle.cas_hold.proofs.Operating.{Leaves, leaves_then, leaves_desks, leaves_others, Deed, deed_then, quiet_deed, tells_after, tells_in, told_may_add, operates, turns_asking, own_kept, refuses_asking, says_same, was_told_so}
+use Rattle.cas_hold.proofs.Operating.{Leaves, leaves_then, leaves_desks, leaves_others, Deed, deed_then, quiet_deed, tells_after, tells_in, told_may_add, operates, turns_asking, own_kept, refuses_asking, refusal_planned, says_same, turns_planned, was_told_so}
 use Rattle.cas_hold.proofs.Probes.{no_call_at}
 
 -- ---- what its own part tells
@@ -217,7 +215,7 @@ open_told m old mid new asked told has kept by said ends =
     let opens = opens_or_tells m old mid asked was by in
     let tells = opens.tells told said in
     let held = tells_in IsPlanMark 0 old mid new asked told tells.0 opens.leaves tells.1 tells.2 ends kept was.no_call
-    (λ enters. told_counts asked told tells.0 mid new tells.1 tells.2 ends old tells.3.1 (counts_still old mid [] opens.leaves.made refl opens.planned)) in
+    (λ enters. told_counts asked told tells.0 mid new tells.1 tells.2 ends old tells.3.1 (counts_still old mid [] opens.leaves.made refl opens.planned)) (λ not. absurd (not (λ p e. tt))) in
     record { does = (held.does, tells.3.0); kept = held.kept; greatest = held.greatest }
 
 -- ---- a proposer enters the next era
@@ -360,7 +358,7 @@ pub enter_held : {S V : Type 0} (m : Meaning S V) (old new : View S V) (asked : 
 enter_held m old new asked proposer has kept by up =
     let enters = enters_or_tells m old new asked proposer (is_changing old asked has) kept by in
     record {
-      does = (record { marks = enters.marks; makes = enters.deed.makes; all_such = enters.such; few = (let none = enters.none_lost in omega (arith, none)); counts = λ eras. counts_still old new enters.marks enters.deed.makes.made enters.none_done enters.planned }, has_plan new asked (under_way new asked enters.deed.none enters.unasked up));
+      does = (record { marks = enters.marks; makes = enters.deed.makes; all_such = enters.such; few = (let none = enters.none_lost in omega (arith, none)); counts = λ eras. counts_still old new enters.marks enters.deed.makes.made enters.none_done enters.planned; keeps = λ not. absurd (not (λ p e. tt)) }, has_plan new asked (under_way new asked enters.deed.none enters.unasked up));
       kept = enters.deed.kept;
       greatest = enters.deed.greatest;
     }
@@ -370,7 +368,7 @@ pub enter_told : {S V : Type 0} (m : Meaning S V) (old mid new : View S V) (aske
 enter_told m old mid new asked proposer told has kept by said ends =
     let enters = enters_or_tells m old mid asked proposer (is_changing old asked has) kept by in
     let held = tells_after IsPlanMark 0 old mid new enters.marks asked told said.order enters.deed (enters.such) (let none = enters.none_lost in omega (arith, none)) (enters.may_tell told) said.is_open (enters.asks said.order said.is_open) ends
-    (λ eras. told_counts asked told said.order mid new said.is_open (enters.asks said.order said.is_open) ends old (enters.tells told said).1 (counts_still old mid enters.marks enters.deed.makes.made enters.none_done enters.planned)) in
+    (λ eras. told_counts asked told said.order mid new said.is_open (enters.asks said.order said.is_open) ends old (enters.tells told said).1 (counts_still old mid enters.marks enters.deed.makes.made enters.none_done enters.planned)) (λ not. absurd (not (λ p e. tt))) in
     record { does = (held.does, (enters.tells told said).0); kept = held.kept; greatest = held.greatest }
 
 -- it was at its end already
@@ -378,7 +376,7 @@ pub finishes : {S V : Type 0} (old new : View S V) (asked : Asked) (told : OpAns
 finishes old new asked told has kept ends by =
     let was = is_changing old asked has in
     tells_in IsPlanMark 0 old old new asked told (new_order asked) (same_view old) was.order refl ends kept was.no_call
-    (λ enters. end_counts asked told (new_order asked) old new was.order refl ends refl (subst (λ (o : OrderView). IsFinishedBy old.council o told) (some_is (sym by.is_open ∙ was.order)) by.finished))
+    (λ enters. end_counts asked told (new_order asked) old new was.order refl ends refl (subst (λ (o : OrderView). IsFinishedBy old.council o told) (some_is (sym by.is_open ∙ was.order)) by.finished)) (λ not. absurd (not (λ p e. tt)))
 
 -- ---- members are asked for their next keys
 pub may_list : {S V : Type 0} (view : View S V) (asked : Asked) → IsKept view → HasPlan asked (own_part view 0) → step_of view.council.plan ≡ Some Settle → IsPartial view.council.plan → MayAsk view (question_in view query.List)
@@ -458,7 +456,7 @@ list_told m old mid new asked told has kept by said ends =
     let was = is_changing old asked has in
     let lists = lists_or_tells m old mid asked _ was by in
     let held = tells_in IsPlanMark 0 old mid new asked told lists.order lists.leaves lists.is_order lists.asks ends kept was.no_call
-    (λ enters. told_counts asked told lists.order mid new lists.is_order lists.asks ends old (lists.tells told said).1 (counts_still old mid [] lists.leaves.made refl lists.planned)) in
+    (λ enters. told_counts asked told lists.order mid new lists.is_order lists.asks ends old (lists.tells told said).1 (counts_still old mid [] lists.leaves.made refl lists.planned)) (λ not. absurd (not (λ p e. tt))) in
     record { does = (held.does, (lists.tells told said).0); kept = held.kept; greatest = held.greatest }
 
 -- ---- a turn of that
@@ -476,7 +474,7 @@ list_turn_held {S} {V} m old new asked v has kept step_ =
     let by : StepTurnExchange m old v new = subst (λ (e : step.Event). Step m old e new) (listing_turn old asked v has) step_ in
     let was = is_listing old asked has in
     let turns = turns_asking m v old new by in
-    let held = operates (harm_by v) old new turns.marks turns.leaves turns.of_asking kept was.no_call in
+    let held = operates (harm_by v) old new turns.marks turns.leaves turns.of_asking kept was.no_call (turns_planned turns) in
     let own = own_kept (harm_by v) old new by.at.exchange by.at.is_open turns was.no_call (λ harmed. ap (λ (q : Question). harms_part q harmed) (ap (λ (x : ExchangeView). x.question) (some_is (sym by.at.is_open ∙ was.is_open)) ∙ was.question)) in
     record {
       does = (
@@ -485,7 +483,8 @@ list_turn_held {S} {V} m old new asked v has kept step_ =
           makes = held.does.makes;
           all_such = harms_of_rescan (mine 0 held.does.marks) held.does.all_such;
           few = held.does.few;
-          counts = λ enters. counts_still old new held.does.marks held.does.makes.made (harms_undone (mine 0 held.does.marks) held.does.all_such) (sym (own_rescanned new) ∙ ap rescanned_in own ∙ own_rescanned old);
+          counts = λ enters. counts_still old new held.does.marks held.does.makes.made (harms_undone (mine 0 held.does.marks) held.does.all_such) (turns_planned turns);
+          keeps = λ not. turns_planned turns;
         },
         own,
       );
@@ -499,18 +498,13 @@ list_turn_may_tell {S} {V} m old mid asked has step_ =
     let was = is_listing old asked has in
     was_told_so mid (new_order asked) (op.Stopped (answer.NoMemory false)) (refuses_asking m old mid (new_order asked) was.order by).1 refl
 
-room_planned : {S V : Type 0} (m : Meaning S V) (old left : View S V) → frames.FindsNoRoom m old left → rescanned_of left.council.plan ≡ rescanned_of old.council.plan
-room_planned {S} {V} m old left (frames.stays is) = ap (λ (w : View S V). rescanned_of w.council.plan) is
-room_planned {S} {V} m old left (frames.kept id acceptor now at finds_none is) = ap (λ (w : View S V). rescanned_of w.council.plan) is
-
 pub list_turn_told : {S V : Type 0} (m : Meaning S V) (most : ℕ) (old mid new : View S V) (asked : Asked) (told : OpAnswer) → HasListing asked (own_part old 0) → IsKept old → Step m old (refusal_of old 0) mid → StepTell mid told new → IsPassing told → Held old new (IsToldIn asked IsPlanMark most old new told)
 list_turn_told {S} {V} m most old mid new asked told has kept step_ ends passing =
     let by : StepRefuseTurnExchange m old mid = subst (λ (e : step.Event). Step m old e mid) (listing_refusal old asked has) step_ in
     let was = is_listing old asked has in
     let refuses = refuses_asking m old mid (new_order asked) was.order by in
-    let planned = ap (λ (w : View S V). rescanned_of w.council.plan) by.view ∙ room_planned m old by.middle by.refuses in
     tells_in IsPlanMark most old mid new asked told (told_so (op.Stopped (answer.NoMemory false)) (new_order asked)) refuses.0 refuses.1 refl ends kept was.no_call
-    (λ enters. told_counts asked told (told_so (op.Stopped (answer.NoMemory false)) (new_order asked)) mid new refuses.1 refl ends old passing (counts_still old mid [] refuses.0.made refl planned))
+    (λ enters. told_counts asked told (told_so (op.Stopped (answer.NoMemory false)) (new_order asked)) mid new refuses.1 refl ends old passing (counts_still old mid [] refuses.0.made refl (refusal_planned m old mid by))) (λ not. absurd (not (λ p e. tt)))
 
 -- ---- what they told
 pub may_gather_list : {S V : Type 0} (view : View S V) (asked : Asked) → HasListing asked (own_part view 0) → (queue_at view.flow exchange_place).messages ≡ [] → MayGather view
@@ -599,7 +593,7 @@ gather_list_told {S} {V} m most old mid new asked told has kept step_ said ends 
     let was = is_listing old asked has in
     let gathers = gathers_list old mid asked was by in
     let held = tells_in IsPlanMark most old mid new asked told gathers.order gathers.leaves gathers.is_order gathers.asks ends kept was.no_call
-    (λ enters. told_counts asked told gathers.order mid new gathers.is_order gathers.asks ends old (gathers.tells told said).1 (counts_still old mid [] gathers.leaves.made refl gathers.planned)) in
+    (λ enters. told_counts asked told gathers.order mid new gathers.is_order gathers.asks ends old (gathers.tells told said).1 (counts_still old mid [] gathers.leaves.made refl gathers.planned)) (λ not. absurd (not (λ p e. tt))) in
     record { does = (held.does, (gathers.tells told said).0); kept = held.kept; greatest = held.greatest }
 
 -- ---- what the world asks
@@ -644,7 +638,7 @@ up_held view asked has kept for_it =
 pub nothing_done : {S V : Type 0} (view : View S V) (asked : Asked) → HasPlan asked (own_part view 0) → IsKept view → OperatesIn IsPlanMark 0 view view
 nothing_done view asked has kept =
     let deed = quiet_deed view view (same_view view) kept (is_changing view asked has).no_call in
-    record { marks = []; makes = deed.makes; all_such = All-nil IsPlanMark; few = omega arith; counts = λ enters low. refl }
+    record { marks = []; makes = deed.makes; all_such = All-nil IsPlanMark; few = omega arith; counts = λ enters low. refl; keeps = λ not. refl }
 
 -- no memory was found for the key that is due
 pub key_may_tell : {S V : Type 0} (old mid new : View S V) (asked : Asked) (told : OpAnswer) → HasPlan asked (own_part old 0) → IsKept old → StepRefuseKey old mid → WasToldOrder mid told → StepTell mid told new
@@ -655,7 +649,7 @@ key_may_tell {S} {V} old mid new asked told has kept by said ends =
     let order_now : mid.council.order ≡ Some (told_so (op.Stopped (answer.NoMemory false)) (new_order asked)) = ap (λ (w : View S V). w.council.order) by.view ∙ ap (option_map (told_so (op.Stopped (answer.NoMemory false)))) was.order in
     let midway = subst (IsMidway asked) (says_same mid (new_order asked) (op.Stopped (answer.NoMemory false)) told order_now said) (tt, tt) in
     let held = tells_in IsPlanMark 0 old mid new asked told (told_so (op.Stopped (answer.NoMemory false)) (new_order asked)) leaves order_now refl ends kept was.no_call
-    (λ enters. told_counts asked told (told_so (op.Stopped (answer.NoMemory false)) (new_order asked)) mid new order_now refl ends old midway.1 (counts_still old mid [] leaves.made refl (ap (λ (w : View S V). rescanned_of w.council.plan) by.view))) in
+    (λ enters. told_counts asked told (told_so (op.Stopped (answer.NoMemory false)) (new_order asked)) mid new order_now refl ends old midway.1 (counts_still old mid [] leaves.made refl (ap (λ (w : View S V). rescanned_of w.council.plan) by.view))) (λ not. absurd (not (λ p e. tt))) in
     record { does = (held.does, midway.0); kept = held.kept; greatest = held.greatest }
 
 pub none_settled : {A : Type 0} {P : Type 0} (o : Option A) → is_some o ≡ false → IfNone o P → P
@@ -676,7 +670,7 @@ pub still_listing : {S V : Type 0} (old new : View S V) (asked : Asked) → HasL
 still_listing old new asked has same = subst (HasListing asked) (sym same) has
 
 pub made_none : {S V : Type 0} (most : ℕ) (old new : View S V) → Makes 0 old new [] → rescanned_of new.council.plan ≡ rescanned_of old.council.plan → OperatesIn IsPlanMark most old new
-made_none most old new makes planned = record { marks = []; makes = makes; all_such = All-nil IsPlanMark; few = omega arith; counts = λ enters. counts_still old new [] makes.made refl planned }
+made_none most old new makes planned = record { marks = []; makes = makes; all_such = All-nil IsPlanMark; few = omega arith; counts = λ enters. counts_still old new [] makes.made refl planned; keeps = λ not. planned }
 
 pub ordered_still : {S V : Type 0} (view : View S V) (asked : Asked) → HasPlan asked (own_part view 0) → IsSome view.council.order
 ordered_still view asked has = subst (λ (o : Option OrderView). IsSome o) (sym (is_changing view asked has).order) refl

@@ -31,6 +31,7 @@ use Rattle.cas_world.specs.Exchange as world
 use Rattle.cas_world.specs.declared.exchange.Exchange.{Exchange}
 use Rattle.cas_world.specs.declared.exchange.Exchange.TheVariants as exchange
 use Rattle.cas_world.specs.Exchange.{MayAsk, MayAskThis, asking_of, MayGather, HasGathered, WasToldOrder, asks_as, place_of, turn_of, refusal_of, gathering_by, gathering_of}
+use Rattle.cas_world.specs.Plans.{rescanned_of}
 use Rattle.cas_hold.specs.Deeds.{harm_by}
 use Rattle.cas_hold.specs.Kept.{IsKept, Makes}
 use Rattle.cas_hold.specs.Open.{IsFree}
@@ -47,13 +48,14 @@ use Rattle.cas_steady.specs.Steady.{IsSteady}
 use Rattle.cas_hold.specs.Mine.{mine}
 use Rattle.cas_hold.proofs.Fronts.{mine_append}
 use Rattle.cas_record.specs.declared.mark.Mark.{Mark}
+use Rattle.cas_hold.proofs.Counting.{lasts_told}
 use Rattle.cas_hold.proofs.Councils.{IsOrdered, IsProbed, has_order, is_ordered, has_probe, is_probed, has_harms, harms_are, asked_behind, behind_is, free_idle}
 use Rattle.cas_hold.specs.Stages.{IsFirst, HasFirst, front_of}
 use Rattle.cas_hold.specs.declared.deeds.Waiting.{Waiting}
 use Rattle.std.specs.Prelude.{IfSome}
 use Rattle.cas_hold.proofs.Holds.{Held}
 use Rattle.cas_hold.proofs.Stages.{some_waits, none_waits}
-use Rattle.cas_hold.proofs.Operating.{Leaves, leaves_desks, leaves_others, none_then, silently, operates, tells_in, TurnsAsking, turns_asking, refuses_asking, says_same, was_told_so}
+use Rattle.cas_hold.proofs.Operating.{Leaves, leaves_desks, leaves_others, none_then, silently, operates, tells_in, TurnsAsking, turns_asking, refuses_asking, refusal_planned, says_same, turns_planned, was_told_so}
 
 -- ---- its order
 pub order_held : {S V : Type 0} (old new : View S V) (asked : Asked) → IsFree (own_part old 0) → IsKept old → StepOrder old asked new → Held old new (Makes 0 old new [] × HasOrder asked (own_part new 0))
@@ -100,6 +102,7 @@ record AsksOrTells {S V : Type 0} (old new : View S V) (key : List ℕ) : Type 0
   question : exchange.question ≡ Probe key
   everyone : asked_of exchange ≡ everyone old
   harmless : harms_part exchange.question exchange.harmed ≡ 0
+  planned : rescanned_of new.council.plan ≡ rescanned_of old.council.plan
   since : exchange.since ≡ length old.marks
 
 record IsStopped {S V : Type 0} (old new : View S V) (key : List ℕ) : Type 0 where
@@ -107,6 +110,7 @@ record IsStopped {S V : Type 0} (old new : View S V) (key : List ℕ) : Type 0 w
   why : Answer
   order : new.council.order ≡ Some (told_so (op.Stopped why) (new_order (asked.Probe key)))
   exchange : new.council.exchange ≡ None
+  planned : rescanned_of new.council.plan ≡ rescanned_of old.council.plan
   stops : (members : List ℕ) → IsProbeAnswer key members (op.Stopped why)
 
 names_each : (members : List ℕ) → map (λ (p : ProbeOf). p.acceptor) (map (λ member. record { acceptor = member; told = None }) members) ≡ members
@@ -116,8 +120,8 @@ names_each (member ∷ members) = ap (λ (l : List ℕ). member ∷ l) (names_ea
 asks_or_not : {S V : Type 0} (m : Meaning S V) (old new : View S V) (key : List ℕ) → IsOrdered old (asked.Probe key) → StepAskAll m old (Probe key) new → AsksOrTells old new key ⊎ IsStopped old new key
 asks_or_not {S} {V} m old new key was by = by_case by.asks
   where
-    stopped : (why : Answer) → Leaves old new [] → new.council.order ≡ option_map (told_so (op.Stopped why)) old.council.order → new.council.exchange ≡ old.council.exchange → ((members : List ℕ) → IsProbeAnswer key members (op.Stopped why)) → AsksOrTells old new key ⊎ IsStopped old new key
-    stopped why leaves order exchange stops = inr (record { leaves = leaves; why = why; order = order ∙ ap (option_map (told_so (op.Stopped why))) was.order; exchange = exchange ∙ was.exchange; stops = stops })
+    stopped : (why : Answer) → Leaves old new [] → new.council.order ≡ option_map (told_so (op.Stopped why)) old.council.order → new.council.exchange ≡ old.council.exchange → rescanned_of new.council.plan ≡ rescanned_of old.council.plan → ((members : List ℕ) → IsProbeAnswer key members (op.Stopped why)) → AsksOrTells old new key ⊎ IsStopped old new key
+    stopped why leaves order exchange planned stops = inr (record { leaves = leaves; why = why; order = order ∙ ap (option_map (told_so (op.Stopped why))) was.order; exchange = exchange ∙ was.exchange; planned = planned; stops = stops })
 
     by_case : AsksAll m old (Probe key) by.desk new → AsksOrTells old new key ⊎ IsStopped old new key
     by_case (council.asks now tag flow up room drawn is_now sends is) = inl (record {
@@ -128,13 +132,14 @@ asks_or_not {S} {V} m old new key was by = by_case by.asks
       question = refl;
       everyone = names_each (everyone old);
       harmless = refl;
+      planned = ap (λ (w : View S V). rescanned_of w.council.plan) is;
       since = refl;
     })
-    by_case (council.is_down down is) = stopped answer.Down (leaves_desks old _ new [] is refl refl refl (sym (append-nil old.marks))) (ap (λ (w : View S V). w.council.order) is) (ap (λ (w : View S V). w.council.exchange) is) (λ members. refl)
-    by_case (council.is_full up full is) = stopped answer.RecordFull (leaves_desks old _ new [] is refl refl refl (sym (append-nil old.marks))) (ap (λ (w : View S V). w.council.order) is) (ap (λ (w : View S V). w.council.exchange) is) (λ members. refl)
-    by_case (council.is_spent now up spent kept is_now is) = stopped answer.Spent (leaves_others old _ new now [] is refl refl refl (sym (append-nil old.marks))) (ap (λ (w : View S V). w.council.order) is) (ap (λ (w : View S V). w.council.exchange) is) (λ members. refl)
-    by_case (council.fails now up fault is) = stopped answer.VaultFault (leaves_others old _ new now [] is refl refl refl (sym (append-nil old.marks))) (ap (λ (w : View S V). w.council.order) is) (ap (λ (w : View S V). w.council.exchange) is) (λ members. refl)
-    by_case (council.no_memory now tag up loss is) = stopped (answer.NoMemory false) (leaves_others old _ new now [] is refl refl refl (sym (append-nil old.marks))) (ap (λ (w : View S V). w.council.order) is) (ap (λ (w : View S V). w.council.exchange) is) (λ members. refl)
+    by_case (council.is_down down is) = stopped answer.Down (leaves_desks old _ new [] is refl refl refl (sym (append-nil old.marks))) (ap (λ (w : View S V). w.council.order) is) (ap (λ (w : View S V). w.council.exchange) is) (ap (λ (w : View S V). rescanned_of w.council.plan) is) (λ members. refl)
+    by_case (council.is_full up full is) = stopped answer.RecordFull (leaves_desks old _ new [] is refl refl refl (sym (append-nil old.marks))) (ap (λ (w : View S V). w.council.order) is) (ap (λ (w : View S V). w.council.exchange) is) (ap (λ (w : View S V). rescanned_of w.council.plan) is) (λ members. refl)
+    by_case (council.is_spent now up spent kept is_now is) = stopped answer.Spent (leaves_others old _ new now [] is refl refl refl (sym (append-nil old.marks))) (ap (λ (w : View S V). w.council.order) is) (ap (λ (w : View S V). w.council.exchange) is) (ap (λ (w : View S V). rescanned_of w.council.plan) is) (λ members. refl)
+    by_case (council.fails now up fault is) = stopped answer.VaultFault (leaves_others old _ new now [] is refl refl refl (sym (append-nil old.marks))) (ap (λ (w : View S V). w.council.order) is) (ap (λ (w : View S V). w.council.exchange) is) (ap (λ (w : View S V). rescanned_of w.council.plan) is) (λ members. refl)
+    by_case (council.no_memory now tag up loss is) = stopped (answer.NoMemory false) (leaves_others old _ new now [] is refl refl refl (sym (append-nil old.marks))) (ap (λ (w : View S V). w.council.order) is) (ap (λ (w : View S V). w.council.exchange) is) (ap (λ (w : View S V). rescanned_of w.council.plan) is) (λ members. refl)
 
 -- the step of the store by which the members are asked
 asks_by : {S V : Type 0} (m : Meaning S V) (old new : View S V) (what : Exchange) (key : List ℕ) → what ≡ exchange.Probe key → Step m old (asking_of old what) new → StepAskAll m old (Probe key) new
@@ -143,10 +148,10 @@ asks_by {S} {V} m old new what key is by = subst (λ (e : Exchange). Step m old 
 pub may_ask : {S V : Type 0} (view : View S V) (what : Exchange) (key : List ℕ) → what ≡ exchange.Probe key → IsKept view → HasOrder (asked.Probe key) (own_part view 0) → MayAskThis view what
 may_ask view what key is kept has = subst (MayAskThis view) (sym is) (may_probe view key kept has)
 
-pub ask_held : {S V : Type 0} (m : Meaning S V) (old new : View S V) (what : Exchange) (key : List ℕ) → what ≡ exchange.Probe key → HasOrder (asked.Probe key) (own_part old 0) → IsKept old → Step m old (asking_of old what) new → IsSome new.council.exchange → Held old new (Makes 0 old new [] × HasProbe key (everyone old) (own_part new 0) × HasHarms 0 (own_part new 0) × WasAskedBehind (length old.marks) (own_part new 0))
+pub ask_held : {S V : Type 0} (m : Meaning S V) (old new : View S V) (what : Exchange) (key : List ℕ) → what ≡ exchange.Probe key → HasOrder (asked.Probe key) (own_part old 0) → IsKept old → Step m old (asking_of old what) new → IsSome new.council.exchange → Held old new (Makes 0 old new [] × HasProbe key (everyone old) (own_part new 0) × HasHarms 0 (own_part new 0) × WasAskedBehind (length old.marks) (own_part new 0) × (rescanned_of new.council.plan ≡ rescanned_of old.council.plan))
 ask_held {S} {V} m old new what key is has kept by_what some = elim (asks_or_not m old new key was (asks_by m old new what key is by_what)) [
   | inl asks ↦ let held = silently old new asks.leaves kept was.no_call in record {
-    does = (held.does, has_probe new key (everyone old) (record { no_call = none_then old new [] asks.leaves was.no_call; order = asks.order; exchange = asks.exchange; is_open = asks.is_open; question = asks.question; asks = asks.everyone }), subst (λ (n : ℕ). HasHarms n (own_part new 0)) asks.harmless (has_harms new asks.exchange (none_then old new [] asks.leaves was.no_call) asks.is_open), asked_behind new asks.exchange (length old.marks) (none_then old new [] asks.leaves was.no_call) asks.is_open (omega (arith, asks.since)));
+    does = (held.does, has_probe new key (everyone old) (record { no_call = none_then old new [] asks.leaves was.no_call; order = asks.order; exchange = asks.exchange; is_open = asks.is_open; question = asks.question; asks = asks.everyone }), subst (λ (n : ℕ). HasHarms n (own_part new 0)) asks.harmless (has_harms new asks.exchange (none_then old new [] asks.leaves was.no_call) asks.is_open), asked_behind new asks.exchange (length old.marks) (none_then old new [] asks.leaves was.no_call) asks.is_open (omega (arith, asks.since)), asks.planned);
     kept = held.kept;
     greatest = held.greatest;
   }
@@ -171,7 +176,7 @@ pub ask_told : {S V : Type 0} (m : Meaning S V) (old mid new : View S V) (what :
     → Held old new (IsToldIn (asked.Probe key) IsAskingHarm 0 old new told × ((members : List ℕ) → IsProbeAnswer key members told) × IsSilentAtMost 0 told × ((before : List Mark) → IsTrueProbe before new.marks told))
 ask_told {S} {V} m old mid new what key told is has kept by_what none said ends = elim (asks_or_not m old mid key was (asks_by m old mid what key is by_what)) [
   | inl asks ↦ absurd (cc (sym none ∙ asks.is_open))
-  | inr stopped ↦ let held = tells_in IsAskingHarm 0 old mid new (asked.Probe key) told (told_so (op.Stopped stopped.why) (new_order (asked.Probe key))) stopped.leaves stopped.order refl ends kept was.no_call (λ enters. absurd (enters 0 0)) in record {
+  | inr stopped ↦ let held = tells_in IsAskingHarm 0 old mid new (asked.Probe key) told (told_so (op.Stopped stopped.why) (new_order (asked.Probe key))) stopped.leaves stopped.order refl ends kept was.no_call (λ enters. absurd (enters 0 0)) (λ not. lasts_told mid new (asked.Probe key) told (told_so (op.Stopped stopped.why) (new_order (asked.Probe key))) stopped.order refl (λ era rescanned is. is) ends ∙ stopped.planned) in record {
     does = (
       held.does,
       λ members. stopped_says key members stopped.why told (stopped.stops members) (says_same mid (new_order (asked.Probe key)) (op.Stopped stopped.why) told stopped.order said),
@@ -262,7 +267,7 @@ turn_held {S} {V} m old new key members v has kept step_ =
     let by : StepTurnExchange m old v new = subst (λ (e : step.Event). Step m old e new) (turn_is old key members v has) step_ in
     let was = is_probed old key members has in
     let turns = turns_asking m v old new by in
-    let held = operates (harm_by v) old new turns.marks turns.leaves turns.of_asking kept was.no_call in
+    let held = operates (harm_by v) old new turns.marks turns.leaves turns.of_asking kept was.no_call (turns_planned turns) in
     record { does = (held.does, λ them asks. probe_then (harm_by v) old new key them by.at.exchange by.at.is_open turns asks, harms_then (harm_by v) old new by.at.exchange by.at.is_open turns was.no_call, λ many asked_then. behind_then (harm_by v) old new by.at.exchange many by.at.is_open turns was.no_call asked_then); kept = held.kept; greatest = held.greatest }
 
 pub turn_may_tell : {S V : Type 0} (m : Meaning S V) (old mid : View S V) (key members : List ℕ) → HasProbe key members (own_part old 0) → Step m old (refusal_of old 0) mid → WasToldOrder mid (op.Stopped (answer.NoMemory false))
@@ -277,6 +282,7 @@ turn_told {S} {V} m most old mid new key members told has kept step_ ends =
     let was = is_probed old key members has in
     let refuses = refuses_asking m old mid (new_order (asked.Probe key)) was.order by in
     tells_in IsAskingHarm most old mid new (asked.Probe key) told (told_so (op.Stopped (answer.NoMemory false)) (new_order (asked.Probe key))) refuses.0 refuses.1 refl ends kept was.no_call (λ enters. absurd (enters 0 0))
+    (λ not. lasts_told mid new (asked.Probe key) told (told_so (op.Stopped (answer.NoMemory false)) (new_order (asked.Probe key))) refuses.1 refl (λ era rescanned is. is) ends ∙ refusal_planned m old mid by)
 
 -- ---- what it found
 pub may_gather : {S V : Type 0} (view : View S V) (key members : List ℕ) → HasProbe key members (own_part view 0) → (queue_at view.flow exchange_place).messages ≡ [] → MayGather view
@@ -297,6 +303,7 @@ record GathersProbe {S V : Type 0} (m : Meaning S V) (old new : View S V) (key m
   leaves : Leaves old new []
   said : OpAnswer
   order : new.council.order ≡ Some (told_so said (new_order (asked.Probe key)))
+  planned : rescanned_of new.council.plan ≡ rescanned_of old.council.plan
   answer : (told : OpAnswer) → SaysTheSame said told → IsProbeAnswer key members told
   silent : IsSteady m old → (harms : ℕ) → HasHarms harms (own_part old 0) → (told : OpAnswer) → SaysTheSame said told → IsSilentAtMost harms told
   truly : m.shelves.tells → m.disks.tells → IsSteady m old → (many : ℕ) → WasAskedBehind many (own_part old 0) → (told : OpAnswer) → SaysTheSame said told → IsTrueProbe (take many old.marks) old.marks told
@@ -374,8 +381,8 @@ gathers_probe {S} {V} m old new key members was by = by_case by.gathers
     leaves : (changed : View S V) → new ≡ changed → changed.greatest ≡ old.greatest → changed.desks ≡ old.desks → changed.callers ≡ old.callers → changed.marks ≡ old.marks → Leaves old new []
     leaves changed is greatest desks callers marks = leaves_desks old changed new [] is greatest desks callers (marks ∙ sym (append-nil old.marks))
 
-    stopped : (why : Answer) → Leaves old new [] → new.council.order ≡ option_map (told_so (op.Stopped why)) old.council.order → IsProbeAnswer key members (op.Stopped why) → GathersProbe m old new key members
-    stopped why left order stops = record { leaves = left; said = op.Stopped why; order = order ∙ ap (option_map (told_so (op.Stopped why))) was.order; answer = λ told same. stopped_says key members why told stops same; silent = λ steady harms has told same. stopped_silent harms why told same; truly = λ shelves disks steady many asked_then told same. stopped_truly (take many old.marks) old.marks why told same }
+    stopped : (why : Answer) → Leaves old new [] → new.council.order ≡ option_map (told_so (op.Stopped why)) old.council.order → rescanned_of new.council.plan ≡ rescanned_of old.council.plan → IsProbeAnswer key members (op.Stopped why) → GathersProbe m old new key members
+    stopped why left order planned stops = record { leaves = left; said = op.Stopped why; order = order ∙ ap (option_map (told_so (op.Stopped why))) was.order; planned = planned; answer = λ told same. stopped_says key members why told stops same; silent = λ steady harms has told same. stopped_silent harms why told same; truly = λ shelves disks steady many asked_then told same. stopped_truly (take many old.marks) old.marks why told same }
 
     few : IsSteady m old → (harms : ℕ) → HasHarms harms (own_part old 0) → (found : Probes) → found.probes.items ≡ by.at.exchange.told → by.at.exchange.crashed ≡ false → silent_in found.probes.items ≤ harms
     few steady harms has found keeps up =
@@ -399,13 +406,14 @@ gathers_probe {S} {V} m old new key members was by = by_case by.gathers
         subst (λ (l : List ℕ). has_member l acceptor ≡ true) (sym (heard steady) ∙ ap tellers_of (sym keeps)) (confirmers_are_probed m old by.at.exchange key a acceptor steady.safe (steady.remembered shelves disks) steady.asking by.at.is_open asks stands era confirms)
 
     by_case : Gathers old by.at.exchange new → GathersProbe m old new key members
-    by_case (council.crashed down is) = stopped answer.Crashed (leaves _ is refl refl refl refl) (ap (λ (w : View S V). w.council.order) is) refl
+    by_case (council.crashed down is) = stopped answer.Crashed (leaves _ is refl refl refl refl) (ap (λ (w : View S V). w.council.order) is) (ap (λ (w : View S V). rescanned_of w.council.plan) is) refl
     by_case (council.probed other found up question keeps is) =
         let same_key : other ≡ key = cc (sym question ∙ asks) in
         record {
           leaves = leaves _ is refl refl refl refl;
           said = op.Probed other found;
           order = ap (λ (w : View S V). w.council.order) is ∙ ap (option_map (told_so (op.Probed other found))) was.order;
+          planned = ap (λ (w : View S V). rescanned_of w.council.plan) is;
           answer = λ told same. found_says key members found told (ap (map (λ (p : ProbeOf). p.acceptor)) keeps ∙ ap asked_of same_exchange ∙ was.asks) (subst (λ (k : List ℕ). SaysTheSame (op.Probed k found) told) same_key same);
           silent = λ steady harms has told same. silent_says harms other found told (few steady harms has found keeps up) same;
           truly = λ shelves disks steady many asked_then told same. truly_says (take many old.marks) old.marks other found told (subst (λ (k : List ℕ). AreToldSo (reverse old.marks) k found.probes.items) (sym same_key) (so shelves disks steady found keeps))
@@ -413,13 +421,14 @@ gathers_probe {S} {V} m old new key members was by = by_case by.gathers
         }
     by_case (council.lists of listing up enough on is) = absurd (cc (sym asks ∙ of.question))
     by_case (council.is_short of short up few is) = absurd (cc (sym asks ∙ of.question))
-    by_case (council.no_memory up is) = stopped (answer.NoMemory false) (leaves _ is refl refl refl refl) (ap (λ (w : View S V). w.council.order) is) refl
+    by_case (council.no_memory up is) = stopped (answer.NoMemory false) (leaves _ is refl refl refl refl) (ap (λ (w : View S V). w.council.order) is) (ap (λ (w : View S V). rescanned_of w.council.plan) is) refl
 
 pub gather_told : {S V : Type 0} (m : Meaning S V) (most : ℕ) (old mid new : View S V) (key members : List ℕ) (told : OpAnswer) → HasProbe key members (own_part old 0) → IsKept old → Step m old (gathering_of old) mid → WasToldOrder mid told → StepTell mid told new
     → Held old new (IsToldIn (asked.Probe key) IsAskingHarm most old new told × IsProbeAnswer key members told)
 gather_told {S} {V} m most old mid new key members told has kept step_ said ends =
     let gathers = gathers_probe m old mid key members (is_probed old key members has) (gathers_by m old mid key members has step_) in
-    let held = tells_in IsAskingHarm most old mid new (asked.Probe key) told (told_so gathers.said (new_order (asked.Probe key))) gathers.leaves gathers.order refl ends kept (is_probed old key members has).no_call (λ enters. absurd (enters 0 0)) in
+    let held = tells_in IsAskingHarm most old mid new (asked.Probe key) told (told_so gathers.said (new_order (asked.Probe key))) gathers.leaves gathers.order refl ends kept (is_probed old key members has).no_call (λ enters. absurd (enters 0 0))
+    (λ not. lasts_told mid new (asked.Probe key) told (told_so gathers.said (new_order (asked.Probe key))) gathers.order refl (λ era rescanned is. is) ends ∙ gathers.planned) in
     record { does = (held.does, gathers.answer told (says_same mid (new_order (asked.Probe key)) gathers.said told gathers.order said)); kept = held.kept; greatest = held.greatest }
 
 -- no more are silent than were harmed

@@ -27,6 +27,7 @@ use Rattle.cas_cluster.specs.View.{Meaning, View, CallView, CallerView, IsAt}
 use Rattle.cas_cluster.proofs.Places.{same_or_not, at_one, at_set, some_is}
 use Rattle.cas_world.specs.Collect.{GoesOnCollecting, renewal_in, renewal_of}
 use Rattle.cas_world.specs.Exchange.{WasToldOrder}
+use Rattle.cas_world.specs.Plans.{rescanned_of}
 use Rattle.cas_world.specs.Readers.{closed_in}
 use Rattle.cas_hold.specs.Collecting.{HasStep, IsBurialMark, IsCollectAnswer}
 use Rattle.cas_hold.specs.Conflicts.{told_conflict, is_conflict}
@@ -37,7 +38,7 @@ use Rattle.cas_hold.specs.Owners.{owner_of}
 use Rattle.cas_hold.specs.OwnParts.{caller_part, open_part, call_part, phase_of, own_part}
 use Rattle.cas_hold.proofs.Acts.{Spares, spares_set, round_set, has_round, was_desk, staged_same}
 use Rattle.cas_hold.proofs.Collecting.{IsStep, has_step, is_step}
-use Rattle.cas_hold.proofs.CollectSteps.{stopped_held, no_marks, steps_on}
+use Rattle.cas_hold.proofs.CollectSteps.{stopped_held, no_marks, none_counted, steps_on}
 use Rattle.cas_hold.proofs.Holds.{Held}
 use Rattle.cas_hold.proofs.Operating.{leaves_desks}
 
@@ -70,13 +71,13 @@ makes_behind a b c l first then_ = record {
 }
 
 -- so the operator is told behind it
-passes_told : {S V : Type 0} (key : List ℕ) (most : ℕ) (old mid new : View S V) (said told : OpAnswer) → Passes old mid → mid.council.order ≡ Some (told_so said (new_order (asked.Collect key))) → IsCollectAnswer key said → WasToldOrder mid told → StepTell mid told new
+passes_told : {S V : Type 0} (key : List ℕ) (most : ℕ) (old mid new : View S V) (said told : OpAnswer) → Passes old mid → mid.council.order ≡ Some (told_so said (new_order (asked.Collect key))) → IsCollectAnswer key said → rescanned_of mid.council.plan ≡ rescanned_of old.council.plan → WasToldOrder mid told → StepTell mid told new
     → Held old new (IsToldIn (asked.Collect key) (IsBurialMark key) most old new told × IsCollectAnswer key told)
-passes_told key most old mid new said told passes order answers was ends =
-    let held = stopped_held key most mid mid new told (record { leaves = leaves_desks mid mid mid [] refl refl refl refl (sym (append-nil mid.marks)); said = said; order = order; answers = answers }) was ends passes.kept passes.none in
+passes_told key most old mid new said told passes order answers planned was ends =
+    let held = stopped_held key most mid mid new told (record { leaves = leaves_desks mid mid mid [] refl refl refl refl (sym (append-nil mid.marks)); said = said; order = order; answers = answers; planned = refl }) was ends passes.kept passes.none in
     let d = held.does.0 in
     record {
-      does = (record { marks = d.marks; makes = makes_behind old mid new _ passes.makes d.makes; all_such = d.all_such; few = d.few; is_free = d.is_free; counts = λ enters. absurd (enters 0 0) }, held.does.1);
+      does = (record { marks = d.marks; makes = makes_behind old mid new _ passes.makes d.makes; all_such = d.all_such; few = d.few; is_free = d.is_free; counts = λ enters. absurd (enters 0 0); keeps = λ not. d.keeps (λ enters. enters 0 0) ∙ planned }, held.does.1);
       kept = held.kept;
       greatest = held.greatest ∙ passes.greatest;
     }
@@ -245,7 +246,7 @@ renew_held {S} {V} m key proposer most old new has kept by ok = by_case by.renew
         let at = steps_on key (step.Renew proposer) (step_after by.at.collection.course.proposers by.at.collection.course.step) old.council new.council was.at by.at.order by.at.collection _ by.at.is_open by.at.is_collection (ap (λ (w : View S V). w.council.order) is) (ap (λ (w : View S V). w.council.plan) is ∙ ap (λ (c : Council). c.plan) l.1) (ap (λ (w : View S V). w.council.collection) is) refl refl refl in
         record {
           does = (
-            no_marks key most old new passes.makes,
+            no_marks key most old new passes.makes (none_counted was.at at),
             by_next by.at.collection by.is_due (step_after by.at.collection.course.proposers by.at.collection.course.step) refl (has_step new key (step_after by.at.collection.course.proposers by.at.collection.course.step) (record { no_call = passes.none; at = at; none_asked = ap (λ (w : View S V). w.council.exchange) is ∙ ap (λ (c : Council). c.exchange) l.1 ∙ was.none_asked })),
           );
           kept = passes.kept;
@@ -273,17 +274,17 @@ renew_told {S} {V} m key proposer most old mid new told has kept by said ends = 
 
     by_case : RenewsNext m old by.at proposer by.desk mid → Held old new (IsToldIn (asked.Collect key) (IsBurialMark key) most old new told × IsCollectAnswer key told)
     by_case (collect.renews age middle leaves is) = absurd (cc (sym (ap (λ (o : OrderView). o.told) (some_is (sym said.is_open ∙ ap (λ (w : View S V). w.council.order) is))) ∙ said.was_said))
-    by_case (collect.is_down down is) = passes_told key most old mid new (op.ProposerDown proposer) told (passes_council old old mid _ (passes_none old kept was.no_call) is) (ap (λ (w : View S V). w.council.order) is ∙ order_of (op.ProposerDown proposer) old.council refl) tt said ends
+    by_case (collect.is_down down is) = passes_told key most old mid new (op.ProposerDown proposer) told (passes_council old old mid _ (passes_none old kept was.no_call) is) (ap (λ (w : View S V). w.council.order) is ∙ order_of (op.ProposerDown proposer) old.council refl) tt (ap (λ (w : View S V). rescanned_of w.council.plan) is) said ends
     by_case (collect.fails middle (stops.of_client not leaves) is) =
         let l = leaves_round old middle proposer answer.Crashed cause.Crashed refl refl (λ desk now turns. ap (λ (d : DeskView V). d.round) turns.crashed) leaves kept was.no_call in
-        passes_told key most old mid new (op.ProposerDown proposer) told (passes_council old middle mid _ l.0 is) (ap (λ (w : View S V). w.council.order) is ∙ order_of (op.ProposerDown proposer) middle.council (ap (λ (c : Council). c.order) l.1)) tt said ends
+        passes_told key most old mid new (op.ProposerDown proposer) told (passes_council old middle mid _ l.0 is) (ap (λ (w : View S V). w.council.order) is ∙ order_of (op.ProposerDown proposer) middle.council (ap (λ (c : Council). c.order) l.1)) tt (ap (λ (w : View S V). rescanned_of w.council.plan) is ∙ ap (λ (c : Council). rescanned_of c.plan) l.1) said ends
     by_case (collect.fails middle (stops.of_operator inner first leaves broken) is) =
         let l = leaves_round old inner proposer answer.Crashed cause.Crashed refl refl (λ desk now turns. ap (λ (d : DeskView V). d.round) turns.crashed) leaves kept was.no_call in
-        passes_told key most old mid new (op.ProposerDown proposer) told (passes_council old middle mid _ (passes_broken old inner middle l.0 broken) is) (ap (λ (w : View S V). w.council.order) is ∙ order_of (op.ProposerDown proposer) middle.council (ap (λ (w : View S V). w.council.order) broken ∙ ap (λ (c : Council). c.order) l.1)) tt said ends
-    by_case (collect.is_spent up spent is) = passes_told key most old mid new (op.Stopped answer.Spent) told (passes_council old old mid _ (passes_none old kept was.no_call) is) (ap (λ (w : View S V). w.council.order) is ∙ order_of (op.Stopped answer.Spent) old.council refl) tt said ends
+        passes_told key most old mid new (op.ProposerDown proposer) told (passes_council old middle mid _ (passes_broken old inner middle l.0 broken) is) (ap (λ (w : View S V). w.council.order) is ∙ order_of (op.ProposerDown proposer) middle.council (ap (λ (w : View S V). w.council.order) broken ∙ ap (λ (c : Council). c.order) l.1)) tt (ap (λ (w : View S V). rescanned_of w.council.plan) is ∙ ap (λ (w : View S V). rescanned_of w.council.plan) broken ∙ ap (λ (c : Council). rescanned_of c.plan) l.1) said ends
+    by_case (collect.is_spent up spent is) = passes_told key most old mid new (op.Stopped answer.Spent) told (passes_council old old mid _ (passes_none old kept was.no_call) is) (ap (λ (w : View S V). w.council.order) is ∙ order_of (op.Stopped answer.Spent) old.council refl) tt (ap (λ (w : View S V). rescanned_of w.council.plan) is) said ends
     by_case (collect.no_memory now up finds is) =
         passes_told key most old mid new (op.Stopped (answer.NoMemory false)) told (passes_desk old mid proposer by.desk now by.at_desk (ap (λ (d : DeskView V). is_some d.round) finds.desk) (ap (λ (w : View S V). w.greatest) is) (ap (λ (w : View S V). w.desks) is) (ap (λ (w : View S V). w.callers) is) (ap (λ (w : View S V). w.marks) is) kept was.no_call)
-        (ap (λ (w : View S V). w.council.order) is ∙ order_of (op.Stopped (answer.NoMemory false)) old.council refl) tt said ends
+        (ap (λ (w : View S V). w.council.order) is ∙ order_of (op.Stopped (answer.NoMemory false)) old.council refl) tt (ap (λ (w : View S V). rescanned_of w.council.plan) is) said ends
 
 -- which step is due, as is read of the world
 pub renewal_due : {S V : Type 0} (view : View S V) (key : List ℕ) (proposer : ℕ) → HasStep key step.Ages (own_part view 0) ⊎ ((p : ℕ) × HasStep key (step.Renew p) (own_part view 0)) → Some proposer ≡ renewal_in view.council.collection → HasStep key (step.Renew proposer) (own_part view 0)

@@ -23,7 +23,7 @@ use Rattle.cas_world.specs.Exchange.{WasToldOrder}
 use Rattle.cas_world.specs.Plans.{rescanned_of}
 use Rattle.cas_hold.specs.Conflicts.{is_conflict}
 use Rattle.cas_hold.specs.Deeds as deeds
-use Rattle.cas_hold.specs.Counting.{CountsTo}
+use Rattle.cas_hold.specs.Counting.{CountsTo, EntersEras}
 use Rattle.cas_hold.specs.Deeds.{BeginsIn, BeginsNot, GoesOnIn, EndsIn, IsRefusal}
 use Rattle.cas_hold.specs.Kept.{IsKept, Makes}
 use Rattle.cas_hold.specs.Membership.{HasPlan, IsDue, HasRescan, IsPlanMark, IsRescanMark}
@@ -144,6 +144,7 @@ rescan_begins call old new asked key has due b = (
     few = subst (λ (l : List Mark). losses l ≤ 0) (sym (mine_own 0 (Begun 0 call key keep_always) b.more refl)) (let none = b.none_lost in omega (arith, none));
     counts = λ enters. counts_still old new (Begun 0 call key keep_always ∷ b.more) b.makes.made
         (ap done_calls (mine_own 0 (Begun 0 call key keep_always) b.more refl) ∙ none_done call (mine 0 b.more) b.of_call) (ap (λ (k : Council). rescanned_of k.plan) b.council);
+    keeps = λ not. ap (λ (k : Council). rescanned_of k.plan) b.council;
   },
   record { called = b.is_open; due = subst (IsDue asked key) (sym b.beside) (is_due old asked key has due) },
 )
@@ -198,7 +199,7 @@ begins_not old mid asked key told has due (deeds.is_refused refusal makes leaves
 -- ---- it goes on, and ends
 pub rescan_goes_on : {S V : Type 0} (call most : ℕ) (old new : View S V) (asked : Asked) (key : List ℕ) → HasRescan asked call key (own_part old 0) → GoesOnIn 0 call most old new → OperatesIn IsPlanMark most old new × HasRescan asked call key (own_part new 0)
 rescan_goes_on call most old new asked key has g = (
-  record { marks = g.marks; makes = g.makes; all_such = call_of_rescan call (mine 0 g.marks) g.of_call; few = g.few; counts = λ enters. counts_still old new g.marks g.makes.made (none_done call (mine 0 g.marks) g.of_call) (ap (λ (k : Council). rescanned_of k.plan) g.council) },
+  record { marks = g.marks; makes = g.makes; all_such = call_of_rescan call (mine 0 g.marks) g.of_call; few = g.few; counts = λ enters. counts_still old new g.marks g.makes.made (none_done call (mine 0 g.marks) g.of_call) (ap (λ (k : Council). rescanned_of k.plan) g.council); keeps = λ not. ap (λ (k : Council). rescanned_of k.plan) g.council },
   record { called = g.is_open; due = subst (IsDue asked key) (sym g.beside) has.due },
 )
 
@@ -240,7 +241,7 @@ ends_rescan {S} {V} such call most old mid asked key program told weaker such_en
 
 -- the key is counted, and the change of membership goes on
 counted_on : {S V : Type 0} (most : ℕ) (old mid : View S V) (asked : Asked) (told : Answer) → EndsRescan IsPlanMark most old mid asked told → is_done told ≡ true → OperatesIn IsPlanMark most old mid × HasPlan asked (own_part mid 0)
-counted_on {S} {V} most old mid asked told e done = (record { marks = e.marks; makes = e.makes; all_such = e.all_such; few = e.few; counts = λ enters. e.counts }, has_plan mid asked (by_case e.becomes))
+counted_on {S} {V} most old mid asked told e done = (record { marks = e.marks; makes = e.makes; all_such = e.all_such; few = e.few; counts = λ enters. e.counts; keeps = λ not. absurd (not (λ p e. tt)) }, has_plan mid asked (by_case e.becomes))
   where
     by_case : Rescanned mid asked told → IsChanging mid asked
     by_case (is_counted did is) = is
@@ -254,10 +255,10 @@ stopped_order mid asked told (is_stopped did order) undone = order
 may_stop : {S V : Type 0} (such : Mark → Type 0) (most : ℕ) (old mid : View S V) (asked : Asked) (told : Answer) → EndsRescan such most old mid asked told → is_done told ≡ false → WasToldOrder mid (op.Stopped told)
 may_stop such most old mid asked told e undone = record { order = told_so (op.Stopped told) (new_order asked); is_open = stopped_order mid asked told e.becomes undone; said = op.Stopped told; was_said = refl; same = refl }
 
-stops_so : {S V : Type 0} (such : Mark → Type 0) (most : ℕ) (old mid new : View S V) (asked : Asked) (told : Answer) → EndsRescan such most old mid asked told → IsKept mid → mid.greatest ≡ old.greatest → is_done told ≡ false → StepTell mid (op.Stopped told) new → Held old new (IsToldIn asked such most old new (op.Stopped told))
-stops_so such most old mid new asked told e kept greatest undone ends =
+stops_so : {S V : Type 0} (such : Mark → Type 0) → EntersEras such → (most : ℕ) (old mid new : View S V) (asked : Asked) (told : Answer) → EndsRescan such most old mid asked told → IsKept mid → mid.greatest ≡ old.greatest → is_done told ≡ false → StepTell mid (op.Stopped told) new → Held old new (IsToldIn asked such most old new (op.Stopped told))
+stops_so such entering most old mid new asked told e kept greatest undone ends =
     tells_after such most old mid new e.marks asked (op.Stopped told) (told_so (op.Stopped told) (new_order asked)) (record { makes = e.makes; kept = kept; greatest = greatest; none = e.none }) e.all_such e.few (e.may_tell (op.Stopped told)) (stopped_order mid asked told e.becomes undone) refl ends
-    (λ enters. told_counts asked (op.Stopped told) (told_so (op.Stopped told) (new_order asked)) mid new (stopped_order mid asked told e.becomes undone) refl ends old tt e.counts)
+    (λ enters. told_counts asked (op.Stopped told) (told_so (op.Stopped told) (new_order asked)) mid new (stopped_order mid asked told e.becomes undone) refl ends old tt e.counts) (λ not. absurd (not entering))
 
 -- ---- by how it began
 module _ {S V : Type 0} (old mid : View S V) (asked : Asked) (key : List ℕ) (told : Answer) (has : HasPlan asked (own_part old 0)) (due : due_in old.council.plan ≡ Some key) (begun : BeginsNot 0 key keep_always old mid told) where
@@ -268,7 +269,7 @@ module _ {S V : Type 0} (old mid : View S V) (asked : Asked) (key : List ℕ) (t
   not_begun_may_stop = may_stop IsPlanMark 0 old mid asked told (begins_not old mid asked key told has due begun)
 
   pub not_begun_stops : (new : View S V) → IsKept mid → mid.greatest ≡ old.greatest → is_done told ≡ false → StepTell mid (op.Stopped told) new → Held old new (IsToldIn asked IsPlanMark 0 old new (op.Stopped told))
-  not_begun_stops new = stops_so IsPlanMark 0 old mid new asked told (begins_not old mid asked key told has due begun)
+  not_begun_stops new = stops_so IsPlanMark (λ p e. tt) 0 old mid new asked told (begins_not old mid asked key told has due begun)
 
 -- ---- by how it ended
 module _ {S V : Type 0} (call most : ℕ) (old mid : View S V) (asked : Asked) (key : List ℕ) (program : List Clause) (told : Answer) (has : HasRescan asked call key (own_part old 0)) (kept : IsKept old) (wanted : wanted_by 0 old.marks ≡ Some (wants call key program)) (ended : EndsIn 0 call most old mid told) where
@@ -282,4 +283,4 @@ module _ {S V : Type 0} (call most : ℕ) (old mid : View S V) (asked : Asked) (
   ended_may_stop = may_stop (IsRescanMark (rounds_after (own_part old 0))) most old mid asked told (ends_within (rounds_after (own_part old 0)) (λ conflict. refl))
 
   pub ended_stops : (tries : ℕ) → (is_conflict told ≡ true → rounds_after (own_part old 0) ≡ tries) → (new : View S V) → IsKept mid → mid.greatest ≡ old.greatest → is_done told ≡ false → StepTell mid (op.Stopped told) new → Held old new (IsToldIn asked (IsRescanMark tries) most old new (op.Stopped told))
-  ended_stops tries spent new = stops_so (IsRescanMark tries) most old mid new asked told (ends_within tries spent)
+  ended_stops tries spent new = stops_so (IsRescanMark tries) (λ p e. tt) most old mid new asked told (ends_within tries spent)

@@ -55,7 +55,7 @@ burial_within key tries (EraEntered proposer number) is = is
 burial_within key tries (Told asked told) is = is
 
 pub told_within : {S V Q : Type 0} {asks : Asked} {most : ℕ} {old new : View S V} {told : OpAnswer} (key : List ℕ) (tries : ℕ) → IsToldIn asks (IsBurialMark key) most old new told × Q → IsToldIn asks (IsCollectingMark key tries) most old new told × Q
-told_within key tries (t, q) = (record { marks = t.marks; makes = t.makes; all_such = All-weaker (IsBurialMark key) (IsCollectingMark key tries) (burial_within key tries) (mine 0 t.marks) t.all_such; few = t.few; is_free = t.is_free; counts = λ enters. absurd (enters 0 0) }, q)
+told_within key tries (t, q) = (record { marks = t.marks; makes = t.makes; all_such = All-weaker (IsBurialMark key) (IsCollectingMark key tries) (burial_within key tries) (mine 0 t.marks) t.all_such; few = t.few; is_free = t.is_free; counts = λ enters. absurd (enters 0 0); keeps = λ not. t.keeps (λ enters. enters 0 0) }, q)
 
 -- ---- how many rounds there may be
 pub most_some : (tries : ℕ) → 1 ≤ most_rounds tries

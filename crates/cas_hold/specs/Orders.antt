@@ -66,13 +66,15 @@ pub record WasAskedBehind (many : ℕ) (own : List ℕ) : Type 0 where
   pub behind : many ≤ exchange.since
 
 -- ---- what a hold does
--- the operator's call goes on: it makes such marks, marks at most so many losses, and counts what a change of membership proposes anew
+-- the operator's call goes on: it makes such marks, marks at most so many losses, and counts what a change of membership proposes anew, or
+-- leaves that count where no proposer enters an era on its way
 pub record OperatesIn {S V : Type 0} (such : Mark → Type 0) (most : ℕ) (old new : View S V) : Type 0 where
   pub marks : List Mark
   pub makes : Makes 0 old new marks
   pub all_such : All such (mine 0 marks)
   pub few : losses (mine 0 marks) ≤ most
   pub counts : EntersEras such → CountsTo (rescanned_of new.council.plan) old new
+  pub keeps : (EntersEras such → ⊥) → rescanned_of new.council.plan ≡ rescanned_of old.council.plan
 
 -- it ends, and is told this, which is marked last but for what a probe found
 pub record IsToldIn {S V : Type 0} (asked : Asked) (such : Mark → Type 0) (most : ℕ) (old new : View S V) (answer : OpAnswer) : Type 0 where
@@ -82,6 +84,7 @@ pub record IsToldIn {S V : Type 0} (asked : Asked) (such : Mark → Type 0) (mos
   pub few : losses (mine 0 marks) ≤ most
   pub is_free : IsFree (own_part new 0)
   pub counts : EntersEras such → TellsCount answer old new
+  pub keeps : (EntersEras such → ⊥) → rescanned_of new.council.plan ≡ rescanned_of old.council.plan
 
 -- ---- a probe
 -- it tells of a frame that was harmed within an exchange, which is of no caller's call

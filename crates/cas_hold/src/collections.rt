@@ -18,6 +18,7 @@ ghost use Rattle.cas_hold.specs.Stages.{front_of};
 ghost use Rattle.cas_proposer.specs.Desk.{DeskView};
 ghost use Rattle.cas_record.specs.declared.operator.Asked.TheVariants as asked;
 ghost use Rattle.cas_world.specs.Collect.{IsCollectingCall, leaves_no_call};
+ghost use Rattle.cas_world.specs.Plans.{rescanned_of};
 ghost use Rattle.cas_world.specs.Readers.{closed_in};
 ghost use Rattle.cas_world.specs.World.{IsInPhase, WasTold};
 
@@ -81,6 +82,7 @@ pub fn order_collection<S: Shelf, V: Disk>(
     ensures kept { IsKept world.new }
     ensures greatest { world.new.greatest ≡ world.old.greatest }
     ensures makes { Makes 0 world.old world.new [] }
+    ensures counted { rescanned_of world.new.council.plan ≡ rescanned_of world.old.council.plan }
     ensures key { IfOk result (λ collecting. collecting.key ≡ key.now) }
     ensures keeps { IfOk result (λ collecting. collecting.program ≡ keep_always) }
     ensures tries { IfOk result (λ collecting. collecting.tries ≡ tries) }

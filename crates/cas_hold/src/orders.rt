@@ -72,6 +72,7 @@ pub fn order_probe<S: Shelf, V: Disk>(
     ensures kept { IsKept world.new }
     ensures greatest { world.new.greatest ≡ world.old.greatest }
     ensures makes { Makes 0 world.old world.new [] }
+    ensures counted { rescanned_of world.new.council.plan ≡ rescanned_of world.old.council.plan }
     ensures ordered { OnOk result (HasOrder (Asked.Probe key.now) (own_part world.new 0)) }
     ensures question { IfOk result (λ order. order.question ≡ Exchange.Probe key.now) }
     ensures key { IfOk result (λ order. order.key ≡ key.now) }
@@ -109,6 +110,7 @@ pub fn ask_probe<S: Shelf, V: Disk>(
     ensures kept { IsKept world.new }
     ensures greatest { world.new.greatest ≡ world.old.greatest }
     ensures makes { OnOk result (Makes 0 world.old world.new []) }
+    ensures counted { OnOk result (rescanned_of world.new.council.plan ≡ rescanned_of world.old.council.plan) }
     ensures asks { OnOk result (HasProbe order.key (everyone world.old) (own_part world.new 0)) }
     ensures harms { OnOk result (HasHarms 0 (own_part world.new 0)) }
     ensures behind { OnOk result (WasAskedBehind (length world.old.marks) (own_part world.new 0)) }

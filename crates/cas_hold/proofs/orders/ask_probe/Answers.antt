@@ -45,3 +45,6 @@ returns-in-Err-clause-silent g c = subst (IsSilentAtMost 0) (sym c.tell.ensures.
 
 pub returns-in-Err-clause-truly : goal.returns-in-Err-clause-truly
 returns-in-Err-clause-truly g c before = subst (IsTrueProbe before c.tell.new.self.marks) (sym c.tell.ensures.same) ((ask_told _ c.args.world.now c.ask_all.new.self c.tell.new.self c.args.order.question c.args.order.key c.in-Err.told c.requires.question c.requires.ordered c.requires.kept c.in-Err.ensures.step c.in-Err.ensures.none c.in-Err.ensures.err c.tell.ensures.step).does.3 before)
+
+pub returns-in-Ok-clause-counted : goal.returns-in-Ok-clause-counted
+returns-in-Ok-clause-counted g c = (ask_held _ c.args.world.now c.ask_all.new.self c.args.order.question c.args.order.key c.requires.question c.requires.ordered c.requires.kept c.in-Ok.ensures.step c.in-Ok.ensures.ok).does.4
