@@ -5,6 +5,7 @@ use Rattle.std.proofs.Math.Seq.{take-append_seam}
 use Rattle.std.proofs.lemmas.List.Elements.{All-append, All-nil, All-weaker}
 use Rattle.cas_record.specs.declared.answer.Answer.{Answer}
 use Rattle.cas_record.specs.declared.mark.Mark.{Mark}
+use Rattle.cas_record.specs.declared.mark.Mark.TheVariants.{EraEntered}
 use Rattle.cas_record.specs.declared.operator.Asked.{Asked}
 use Rattle.cas_record.specs.declared.operator.OpAnswer.{OpAnswer}
 use Rattle.cas_record.specs.declared.operator.OpAnswer.TheVariants.{Stopped}
@@ -61,7 +62,7 @@ module _ {S V A : Type 0} (before after : View S V) (old new : Sitting A Mark) (
   still_counted same = kept_count ∙ same ∙ sym (own_rescanned before) ∙ ap rescanned_in (ap (own_part before) was.number ∙ was.part)
 
   pub operator_goes_on : (such : Mark → Type 0) (most : ℕ) → OperatesIn such most before after → HasOperated such most old new
-  operator_goes_on such most o = record { marks = mine 0 o.marks; front = operator_made o.marks o.makes; all_such = o.all_such; few = o.few; counts = λ enters. subst (λ (n : ℕ). HasCountedTo n old new) (sym kept_count) (operator_counts (rescanned_of after.council.plan) (o.counts enters)) }
+  operator_goes_on such most o = record { marks = mine 0 o.marks; front = operator_made o.marks o.makes; all_such = o.all_such; few = o.few; counts = λ enters. subst (λ (n : ℕ). HasCountedTo n old new) (sym kept_count) (operator_counts (rescanned_of after.council.plan) (o.counts enters)); keeps = λ not. still_counted (o.keeps not) }
 
   pub operator_told : (asked : Asked) (such : Mark → Type 0) (most : ℕ) (answer : OpAnswer) → IsToldIn asked such most before after answer → WasToldLast asked such most old new answer
   operator_told asked such most answer t = record {
@@ -73,6 +74,7 @@ module _ {S V A : Type 0} (before after : View S V) (old new : Sitting A Mark) (
     is_free = subst IsFree (sym operator_own) t.is_free;
     counts = λ enters. let tells = t.counts enters in
         subst (λ (n : ℕ). HasCountedTo (count_told answer n) old new × LeavesNone answer n) (sym kept_count) (operator_counts (count_told answer (rescanned_of after.council.plan)) tells.0, tells.1);
+    keeps = λ not. still_counted (t.keeps not);
   }
 
   pub operator_harms : own_part before 0 ≡ old.own → MarksHarms before after → HasMarkedHarms old new
@@ -106,7 +108,7 @@ order_runs such harms pass = record {
   pass = refl;
   lost = 0;
   counted = counted_none harms;
-  operated = record { marks = []; front = record { begins = record { behind = []; whole = append-nil pass.seen }; own_marks = sym (append-nil (mine pass.number pass.seen)) }; all_such = All-nil such; few = omega arith; counts = λ enters low. refl };
+  operated = record { marks = []; front = record { begins = record { behind = []; whole = append-nil pass.seen }; own_marks = sym (append-nil (mine pass.number pass.seen)) }; all_such = All-nil such; few = omega arith; counts = λ enters low. refl; keeps = λ not. refl };
 }
 
 -- counts over two spans, between which neither changes
@@ -164,6 +166,7 @@ module _ {A : Type 0} (such : Mark → Type 0) (harms harms_now : ℕ) (a b c : 
         all_such = All-append such run.operated.marks then_.marks run.operated.all_such then_.all_such;
         few = few_then run.operated.marks then_.marks run.lost most run.operated.few then_.few;
         counts = λ enters. counts_whole enters (rescanned_in d.own) then_.marks then_.front (then_.counts enters);
+        keeps = λ not. then_.keeps not ∙ ap rescanned_in order_own ∙ run.operated.keeps not;
       };
     }
 
@@ -179,6 +182,7 @@ module _ {A : Type 0} (such : Mark → Type 0) (harms harms_now : ℕ) (a b c : 
         few = few_then run.operated.marks then_.marks run.lost most run.operated.few then_.few;
         is_free = then_.is_free;
         counts = λ enters. let tells = then_.counts enters in (counts_whole enters (count_told answer (rescanned_in d.own)) (then_.marks ++ told_marks asked answer) then_.front tells.0, tells.1);
+        keeps = λ not. then_.keeps not ∙ ap rescanned_in order_own ∙ run.operated.keeps not;
       },
     )
 
@@ -261,19 +265,22 @@ true_among more fewer all (op.ProposerDown proposer) each is = tt
 true_among more fewer all (op.Stopped why) each is = tt
 
 -- ---- marks of which less is known
+barred : {such less : Mark → Type 0} → ((mark : Mark) → such mark → less mark) → (EntersEras less → ⊥) → EntersEras such → ⊥
+barred weaker not enters = not (λ proposer era. weaker (EraEntered proposer era) (enters proposer era))
+
 module _ {A : Type 0} (such less : Mark → Type 0) (weaker : (mark : Mark) → such mark → less mark) (back : EntersEras less → EntersEras such) where
   pub operated_less : (most : ℕ) (old new : Sitting A Mark) → HasOperated such most old new → HasOperated less most old new
-  operated_less most old new o = record { marks = o.marks; front = o.front; all_such = All-weaker such less weaker o.marks o.all_such; few = o.few; counts = λ enters. o.counts (back enters) }
+  operated_less most old new o = record { marks = o.marks; front = o.front; all_such = All-weaker such less weaker o.marks o.all_such; few = o.few; counts = λ enters. o.counts (back enters); keeps = λ not. o.keeps (barred weaker not) }
 
   pub told_less : (asked : Asked) (most : ℕ) (old new : Sitting A Mark) (answer : OpAnswer) → WasToldLast asked such most old new answer → WasToldLast asked less most old new answer
-  told_less asked most old new answer t = record { marks = t.marks; front = t.front; last = t.last; all_such = All-weaker such less weaker t.marks t.all_such; few = t.few; is_free = t.is_free; counts = λ enters. t.counts (back enters) }
+  told_less asked most old new answer t = record { marks = t.marks; front = t.front; last = t.last; all_such = All-weaker such less weaker t.marks t.all_such; few = t.few; is_free = t.is_free; counts = λ enters. t.counts (back enters); keeps = λ not. t.keeps (barred weaker not) }
 
   pub run_less : (harms harms_now : ℕ) (old now : Sitting A Mark) → HasRunOrder such harms harms_now old now → HasRunOrder less harms harms_now old now
   run_less harms harms_now old now run = record { pass = run.pass; lost = run.lost; counted = run.counted; operated = operated_less run.lost old now run.operated }
 
 -- ---- the whole
 -- holds that made no mark of caller 0's stood before it
-pub told_behind : {A : Type 0} (asked : Asked) (such : Mark → Type 0) (most : ℕ) (a b c : Sitting A Mark) (answer : OpAnswer) → b.number ≡ a.number → GoesOn a.number a.seen b.seen [] → (EntersEras such → rescanned_in b.own ≡ rescanned_in a.own)
+pub told_behind : {A : Type 0} (asked : Asked) (such : Mark → Type 0) (most : ℕ) (a b c : Sitting A Mark) (answer : OpAnswer) → b.number ≡ a.number → GoesOn a.number a.seen b.seen [] → rescanned_in b.own ≡ rescanned_in a.own
     → WasToldLast asked such most b c answer → WasToldLast asked such most a c answer
 told_behind asked such most a b c answer number first counted told = record {
   marks = told.marks;
@@ -285,9 +292,10 @@ told_behind asked such most a b c answer number first counted told = record {
   counts = λ enters. let tells = told.counts enters in (
     (λ low.
         let last = subst (λ (k : ℕ). count_told answer (rescanned_in c.own) + done_calls (mine k b.seen) ≡ rescanned_in b.own + done_calls (mine k c.seen)) number (tells.0 low) in
-        omega (arith, last, counted enters, ap done_calls (first.own_marks ∙ append-nil (mine a.number a.seen)))),
+        omega (arith, last, counted, ap done_calls (first.own_marks ∙ append-nil (mine a.number a.seen)))),
     tells.1,
   );
+  keeps = λ not. told.keeps not ∙ counted;
 }
 
 pub operates_told : {A : Type 0} (asked : Asked) (such : Mark → Type 0) (lost harms harms_then : ℕ) (a c : Sitting A Mark) (answer : OpAnswer) → IsCounted lost harms harms_then → WasToldLast asked such lost a c answer → Operates asked such harms harms_then a c answer

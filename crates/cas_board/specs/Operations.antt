@@ -31,13 +31,15 @@ module _ {V : Type 0} where
   abbrev pub HasToldCount : OpAnswer → Sitting V Mark → Sitting V Mark → Type 0
   HasToldCount answer old new = HasCountedTo (count_told answer (rescanned_in new.own)) old new × LeavesNone answer (rescanned_in new.own)
 
-  -- the operator's call goes on with such marks of caller 0, of which at most so many tell of losses
+  -- The operator's call goes on with such marks of caller 0, of which at most so many tell of losses. What a change of membership has counted
+  -- stays where no proposer enters an era on its way.
   pub record HasOperated (such : Mark → Type 0) (most : ℕ) (old new : Sitting V Mark) : Type 0 where
     pub marks : List Mark
     pub front : GoesOn old.number old.seen new.seen marks
     pub all_such : All such marks
     pub few : losses marks ≤ most
     pub counts : EntersEras such → HasCountedTo (rescanned_in new.own) old new
+    pub keeps : (EntersEras such → ⊥) → rescanned_in new.own ≡ rescanned_in old.own
 
   -- of those that a probe asks no more are harmed as it goes on than marks of caller 0 were made
   abbrev pub HasMarkedHarms : Sitting V Mark → Sitting V Mark → Type 0
@@ -57,6 +59,7 @@ module _ {V : Type 0} where
     pub few : losses marks ≤ most
     pub is_free : IsFree new.own
     pub counts : EntersEras such → HasToldCount answer old new
+    pub keeps : (EntersEras such → ⊥) → rescanned_in new.own ≡ rescanned_in old.own
 
   -- ---- a call of the operator
   -- It was begun, and caller 0's marks in it are such marks and then the one that tells the answer; what a probe found is not marked. Or

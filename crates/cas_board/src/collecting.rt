@@ -10,7 +10,7 @@ ghost use Rattle.cas_board.specs.Passes.{IsPassOf};
 ghost use Rattle.cas_hold.specs.Collecting.{HasCourse, IsBurialMark, IsCollectAnswer, IsCollectingMark, most_rounds};
 ghost use Rattle.cas_hold.specs.Deeds.{IsRefusal, harm_by};
 ghost use Rattle.cas_hold.specs.Mine.{GoesOn};
-ghost use Rattle.cas_hold.specs.Open.{IsFree};
+ghost use Rattle.cas_hold.specs.Open.{IsFree, rescanned_in};
 
 use crate::board::{Board, Pass};
 use crate::fates::Holds;
@@ -29,7 +29,8 @@ impl<D: Disk> Board<D> {
     /// What the operator is told is marked last in the front that the pass has seen then: [`OpAnswer::Collected`], [`OpAnswer::NotEmpty`]
     /// where the key holds a state, [`OpAnswer::Busy`] while a change of membership is under way, [`OpAnswer::Absent`],
     /// [`OpAnswer::ProposerDown`], or [`OpAnswer::Stopped`]. A call that is refused with [`Answer::RecordFull`], or with
-    /// [`Answer::NoMemory`], may not have been begun: none of caller 0's marks was made then.
+    /// [`Answer::NoMemory`], may not have been begun: none of caller 0's marks was made then. What a change of membership under way has
+    /// counted, a collection leaves.
     pub fn collect<R: Wait, F: Fate>(
         &self,
         rt: &R,
@@ -46,6 +47,7 @@ impl<D: Disk> Board<D> {
         ensures free { IsFree pass.new.own }
         ensures operates { Operates (Asked.Collect key.now) (IsCollectingMark key.now tries) (F.harm_count fate.old) (F.harm_count fate.new) pass.old pass.new result }
         ensures answer { IsCollectAnswer key.now result }
+        ensures counted { rescanned_in pass.new.own ≡ rescanned_in pass.old.own }
         ensures legal { D.tells → IsLegal (reverse pass.new.seen) }
         ensures tellings { D.tells → AreTellingsSo self.now.seats (reverse pass.new.seen) }
     {
@@ -100,6 +102,7 @@ impl<D: Disk> Board<D> {
         requires free { IsFree pass.old.own }
         ensures pass { pass.new ≡ record pass.old { seen = pass.new.seen; own = pass.new.own } }
         ensures front { GoesOn pass.old.number pass.old.seen pass.new.seen [] }
+        ensures counted { rescanned_in pass.new.own ≡ rescanned_in pass.old.own }
         ensures key { IfOk result (λ collecting. collecting.key ≡ key.now) }
         ensures keeps { IfOk result (λ collecting. collecting.program ≡ keep_always) }
         ensures tries { IfOk result (λ collecting. collecting.tries ≡ tries) }

@@ -9,7 +9,7 @@ ghost use Rattle.cas_board.specs.Passes.{IsPassOf};
 ghost use Rattle.cas_ballot.specs.Members.{IsMemberSet};
 ghost use Rattle.cas_hold.specs.Deeds.{IsRefusal, harm_by};
 ghost use Rattle.cas_hold.specs.Mine.{GoesOn};
-ghost use Rattle.cas_hold.specs.Open.{IsFree};
+ghost use Rattle.cas_hold.specs.Open.{IsFree, rescanned_in};
 ghost use Rattle.cas_hold.specs.Orders.{HasHarms, HasOrder, HasProbe, IsAskingHarm, IsProbeAnswer, IsSilentAtMost, IsTrueProbe, WasAskedBehind};
 
 use crate::board::{Board, Pass};
@@ -30,7 +30,7 @@ impl<D: Disk> Board<D> {
     /// tells what it keeps of the key, and that is so in the record: a state that was proposed at that ballot, or the floor with which the key's
     /// history opened, or none. It is at or above each ballot of the key that was acknowledged in the front before the call, and that the member
     /// had confirmed, unless a floor of the key is. And each who confirmed what was acknowledged in the era that the operator's proposer was
-    /// marked last as having entered is among those asked.
+    /// marked last as having entered is among those asked. What a change of membership under way has counted, a probe leaves.
     ///
     /// A probe is answered with [`OpAnswer::Probed`], which is not marked, or with [`OpAnswer::Stopped`], which is marked last in the front
     /// that the pass has seen then. One that is refused with [`Answer::RecordFull`], or with [`Answer::NoMemory`], may not have been begun:
@@ -49,6 +49,7 @@ impl<D: Disk> Board<D> {
         ensures free { IsFree pass.new.own }
         ensures operates { Operates (Asked.Probe key.now) IsAskingHarm (F.harm_count fate.old) (F.harm_count fate.new) pass.old pass.new result }
         ensures answer { (members : List ℕ) × IsMemberSet members × IsProbeAnswer key.now members result }
+        ensures counted { rescanned_in pass.new.own ≡ rescanned_in pass.old.own }
         ensures silent { IsSilentSince 0 pass.old pass.new result }
         ensures truly { D.tells → IsTrueProbe pass.old.seen pass.new.seen result }
         ensures legal { D.tells → IsLegal (reverse pass.new.seen) }
@@ -128,6 +129,7 @@ impl<D: Disk> Board<D> {
         requires free { IsFree pass.old.own }
         ensures pass { pass.new ≡ record pass.old { seen = pass.new.seen; own = pass.new.own } }
         ensures front { GoesOn pass.old.number pass.old.seen pass.new.seen [] }
+        ensures counted { rescanned_in pass.new.own ≡ rescanned_in pass.old.own }
         ensures ordered { OnOk result (HasOrder (Asked.Probe key.now) pass.new.own) }
         ensures question { IfOk result (λ order. order.question ≡ Exchange.Probe key.now) }
         ensures key { IfOk result (λ order. order.key ≡ key.now) }
@@ -153,6 +155,7 @@ impl<D: Disk> Board<D> {
         requires ordered { HasOrder (Asked.Probe order.key) pass.old.own }
         ensures pass { pass.new ≡ record pass.old { seen = pass.new.seen; own = pass.new.own } }
         ensures front { OnOk result (GoesOn pass.old.number pass.old.seen pass.new.seen []) }
+        ensures counted { OnOk result (rescanned_in pass.new.own ≡ rescanned_in pass.old.own) }
         ensures asks { OnOk result ((members : List ℕ) × IsMemberSet members × HasProbe order.key members pass.new.own) }
         ensures key { IfOk result (λ probing. probing.key ≡ order.key) }
         ensures told { IfErr result (WasToldLast (Asked.Probe order.key) IsAskingHarm 0 pass.old pass.new) }

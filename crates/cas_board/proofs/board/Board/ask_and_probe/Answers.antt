@@ -18,7 +18,7 @@ pub returns-in-Ok-clause-told : goal.returns-in-Ok-clause-told
 returns-in-Ok-clause-told g c = (
   c.run_probe.ensures.told.0,
   c.run_probe.ensures.told.1,
-  told_behind (asked.Probe c.args.order.key) IsAskingHarm c.run_probe.ensures.told.0 c.args.pass.now c.ask_probe_once.new.pass c.run_probe.new.pass c.run_probe.result (ap (λ s. s.number) c.ask_probe_once.ensures.pass) c.in-Ok.ensures.front (λ enters. absurd (enters 0 0))
+  told_behind (asked.Probe c.args.order.key) IsAskingHarm c.run_probe.ensures.told.0 c.args.pass.now c.ask_probe_once.new.pass c.run_probe.new.pass c.run_probe.result (ap (λ s. s.number) c.ask_probe_once.ensures.pass) c.in-Ok.ensures.front c.in-Ok.ensures.counted
       (subst (λ (k : List ℕ). WasToldLast (asked.Probe k) IsAskingHarm c.run_probe.ensures.told.0 c.ask_probe_once.new.pass c.run_probe.new.pass c.run_probe.result) c.in-Ok.ensures.key c.run_probe.ensures.told.2),
 )
 

@@ -3,10 +3,11 @@ use Rattle.std.specs.Prelude.{OnOk, IfErr}
 use Rattle.cas_record.specs.declared.operator.Asked.TheVariants as asked
 use Rattle.cas_record.specs.declared.mark.Mark.{Mark}
 use Rattle.cas_cluster.specs.StepCouncil.{everyone}
+use Rattle.cas_world.specs.Plans.{rescanned_of}
 use Rattle.cas_hold.specs.Kept.{Makes}
 use Rattle.cas_hold.specs.Orders.{HasOrder, HasHarms, HasProbe, IsToldIn, IsTrueProbe, IsAskingHarm, WasAskedBehind}
 use Rattle.cas_board.proofs.Sittings.{was_held, gives_back}
-use Rattle.cas_board.proofs.Operating.{operator_part, operator_made, operator_own, operator_told, asks_or_tells, everyone_set, asked_earlier, seen_of, on_ok, if_err}
+use Rattle.cas_board.proofs.Operating.{operator_part, operator_made, operator_own, operator_told, asks_or_tells, everyone_set, asked_earlier, seen_of, on_ok, if_err, still_counted}
 use Rattle.cas_board.proofs.board.Board.ask_probe_once.Goals as goal
 
 pub ask_probe-probing-requires-clause-ordered : goal.ask_probe-probing-requires-clause-ordered
@@ -36,3 +37,7 @@ returns-clause-truly g c tells = if_err {P = λ told. (before : List Mark) → I
 pub returns-clause-behind : goal.returns-clause-behind
 returns-clause-behind g c =
     on_ok c.ask_probe-probing.result (λ has. subst (WasAskedBehind (length c.args.pass.now.seen)) (sym (operator_own c.hold-shared.result c.ask_probe-probing.new.world c.args.pass.now c.give_back.new.pass (was_held 0 c.hold-shared.result c.ask_probe-probing.new.world c.args.pass.now c.hold-shared.new.seat c.give_back.new.pass c.hold-shared.ensures.seen c.hold-shared.ensures.own c.hold-shared.ensures.seat (sym (ap (λ s. s.number) c.hold-shared.ensures.seat ∙ c.requires.operator)) c.give_back.ensures.pass))) (asked_earlier (length c.args.pass.now.seen) (length c.shared.inside.world.marks) (seen_of c.hold-shared.result c.ask_probe-probing.new.world c.args.pass.now c.give_back.new.pass (was_held 0 c.hold-shared.result c.ask_probe-probing.new.world c.args.pass.now c.hold-shared.new.seat c.give_back.new.pass c.hold-shared.ensures.seen c.hold-shared.ensures.own c.hold-shared.ensures.seat (sym (ap (λ s. s.number) c.hold-shared.ensures.seat ∙ c.requires.operator)) c.give_back.ensures.pass) c.shared.inside.world.marks (ap (λ v. v.marks) (sym c.shared.view_is))) has)) c.ask_probe-probing.ensures.behind
+
+pub returns-clause-counted : goal.returns-clause-counted
+returns-clause-counted g c =
+    on_ok c.ask_probe-probing.result (λ same. still_counted c.hold-shared.result c.ask_probe-probing.new.world c.args.pass.now c.give_back.new.pass (was_held 0 c.hold-shared.result c.ask_probe-probing.new.world c.args.pass.now c.hold-shared.new.seat c.give_back.new.pass c.hold-shared.ensures.seen c.hold-shared.ensures.own c.hold-shared.ensures.seat (sym (ap (λ s. s.number) c.hold-shared.ensures.seat ∙ c.requires.operator)) c.give_back.ensures.pass) (same ∙ ap (λ v. rescanned_of v.council.plan) c.shared.view_is)) c.ask_probe-probing.ensures.counted

@@ -14,7 +14,7 @@ pub returns-in-Ok-clause-told : goal.returns-in-Ok-clause-told
 returns-in-Ok-clause-told g c = (
   c.take_steps.ensures.told.0,
   c.take_steps.ensures.told.1,
-  told_behind (asked_to c.args.aim.now.kind c.args.aim.now.id) (IsRescanMark c.args.tries) c.take_steps.ensures.told.0 c.args.pass.now c.take_up_once.new.pass c.take_steps.new.pass c.take_steps.result (ap (λ s. s.number) c.take_up_once.ensures.pass) c.in-Ok.ensures.front (λ enters. c.in-Ok.ensures.counted) c.take_steps.ensures.told.2,
+  told_behind (asked_to c.args.aim.now.kind c.args.aim.now.id) (IsRescanMark c.args.tries) c.take_steps.ensures.told.0 c.args.pass.now c.take_up_once.new.pass c.take_steps.new.pass c.take_steps.result (ap (λ s. s.number) c.take_up_once.ensures.pass) c.in-Ok.ensures.front c.in-Ok.ensures.counted c.take_steps.ensures.told.2,
 )
 
 pub returns-in-Err-clause-told : goal.returns-in-Err-clause-told

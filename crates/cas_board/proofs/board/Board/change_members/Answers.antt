@@ -17,7 +17,7 @@ returns-in-Ok-clause-free g c =
 pub returns-in-Ok-clause-operates : goal.returns-in-Ok-clause-operates
 returns-in-Ok-clause-operates g c =
     operates_told (asked_to c.args.aim.now.kind c.args.aim.now.id) (IsRescanMark c.args.tries) c.carry_out.ensures.told.0 _ _ c.args.pass.now c.carry_out.new.pass c.carry_out.result c.carry_out.ensures.told.1
-    (told_behind (asked_to c.args.aim.now.kind c.args.aim.now.id) (IsRescanMark c.args.tries) c.carry_out.ensures.told.0 c.args.pass.now c.order_members_once.new.pass c.carry_out.new.pass c.carry_out.result (ap (λ s. s.number) c.order_members_once.ensures.pass) c.order_members_once.ensures.front (λ enters. c.order_members_once.ensures.counted) c.carry_out.ensures.told.2)
+    (told_behind (asked_to c.args.aim.now.kind c.args.aim.now.id) (IsRescanMark c.args.tries) c.carry_out.ensures.told.0 c.args.pass.now c.order_members_once.new.pass c.carry_out.new.pass c.carry_out.result (ap (λ s. s.number) c.order_members_once.ensures.pass) c.order_members_once.ensures.front c.order_members_once.ensures.counted c.carry_out.ensures.told.2)
 
 pub returns-in-Err-clause-free : goal.returns-in-Err-clause-free
 returns-in-Err-clause-free g c =

@@ -23,7 +23,7 @@ returns-in-Ok-clause-free g c =
 pub returns-in-Ok-clause-operates : goal.returns-in-Ok-clause-operates
 returns-in-Ok-clause-operates g c =
     operates_told (asked.Collect c.args.key.now) (IsCollectingMark c.args.key.now c.args.tries) c.run_collection.ensures.told.0 _ _ c.args.pass.now c.run_collection.new.pass c.run_collection.result c.run_collection.ensures.told.1
-    (told_behind (asked.Collect c.args.key.now) (IsCollectingMark c.args.key.now c.args.tries) c.run_collection.ensures.told.0 c.args.pass.now c.order_collection_once.new.pass c.run_collection.new.pass c.run_collection.result (ap (λ s. s.number) c.order_collection_once.ensures.pass) c.order_collection_once.ensures.front (λ enters. absurd (enters 0 0))
+    (told_behind (asked.Collect c.args.key.now) (IsCollectingMark c.args.key.now c.args.tries) c.run_collection.ensures.told.0 c.args.pass.now c.order_collection_once.new.pass c.run_collection.new.pass c.run_collection.result (ap (λ s. s.number) c.order_collection_once.ensures.pass) c.order_collection_once.ensures.front c.order_collection_once.ensures.counted
     (subst (λ (n : ℕ). WasToldLast (asked.Collect c.args.key.now) (IsCollectingMark c.args.key.now n) c.run_collection.ensures.told.0 c.order_collection_once.new.pass c.run_collection.new.pass c.run_collection.result) (ap most_rounds c.in-Ok.ensures.tries ∙ most_is c.args.tries c.requires.some)
     (subst (λ (k : List ℕ). WasToldLast (asked.Collect k) (IsCollectingMark k (most_rounds c.in-Ok.ordered.tries)) c.run_collection.ensures.told.0 c.order_collection_once.new.pass c.run_collection.new.pass c.run_collection.result) c.in-Ok.ensures.key c.run_collection.ensures.told.2)))
 
@@ -38,3 +38,6 @@ returns-in-Err-clause-free g c =
 pub returns-in-Err-clause-operates : goal.returns-in-Err-clause-operates
 returns-in-Err-clause-operates g c =
     is_not_begun c.in-Err.refusal c.in-Err.ensures.refused.0 refl (counted_none (g.F.Fate.harm_count c.args.fate.now)) c.order_collection_once.ensures.front (λ enters. absurd (enters 0 0))
+
+pub returns-in-Ok-clause-counted : goal.returns-in-Ok-clause-counted
+returns-in-Ok-clause-counted g c = c.run_collection.ensures.told.2.keeps (λ enters. enters 0 0) ∙ c.order_collection_once.ensures.counted

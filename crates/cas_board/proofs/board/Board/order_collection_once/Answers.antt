@@ -1,11 +1,12 @@
 use Rattle.std.proofs.Common.{[], length, sym, ap, subst, ◌∙◌}
 use Rattle.cas_hold.specs.Collecting.{most_rounds}
+use Rattle.cas_world.specs.Plans.{rescanned_of}
 use Rattle.cas_hold.specs.Deeds.{IsRefusal}
 use Rattle.cas_hold.specs.Kept.{Makes}
 use Rattle.cas_hold.specs.Open.{IsFree}
 use Rattle.cas_hold.specs.OwnParts.{own_part}
 use Rattle.cas_board.proofs.Sittings.{was_held, gives_back}
-use Rattle.cas_board.proofs.Operating.{operator_part, operator_made, operator_own, if_err}
+use Rattle.cas_board.proofs.Operating.{operator_part, operator_made, operator_own, if_err, still_counted}
 use Rattle.cas_board.proofs.Collections.{course_then}
 use Rattle.cas_board.proofs.board.Board.order_collection_once.Goals as goal
 
@@ -30,3 +31,7 @@ pub returns-clause-refused : goal.returns-clause-refused
 returns-clause-refused g c =
     if_err {P = λ why. IsRefusal (length c.order_collection-ordered.new.world.marks) why × IsFree (own_part c.order_collection-ordered.new.world 0)} c.order_collection-ordered.result
     (λ why is. (subst (λ l. IsRefusal (length l) why) (sym (ap (λ s. s.seen) c.give_back.ensures.pass)) is.0, subst IsFree (sym (operator_own c.hold-shared.result c.order_collection-ordered.new.world c.args.pass.now c.give_back.new.pass (was_held 0 c.hold-shared.result c.order_collection-ordered.new.world c.args.pass.now c.hold-shared.new.seat c.give_back.new.pass c.hold-shared.ensures.seen c.hold-shared.ensures.own c.hold-shared.ensures.seat (sym (ap (λ s. s.number) c.hold-shared.ensures.seat ∙ c.requires.operator)) c.give_back.ensures.pass))) is.1)) c.order_collection-ordered.ensures.refused
+
+pub returns-clause-counted : goal.returns-clause-counted
+returns-clause-counted g c =
+    still_counted c.hold-shared.result c.order_collection-ordered.new.world c.args.pass.now c.give_back.new.pass (was_held 0 c.hold-shared.result c.order_collection-ordered.new.world c.args.pass.now c.hold-shared.new.seat c.give_back.new.pass c.hold-shared.ensures.seen c.hold-shared.ensures.own c.hold-shared.ensures.seat (sym (ap (λ s. s.number) c.hold-shared.ensures.seat ∙ c.requires.operator)) c.give_back.ensures.pass) (c.order_collection-ordered.ensures.counted ∙ ap (λ v. rescanned_of v.council.plan) c.shared.view_is)

@@ -26,7 +26,7 @@ returns-in-Ok-clause-free g c = c.ask_and_probe.ensures.told.2.is_free
 pub returns-in-Ok-clause-operates : goal.returns-in-Ok-clause-operates
 returns-in-Ok-clause-operates g c =
     operates_told (asked.Probe c.args.key.now) IsAskingHarm c.ask_and_probe.ensures.told.0 _ _ c.args.pass.now c.ask_and_probe.new.pass c.ask_and_probe.result c.ask_and_probe.ensures.told.1
-    (told_behind (asked.Probe c.args.key.now) IsAskingHarm c.ask_and_probe.ensures.told.0 c.args.pass.now c.order_probe_once.new.pass c.ask_and_probe.new.pass c.ask_and_probe.result (ap (λ s. s.number) c.order_probe_once.ensures.pass) c.in-Ok.ensures.front (λ enters. absurd (enters 0 0))
+    (told_behind (asked.Probe c.args.key.now) IsAskingHarm c.ask_and_probe.ensures.told.0 c.args.pass.now c.order_probe_once.new.pass c.ask_and_probe.new.pass c.ask_and_probe.result (ap (λ s. s.number) c.order_probe_once.ensures.pass) c.in-Ok.ensures.front c.order_probe_once.ensures.counted
     (subst (λ (k : List ℕ). WasToldLast (asked.Probe k) IsAskingHarm c.ask_and_probe.ensures.told.0 c.order_probe_once.new.pass c.ask_and_probe.new.pass c.ask_and_probe.result) c.in-Ok.ensures.key c.ask_and_probe.ensures.told.2))
 
 pub returns-in-Ok-clause-answer : goal.returns-in-Ok-clause-answer
@@ -48,3 +48,6 @@ returns-in-Ok-clause-truly g c tells =
 
 pub returns-in-Ok-clause-silent : goal.returns-in-Ok-clause-silent
 returns-in-Ok-clause-silent g c = silent_before 0 c.args.pass.now c.order_probe_once.new.pass c.ask_and_probe.new.pass c.ask_and_probe.result (own_grown c.args.pass.now c.order_probe_once.new.pass [] c.requires.operator c.in-Ok.ensures.front) c.ask_and_probe.ensures.silent
+
+pub returns-in-Ok-clause-counted : goal.returns-in-Ok-clause-counted
+returns-in-Ok-clause-counted g c = c.ask_and_probe.ensures.told.2.keeps (λ enters. enters 0 0) ∙ c.order_probe_once.ensures.counted
