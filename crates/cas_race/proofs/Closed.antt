@@ -46,7 +46,8 @@ module _ {V : Type 0} (board : Turning) (proposers : ℕ) (passes : List (Sittin
       callers = raced.callers;
       runs = λ n of_caller at.
           let pass = pass_at n (let low = low_at answers n at in let count = raced.callers in omega (arith, low, count)) in
-          subst (λ (l : List Mark). HasRun tells marks tries n [] (tasks_of proposers n lines) of_caller l) (sym (own_at n pass.0 pass.1)) (ran_later tells pass.0.seen marks (later n pass.0 pass.1) tries n (raced.runs n pass.0 of_caller pass.1 at));
+          let run = raced.runs n pass.0 of_caller pass.1 at in
+          (run.0, subst (λ (l : List Mark). HasRun tells marks tries n [] 0 (tasks_of proposers n lines) of_caller l run.0) (sym (own_at n pass.0 pass.1)) (ran_later tells pass.0.seen marks (later n pass.0 pass.1) tries n run.1));
       counted = λ n before after low at_before at_after.
           let pass = pass_at n low in
           subst (λ (l : List Mark). IsCounted (losses l) before after) (sym (own_at n pass.0 pass.1)) (raced.counted n before after pass.0 pass.1 at_before at_after);

@@ -10,7 +10,7 @@ use Rattle.cas_cluster.proofs.SafeParts.{low_at, at_low}
 use Rattle.cas_record.specs.declared.mark.Mark.{Mark}
 use Rattle.cas_turn.specs.Sitting.{Sitting, TurnId, Turning, fresh_seat, fresh_seats}
 use Rattle.cas_hold.specs.Mine.{mine, losses}
-use Rattle.cas_hold.specs.Open.{IsFree}
+use Rattle.cas_hold.specs.Open.{IsFree, rescanned_in}
 use Rattle.cas_board.specs.Changes.{IsCounted}
 use Rattle.cas_board.specs.Passes.{IsPassOf}
 use Rattle.cas_tasks.specs.Tasks.{AreParted, tasks_of}
@@ -161,6 +161,10 @@ module _ {R V : Type 0} (pass_of : R → Sitting V Mark) (harms_of : R → ℕ) 
     none_before : (n : ℕ) (was : R) → slice_get old n ≡ Some was → mine (pass_of was).number (pass_of was).seen ≡ []
     none_before n was at = ap (λ (s : Sitting V Mark). mine s.number s.seen) (pass_was n was at)
 
+    -- and nothing was under way
+    none_counted : (n : ℕ) (was : R) → slice_get old n ≡ Some was → rescanned_in (pass_of was).own ≡ 0
+    none_counted n was at = ap (λ (s : Sitting V Mark). rescanned_in s.own) (pass_was n was at)
+
     -- what the front of a caller has of its own
     own_now : (n : ℕ) (was now : R) (at_was : slice_get old n ≡ Some was) (at_now : slice_get new n ≡ Some now) → mine n (pass_of now).seen ≡ (ran_at n was now at_was at_now).own
     own_now n was now at_was at_now =
@@ -181,13 +185,16 @@ module _ {R V : Type 0} (pass_of : R → Sitting V Mark) (harms_of : R → ℕ) 
             let was = before n now.0 now.1 in
             let raced = ran_at n was.0 now.0 was.1 now.1 in
             let told_is : told_of now.0 ≡ of_caller = ap told_of (one_at new n now.0 told.0 now.1 told.1) ∙ told.2 in
-            let number : (pass_of was.0).number ≡ n = ap (λ (s : Sitting V Mark). s.number) (pass_was n was.0 was.1) in
-            subst (λ (p : Sitting V Mark). HasRun tells p.seen tries n [] (tasks_of proposers n lines) of_caller (mine n p.seen)) now.2
-            (subst (λ (l : List Mark). HasRun tells (pass_of now.0).seen tries n [] (tasks_of proposers n lines) of_caller l) (sym (own_now n was.0 now.0 was.1 now.1))
-            (subst (λ (l : List Told). HasRun tells (pass_of now.0).seen tries n [] (tasks_of proposers n lines) l raced.own) told_is
-            (subst (λ (l : List Task). HasRun tells (pass_of now.0).seen tries n [] l (told_of now.0) raced.own) (asks n was.0 was.1)
-            (subst (λ (l : List Mark). HasRun tells (pass_of now.0).seen tries n l (asked_of was.0) (told_of now.0) raced.own) (none_before n was.0 was.1)
-            (subst (λ (k : ℕ). HasRun tells (pass_of now.0).seen tries k (mine (pass_of was.0).number (pass_of was.0).seen) (asked_of was.0) (told_of now.0) raced.own) number raced.run)))));
+            let number : (pass_of was.0).number ≡ n = ap (λ (s : Sitting V Mark). s.number) (pass_was n was.0 was.1) in (
+              rescanned_in (pass_of now.0).own,
+              subst (λ (p : Sitting V Mark). HasRun tells p.seen tries n [] 0 (tasks_of proposers n lines) of_caller (mine n p.seen) (rescanned_in (pass_of now.0).own)) now.2
+                  (subst (λ (l : List Mark). HasRun tells (pass_of now.0).seen tries n [] 0 (tasks_of proposers n lines) of_caller l (rescanned_in (pass_of now.0).own)) (sym (own_now n was.0 now.0 was.1 now.1))
+                  (subst (λ (l : List Told). HasRun tells (pass_of now.0).seen tries n [] 0 (tasks_of proposers n lines) l raced.own (rescanned_in (pass_of now.0).own)) told_is
+                  (subst (λ (l : List Task). HasRun tells (pass_of now.0).seen tries n [] 0 l (told_of now.0) raced.own (rescanned_in (pass_of now.0).own)) (asks n was.0 was.1)
+                  (subst (λ (l : List Mark). HasRun tells (pass_of now.0).seen tries n l 0 (asked_of was.0) (told_of now.0) raced.own (rescanned_in (pass_of now.0).own)) (none_before n was.0 was.1)
+                  (subst (λ (k : ℕ). HasRun tells (pass_of now.0).seen tries n (mine (pass_of was.0).number (pass_of was.0).seen) k (asked_of was.0) (told_of now.0) raced.own (rescanned_in (pass_of now.0).own)) (none_counted n was.0 was.1)
+                  (subst (λ (k : ℕ). HasRun tells (pass_of now.0).seen tries k (mine (pass_of was.0).number (pass_of was.0).seen) (rescanned_in (pass_of was.0).own) (asked_of was.0) (told_of now.0) raced.own (rescanned_in (pass_of now.0).own)) number raced.run)))))),
+            );
         counted = λ n first last pass at_pass at_first at_last.
             let now = at_mapped pass_of new n pass at_pass in
             let was = before n now.0 now.1 in

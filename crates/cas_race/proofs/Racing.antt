@@ -13,9 +13,11 @@ use Rattle.cas_turn.specs.Seen.{Begins}
 use Rattle.cas_turn.specs.Sitting.{Sitting, Turning}
 use Rattle.cas_turn.proofs.SeenLemmas.{begins_both}
 use Rattle.cas_hold.specs.Deeds.{IsRefusal}
-use Rattle.cas_hold.specs.Mine.{mine, losses, GoesOn}
-use Rattle.cas_hold.specs.Open.{IsFree}
+use Rattle.cas_hold.specs.Counting.{EntersEras}
+use Rattle.cas_hold.specs.Mine.{mine, losses, done_calls, GoesOn}
+use Rattle.cas_hold.specs.Open.{IsFree, rescanned_in}
 use Rattle.cas_hold.specs.Orders.{IsSilentAtMost, IsTrueProbe}
+use Rattle.cas_hold.proofs.Counting.{done_append}
 use Rattle.cas_hold.proofs.Fronts.{goes_on_then}
 use Rattle.cas_board.proofs.Losses.{losses_append, counted_then}
 use Rattle.cas_board.specs.Changes.{IsCounted, Answers}
@@ -27,7 +29,7 @@ use Rattle.cas_tasks.specs.declared.tasks.Task.{Task}
 use Rattle.cas_tasks.specs.declared.tasks.Task.TheVariants as task
 use Rattle.cas_race.specs.declared.told.Told.{Told}
 use Rattle.cas_race.specs.declared.told.Told.TheVariants as said
-use Rattle.cas_race.specs.Runs.{asked_by, IsOrderMark, IsFoundIn, AnswersOrder, IsReady, IsChange, IsOperated, IsAnswered, HasRun, HasRunTask, HasRaced}
+use Rattle.cas_race.specs.Runs.{asked_by, IsOrderMark, IsFoundIn, AnswersOrder, IsReady, IsChange, IsOperated, IsAnswered, CountsOn, IsCountedOn, HasRun, HasRunTask, HasRaced}
 use Rattle.cas_race.specs.Runs as runs
 use Rattle.cas_race.specs.Runs.IsChange.{is_called, is_turned_away}
 use Rattle.cas_race.specs.Runs.IsAnswered.{is_change, is_operated}
@@ -64,9 +66,9 @@ module _ (tells : Type 0) (all later : List Mark) (begins : Begins all later) (t
   answered_later (is_change change) = is_change (changed_longer (length all) (length later) tries n _ _ _ _ (length_begins all later begins) change)
   answered_later (is_operated is operated answers) = is_operated is (operated_longer (length all) (length later) tries _ _ _ (length_begins all later begins) operated) (answers_later _ _ _ _ answers)
 
-  pub ran_later : {first : List Mark} {tasks : List Task} {answers : List Told} {marks : List Mark} → HasRun tells all tries n first tasks answers marks → HasRun tells later tries n first tasks answers marks
+  pub ran_later : {first : List Mark} {counted next : ℕ} {tasks : List Task} {answers : List Told} {marks : List Mark} → HasRun tells all tries n first counted tasks answers marks next → HasRun tells later tries n first counted tasks answers marks next
   ran_later nothing = nothing
-  ran_later (one_more before answered) = one_more (ran_later before) (answered_later answered)
+  ran_later (one_more before answered counts) = one_more (ran_later before) (answered_later answered) counts
 
 -- ---- losses
 -- the mark that tells an answer tells of no loss
@@ -107,23 +109,40 @@ module _ {V : Type 0} (tells : Type 0) (tries harms harms_then : ℕ) (old new :
   as_asked : (asked : Task) (key : List ℕ) (program : List Clause) (told : Answer) (own : List Mark) → asked ≡ task.Change key program → IsChange (length new.seen) tries old.number key program told own → IsAnswered tells new.seen tries old.number (mine old.number old.seen) asked (said.Change told) own
   as_asked asked key program told own is change = subst (λ (t : Task). IsAnswered tells new.seen tries old.number (mine old.number old.seen) t (said.Change told) own) (sym is) (is_change change)
 
-  pub change_ran : (asked : Task) (key : List ℕ) (program : List Clause) (told : Answer) → asked ≡ task.Change key program → Answers key program tries harms harms_then old new told → HasRunTask tells tries harms harms_then asked (said.Change told) old new
-  change_ran asked key program told is (is_answered call rounds between front of_call counted last tried) = record {
+  change_counts : (asked : Task) (key : List ℕ) (program : List Clause) (told : Answer) (own : List Mark) → asked ≡ task.Change key program → new.own ≡ old.own → IsCountedOn (rescanned_in old.own) asked (said.Change told) own (rescanned_in new.own)
+  change_counts asked key program told own is same = subst (λ (t : Task). IsCountedOn (rescanned_in old.own) t (said.Change told) own (rescanned_in new.own)) (sym is) (ap rescanned_in same)
+
+  -- a call for a join or a leave counts
+  pub members_count : (asked : Asked) (such : Mark → Type 0) (told : OpAnswer) (own : List Mark) → EntersEras such → Operates asked such harms harms_then old new told → GoesOn old.number old.seen new.seen own → CountsOn (rescanned_in old.own) told own (rescanned_in new.own)
+  members_count asked such told own enters (operations.is_told marks front last all_such counted counts) goes =
+      let both = counts enters in
+      let grown : done_calls (mine old.number new.seen) ≡ done_calls (mine old.number old.seen) + done_calls own = ap done_calls goes.own_marks ∙ done_append (mine old.number old.seen) own in
+      (λ low. (let sum = both.0 low in omega (arith, sum, grown)), both.1)
+  members_count asked such told own enters (operations.is_not_begun why refusal stopped counted front counts) goes =
+      let kept = counts enters in
+      let grown : done_calls (mine old.number new.seen) ≡ done_calls (mine old.number old.seen) + done_calls own = ap done_calls goes.own_marks ∙ done_append (mine old.number old.seen) own in
+      let still : done_calls (mine old.number new.seen) ≡ done_calls (mine old.number old.seen) = ap done_calls (front.own_marks ∙ append-nil (mine old.number old.seen)) in
+      subst (λ (a : OpAnswer). CountsOn (rescanned_in old.own) a own (rescanned_in new.own)) (sym stopped) (λ low. omega (arith, kept, grown, still), tt)
+
+  pub change_ran : (asked : Task) (key : List ℕ) (program : List Clause) (told : Answer) → asked ≡ task.Change key program → new.own ≡ old.own → Answers key program tries harms harms_then old new told → HasRunTask tells tries harms harms_then asked (said.Change told) old new
+  change_ran asked key program told is same (is_answered call rounds between front of_call counted last tried) = record {
     own = mark.Begun old.number call key program ∷ between ++ mark.Ended old.number call rounds told ∷ [];
     front = front;
     answered = as_asked asked key program told _ is (is_called call rounds between of_call tried);
     counted = subst (λ (k : ℕ). IsCounted k harms harms_then) (sym (losses_append between (mark.Ended old.number call rounds told ∷ []) ∙ (let none : losses between + 0 ≡ losses between = omega arith in none))) counted;
+    counts = change_counts asked key program told _ is same;
   }
-  change_ran asked key program told is (is_not_begun refusal counted front) = record { own = []; front = front; answered = as_asked asked key program told [] is (is_turned_away refusal); counted = counted }
+  change_ran asked key program told is same (is_not_begun refusal counted front) = record { own = []; front = front; answered = as_asked asked key program told [] is (is_turned_away refusal); counted = counted; counts = change_counts asked key program told [] is same }
 
-  pub order_ran : (order : Task) (asked : Asked) (told : OpAnswer) → asked_by order ≡ Some asked → ((own : List Mark) → GoesOn old.number old.seen new.seen own → AnswersOrder tells new.seen old.number (mine old.number old.seen) own asked told) → Operates asked (IsOrderMark tries asked) harms harms_then old new told → HasRunTask tells tries harms harms_then order (said.Operator told) old new
-  order_ran order asked told is answers (operations.is_told marks front last all_such counted counts) = record {
+  pub order_ran : (order : Task) (asked : Asked) (told : OpAnswer) → asked_by order ≡ Some asked → ((own : List Mark) → GoesOn old.number old.seen new.seen own → AnswersOrder tells new.seen old.number (mine old.number old.seen) own asked told) → ((own : List Mark) → GoesOn old.number old.seen new.seen own → IsCountedOn (rescanned_in old.own) order (said.Operator told) own (rescanned_in new.own)) → Operates asked (IsOrderMark tries asked) harms harms_then old new told → HasRunTask tells tries harms harms_then order (said.Operator told) old new
+  order_ran order asked told is answers counts (operations.is_told marks front last all_such counted told_count) = record {
     own = marks ++ told_marks asked told;
     front = front;
     answered = is_operated is (runs.is_told marks all_such) (answers (marks ++ told_marks asked told) front);
     counted = subst (λ (k : ℕ). IsCounted k harms harms_then) (sym (losses_append marks (told_marks asked told) ∙ (let none = told_none asked told in let e : losses marks + losses (told_marks asked told) ≡ losses marks = omega (arith, none) in e))) counted;
+    counts = counts (marks ++ told_marks asked told) front;
   }
-  order_ran order asked told is answers (operations.is_not_begun why refusal stopped counted front counts) = record { own = []; front = front; answered = is_operated is (runs.is_not_begun why refusal stopped) (answers [] front); counted = counted }
+  order_ran order asked told is answers counts (operations.is_not_begun why refusal stopped counted front kept) = record { own = []; front = front; answered = is_operated is (runs.is_not_begun why refusal stopped) (answers [] front); counted = counted; counts = counts [] front }
 
 -- ---- task by task
 pub still_pass : {V : Type 0} (board : Turning) (old new : Sitting V Mark) → IsPassOf board old → new ≡ record old { seen = new.seen; own = new.own } → IsPassOf board new
@@ -142,7 +161,7 @@ module _ {V : Type 0} (tells : Type 0) (tries : ℕ) where
     free = ready.free;
     own = [];
     front = record { begins = record { behind = []; whole = append-nil pass.seen }; own_marks = sym (append-nil (mine pass.number pass.seen)) };
-    run = subst (λ (l : List Told). HasRun tells pass.seen tries pass.number (mine pass.number pass.seen) [] l []) (sym ready.untold) nothing;
+    run = subst (λ (l : List Told). HasRun tells pass.seen tries pass.number (mine pass.number pass.seen) (rescanned_in pass.own) [] l [] (rescanned_in pass.own)) (sym ready.untold) nothing;
     counted = record { never_falls = omega arith; counted = λ below. omega arith };
   }
 
@@ -156,7 +175,7 @@ module _ {V : Type 0} (tells : Type 0) (tries : ℕ) where
         own = first.own ++ then_.own;
         front = goes_on_then a.number a.seen b.seen c.seen first.own then_.own first.front (subst (λ (k : ℕ). GoesOn k b.seen c.seen then_.own) number then_.front);
         run = one_more (ran_later tells b.seen c.seen then_.front.begins tries a.number first.run)
-            (subst (λ (l : List Mark). IsAnswered tells c.seen tries a.number l asked answer then_.own) first.front.own_marks (subst (λ (k : ℕ). IsAnswered tells c.seen tries k (mine k b.seen) asked answer then_.own) number then_.answered));
+            (subst (λ (l : List Mark). IsAnswered tells c.seen tries a.number l asked answer then_.own) first.front.own_marks (subst (λ (k : ℕ). IsAnswered tells c.seen tries k (mine k b.seen) asked answer then_.own) number then_.answered)) then_.counts;
         counted = subst (λ (k : ℕ). IsCounted k harms harms_then) (sym (losses_append first.own then_.own)) (counted_then (losses first.own) (losses then_.own) harms harms_now harms_then first.counted then_.counted);
       }
 

@@ -17,7 +17,7 @@ use Rattle.cas_race.specs.declared.told.Told.{Told}
 -- these answers; and of its frames at most as many were lost or made late as its fate's count of harms rose by.
 pub record Raced (tells : Type 0) (tries proposers : ℕ) (lines : List (List ℕ)) (harms harms_then : List ℕ) (answers : List (List Told)) (marks : List Mark) : Type 0 where
   pub callers : length answers ≡ suc proposers
-  pub runs : (n : ℕ) (of_caller : List Told) → slice_get answers n ≡ Some of_caller → HasRun tells marks tries n [] (tasks_of proposers n lines) of_caller (mine n marks)
+  pub runs : (n : ℕ) (of_caller : List Told) → slice_get answers n ≡ Some of_caller → (counted : ℕ) × HasRun tells marks tries n [] 0 (tasks_of proposers n lines) of_caller (mine n marks) counted
   pub counted : (n before after : ℕ) → n ≤ proposers → slice_get harms n ≡ Some before → slice_get harms_then n ≡ Some after → IsCounted (losses (mine n marks)) before after
 
 -- What a race wrote whose record has these marks: its text, or a front of it where the sink failed or there was no memory; or nothing, where not

@@ -1,5 +1,5 @@
 -- What the callers of a race are asked and answered, and what of their own marks tells it.
-use Rattle.std.specs.Prelude.{◌≡◌, ◌≤◌, ℕ, suc, true, List, [], ◌∷◌, ◌++◌, length, All, Option, Some, None, IfSome, slice_get}
+use Rattle.std.specs.Prelude.{◌≡◌, ◌≤◌, ◌<◌, ◌+◌, ℕ, suc, true, List, [], ◌∷◌, ◌++◌, length, All, Option, Some, None, IfSome, slice_get}
 use Rattle.cas_ballot.specs.Members.{IsMemberSet}
 use Rattle.cas_change.specs.declared.program.Clause.{Clause}
 use Rattle.cas_record.specs.declared.answer.Answer.{Answer}
@@ -14,10 +14,11 @@ use Rattle.cas_turn.specs.Seen.{Begins}
 use Rattle.cas_turn.specs.Sitting.{Sitting, Turning}
 use Rattle.cas_hold.specs.Collecting.{IsCollectingMark, IsCollectAnswer}
 use Rattle.cas_hold.specs.Conflicts.{is_conflict}
+use Rattle.cas_hold.specs.Counting.{most_counted, count_told, LeavesNone}
 use Rattle.cas_hold.specs.Deeds.{IsRefusal}
 use Rattle.cas_hold.specs.Membership.{IsMembersAnswer, IsRescanMark}
-use Rattle.cas_hold.specs.Mine.{mine, AreOfCall, losses, GoesOn}
-use Rattle.cas_hold.specs.Open.{IsFree}
+use Rattle.cas_hold.specs.Mine.{mine, AreOfCall, losses, done_calls, GoesOn}
+use Rattle.cas_hold.specs.Open.{IsFree, rescanned_in}
 use Rattle.cas_hold.specs.Orders.{IsAskingHarm, IsProbeAnswer, IsSilentAtMost, IsTrueProbe}
 use Rattle.cas_board.specs.Changes.{IsCounted}
 use Rattle.cas_board.specs.Passes.{IsPassOf}
@@ -86,11 +87,25 @@ pub data IsAnswered (tells : Type 0) (all : List Mark) (tries n : ℕ) (earlier 
   is_change : {key : List ℕ} {program : List Clause} {answered : Answer} {own : List Mark} → IsChange (length all) tries n key program answered own → IsAnswered tells all tries n earlier (task.Change key program) (said.Change answered) own
   is_operated : {asked : Asked} {order : Task} {answered : OpAnswer} {own : List Mark} → asked_by order ≡ Some asked → IsOperated (length all) tries asked answered own → AnswersOrder tells all n earlier own asked answered → IsAnswered tells all tries n earlier order (said.Operator answered) own
 
--- the caller's marks of its tasks, one after another behind its first ones, with these answers
-pub data HasRun (tells : Type 0) (all : List Mark) (tries n : ℕ) (first : List Mark) : List Task → List Told → List Mark → Type 0 where
-  nothing : HasRun tells all tries n first [] [] []
-  one_more : {tasks : List Task} {answers : List Told} {marks own : List Mark} {asked : Task} {told : Told} → HasRun tells all tries n first tasks answers marks → IsAnswered tells all tries n (first ++ marks) asked told own
-      → HasRun tells all tries n first (tasks ++ asked ∷ []) (answers ++ told ∷ []) (marks ++ own)
+-- ---- what a change of membership counts
+-- A call for a join or a leave that made these marks of its own adds one for each call of caller 0 that was answered done in it to the number
+-- of keys that the change had proposed anew before. It tells the sum at the end of the change, behind which none is kept; else the sum is kept.
+-- This is not said of a sum that stands at its end.
+abbrev pub CountsOn : ℕ → OpAnswer → List Mark → ℕ → Type 0
+CountsOn before answered own next = (count_told answered next < most_counted → count_told answered next ≡ before + done_calls own) × LeavesNone answered next
+
+-- any other task leaves the number
+abbrev pub IsCountedOn : ℕ → Task → Told → List Mark → ℕ → Type 0
+IsCountedOn before (task.Join id) (said.Operator answered) own next = CountsOn before answered own next
+IsCountedOn before (task.Leave id) (said.Operator answered) own next = CountsOn before answered own next
+IsCountedOn before other answered own next = next ≡ before
+
+-- The caller's marks of its tasks, one after another behind its first ones, with these answers. So many keys had a change of membership under way
+-- proposed anew at first, and so many it has then.
+pub data HasRun (tells : Type 0) (all : List Mark) (tries n : ℕ) (first : List Mark) (counted : ℕ) : List Task → List Told → List Mark → ℕ → Type 0 where
+  nothing : HasRun tells all tries n first counted [] [] [] counted
+  one_more : {tasks : List Task} {answers : List Told} {marks own : List Mark} {asked : Task} {told : Told} {before next : ℕ} → HasRun tells all tries n first counted tasks answers marks before → IsAnswered tells all tries n (first ++ marks) asked told own → IsCountedOn before asked told own next
+      → HasRun tells all tries n first counted (tasks ++ asked ∷ []) (answers ++ told ∷ []) (marks ++ own) next
 
 -- ---- callers in their threads
 module _ {V : Type 0} where
@@ -108,6 +123,7 @@ module _ {V : Type 0} where
     pub front : GoesOn old.number old.seen new.seen own
     pub answered : IsAnswered tells new.seen tries old.number (mine old.number old.seen) asked told own
     pub counted : IsCounted (losses own) harms harms_then
+    pub counts : IsCountedOn (rescanned_in old.own) asked told own (rescanned_in new.own)
 
   -- It has run these tasks: the front that it has seen goes on with their marks, of which at most as many tell of frames that were lost or
   -- made late as its fate's count of harms rose by.
@@ -116,7 +132,7 @@ module _ {V : Type 0} where
     pub free : IsFree new.own
     pub own : List Mark
     pub front : GoesOn old.number old.seen new.seen own
-    pub run : HasRun tells new.seen tries old.number (mine old.number old.seen) tasks told own
+    pub run : HasRun tells new.seen tries old.number (mine old.number old.seen) (rescanned_in old.own) tasks told own (rescanned_in new.own)
     pub counted : IsCounted (losses own) harms harms_then
 
   -- ---- all callers
@@ -128,7 +144,7 @@ module _ {V : Type 0} where
   -- the callers of these passes have run what the lines ask them for, with these answers, and as their fates count their harms
   pub record AreRaced (tells : Type 0) (tries proposers : ℕ) (lines : List (List ℕ)) (harms harms_then : List ℕ) (answers : List (List Told)) (passes : List (Sitting V Mark)) : Type 0 where
     pub callers : length answers ≡ suc proposers
-    pub runs : (n : ℕ) (pass : Sitting V Mark) (of_caller : List Told) → slice_get passes n ≡ Some pass → slice_get answers n ≡ Some of_caller → HasRun tells pass.seen tries n [] (tasks_of proposers n lines) of_caller (mine n pass.seen)
+    pub runs : (n : ℕ) (pass : Sitting V Mark) (of_caller : List Told) → slice_get passes n ≡ Some pass → slice_get answers n ≡ Some of_caller → (counted : ℕ) × HasRun tells pass.seen tries n [] 0 (tasks_of proposers n lines) of_caller (mine n pass.seen) counted
     pub counted : (n before after : ℕ) (pass : Sitting V Mark) → slice_get passes n ≡ Some pass → slice_get harms n ≡ Some before → slice_get harms_then n ≡ Some after → IsCounted (losses (mine n pass.seen)) before after
 
 -- no answer yet, and room for one to each of the tasks
