@@ -145,13 +145,13 @@ pub fn done_with(state: State, ballot: Ballot) -> Answer {
 }
 
 /// Done by the first clause, with this number held then.
-fn done(version: u64, number: i64, ballot: Ballot) -> Answer {
+pub fn done(version: u64, number: i64, ballot: Ballot) -> Answer {
     let body = Body::Number(number);
     done_with(State::Held { version, body }, ballot)
 }
 
 /// Whether these are the answers that the record tells, in order.
-fn tells(book: &Record, wanted: &[Answer]) -> bool {
+pub fn tells(book: &Record, wanted: &[Answer]) -> bool {
     let mut told = 0usize;
     for mark in book.marks() {
         if let Mark::Ended { answer, .. } = mark {

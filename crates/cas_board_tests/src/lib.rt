@@ -8,4 +8,8 @@ mod callers;
 #[cfg(test)]
 mod collecting;
 #[cfg(test)]
+mod many;
+#[cfg(test)]
+mod meeting;
+#[cfg(test)]
 mod operating;
