@@ -27,6 +27,7 @@ use Rattle.cas_hold.specs.Open.{IsFree, HasOpen, beside_in, rounds_in, is_met_in
 use Rattle.cas_hold.specs.Stages.{tells_met}
 use Rattle.cas_hold.specs.declared.deeds.Stage.{Stage}
 use Rattle.cas_board.proofs.Losses.{losses_append, counted_then}
+use Rattle.cas_board.proofs.Passes.{still_pass}
 use Rattle.cas_hold.proofs.Fronts.{added_is, mine_append, mine_own, front_goes_on, goes_on_then, wanted_seen}
 use Rattle.cas_hold.proofs.Parts.{open_at}
 use Rattle.cas_cluster.specs.StepCalls as calls
@@ -258,15 +259,6 @@ pub record HasRun {A : Type 0} (call harms harms_now : ℕ) (old now : Sitting A
 
 pub run_begins : {A : Type 0} (call harms : ℕ) (pass : Sitting A Mark) → HasOpen call pass.own → HasRun call harms harms pass pass
 run_begins call harms pass has = record { pass = refl; lost = 0; counted = counted_none harms; gone = goes_on_none call pass has }
-
-pub still_pass : {A : Type 0} (board : Turning) (old now : Sitting A Mark) → IsPassOf board old → now ≡ record old { seen = now.seen; own = now.own } → IsPassOf board now
-still_pass {A} board old now is same = record {
-  turn = ap (λ (s : Sitting A Mark). s.turn) same ∙ is.turn;
-  seats = ap (λ (s : Sitting A Mark). s.seats) same ∙ is.seats;
-  idle = ap (λ (s : Sitting A Mark). s.holds) same ∙ is.idle;
-  seated = let number : now.number ≡ old.number = ap (λ (s : Sitting A Mark). s.number) same in omega (arith, number, is.seated);
-  known = let number : now.number ≡ old.number = ap (λ (s : Sitting A Mark). s.number) same in omega (arith, number, is.known);
-}
 
 module _ {A : Type 0} (call harms harms_now : ℕ) (a b c : Sitting A Mark) (run : HasRun call harms harms_now a b) (asked : c ≡ record b { seen = c.seen }) where
   pub asked_pass : (board : Turning) → IsPassOf board a → IsPassOf board c

@@ -18,7 +18,7 @@ use Rattle.cas_tasks.specs.declared.tasks.Task.{Task}
 use Rattle.cas_race.specs.declared.told.Told.{Told}
 use Rattle.cas_race.specs.Runs.{IsMeantFor, IsReady, HasRoomFor, HasRun, HasRaced, ArePassesOf, AreRaced}
 use Rattle.cas_race.proofs.Meant.{all_meant}
-use Rattle.cas_race.proofs.Racing.{still_pass}
+use Rattle.cas_board.proofs.Passes.{still_pass}
 
 -- ---- lists by their places
 pub at_mapped : {A B : Type 0} (f : A → B) (xs : List A) (n : ℕ) (y : B) → slice_get (map f xs) n ≡ Some y → (x : A) × (slice_get xs n ≡ Some x) × (f x ≡ y)

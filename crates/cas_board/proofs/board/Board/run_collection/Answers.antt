@@ -4,7 +4,7 @@ use Rattle.cas_board.specs.Operations.{HasOperated, WasToldLast}
 use Rattle.cas_hold.specs.Collecting.{HasCourse, IsBurialMark, IsCollectAnswer, IsCollectingMark, most_rounds}
 use Rattle.cas_hold.specs.Deeds.{harm_by}
 use Rattle.cas_hold.proofs.Tries.{burial_within}
-use Rattle.cas_board.proofs.Sittings.{still_pass}
+use Rattle.cas_board.proofs.Passes.{still_pass}
 use Rattle.cas_board.proofs.Operating.{order_runs, order_pass, order_number, order_ran, order_goes_on, order_ends, run_less}
 use Rattle.cas_board.proofs.Collections.{course_asked}
 use Rattle.cas_board.proofs.board.Board.run_collection.Goals as goal

@@ -5,7 +5,8 @@ use Rattle.cas_hold.specs.Deeds.{harm_by}
 use Rattle.cas_hold.specs.Membership.{HasRescan, HasRounds, IsRescannedTo, IsPlanMark, IsRescanMark}
 use Rattle.cas_hold.specs.Stages.{tells_met}
 use Rattle.cas_hold.proofs.Tries.{rescan_within}
-use Rattle.cas_board.proofs.Sittings.{still_pass, rounds_spent, tried_asked, tried_on}
+use Rattle.cas_board.proofs.Passes.{still_pass}
+use Rattle.cas_board.proofs.Sittings.{rounds_spent, tried_asked, tried_on}
 use Rattle.cas_board.proofs.Operating.{order_runs, order_pass, order_number, order_own, order_ran, order_goes_on, order_ends, run_less}
 use Rattle.cas_board.proofs.Steps.{wanted_still, run_step, not_counted}
 use Rattle.cas_board.proofs.board.Board.run_rescan.Goals as goal
