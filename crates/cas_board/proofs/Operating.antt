@@ -1,5 +1,5 @@
 -- What caller 0's pass tells of a call of the operator, by what its holds did.
-use Rattle.std.proofs.Common.{◌≡◌, ◌≤◌, ◌<◌, ℕ, ◌+◌, length, true, false, inl, inr, List, [], ◌++◌, refl, sym, ap, subst, ◌∙◌, append_assoc, append-nil, length-append, arith}
+use Rattle.std.proofs.Common.{◌≡◌, ◌≤◌, ℕ, ◌+◌, length, true, false, inl, inr, List, [], ◌++◌, refl, sym, ap, subst, ◌∙◌, append_assoc, append-nil, length-append, arith}
 use Rattle.std.specs.Prelude.{◌||◌, Result, Ok, Err, IfErr, OnOk, take, reverse, Contains}
 use Rattle.std.proofs.Math.Seq.{take-append_seam}
 use Rattle.std.proofs.lemmas.List.Elements.{All-append, All-nil, All-weaker}
@@ -15,7 +15,7 @@ use Rattle.cas_cluster.specs.View.{View, era_at}
 use Rattle.cas_turn.specs.Seen.{Begins, HasSeen}
 use Rattle.cas_turn.specs.Sitting.{Sitting, Turning}
 use Rattle.cas_turn.proofs.SeenLemmas.{begins_both}
-use Rattle.cas_hold.specs.Counting.{most_counted, count_told, CountsTo, EntersEras, LeavesNone}
+use Rattle.cas_hold.specs.Counting.{count_told, CountsTo, EntersEras, HasRisen, LeavesNone}
 use Rattle.cas_hold.specs.Deeds.{IsRefusal}
 use Rattle.cas_hold.specs.Kept.{Makes, IsHeldBy}
 use Rattle.cas_hold.specs.Mine.{mine, losses, done_calls, GoesOn}
@@ -27,7 +27,7 @@ use Rattle.cas_ballot.proofs.MemberLemmas.{IsMemberSet-members_where}
 use Rattle.cas_hold.specs.Owners.{owner_of}
 use Rattle.cas_hold.specs.OwnParts.{own_part}
 use Rattle.cas_world.specs.Plans.{rescanned_of}
-use Rattle.cas_hold.proofs.Counting.{done_append, own_rescanned}
+use Rattle.cas_hold.proofs.Counting.{done_append, own_rescanned, risen_by}
 use Rattle.cas_hold.proofs.Fronts.{front_goes_on, goes_on_then, mine_append, mine_seen}
 use Rattle.cas_hold.proofs.Operating.{told_mine}
 use Rattle.cas_board.specs.Changes.{IsCounted}
@@ -51,12 +51,12 @@ module _ {S V A : Type 0} (before after : View S V) (old new : Sitting A Mark) (
   kept_count = ap rescanned_in operator_own ∙ own_rescanned after
 
   operator_counts : (count : ℕ) → CountsTo count before after → HasCountedTo count old new
-  operator_counts count counts low =
+  operator_counts count counts =
       let was_seen : done_calls (mine old.number before.marks) ≡ done_calls (mine old.number old.seen) = ap done_calls (mine_seen old.number old.seen before.marks was.has) in
       let before_is : done_calls (mine 0 before.marks) ≡ done_calls (mine old.number before.marks) = ap (λ (k : ℕ). done_calls (mine k before.marks)) was.number in
       let after_is : done_calls (mine 0 after.marks) ≡ done_calls (mine old.number new.seen) = ap (λ (k : ℕ). done_calls (mine k after.marks)) was.number ∙ ap (λ (l : List Mark). done_calls (mine old.number l)) (sym was.seen) in
       let kept_before : rescanned_of before.council.plan ≡ rescanned_in old.own = sym (own_rescanned before) ∙ ap rescanned_in (ap (own_part before) was.number ∙ was.part) in
-      omega (arith, counts low, was_seen, before_is, after_is, kept_before)
+      record { no_more = omega (arith, counts.no_more, was_seen, before_is, after_is, kept_before); each = λ low. (let all = counts.each low in omega (arith, all, was_seen, before_is, after_is, kept_before)) }
 
   pub still_counted : rescanned_of after.council.plan ≡ rescanned_of before.council.plan → rescanned_in new.own ≡ rescanned_in old.own
   still_counted same = kept_count ∙ same ∙ sym (own_rescanned before) ∙ ap rescanned_in (ap (own_part before) was.number ∙ was.part)
@@ -108,15 +108,22 @@ order_runs such harms pass = record {
   pass = refl;
   lost = 0;
   counted = counted_none harms;
-  operated = record { marks = []; front = record { begins = record { behind = []; whole = append-nil pass.seen }; own_marks = sym (append-nil (mine pass.number pass.seen)) }; all_such = All-nil such; few = omega arith; counts = λ enters low. refl; keeps = λ not. refl };
+  operated = record { marks = []; front = record { begins = record { behind = []; whole = append-nil pass.seen }; own_marks = sym (append-nil (mine pass.number pass.seen)) }; all_such = All-nil such; few = omega arith; counts = λ enters. risen_by refl; keeps = λ not. refl };
 }
 
+-- a count that had not changed before it rose
+risen_behind : (ra rb rc da db dc : ℕ) → HasRisen rb db dc rc → rb ≡ ra → db ≡ da → HasRisen ra da dc rc
+risen_behind ra rb rc da db dc rose same_r same_d = subst (λ (r : ℕ). HasRisen r da dc rc) same_r (subst (λ (d : ℕ). HasRisen rb d dc rc) same_d rose)
+
 -- counts over two spans, between which neither changes
-counted_on : (ra rb rc rd da db dc dd : ℕ) → (rb < most_counted → rb + da ≡ ra + db) → rc ≡ rb → dc ≡ db → dc ≤ dd → (rd < most_counted → rd + dc ≡ rc + dd) → rd < most_counted → rd + da ≡ ra + dd
-counted_on ra rb rc rd da db dc dd first same_r same_d more last low =
-    let two = last low in
-    let one = first (omega (arith, two, more, same_r, low)) in
-    omega (arith, one, two, same_r, same_d)
+risen_then : (ra rb rc rd da db dc dd : ℕ) → HasRisen ra da db rb → rc ≡ rb → dc ≡ db → dc ≤ dd → HasRisen rc dc dd rd → HasRisen ra da dd rd
+risen_then ra rb rc rd da db dc dd first same_r same_d more last = record {
+  no_more = omega (arith, first.no_more, last.no_more, same_r, same_d);
+  each = λ low.
+      let two = last.each low in
+      let one = first.each (omega (arith, two, more, same_r, low)) in
+      omega (arith, one, two, same_r, same_d);
+}
 
 module _ {A : Type 0} (such : Mark → Type 0) (harms harms_now : ℕ) (a b c : Sitting A Mark) (run : HasRunOrder such harms harms_now a b) (strayed : c ≡ record b { seen = c.seen }) where
   number_b : b.number ≡ a.number
@@ -151,9 +158,9 @@ module _ {A : Type 0} (such : Mark → Type 0) (harms harms_now : ℕ) (a b c : 
         let goes : GoesOn a.number c.seen d.seen more = subst (λ (k : ℕ). GoesOn k c.seen d.seen more) order_number then_ in
         let between : GoesOn a.number b.seen c.seen [] = subst (λ (k : ℕ). GoesOn k b.seen c.seen []) number_b strays in
         let grown : done_calls (mine a.number d.seen) ≡ done_calls (mine a.number c.seen) + done_calls more = ap done_calls goes.own_marks ∙ done_append (mine a.number c.seen) more in
-        counted_on (rescanned_in a.own) (rescanned_in b.own) (rescanned_in c.own) count (done_calls (mine a.number a.seen)) (done_calls (mine a.number b.seen)) (done_calls (mine a.number c.seen)) (done_calls (mine a.number d.seen))
+        risen_then (rescanned_in a.own) (rescanned_in b.own) (rescanned_in c.own) count (done_calls (mine a.number a.seen)) (done_calls (mine a.number b.seen)) (done_calls (mine a.number c.seen)) (done_calls (mine a.number d.seen))
         (run.operated.counts enters) (ap rescanned_in order_own) (ap done_calls (between.own_marks ∙ append-nil (mine a.number b.seen))) (omega (arith, grown))
-        (subst (λ (k : ℕ). count < most_counted → count + done_calls (mine k c.seen) ≡ rescanned_in c.own + done_calls (mine k d.seen)) order_number last)
+        (subst (λ (k : ℕ). HasRisen (rescanned_in c.own) (done_calls (mine k c.seen)) (done_calls (mine k d.seen)) count) order_number last)
 
     pub order_goes_on : HasOperated such most c d → HasRunOrder such harms harms_then a d
     order_goes_on then_ = record {
@@ -290,9 +297,8 @@ told_behind asked such most a b c answer number first counted told = record {
   few = told.few;
   is_free = told.is_free;
   counts = λ enters. let tells = told.counts enters in (
-    (λ low.
-        let last = subst (λ (k : ℕ). count_told answer (rescanned_in c.own) + done_calls (mine k b.seen) ≡ rescanned_in b.own + done_calls (mine k c.seen)) number (tells.0 low) in
-        omega (arith, last, counted, ap done_calls (first.own_marks ∙ append-nil (mine a.number a.seen)))),
+    risen_behind (rescanned_in a.own) (rescanned_in b.own) (count_told answer (rescanned_in c.own)) (done_calls (mine a.number a.seen)) (done_calls (mine a.number b.seen)) (done_calls (mine a.number c.seen))
+        (subst (λ (k : ℕ). HasRisen (rescanned_in b.own) (done_calls (mine k b.seen)) (done_calls (mine k c.seen)) (count_told answer (rescanned_in c.own))) number tells.0) counted (ap done_calls (first.own_marks ∙ append-nil (mine a.number a.seen))),
     tells.1,
   );
   keeps = λ not. told.keeps not ∙ counted;

@@ -1,5 +1,5 @@
 -- What a call of the operator does on a board, as caller 0's pass tells.
-use Rattle.std.specs.Prelude.{◌≡◌, ◌≤◌, ◌<◌, ⊤, ℕ, ◌+◌, List, [], length, ◌++◌, All}
+use Rattle.std.specs.Prelude.{◌≡◌, ◌≤◌, ⊤, ℕ, ◌+◌, List, [], length, ◌++◌, All}
 use Rattle.cas_record.specs.declared.answer.Answer.{Answer}
 use Rattle.cas_record.specs.declared.mark.Mark.{Mark}
 use Rattle.cas_record.specs.declared.operator.Asked.{Asked}
@@ -8,7 +8,7 @@ use Rattle.cas_record.specs.declared.operator.OpAnswer.TheVariants.{Probed, Stop
 use Rattle.cas_causes.specs.Answering.{silent_in}
 use Rattle.cas_cluster.specs.StepCouncil.{told_marks}
 use Rattle.cas_turn.specs.Sitting.{Sitting}
-use Rattle.cas_hold.specs.Counting.{most_counted, count_told, EntersEras, LeavesNone}
+use Rattle.cas_hold.specs.Counting.{count_told, EntersEras, HasRisen, LeavesNone}
 use Rattle.cas_hold.specs.Deeds.{IsRefusal}
 use Rattle.cas_hold.specs.Mine.{mine, losses, done_calls, GoesOn}
 use Rattle.cas_hold.specs.Open.{IsFree, rescanned_in}
@@ -23,9 +23,9 @@ pub record AreLast (front marks : List Mark) : Type 0 where
 module _ {V : Type 0} where
   -- ---- holds
   -- Of the keys that a change of membership proposed anew that many are counted by then: as many as the pass's own part told, and one for each
-  -- call of caller 0 that was answered done since; this is not said of a count that stands at its end.
+  -- call of caller 0 that was answered done since.
   abbrev pub HasCountedTo : ℕ → Sitting V Mark → Sitting V Mark → Type 0
-  HasCountedTo count old new = count < most_counted → count + done_calls (mine old.number old.seen) ≡ rescanned_in old.own + done_calls (mine old.number new.seen)
+  HasCountedTo count old new = HasRisen (rescanned_in old.own) (done_calls (mine old.number old.seen)) (done_calls (mine old.number new.seen)) count
 
   -- the count is told at the end of the change, and none is kept then; else it is kept
   abbrev pub HasToldCount : OpAnswer → Sitting V Mark → Sitting V Mark → Type 0

@@ -1,5 +1,5 @@
 -- What a change of membership counts, over one step and one hold.
-use Rattle.std.proofs.Common.{◌≡◌, ◌<◌, ◌+◌, ℕ, suc, ◌==◌, Bool, true, false, if◌then◌else◌, List, [], ◌∷◌, ◌++◌, length, drop, Option, None, Some, is_some, option_map, slice_get, refl, sym, ap, subst, ◌∙◌, append-nil, arith}
+use Rattle.std.proofs.Common.{◌≡◌, ◌+◌, ℕ, suc, ◌==◌, Bool, true, false, if◌then◌else◌, List, [], ◌∷◌, ◌++◌, length, drop, Option, None, Some, is_some, option_map, slice_get, refl, sym, ap, subst, ◌∙◌, append-nil, arith}
 use Rattle.std.specs.Prelude.{◌&&◌, All}
 use Rattle.std.proofs.lemmas.List.Elements.{All-head, All-tail}
 use Rattle.cas_ballot.specs.declared.ballot.Ballot.{Ballot}
@@ -23,7 +23,7 @@ use Rattle.cas_cluster.specs.StepPlans.{plan_after, rest_of}
 use Rattle.cas_cluster.specs.View.{View, CallView, CallerView}
 use Rattle.cas_cluster.proofs.Places.{some_is}
 use Rattle.cas_world.specs.Plans.{rescanned_of}
-use Rattle.cas_hold.specs.Counting.{most_counted, CountsTo, TellsCount}
+use Rattle.cas_hold.specs.Counting.{CountsTo, HasRisen, TellsCount}
 use Rattle.cas_hold.specs.Mine.{mine, call_of, AreOfCall, done_calls}
 use Rattle.cas_hold.specs.Open.{rescanned_behind, rescanned_in}
 use Rattle.cas_hold.specs.Orders.{IsAskingHarm}
@@ -100,17 +100,21 @@ done_at_end call rounds told marks none =
     ∙ (let both = done_append (mine 0 marks) (Ended 0 call rounds told ∷ []) in let e : done_calls (mine 0 marks ++ Ended 0 call rounds told ∷ []) ≡ (if is_done told then 1 else 0) = omega (arith, both, none) in e)
 
 -- ---- the count
+-- by all of them
+pub risen_by : {before done done_then count : ℕ} → count + done ≡ before + done_then → HasRisen before done done_then count
+risen_by same = record { no_more = omega (arith, same); each = λ low. same }
+
 module _ {S V : Type 0} (old new : View S V) (marks : List Mark) (made : new.marks ≡ old.marks ++ marks) where
   done_new : done_calls (mine 0 new.marks) ≡ done_calls (mine 0 old.marks) + done_calls (mine 0 marks)
   done_new = ap (λ (l : List Mark). done_calls (mine 0 l)) made ∙ ap done_calls (mine_append 0 old.marks marks) ∙ done_append (mine 0 old.marks) (mine 0 marks)
 
   -- by the marks that were made
-  pub counts_by : (count : ℕ) → (count < most_counted → count ≡ rescanned_of old.council.plan + done_calls (mine 0 marks)) → CountsTo count old new
-  counts_by count same low = omega (arith, same low, done_new)
+  pub counts_by : (count done : ℕ) → HasRisen (rescanned_of old.council.plan) 0 done count → done ≡ done_calls (mine 0 marks) → CountsTo count old new
+  counts_by count done rose is = record { no_more = omega (arith, rose.no_more, is, done_new); each = λ low. (let all = rose.each low in omega (arith, all, is, done_new)) }
 
   -- where none of them is the end of a call that is done
   pub counts_still : done_calls (mine 0 marks) ≡ 0 → rescanned_of new.council.plan ≡ rescanned_of old.council.plan → CountsTo (rescanned_of new.council.plan) old new
-  counts_still none same = counts_by (rescanned_of new.council.plan) (λ low. omega (arith, same, none))
+  counts_still none same = counts_by (rescanned_of new.council.plan) 0 (risen_by (let e : rescanned_of new.council.plan + 0 ≡ rescanned_of old.council.plan + 0 = omega (arith, same) in e)) (sym none)
 
 -- ---- the plan
 pub begun_same : (places : List MemberPlace) (tag : Ballot) (plan : Option PlanView) → rescanned_of (option_map (listing_begun places tag) plan) ≡ rescanned_of plan
@@ -136,17 +140,19 @@ rested_same None = refl
 rested_same (Some plan) = refl
 
 -- a key that was proposed anew is counted, and the end of its call is as much
-one_more_low : (count : ℕ) → one_more count < most_counted → one_more count ≡ count + 1
-one_more_low count low = omega (arith, low)
+one_risen : (count : ℕ) → HasRisen count 0 1 (one_more count)
+one_risen count = record { no_more = omega arith; each = λ low. omega (arith, low) }
 
-pub rescans_count : (old new : Council) (key : List ℕ) (told : Answer) → IsRescan old 0 key → Rescans old 0 key told new → rescanned_of new.plan < most_counted → rescanned_of new.plan ≡ rescanned_of old.plan + (if is_done told then 1 else 0)
-rescans_count old new key told due (calls.rescans of done is) low =
-    let now : rescanned_of new.plan ≡ one_more of.plan.rescanned = ap (λ (c : Council). rescanned_of c.plan) is ∙ listed_same (record of.plan { rescanned = one_more of.plan.rescanned }) (record of.listing { keys = drop 1 of.listing.keys }) in
-    let more = one_more_low of.plan.rescanned (subst (λ (n : ℕ). n < most_counted) now low) in
-    now ∙ more ∙ ap (λ (n : ℕ). n + 1) (sym (ap rescanned_of of.is_plan)) ∙ ap (λ (b : Bool). rescanned_of old.plan + (if b then 1 else 0)) (sym done)
-rescans_count old new key told due (calls.stops of undone is) low =
-    ap (λ (c : Council). rescanned_of c.plan) is ∙ (let e : rescanned_of old.plan ≡ rescanned_of old.plan + 0 = omega arith in e) ∙ ap (λ (b : Bool). rescanned_of old.plan + (if b then 1 else 0)) (sym undone)
-rescans_count old new key told due (calls.is_none not is) low = absurd (not due)
+none_risen : (count : ℕ) → HasRisen count 0 0 count
+none_risen count = risen_by refl
+
+pub rescans_count : (old new : Council) (key : List ℕ) (told : Answer) → IsRescan old 0 key → Rescans old 0 key told new → HasRisen (rescanned_of old.plan) 0 (if is_done told then 1 else 0) (rescanned_of new.plan)
+rescans_count old new key told due (calls.rescans of done is) =
+    let now : rescanned_of new.plan ≡ one_more (rescanned_of old.plan) = ap (λ (c : Council). rescanned_of c.plan) is ∙ listed_same (record of.plan { rescanned = one_more of.plan.rescanned }) (record of.listing { keys = drop 1 of.listing.keys }) ∙ ap one_more (sym (ap rescanned_of of.is_plan)) in
+    subst (λ (b : Bool). HasRisen (rescanned_of old.plan) 0 (if b then 1 else 0) (rescanned_of new.plan)) (sym done) (subst (HasRisen (rescanned_of old.plan) 0 1) (sym now) (one_risen (rescanned_of old.plan)))
+rescans_count old new key told due (calls.stops of undone is) =
+    subst (λ (b : Bool). HasRisen (rescanned_of old.plan) 0 (if b then 1 else 0) (rescanned_of new.plan)) (sym undone) (subst (HasRisen (rescanned_of old.plan) 0 0) (sym (ap (λ (c : Council). rescanned_of c.plan) is)) (none_risen (rescanned_of old.plan)))
+rescans_count old new key told due (calls.is_none not is) = absurd (not due)
 
 -- ---- the operator is told
 unfinished : (asks : Asked) (era rescanned : ℕ) (told : OpAnswer) → council.finished asks era rescanned told → IsPassing told → ⊥
@@ -183,14 +189,14 @@ module _ {S V : Type 0} (asks : Asked) (told : OpAnswer) (order : OrderView) (mi
   pub told_counts : (old : View S V) → IsPassing told → CountsTo (rescanned_of mid.council.plan) old mid → TellsCount told old new
   told_counts old passing counts =
       let plan = told_plan mid new told ends passing in
-      passing_counts old new told passing (λ low. let was = counts (let e = plan in omega (arith, e, low)) in omega (arith, was, plan, done_told))
+      passing_counts old new told passing (record { no_more = omega (arith, counts.no_more, plan, done_told); each = λ low. (let was = counts.each (omega (arith, plan, low)) in omega (arith, was, plan, done_told)) })
 
   -- at its end it is told
   pub end_counts : order.told ≡ None → IsFinishedBy mid.council order told → TellsCount told mid new
   end_counts untold by = by_asked order.asked by.tells
     where
       none_left : (rescanned : ℕ) → rescanned ≡ by.plan.rescanned → CountsTo rescanned mid new
-      none_left rescanned same low = omega (arith, same, done_told, ap rescanned_of by.is_plan)
+      none_left rescanned same = risen_by (let e : rescanned + done_calls (mine 0 mid.marks) ≡ rescanned_of mid.council.plan + done_calls (mine 0 new.marks) = omega (arith, same, done_told, ap rescanned_of by.is_plan) in e)
 
       ended : StepTell mid told new → ((other : OrderView) → council.IsCollectedBy mid.council other told → ⊥) → rescanned_of new.council.plan ≡ 0
       ended (council.tells other said is_open was says is) none = absurd (cc (sym (ap (λ (o : OrderView). o.told) (some_is (sym is_open ∙ is_order))) ∙ was, untold))

@@ -49,7 +49,7 @@ use Rattle.cas_hold.specs.Membership.{HasPlan, HasListing, IsPlanMark, IsMembers
 use Rattle.cas_hold.specs.Mine.{mine, losses, done_calls, wanted_by}
 use Rattle.cas_hold.specs.Orders.{new_order, HasOrder, OperatesIn, IsToldIn, IsAskingHarm}
 use Rattle.cas_hold.specs.OwnParts.{exchange_part, harms_part, question_part, order_part, plan_part, caller_part, own_part}
-use Rattle.cas_hold.proofs.Counting.{after_same, begun_same, counts_still, end_counts, harms_undone, listed_same, told_counts}
+use Rattle.cas_hold.proofs.Counting.{after_same, begun_same, counts_still, end_counts, harms_undone, listed_same, risen_by, told_counts}
 use Rattle.cas_hold.proofs.Closing.{ClosesRound, closes_round, kept_marked}
 use Rattle.cas_hold.proofs.Councils.{is_ordered, IsOrdered, none_beside, own_is_council, order_told, no_exchange, exchange_told, plan_told, listing_told}
 use Rattle.cas_hold.proofs.Holds.{Held}
@@ -638,7 +638,7 @@ up_held view asked has kept for_it =
 pub nothing_done : {S V : Type 0} (view : View S V) (asked : Asked) → HasPlan asked (own_part view 0) → IsKept view → OperatesIn IsPlanMark 0 view view
 nothing_done view asked has kept =
     let deed = quiet_deed view view (same_view view) kept (is_changing view asked has).no_call in
-    record { marks = []; makes = deed.makes; all_such = All-nil IsPlanMark; few = omega arith; counts = λ enters low. refl; keeps = λ not. refl }
+    record { marks = []; makes = deed.makes; all_such = All-nil IsPlanMark; few = omega arith; counts = λ enters. risen_by refl; keeps = λ not. refl }
 
 -- no memory was found for the key that is due
 pub key_may_tell : {S V : Type 0} (old mid new : View S V) (asked : Asked) (told : OpAnswer) → HasPlan asked (own_part old 0) → IsKept old → StepRefuseKey old mid → WasToldOrder mid told → StepTell mid told new

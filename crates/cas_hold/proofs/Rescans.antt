@@ -179,8 +179,8 @@ begins_not old mid asked key told has due (deeds.ends_at_once call rounds makes 
       few = subst (λ (l : List Mark). losses l ≤ 0) (sym own) (omega arith);
       none = none;
       becomes = rescanned old mid asked key told (due_there old asked key has due) leaves.rescans none;
-      counts = counts_by old mid (begun ∷ ended ∷ []) makes.made (rescanned_of mid.council.plan)
-          (λ low. rescans_count old.council mid.council key told (due_rescan old.council asked key (due_there old asked key has due)) leaves.rescans low ∙ ap (λ (n : ℕ). rescanned_of old.council.plan + n) (sym (ap done_calls own)));
+      counts = counts_by old mid (begun ∷ ended ∷ []) makes.made (rescanned_of mid.council.plan) (if is_done told then 1 else 0)
+          (rescans_count old.council mid.council key told (due_rescan old.council asked key (due_there old asked key has due)) leaves.rescans) (sym (ap done_calls own));
     }
 begins_not old mid asked key told has due (deeds.is_refused refusal makes leaves) =
     let none = idle_call mid 0 leaves.is_idle in
@@ -192,8 +192,8 @@ begins_not old mid asked key told has due (deeds.is_refused refusal makes leaves
       few = omega arith;
       none = none;
       becomes = rescanned old mid asked key told (due_there old asked key has due) leaves.rescans none;
-      counts = counts_by old mid [] makes.made (rescanned_of mid.council.plan)
-          (λ low. rescans_count old.council mid.council key told (due_rescan old.council asked key (due_there old asked key has due)) leaves.rescans low ∙ ap (λ (b : Bool). rescanned_of old.council.plan + (if b then 1 else 0)) (refused_undone refusal));
+      counts = counts_by old mid [] makes.made (rescanned_of mid.council.plan) (if is_done told then 1 else 0)
+          (rescans_count old.council mid.council key told (due_rescan old.council asked key (due_there old asked key has due)) leaves.rescans) (ap (λ (b : Bool). if b then 1 else 0) (refused_undone refusal));
     }
 
 -- ---- it goes on, and ends
@@ -235,8 +235,8 @@ ends_rescan {S} {V} such call most old mid asked key program told weaker such_en
       few = subst (λ (l : List Mark). losses l ≤ most) (sym own) (let same = losses_end (mine 0 e.marks) 0 call rounds told in let low = e.few in omega (arith, same, low));
       none = none;
       becomes = rescanned old mid asked key told due rescans_so none;
-      counts = counts_by old mid (e.marks ++ ended ∷ []) e.makes.made (rescanned_of mid.council.plan)
-          (λ low. rescans_count old.council mid.council key told (due_rescan old.council asked key due) rescans_so low ∙ ap (λ (n : ℕ). rescanned_of old.council.plan + n) (sym (done_at_end call rounds told e.marks (none_done call (mine 0 e.marks) e.of_call))));
+      counts = counts_by old mid (e.marks ++ ended ∷ []) e.makes.made (rescanned_of mid.council.plan) (if is_done told then 1 else 0)
+          (rescans_count old.council mid.council key told (due_rescan old.council asked key due) rescans_so) (sym (done_at_end call rounds told e.marks (none_done call (mine 0 e.marks) e.of_call)));
     }
 
 -- the key is counted, and the change of membership goes on

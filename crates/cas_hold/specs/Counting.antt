@@ -1,5 +1,5 @@
 -- How many keys a change of membership has proposed anew: as many as calls of caller 0 were answered done on its way.
-use Rattle.std.specs.Prelude.{◌≡◌, ⊤, ℕ, ◌+◌, ◌-◌, ◌<◌, ◌^◌}
+use Rattle.std.specs.Prelude.{◌≡◌, ⊤, ℕ, ◌+◌, ◌-◌, ◌<◌, ◌≤◌, ◌^◌}
 use Rattle.cas_record.specs.declared.mark.Mark.{Mark}
 use Rattle.cas_record.specs.declared.mark.Mark.TheVariants.{EraEntered}
 use Rattle.cas_record.specs.declared.operator.OpAnswer.{OpAnswer}
@@ -12,9 +12,15 @@ use Rattle.cas_hold.specs.Mine.{mine, done_calls}
 abbrev pub most_counted : ℕ
 most_counted = 2 ^ 32 - 1
 
--- A count that does not stand at its end has grown by the calls of caller 0 that were answered done from the earlier view to the later one.
+-- While calls went from so many that are done to so many, a count rose from one number to another: by one for each of them, and where it stands
+-- still, by no more.
+pub record HasRisen (before done done_then count : ℕ) : Type 0 where
+  pub no_more : count + done ≤ before + done_then
+  pub each : count < most_counted → count + done ≡ before + done_then
+
+-- it has risen by the calls of caller 0 that were answered done from the earlier view to the later one
 abbrev pub CountsTo : {S V : Type 0} → ℕ → View S V → View S V → Type 0
-CountsTo count old new = count < most_counted → count + done_calls (mine 0 old.marks) ≡ rescanned_of old.council.plan + done_calls (mine 0 new.marks)
+CountsTo count old new = HasRisen (rescanned_of old.council.plan) (done_calls (mine 0 old.marks)) (done_calls (mine 0 new.marks)) count
 
 -- what is told at the end of the change is its count; until then it is kept
 abbrev pub count_told : OpAnswer → ℕ → ℕ

@@ -17,14 +17,13 @@ use Rattle.cas_hold.specs.Counting.{EntersEras}
 use Rattle.cas_hold.specs.Mine.{mine, losses, done_calls, GoesOn}
 use Rattle.cas_hold.specs.Open.{IsFree, rescanned_in}
 use Rattle.cas_hold.specs.Orders.{IsSilentAtMost, IsTrueProbe}
-use Rattle.cas_hold.proofs.Counting.{done_append}
+use Rattle.cas_hold.proofs.Counting.{done_append, risen_by}
 use Rattle.cas_hold.proofs.Fronts.{goes_on_then}
 use Rattle.cas_board.proofs.Losses.{losses_append, counted_then}
 use Rattle.cas_board.specs.Changes.{IsCounted, Answers}
 use Rattle.cas_board.specs.Changes.Answers.{is_answered, is_not_begun}
 use Rattle.cas_board.specs.Operations.{IsSilentSince, Operates}
 use Rattle.cas_board.specs.Operations as operations
-use Rattle.cas_board.specs.Passes.{IsPassOf}
 use Rattle.cas_tasks.specs.declared.tasks.Task.{Task}
 use Rattle.cas_tasks.specs.declared.tasks.Task.TheVariants as task
 use Rattle.cas_race.specs.declared.told.Told.{Told}
@@ -117,12 +116,12 @@ module _ {V : Type 0} (tells : Type 0) (tries harms harms_then : ℕ) (old new :
   members_count asked such told own enters (operations.is_told marks front last all_such counted counts) goes =
       let both = counts enters in
       let grown : done_calls (mine old.number new.seen) ≡ done_calls (mine old.number old.seen) + done_calls own = ap done_calls goes.own_marks ∙ done_append (mine old.number old.seen) own in
-      (λ low. (let sum = both.0 low in omega (arith, sum, grown)), both.1)
+      (record { no_more = omega (arith, both.0.no_more, grown); each = λ low. (let sum = both.0.each low in omega (arith, sum, grown)) }, both.1)
   members_count asked such told own enters (operations.is_not_begun why refusal stopped counted front counts) goes =
       let kept = counts enters in
       let grown : done_calls (mine old.number new.seen) ≡ done_calls (mine old.number old.seen) + done_calls own = ap done_calls goes.own_marks ∙ done_append (mine old.number old.seen) own in
       let still : done_calls (mine old.number new.seen) ≡ done_calls (mine old.number old.seen) = ap done_calls (front.own_marks ∙ append-nil (mine old.number old.seen)) in
-      subst (λ (a : OpAnswer). CountsOn (rescanned_in old.own) a own (rescanned_in new.own)) (sym stopped) (λ low. omega (arith, kept, grown, still), tt)
+      subst (λ (a : OpAnswer). CountsOn (rescanned_in old.own) a own (rescanned_in new.own)) (sym stopped) (risen_by (let e : rescanned_in new.own + 0 ≡ rescanned_in old.own + done_calls own = omega (arith, kept, grown, still) in e), tt)
 
   pub change_ran : (asked : Task) (key : List ℕ) (program : List Clause) (told : Answer) → asked ≡ task.Change key program → new.own ≡ old.own → Answers key program tries harms harms_then old new told → HasRunTask tells tries harms harms_then asked (said.Change told) old new
   change_ran asked key program told is same (is_answered call rounds between front of_call counted last tried) = record {
@@ -145,15 +144,6 @@ module _ {V : Type 0} (tells : Type 0) (tries harms harms_then : ℕ) (old new :
   order_ran order asked told is answers counts (operations.is_not_begun why refusal stopped counted front kept) = record { own = []; front = front; answered = is_operated is (runs.is_not_begun why refusal stopped) (answers [] front); counted = counted; counts = counts [] front }
 
 -- ---- task by task
-pub still_pass : {V : Type 0} (board : Turning) (old new : Sitting V Mark) → IsPassOf board old → new ≡ record old { seen = new.seen; own = new.own } → IsPassOf board new
-still_pass {V} board old new is same = record {
-  turn = ap (λ (s : Sitting V Mark). s.turn) same ∙ is.turn;
-  seats = ap (λ (s : Sitting V Mark). s.seats) same ∙ is.seats;
-  idle = ap (λ (s : Sitting V Mark). s.holds) same ∙ is.idle;
-  seated = let number : new.number ≡ old.number = ap (λ (s : Sitting V Mark). s.number) same in omega (arith, number, is.seated);
-  known = let number : new.number ≡ old.number = ap (λ (s : Sitting V Mark). s.number) same in omega (arith, number, is.known);
-}
-
 module _ {V : Type 0} (tells : Type 0) (tries : ℕ) where
   pub raced_none : (harms : ℕ) (board : Turning) (pass : Sitting V Mark) (tasks : List Task) (told : List Told) (room : ℕ) → IsReady board pass tasks told room → HasRaced tells tries harms harms [] told pass pass
   raced_none harms board pass tasks told room ready = record {

@@ -1,5 +1,5 @@
 -- What the callers of a race are asked and answered, and what of their own marks tells it.
-use Rattle.std.specs.Prelude.{◌≡◌, ◌≤◌, ◌<◌, ◌+◌, ℕ, suc, true, List, [], ◌∷◌, ◌++◌, length, All, Option, Some, None, IfSome, slice_get}
+use Rattle.std.specs.Prelude.{◌≡◌, ◌≤◌, ◌+◌, ℕ, suc, true, List, [], ◌∷◌, ◌++◌, length, All, Option, Some, None, IfSome, slice_get}
 use Rattle.cas_ballot.specs.Members.{IsMemberSet}
 use Rattle.cas_change.specs.declared.program.Clause.{Clause}
 use Rattle.cas_record.specs.declared.answer.Answer.{Answer}
@@ -14,7 +14,7 @@ use Rattle.cas_turn.specs.Seen.{Begins}
 use Rattle.cas_turn.specs.Sitting.{Sitting, Turning}
 use Rattle.cas_hold.specs.Collecting.{IsCollectingMark, IsCollectAnswer}
 use Rattle.cas_hold.specs.Conflicts.{is_conflict}
-use Rattle.cas_hold.specs.Counting.{most_counted, count_told, LeavesNone}
+use Rattle.cas_hold.specs.Counting.{count_told, HasRisen, LeavesNone}
 use Rattle.cas_hold.specs.Deeds.{IsRefusal}
 use Rattle.cas_hold.specs.Membership.{IsMembersAnswer, IsRescanMark}
 use Rattle.cas_hold.specs.Mine.{mine, AreOfCall, losses, done_calls, GoesOn}
@@ -90,9 +90,8 @@ pub data IsAnswered (tells : Type 0) (all : List Mark) (tries n : ℕ) (earlier 
 -- ---- what a change of membership counts
 -- A call for a join or a leave that made these marks of its own adds one for each call of caller 0 that was answered done in it to the number
 -- of keys that the change had proposed anew before. It tells the sum at the end of the change, behind which none is kept; else the sum is kept.
--- This is not said of a sum that stands at its end.
 abbrev pub CountsOn : ℕ → OpAnswer → List Mark → ℕ → Type 0
-CountsOn before answered own next = (count_told answered next < most_counted → count_told answered next ≡ before + done_calls own) × LeavesNone answered next
+CountsOn before answered own next = HasRisen before 0 (done_calls own) (count_told answered next) × LeavesNone answered next
 
 -- any other task leaves the number
 abbrev pub IsCountedOn : ℕ → Task → Told → List Mark → ℕ → Type 0
