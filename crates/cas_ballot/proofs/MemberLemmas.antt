@@ -3,13 +3,15 @@ use Rattle.std.proofs.Common.{◌≡◌, ℕ, ◌+◌, ◌*◌, ◌-◌, ◌/◌
 use Rattle.std.specs.Prelude.{cond, ◌==◌, ◌&&◌, ◌||◌, ◌⊎◌, filter, max, min}
 use Rattle.std.specs.Int.{bit_at}
 use Rattle.std.specs.List.{range_with_len}
+use Rattle.std.proofs.lemmas.Bool.{cases_lt}
 use Rattle.std.proofs.lemmas.Bool.Decides.{nat_tests, eqb_tells}
-use Rattle.std.proofs.lemmas.Nat.{pow_below, pow_pos}
+use Rattle.std.proofs.lemmas.Nat.{leading_length, leading_top, pow_below, pow_pos}
 use Rattle.std.proofs.lemmas.Nat.Bits.{and_pow, bit_at-lt, bit_at_or, bit_at_and, bit_at_set_same, bit_at_set_other, bit_at_clear_same, bit_at_clear_other}
-use Rattle.std.proofs.Math.Nat.{div-div-eq-div-mul, pow-suc, div-eq_of_lt, mod-eq_of_lt, one-mul, div-one, zero-max, zero-min}
+use Rattle.std.proofs.Math.Pow.{pow_mono}
+use Rattle.std.proofs.Math.Nat.{div-div-eq-div-mul, pow-suc, div-eq_of_lt, div-eq_of_lt-le, mod-eq_of_lt, one-mul, div-one, zero-max, zero-min}
 use mathlib.Core.Logic.{inl, inr}
 use lib.Pointwise.{pointwise, bytes_decides}
-use lib.Count.{ones, ones_in, ones_step}
+use lib.Count.{count_leading_zeros, leading_of_zero, ones, ones_in, ones_step}
 use Rattle.cas_ballot.specs.Members.{members_where, has_member, with_member, without_member, union_of, intersection_of, IsMemberSet, members_of_bits, bits_of_members}
 use Rattle.cas_ballot.specs.MemberBits.{bits_of_members_of_bits}
 
@@ -195,3 +197,66 @@ filter_tells p (x ∷ xs) n e = elim (in_front (p x) x n (filter p xs) e) [
 pub members_where_tells : (p : ℕ → Bool) (n : ℕ) → has_member (members_where p) n ≡ true → p n ≡ true
 unfolding members_where
 members_where_tells p n e = filter_tells p (range_with_len 0 64) n e
+
+-- ---- the end of a set
+absent_behind : (p : ℕ → Bool) (w a n : ℕ) → a + w ≤ n → has_member (filter p (range_with_len a w)) n ≡ false
+absent_behind p zero a n h = refl
+absent_behind p (suc w) a n h =
+    let other : (a == n) ≡ false = grind (arith, nat_tests) in
+    has-cond (p a) a n (filter p (range_with_len (a + 1) w)) ∙ neither _ _ _ other (absent_behind p w (a + 1) n (omega arith))
+
+no_bit : (bits end n : ℕ) → bits < 2 ^ end → end ≤ n → bit_at bits n ≡ 0
+no_bit bits end n low from =
+    let more = pow_mono from in
+    ap (λ (d : ℕ). d % 2) (div-eq_of_lt (let e : bits < 2 ^ n = omega (arith, low, more) in e))
+
+-- it has no member where its bits are below a power, from that place on
+pub none_behind : (bits end n : ℕ) → bits < 2 ^ end → end ≤ n → has_member (members_of_bits bits) n ≡ false
+unfolding members_where
+none_behind bits end n low from = elim (cases_lt n 64) [
+  | inl within ↦ has-members_where (λ k. bit_at bits k == 1) n within ∙ ap (λ (b : ℕ). b == 1) (no_bit bits end n low from)
+  | inr out ↦ absent_behind (λ k. bit_at bits k == 1) 64 0 n out
+]
+
+-- it has the last member before the end, where the bits reach that far
+one_top : (bits j : ℕ) → 2 ^ j ≤ bits → bits < 2 ^ suc j → bit_at bits j ≡ 1
+one_top bits j low high =
+    let twice = pow-suc 2 j in
+    ap (λ (d : ℕ). d % 2) (div-eq_of_lt-le {k = 1} (2 ^ j) {m = bits} (omega (arith, low)) (omega (arith, high, twice)))
+
+-- where the leading zeros end
+pub end_low : (bits : ℕ) → bits < 2 ^ 64 → bits < 2 ^ (64 - count_leading_zeros 64 bits)
+end_low bits within =
+    let found = leading_length 64 bits within in
+    subst (λ (k : ℕ). bits < 2 ^ k) (let e : found.0 ≡ 64 - count_leading_zeros 64 bits = omega (arith, found.1) in e) found.2
+
+pub last_before : (bits n : ℕ) → bits < 2 ^ 64 → suc n ≡ 64 - count_leading_zeros 64 bits → has_member (members_of_bits bits) n ≡ true
+last_before bits n within last =
+    let some : 0 < bits = elim (cases_lt 0 bits) [
+      | inl low ↦ low
+      | inr none ↦ absurd (let is : bits ≡ 0 = omega (arith, none) in let all : count_leading_zeros 64 bits ≡ 64 = ap (count_leading_zeros 64) is ∙ leading_of_zero 64 in omega (arith, all, last))
+    ] in
+    let top = leading_top 64 bits some within in
+    let same : top.0 ≡ n = omega (arith, top.1, last) in
+    has-members_where (λ k. bit_at bits k == 1) n (omega (arith, last)) ∙ ap (λ (b : ℕ). b == 1) (subst (λ (j : ℕ). bit_at bits j ≡ 1) same (one_top bits top.0 top.2 top.3))
+
+-- members are listed below the end
+filter_none : (p : ℕ → Bool) (w a : ℕ) → ((n : ℕ) → a ≤ n → p n ≡ false) → filter p (range_with_len a w) ≡ []
+filter_none p zero a none = refl
+filter_none p (suc w) a none =
+    let here : p a ≡ false = none a (omega arith) in
+    rw (here, filter_none p w (a + 1) (λ n from. none n (omega arith))) refl
+
+filter_more : (p : ℕ → Bool) (w more a : ℕ) → ((n : ℕ) → a + w ≤ n → p n ≡ false) → filter p (range_with_len a (w + more)) ≡ filter p (range_with_len a w)
+filter_more p zero more a none = ap (λ (k : ℕ). filter p (range_with_len a k)) (zero-add more) ∙ filter_none p more a (λ n from. none n (omega arith))
+filter_more p (suc w) more a none =
+    let longer : suc w + more ≡ suc (w + more) = omega arith in
+    ap (λ (k : ℕ). filter p (range_with_len a k)) longer
+    ∙ (let rest : filter p (range_with_len (a + 1) (w + more)) ≡ filter p (range_with_len (a + 1) w) = filter_more p w more (a + 1) (λ n from. none n (omega arith)) in
+    let e : filter p (range_with_len a (suc (w + more))) ≡ filter p (range_with_len a (suc w)) = rw rest refl in e)
+
+pub members_before : (ids : List ℕ) (end : ℕ) → end ≤ 64 → ((n : ℕ) → end ≤ n → has_member ids n ≡ false) → filter (has_member ids) (range_with_len 0 end) ≡ members_where (has_member ids)
+unfolding members_where
+members_before ids end low none =
+    sym (filter_more (has_member ids) end (64 - end) 0 (λ n from. none n (omega arith)))
+    ∙ ap (λ (k : ℕ). filter (has_member ids) (range_with_len 0 k)) (let e : end + (64 - end) ≡ 64 = omega (arith, low) in e)

@@ -1,4 +1,4 @@
-ghost use Rattle.std.specs.Prelude.{◌≡◌, ◌≤◌, [], length, nat_eq};
+ghost use Rattle.std.specs.Prelude.{◌≡◌, ◌≤◌, ℕ, suc, true, false, [], length, nat_eq};
 ghost use Rattle.std.specs.Cmp.Rules.{comparing};
 ghost use Rattle.std.proofs.Common.{rules};
 ghost use lib.Pointwise.{pointwise};
@@ -73,6 +73,15 @@ impl Members {
         ensures { result ≡ has_member self.now id }
     {
         self.bits & (1 << id.number()) != 0
+    }
+
+    /// One more than the greatest of them; 0 where there is none.
+    pub fn end(&self) -> u8
+        ensures within { result ≤ 64 }
+        ensures behind { (n : ℕ) → result ≤ n → has_member self.now n ≡ false }
+        ensures last { (n : ℕ) → suc n ≡ result → has_member self.now n ≡ true }
+    {
+        (64 - self.bits.leading_zeros()) as u8
     }
 
     /// How many acceptors the set has, at most 64.

@@ -18,9 +18,6 @@ use cas_flow::{Flow, Frame};
 use cas_slot::{Ask, Request};
 use std::alloc::{AllocError, Global};
 
-/// How many identities of acceptors there are.
-const IDENTITIES: u8 = 64;
-
 /// Asks each of these members by frames in that queue, in rising number: all of them or, after an `Err`, none. There is room then for all replies to
 /// them, of which each request may have two.
 pub fn send_to(
@@ -65,7 +62,7 @@ fn frames_to(
         age,
         ask,
     };
-    for number in 0..IDENTITIES {
+    for number in 0..members.end() {
         let id = AcceptorId::new(number).unwrap();
         if members.has(id) {
             request.to = id;
@@ -109,7 +106,7 @@ fn questions_to(
     ensures few { IfOk result (λ frames. length frames.items ≤ 64) }
 {
     let mut frames = Vec::with_capacity(alloc, members.count() as usize)?;
-    for number in 0..IDENTITIES {
+    for number in 0..members.end() {
         let id = AcceptorId::new(number).unwrap();
         if members.has(id) {
             frames.push(question_to(alloc, id, age, tag, question)?)?;

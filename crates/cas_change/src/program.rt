@@ -138,7 +138,7 @@ impl Clause {
 fn copy_clauses(alloc: Global, clauses: &[Clause]) -> Result<Vec<Clause>, AllocError>
     ensures { IfOk result (λ copies. copies.items ≡ clauses.now) }
 {
-    let mut copies = Vec::new(alloc);
+    let mut copies = Vec::with_capacity(alloc, clauses.len())?;
     for clause in clauses {
         copies.push(clause.copy()?)?;
     }

@@ -14,7 +14,7 @@ mod states;
 mod words;
 
 pub use names::says;
-pub use printing::{print_program, print_state, push_state};
+pub use printing::{print_program, print_state, push_decimal, push_state};
 pub use reading::{
     next_word, program_in, read_end, read_number, read_program, read_text, read_version,
 };

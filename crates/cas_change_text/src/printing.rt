@@ -13,15 +13,25 @@ ghost use Rattle.cas_change_text.specs.Words.{words_of};
 
 use crate::escapes::push_escaped;
 use cas_change::{Act, Body, Clause, Guard, Program, State, Text};
+use itoa::Buffer;
 use std::alloc::{AllocError, Global};
+
+/// Writes a number behind the text, in decimal.
+pub fn push_decimal(text: &mut String, number: u64) -> Result<(), AllocError>
+    ensures { OnOk result (string_bytes text.new ≡ string_bytes text.old ++ decimal number) }
+{
+    let mut digits = Buffer::new();
+    text.push_str(digits.format(number))
+}
 
 /// Writes a name and a number.
 fn push_number(text: &mut String, name: &str, number: i64) -> Result<(), AllocError>
     ensures ok { OnOk result (string_bytes text.new ≡ string_bytes text.old ++ name.now ++ signed_decimal number) }
     ensures fits { FitsSigned w64 number }
 {
+    let mut digits = Buffer::new();
     text.push_str(name)?;
-    write!(text, "{number}")
+    text.push_str(digits.format(number))
 }
 
 /// Writes a name and a number.
@@ -30,7 +40,7 @@ fn push_version(text: &mut String, name: &str, version: u64) -> Result<(), Alloc
     ensures fits { version < 2 ^ 64 }
 {
     text.push_str(name)?;
-    write!(text, "{version}")
+    push_decimal(text, version)
 }
 
 /// Writes a name and a text.

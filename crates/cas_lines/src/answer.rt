@@ -4,12 +4,13 @@
 //! fail, and a `push_` may then have written a part of its text.
 
 ghost use Rattle.std.specs.Prelude.{◌≡◌, ◌++◌, string_bytes, OnOk, IfOk};
+ghost use Rattle.cas_ballot.specs.Ballot.{ballot_text};
 ghost use Rattle.cas_lines.specs.Answers.{took_text, cause_text, answer_text, change_line, bad_line, event_text, event_line, accepted_text, shown_text, shown_line};
 
 pub use crate::op_answer::{print_op, push_key, push_op};
-use cas_ballot::AcceptorId;
+use cas_ballot::{AcceptorId, Ballot};
 use cas_change::{Key, Took};
-use cas_change_text::{Why, push_state};
+use cas_change_text::{Why, push_decimal, push_state};
 use cas_record::{Answer, Cause};
 use cas_slot::{Accepted, Slot};
 use std::alloc::{AllocError, Global};
@@ -50,7 +51,8 @@ pub fn print_answer(alloc: Global, caller: u8, answer: &Answer) -> Result<Vec<u8
     ensures { IfOk result (λ line. line.items ≡ change_line caller answer.now) }
 {
     let mut line = String::with_capacity(alloc, USUAL_ANSWER)?;
-    write!(line, "{caller}: ")?;
+    push_decimal(&mut line, u64::from(caller))?;
+    line.push_str(": ")?;
     push_answer(&mut line, answer)?;
     line.push('\n')?;
     Ok(line.into_bytes())
@@ -108,7 +110,8 @@ pub fn push_answer(line: &mut String, answer: &Answer) -> Result<(), AllocError>
         } => {
             line.push_str("done ")?;
             push_state(line, state)?;
-            write!(line, " at {ballot}")?;
+            line.push_str(" at ")?;
+            push_ballot(line, *ballot)?;
             line.push_str(took_note(*took))
         }
         Answer::Conflict { met } => write!(line, "conflict {met}"),
@@ -131,6 +134,15 @@ pub fn push_answer(line: &mut String, answer: &Answer) -> Result<(), AllocError>
         Answer::NoMemory { proposed: false } => line.push_str("no memory"),
         Answer::NoMemory { proposed: true } => line.push_str("no memory proposed"),
     }
+}
+
+/// Writes the ballot behind `line`.
+fn push_ballot(line: &mut String, ballot: Ballot) -> Result<(), AllocError>
+    ensures { OnOk result (string_bytes line.new ≡ string_bytes line.old ++ ballot_text ballot) }
+{
+    push_decimal(line, ballot.counter)?;
+    line.push('.')?;
+    push_decimal(line, u64::from(ballot.proposer))
 }
 
 /// Writes behind `line` why a proposed change is not known to stand.

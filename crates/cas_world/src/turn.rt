@@ -19,6 +19,7 @@ use crate::world::World;
 use cas_acceptor::Acceptor;
 use cas_ballot::AcceptorId;
 use cas_calls::call::Caller;
+use cas_change::Key;
 use cas_disk::Disk;
 use cas_fate::Verdict;
 use cas_flow::{Fall, Flow, Message};
@@ -169,6 +170,14 @@ pub(crate) fn first(alloc: Global, flow: &Flow, queue: u8) -> Result<Message, Al
     }
 }
 
+/// The key of the caller's open call, if one is open.
+fn own_key(caller: &Caller) -> Option<&Key> {
+    match &caller.call {
+        Some(call) => Some(&call.key),
+        None => None,
+    }
+}
+
 /// The acceptor that is asked answers, and its reply waits behind the proposer's other frames; or it is down.
 fn ask<S: Shelf>(
     alloc: Global,
@@ -191,7 +200,7 @@ fn ask<S: Shelf>(
     ensures same { OnErr result ((caller.new ≡ caller.old) × (flow.new ≡ flow.old) × («record».new ≡ «record».old)) }
 {
     let frame = flow.blank(alloc)?;
-    let served = serve_by(acceptors, request, frame)?;
+    let served = serve_by(acceptors, request, frame, own_key(caller))?;
     flow.take(proposer, verdict);
     match served {
         Served::Replied { frame, vote } => {

@@ -2,7 +2,8 @@ use Rattle.std.proofs.Common.{◌≡◌, ℕ, ◌++◌, ◌∷◌, [], List, map
 use Rattle.std.specs.Prelude.{Option, Some, IfSome}
 use Rattle.std.specs.List.{filter, range_with_len}
 use Rattle.cas_flow.specs.declared.message.Message.{Message}
-use Rattle.cas_ballot.specs.Members.{has_member, members_where}
+use Rattle.cas_ballot.specs.Members.{has_member}
+use Rattle.cas_ballot.proofs.MemberLemmas.{members_before}
 use Rattle.cas_slot.specs.Limits.{AskBallotsFit}
 use Rattle.cas_calls.specs.Sending.{requests_to}
 use Rattle.cas_calls.proofs.Sending.{asking, is_asking, asked_count, with_one, without_one, all_asking}
@@ -43,12 +44,11 @@ loop-number-preserved c =
     ]
 
 all_asked : (c : goal.Joined-request-3) → c.loop-number.frames.items ≡ map Some (requests_to c.args.proposer c.args.age c.args.ask c.args.members.now)
-unfolding members_where
 all_asked c =
-    let all : c.loop-number.number ≡ 64 = omega (arith, c.loop-number-test.false, c.loop-number.auto.number-end) in
+    let all : c.loop-number.number ≡ c.end-number-end.result = omega (arith, c.loop-number-test.false, c.loop-number.auto.number-end) in
     c.loop-number.invariant.0
     ∙ (ap (λ (k : ℕ). map (asking c.args.proposer c.args.age c.args.ask) (filter (has_member c.args.members.now) (range_with_len 0 k))) all
-    ∙ (ap (map (asking c.args.proposer c.args.age c.args.ask)) (sym c.count.ensures.set.lists)
+    ∙ (ap (map (asking c.args.proposer c.args.age c.args.ask)) (members_before c.args.members.now c.end-number-end.result c.end-number-end.ensures.within c.end-number-end.ensures.behind ∙ sym c.count.ensures.set.lists)
     ∙ all_asking c.args.proposer c.args.age c.args.ask c.args.members.now))
 
 pub returns : goal.returns

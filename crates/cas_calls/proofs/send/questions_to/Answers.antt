@@ -2,7 +2,8 @@ use Rattle.std.proofs.Common.{◌≡◌, ℕ, ◌++◌, ◌∷◌, [], List, map
 use Rattle.std.specs.Prelude.{Option, Some, IfSome}
 use Rattle.std.specs.List.{filter, range_with_len}
 use Rattle.cas_flow.specs.declared.message.Message.{Message}
-use Rattle.cas_ballot.specs.Members.{has_member, members_where}
+use Rattle.cas_ballot.specs.Members.{has_member}
+use Rattle.cas_ballot.proofs.MemberLemmas.{members_before}
 use Rattle.cas_cluster.specs.StepCouncil.{questions_to}
 use Rattle.cas_calls.specs.Council.{question_view}
 use Rattle.cas_calls.proofs.Sending.{questioning, all_questioning, question_count, with_one, without_one}
@@ -22,13 +23,12 @@ loop-number-preserved c =
     ]
 
 all_asked : (c : goal.After-loop-number) → c.loop-number.frames.items ≡ map Some (questions_to c.args.age c.args.tag (question_view c.args.question.now) c.args.members.now)
-unfolding members_where
 all_asked c =
     let ask = questioning c.args.age c.args.tag (question_view c.args.question.now) in
-    let all : c.loop-number.number ≡ 64 = omega (arith, c.loop-number-test.false, c.loop-number.auto.number-end) in
+    let all : c.loop-number.number ≡ c.end-number-end.result = omega (arith, c.loop-number-test.false, c.loop-number.auto.number-end) in
     c.loop-number.invariant
     ∙ (ap (λ (k : ℕ). map ask (filter (has_member c.args.members.now) (range_with_len 0 k))) all
-    ∙ (ap (map ask) (sym c.count.ensures.set.lists) ∙ all_questioning c.args.age c.args.tag (question_view c.args.question.now) c.args.members.now))
+    ∙ (ap (map ask) (members_before c.args.members.now c.end-number-end.result c.end-number-end.ensures.within c.end-number-end.ensures.behind ∙ sym c.count.ensures.set.lists) ∙ all_questioning c.args.age c.args.tag (question_view c.args.question.now) c.args.members.now))
 
 pub returns-clause-each : goal.returns-clause-each
 returns-clause-each c = all_asked c
