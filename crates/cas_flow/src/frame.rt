@@ -6,6 +6,7 @@ ghost use Rattle.cas_flow.specs.declared.message.Message.TheVariants as message;
 
 use crate::message::{Message, leg_of_phase};
 use cas_ballot::AcceptorId;
+use cas_change::Key;
 use cas_fate::Leg;
 use cas_slot::{Reply, Request};
 use cas_wire::{LONGEST_FRAME, decode_reply, decode_request, encode_reply_into, encode_request};
@@ -101,14 +102,16 @@ impl Frame {
     }
 
     /// The message of a frame that is not blank. It is within its limits, so it may be handed on, and sent again. The frame stays.
-    pub fn read(&self, alloc: Global) -> Result<Message, AllocError>
+    ///
+    /// Where a request names the key `known`, which may be any, it gets a copy of that, which takes no memory of its own.
+    pub fn read(&self, alloc: Global, known: Option<&Key>) -> Result<Message, AllocError>
         requires { IsSome self.now }
         ensures message { IfOk result (λ message. Some message ≡ self.now) }
         ensures fits { IfOk result FitsMessage }
         ensures sent { IfOk result CanBeSent }
     {
         match self.head {
-            Head::Asked { .. } => match decode_request(alloc, &self.bytes)? {
+            Head::Asked { .. } => match decode_request(alloc, &self.bytes, known)? {
                 Some(request) => Ok(Message::Request(request)),
                 None => unreachable!(),
             },

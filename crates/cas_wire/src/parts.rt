@@ -65,7 +65,7 @@ pub fn take_key(alloc: Global, bytes: &[u8]) -> Result<Part<Key>, AllocError>
     ensures place { IfOk result (IsPart (key_at bytes.now) bytes.now) }
     ensures first { IfOk result (StopsAtFirst key_spelling IsKey bytes.now) }
 {
-    match reading::key_at(alloc, bytes) {
+    match reading::key_at(alloc, bytes, None) {
         Ok((value, rest)) => Ok(Part::Read {
             value,
             used: bytes.len() - rest.len(),

@@ -1,6 +1,6 @@
 //! Readers of parts: each gives what it reads from the front, and the bytes behind it.
 
-ghost use Rattle.std.specs.Prelude.{◌≡◌, ◌<◌, ◌≤◌, length, take, IfSome, Err, IsErrOf};
+ghost use Rattle.std.specs.Prelude.{◌≡◌, ◌<◌, ◌≤◌, length, take, IfSome, IfOk, IfErr, Err, IsErrOf};
 ghost use Rattle.std.specs.Int.{w16, w32, w64};
 ghost use Rattle.cas_change.specs.Key.{first_bad_byte, is_key_byte};
 ghost use Rattle.cas_wire.specs.Part.{Gives};
@@ -145,15 +145,24 @@ pub(crate) fn ballot_at(bytes: &[u8]) -> Result<(Ballot, &[u8]), ReadError>
 }
 
 #[tactic(auto, unfolding(crate::specs::Reading::key_at))]
-pub(crate) fn key_at(alloc: Global, bytes: &[u8]) -> Result<(Key, &[u8]), ReadError>
+pub(crate) fn key_at<'a>(
+    alloc: Global,
+    bytes: &'a [u8],
+    known: Option<&Key>,
+) -> Result<(Key, &'a [u8]), ReadError>
     ensures { Gives (λ x. (x.0, x.1.now)) result (key_at bytes.now) }
 {
     let (len, rest) = key_length_at(bytes)?;
-    key_bytes_at(alloc, usize::from(len), rest)
+    key_bytes_at(alloc, usize::from(len), rest, known)
 }
 
 /// The bytes of a key, of which there are so many.
-fn key_bytes_at(alloc: Global, len: usize, bytes: &[u8]) -> Result<(Key, &[u8]), ReadError>
+fn key_bytes_at<'a>(
+    alloc: Global,
+    len: usize,
+    bytes: &'a [u8],
+    known: Option<&Key>,
+) -> Result<(Key, &'a [u8]), ReadError>
     ensures { Gives (λ x. (x.0, x.1.now)) result (key_bytes_at len bytes.now) }
 {
     if let Some(i) = first_bad_byte(front(bytes, len)) {
@@ -163,10 +172,21 @@ fn key_bytes_at(alloc: Global, len: usize, bytes: &[u8]) -> Result<(Key, &[u8]),
         return wrong(0);
     }
     let (key, rest) = bytes.split_at(len);
-    // Nothing but memory can be missing.
-    match Key::read(alloc, key) {
-        Ok(key) => Ok((key, rest)),
-        Err(_) => Err(ReadError::NoMemory),
+    Ok((key_of(alloc, key, known)?, rest))
+}
+
+/// The key of these bytes, of which nothing but memory can be missing. Where the known key is the same, it is a copy of that, which takes
+/// no memory of its own.
+fn key_of(alloc: Global, bytes: &[u8], known: Option<&Key>) -> Result<Key, ReadError>
+    ensures key { IfOk result (λ key. key ≡ bytes.now) }
+    ensures memory { IfErr result (λ error. error ≡ ReadError.NoMemory) }
+{
+    match known {
+        Some(known) if known.bytes() == bytes => Ok(known.copy()?),
+        _ => match Key::read(alloc, bytes) {
+            Ok(key) => Ok(key),
+            Err(_) => Err(ReadError::NoMemory),
+        },
     }
 }
 
@@ -291,7 +311,7 @@ pub(crate) fn key_or_none_at(alloc: Global, bytes: &[u8]) -> Result<(Option<Key>
         [] => wrong(0),
         [0, rest @ ..] => Ok((None, rest)),
         [1, rest @ ..] => {
-            let (key, rest) = key_at(alloc, rest)?;
+            let (key, rest) = key_at(alloc, rest, None)?;
             Ok((Some(key), rest))
         }
         [_, ..] => wrong(bytes.len()),

@@ -101,7 +101,7 @@ fn some_keys_at(alloc: Global, count: u8, bytes: &[u8]) -> Result<(Vec<Key>, &[u
     let mut keys = Vec::new(alloc);
     let mut rest = bytes;
     for _ in 0..count {
-        let (key, after) = reading::key_at(alloc, rest)?;
+        let (key, after) = reading::key_at(alloc, rest, None)?;
         keys.push(key)?;
         rest = after;
     }

@@ -14,6 +14,7 @@ use crate::frame::{FORMAT, LONGEST_FRAME, acceptor_at, format_at, phase_at, whol
 use crate::reading::{self, ReadError};
 use crate::{kinds, writing};
 use cas_ballot::AcceptorId;
+use cas_change::Key;
 use cas_slot::{Ages, Ask, PROPOSERS, Phase, Request};
 use std::alloc::{AllocError, Global};
 
@@ -40,10 +41,14 @@ fn ages_at(bytes: &[u8]) -> Result<(Ages, &[u8]), ReadError>
 }
 
 #[tactic(auto, unfolding(crate::specs::FrameReading::accept_at))]
-fn accept_at(alloc: Global, bytes: &[u8]) -> Result<(Ask, &[u8]), ReadError>
+fn accept_at<'a>(
+    alloc: Global,
+    bytes: &'a [u8],
+    known: Option<&Key>,
+) -> Result<(Ask, &'a [u8]), ReadError>
     ensures { Gives (λ x. (x.0, x.1.now)) result (accept_at bytes.now) }
 {
-    let (key, rest) = reading::key_at(alloc, bytes)?;
+    let (key, rest) = reading::key_at(alloc, bytes, known)?;
     let (ballot, rest) = reading::ballot_at(rest)?;
     let (era, rest) = reading::u32_at(rest)?;
     let (ride, rest) = reading::ballot_or_none_at(rest)?;
@@ -60,23 +65,28 @@ fn accept_at(alloc: Global, bytes: &[u8]) -> Result<(Ask, &[u8]), ReadError>
 
 /// The question of that kind.
 #[tactic(auto, unfolding(crate::specs::FrameReading::ask_at))]
-fn ask_at(alloc: Global, phase: Phase, bytes: &[u8]) -> Result<(Ask, &[u8]), ReadError>
+fn ask_at<'a>(
+    alloc: Global,
+    phase: Phase,
+    bytes: &'a [u8],
+    known: Option<&Key>,
+) -> Result<(Ask, &'a [u8]), ReadError>
     ensures { Gives (λ x. (x.0, x.1.now)) result (ask_at phase bytes.now) }
 {
     match phase {
         Phase::Prepare => {
-            let (key, rest) = reading::key_at(alloc, bytes)?;
+            let (key, rest) = reading::key_at(alloc, bytes, known)?;
             let (ballot, rest) = reading::ballot_at(rest)?;
             Ok((Ask::Prepare { key, ballot }, rest))
         }
-        Phase::Accept => accept_at(alloc, bytes),
+        Phase::Accept => accept_at(alloc, bytes, known),
         Phase::Ages => {
             let (tag, rest) = reading::ballot_at(bytes)?;
             let (least, rest) = ages_at(rest)?;
             Ok((Ask::Ages { tag, least }, rest))
         }
         Phase::Remove => {
-            let (key, rest) = reading::key_at(alloc, bytes)?;
+            let (key, rest) = reading::key_at(alloc, bytes, known)?;
             let (tomb, rest) = reading::ballot_at(rest)?;
             Ok((Ask::Remove { key, tomb }, rest))
         }
@@ -87,7 +97,7 @@ fn ask_at(alloc: Global, phase: Phase, bytes: &[u8]) -> Result<(Ask, &[u8]), Rea
         }
         Phase::Probe => {
             let (tag, rest) = reading::ballot_at(bytes)?;
-            let (key, rest) = reading::key_at(alloc, rest)?;
+            let (key, rest) = reading::key_at(alloc, rest, known)?;
             Ok((Ask::Probe { tag, key }, rest))
         }
     }
@@ -115,14 +125,18 @@ fn request_head_at(bytes: &[u8]) -> Result<(RequestHead, &[u8]), ReadError>
 }
 
 #[tactic(auto, unfolding(crate::specs::FrameReading::request_at))]
-fn request_at(alloc: Global, bytes: &[u8]) -> Result<(Request, &[u8]), ReadError>
+fn request_at<'a>(
+    alloc: Global,
+    bytes: &'a [u8],
+    known: Option<&Key>,
+) -> Result<(Request, &'a [u8]), ReadError>
     ensures { Gives (λ x. (x.0, x.1.now)) result (request_at bytes.now) }
 {
     let (head, rest) = match request_head_at(bytes) {
         Ok(found) => found,
         Err(error) => return Err(error),
     };
-    let (ask, rest) = ask_at(alloc, head.phase, rest)?;
+    let (ask, rest) = ask_at(alloc, head.phase, rest, known)?;
     let request = Request {
         to: head.to,
         from: head.from,
@@ -133,11 +147,17 @@ fn request_at(alloc: Global, bytes: &[u8]) -> Result<(Request, &[u8]), ReadError
 }
 
 /// The request whose frame these bytes are. `None` comes exactly where they are no request's frame.
-pub fn decode_request(alloc: Global, bytes: &[u8]) -> Result<Option<Request>, AllocError>
+///
+/// Where it names the key `known`, which may be any, it gets a copy of that, which takes no memory of its own.
+pub fn decode_request(
+    alloc: Global,
+    bytes: &[u8],
+    known: Option<&Key>,
+) -> Result<Option<Request>, AllocError>
     ensures found { IfOk result (λ found. IfSome found (IsRequest bytes.now)) }
     ensures only { (request : Request) → IsRequest bytes.now request → IfOk result (λ found. found ≡ Some request) }
 {
-    match request_at(alloc, bytes) {
+    match request_at(alloc, bytes, known) {
         Ok((request, rest)) => Ok(whole(request, rest)),
         Err(ReadError::Wrong { .. }) => Ok(None),
         Err(ReadError::NoMemory) => Err(AllocError),

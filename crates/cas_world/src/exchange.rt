@@ -246,7 +246,7 @@ impl<S: Shelf, V: Disk> World<S, V> {
         ensures err { OnErr result (FindsNoRoom (meaning S.contents S.tells S.may_leave S.fault_count V.tells V.may_leave V.fault_count) self.old self.new) }
     {
         let alloc = *self.acceptors.allocator();
-        match first(alloc, &self.flow, EXCHANGE_PLACE)? {
+        match first(alloc, &self.flow, EXCHANGE_PLACE, None)? {
             Message::Request(request) => self.serve_asked(verdict, &request),
             Message::Reply(reply) => {
                 self.flow.take(EXCHANGE_PLACE, verdict);

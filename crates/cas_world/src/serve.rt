@@ -22,12 +22,10 @@ pub(crate) enum Served {
 }
 
 /// Lets the acceptor that is asked answer by this frame. All memory is taken before it handles the request; after an `Err` it keeps what it kept.
-/// The mark of a vote shares the caller's own key, where that is the one that the request names.
 pub(crate) fn serve_by<S: Shelf>(
     acceptors: &mut Vec<Acceptor<S>>,
     request: &Request,
     mut frame: Frame,
-    own: Option<&Key>,
 ) -> Result<Served, AllocError>
     requires numbered { AreNumbered acceptors.old.items (length acceptors.old.items) }
     requires asked { CanBeSent (message.Request request.now) }
@@ -35,7 +33,7 @@ pub(crate) fn serve_by<S: Shelf>(
     ensures ok { IfOk result (λ served. Serves (shelves S.contents S.tells S.may_leave S.fault_count) acceptors.old.items request.now served acceptors.new.items) }
     ensures err { OnErr result (KeepsAll (shelves S.contents S.tells S.may_leave S.fault_count) acceptors.old.items acceptors.new.items) }
 {
-    let key = key_to_vote(&request.ask, own)?;
+    let key = key_to_vote(&request.ask)?;
     match acceptors[usize::from(request.to.number())].handle(request) {
         Ok(reply) => {
             frame.fill(&reply);
@@ -59,26 +57,16 @@ pub(crate) fn serve<S: Shelf>(
     ensures err { OnErr result (KeepsAll (shelves S.contents S.tells S.may_leave S.fault_count) acceptors.old.items acceptors.new.items) }
 {
     let frame = Frame::blank(alloc)?;
-    serve_by(acceptors, request, frame, None)
+    serve_by(acceptors, request, frame)
 }
 
 /// A copy of the key for the mark of a vote, where one may be given.
-fn key_to_vote(ask: &Ask, own: Option<&Key>) -> Result<Option<Key>, AllocError>
+fn key_to_vote(ask: &Ask) -> Result<Option<Key>, AllocError>
     ensures { IfOk result (λ key. key ≡ voted_key ask.now) }
 {
     match ask {
-        Ask::Accept { key, .. } => Ok(Some(copy_of(key, own)?)),
+        Ask::Accept { key, .. } => Ok(Some(key.copy()?)),
         _ => Ok(None),
-    }
-}
-
-/// A copy of the key, which shares the own one, where that is equal.
-fn copy_of(key: &Key, own: Option<&Key>) -> Result<Key, AllocError>
-    ensures { IfOk result (λ copy. copy ≡ key.now) }
-{
-    match own {
-        Some(own) if own == key => own.copy(),
-        _ => key.copy(),
     }
 }
 

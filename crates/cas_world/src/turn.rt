@@ -145,7 +145,7 @@ fn handle<S: Shelf, V: Disk>(
     ensures err { OnErr result (KeepsAll (shelves S.contents S.tells S.may_leave S.fault_count) acceptors.old.items acceptors.new.items) }
     ensures same { OnErr result ((desk.new ≡ desk.old) × (caller.new ≡ caller.old) × (flow.new ≡ flow.old) × («record».new ≡ «record».old)) }
 {
-    match first(alloc, flow, proposer)? {
+    match first(alloc, flow, proposer, own_key(caller))? {
         Message::Request(request) => ask(
             alloc, acceptors, caller, flow, record, proposer, verdict, &request,
         ),
@@ -156,8 +156,13 @@ fn handle<S: Shelf, V: Disk>(
     }
 }
 
-/// What the first frame of the queue bears.
-pub(crate) fn first(alloc: Global, flow: &Flow, queue: u8) -> Result<Message, AllocError>
+/// What the first frame of the queue bears. Where a request names the key `known`, which may be any, it gets a copy of that.
+pub(crate) fn first(
+    alloc: Global,
+    flow: &Flow,
+    queue: u8,
+    known: Option<&Key>,
+) -> Result<Message, AllocError>
     requires place { queue ≤ 17 }
     requires waits { (queue_at flow.now queue).messages ≢ [] }
     ensures message { IfOk result (λ message. slice_get (queue_at flow.now queue).messages 0 ≡ Some message) }
@@ -165,7 +170,7 @@ pub(crate) fn first(alloc: Global, flow: &Flow, queue: u8) -> Result<Message, Al
     ensures sent { IfOk result CanBeSent }
 {
     match flow.look(queue) {
-        Some(frame) => frame.read(alloc),
+        Some(frame) => frame.read(alloc, known),
         None => unreachable!(),
     }
 }
@@ -200,7 +205,7 @@ fn ask<S: Shelf>(
     ensures same { OnErr result ((caller.new ≡ caller.old) × (flow.new ≡ flow.old) × («record».new ≡ «record».old)) }
 {
     let frame = flow.blank(alloc)?;
-    let served = serve_by(acceptors, request, frame, own_key(caller))?;
+    let served = serve_by(acceptors, request, frame)?;
     flow.take(proposer, verdict);
     match served {
         Served::Replied { frame, vote } => {
