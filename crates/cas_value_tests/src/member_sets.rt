@@ -28,3 +28,15 @@ fn have_what_was_put_in(rt: HostRuntime) {
     }
     assert!(rt; members == set_of(&[0, 63]));
 }
+
+#[test]
+fn end_behind_their_greatest(rt: HostRuntime) {
+    for (numbers, end) in [
+        (&[][..], 0),
+        (&[0][..], 1),
+        (&[4, 2][..], 5),
+        (&[63, 0][..], 64),
+    ] {
+        assert_eq!(rt; set_of(numbers).end(), end);
+    }
+}
