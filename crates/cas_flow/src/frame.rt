@@ -9,7 +9,9 @@ use cas_ballot::AcceptorId;
 use cas_change::Key;
 use cas_fate::Leg;
 use cas_slot::{Reply, Request};
-use cas_wire::{LONGEST_FRAME, decode_reply, decode_request, encode_reply_into, encode_request};
+use cas_wire::{
+    LONGEST_FRAME, decode_reply, decode_request_knowing, encode_reply_into, encode_request,
+};
 use std::alloc::{AllocError, Global};
 use std::marker::Model;
 
@@ -102,16 +104,24 @@ impl Frame {
     }
 
     /// The message of a frame that is not blank. It is within its limits, so it may be handed on, and sent again. The frame stays.
-    ///
-    /// Where a request names the key `known`, which may be any, it gets a copy of that, which takes no memory of its own.
-    pub fn read(&self, alloc: Global, known: Option<&Key>) -> Result<Message, AllocError>
+    pub fn read(&self, alloc: Global) -> Result<Message, AllocError>
+        requires { IsSome self.now }
+        ensures message { IfOk result (λ message. Some message ≡ self.now) }
+        ensures fits { IfOk result FitsMessage }
+        ensures sent { IfOk result CanBeSent }
+    {
+        self.read_knowing(alloc, None)
+    }
+
+    /// The same as `read`. Where a request names the key `known`, which may be any, it gets a copy of that, which takes no memory of its own.
+    pub fn read_knowing(&self, alloc: Global, known: Option<&Key>) -> Result<Message, AllocError>
         requires { IsSome self.now }
         ensures message { IfOk result (λ message. Some message ≡ self.now) }
         ensures fits { IfOk result FitsMessage }
         ensures sent { IfOk result CanBeSent }
     {
         match self.head {
-            Head::Asked { .. } => match decode_request(alloc, &self.bytes, known)? {
+            Head::Asked { .. } => match decode_request_knowing(alloc, &self.bytes, known)? {
                 Some(request) => Ok(Message::Request(request)),
                 None => unreachable!(),
             },

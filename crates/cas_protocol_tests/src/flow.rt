@@ -72,7 +72,7 @@ fn peer_of(alloc: Global, frame: &Frame) -> Result<u8, AllocError> {
     if frame.is_blank() {
         return Ok(0);
     }
-    let peer = match frame.read(alloc, None)? {
+    let peer = match frame.read(alloc)? {
         Message::Request(request) => request.to,
         Message::Reply(reply) => reply.from,
     };
@@ -94,7 +94,7 @@ fn bears(alloc: Global, frame: &Frame, want: &Message) -> Result<bool, AllocErro
     if frame.is_blank() {
         return Ok(false);
     }
-    let found = frame.read(alloc, None)?;
+    let found = frame.read(alloc)?;
     Ok(found == *want)
 }
 

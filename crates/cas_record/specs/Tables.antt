@@ -1,5 +1,5 @@
 -- What the tables of a record are to its marks. The marks are read in the order in which they were made.
-use Rattle.std.specs.Prelude.{◌≡◌, ℕ, ◌+◌, ◌<◌, ◌≤◌, Bool, ◌&&◌, ◌==◌, List, [], length, reverse, Option, Some, None, Result, Ok, Err, vec_len, vec_capacity, slice_get, slice_index_or}
+use Rattle.std.specs.Prelude.{◌≡◌, ℕ, ◌+◌, ◌*◌, ◌<◌, ◌≤◌, Bool, ◌&&◌, ◌==◌, List, [], length, reverse, Option, Some, None, Result, Ok, Err, vec_len, vec_capacity, slice_get, slice_index_or}
 use Rattle.std.specs.Ordering.{nat_cmp}
 use Rattle.std.specs.declared.cmp.Ordering.{Ordering}
 use Rattle.std.specs.declared.cmp.Ordering.TheVariants.{Less}
@@ -67,9 +67,9 @@ pub record IsTablesOf (tables : Tables) (marks : List Mark) : Type 0 where
 -- so many further marks find room in each table
 pub record HasRoomFor (marks : ℕ) (tables : Tables) : Type 0 where
   pub rows : vec_len tables.rows + marks ≤ vec_capacity tables.rows
-  pub links : marks ≤ spare tables.links
-  pub openings : marks ≤ spare tables.openings
-  pub calls : marks ≤ spare tables.calls
+  pub links : 2 * marks ≤ spare tables.links
+  pub openings : 2 * marks ≤ spare tables.openings
+  pub calls : 2 * marks ≤ spare tables.calls
 
 -- how the key of a row compares with another
 abbrev pub row_cmp : List Mark → List ℕ → Row → Ordering

@@ -17,6 +17,9 @@ use cas_change::{Key, State};
 use std::alloc::{AllocError, Global};
 use std::marker::Model;
 
+/// For how many more marks room is made than was asked for.
+const AHEAD: usize = 256;
+
 /// How many marks a record holds at most.
 pub const MOST_MARKS: usize = 1_000_000;
 
@@ -54,7 +57,8 @@ impl Record {
         }
     }
 
-    /// Makes room for so many further marks in all, and for what is kept beside them: room that was there counts.
+    /// Makes room for so many further marks in all, and for what is kept beside them: room that was there counts. Where that is too little,
+    /// it makes room for 256 more, so that few calls make any.
     ///
     /// `_key` is the key of the marks that the room is for. After an `Err` all is as before.
     pub fn reserve(&mut self, _key: Option<&Key>, marks: usize) -> Result<(), AllocError>
@@ -66,9 +70,10 @@ impl Record {
         if marks <= self.room {
             return Ok(());
         }
-        self.tables.reserve(marks)?;
-        self.marks.reserve(marks)?;
-        self.room = marks;
+        let ample = marks.saturating_add(AHEAD);
+        self.tables.reserve(ample)?;
+        self.marks.reserve(ample)?;
+        self.room = ample;
         Ok(())
     }
 

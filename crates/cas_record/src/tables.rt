@@ -91,9 +91,10 @@ impl Tables {
             self.hints.resize(slots.saturating_mul(2), 0)?;
         }
         self.rows.reserve(marks)?;
-        self.links.reserve(marks)?;
-        self.openings.reserve(marks)?;
-        self.calls.reserve(marks)
+        let places = marks.saturating_mul(2);
+        self.links.reserve(places)?;
+        self.openings.reserve(places)?;
+        self.calls.reserve(places)
     }
 
     /// The row of the key, if a mark names it.

@@ -140,10 +140,7 @@ fn is_full_for(slots: &BTreeMap<Key, Slot>, key: &Key) -> bool
     ensures full { IsTrue result → IsFullFor (map.from_entries slots.now.entries) key.now }
     ensures room { IsFullFor (map.from_entries slots.now.entries) key.now → IsTrue result }
 {
-    match slots.get(key) {
-        Some(_) => false,
-        None => slots.len() >= MOST_SLOTS,
-    }
+    slots.len() >= MOST_SLOTS && !slots.contains_key(key)
 }
 
 /// The first `most` keys above this one, or the first `most` of all, in the order of their bytes.

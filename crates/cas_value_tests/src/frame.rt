@@ -113,7 +113,7 @@ fn is_asked(alloc: Global, request: &Request, want: &[u8]) -> Result<bool, Alloc
     requires { CanBeAsked request.now }
 {
     let frame = encode_request(alloc, request)?;
-    let found = decode_request(alloc, &frame, None)?;
+    let found = decode_request(alloc, &frame)?;
     Ok(frame.as_slice() == want && found.as_ref() == Some(request))
 }
 
@@ -153,7 +153,7 @@ enum Sort {
 
 fn is_frame(alloc: Global, sort: Sort, bytes: &[u8]) -> Result<bool, AllocError> {
     Ok(match sort {
-        Sort::Request => decode_request(alloc, bytes, None)?.is_some(),
+        Sort::Request => decode_request(alloc, bytes)?.is_some(),
         Sort::Reply => decode_reply(alloc, bytes)?.is_some(),
     })
 }

@@ -147,9 +147,15 @@ fn request_at<'a>(
 }
 
 /// The request whose frame these bytes are. `None` comes exactly where they are no request's frame.
-///
-/// Where it names the key `known`, which may be any, it gets a copy of that, which takes no memory of its own.
-pub fn decode_request(
+pub fn decode_request(alloc: Global, bytes: &[u8]) -> Result<Option<Request>, AllocError>
+    ensures found { IfOk result (λ found. IfSome found (IsRequest bytes.now)) }
+    ensures only { (request : Request) → IsRequest bytes.now request → IfOk result (λ found. found ≡ Some request) }
+{
+    decode_request_knowing(alloc, bytes, None)
+}
+
+/// The same as `decode_request`. Where the request names the key `known`, which may be any, it gets a copy of that, which takes no memory of its own.
+pub fn decode_request_knowing(
     alloc: Global,
     bytes: &[u8],
     known: Option<&Key>,

@@ -86,7 +86,7 @@ fn let_in<S: Shelf, V: Disk>(
     ensures same { OnErr result ((desks.new.items ≡ desks.old.items) × (flow.new ≡ flow.old) × («record».new.marks ≡ «record».old.marks) × («record».old.room ≤ «record».new.room)) }
 {
     record.reserve(None, marks)?;
-    match flow.look_late(index).read(alloc, None)? {
+    match flow.look_late(index).read(alloc)? {
         Message::Request(request) => {
             ask(alloc, acceptors, flow, record, index, &request)?;
             Ok(request.to)

@@ -170,7 +170,7 @@ pub(crate) fn first(
     ensures sent { IfOk result CanBeSent }
 {
     match flow.look(queue) {
-        Some(frame) => frame.read(alloc, known),
+        Some(frame) => frame.read_knowing(alloc, known),
         None => unreachable!(),
     }
 }

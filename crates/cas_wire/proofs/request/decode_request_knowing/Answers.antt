@@ -1,6 +1,6 @@
 use Rattle.std.proofs.Common.{arith, ◌∙◌}
 use Rattle.cas_wire.proofs.Frames.{request_found, request_only, request_wrong}
-use Rattle.cas_wire.proofs.request.decode_request.Goals as goal
+use Rattle.cas_wire.proofs.request.decode_request_knowing.Goals as goal
 
 pub returns-in-Ok-clause-found : goal.returns-in-Ok-clause-found
 returns-in-Ok-clause-found c = rw c.whole.ensures (request_found c.args.bytes.now c.in-Ok.request c.in-Ok.rest.now (λ i. omega (arith, c.type_inv.bytes i)) c.in-Ok.ensures)
