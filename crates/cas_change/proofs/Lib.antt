@@ -1,3 +1,4 @@
 pub mod Positions
 pub mod Keys
+pub mod Prefixes
 pub mod Outcomes

@@ -7,7 +7,7 @@ ghost use Rattle.std.specs.Cmp.Lexicographic.{nat_list_cmp_total, nat_list_eq_eq
 ghost use Rattle.std.specs.Hash as fed;
 ghost use Rattle.std.specs.Ordering.{nat_cmp};
 ghost use Rattle.std.proofs.Common.{rules};
-ghost use Rattle.cas_change.specs.Key.{first_bad_byte, is_key_byte, IsKey};
+ghost use Rattle.cas_change.specs.Key.{first_bad_byte, is_key_byte, IsKey, prefix_number};
 
 use std::alloc::{AllocError, Global};
 use std::cmp::Ordering;
@@ -17,6 +17,9 @@ use std::sync::ArcSlice;
 
 /// How many bytes a key has at most.
 pub const LONGEST_KEY: usize = 64;
+
+/// What the first byte of a key counts in its prefix number, so that eight bytes of it count.
+const FIRST_WEIGHT: u64 = 1 << 56;
 
 /// Why bytes are no key, or became none.
 #[derive(Clone, Copy, Debug, PartialEq, Eq)]
@@ -48,24 +51,39 @@ impl From<AllocError> for KeyFault {
 #[derive(Debug, Drop)]
 pub struct Key {
     bytes: ArcSlice<u8>,
+    /// The first eight bytes as a number. Most comparisons of two keys look at it alone, and at no memory but the keys' own.
+    prefix: u64,
 }
 
 impl Model for Key {
     ghost use Rattle.std.specs.Prelude.{ℕ, List};
     ghost use Rattle.std.specs.Arc.{arc_slice_items};
-    ghost use Rattle.cas_change.specs.Key.{IsKey};
+    ghost use Rattle.cas_change.specs.Key.{IsKeyWith};
 
     ghost Value = { List ℕ };
 
     ghost view = { λ key. arc_slice_items key.bytes };
 
-    ghost invariant = { λ key. IsKey (arc_slice_items key.bytes) };
+    ghost invariant = { λ key. IsKeyWith (arc_slice_items key.bytes) key.prefix };
 }
 
 fn is_key_byte(byte: u8) -> bool
     ensures { result ≡ is_key_byte byte }
 {
     (0x21..=0x7E).contains(&byte)
+}
+
+/// The bytes as a number: the first counts `weight`, and each a 256th of the one before it, until that is nothing.
+fn prefix_number(bytes: &[u8], weight: u64) -> u64
+    requires { weight ≤ FIRST_WEIGHT }
+    ensures { result ≡ prefix_number bytes.now weight }
+{
+    match bytes {
+        [first, rest @ ..] if weight > 0 => {
+            u64::from(*first) * weight + prefix_number(rest, weight / 256)
+        }
+        _ => 0,
+    }
 }
 
 fn first_bad_byte(bytes: &[u8]) -> Option<usize>
@@ -98,6 +116,7 @@ impl Key {
         }
         Ok(Key {
             bytes: ArcSlice::from_slice(alloc, bytes)?,
+            prefix: prefix_number(bytes, FIRST_WEIGHT),
         })
     }
 
@@ -115,6 +134,7 @@ impl Key {
     {
         Ok(Key {
             bytes: self.bytes.clone()?,
+            prefix: self.prefix,
         })
     }
 }
@@ -156,7 +176,10 @@ impl Ord for Key {
     ghost matches_eq = { texts_ties };
 
     fn cmp(&self, other: &Key) -> Ordering {
-        self.bytes().cmp(other.bytes())
+        match self.prefix.cmp(&other.prefix) {
+            Ordering::Equal => self.bytes().cmp(other.bytes()),
+            unequal => unequal,
+        }
     }
 }
 

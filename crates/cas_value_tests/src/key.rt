@@ -36,16 +36,30 @@ fn reads_keys(rt: HostRuntime) {
     }
 }
 
+/// Keys in the order of their bytes. Some have their first eight bytes in common, and some begin another.
+const IN_ORDER: [&[u8]; 8] = [
+    b"B",
+    b"a",
+    b"ab",
+    b"abcdefgh",
+    b"abcdefgh!",
+    b"abcdefgha",
+    b"abcdefghb",
+    b"b",
+];
+
 #[test]
 fn orders_by_bytes(rt: HostRuntime) -> Result<(), Fail> {
     let mut places = BTreeMap::new(rt.alloc());
-    for (place, bytes) in [b"b".as_slice(), b"ab", b"a", b"B"].iter().enumerate() {
+    for (place, bytes) in IN_ORDER.iter().enumerate().rev() {
         let key = Key::read(rt.alloc(), bytes)?;
         let copy = key.copy()?;
         assert!(rt; copy == key);
         places.insert(copy, place)?;
     }
-    assert!(rt; places.values().copied().eq([3, 2, 1, 0]));
-    assert_eq!(rt; places.get(&Key::read(rt.alloc(), b"ab")?), Some(&1));
+    assert!(rt; places.values().copied().eq(0..IN_ORDER.len()));
+    for (place, bytes) in IN_ORDER.iter().enumerate() {
+        assert_eq!(rt; places.get(&Key::read(rt.alloc(), bytes)?), Some(&place));
+    }
     Ok(())
 }

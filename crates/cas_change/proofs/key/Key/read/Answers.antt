@@ -14,7 +14,7 @@ returns-in_err-from_slice-clause-no_memory c =
     (λ e. key_bytes _ (grind arith) (omega arith) (sym c.first_bad_byte.ensures ∙ c.in_default.is), λ key. refl)
 
 pub invariant_of-result : goal.invariant_of-result
-invariant_of-result c = rw c.in_ok-from_slice.ensures.ok (key_bytes _ (grind arith) (omega arith) (sym c.first_bad_byte.ensures ∙ c.in_default.is))
+invariant_of-result c = rw c.in_ok-from_slice.ensures.ok (record { key = key_bytes _ (grind arith) (omega arith) (sym c.first_bad_byte.ensures ∙ c.in_default.is); number = c.prefix_number.ensures })
 
 pub returns-clause-key : goal.returns-clause-key
 returns-clause-key c = (c.in_ok-from_slice.ensures.ok, key_bytes _ (grind arith) (omega arith) (sym c.first_bad_byte.ensures ∙ c.in_default.is))
