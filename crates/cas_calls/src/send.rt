@@ -36,15 +36,16 @@ pub fn send_to(
     ensures sent { OnOk result (Sends flow.old queue (requests_to proposer age ask members.now) flow.new) }
     ensures not_sent { OnErr result (flow.new ≡ flow.old) }
 {
-    let frames = frames_to(alloc, members, proposer, age, ask)?;
+    let frames = frames_to(alloc, flow, members, proposer, age, ask)?;
     flow.reserve_own(queue, 2 * frames.len())?;
     push_all(flow, queue, frames);
     Ok(())
 }
 
-/// The frames that ask each of these members, in rising number.
+/// The frames that ask each of these members, in rising number. They are blank frames of the flow, in which nothing else changes.
 fn frames_to(
     alloc: Global,
+    flow: &mut Flow,
     members: &Members,
     proposer: u8,
     age: u64,
@@ -52,6 +53,7 @@ fn frames_to(
 ) -> Result<Vec<Frame>, AllocError>
     requires proposer { proposer ≤ 16 }
     requires ballots { AskBallotsFit ask }
+    ensures same { flow.new ≡ flow.old }
     ensures each { IfOk result (λ frames. frames.items ≡ map Some (requests_to proposer age ask members.now)) }
     ensures few { IfOk result (λ frames. length frames.items ≤ 64) }
 {
@@ -66,7 +68,9 @@ fn frames_to(
         let id = AcceptorId::new(number).unwrap();
         if members.has(id) {
             request.to = id;
-            frames.push(Frame::request(alloc, &request)?)?;
+            let mut frame = flow.blank(alloc)?;
+            frame.ask(&request);
+            frames.push(frame)?;
         }
     }
     Ok(frames)

@@ -93,6 +93,19 @@ impl Frame {
         matches!(self.head, Head::Blank)
     }
 
+    /// Fills a blank frame with a request. It takes no memory.
+    pub fn ask(&mut self, request: &Request)
+        requires blank { self.old ≡ None }
+        requires asked { CanBeAsked request.now }
+        ensures { self.new ≡ Some (message.Request request.now) }
+    {
+        encode_request_into(request, &mut self.bytes);
+        self.head = Head::Asked {
+            leg: leg_of_phase(request.ask.phase()),
+            to: request.to,
+        };
+    }
+
     /// Fills a blank frame with a reply. It takes no memory.
     pub fn fill(&mut self, reply: &Reply)
         requires blank { self.old ≡ None }

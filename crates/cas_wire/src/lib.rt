@@ -13,4 +13,4 @@ mod writing;
 
 pub use frame::LONGEST_FRAME;
 pub use reply::{decode_reply, encode_reply, encode_reply_into};
-pub use request::{decode_request, decode_request_knowing, encode_request};
+pub use request::{decode_request, decode_request_knowing, encode_request, encode_request_into};

@@ -255,3 +255,16 @@ pub fn encode_request(alloc: Global, request: &Request) -> Result<Vec<u8>, Alloc
     put_request(&mut frame, request);
     Ok(frame)
 }
+
+/// Puts the frame of a request into an empty buffer with room for every frame. It takes no memory.
+pub fn encode_request_into(request: &Request, out: &mut Vec<u8>)
+    requires asked { CanBeAsked request.now }
+    requires empty { out.old.items ≡ [] }
+    requires room { LONGEST_FRAME ≤ vec_capacity out.old }
+    ensures frame { IsRequest out.new.items request.now }
+    ensures short { length out.new.items ≤ LONGEST_FRAME }
+    ensures alone { (more : List ℕ) (other : Request) → IsRequest (out.new.items ++ more) other → (more ≡ []) × (other ≡ request.now) }
+    ensures room_stays { vec_capacity out.old ≤ vec_capacity out.new }
+{
+    put_request(out, request);
+}
