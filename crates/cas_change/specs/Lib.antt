@@ -2,5 +2,6 @@ pub mod Key
 pub mod Text
 pub mod State
 pub mod Program
+pub mod ProgramCode
 pub mod Outcome
 pub mod Same

@@ -5,6 +5,7 @@ ghost use Rattle.std.specs.Cmp.{partial_equiv_from_equiv};
 ghost use Rattle.std.specs.Cmp.Lexicographic.{pointwise};
 ghost use Rattle.cas_change.specs.Outcome.{holds, acted};
 ghost use Rattle.cas_change.specs.Program.{IsProgramLength};
+ghost use Rattle.cas_change.specs.ProgramCode.{clauses_in};
 
 use crate::state::{Body, State};
 use crate::text::Text;
@@ -145,12 +146,28 @@ fn copy_clauses(alloc: Global, clauses: &[Clause]) -> Result<Vec<Clause>, AllocE
     Ok(copies)
 }
 
+/// The clauses of a program. A copy of one that stands alone takes no memory, since most programs have one.
+#[derive(Debug, Drop)]
+enum Clauses {
+    One([Clause; 1]),
+    Listed(Vec<Clause>),
+}
+
+fn copy_listed(clauses: &Vec<Clause>) -> Result<Clauses, AllocError>
+    ensures { IfOk result (λ copy. clauses_in copy ≡ clauses.now.items) }
+{
+    Ok(match clauses.as_slice() {
+        [clause] => Clauses::One([clause.copy()?]),
+        all => Clauses::Listed(copy_clauses(*clauses.allocator(), all)?),
+    })
+}
+
 /// A program of change: 1 to 8 clauses, of which the first whose guard holds acts.
 ///
 /// Contracts see a program as the list of its clauses.
 #[derive(Debug, Drop)]
 pub struct Program {
-    clauses: Vec<Clause>,
+    clauses: Clauses,
 }
 
 impl Model for Program {
@@ -160,10 +177,11 @@ impl Model for Program {
     ghost Value = { List Clause };
 
     ghost use Rattle.cas_change.specs.Program.{IsProgramLength};
+    ghost use Rattle.cas_change.specs.ProgramCode.{clauses_in};
 
-    ghost view = { λ program. program.clauses.items };
+    ghost view = { λ program. clauses_in program.clauses };
 
-    ghost invariant = { λ program. IsProgramLength (length program.clauses.items) };
+    ghost invariant = { λ program. IsProgramLength (length (clauses_in program.clauses)) };
 }
 
 impl Program {
@@ -176,7 +194,9 @@ impl Program {
         if clauses.is_empty() || clauses.len() > MOST_CLAUSES {
             Err(clauses)
         } else {
-            Ok(Program { clauses })
+            Ok(Program {
+                clauses: Clauses::Listed(clauses),
+            })
         }
     }
 
@@ -185,16 +205,21 @@ impl Program {
         ensures clauses { result.now ≡ self.now }
         ensures fits { IsProgramLength (length self.now) }
     {
-        &self.clauses
+        match &self.clauses {
+            Clauses::One(one) => one,
+            Clauses::Listed(clauses) => clauses,
+        }
     }
 
-    /// An equal program, in memory from the same allocator.
+    /// An equal program, in memory from the same allocator. Where it has one clause, that takes none of its own.
     pub fn copy(&self) -> Result<Program, AllocError>
         ensures { IfOk result (λ copy. copy ≡ self.now) }
     {
-        Ok(Program {
-            clauses: copy_clauses(*self.clauses.allocator(), &self.clauses)?,
-        })
+        let clauses = match &self.clauses {
+            Clauses::One([clause]) => Clauses::One([clause.copy()?]),
+            Clauses::Listed(clauses) => copy_listed(clauses)?,
+        };
+        Ok(Program { clauses })
     }
 }
 

@@ -8,15 +8,15 @@ use Rattle.cas_slot.specs.Limits.{AskBallotsFit}
 use Rattle.cas_calls.specs.Sending.{requests_to}
 use Rattle.cas_calls.proofs.Sending.{asking, is_asking, asked_count, with_one, without_one, all_asking}
 use Rattle.cas_calls.proofs.send.frames_to.Goals as goal
-use Rattle.cas_calls.proofs.send.frames_to.Goals.{then-has+in_ok-request+in_ok-push, else-has}
+use Rattle.cas_calls.proofs.send.frames_to.Goals.{then-has+in_ok-frame+in_ok-push, else-has}
 
 -- src/send.rt:42:5
 pub loop-number-init : goal.loop-number-init
-loop-number-init c = (c.in_ok-frames.ensures.items, refl, refl, refl)
+loop-number-init c = (c.in_ok-frames.ensures.items, refl, refl, refl, refl)
 
 -- src/send.rt:46:25
-pub request-requires : goal.request-requires
-request-requires c = record {
+pub ask-requires-clause-asked : goal.ask-requires-clause-asked
+ask-requires-clause-asked c = record {
   from = omega (arith, c.loop-number.invariant.1, c.requires.proposer);
   ballots = subst AskBallotsFit (sym c.loop-number.invariant.3) c.requires.ballots;
 }
@@ -28,18 +28,20 @@ loop-number-preserved c =
     let id : c.unwrap-id.result ≡ c.loop-number.number = subst (λ (r : Option ℕ). IfSome r (λ (id : ℕ). id ≡ c.loop-number.number)) c.unwrap-id.ensures c.new-in-loop-number.ensures.value in
     let has : c.has.result ≡ has_member c.args.members.now c.loop-number.number = c.has.ensures ∙ ap (has_member c.args.members.now) id in
     elim c.if-has.branch [
-      | then-has+in_ok-request+in_ok-push w ↦ rw w.frames-is (rw w.request-is (
+      | then-has+in_ok-frame+in_ok-push w ↦ rw w.frames-is (rw w.request-is (
         with_one (asking c.args.proposer c.args.age c.args.ask) (has_member c.args.members.now) c.loop-number.number c.loop-number.frames.items w.push.new.self.items (sym has ∙ w.if-has.true) inv.0
-            (w.in_ok-push.ensures.items ∙ ap (λ (x : Option Message). c.loop-number.frames.items ++ x ∷ []) (w.in_ok-request.ensures ∙ is_asking id inv.1 inv.2 inv.3)),
+            (w.in_ok-push.ensures.items ∙ ap (λ (x : Option Message). c.loop-number.frames.items ++ x ∷ []) (w.ask.ensures ∙ is_asking id inv.1 inv.2 inv.3)),
         inv.1,
         inv.2,
         inv.3,
+        w.in_ok-frame.ensures.same ∙ inv.4,
       ))
       | else-has w ↦ rw w.frames-is (rw w.request-is (
         without_one (asking c.args.proposer c.args.age c.args.ask) (has_member c.args.members.now) c.loop-number.number c.loop-number.frames.items c.loop-number.frames.items (sym has ∙ w.if-has.false) inv.0 refl,
         inv.1,
         inv.2,
         inv.3,
+        inv.4,
       ))
     ]
 
@@ -53,6 +55,7 @@ all_asked c =
 
 pub returns : goal.returns
 returns c = record {
+  same = c.loop-number.invariant.4;
   each = all_asked c;
   few = subst (λ (n : ℕ). n ≤ 64) (sym (ap (λ (l : List (Option Message)). length l) (all_asked c) ∙ asked_count c.args.proposer c.args.age c.args.ask c.args.members.now)) (omega (arith, c.count.ensures.value, c.count.ensures.within));
 }

@@ -9,3 +9,4 @@ abbrev pub invariant-loop-number : goal.invariant-loop-number
 invariant-loop-number l =
     (l.frames.items ≡ map (asking l.fn.proposer l.fn.age l.fn.ask) (filter (has_member l.members) (range_with_len 0 l.number)))
     × (l.request.from ≡ l.fn.proposer) × (l.request.age ≡ l.fn.age) × (l.request.ask ≡ l.fn.ask)
+    × (l.flow ≡ l.initial.flow)
