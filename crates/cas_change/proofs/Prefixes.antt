@@ -9,7 +9,8 @@ use Rattle.std.proofs.lemmas.Nat.{mul-le}
 use Rattle.std.proofs.lemmas.Bool.Decides.{nat_tests}
 use Rattle.std.proofs.lemmas.List.{get_or_past}
 use Rattle.std.proofs.Math.Seq.{take-length}
-use Rattle.cas_change.specs.Key.{IsKey, prefix_number}
+use Rattle.cas_change.specs.Key.{IsKey}
+use Rattle.cas_change.specs.KeyPrefix.{prefix_number}
 
 -- each of them is a byte
 abbrev pub AreBytes : List ℕ → Type 0

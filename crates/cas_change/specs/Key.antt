@@ -1,6 +1,6 @@
 -- Keys: the names of registers.
-use Rattle.std.specs.Prelude.{◌≡◌, ℕ, ◌+◌, ◌*◌, ◌/◌, ◌<◌, ◌≤◌, Bool, not, ◌&&◌, nat_le, List, [], ◌∷◌, length, All, Option, position}
-use Rattle.cas_change.specs.declared.key.TheConstants.{LONGEST_KEY, FIRST_WEIGHT}
+use Rattle.std.specs.Prelude.{ℕ, ◌<◌, ◌≤◌, Bool, not, ◌&&◌, nat_le, List, length, All, Option, position}
+use Rattle.cas_change.specs.declared.key.TheConstants.{LONGEST_KEY}
 
 -- a byte that may stand in a key: a printable ASCII character other than the space
 abbrev pub IsKeyByte : ℕ → Type 0
@@ -19,13 +19,3 @@ pub record IsKey (bytes : List ℕ) : Type 0 where
   pub not_empty : 0 < length bytes
   pub fits : length bytes ≤ LONGEST_KEY
   pub each : All IsKeyByte bytes
-
--- bytes as a number: the first counts this weight, and each further one a 256th of that of the one before it, rounded down
-abbrev pub prefix_number : List ℕ → ℕ → ℕ
-prefix_number [] weight = 0
-prefix_number (byte ∷ bytes) weight = byte * weight + prefix_number bytes (weight / 256)
-
--- the bytes of a key with the number that is kept beside them
-pub record IsKeyWith (bytes : List ℕ) (prefix : ℕ) : Type 0 where
-  pub key : IsKey bytes
-  pub number : prefix ≡ prefix_number bytes FIRST_WEIGHT

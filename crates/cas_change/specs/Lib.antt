@@ -1,4 +1,5 @@
 pub mod Key
+pub mod KeyPrefix
 pub mod Text
 pub mod State
 pub mod Program

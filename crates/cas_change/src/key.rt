@@ -7,7 +7,8 @@ ghost use Rattle.std.specs.Cmp.Lexicographic.{nat_list_cmp_total, nat_list_eq_eq
 ghost use Rattle.std.specs.Hash as fed;
 ghost use Rattle.std.specs.Ordering.{nat_cmp};
 ghost use Rattle.std.proofs.Common.{rules};
-ghost use Rattle.cas_change.specs.Key.{first_bad_byte, is_key_byte, IsKey, prefix_number};
+ghost use Rattle.cas_change.specs.Key.{first_bad_byte, is_key_byte, IsKey};
+ghost use Rattle.cas_change.specs.KeyPrefix.{prefix_number};
 
 use std::alloc::{AllocError, Global};
 use std::cmp::Ordering;
@@ -58,7 +59,7 @@ pub struct Key {
 impl Model for Key {
     ghost use Rattle.std.specs.Prelude.{ℕ, List};
     ghost use Rattle.std.specs.Arc.{arc_slice_items};
-    ghost use Rattle.cas_change.specs.Key.{IsKeyWith};
+    ghost use Rattle.cas_change.specs.KeyPrefix.{IsKeyWith};
 
     ghost Value = { List ℕ };
 

@@ -1,5 +1,5 @@
 use Rattle.std.proofs.Common.{◌≡◌, ◌∙◌, sym, ap, arith}
-use Rattle.cas_change.specs.Key.{prefix_number}
+use Rattle.cas_change.specs.KeyPrefix.{prefix_number}
 use Rattle.cas_change.proofs.Prefixes.{weightless, prefix_below, sum_of}
 use Rattle.cas_change.proofs.key.+prefix_number.Goals as goal
 
