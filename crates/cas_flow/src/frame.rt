@@ -11,6 +11,7 @@ use cas_fate::Leg;
 use cas_slot::{Reply, Request};
 use cas_wire::{
     LONGEST_FRAME, decode_reply, decode_request_knowing, encode_reply_into, encode_request,
+    encode_request_into,
 };
 use std::alloc::{AllocError, Global};
 use std::marker::Model;
