@@ -34,14 +34,14 @@ loop-number-preserved c =
         inv.1,
         inv.2,
         inv.3,
-        w.in_ok-frame.ensures.same ∙ inv.4,
+        w.flow-is ∙ (w.in_ok-frame.ensures.same ∙ inv.4),
       ))
       | else-has w ↦ rw w.frames-is (rw w.request-is (
         without_one (asking c.args.proposer c.args.age c.args.ask) (has_member c.args.members.now) c.loop-number.number c.loop-number.frames.items c.loop-number.frames.items (sym has ∙ w.if-has.false) inv.0 refl,
         inv.1,
         inv.2,
         inv.3,
-        inv.4,
+        w.flow-is ∙ inv.4,
       ))
     ]
 

@@ -19,5 +19,5 @@ returns-clause-sent c =
     let messages : messages_of c.in_ok-frames.frames.items ≡ asked = ap messages_of c.in_ok-frames.ensures.each ∙ messages_borne asked in
     subst (λ (flow : FlowView). Sends flow c.args.queue asked c.push_all.new.flow) same
     (sends_after c.frames_to.new.flow c.reserve_own.new.self c.push_all.new.flow c.args.queue (queue_at c.reserve_own.new.self c.args.queue).room asked
-        (subst (λ (flow : FlowView). c.args.queue < length flow.own) (sym same) c.requires.queue) c.in_ok-reserve_own.ensures.same
-        (subst (λ (l : List Message). Sends c.reserve_own.new.self c.args.queue l c.push_all.new.flow) messages c.push_all.ensures))
+    (subst (λ (flow : FlowView). c.args.queue < length flow.own) (sym same) c.requires.queue) c.in_ok-reserve_own.ensures.same
+    (subst (λ (l : List Message). Sends c.reserve_own.new.self c.args.queue l c.push_all.new.flow) messages c.push_all.ensures))
