@@ -5,9 +5,7 @@ use Rattle.cas_lines.specs.Command.{change_of}
 use Rattle.cas_script.specs.Script.{Changed, Happened, Shows, Operated, membership_of}
 use Rattle.cas_script.specs.Stage.{Stage}
 use Rattle.cas_script.proofs.Answering.{with_text, without_text, changes_run, happens_run, shows_run, probes_run, collects_run, members_run}
-use Rattle.cas_script.proofs.script.Script.answer_command.Given.{Over}
 use Rattle.cas_script.proofs.script.Script.answer_command.Goals as goal
-use Rattle.cas_script.proofs.script.Script.answer_command.Goals.{After-drop-asked}
 
 pub returns-in-Show-clause-answers : goal.returns-in-Show-clause-answers
 returns-in-Show-clause-answers g c state line number at is =
@@ -43,22 +41,22 @@ returns-in-Leave g c = record {
   tries = c.run_membership-in-Leave.ensures.tries;
 }
 
-asks_is : (g : Over) (c : After-drop-asked g) → change_of c.args.command.now ≡ Some (record { caller = c.in-Some.asked.caller; key = c.in-Some.asked.key.now; program = c.in-Some.asked.program })
-asks_is g c = subst (λ (o : Option _). IfSome o (λ asked. change_of c.args.command.now ≡ Some (record { caller = asked.caller; key = asked.key.now; program = asked.program }))) c.in-Some.is c.in_ok-asked.ensures.asked
-
 pub returns-in-Some : goal.returns-in-Some
-returns-in-Some g c = record {
-  answers = λ state line number at is.
-      let runs = c.run_change-answer.ensures.runs state at in
-      with_text (meaning {S = g.row.S.Denot} g.S.Shelf.contents g.S.Shelf.tells g.S.Shelf.may_leave g.S.Shelf.fault_count g.V.Disk.tells g.V.Disk.may_leave g.V.Disk.fault_count) c.args.self.now.tries number state line c.run_change-answer.new.self vec_items c.print_answer.result (Changed c.in-Some.asked.caller c.run_change-answer.result) runs.new runs.is_in
-      (changes_run (meaning {S = g.row.S.Denot} g.S.Shelf.contents g.S.Shelf.tells g.S.Shelf.may_leave g.S.Shelf.fault_count g.V.Disk.tells g.V.Disk.may_leave g.V.Disk.fault_count) c.args.self.now.tries c.args.self.now c.run_change-answer.new.self state line c.args.command.now (record { caller = c.in-Some.asked.caller; key = c.in-Some.asked.key.now; program = c.in-Some.asked.program }) c.run_change-answer.result at is (asks_is g c) runs)
-      c.print_answer.ensures;
-  err = λ state line at is.
-      let runs = c.run_change-answer.ensures.runs state at in
-      without_text (meaning {S = g.row.S.Denot} g.S.Shelf.contents g.S.Shelf.tells g.S.Shelf.may_leave g.S.Shelf.fault_count g.V.Disk.tells g.V.Disk.may_leave g.V.Disk.fault_count) c.args.self.now.tries state line c.run_change-answer.new.self c.print_answer.result (Changed c.in-Some.asked.caller c.run_change-answer.result) runs.new runs.is_in
-      (changes_run (meaning {S = g.row.S.Denot} g.S.Shelf.contents g.S.Shelf.tells g.S.Shelf.may_leave g.S.Shelf.fault_count g.V.Disk.tells g.V.Disk.may_leave g.V.Disk.fault_count) c.args.self.now.tries c.args.self.now c.run_change-answer.new.self state line c.args.command.now (record { caller = c.in-Some.asked.caller; key = c.in-Some.asked.key.now; program = c.in-Some.asked.program }) c.run_change-answer.result at is (asks_is g c) runs);
-  tries = c.run_change-answer.ensures.tries;
-}
+returns-in-Some g c =
+    let asks : change_of c.args.command.now ≡ Some (record { caller = c.in-Some.asked.caller; key = c.in-Some.asked.key.now; program = c.in-Some.asked.program }) =
+    subst (λ (o : Option _). IfSome o (λ asked. change_of c.args.command.now ≡ Some (record { caller = asked.caller; key = asked.key.now; program = asked.program }))) c.in-Some.is c.in_ok-asked.ensures.asked in
+    record {
+      answers = λ state line number at is.
+          let runs = c.run_change-answer.ensures.runs state at in
+          with_text (meaning {S = g.row.S.Denot} g.S.Shelf.contents g.S.Shelf.tells g.S.Shelf.may_leave g.S.Shelf.fault_count g.V.Disk.tells g.V.Disk.may_leave g.V.Disk.fault_count) c.args.self.now.tries number state line c.run_change-answer.new.self vec_items c.print_answer.result (Changed c.in-Some.asked.caller c.run_change-answer.result) runs.new runs.is_in
+          (changes_run (meaning {S = g.row.S.Denot} g.S.Shelf.contents g.S.Shelf.tells g.S.Shelf.may_leave g.S.Shelf.fault_count g.V.Disk.tells g.V.Disk.may_leave g.V.Disk.fault_count) c.args.self.now.tries c.args.self.now c.run_change-answer.new.self state line c.args.command.now (record { caller = c.in-Some.asked.caller; key = c.in-Some.asked.key.now; program = c.in-Some.asked.program }) c.run_change-answer.result at is asks runs)
+          c.print_answer.ensures;
+      err = λ state line at is.
+          let runs = c.run_change-answer.ensures.runs state at in
+          without_text (meaning {S = g.row.S.Denot} g.S.Shelf.contents g.S.Shelf.tells g.S.Shelf.may_leave g.S.Shelf.fault_count g.V.Disk.tells g.V.Disk.may_leave g.V.Disk.fault_count) c.args.self.now.tries state line c.run_change-answer.new.self c.print_answer.result (Changed c.in-Some.asked.caller c.run_change-answer.result) runs.new runs.is_in
+          (changes_run (meaning {S = g.row.S.Denot} g.S.Shelf.contents g.S.Shelf.tells g.S.Shelf.may_leave g.S.Shelf.fault_count g.V.Disk.tells g.V.Disk.may_leave g.V.Disk.fault_count) c.args.self.now.tries c.args.self.now c.run_change-answer.new.self state line c.args.command.now (record { caller = c.in-Some.asked.caller; key = c.in-Some.asked.key.now; program = c.in-Some.asked.program }) c.run_change-answer.result at is asks runs);
+      tries = c.run_change-answer.ensures.tries;
+    }
 
 pub returns-in-None : goal.returns-in-None
 returns-in-None g c = record {
