@@ -1,7 +1,7 @@
 //! Lines with the commands that they are read as, and with their refusals.
 
 use cas_change_text::{TextRefusal, Why, print_program};
-use cas_lines::command::read_command;
+use cas_lines::command::{Command, read_command};
 use std::alloc::{AllocError, Global};
 use std::test::Fail;
 
@@ -90,10 +90,20 @@ fn gives_each_form_its_program(rt: HostRuntime) -> Result<(), Fail> {
     Ok(())
 }
 
+/// A command as text, with the bytes of its key.
+fn said(alloc: Global, command: &Command) -> Result<String, AllocError> {
+    match command {
+        Command::Show { id, key } => format!(in alloc; "Show {id:?} {:?}", key.bytes()),
+        Command::Probe { key } => format!(in alloc; "Probe {:?}", key.bytes()),
+        Command::Collect { key } => format!(in alloc; "Collect {:?}", key.bytes()),
+        other => format!(in alloc; "{other:?}"),
+    }
+}
+
 /// What a line says where there are two proposers, or its reason and word.
 fn told(alloc: Global, line: &[u8]) -> Result<String, AllocError> {
     match read_command(alloc, line, 2) {
-        Ok(Some(command)) => format!(in alloc; "{command:?}"),
+        Ok(Some(command)) => said(alloc, &command),
         Ok(None) => String::from_str(alloc, "a remark"),
         Err(refusal) => {
             let TextRefusal { why, word } = refusal;
@@ -133,10 +143,7 @@ fn reads_events(rt: HostRuntime) -> Result<(), Fail> {
             b"stray 18446744073709551615",
             "Stray { index: 18446744073709551615 }",
         ),
-        (
-            b"show 3 a",
-            "Show { id: AcceptorId { number: 3 }, key: Key { bytes: [97] } }",
-        ),
+        (b"show 3 a", "Show AcceptorId { number: 3 } [97]"),
         (b"net", "NoWord 1"),
         (b"net foo * lose", "UnknownWord 1"),
         (b"net accept x lose", "BadNumber 2"),
@@ -164,14 +171,8 @@ fn reads_events(rt: HostRuntime) -> Result<(), Fail> {
 #[test]
 fn reads_operator_lines(rt: HostRuntime) -> Result<(), Fail> {
     for (line, want) in [
-        (
-            b"op probe a".as_slice(),
-            "Probe { key: Key { bytes: [97] } }",
-        ),
-        (
-            b" op\tprobe  op ",
-            "Probe { key: Key { bytes: [111, 112] } }",
-        ),
+        (b"op probe a".as_slice(), "Probe [97]"),
+        (b" op\tprobe  op ", "Probe [111, 112]"),
         (b"op", "NoWord 1"),
         (b"op xyz", "UnknownWord 1"),
         (b"op join 063", "Join { id: AcceptorId { number: 63 } }"),
@@ -182,7 +183,7 @@ fn reads_operator_lines(rt: HostRuntime) -> Result<(), Fail> {
         (b"op join a 4", "BadNumber 2"),
         (b"op leave -1", "BadNumber 2"),
         (b"op leave 4 4", "UnknownWord 3"),
-        (b"op collect a", "Collect { key: Key { bytes: [97] } }"),
+        (b"op collect a", "Collect [97]"),
         (b"op collect", "NoWord 2"),
         (b"op collect caf\xC3\xA9", "UnknownWord 2"),
         (b"op collect a b", "UnknownWord 3"),
