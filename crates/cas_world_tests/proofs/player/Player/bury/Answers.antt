@@ -14,6 +14,12 @@ invariant_of-self g c =
     collects c.self.inside.world c.begin_collection.new.world _ c.self.inside.proposers c.self.inside.calls _ c.self.invariant (c.in-Some-false.ensures.1 ∙ ap (λ (b : Bool). Some b) c.in-Some-false.field-0-test)
     c.begin_collection.ensures.goes (renews 0 c.in-Ok-begin_collection.ensures.due) c.in-Ok-begin_collection.ensures.due.quiet
 
+-- the same, by the other way on which the program is dropped
+pub invariant_of-self-in-Ok-begin_collection-2 : goal.invariant_of-self-in-Ok-begin_collection-2
+invariant_of-self-in-Ok-begin_collection-2 g c =
+    collects c.self.inside.world c.begin_collection.new.world _ c.self.inside.proposers c.self.inside.calls _ c.self.invariant (c.in-Some-false.ensures.1 ∙ ap (λ (b : Bool). Some b) c.in-Some-false.field-0-test)
+    c.begin_collection.ensures.goes (renews 0 c.in-Ok-begin_collection.ensures.due) c.in-Ok-begin_collection.ensures.due.quiet
+
 pub invariant_of-self-in-Err-begin_collection : goal.invariant_of-self-in-Err-begin_collection
 invariant_of-self-in-Err-begin_collection g c =
     subst (IsPlay c.begin_collection.new.world c.self.inside.proposers c.self.inside.calls) (sym (none_of c.self.inside.task (sym c.is_some.ensures ∙ c.if-is_some.false)))
