@@ -19,21 +19,21 @@ use Rattle.cas_record.specs.declared.mark.Mark.TheVariants.{Proposed, Voted, Ack
 use Rattle.cas_record.specs.declared.mark.Proposal.{Proposal}
 use Rattle.cas_record.specs.declared.mark.Acknowledgment.{Acknowledgment}
 use Rattle.cas_record.specs.Places.{At, Stands, IsOlderPart, IsPrefix, here, past}
-use Rattle.cas_record.specs.Chain.{is_key, has_calls, has_proposal, opens_at, link_of, entry_of, program_of, chain_of, top_of, settled_of}
-use Rattle.cas_record.specs.Index.{floor_at}
-use Rattle.cas_record.specs.Replay.{replay_from, opening_state}
+use Rattle.cas_record.specs.Histories.Chain.{is_key, has_calls, has_proposal, opens_at, link_of, entry_of, program_of, chain_of, top_of, settled_of}
+use Rattle.cas_record.specs.Kept.Index.{floor_at}
+use Rattle.cas_record.specs.Histories.Replay.{replay_from, opening_state}
 use Rattle.cas_record.specs.Legal.{IsBegun, IsProposed, IsEnded, IsNumbered, DoesStand, tells_refused, tells_unsettled, HasVotes, HasFloor, IsAcked, IsOpening, IsLegal}
 use Rattle.cas_record.proofs.PlaceLemmas.{stands_at, stands_part, part_at, length-prefix}
 use Rattle.cas_record.proofs.Tests.{key_same, key_refl, nat_same, nat_is}
-use Rattle.cas_record.proofs.HistoryLemmas.{placed}
-use Rattle.cas_record.proofs.CallLemmas.{begun_once}
+use Rattle.cas_record.proofs.Histories.Lemmas.{placed}
+use Rattle.cas_record.proofs.Histories.Calls.{begun_once}
 use Rattle.cas_audit.specs.declared.told.Call.{Call}
 use Rattle.cas_audit.specs.declared.told.Node.{Node}
 use Rattle.cas_audit.specs.Keeping.{TellsTruly, StandsLate}
 use Rattle.cas_audit.specs.Told.{place_of, ballot_of, has_ended, call_of, node_of, is_at, voters_of, has_acked, chain_from, EndsFront}
 use Rattle.cas_audit.specs.Tables.{key_in, key_at, IsFoundAt, ChangeAt, StandsNowhere}
 use Rattle.cas_record.proofs.Tests.{if_both}
-use Rattle.cas_record.proofs.ChainLemmas.{chain-none, no_calls}
+use Rattle.cas_record.proofs.Histories.Chains.{chain-none, no_calls}
 use Rattle.cas_audit.proofs.Histories.{no_opens, calls_of_chain, counted_of, one_call, one_ballot, one_end, last_same, entry_in}
 use Rattle.cas_audit.proofs.Facts.{began_at, has_place, proposed_by, has_ballot, is_proposed, not_proposed, ended_tells, ended_is, node_tells, has_node, no_node, node_history, at_same, at_refl}
 use Rattle.cas_audit.proofs.Walks.{one_front, length_last}

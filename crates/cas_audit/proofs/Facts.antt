@@ -13,12 +13,12 @@ use Rattle.cas_record.specs.declared.mark.Mark.{Mark}
 use Rattle.cas_record.specs.declared.mark.Mark.TheVariants.{Begun, Proposed, Ended}
 use Rattle.cas_record.specs.declared.mark.Proposal.{Proposal}
 use Rattle.cas_record.specs.Places.{At, IsOlderPart, here, past, whole, later}
-use Rattle.cas_record.specs.Chain.{is_key, is_ballot, is_call, is_proposal, has_proposal, link_of, entry_of, program_of, chain_of, settled_of}
-use Rattle.cas_record.specs.Replay.{replay_from, opening_state}
+use Rattle.cas_record.specs.Histories.Chain.{is_key, is_ballot, is_call, is_proposal, has_proposal, link_of, entry_of, program_of, chain_of, settled_of}
+use Rattle.cas_record.specs.Histories.Replay.{replay_from, opening_state}
 use Rattle.cas_record.specs.Legal.{HasProposal, IsProposed, IsEnded, IsNumbered}
 use Rattle.cas_record.proofs.PlaceLemmas.{stands_at, part_at}
 use Rattle.cas_record.proofs.Tests.{IsProposalOf, proposal_is, key_same, key_refl, ballot_same, ballot_is, call_same, call_is}
-use Rattle.cas_record.proofs.ChainLemmas.{chain_zero}
+use Rattle.cas_record.proofs.Histories.Chains.{chain_zero}
 use Rattle.cas_audit.specs.declared.told.Node.{Node}
 use Rattle.cas_audit.specs.Told.{place_of, seen_of, ballot_of, has_ended, is_at, if_some, node_by, node_of, chain_from}
 use Rattle.cas_audit.proofs.Histories.{calls_proposed, chain_stays, some_stays, start_stays, chain_cases, one_ballot}

@@ -5,11 +5,11 @@ use Rattle.cas_change_text.specs.declared.refusal.Why.{Why}
 use Rattle.cas_record.specs.declared.mark.Mark.{Mark}
 use Rattle.cas_record.specs.Legal.{IsLegal}
 use Rattle.cas_audit.specs.Auditing.{IsBroken, IsVerdict}
-use Rattle.cas_audit.specs.Texts.{BadLine, marks_of, Spells, IsFound}
+use Rattle.cas_audit.specs.Spelling.Texts.{BadLine, marks_of, Spells, IsFound}
 use Rattle.cas_audit.specs.declared.auditor.Broken.{Broken as BrokenRule}
 use Rattle.cas_audit.specs.declared.finding.Finding.{Finding}
 use Rattle.cas_audit.specs.declared.finding.Finding.TheVariants.{Legal, Broken, Bad}
-use Rattle.cas_audit.proofs.TextRecords.{spells_read, records_read}
+use Rattle.cas_audit.proofs.Spelling.TextRecords.{spells_read, records_read}
 use Rattle.cas_audit.proofs.Verdicts.{verdicts_one}
 
 -- two readings of a text

@@ -11,13 +11,13 @@ use Rattle.cas_record.specs.declared.mark.Mark.{Mark}
 use Rattle.cas_record.specs.declared.mark.Mark.TheVariants.{Begun, Proposed, Floor}
 use Rattle.cas_record.specs.declared.mark.Proposal.{Proposal}
 use Rattle.cas_record.specs.Places.{At, IsOlderPart, here, past, whole, later}
-use Rattle.cas_record.specs.Chain.{is_key, is_ballot, is_proposal, has_proposal, has_calls, opens_at, has_opening, link_of, entry_of, chain_of}
-use Rattle.cas_record.specs.Replay.{opening_state}
+use Rattle.cas_record.specs.Histories.Chain.{is_key, is_ballot, is_proposal, has_proposal, has_calls, opens_at, has_opening, link_of, entry_of, chain_of}
+use Rattle.cas_record.specs.Histories.Replay.{opening_state}
 use Rattle.cas_record.specs.Legal.{IsNumbered}
 use Rattle.cas_record.proofs.PlaceLemmas.{older_than, newer_than, at_one, order, stands_at, at_part, part_at, part_part, last_or_in}
 use Rattle.cas_record.proofs.Tests.{proposal_tells}
-use Rattle.cas_record.proofs.ChainLemmas.{has_proposal_tells, chain-none, chain-opened, chain-opens, chain-later, no_calls, nil_not}
-use Rattle.cas_record.proofs.CallLemmas.{IsCounted}
+use Rattle.cas_record.proofs.Histories.Chains.{has_proposal_tells, chain-none, chain-opened, chain-opens, chain-later, no_calls, nil_not}
+use Rattle.cas_record.proofs.Histories.Calls.{IsCounted}
 
 pub counted_of : {marks : List Mark} → IsNumbered marks → IsCounted marks
 counted_of is = record { begun = λ at. is.begun at }

@@ -4,18 +4,9 @@ mod Facts
 mod Findings
 mod Going
 mod Histories
-mod LineByLine
-pub mod MarksBack
-mod MemberWords
-mod Numbers
+pub mod LowerFloors
 mod Openings
-mod Parts
-mod PartsBack
-mod Rising
-mod TextRecords
-mod TextRuns
-mod TextWords
+pub mod Spelling
 mod Updates
 mod Verdicts
 mod Walks
-pub mod LowerFloors

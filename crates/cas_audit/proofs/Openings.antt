@@ -8,12 +8,12 @@ use Rattle.cas_change.specs.declared.state.State.{State}
 use Rattle.cas_record.specs.declared.mark.Mark.{Mark}
 use Rattle.cas_record.specs.declared.mark.Mark.TheVariants.{Floor}
 use Rattle.cas_record.specs.Places.{here, whole, later}
-use Rattle.cas_record.specs.Chain.{is_key, is_ballot, has_calls, has_opening}
-use Rattle.cas_record.specs.Replay.{opening_state}
+use Rattle.cas_record.specs.Histories.Chain.{is_key, is_ballot, has_calls, has_opening}
+use Rattle.cas_record.specs.Histories.Replay.{opening_state}
 use Rattle.cas_record.specs.Legal.{IsAcked, IsLegal}
 use Rattle.cas_record.proofs.PlaceLemmas.{stands_at, part_at, deeper}
 use Rattle.cas_record.proofs.Tests.{key_same}
-use Rattle.cas_record.proofs.ChainLemmas.{opening_tells}
+use Rattle.cas_record.proofs.Histories.Chains.{opening_tells}
 use Rattle.cas_record.proofs.LawLemmas.{earlier_is_legal}
 use Rattle.cas_audit.specs.Told.{opening_of, start_of, opens_with}
 use Rattle.cas_audit.proofs.Histories.{calls_proposed, calls_later}

@@ -19,15 +19,15 @@ use Rattle.cas_record.specs.declared.answer.Answer.{Answer}
 use Rattle.cas_record.specs.declared.mark.Proposal.{Proposal}
 use Rattle.cas_record.specs.declared.mark.Acknowledgment.{Acknowledgment}
 use Rattle.cas_record.specs.Places.{At, IsPrefix, here, whole, later}
-use Rattle.cas_record.specs.Replay.{replay_from, opening_state}
-use Rattle.cas_record.specs.Chain.{is_key, is_ballot, is_call, is_proposal, has_proposal, opens_at, has_opening, has_calls, link_of, entry_of, program_of, chain_of, top_of, settled_of}
-use Rattle.cas_record.specs.Index.{floor_at, later_of}
+use Rattle.cas_record.specs.Histories.Replay.{replay_from, opening_state}
+use Rattle.cas_record.specs.Histories.Chain.{is_key, is_ballot, is_call, is_proposal, has_proposal, opens_at, has_opening, has_calls, link_of, entry_of, program_of, chain_of, top_of, settled_of}
+use Rattle.cas_record.specs.Kept.Index.{floor_at, later_of}
 use Rattle.cas_record.specs.Legal.{calls_of, harms_of, IsBegun, IsNumbered, IsLegal}
 use Rattle.cas_record.proofs.PlaceLemmas.{prefix_trans}
 use Rattle.cas_record.proofs.Tests.{key_same, key_is, ballot_same, ballot_is, nat_same, nat_is, call_same}
-use Rattle.cas_record.proofs.HistoryLemmas.{placed}
-use Rattle.cas_record.proofs.ChainLemmas.{chain_zero, chain-opened, chain-at, has_proposal_tells}
-use Rattle.cas_record.proofs.CallLemmas.{program_of_begun}
+use Rattle.cas_record.proofs.Histories.Lemmas.{placed}
+use Rattle.cas_record.proofs.Histories.Chains.{chain_zero, chain-opened, chain-at, has_proposal_tells}
+use Rattle.cas_record.proofs.Histories.Calls.{program_of_begun}
 use Rattle.cas_audit.specs.declared.told.Call.{Call}
 use Rattle.cas_audit.specs.declared.told.Row.{Row}
 use Rattle.cas_audit.specs.declared.told.Opening.{Opening}

@@ -5,7 +5,7 @@ use Rattle.std.proofs.lemmas.Bool.Decides.{leb_tells}
 use mathlib.Core.Logic.{inl, inr}
 use Rattle.cas_record.specs.declared.mark.Mark.{Mark}
 use Rattle.cas_record.specs.declared.entry.Entry.{Entry}
-use Rattle.cas_record.specs.Chain.{settled_of}
+use Rattle.cas_record.specs.Histories.Chain.{settled_of}
 use Rattle.cas_record.specs.Legal.{WasBegun, IsLegal}
 use Rattle.cas_record.specs.Places.{Stands, IsOlderPart, IsPrefix, whole, later}
 use Rattle.cas_record.proofs.PlaceLemmas.{none_at_nil, part_part, prefix_same}

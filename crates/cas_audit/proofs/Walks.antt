@@ -6,7 +6,7 @@ use Rattle.cas_ballot.specs.declared.ballot.Ballot.{Ballot}
 use Rattle.cas_record.specs.declared.entry.Entry.{Entry}
 use Rattle.cas_record.specs.declared.mark.Mark.{Mark}
 use Rattle.cas_record.specs.Places.{IsPrefix}
-use Rattle.cas_record.specs.Chain.{chain_of, entry_of}
+use Rattle.cas_record.specs.Histories.Chain.{chain_of, entry_of}
 use Rattle.cas_record.specs.Legal.{IsNumbered}
 use Rattle.cas_record.proofs.PlaceLemmas.{prefix_refl, prefix_trans}
 use Rattle.cas_audit.specs.declared.told.Node.{Node}

@@ -2,7 +2,7 @@
 -- first.
 use Rattle.std.specs.Prelude.{◌≡◌, ℕ, suc, ◌≤◌, true, List, ◌∷◌, ◌++◌, length, ◌↔◌}
 use Rattle.cas_change.specs.declared.program.Clause.{Clause}
-use Rattle.cas_record.specs.Chain.{settled_of}
+use Rattle.cas_record.specs.Histories.Chain.{settled_of}
 use Rattle.cas_record.specs.Legal.{calls_of, IsProposed, IsFirstProposal, IsFirstEnd, IsNumbered, DoesStand, tells_refused, tells_unsettled, RefusedNever, harms_due, harms_of, HasVotes, IsFloor, IsLegal}
 use Rattle.cas_record.specs.Places.{At, IsPrefix}
 use Rattle.cas_record.specs.declared.answer.Answer.{Answer}

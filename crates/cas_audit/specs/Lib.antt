@@ -1,11 +1,7 @@
 pub mod Auditing
 pub mod Keeping
-pub mod Printing
-pub mod Progress
-pub mod Ranges
-pub mod Reading
 pub mod Rules
+pub mod Spelling
 pub mod Tables
-pub mod Texts
 pub mod Told
 pub mod Watching

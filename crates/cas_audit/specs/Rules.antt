@@ -4,7 +4,7 @@ use Rattle.cas_ballot.specs.declared.ballot.Ballot.{Ballot}
 use Rattle.cas_change.specs.declared.program.Clause.{Clause}
 use Rattle.cas_change.specs.declared.state.State.{State}
 use Rattle.cas_change.specs.declared.outcome.Took.{Took}
-use Rattle.cas_record.specs.Chain.{settled_of}
+use Rattle.cas_record.specs.Histories.Chain.{settled_of}
 use Rattle.cas_record.specs.Legal.{DoesStand, WasBegun, HasVotes, IsFloor, harms_due, harms_of}
 use Rattle.cas_record.specs.Places.{At, Stands, IsOlderPart, IsPrefix}
 use Rattle.cas_record.specs.declared.answer.Answer.{Answer}

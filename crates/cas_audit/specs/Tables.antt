@@ -11,7 +11,7 @@ use Rattle.cas_record.specs.declared.entry.Entry.{Entry}
 use Rattle.cas_record.specs.declared.mark.Proposal.{Proposal}
 use Rattle.cas_record.specs.declared.mark.Mark.TheVariants.{Begun, Proposed}
 use Rattle.cas_record.specs.Places.{At}
-use Rattle.cas_record.specs.Chain.{is_key, has_calls, link_of, chain_of, entry_of, settled_of}
+use Rattle.cas_record.specs.Histories.Chain.{is_key, has_calls, link_of, chain_of, entry_of, settled_of}
 use Rattle.cas_record.specs.Legal.{calls_of, IsLegal}
 use Rattle.cas_audit.specs.declared.told.Call.{Call}
 use Rattle.cas_audit.specs.declared.told.Row.{Row}

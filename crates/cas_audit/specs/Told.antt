@@ -12,11 +12,11 @@ use Rattle.cas_record.specs.declared.entry.Entry.{Entry}
 use Rattle.cas_record.specs.declared.mark.Mark.{Mark}
 use Rattle.cas_record.specs.declared.mark.Mark.TheVariants.{Begun, Proposed, Voted, Acked, Floor, Ended}
 use Rattle.cas_record.specs.declared.mark.Proposal.{Proposal}
-use Rattle.cas_record.specs.Chain.{is_key, is_ballot, is_call, has_calls, program_of, link_of, chain_of, top_of, settled_of}
-use Rattle.cas_record.specs.Index.{floor_at}
+use Rattle.cas_record.specs.Histories.Chain.{is_key, is_ballot, is_call, has_calls, program_of, link_of, chain_of, top_of, settled_of}
+use Rattle.cas_record.specs.Kept.Index.{floor_at}
 use Rattle.cas_record.specs.Legal.{harms_of}
 use Rattle.cas_record.specs.Places.{IsPrefix}
-use Rattle.cas_record.specs.Replay.{replay_from, opening_state}
+use Rattle.cas_record.specs.Histories.Replay.{replay_from, opening_state}
 use Rattle.cas_audit.specs.declared.told.Call.{Call}
 use Rattle.cas_audit.specs.declared.told.Row.{Row}
 use Rattle.cas_audit.specs.declared.told.Opening.{Opening}

@@ -6,7 +6,7 @@ ghost use Rattle.cas_ballot.specs.Ballot.{greater_of};
 ghost use Rattle.cas_ballot.specs.Members.{has_member, IsMemberSet};
 ghost use Rattle.cas_record.specs.declared.entry.Entry.{Entry};
 ghost use Rattle.cas_record.specs.declared.mark.Mark.{Mark};
-ghost use Rattle.cas_record.specs.Chain.{chain_of, top_of, settled_of};
+ghost use Rattle.cas_record.specs.Histories.Chain.{chain_of, top_of, settled_of};
 ghost use Rattle.cas_record.specs.Legal.{IsFirstProposal, IsFirstEnd, IsBegun, DoesStand, HasVotes, IsOpening, IsFloor, harms_due, tells_refused, tells_unsettled};
 ghost use Rattle.cas_record.specs.Places.{IsPrefix};
 ghost use Rattle.cas_audit.specs.Told.{node_of, chain_from, Reaches};

@@ -1,7 +1,7 @@
 //! What an audit finds in a text, and the line that says it.
 
 ghost use Rattle.std.specs.Prelude.{◌≡◌, IfOk};
-ghost use Rattle.cas_audit.specs.Texts.{finding_line};
+ghost use Rattle.cas_audit.specs.Spelling.Texts.{finding_line};
 
 use crate::auditor::Broken;
 use cas_change_text::Why;

@@ -1,7 +1,7 @@
 //! The names with which marks and the parts of them begin.
 
 ghost use Rattle.std.specs.Prelude.{◌≡◌};
-ghost use Rattle.cas_audit.specs.Reading.{mark_name, stop_name, cause_name, took_name, asked_name, told_name, harm_name};
+ghost use Rattle.cas_audit.specs.Spelling.Reading.{mark_name, stop_name, cause_name, took_name, asked_name, told_name, harm_name};
 
 use cas_change_text::says;
 

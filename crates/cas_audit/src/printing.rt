@@ -6,9 +6,9 @@ ghost use Rattle.cas_ballot.specs.Members.{has_member, IsMemberSet};
 ghost use Rattle.cas_change.specs.Key.{IsKey};
 ghost use Rattle.cas_ballot.specs.Ballot.{ballot_text};
 ghost use Rattle.cas_lines.specs.Answers.{answer_text, cause_text};
-ghost use Rattle.cas_audit.specs.Printing.{ballots_text, next_number_text, numbers_text, clause_note, harm_note, full_answer_text, asked_text, told_text, is_told, has_text, mark_text};
-ghost use Rattle.cas_audit.specs.Ranges.{BallotFits, TookFits, CauseFits, AnswerFits, AskedFits, FinishFits, ToldFits, BallotsFit, MarkFits};
-ghost use Rattle.cas_audit.specs.Reading.{line_mark};
+ghost use Rattle.cas_audit.specs.Spelling.Printing.{ballots_text, next_number_text, numbers_text, clause_note, harm_note, full_answer_text, asked_text, told_text, is_told, has_text, mark_text};
+ghost use Rattle.cas_audit.specs.Spelling.Ranges.{BallotFits, TookFits, CauseFits, AnswerFits, AskedFits, FinishFits, ToldFits, BallotsFit, MarkFits};
+ghost use Rattle.cas_audit.specs.Spelling.Reading.{line_mark};
 
 use cas_ballot::{AcceptorId, Ballot, Members};
 use cas_change::{Key, Program, State, Took};
@@ -202,7 +202,7 @@ fn print_proposal(alloc: Global, proposal: &Proposal) -> Result<Vec<u8>, AllocEr
 }
 
 /// What follows the key in the line of a proposal.
-#[tactic(auto, unfolding(crate::specs::Printing::ballots_text))]
+#[tactic(auto, unfolding(crate::specs::Spelling::Printing::ballots_text))]
 fn ballots_of(alloc: Global, proposal: &Proposal) -> Result<String, AllocError>
     ensures text { IfOk result (λ text. string_bytes text ≡ ballots_text proposal.now) }
     ensures fits { IfOk result (λ _. BallotsFit proposal.now) }

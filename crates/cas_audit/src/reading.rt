@@ -3,10 +3,10 @@
 ghost use Rattle.std.specs.Prelude.{◌≡◌, ◌≢◌, true, Ok, Err, IfOk, MatchResult};
 ghost use Rattle.cas_change_text.specs.Reading.{Reads, ReadsInMemory, GivesInMemory};
 ghost use Rattle.cas_lines.specs.Reading.{ended};
-ghost use Rattle.cas_audit.specs.Printing.{is_told, has_text, mark_text};
-ghost use Rattle.cas_audit.specs.Ranges.{MarkFits};
+ghost use Rattle.cas_audit.specs.Spelling.Printing.{is_told, has_text, mark_text};
+ghost use Rattle.cas_audit.specs.Spelling.Ranges.{MarkFits};
 ghost use Rattle.cas_record.specs.declared.mark.Mark.{Mark};
-ghost use Rattle.cas_audit.specs.Reading.{named_at, harm_name, mark_name, mark_at, mark_of, begun_at, quorum_at, proposal_at, acknowledgment_at, voted_at, floor_at, entered_at, ended_at, harmed_at, told_mark_at, cause_of, cause_at, proposed_at, stop_of, stop_in, took_of, took_at, done_at, answer_at, asked_of, asked_at, finished_at, collected_at, not_in, not_at, told_of, told_by, told_at, line_mark};
+ghost use Rattle.cas_audit.specs.Spelling.Reading.{named_at, harm_name, mark_name, mark_at, mark_of, begun_at, quorum_at, proposal_at, acknowledgment_at, voted_at, floor_at, entered_at, ended_at, harmed_at, told_mark_at, cause_of, cause_at, proposed_at, stop_of, stop_in, took_of, took_at, done_at, answer_at, asked_of, asked_at, finished_at, collected_at, not_in, not_at, told_of, told_by, told_at, line_mark};
 
 use crate::names::{
     AskedName, CauseName, MarkName, StopName, ToldName, TookName, asked_name, cause_name,
@@ -37,7 +37,7 @@ fn unknown_word(at: usize) -> TextRefusal
 }
 
 /// Why a change is unsettled.
-#[tactic(auto, unfolding(crate::specs::Reading::cause_at, crate::specs::Reading::named_at))]
+#[tactic(auto, unfolding(crate::specs::Spelling::Reading::cause_at, crate::specs::Spelling::Reading::named_at))]
 fn read_cause(words: &mut Words<'_>) -> Result<Cause, TextRefusal>
     ensures { Reads result words.new (cause_at words.old) }
 {
@@ -49,7 +49,7 @@ fn read_cause(words: &mut Words<'_>) -> Result<Cause, TextRefusal>
 }
 
 /// The cause of this name, by what follows it.
-#[tactic(auto, unfolding(crate::specs::Reading::cause_of))]
+#[tactic(auto, unfolding(crate::specs::Spelling::Reading::cause_of))]
 fn cause_of(name: CauseName, words: &mut Words<'_>) -> Result<Cause, TextRefusal>
     ensures { Reads result words.new (cause_of name words.old) }
 {
@@ -83,7 +83,7 @@ fn read_proposed(words: &mut Words<'_>) -> Result<bool, TextRefusal>
 }
 
 /// The answer of this name, by what follows it.
-#[tactic(auto, unfolding(crate::specs::Reading::stop_of))]
+#[tactic(auto, unfolding(crate::specs::Spelling::Reading::stop_of))]
 fn stop_of(name: StopName, words: &mut Words<'_>) -> Result<Answer, TextRefusal>
     ensures exact { Reads result words.new (stop_of name words.old) }
     ensures written { IfOk result (λ answer. is_told (OpAnswer.Stopped answer) ≡ true) }
@@ -130,7 +130,7 @@ fn stop_of(name: StopName, words: &mut Words<'_>) -> Result<Answer, TextRefusal>
 }
 
 /// The answer, but for that a change is done, that this word begins, which stands at this place.
-#[tactic(auto, unfolding(crate::specs::Reading::stop_in))]
+#[tactic(auto, unfolding(crate::specs::Spelling::Reading::stop_in))]
 fn stop_in(at: usize, word: &[u8], words: &mut Words<'_>) -> Result<Answer, TextRefusal>
     ensures exact { Reads result words.new (stop_in at word.now words.old) }
     ensures written { IfOk result (λ answer. is_told (OpAnswer.Stopped answer) ≡ true) }
@@ -142,7 +142,7 @@ fn stop_in(at: usize, word: &[u8], words: &mut Words<'_>) -> Result<Answer, Text
 }
 
 /// Which clause acted.
-#[tactic(auto, unfolding(crate::specs::Reading::took_at, crate::specs::Reading::named_at))]
+#[tactic(auto, unfolding(crate::specs::Spelling::Reading::took_at, crate::specs::Spelling::Reading::named_at))]
 fn read_took(words: &mut Words<'_>) -> Result<Took, TextRefusal>
     ensures { Reads result words.new (took_at words.old) }
 {
@@ -154,7 +154,7 @@ fn read_took(words: &mut Words<'_>) -> Result<Took, TextRefusal>
 }
 
 /// Which clause acted, by the name and what follows it.
-#[tactic(auto, unfolding(crate::specs::Reading::took_of))]
+#[tactic(auto, unfolding(crate::specs::Spelling::Reading::took_of))]
 fn took_of(name: TookName, words: &mut Words<'_>) -> Result<Took, TextRefusal>
     ensures { Reads result words.new (took_of name words.old) }
 {
@@ -169,7 +169,7 @@ fn took_of(name: TookName, words: &mut Words<'_>) -> Result<Took, TextRefusal>
 }
 
 /// What follows the first word of an answer that a change is done.
-#[tactic(auto, unfolding(crate::specs::Reading::done_at))]
+#[tactic(auto, unfolding(crate::specs::Spelling::Reading::done_at))]
 fn read_done(alloc: Global, words: &mut Words<'_>) -> Result<Answer, TextRefusal>
     ensures { ReadsInMemory result words.new (done_at words.old) }
 {
@@ -185,7 +185,7 @@ fn read_done(alloc: Global, words: &mut Words<'_>) -> Result<Answer, TextRefusal
 }
 
 /// What a call was answered.
-#[tactic(auto, unfolding(crate::specs::Reading::answer_at))]
+#[tactic(auto, unfolding(crate::specs::Spelling::Reading::answer_at))]
 fn read_answer(alloc: Global, words: &mut Words<'_>) -> Result<Answer, TextRefusal>
     ensures { ReadsInMemory result words.new (answer_at words.old) }
 {
@@ -199,7 +199,7 @@ fn read_answer(alloc: Global, words: &mut Words<'_>) -> Result<Answer, TextRefus
 }
 
 /// What an operator asked for.
-#[tactic(auto, unfolding(crate::specs::Reading::asked_at, crate::specs::Reading::named_at))]
+#[tactic(auto, unfolding(crate::specs::Spelling::Reading::asked_at, crate::specs::Spelling::Reading::named_at))]
 fn read_asked(alloc: Global, words: &mut Words<'_>) -> Result<Asked, TextRefusal>
     ensures { ReadsInMemory result words.new (asked_at words.old) }
 {
@@ -211,7 +211,7 @@ fn read_asked(alloc: Global, words: &mut Words<'_>) -> Result<Asked, TextRefusal
 }
 
 /// What an operator asked for, by the name and what follows it.
-#[tactic(auto, unfolding(crate::specs::Reading::asked_of))]
+#[tactic(auto, unfolding(crate::specs::Spelling::Reading::asked_of))]
 fn asked_of(alloc: Global, name: AskedName, words: &mut Words<'_>) -> Result<Asked, TextRefusal>
     ensures { ReadsInMemory result words.new (asked_of name words.old) }
 {
@@ -224,7 +224,7 @@ fn asked_of(alloc: Global, name: AskedName, words: &mut Words<'_>) -> Result<Ask
 }
 
 /// The acceptor, the era and how many keys were proposed anew, where a plan is finished.
-#[tactic(auto, unfolding(crate::specs::Reading::finished_at))]
+#[tactic(auto, unfolding(crate::specs::Spelling::Reading::finished_at))]
 fn read_finished(words: &mut Words<'_>) -> Result<(AcceptorId, u32, u32), TextRefusal>
     ensures { Reads result words.new (finished_at words.old) }
 {
@@ -235,7 +235,7 @@ fn read_finished(words: &mut Words<'_>) -> Result<(AcceptorId, u32, u32), TextRe
 }
 
 /// What follows the first word of a collection's answer.
-#[tactic(auto, unfolding(crate::specs::Reading::collected_at))]
+#[tactic(auto, unfolding(crate::specs::Spelling::Reading::collected_at))]
 fn read_collected(alloc: Global, words: &mut Words<'_>) -> Result<OpAnswer, TextRefusal>
     ensures exact { ReadsInMemory result words.new (collected_at words.old) }
     ensures written { IfOk result (λ answer. is_told answer ≡ true) }
@@ -254,7 +254,7 @@ fn read_collected(alloc: Global, words: &mut Words<'_>) -> Result<OpAnswer, Text
 }
 
 /// What follows the word `not` in an operator's answer.
-#[tactic(auto, unfolding(crate::specs::Reading::not_at, crate::specs::Reading::not_in))]
+#[tactic(auto, unfolding(crate::specs::Spelling::Reading::not_at, crate::specs::Spelling::Reading::not_in))]
 fn read_not(words: &mut Words<'_>) -> Result<OpAnswer, TextRefusal>
     ensures exact { Reads result words.new (not_at words.old) }
     ensures written { IfOk result (λ answer. is_told answer ≡ true) }
@@ -273,7 +273,7 @@ fn read_not(words: &mut Words<'_>) -> Result<OpAnswer, TextRefusal>
 }
 
 /// The operator's answer of this name, by what follows it.
-#[tactic(auto, unfolding(crate::specs::Reading::told_of))]
+#[tactic(auto, unfolding(crate::specs::Spelling::Reading::told_of))]
 fn told_of(alloc: Global, name: ToldName, words: &mut Words<'_>) -> Result<OpAnswer, TextRefusal>
     ensures exact { ReadsInMemory result words.new (told_of name words.old) }
     ensures written { IfOk result (λ answer. is_told answer ≡ true) }
@@ -318,7 +318,7 @@ fn told_of(alloc: Global, name: ToldName, words: &mut Words<'_>) -> Result<OpAns
 }
 
 /// What an operator was answered.
-#[tactic(auto, unfolding(crate::specs::Reading::told_at, crate::specs::Reading::told_by))]
+#[tactic(auto, unfolding(crate::specs::Spelling::Reading::told_at, crate::specs::Spelling::Reading::told_by))]
 fn read_told(alloc: Global, words: &mut Words<'_>) -> Result<OpAnswer, TextRefusal>
     ensures exact { ReadsInMemory result words.new (told_at words.old) }
     ensures written { IfOk result (λ answer. is_told answer ≡ true) }
@@ -332,7 +332,7 @@ fn read_told(alloc: Global, words: &mut Words<'_>) -> Result<OpAnswer, TextRefus
 }
 
 /// An era, and the acceptors of a quorum in it.
-#[tactic(auto, unfolding(crate::specs::Reading::quorum_at))]
+#[tactic(auto, unfolding(crate::specs::Spelling::Reading::quorum_at))]
 fn read_quorum(words: &mut Words<'_>) -> Result<(u32, Members), TextRefusal>
     ensures { Reads result words.new (quorum_at words.old) }
 {
@@ -343,7 +343,7 @@ fn read_quorum(words: &mut Words<'_>) -> Result<(u32, Members), TextRefusal>
 }
 
 /// What follows the first word of a call's begin.
-#[tactic(auto, unfolding(crate::specs::Reading::begun_at))]
+#[tactic(auto, unfolding(crate::specs::Spelling::Reading::begun_at))]
 fn begun_in(alloc: Global, words: &mut Words<'_>) -> Result<Mark, TextRefusal>
     ensures exact { GivesInMemory result (begun_at words.old) }
     ensures written { IfOk result (λ mark. has_text mark ≡ true) }
@@ -360,7 +360,7 @@ fn begun_in(alloc: Global, words: &mut Words<'_>) -> Result<Mark, TextRefusal>
 }
 
 /// What follows the first word of a proposal.
-#[tactic(auto, unfolding(crate::specs::Reading::proposal_at))]
+#[tactic(auto, unfolding(crate::specs::Spelling::Reading::proposal_at))]
 fn read_proposal(alloc: Global, words: &mut Words<'_>) -> Result<Proposal, TextRefusal>
     ensures { ReadsInMemory result words.new (proposal_at words.old) }
 {
@@ -382,7 +382,7 @@ fn read_proposal(alloc: Global, words: &mut Words<'_>) -> Result<Proposal, TextR
 }
 
 /// What follows the first word of an acknowledgment.
-#[tactic(auto, unfolding(crate::specs::Reading::acknowledgment_at))]
+#[tactic(auto, unfolding(crate::specs::Spelling::Reading::acknowledgment_at))]
 fn read_acknowledgment(alloc: Global, words: &mut Words<'_>) -> Result<Acknowledgment, TextRefusal>
     ensures { ReadsInMemory result words.new (acknowledgment_at words.old) }
 {
@@ -398,7 +398,7 @@ fn read_acknowledgment(alloc: Global, words: &mut Words<'_>) -> Result<Acknowled
 }
 
 /// What follows the first word of a vote.
-#[tactic(auto, unfolding(crate::specs::Reading::voted_at))]
+#[tactic(auto, unfolding(crate::specs::Spelling::Reading::voted_at))]
 fn voted_in(alloc: Global, words: &mut Words<'_>) -> Result<Mark, TextRefusal>
     ensures exact { GivesInMemory result (voted_at words.old) }
     ensures written { IfOk result (λ mark. has_text mark ≡ true) }
@@ -415,7 +415,7 @@ fn voted_in(alloc: Global, words: &mut Words<'_>) -> Result<Mark, TextRefusal>
 }
 
 /// What follows the first word of a floor.
-#[tactic(auto, unfolding(crate::specs::Reading::floor_at))]
+#[tactic(auto, unfolding(crate::specs::Spelling::Reading::floor_at))]
 fn floor_in(alloc: Global, words: &mut Words<'_>) -> Result<Mark, TextRefusal>
     ensures exact { GivesInMemory result (floor_at words.old) }
     ensures written { IfOk result (λ mark. has_text mark ≡ true) }
@@ -428,7 +428,7 @@ fn floor_in(alloc: Global, words: &mut Words<'_>) -> Result<Mark, TextRefusal>
 }
 
 /// What follows the first word of an era that was entered.
-#[tactic(auto, unfolding(crate::specs::Reading::entered_at))]
+#[tactic(auto, unfolding(crate::specs::Spelling::Reading::entered_at))]
 fn entered_in(words: &mut Words<'_>) -> Result<Mark, TextRefusal>
     ensures exact { result ≡ entered_at words.old }
     ensures written { IfOk result (λ mark. has_text mark ≡ true) }
@@ -440,7 +440,7 @@ fn entered_in(words: &mut Words<'_>) -> Result<Mark, TextRefusal>
 }
 
 /// What follows the first word of a call's end.
-#[tactic(auto, unfolding(crate::specs::Reading::ended_at))]
+#[tactic(auto, unfolding(crate::specs::Spelling::Reading::ended_at))]
 fn ended_in(alloc: Global, words: &mut Words<'_>) -> Result<Mark, TextRefusal>
     ensures exact { GivesInMemory result (ended_at words.old) }
     ensures written { IfOk result (λ mark. has_text mark ≡ true) }
@@ -458,7 +458,7 @@ fn ended_in(alloc: Global, words: &mut Words<'_>) -> Result<Mark, TextRefusal>
 }
 
 /// Whether the acceptor of a harmed frame was down.
-#[tactic(auto, unfolding(crate::specs::Reading::named_at))]
+#[tactic(auto, unfolding(crate::specs::Spelling::Reading::named_at))]
 fn read_harm(words: &mut Words<'_>) -> Result<bool, TextRefusal>
     ensures { Reads result words.new (named_at harm_name words.old) }
 {
@@ -468,7 +468,7 @@ fn read_harm(words: &mut Words<'_>) -> Result<bool, TextRefusal>
 }
 
 /// What follows the first word of a harm.
-#[tactic(auto, unfolding(crate::specs::Reading::harmed_at))]
+#[tactic(auto, unfolding(crate::specs::Spelling::Reading::harmed_at))]
 fn harmed_in(words: &mut Words<'_>) -> Result<Mark, TextRefusal>
     ensures exact { result ≡ harmed_at words.old }
     ensures written { IfOk result (λ mark. has_text mark ≡ true) }
@@ -480,7 +480,7 @@ fn harmed_in(words: &mut Words<'_>) -> Result<Mark, TextRefusal>
 }
 
 /// What follows the first word of an operator's answer.
-#[tactic(auto, unfolding(crate::specs::Reading::told_mark_at))]
+#[tactic(auto, unfolding(crate::specs::Spelling::Reading::told_mark_at))]
 fn told_in(alloc: Global, words: &mut Words<'_>) -> Result<Mark, TextRefusal>
     ensures exact { GivesInMemory result (told_mark_at words.old) }
     ensures written { IfOk result (λ mark. has_text mark ≡ true) }
@@ -493,7 +493,7 @@ fn told_in(alloc: Global, words: &mut Words<'_>) -> Result<Mark, TextRefusal>
 }
 
 /// The mark of this name, by all that follows it.
-#[tactic(auto, unfolding(crate::specs::Reading::mark_of))]
+#[tactic(auto, unfolding(crate::specs::Spelling::Reading::mark_of))]
 fn mark_of(alloc: Global, name: MarkName, words: &mut Words<'_>) -> Result<Mark, TextRefusal>
     ensures exact { GivesInMemory result (mark_of name words.old) }
     ensures written { IfOk result (λ mark. has_text mark ≡ true) }
@@ -520,7 +520,7 @@ fn mark_of(alloc: Global, name: MarkName, words: &mut Words<'_>) -> Result<Mark,
 }
 
 /// The mark that all words that are left say.
-#[tactic(auto, unfolding(crate::specs::Reading::mark_at, crate::specs::Reading::named_at))]
+#[tactic(auto, unfolding(crate::specs::Spelling::Reading::mark_at, crate::specs::Spelling::Reading::named_at))]
 fn mark_in(alloc: Global, words: &mut Words<'_>) -> Result<Mark, TextRefusal>
     ensures exact { GivesInMemory result (mark_at words.old) }
     ensures written { IfOk result (λ mark. has_text mark ≡ true) }

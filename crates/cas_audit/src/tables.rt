@@ -6,7 +6,7 @@ ghost use Rattle.std.specs.Prelude.{◌≡◌, ◌<◌, ℕ, List, [], ◌∷◌
 ghost use Rattle.indexmap.specs.IndexMap.{get, spare};
 ghost use Rattle.cas_record.specs.declared.mark.Mark.{Mark};
 ghost use Rattle.cas_record.specs.Legal.{calls_of};
-ghost use Rattle.cas_record.specs.Chain.{settled_of};
+ghost use Rattle.cas_record.specs.Histories.Chain.{settled_of};
 ghost use Rattle.cas_audit.specs.Told.{call_of, row_of, opening_of, node_of, spot_of};
 ghost use Rattle.cas_audit.specs.Tables.{AreTables, HasRoom, IsFoundAt};
 

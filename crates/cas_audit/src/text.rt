@@ -4,8 +4,8 @@ ghost use Rattle.std.specs.Prelude.{◌≡◌, ◌≢◌, ℕ, ◌+◌, ◌<◌,
 ghost use Rattle.std.specs.Io.KnownBytes.{Appends, IsAtEnd};
 ghost use Rattle.cas_base.specs.Faults.{Rose};
 ghost use Rattle.cas_lines.specs.Lines.{Whole, TooMany, TooLong, ending_of};
-ghost use Rattle.cas_audit.specs.Progress.{IsProgress, IsFoundIn, WroteFront};
-ghost use Rattle.cas_audit.specs.Texts.{RecordsAreRead, IsFound, line_count, finding_line};
+ghost use Rattle.cas_audit.specs.Spelling.Progress.{IsProgress, IsFoundIn, WroteFront};
+ghost use Rattle.cas_audit.specs.Spelling.Texts.{RecordsAreRead, IsFound, line_count, finding_line};
 ghost use Rattle.cas_lines.specs.declared.lines.TheConstants.{MOST_LINES};
 ghost use Rattle.cas_audit.specs.declared.text.AuditFault.TheVariants.{WriteFault, NoMemory};
 
@@ -42,7 +42,7 @@ pub enum AuditFault {
 
 impl From<LineFault> for AuditFault {
     ghost use Rattle.std.specs.Prelude.{◌≡◌};
-    ghost use Rattle.cas_audit.specs.Progress.{fault_of_line};
+    ghost use Rattle.cas_audit.specs.Spelling.Progress.{fault_of_line};
 
     ghost from_gives = { λ fault audit_fault. audit_fault ≡ fault_of_line fault };
 
@@ -85,7 +85,7 @@ enum Progress {
 }
 
 /// How many marks a record has, as the first line of its text says.
-#[tactic(auto, unfolding(crate::specs::Texts::count_at))]
+#[tactic(auto, unfolding(crate::specs::Spelling::Texts::count_at))]
 fn read_count(line: &[u8]) -> Result<u32, TextRefusal>
     ensures { result ≡ line_count line.now }
 {

@@ -6,7 +6,7 @@ ghost use Rattle.std.specs.Option.{option_map_or};
 ghost use Rattle.cas_change_text.specs.Decimal.{u64_of};
 ghost use Rattle.cas_change_text.specs.Reading.{Reads};
 ghost use Rattle.cas_lines.specs.Reading.{within};
-ghost use Rattle.cas_audit.specs.Reading.{is_point, is_comma, u8_of, u32_of, call_of, ballot_of, members_from, members_of, said_at, behind_name, numbered_at, marked_version_at};
+ghost use Rattle.cas_audit.specs.Spelling.Reading.{is_point, is_comma, u8_of, u32_of, call_of, ballot_of, members_from, members_of, said_at, behind_name, numbered_at, marked_version_at};
 
 use cas_ballot::{AcceptorId, Ballot, Members};
 use cas_change_text::decimal::read_u64;
@@ -131,7 +131,7 @@ fn bad_number(at: usize) -> TextRefusal
 }
 
 /// The number from 0 to 255 that the next word says.
-#[tactic(auto, unfolding(crate::specs::Reading::said_at))]
+#[tactic(auto, unfolding(crate::specs::Spelling::Reading::said_at))]
 pub fn read_u8(words: &mut Words<'_>) -> Result<u8, TextRefusal>
     ensures { Reads result words.new (said_at u8_of words.old) }
 {
@@ -141,7 +141,7 @@ pub fn read_u8(words: &mut Words<'_>) -> Result<u8, TextRefusal>
 }
 
 /// The number below 2^32 that the next word says.
-#[tactic(auto, unfolding(crate::specs::Reading::said_at))]
+#[tactic(auto, unfolding(crate::specs::Spelling::Reading::said_at))]
 pub fn read_u32(words: &mut Words<'_>) -> Result<u32, TextRefusal>
     ensures { Reads result words.new (said_at u32_of words.old) }
 {
@@ -151,7 +151,7 @@ pub fn read_u32(words: &mut Words<'_>) -> Result<u32, TextRefusal>
 }
 
 /// The caller and the number of its call that the next word says.
-#[tactic(auto, unfolding(crate::specs::Reading::said_at))]
+#[tactic(auto, unfolding(crate::specs::Spelling::Reading::said_at))]
 pub fn read_call(words: &mut Words<'_>) -> Result<(u8, u32), TextRefusal>
     ensures { Reads result words.new (said_at call_of words.old) }
 {
@@ -161,7 +161,7 @@ pub fn read_call(words: &mut Words<'_>) -> Result<(u8, u32), TextRefusal>
 }
 
 /// The ballot that the next word says.
-#[tactic(auto, unfolding(crate::specs::Reading::said_at))]
+#[tactic(auto, unfolding(crate::specs::Spelling::Reading::said_at))]
 pub fn read_ballot(words: &mut Words<'_>) -> Result<Ballot, TextRefusal>
     ensures { Reads result words.new (said_at ballot_of words.old) }
 {
@@ -171,7 +171,7 @@ pub fn read_ballot(words: &mut Words<'_>) -> Result<Ballot, TextRefusal>
 }
 
 /// The acceptors whose numbers the next word says.
-#[tactic(auto, unfolding(crate::specs::Reading::said_at))]
+#[tactic(auto, unfolding(crate::specs::Spelling::Reading::said_at))]
 pub fn read_members(words: &mut Words<'_>) -> Result<Members, TextRefusal>
     ensures { Reads result words.new (said_at members_of words.old) }
 {
@@ -181,7 +181,7 @@ pub fn read_members(words: &mut Words<'_>) -> Result<Members, TextRefusal>
 }
 
 /// Takes the next word, which must be this one.
-#[tactic(auto, unfolding(crate::specs::Reading::behind_name))]
+#[tactic(auto, unfolding(crate::specs::Spelling::Reading::behind_name))]
 pub fn take_name(words: &mut Words<'_>, name: &str) -> Result<(), TextRefusal>
     ensures { MatchResult result (λ _. behind_name name.now words.old ≡ Ok words.new) (λ refusal. behind_name name.now words.old ≡ Err refusal) }
 {
@@ -197,7 +197,7 @@ pub fn take_name(words: &mut Words<'_>, name: &str) -> Result<(), TextRefusal>
 }
 
 /// The number below 2^32 that stands behind this name.
-#[tactic(auto, unfolding(crate::specs::Reading::numbered_at))]
+#[tactic(auto, unfolding(crate::specs::Spelling::Reading::numbered_at))]
 pub fn read_numbered(words: &mut Words<'_>, name: &str) -> Result<u32, TextRefusal>
     ensures { Reads result words.new (numbered_at name.now words.old) }
 {
@@ -206,7 +206,7 @@ pub fn read_numbered(words: &mut Words<'_>, name: &str) -> Result<u32, TextRefus
 }
 
 /// The version that the next word says, behind a `v`.
-#[tactic(auto, unfolding(crate::specs::Reading::marked_version_at))]
+#[tactic(auto, unfolding(crate::specs::Spelling::Reading::marked_version_at))]
 pub fn read_marked_version(words: &mut Words<'_>) -> Result<u64, TextRefusal>
     ensures { Reads result words.new (marked_version_at words.old) }
 {

@@ -8,12 +8,12 @@ use Rattle.cas_disk_shelf.specs.declared.shelf.DiskShelf.{DiskShelf}
 use Rattle.cas_proposer.specs.Desk.{DeskView}
 use Rattle.cas_record.specs.declared.mark.Mark.{Mark}
 use Rattle.cas_vault.specs.Vault.{disk_of as vault_disk}
-use Rattle.cas_cluster.specs.View.{DiskMeaning, Meaning, View, IsAt}
-use Rattle.cas_cluster.proofs.Places.{some_is}
-use Rattle.cas_rack.specs.Store.{acceptor_disks}
-use Rattle.cas_steady.specs.Blame.{Blame, Nobody, SomeAcceptor, VaultOf, AreDeserved, IsDeserved, blame_by}
-use Rattle.cas_steady.specs.Steady.{AreDesksUp, IsBlamed, IsFair}
-use Rattle.cas_world.specs.Opening.{AreDesksBelow, disks_of}
+use Rattle.cas_model.specs.View.{DiskMeaning, Meaning, View, IsAt}
+use Rattle.cas_model.proofs.Places.{some_is}
+use Rattle.cas_store.specs.Store.{acceptor_disks}
+use Rattle.cas_board_world.specs.Blame.{Blame, Nobody, SomeAcceptor, VaultOf, AreDeserved, IsDeserved, blame_by}
+use Rattle.cas_board_world.specs.Steady.{AreDesksUp, IsBlamed, IsFair}
+use Rattle.cas_world.specs.Openings.Opening.{AreDesksBelow, disks_of}
 
 -- the proposers are up as a store opens
 pub desks_up : {V : Type 0} (m : DiskMeaning V) (faults : V → ℕ) (disks : List V) (number : ℕ) (desks : List (DeskView V)) → AreDesksBelow m faults disks number desks → AreDesksUp desks

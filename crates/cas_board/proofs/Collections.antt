@@ -2,16 +2,16 @@
 use Rattle.std.proofs.Common.{◌≡◌, ℕ, List, sym, ap, subst, ◌∙◌}
 use Rattle.std.specs.Prelude.{Result, IfOk}
 use Rattle.cas_record.specs.declared.mark.Mark.{Mark}
-use Rattle.cas_cluster.specs.View.{View}
+use Rattle.cas_model.specs.View.{View}
 use Rattle.cas_turn.specs.Seen.{HasSeen}
 use Rattle.cas_turn.specs.Sitting.{Sitting}
-use Rattle.cas_hold.specs.Collecting.{HasCourse}
-use Rattle.cas_hold.specs.Mine.{wanted_by}
-use Rattle.cas_hold.specs.Owners.{owner_of}
-use Rattle.cas_hold.specs.OwnParts.{own_part}
-use Rattle.cas_hold.specs.declared.collections.Course.{Course}
-use Rattle.cas_hold.specs.declared.collections.Course.TheVariants as course
-use Rattle.cas_hold.specs.declared.collections.KeyCollection.{KeyCollection}
+use Rattle.cas_board_steps.specs.Collection.Collecting.{HasCourse}
+use Rattle.cas_board_steps.specs.Mine.{wanted_by}
+use Rattle.cas_board_steps.specs.Owners.{owner_of}
+use Rattle.cas_board_steps.specs.OwnParts.{own_part}
+use Rattle.cas_board_steps.specs.declared.collections.Course.{Course}
+use Rattle.cas_board_steps.specs.declared.collections.Course.TheVariants as course
+use Rattle.cas_board_steps.specs.declared.collections.KeyCollection.{KeyCollection}
 use Rattle.cas_board.proofs.Operating.{operator_part}
 use Rattle.cas_board.proofs.Steps.{wanted_held, wanted_still}
 

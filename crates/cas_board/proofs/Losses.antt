@@ -2,7 +2,7 @@
 use Rattle.std.proofs.Common.{◌≡◌, ◌+◌, ℕ, List, [], ◌∷◌, ◌++◌, false, true, arith}
 use Rattle.cas_record.specs.declared.mark.Mark.{Mark}
 use Rattle.cas_record.specs.declared.mark.Mark.TheVariants as mark
-use Rattle.cas_hold.specs.Mine.{losses}
+use Rattle.cas_board_steps.specs.Mine.{losses}
 use Rattle.cas_board.specs.Changes.{IsCounted}
 
 pub losses_append : (a b : List Mark) → losses (a ++ b) ≡ losses a + losses b

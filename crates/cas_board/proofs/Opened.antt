@@ -5,14 +5,14 @@ use Rattle.std.specs.List.{range_with_len}
 use Rattle.std.proofs.lemmas.List.Elements.{All-map}
 use Rattle.std.proofs.lemmas.List.FromFn.{length-range_with_len, get_or-range_with_len}
 use Rattle.cas_record.specs.declared.mark.Mark.{Mark}
-use Rattle.cas_cluster.specs.SafeLaws.{HasPlaces}
-use Rattle.cas_cluster.specs.Step.{IsOpening}
-use Rattle.cas_cluster.specs.View.{Meaning, View, CallerView, IsAt, new_caller}
+use Rattle.cas_model.specs.SafeLaws.{HasPlaces}
+use Rattle.cas_model.specs.Step.{IsOpening}
+use Rattle.cas_model.specs.View.{Meaning, View, CallerView, IsAt, new_caller}
 use Rattle.cas_turn.specs.Sitting.{Sitting, Turning, fresh_seat, fresh_seats}
 use Rattle.cas_board.specs.Passes.{IsPassOf}
-use Rattle.cas_hold.specs.Open.{IsFree}
-use Rattle.cas_hold.specs.Kept.{IsKept}
-use Rattle.cas_hold.specs.OwnParts.{caller_part, council_part, own_part}
+use Rattle.cas_board_steps.specs.Calls.Open.{IsFree}
+use Rattle.cas_board_steps.specs.Kept.{IsKept}
+use Rattle.cas_board_steps.specs.OwnParts.{caller_part, council_part, own_part}
 
 no_call : {S V : Type 0} (m : Meaning S V) (members : List ℕ) (view : View S V) → IsOpening m members view → (id : ℕ) (caller : CallerView) → IsAt view.callers id caller → caller.call ≡ None
 no_call m members view opening id caller at = ap (λ (c : CallerView). c.call) (opening.callers id caller at)

@@ -10,26 +10,26 @@ use Rattle.cas_record.specs.declared.operator.Asked.{Asked}
 use Rattle.cas_record.specs.declared.operator.OpAnswer.{OpAnswer}
 use Rattle.cas_record.specs.declared.operator.OpAnswer.TheVariants.{Stopped}
 use Rattle.cas_record.specs.declared.operator.OpAnswer.TheVariants as op
-use Rattle.cas_cluster.specs.StepCouncil.{told_marks, everyone}
-use Rattle.cas_cluster.specs.View.{View, era_at}
+use Rattle.cas_model.specs.Exchanges.Step.{told_marks, everyone}
+use Rattle.cas_model.specs.View.{View, era_at}
 use Rattle.cas_turn.specs.Seen.{Begins, HasSeen}
 use Rattle.cas_turn.specs.Sitting.{Sitting, Turning}
 use Rattle.cas_turn.proofs.SeenLemmas.{begins_both}
-use Rattle.cas_hold.specs.Counting.{count_told, CountsTo, EntersEras, HasRisen, LeavesNone}
-use Rattle.cas_hold.specs.Deeds.{IsRefusal}
-use Rattle.cas_hold.specs.Kept.{Makes, IsHeldBy}
-use Rattle.cas_hold.specs.Mine.{mine, losses, done_calls, GoesOn}
-use Rattle.cas_hold.specs.Open.{IsFree, rescanned_in}
-use Rattle.cas_hold.specs.Orders.{HasHarms, MarksHarms, OperatesIn, IsToldIn, IsProbeAnswer, IsSilentAtMost, IsTrueProbe, WasAskedBehind, stops_probe}
-use Rattle.cas_causes.proofs.Current.{among_fewer}
+use Rattle.cas_board_steps.specs.Eras.Counting.{count_told, CountsTo, EntersEras, HasRisen, LeavesNone}
+use Rattle.cas_board_steps.specs.Calls.Deeds.{IsRefusal}
+use Rattle.cas_board_steps.specs.Kept.{Makes, IsHeldBy}
+use Rattle.cas_board_steps.specs.Mine.{mine, losses, done_calls, GoesOn}
+use Rattle.cas_board_steps.specs.Calls.Open.{IsFree, rescanned_in}
+use Rattle.cas_board_steps.specs.Exchanges.Orders.{HasHarms, MarksHarms, OperatesIn, IsToldIn, IsProbeAnswer, IsSilentAtMost, IsTrueProbe, WasAskedBehind, stops_probe}
+use Rattle.cas_model_causes.proofs.Exchanges.Current.{among_fewer}
 use Rattle.cas_ballot.specs.Members.{members_where, has_member, IsMemberSet}
 use Rattle.cas_ballot.proofs.MemberLemmas.{IsMemberSet-members_where}
-use Rattle.cas_hold.specs.Owners.{owner_of}
-use Rattle.cas_hold.specs.OwnParts.{own_part}
-use Rattle.cas_world.specs.Plans.{rescanned_of}
-use Rattle.cas_hold.proofs.Counting.{done_append, own_rescanned, risen_by}
-use Rattle.cas_hold.proofs.Fronts.{front_goes_on, goes_on_then, mine_append, mine_seen}
-use Rattle.cas_hold.proofs.Operating.{told_mine}
+use Rattle.cas_board_steps.specs.Owners.{owner_of}
+use Rattle.cas_board_steps.specs.OwnParts.{own_part}
+use Rattle.cas_world.specs.Eras.Plans.{rescanned_of}
+use Rattle.cas_board_steps.proofs.Eras.Counting.{done_append, own_rescanned, risen_by}
+use Rattle.cas_board_steps.proofs.Fronts.{front_goes_on, goes_on_then, mine_append, mine_seen}
+use Rattle.cas_board_steps.proofs.Exchanges.Operating.{told_mine}
 use Rattle.cas_board.specs.Changes.{IsCounted}
 use Rattle.cas_board.specs.Operations.{HasCountedTo, HasOperated, HasMarkedHarms, IsSilentSince, WasToldLast, Operates, is_told}
 use Rattle.cas_board.specs.Passes.{IsPassOf}

@@ -7,30 +7,30 @@ use Rattle.cas_change.specs.declared.program.Clause.{Clause}
 use Rattle.cas_record.specs.declared.answer.Answer.{Answer}
 use Rattle.cas_record.specs.declared.mark.Mark.{Mark}
 use Rattle.cas_record.specs.declared.mark.Mark.TheVariants.{Begun, Ended}
-use Rattle.cas_cluster.specs.StepCalls.{one_more}
-use Rattle.cas_cluster.specs.View.{View}
-use Rattle.cas_cluster.proofs.Places.{some_is}
+use Rattle.cas_model.specs.Calls.Step.{one_more}
+use Rattle.cas_model.specs.View.{View}
+use Rattle.cas_model.proofs.Places.{some_is}
 use Rattle.cas_turn.specs.Seen.{Begins, HasSeen, OnlyOwnedBy, added_to}
 use Rattle.cas_turn.specs.Sitting.{Sitting, Turning}
 use Rattle.cas_board.specs.Passes.{IsPassOf}
 use Rattle.cas_board.specs.Changes as changes
 use Rattle.cas_board.specs.Changes.{IsCounted, HasBegun, HasNotBegun, HasGoneOn, HasEnded, Answers}
-use Rattle.cas_hold.specs.Deeds as deeds
-use Rattle.cas_hold.specs.Deeds.{BeginsIn, IsRefusal, BeginsNot, GoesOnIn, EndsIn, StraysIn}
-use Rattle.cas_hold.specs.Kept.{IsKept, Makes, IsHeldBy}
-use Rattle.cas_hold.specs.declared.deeds.Begun.{Begun as Opened}
-use Rattle.cas_hold.specs.Mine.{mine, call_of, losses, wanted_by, GoesOn, IsLast}
-use Rattle.cas_hold.specs.Owners.{owner_of, MayAdd}
-use Rattle.cas_hold.specs.OwnParts.{own_part}
-use Rattle.cas_hold.specs.Conflicts.{is_conflict}
-use Rattle.cas_hold.specs.Open.{IsFree, HasOpen, beside_in, rounds_in, is_met_in, rounds_after}
-use Rattle.cas_hold.specs.Stages.{tells_met}
-use Rattle.cas_hold.specs.declared.deeds.Stage.{Stage}
+use Rattle.cas_board_steps.specs.Calls.Deeds as deeds
+use Rattle.cas_board_steps.specs.Calls.Deeds.{BeginsIn, IsRefusal, BeginsNot, GoesOnIn, EndsIn, StraysIn}
+use Rattle.cas_board_steps.specs.Kept.{IsKept, Makes, IsHeldBy}
+use Rattle.cas_board_steps.specs.declared.deeds.Begun.{Begun as Opened}
+use Rattle.cas_board_steps.specs.Mine.{mine, call_of, losses, wanted_by, GoesOn, IsLast}
+use Rattle.cas_board_steps.specs.Owners.{owner_of, MayAdd}
+use Rattle.cas_board_steps.specs.OwnParts.{own_part}
+use Rattle.cas_board_steps.specs.Calls.Conflicts.{is_conflict}
+use Rattle.cas_board_steps.specs.Calls.Open.{IsFree, HasOpen, beside_in, rounds_in, is_met_in, rounds_after}
+use Rattle.cas_board_steps.specs.Calls.Stages.{tells_met}
+use Rattle.cas_board_steps.specs.declared.deeds.Stage.{Stage}
 use Rattle.cas_board.proofs.Losses.{losses_append, counted_then}
 use Rattle.cas_board.proofs.Passes.{still_pass}
-use Rattle.cas_hold.proofs.Fronts.{added_is, mine_append, mine_own, front_goes_on, goes_on_then, wanted_seen}
-use Rattle.cas_hold.proofs.Parts.{open_at}
-use Rattle.cas_cluster.specs.StepCalls as calls
+use Rattle.cas_board_steps.proofs.Fronts.{added_is, mine_append, mine_own, front_goes_on, goes_on_then, wanted_seen}
+use Rattle.cas_board_steps.proofs.Parts.{open_at}
+use Rattle.cas_model.specs.Calls.Step as calls
 use Rattle.cas_record.specs.declared.answer.Answer.TheVariants as answer
 
 -- ---- what may be given back

@@ -6,14 +6,14 @@ use Rattle.cas_record.specs.declared.operator.Asked.{Asked}
 use Rattle.cas_record.specs.declared.operator.OpAnswer.{OpAnswer}
 use Rattle.cas_turn.specs.Seen.{HasSeen}
 use Rattle.cas_turn.specs.Sitting.{Sitting}
-use Rattle.cas_hold.specs.Membership.{StandsAt}
-use Rattle.cas_hold.specs.Mine.{Wanted, GoesOn, mine, wanted_by}
-use Rattle.cas_hold.specs.Owners.{owner_of}
-use Rattle.cas_hold.specs.declared.deeds.Stage.{Stage}
-use Rattle.cas_hold.specs.declared.membership.MembersStep.{MembersStep}
-use Rattle.cas_hold.specs.declared.membership.Rescanning.{Rescanning}
-use Rattle.cas_hold.specs.declared.membership.Rescanning.TheVariants.{Goes, Counted}
-use Rattle.cas_hold.proofs.Fronts.{wanted_seen}
+use Rattle.cas_board_steps.specs.Eras.Membership.{StandsAt}
+use Rattle.cas_board_steps.specs.Mine.{Wanted, GoesOn, mine, wanted_by}
+use Rattle.cas_board_steps.specs.Owners.{owner_of}
+use Rattle.cas_board_steps.specs.declared.deeds.Stage.{Stage}
+use Rattle.cas_board_steps.specs.declared.membership.MembersStep.{MembersStep}
+use Rattle.cas_board_steps.specs.declared.membership.Rescanning.{Rescanning}
+use Rattle.cas_board_steps.specs.declared.membership.Rescanning.TheVariants.{Goes, Counted}
+use Rattle.cas_board_steps.proofs.Fronts.{wanted_seen}
 use Rattle.cas_board.specs.Changes.{IsCounted}
 use Rattle.cas_board.specs.Operations.{HasOperated, WasToldLast}
 use Rattle.cas_board.proofs.Sittings.{counted_none}

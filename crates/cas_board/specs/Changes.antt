@@ -5,10 +5,10 @@ use Rattle.cas_record.specs.declared.answer.Answer.{Answer}
 use Rattle.cas_record.specs.declared.mark.Mark.{Mark}
 use Rattle.cas_record.specs.declared.mark.Mark.TheVariants.{Begun, Ended}
 use Rattle.cas_turn.specs.Sitting.{Sitting}
-use Rattle.cas_hold.specs.Conflicts.{is_conflict}
-use Rattle.cas_hold.specs.Deeds.{IsRefusal}
-use Rattle.cas_hold.specs.Mine.{AreOfCall, losses, wants, wanted_by, GoesOn, IsLast}
-use Rattle.cas_hold.specs.Open.{HasOpen, beside_in, rounds_in, is_met_in}
+use Rattle.cas_board_steps.specs.Calls.Conflicts.{is_conflict}
+use Rattle.cas_board_steps.specs.Calls.Deeds.{IsRefusal}
+use Rattle.cas_board_steps.specs.Mine.{AreOfCall, losses, wants, wanted_by, GoesOn, IsLast}
+use Rattle.cas_board_steps.specs.Calls.Open.{HasOpen, beside_in, rounds_in, is_met_in}
 
 -- ---- harms
 -- a fate's count of harms did not fall, and rose by at least so much unless it stands at the greatest u64

@@ -5,14 +5,14 @@ use Rattle.cas_record.specs.declared.mark.Mark.{Mark}
 use Rattle.cas_record.specs.declared.operator.Asked.{Asked}
 use Rattle.cas_record.specs.declared.operator.OpAnswer.{OpAnswer}
 use Rattle.cas_record.specs.declared.operator.OpAnswer.TheVariants.{Probed, Stopped}
-use Rattle.cas_causes.specs.Answering.{silent_in}
-use Rattle.cas_cluster.specs.StepCouncil.{told_marks}
+use Rattle.cas_model_causes.specs.Exchanges.Answering.{silent_in}
+use Rattle.cas_model.specs.Exchanges.Step.{told_marks}
 use Rattle.cas_turn.specs.Sitting.{Sitting}
-use Rattle.cas_hold.specs.Counting.{count_told, EntersEras, HasRisen, LeavesNone}
-use Rattle.cas_hold.specs.Deeds.{IsRefusal}
-use Rattle.cas_hold.specs.Mine.{mine, losses, done_calls, GoesOn}
-use Rattle.cas_hold.specs.Open.{IsFree, rescanned_in}
-use Rattle.cas_hold.specs.Orders.{HasHarms}
+use Rattle.cas_board_steps.specs.Eras.Counting.{count_told, EntersEras, HasRisen, LeavesNone}
+use Rattle.cas_board_steps.specs.Calls.Deeds.{IsRefusal}
+use Rattle.cas_board_steps.specs.Mine.{mine, losses, done_calls, GoesOn}
+use Rattle.cas_board_steps.specs.Calls.Open.{IsFree, rescanned_in}
+use Rattle.cas_board_steps.specs.Exchanges.Orders.{HasHarms}
 use Rattle.cas_board.specs.Changes.{IsCounted}
 
 -- these are the last marks of the front

@@ -2,21 +2,21 @@
 
 ghost use Rattle.std.specs.Prelude.{◌≡◌, ◌≤◌, ℕ, true, false, if◌then◌else◌, [], Some, IfOk, IfErr, OnOk, reverse};
 ghost use Rattle.cas_record.specs.Legal.{IsLegal};
-ghost use Rattle.cas_cluster.specs.StepCalls.{one_more};
+ghost use Rattle.cas_model.specs.Calls.Step.{one_more};
 ghost use Rattle.cas_board.specs.Changes.{Answers, HasBegun, HasEnded, HasGoneOn, HasNotBegun, IsCounted};
-ghost use Rattle.cas_hold.specs.Deeds.{harm_by};
-ghost use Rattle.cas_hold.specs.Mine.{GoesOn, wanted_by, wants};
-ghost use Rattle.cas_hold.specs.Conflicts.{is_conflict};
-ghost use Rattle.cas_hold.specs.Open.{HasOpen, IsFree, is_met_in, rounds_after, rounds_in, beside_in};
-ghost use Rattle.cas_hold.specs.Stages.{tells_met};
+ghost use Rattle.cas_board_steps.specs.Calls.Deeds.{harm_by};
+ghost use Rattle.cas_board_steps.specs.Mine.{GoesOn, wanted_by, wants};
+ghost use Rattle.cas_board_steps.specs.Calls.Conflicts.{is_conflict};
+ghost use Rattle.cas_board_steps.specs.Calls.Open.{HasOpen, IsFree, is_met_in, rounds_after, rounds_in, beside_in};
+ghost use Rattle.cas_board_steps.specs.Calls.Stages.{tells_met};
 ghost use Rattle.cas_board.specs.Passes.{IsPassOf};
 
 use crate::board::{Board, Pass, caller_of};
 use crate::fates::Holds;
+use cas_board_steps::{Begun, Stage, begin, go_on};
 use cas_change::{Key, Program};
 use cas_disk::Disk;
 use cas_fate::{Fate, Verdict};
-use cas_hold::{Begun, Stage, begin, go_on};
 use cas_record::Answer;
 use std::sync::Wait;
 

@@ -2,22 +2,22 @@
 
 ghost use Rattle.std.specs.Prelude.{◌≡◌, ◌≤◌, ℕ, [], length, IfOk, IfErr, OnOk, reverse};
 ghost use Rattle.cas_record.specs.Legal.{IsLegal};
-ghost use Rattle.cas_causes.specs.Tellings.{AreTellingsSo};
-ghost use Rattle.cas_cluster.specs.StepCollect.{keep_always};
+ghost use Rattle.cas_model_causes.specs.Eras.Tellings.{AreTellingsSo};
+ghost use Rattle.cas_model.specs.Collection.Step.{keep_always};
 ghost use Rattle.cas_board.specs.Changes.{IsCounted};
 ghost use Rattle.cas_board.specs.Operations.{HasOperated, Operates, WasToldLast};
 ghost use Rattle.cas_board.specs.Passes.{IsPassOf};
-ghost use Rattle.cas_hold.specs.Collecting.{HasCourse, IsBurialMark, IsCollectAnswer, IsCollectingMark, most_rounds};
-ghost use Rattle.cas_hold.specs.Deeds.{IsRefusal, harm_by};
-ghost use Rattle.cas_hold.specs.Mine.{GoesOn};
-ghost use Rattle.cas_hold.specs.Open.{IsFree, rescanned_in};
+ghost use Rattle.cas_board_steps.specs.Collection.Collecting.{HasCourse, IsBurialMark, IsCollectAnswer, IsCollectingMark, most_rounds};
+ghost use Rattle.cas_board_steps.specs.Calls.Deeds.{IsRefusal, harm_by};
+ghost use Rattle.cas_board_steps.specs.Mine.{GoesOn};
+ghost use Rattle.cas_board_steps.specs.Calls.Open.{IsFree, rescanned_in};
 
 use crate::board::{Board, Pass};
 use crate::fates::Holds;
+use cas_board_steps::{KeyCollection, go_on_collecting, order_collection};
 use cas_change::Key;
 use cas_disk::Disk;
 use cas_fate::{Fate, Verdict};
-use cas_hold::{KeyCollection, go_on_collecting, order_collection};
 use cas_record::{Answer, Asked, OpAnswer};
 use std::sync::Wait;
 

@@ -4,7 +4,7 @@
 //! makes. What becomes of a frame the caller's fate is asked while nobody of the call holds the turn, so the calls of all callers
 //! interleave frame by frame. A pass knows the front of the record that its caller has seen.
 //!
-//! What a store does is in `cas_world`, what a hold makes of it in `cas_hold`, and the turn in `cas_turn`. No clause says that a caller gets
+//! What a store does is in `cas_world`, what a hold makes of it in `cas_board_steps`, and the turn in `cas_turn`. No clause says that a caller gets
 //! its turn, nor in which order callers do.
 #![tactic(auto)]
 

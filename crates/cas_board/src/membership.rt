@@ -2,29 +2,29 @@
 
 ghost use Rattle.std.specs.Prelude.{◌≡◌, ◌≢◌, ◌≤◌, ℕ, false, [], length, Some, IfOk, IfErr, OnOk, reverse};
 ghost use Rattle.cas_record.specs.Legal.{IsLegal};
-ghost use Rattle.cas_causes.specs.Tellings.{AreTellingsSo};
-ghost use Rattle.cas_cluster.specs.StepCollect.{keep_always};
-ghost use Rattle.cas_world.specs.Plans.{asked_to};
+ghost use Rattle.cas_model_causes.specs.Eras.Tellings.{AreTellingsSo};
+ghost use Rattle.cas_model.specs.Collection.Step.{keep_always};
+ghost use Rattle.cas_world.specs.Eras.Plans.{asked_to};
 ghost use Rattle.cas_board.specs.Changes.{IsCounted};
 ghost use Rattle.cas_board.specs.Operations.{HasOperated, Operates, WasToldLast};
 ghost use Rattle.cas_board.specs.Passes.{IsPassOf};
-ghost use Rattle.cas_hold.specs.Deeds.{IsRefusal, harm_by};
-ghost use Rattle.cas_hold.specs.Membership.{HasListing, HasPlan, HasRescan, HasRounds, IsFirstRound, IsListedTo, IsMembersAnswer, IsPlanMark, IsRescanMark, IsRescannedTo, StandsAt};
-ghost use Rattle.cas_hold.specs.Mine.{GoesOn, wanted_by, wants};
-ghost use Rattle.cas_hold.specs.Open.{IsFree, rescanned_in, rounds_after};
-ghost use Rattle.cas_hold.specs.Orders.{HasOrder};
+ghost use Rattle.cas_board_steps.specs.Calls.Deeds.{IsRefusal, harm_by};
+ghost use Rattle.cas_board_steps.specs.Eras.Membership.{HasListing, HasPlan, HasRescan, HasRounds, IsFirstRound, IsListedTo, IsMembersAnswer, IsPlanMark, IsRescanMark, IsRescannedTo, StandsAt};
+ghost use Rattle.cas_board_steps.specs.Mine.{GoesOn, wanted_by, wants};
+ghost use Rattle.cas_board_steps.specs.Calls.Open.{IsFree, rescanned_in, rounds_after};
+ghost use Rattle.cas_board_steps.specs.Exchanges.Orders.{HasOrder};
 
 use crate::board::{Board, Pass};
 use crate::change::rounds_with;
 use crate::fates::Holds;
 use cas_ballot::AcceptorId;
-use cas_change::{Key, Program};
-use cas_disk::Disk;
-use cas_fate::{Fate, Verdict};
-use cas_hold::{
+use cas_board_steps::{
     Aim, Begun, Listing, MembersStep, Rescan, Rescanning, Waiting, advance, list_on, order_members,
     rescan_on, take_up,
 };
+use cas_change::{Key, Program};
+use cas_disk::Disk;
+use cas_fate::{Fate, Verdict};
 use cas_record::{Answer, Asked, OpAnswer};
 use cas_world::PlanKind;
 use std::sync::Wait;

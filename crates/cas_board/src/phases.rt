@@ -2,15 +2,15 @@
 
 ghost use Rattle.std.specs.Prelude.{◌≡◌, []};
 ghost use Rattle.cas_board.specs.Changes.{IsCounted};
-ghost use Rattle.cas_hold.specs.Deeds.{harm_by};
-ghost use Rattle.cas_hold.specs.Mine.{GoesOn, wanted_by};
+ghost use Rattle.cas_board_steps.specs.Calls.Deeds.{harm_by};
+ghost use Rattle.cas_board_steps.specs.Mine.{GoesOn, wanted_by};
 ghost use Rattle.cas_board.specs.Passes.{IsPassOf};
 
 use crate::board::{Board, Pass};
 use crate::fates::Holds;
+use cas_board_steps::{Waiting, let_in};
 use cas_disk::Disk;
 use cas_fate::{Fate, Verdict};
-use cas_hold::{Waiting, let_in};
 use std::sync::Wait;
 
 impl<D: Disk> Board<D> {

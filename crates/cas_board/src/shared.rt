@@ -1,10 +1,10 @@
 //! The store that callers hold in turns.
 
+use cas_board_world::SteadyWorld;
 use cas_disk::Disk;
 use cas_disk_shelf::DiskShelf;
-use cas_rack::Room;
 use cas_record::Mark;
-use cas_steady::SteadyWorld;
+use cas_store::Room;
 use cas_turn::Grows;
 use std::marker::Model;
 
@@ -24,8 +24,8 @@ pub struct Shared<D: Disk> {
 impl<D: Disk> Model for Shared<D> {
     ghost use Rattle.std.specs.Coded.{codes};
     ghost use Rattle.cas_disk_shelf.specs.contracts.memory.Memory as memory;
-    ghost use Rattle.cas_hold.specs.Kept.{IsKept};
-    ghost use Rattle.cas_cluster.specs.View.{View};
+    ghost use Rattle.cas_board_steps.specs.Kept.{IsKept};
+    ghost use Rattle.cas_model.specs.View.{View};
     ghost use Rattle.cas_disk_shelf.specs.declared.shelf.DiskShelf.{DiskShelf};
 
     ghost Value = { View (DiskShelf D) D };
@@ -41,8 +41,8 @@ impl<D: Disk> Grows for Shared<D> {
     type Item = Mark;
 
     ghost use Rattle.std.specs.Prelude.{suc};
-    ghost use Rattle.cas_hold.specs.Owners.{owner_of, MayAdd};
-    ghost use Rattle.cas_hold.specs.OwnParts.{own_part};
+    ghost use Rattle.cas_board_steps.specs.Owners.{owner_of, MayAdd};
+    ghost use Rattle.cas_board_steps.specs.OwnParts.{own_part};
 
     ghost list = { λ s. s.marks };
 

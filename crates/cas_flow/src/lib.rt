@@ -1,7 +1,7 @@
 //! The frames under way: for each proposer a queue of its own frames, and one pool of late ones.
 //!
 //! A frame is bytes here, and a message to contracts. Who handles it is decided in `cas_world`, and what becomes of it in `cas_fate` and
-//! `cas_script`.
+//! `casreg_script`.
 #![tactic(auto)]
 
 mod fall;

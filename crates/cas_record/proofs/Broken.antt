@@ -13,11 +13,11 @@ use Rattle.cas_record.specs.declared.mark.Mark.TheVariants.{Begun, Proposed, Vot
 use Rattle.cas_record.specs.declared.mark.Proposal.{Proposal}
 use Rattle.cas_record.specs.declared.mark.Acknowledgment.{Acknowledgment}
 use Rattle.cas_record.specs.Places.{At, Stands, here, past, whole, later}
-use Rattle.cas_record.specs.Chain.{keep_always, settled_of}
+use Rattle.cas_record.specs.Histories.Chain.{keep_always, settled_of}
 use Rattle.cas_record.specs.Legal.{IsLegal}
-use Rattle.cas_record.specs.Witness.{key_a, at}
+use Rattle.cas_record.specs.Logs.Witness.{key_a, at}
 use Rattle.cas_record.proofs.PlaceLemmas.{none_at_nil}
-use Rattle.cas_record.proofs.ChainLemmas.{nil_not}
+use Rattle.cas_record.proofs.Histories.Chains.{nil_not}
 
 abbrev begins : ℕ → ℕ → Mark
 begins caller call = Begun caller call key_a keep_always

@@ -8,17 +8,17 @@ use Rattle.cas_record.specs.declared.mark.Mark.{Mark}
 use Rattle.cas_record.specs.declared.mark.Mark.TheVariants.{Voted, Acked}
 use Rattle.cas_record.specs.declared.mark.Acknowledgment.{Acknowledgment}
 use Rattle.cas_record.specs.Places.{Stands, IsOlderPart, IsPrefix, here, past}
-use Rattle.cas_record.specs.Chain.{chain_of}
-use Rattle.cas_record.specs.Happening.{Happening, Marked, marks_of}
-use Rattle.cas_record.specs.Lawful.{Cluster, Lawful, MayVote}
+use Rattle.cas_record.specs.Histories.Chain.{chain_of}
+use Rattle.cas_record.specs.Logs.Happening.{Happening, Marked, marks_of}
+use Rattle.cas_record.specs.Logs.Lawful.{Cluster, Lawful, MayVote}
 use Rattle.cas_record.specs.Laws.{ChainsExtend, SettledGrows, LawfulIsLegal, EarlierIsLegal}
 use Rattle.cas_record.proofs.PlaceLemmas.{stands_part, at_part, part_part}
 use Rattle.cas_base.proofs.Bools.{or_cases, or_left, or_right}
 use Rattle.cas_record.proofs.Tests.{nat_same, nat_is}
-use Rattle.cas_record.proofs.LogLemmas.{ProposedAt, stands_in_log}
-use Rattle.cas_record.proofs.Agreement.{Settles, by_ack, agree_whole}
+use Rattle.cas_record.proofs.Logs.Lemmas.{ProposedAt, stands_in_log}
+use Rattle.cas_record.proofs.Logs.Agreement.{Settles, by_ack, agree_whole}
 use Rattle.cas_record.proofs.LegalLemmas.{legal_by_seams}
-use Rattle.cas_record.proofs.Eras.{seam_of}
+use Rattle.cas_record.proofs.Logs.Eras.{seam_of}
 
 pub lawful_is_legal : LawfulIsLegal
 lawful_is_legal cluster meet log lawful = legal_by_seams cluster (seam_of cluster meet) log lawful

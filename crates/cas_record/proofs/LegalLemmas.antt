@@ -14,16 +14,16 @@ use Rattle.cas_record.specs.declared.mark.Mark.{Mark}
 use Rattle.cas_record.specs.declared.mark.Mark.TheVariants.{Begun, Proposed, Ended}
 use Rattle.cas_record.specs.declared.mark.Proposal.{Proposal}
 use Rattle.cas_record.specs.Places.{At, Stands, IsOlderPart, IsPrefix, here, past, whole, later}
-use Rattle.cas_record.specs.Chain.{has_proposal, link_of, entry_of, program_of, chain_of, top_of, settled_of}
+use Rattle.cas_record.specs.Histories.Chain.{has_proposal, link_of, entry_of, program_of, chain_of, top_of, settled_of}
 use Rattle.cas_record.specs.Legal.{calls_of, IsBegun, IsProposed, IsEnded, IsFirstProposal, IsFirstEnd, IsNumbered, DoesStand, RefusedNever, harms_due, harms_of, WasBegun, HasVotes, IsAcked, IsFloor, IsLegal}
-use Rattle.cas_record.specs.Happening.{Happening, Marked, marks_of}
-use Rattle.cas_record.specs.Lawful.{Cluster, Lawful, MayEnd, MayBeDone}
+use Rattle.cas_record.specs.Logs.Happening.{Happening, Marked, marks_of}
+use Rattle.cas_record.specs.Logs.Lawful.{Cluster, Lawful, MayEnd, MayBeDone}
 use Rattle.cas_record.proofs.PlaceLemmas.{deeper, stands_at, at_part, part_at, older_than, newer_than, at_one, order, prefix_same, length-prefix}
 use Rattle.cas_base.proofs.Bools.{false_of_not}
-use Rattle.cas_record.proofs.ChainLemmas.{chain-none, chain-at, has_proposal_tells, entry_place, acked_at_most_top}
-use Rattle.cas_record.proofs.LogLemmas.{law, lawful_older, mark_at, in_log, InLog, part_of, proposal_law, ack_law, floor_law, not_zero, proposal_placed, not_opened, AckedAt, acked_at, proposal_of_acked, above_opening, opening_deeper, has_none_zero, chain_whole, link_begins}
-use Rattle.cas_record.proofs.Agreement.{Seam, Settles, by_ack, by_opening, settles_deeper, settles_begins, settles_top, agree, grows, settled_begins, overtake}
-use Rattle.cas_record.proofs.CallLemmas.{IsCounted, counted_part, begun_once, program_of_begun}
+use Rattle.cas_record.proofs.Histories.Chains.{chain-none, chain-at, has_proposal_tells, entry_place, acked_at_most_top}
+use Rattle.cas_record.proofs.Logs.Lemmas.{law, lawful_older, mark_at, in_log, InLog, part_of, proposal_law, ack_law, floor_law, not_zero, proposal_placed, not_opened, AckedAt, acked_at, proposal_of_acked, above_opening, opening_deeper, has_none_zero, chain_whole, link_begins}
+use Rattle.cas_record.proofs.Logs.Agreement.{Seam, Settles, by_ack, by_opening, settles_deeper, settles_begins, settles_top, agree, grows, settled_begins, overtake}
+use Rattle.cas_record.proofs.Histories.Calls.{IsCounted, counted_part, begun_once, program_of_begun}
 
 -- ---- older parts of logs
 pub record LogPart (part : List Mark) (log : List Happening) : Type 0 where

@@ -12,8 +12,8 @@ use Rattle.cas_ballot.specs.declared.ballot.Ballot.{Ballot}
 use Rattle.cas_ballot.specs.Ballot.{ballot_cmp, zero_ballot, greater_of, BallotAtMost, BallotLess}
 use Rattle.cas_ballot.proofs.BallotLemmas.{compared, cmp_refl, at_most_refl, at_most_greater_left, at_most_greater_right, greater_cases, cmp_of_less}
 use Rattle.cas_record.specs.declared.mark.Proposal.{Proposal}
-use Rattle.cas_record.specs.Chain.{is_key, is_ballot, is_proposal, is_call}
-use Rattle.cas_record.specs.Lawful.{is_slot}
+use Rattle.cas_record.specs.Histories.Chain.{is_key, is_ballot, is_proposal, is_call}
+use Rattle.cas_record.specs.Logs.Lawful.{is_slot}
 
 -- ---- choices
 pub if_both : {A : Type 0} (b : Bool) (x y z : A) → x ≡ z → y ≡ z → cond b x y ≡ z

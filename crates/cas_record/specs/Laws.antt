@@ -10,12 +10,12 @@ use Rattle.cas_record.specs.declared.mark.Mark.{Mark}
 use Rattle.cas_record.specs.declared.mark.Mark.TheVariants.{Proposed}
 use Rattle.cas_record.specs.declared.mark.Proposal.{Proposal}
 use Rattle.cas_record.specs.Places.{Stands, IsOlderPart, IsPrefix}
-use Rattle.cas_record.specs.Chain.{has_opening, link_of, chain_of, settled_of}
+use Rattle.cas_record.specs.Histories.Chain.{has_opening, link_of, chain_of, settled_of}
 use Rattle.cas_record.specs.Legal.{HasFloor, IsLegal}
-use Rattle.cas_record.specs.Happening.{Happening, Promised, Took, Dropped, Entered, Drew, marks_of}
-use Rattle.cas_record.specs.Lawful.{Cluster, ClusterMeets, IsWidened, HasOpening, HasFloorAbove, AllEntered, IsRescanned, IsCollected, MayLeave, MayPropose, Granted, Lawful, MayVote}
-use Rattle.cas_record.specs.Listing.{WasAbsent}
-use Rattle.cas_record.specs.Orderly.{IsRoundAsk, WasAsked, IsClear, IsNoneOrAbove, WasRead, Orderly}
+use Rattle.cas_record.specs.Logs.Happening.{Happening, Promised, Took, Dropped, Entered, Drew, marks_of}
+use Rattle.cas_record.specs.Logs.Lawful.{Cluster, ClusterMeets, IsWidened, HasOpening, HasFloorAbove, AllEntered, IsRescanned, IsCollected, MayLeave, MayPropose, Granted, Lawful, MayVote}
+use Rattle.cas_record.specs.Logs.Listing.{WasAbsent}
+use Rattle.cas_record.specs.Logs.Orderly.{IsRoundAsk, WasAsked, IsClear, IsNoneOrAbove, WasRead, Orderly}
 
 -- the proposal was chosen: an accept quorum of its era took its ballot
 pub record IsChosen (cluster : Cluster) (log : List Happening) (p : Proposal) : Type 0 where

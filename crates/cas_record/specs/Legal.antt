@@ -16,8 +16,8 @@ use Rattle.cas_record.specs.declared.mark.Mark.TheVariants.{Begun, Proposed, Vot
 use Rattle.cas_record.specs.declared.mark.Proposal.{Proposal}
 use Rattle.cas_record.specs.declared.mark.Acknowledgment.{Acknowledgment}
 use Rattle.cas_record.specs.Places.{At, Stands, IsOlderPart, IsPrefix}
-use Rattle.cas_record.specs.Chain.{is_call, settled_of}
-use Rattle.cas_record.specs.Replay.{replay_from, opening_state}
+use Rattle.cas_record.specs.Histories.Chain.{is_call, settled_of}
+use Rattle.cas_record.specs.Histories.Replay.{replay_from, opening_state}
 
 -- ---- calls
 -- how many calls the caller began

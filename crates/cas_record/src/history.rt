@@ -6,10 +6,10 @@ ghost use Rattle.cas_record.specs.declared.mark.Mark.{Mark};
 ghost use Rattle.cas_record.specs.declared.mark.Mark.TheVariants.{Proposed};
 ghost use Rattle.cas_record.specs.declared.mark.Proposal.{Proposal};
 ghost use Rattle.cas_record.specs.Places.{At};
-ghost use Rattle.cas_record.specs.Chain.{is_ballot, floor_below, keep_always, entry_of};
-ghost use Rattle.cas_record.specs.Index.{link_by, program_at, state_at};
-ghost use Rattle.cas_record.specs.Replay.{replay_from};
-ghost use Rattle.cas_record.specs.Tables.{IsLinkIn};
+ghost use Rattle.cas_record.specs.Histories.Chain.{is_ballot, floor_below, keep_always, entry_of};
+ghost use Rattle.cas_record.specs.Kept.Index.{link_by, program_at, state_at};
+ghost use Rattle.cas_record.specs.Histories.Replay.{replay_from};
+ghost use Rattle.cas_record.specs.Kept.Tables.{IsLinkIn};
 
 use crate::entry::Entry;
 use crate::mark::Mark;

@@ -6,7 +6,7 @@
 //! first.
 
 ghost use Rattle.cas_record.specs.Laws.{ChainsExtend, OpeningsAreEmpty, SettledGrows, LawfulIsLegal, EarlierIsLegal, DrawnOnce, AnswersAboveRemovals, DrawsAreGranted, FloorsAreTold, LinksAreRead, OpeningsAreRead, ListingsGiveStones, ListingsGiveOpeningStones, LeavingStays, WiderStaysLawful};
-ghost use Rattle.cas_record.specs.Witness.{WitnessStands, WitnessIsOrderly};
+ghost use Rattle.cas_record.specs.Logs.Witness.{WitnessStands, WitnessIsOrderly};
 
 /// Agreement: in a lawful log the history of a ballot that an accept quorum of its era took begins the history of each
 /// greater proposal of the key, whatever promises rode along, floors were made and eras entered, provided that the

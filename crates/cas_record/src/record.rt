@@ -2,9 +2,9 @@
 
 ghost use Rattle.std.specs.Prelude.{◌≡◌, ◌+◌, ◌<◌, ◌≤◌, [], ◌∷◌, ◌++◌, ℕ, List, reverse, option_copied, IfSome, MatchOption, IfOk, OnOk, OnErr};
 ghost use Rattle.cas_record.specs.Book.{Book};
-ghost use Rattle.cas_record.specs.Chain.{settled_of};
-ghost use Rattle.cas_record.specs.Index.{top_at, IsAfter, IsListed, KeyLess};
-ghost use Rattle.cas_record.specs.Replay.{opening_state, replay_from};
+ghost use Rattle.cas_record.specs.Histories.Chain.{settled_of};
+ghost use Rattle.cas_record.specs.Kept.Index.{top_at, IsAfter, IsListed, KeyLess};
+ghost use Rattle.cas_record.specs.Histories.Replay.{opening_state, replay_from};
 
 use crate::entry::Entry;
 use crate::history;
@@ -40,7 +40,7 @@ impl Model for Record {
 
     ghost view = { λ record_. record { marks = record_.marks.items; room = record_.room } };
 
-    ghost use Rattle.cas_record.specs.Tables.{IsTablesOf, HasRoomFor};
+    ghost use Rattle.cas_record.specs.Kept.Tables.{IsTablesOf, HasRoomFor};
 
     ghost invariant = { λ record_. IsTablesOf record_.tables record_.marks.items × HasRoomFor record_.room record_.tables × (vec_len record_.marks + record_.room ≤ vec_capacity record_.marks) };
 }

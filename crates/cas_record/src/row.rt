@@ -5,8 +5,8 @@
 ghost use Rattle.std.specs.Prelude.{◌≡◌, ◌≤◌, ℕ, List, ◌∷◌, length, Some, None, option_copied};
 ghost use Rattle.cas_change.specs.declared.program.Clause.{Clause};
 ghost use Rattle.cas_record.specs.declared.mark.Mark.{Mark};
-ghost use Rattle.cas_record.specs.Chain.{has_calls};
-ghost use Rattle.cas_record.specs.Index.{named_by, key_at, later_of, top_at, floor_at, opening_at, TellsOf};
+ghost use Rattle.cas_record.specs.Histories.Chain.{has_calls};
+ghost use Rattle.cas_record.specs.Kept.Index.{named_by, key_at, later_of, top_at, floor_at, opening_at, TellsOf};
 
 use crate::mark::Mark;
 use cas_ballot::Ballot;

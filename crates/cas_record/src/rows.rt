@@ -2,9 +2,9 @@
 
 ghost use Rattle.std.specs.Prelude.{◌≡◌, ◌⊎◌, ◌+◌, ◌<◌, ◌≤◌, ℕ, List, [], ◌∷◌, ◌++◌, length, reverse, vec_len, vec_capacity, Some, None, option_copied, slice_set, Contains};
 ghost use Rattle.cas_record.specs.declared.mark.Mark.{Mark};
-ghost use Rattle.cas_record.specs.Chain.{has_calls};
-ghost use Rattle.cas_record.specs.Index.{named_by, home_of, IsRowOf};
-ghost use Rattle.cas_record.specs.Tables.{row_cmp, place_in, IsRowFor, HasRows, IsFirstAfter, IsSearched};
+ghost use Rattle.cas_record.specs.Histories.Chain.{has_calls};
+ghost use Rattle.cas_record.specs.Kept.Index.{named_by, home_of, IsRowOf};
+ghost use Rattle.cas_record.specs.Kept.Tables.{row_cmp, place_in, IsRowFor, HasRows, IsFirstAfter, IsSearched};
 
 use crate::mark::Mark;
 use crate::row::{Row, empty_row, key_at, row_after};

@@ -6,9 +6,9 @@ ghost use Rattle.std.specs.Prelude.{◌≡◌, ◌+◌, ◌<◌, ◌≤◌, ℕ,
 ghost use Rattle.cas_record.specs.declared.mark.Mark.{Mark};
 ghost use Rattle.cas_change.specs.declared.program.Clause.{Clause};
 ghost use Rattle.cas_change.specs.declared.state.State.{State};
-ghost use Rattle.cas_record.specs.Chain.{floor_below, settled_of};
-ghost use Rattle.cas_record.specs.Index.{floor_at, link_by, next_at, standing_at, IsListed, IsRowOf};
-ghost use Rattle.cas_record.specs.Tables.{AreUnlisted, IsNextListed, IsRowFor, IsTablesOf, HasRoomFor};
+ghost use Rattle.cas_record.specs.Histories.Chain.{floor_below, settled_of};
+ghost use Rattle.cas_record.specs.Kept.Index.{floor_at, link_by, next_at, standing_at, IsListed, IsRowOf};
+ghost use Rattle.cas_record.specs.Kept.Tables.{AreUnlisted, IsNextListed, IsRowFor, IsTablesOf, HasRoomFor};
 
 use crate::entry::Entry;
 use crate::first::keep_first;

@@ -8,9 +8,9 @@ use Rattle.std.proofs.lemmas.Bool.Decides.{nat_tests}
 use Rattle.cas_acceptor.specs.Acceptor.{AcceptorView}
 use Rattle.cas_ballot.specs.Members.{members_where, has_member, with_member, IsMemberSet}
 use Rattle.cas_ballot.proofs.MemberLemmas.{has-members_where, members_where_same, IsMemberSet-members_where}
-use Rattle.cas_cluster.specs.View.{IsAt}
-use Rattle.cas_cluster.proofs.Places.{some_is}
-use Rattle.cas_world.specs.Opening.{members_to, unstarted}
+use Rattle.cas_model.specs.View.{IsAt}
+use Rattle.cas_model.proofs.Places.{some_is}
+use Rattle.cas_world.specs.Openings.Opening.{members_to, unstarted}
 
 -- ---- the last of a list
 pub last_first : {A : Type 0} (old new : List A) (x : A) → old ≡ new ++ x ∷ [] → reverse old ≡ x ∷ reverse new

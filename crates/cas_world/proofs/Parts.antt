@@ -5,11 +5,11 @@ use Rattle.std.proofs.lemmas.Option.{slice_get_read}
 use Rattle.cas_acceptor.specs.Acceptor.{AcceptorView}
 use Rattle.cas_disk.specs.Disk.{LeavesOnly as DiskLeavesOnly}
 use Rattle.cas_slot.specs.Shelf.{Left, LeavesOnly}
-use Rattle.cas_cluster.specs.History.{IsRemembered}
-use Rattle.cas_cluster.specs.Step.{Event, Step}
-use Rattle.cas_cluster.proofs.Places.{some_is}
-use Rattle.cas_cluster.proofs.ViewLaws.{steps}
-use Rattle.cas_cluster.specs.View.{Meaning, View, IsAt}
+use Rattle.cas_model.specs.History.{IsRemembered}
+use Rattle.cas_model.specs.Step.{Event, Step}
+use Rattle.cas_model.proofs.Places.{some_is}
+use Rattle.cas_model.proofs.ViewLaws.{steps}
+use Rattle.cas_model.specs.View.{Meaning, View, IsAt}
 
 -- what an index reads stands there
 pub at_place : {A : Type 0} (xs : List A) (n place : ℕ) (x : A) → n ≡ place → place < length xs → x ≡ slice_index_or xs n x → IsAt xs place x

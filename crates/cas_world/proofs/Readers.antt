@@ -5,13 +5,13 @@ use Rattle.cas_acceptor.specs.Acceptor.{AcceptorView}
 use Rattle.cas_flow.specs.Flow.{FlowView}
 use Rattle.cas_proposer.specs.Desk.{DeskView}
 use Rattle.cas_record.specs.Book.{Book}
-use Rattle.cas_cluster.specs.Safe.{IsSafe}
-use Rattle.cas_cluster.specs.View.{IsAt}
-use Rattle.cas_calls.specs.declared.council.Council.{Council}
-use Rattle.cas_calls.specs.declared.call.Caller.{Caller}
+use Rattle.cas_model.specs.Safe.{IsSafe}
+use Rattle.cas_model.specs.View.{IsAt}
+use Rattle.cas_world_calls.specs.declared.council.Council.{Council}
+use Rattle.cas_world_calls.specs.declared.call.Caller.{Caller}
 use Rattle.cas_world.specs.World.{view_of, caller_view}
-use Rattle.cas_world.proofs.Callers.{at_map}
-use Rattle.cas_cluster.proofs.SafeParts.{at_low}
+use Rattle.cas_world.proofs.Calls.Callers.{at_map}
+use Rattle.cas_model.proofs.Safety.Parts.{at_low}
 
 -- a caller begins no more calls than there are marks
 pub few_calls : {S V : Type 0} (greatest : ℕ) (council : Council) (acceptors : List (AcceptorView S)) (desks : List (DeskView V)) (callers : List Caller) (flow : FlowView) (book : Book) (id : ℕ) (caller : Caller)

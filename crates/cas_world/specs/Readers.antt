@@ -7,8 +7,8 @@ use Rattle.cas_proposer.specs.declared.round.Round.{Round}
 use Rattle.cas_record.specs.declared.answer.Answer.{Answer}
 use Rattle.cas_round.specs.declared.verdict.RoundVerdict.{RoundVerdict}
 use Rattle.cas_round.specs.declared.verdict.RoundVerdict.TheVariants.{Quorum}
-use Rattle.cas_cluster.specs.View.{CallView, CallerView}
-use Rattle.cas_cluster.specs.Protocol.{is_done}
+use Rattle.cas_model.specs.View.{CallView, CallerView}
+use Rattle.cas_protocol.specs.Protocol.{is_done}
 
 -- the number of the caller's next call
 abbrev pub next_number : CallerView → ℕ

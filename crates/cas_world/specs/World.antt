@@ -7,14 +7,14 @@ use Rattle.cas_proposer.specs.declared.round.Round.{Round}
 use Rattle.cas_flow.specs.Flow.{FlowView, queue_at}
 use Rattle.cas_record.specs.Book.{Book}
 use Rattle.cas_record.specs.declared.answer.Answer.{Answer}
-use Rattle.cas_calls.specs.declared.call.Caller.{Caller}
-use Rattle.cas_calls.specs.declared.call.OpenCall.{OpenCall}
-use Rattle.cas_calls.specs.declared.council.Council.{Council}
-use Rattle.cas_calls.specs.Council.{council_view}
-use Rattle.cas_calls.specs.declared.proposal.Copies.{Copies}
-use Rattle.cas_cluster.specs.History.{IsRemembered}
-use Rattle.cas_cluster.specs.Safe.{IsSafe}
-use Rattle.cas_cluster.specs.View.{Meaning, View, CallView, CallerView, IsAt, reserved_in_all}
+use Rattle.cas_world_calls.specs.declared.call.Caller.{Caller}
+use Rattle.cas_world_calls.specs.declared.call.OpenCall.{OpenCall}
+use Rattle.cas_world_calls.specs.declared.council.Council.{Council}
+use Rattle.cas_world_calls.specs.Council.{council_view}
+use Rattle.cas_world_calls.specs.declared.proposal.Copies.{Copies}
+use Rattle.cas_model.specs.History.{IsRemembered}
+use Rattle.cas_model.specs.Safe.{IsSafe}
+use Rattle.cas_model.specs.View.{Meaning, View, CallView, CallerView, IsAt, reserved_in_all}
 
 -- ---- what is seen
 abbrev pub call_view : OpenCall → CallView

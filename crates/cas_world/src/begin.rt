@@ -3,23 +3,19 @@
 ghost use Rattle.std.specs.Prelude.{◌≡◌, ◌⊎◌, ◌↔◌, ◌+◌, ◌^◌, ◌<◌, ◌≤◌, ◌++◌, length, sum_by, slice_get, slice_set, false, Some, None, IsSome, IsOk, IsErrOf, IfOk, IfErr, IfSome, OnOk, OnErr};
 ghost use Rattle.cas_ballot.specs.Ballot.{FitsBallot};
 ghost use Rattle.cas_cache.specs.Entries.{promise_at};
-ghost use Rattle.cas_cluster.specs.StepCalls.{Sends, prepares_to, round_marks, IsFull};
-ghost use Rattle.cas_causes.specs.Told.{BeginsBy};
-ghost use Rattle.cas_cluster.specs.View.{meaning};
-ghost use Rattle.cas_cluster.specs.Protocol.{is_done};
-ghost use Rattle.cas_world.specs.Beginning.{opening_of, refused, entered, entry_marks, settled, settled_marks, OpensRound, FailsToOpen, reserved_beside, MayBegin, BeginsOrNot, Heeds, HeedsLoss};
-ghost use Rattle.cas_calls.specs.Council.{council_view};
-ghost use Rattle.cas_calls.specs.Call.{reserved_of};
-ghost use Rattle.cas_calls.specs.declared.call.Caller.{Caller as ACaller};
-ghost use Rattle.cas_calls.specs.Proposing.{disks};
+ghost use Rattle.cas_model.specs.Calls.Step.{Sends, prepares_to, round_marks, IsFull};
+ghost use Rattle.cas_model_causes.specs.Calls.Told.{BeginsBy};
+ghost use Rattle.cas_model.specs.View.{meaning};
+ghost use Rattle.cas_protocol.specs.Protocol.{is_done};
+ghost use Rattle.cas_world.specs.Calls.Beginning.{opening_of, refused, entered, entry_marks, settled, settled_marks, OpensRound, FailsToOpen, reserved_beside, MayBegin, BeginsOrNot, Heeds, HeedsLoss};
+ghost use Rattle.cas_world_calls.specs.Council.{council_view};
+ghost use Rattle.cas_world_calls.specs.Call.{reserved_of};
+ghost use Rattle.cas_world_calls.specs.declared.call.Caller.{Caller as ACaller};
+ghost use Rattle.cas_world_calls.specs.Proposing.{disks};
 
 use crate::proposing::propose_on;
 use crate::world::World;
 use cas_ballot::Ballot;
-use cas_calls::call::{Caller, OpenCall, reserved_by};
-use cas_calls::council::Council;
-use cas_calls::proposal::{Author, Proposing};
-use cas_calls::send::send_to;
 use cas_change::{Key, Program};
 use cas_disk::Disk;
 use cas_flow::Flow;
@@ -28,6 +24,10 @@ use cas_quorum::Era;
 use cas_record::{Answer, MOST_MARKS, Mark, Record};
 use cas_slot::{Ask, Shelf};
 use cas_vault::VaultError;
+use cas_world_calls::call::{Caller, OpenCall, reserved_by};
+use cas_world_calls::council::Council;
+use cas_world_calls::proposal::{Author, Proposing};
+use cas_world_calls::send::send_to;
 use std::alloc::{AllocError, Global};
 
 /// What a new call keeps, and the mark of its beginning.

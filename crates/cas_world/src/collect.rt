@@ -1,24 +1,21 @@
 //! The call of a collection: its rounds, by which proposer 0 has the tombstone of the key acknowledged.
 
 ghost use Rattle.std.specs.Prelude.{◌≡◌, ◌↔◌, ◌<◌, ◌≤◌, length, None, Some, false, true, IsTrue, IsOk, IsErrOf, IfSome, IfErr, OnOk, OnErr, Ok, ℕ};
-ghost use Rattle.cas_cluster.specs.Collection.{tomb_of};
-ghost use Rattle.cas_cluster.specs.Step.{Step, BeginCollect, EndCollect, ReadHeld, Propose};
-ghost use Rattle.cas_cluster.specs.StepCalls.{IsFull};
-ghost use Rattle.cas_cluster.specs.StepCollect.{keep_always};
-ghost use Rattle.cas_cluster.specs.View.{CallerView, IsAt, meaning};
+ghost use Rattle.cas_model.specs.Collection.State.{tomb_of};
+ghost use Rattle.cas_model.specs.Step.{Step, BeginCollect, EndCollect, ReadHeld, Propose};
+ghost use Rattle.cas_model.specs.Calls.Step.{IsFull};
+ghost use Rattle.cas_model.specs.Collection.Step.{keep_always};
+ghost use Rattle.cas_model.specs.View.{CallerView, IsAt, meaning};
 ghost use Rattle.cas_proposer.specs.Desk.{DeskView};
-ghost use Rattle.cas_world.specs.Beginning.{MayBegin};
-ghost use Rattle.cas_world.specs.Collect.{MayCollectKey, RefusesCollection, HasCollected, CollectsNot, IsCollectingCall, FindsHeld, CountsTombstone, renewal_in};
-ghost use Rattle.cas_world.specs.Reading.{HasProposed};
+ghost use Rattle.cas_world.specs.Calls.Beginning.{MayBegin};
+ghost use Rattle.cas_world.specs.Collection.Collect.{MayCollectKey, RefusesCollection, HasCollected, CollectsNot, IsCollectingCall, FindsHeld, CountsTombstone, renewal_in};
+ghost use Rattle.cas_world.specs.Calls.Reading.{HasProposed};
 ghost use Rattle.cas_world.specs.World.{IsInPhase, WasTold};
 
 use crate::begin::round_marks;
 use crate::propose::acknowledge;
 use crate::world::World;
 use cas_ballot::Ballot;
-use cas_calls::answers::cause_by;
-use cas_calls::call::reserved_by;
-use cas_calls::council::no_memory;
 use cas_change::{Key, Program, State};
 use cas_collect::CollectStep;
 use cas_disk::Disk;
@@ -26,6 +23,9 @@ use cas_proposer::Desk;
 use cas_record::{Answer, MOST_MARKS, OpAnswer};
 use cas_round::RoundVerdict;
 use cas_slot::Shelf;
+use cas_world_calls::answers::cause_by;
+use cas_world_calls::call::reserved_by;
+use cas_world_calls::council::no_memory;
 
 /// What the prepare phase of a collection's round came to.
 #[derive(Clone, Copy, Debug, PartialEq, Eq)]

@@ -2,17 +2,17 @@
 
 ghost use Rattle.std.specs.Prelude.{◌≡◌, ◌⊎◌, ◌<◌, length, None, IsSome, IsErrOf, IfOk, IfErr, OnOk, OnErr};
 ghost use Rattle.cas_collect.specs.declared.collect.CollectStep.TheVariants.{Ages as AgesStep, Remove as RemoveStep};
-ghost use Rattle.cas_cluster.specs.Step.{Step, AskCollect, GatherCollect, GatherRound};
-ghost use Rattle.cas_world.specs.Collect.{AreRemovalsDone};
-ghost use Rattle.cas_cluster.specs.View.{meaning};
-ghost use Rattle.cas_world.specs.Exchange.{MayAskCollected, MayGatherCollected, MayGatherRound, HasGathered, WasToldOrder};
+ghost use Rattle.cas_model.specs.Step.{Step, AskCollect, GatherCollect, GatherRound};
+ghost use Rattle.cas_world.specs.Collection.Collect.{AreRemovalsDone};
+ghost use Rattle.cas_model.specs.View.{meaning};
+ghost use Rattle.cas_world.specs.Exchanges.Exchange.{MayAskCollected, MayGatherCollected, MayGatherRound, HasGathered, WasToldOrder};
 
 use crate::exchange::ask_each;
 use crate::world::World;
-use cas_calls::council::{Gathered, no_memory, reserved_in_all};
 use cas_disk::Disk;
 use cas_record::{Answer, MOST_MARKS, OpAnswer};
 use cas_slot::Shelf;
+use cas_world_calls::council::{Gathered, no_memory, reserved_in_all};
 
 impl<S: Shelf, V: Disk> World<S, V> {
     /// The step of the collection that is due asks all members, under the ballot of its tombstone.

@@ -1,9 +1,9 @@
 //! The end of a call.
 
 ghost use Rattle.std.specs.Prelude.{◌≡◌, ◌≤◌, Some, None, IsSome};
-ghost use Rattle.cas_cluster.specs.Step.{Step, End};
-ghost use Rattle.cas_cluster.specs.StepDesks.{EndsRound};
-ghost use Rattle.cas_cluster.specs.View.{meaning};
+ghost use Rattle.cas_model.specs.Step.{Step, End};
+ghost use Rattle.cas_model.specs.Calls.Desks.{EndsRound};
+ghost use Rattle.cas_model.specs.View.{meaning};
 ghost use Rattle.cas_world.specs.World.{WasTold};
 ghost use Rattle.cas_proposer.specs.declared.round.Round.{Round};
 

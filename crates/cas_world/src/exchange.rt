@@ -5,40 +5,40 @@ ghost use Rattle.cas_flow.specs.Flow.{queue_at};
 ghost use Rattle.cas_flow.specs.Message.{CanBeSent};
 ghost use Rattle.cas_flow.specs.Queue.{fall_of};
 ghost use Rattle.cas_flow.specs.declared.message.Message.TheVariants as message;
-ghost use Rattle.cas_cluster.specs.Council.{exchange_place};
-ghost use Rattle.cas_cluster.specs.Step.{Step, Order as Orders, RefuseOrder, Tell, AskAll, TurnExchange, RefuseTurnExchange, Gather};
-ghost use Rattle.cas_cluster.specs.StepFrames.{FindsNoRoom};
-ghost use Rattle.cas_cluster.specs.View.{meaning, reserved_in_all};
+ghost use Rattle.cas_model.specs.Council.{exchange_place};
+ghost use Rattle.cas_model.specs.Step.{Step, Order as Orders, RefuseOrder, Tell, AskAll, TurnExchange, RefuseTurnExchange, Gather};
+ghost use Rattle.cas_model.specs.Frames.Step.{FindsNoRoom};
+ghost use Rattle.cas_model.specs.View.{meaning, reserved_in_all};
 ghost use Rattle.cas_ballot.specs.Ballot.{FitsBallot};
-ghost use Rattle.cas_cluster.specs.StepCalls.{Sends};
-ghost use Rattle.cas_cluster.specs.StepCouncil.{new_exchange, questions_to, told_marks, HasTag};
-ghost use Rattle.cas_calls.specs.Council.{exchange_view, question_view, left_to_list};
-ghost use Rattle.cas_world.specs.Exchange.{MayAsk, MayAskThis, MayGather, MayGatherMembers, HasGathered, asking_of, gathering_of, WasToldOrder, IsAsked, Opens, FailsToAsk, FailsToTag, question_in, question_from, asked_from, begins_with};
-ghost use Rattle.cas_cluster.specs.CollectLaws.{HasItsFloor};
-ghost use Rattle.cas_cluster.specs.SafeLaws.{HaveEnteredIts};
-ghost use Rattle.cas_world.specs.Collect.{AreRemovalsDone};
-ghost use Rattle.cas_world.specs.Plans.{HasCollectedAll, HasFinished, MayTell};
-ghost use Rattle.cas_calls.specs.Proposing.{disks};
+ghost use Rattle.cas_model.specs.Calls.Step.{Sends};
+ghost use Rattle.cas_model.specs.Exchanges.Step.{new_exchange, questions_to, told_marks, HasTag};
+ghost use Rattle.cas_world_calls.specs.Council.{exchange_view, question_view, left_to_list};
+ghost use Rattle.cas_world.specs.Exchanges.Exchange.{MayAsk, MayAskThis, MayGather, MayGatherMembers, HasGathered, asking_of, gathering_of, WasToldOrder, IsAsked, Opens, FailsToAsk, FailsToTag, question_in, question_from, asked_from, begins_with};
+ghost use Rattle.cas_model.specs.Collection.Laws.{HasItsFloor};
+ghost use Rattle.cas_model.specs.SafeLaws.{HaveEnteredIts};
+ghost use Rattle.cas_world.specs.Collection.Collect.{AreRemovalsDone};
+ghost use Rattle.cas_world.specs.Eras.Plans.{HasCollectedAll, HasFinished, MayTell};
+ghost use Rattle.cas_world_calls.specs.Proposing.{disks};
 
 use crate::serve::{Served, serve};
 use crate::turn::{first, peer_of};
 use crate::world::World;
 use cas_ballot::{Ballot, Members};
-use cas_calls::answers::copy_of;
-use cas_calls::council::{
-    EXCHANGE_PLACE, EndedOrder, Gathered, OpenExchange, Opened, Order, Query, Question, no_memory,
-    reserved_in_all, unanswered,
-};
-use cas_calls::send::send_questions;
 use cas_change::Key;
 use cas_disk::Disk;
 use cas_fate::Verdict;
 use cas_flow::{Fall, Flow, Message};
-use cas_listing::{Listing, Places};
 use cas_proposer::Desk;
 use cas_record::{Answer, Asked, MOST_MARKS, Mark, OpAnswer, Record};
 use cas_slot::{Request, Shelf};
 use cas_vault::VaultError;
+use cas_world_calls::answers::copy_of;
+use cas_world_calls::council::{
+    EXCHANGE_PLACE, EndedOrder, Gathered, OpenExchange, Opened, Order, Query, Question, no_memory,
+    reserved_in_all, unanswered,
+};
+use cas_world_calls::send::send_questions;
+use cas_world_listing::{Listing, Places};
 use std::alloc::{AllocError, Global};
 
 /// What proposer 0 asks all members.

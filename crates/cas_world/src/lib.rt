@@ -21,7 +21,7 @@ mod stray;
 mod turn;
 mod world;
 
-pub use cas_calls::council::Gathered;
+pub use cas_world_calls::council::Gathered;
 pub use collect::Reading;
 pub use exchange::Exchange;
 pub use fault::{OpenFault, StrayFault};

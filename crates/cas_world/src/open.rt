@@ -2,21 +2,21 @@
 
 ghost use Rattle.std.specs.Prelude.{◌≡◌, ◌+◌, ◌<◌, ◌≤◌, [], ◌++◌, drop, reverse, replicate, vec_len, vec_capacity, IfOk, IfErr, OnOk};
 ghost use Rattle.cas_flow.specs.Flow.{empty_flow};
-ghost use Rattle.cas_cluster.specs.View.{meaning};
-ghost use Rattle.cas_world.specs.Opening.{unbegun, members_to, unstarted, NoneStarted, shelves_of, disks_of, IsFaultOf, fault_of_shelf, AreStartedBelow, AMemberFails, IsDeskOver, AreDesksBelow, AVaultFails, AllStart, SomeDiskFails};
-ghost use Rattle.cas_calls.specs.Proposing.{disks as disks_like};
-ghost use Rattle.cas_world.specs.Serve.{shelves as shelves_like};
+ghost use Rattle.cas_model.specs.View.{meaning};
+ghost use Rattle.cas_world.specs.Openings.Opening.{unbegun, members_to, unstarted, NoneStarted, shelves_of, disks_of, IsFaultOf, fault_of_shelf, AreStartedBelow, AMemberFails, IsDeskOver, AreDesksBelow, AVaultFails, AllStart, SomeDiskFails};
+ghost use Rattle.cas_world_calls.specs.Proposing.{disks as disks_like};
+ghost use Rattle.cas_world.specs.Frames.Serve.{shelves as shelves_like};
 
 use crate::fault::OpenFault;
 use crate::world::Config;
 use cas_acceptor::Acceptor;
 use cas_ballot::{AcceptorId, Members, ProposerId};
-use cas_calls::call::Caller;
 use cas_disk::Disk;
 use cas_flow::Flow;
 use cas_proposer::Desk;
 use cas_slot::{Shelf, ShelfFault};
 use cas_vault::{Vault, VaultError};
+use cas_world_calls::call::Caller;
 use std::alloc::{AllocError, Global};
 
 /// How many identities of acceptors there are. The disks of the proposers are numbered from there on.

@@ -2,22 +2,22 @@
 
 ghost use Rattle.std.specs.Prelude.{◌≡◌, ◌≤◌, slice_get};
 ghost use Rattle.cas_world.specs.Readers.{up_in};
-ghost use Rattle.cas_cluster.specs.StepStops.{CrashesDesk, broken_off_view};
-ghost use Rattle.cas_cluster.specs.Step.{Step, CrashAcceptor, RestartAcceptor, CrashProposer, RestartProposer};
-ghost use Rattle.cas_cluster.specs.View.{IsAt, meaning};
+ghost use Rattle.cas_model.specs.Stops.Step.{CrashesDesk, broken_off_view};
+ghost use Rattle.cas_model.specs.Step.{Step, CrashAcceptor, RestartAcceptor, CrashProposer, RestartProposer};
+ghost use Rattle.cas_model.specs.View.{IsAt, meaning};
 ghost use Rattle.cas_acceptor.specs.Acceptor.{AcceptorView};
 ghost use Rattle.cas_proposer.specs.Desk.{DeskView};
-ghost use Rattle.cas_calls.specs.Proposing.{disks};
-ghost use Rattle.cas_world.specs.Restarting.{TellsOfAcceptor, TellsOfDesk};
-ghost use Rattle.cas_world.specs.Serve.{shelves};
+ghost use Rattle.cas_world_calls.specs.Proposing.{disks};
+ghost use Rattle.cas_world.specs.Stops.Restarting.{TellsOfAcceptor, TellsOfDesk};
+ghost use Rattle.cas_world.specs.Frames.Serve.{shelves};
 
 use crate::world::World;
 use cas_ballot::AcceptorId;
-use cas_calls::answers::crash_answer;
-use cas_calls::council::EXCHANGE_PLACE;
 use cas_disk::Disk;
 use cas_slot::{Shelf, ShelfFault};
 use cas_vault::VaultError;
+use cas_world_calls::answers::crash_answer;
+use cas_world_calls::council::EXCHANGE_PLACE;
 
 impl<S: Shelf, V: Disk> World<S, V> {
     /// Whether the acceptor is up. `None` comes exactly where it was never a member since the opening.

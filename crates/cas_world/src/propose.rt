@@ -2,24 +2,24 @@
 
 ghost use Rattle.std.specs.Prelude.{◌≡◌, ◌≤◌, true, false, None, Some, slice_get, is_some, not, reverse, IsTrue, IsSome, IsSomeAnd, IfSome, IfOk, IfErr, OnOk, OnErr};
 ghost use Rattle.cas_change.specs.declared.outcome.Outcome.{Outcome};
-ghost use Rattle.cas_causes.specs.Told.{PreparesBy, AcceptsBy, TellsAbove};
-ghost use Rattle.cas_cluster.specs.Proposers.{state_read};
-ghost use Rattle.cas_cluster.specs.StepCalls.{offered_by};
-ghost use Rattle.cas_cluster.specs.Step.{Step, Propose, Count};
-ghost use Rattle.cas_cluster.specs.View.{CallerView, meaning};
-ghost use Rattle.cas_cluster.specs.ViewLaws.{IsKept};
-ghost use Rattle.cas_world.specs.Count.{MayCount, Counts};
-ghost use Rattle.cas_calls.specs.Proposing.{disks, FailsToPropose};
-ghost use Rattle.cas_world.specs.Reading.{MayPropose, Reads, Proposes, EndsShort, HasProposed};
+ghost use Rattle.cas_model_causes.specs.Calls.Told.{PreparesBy, AcceptsBy, TellsAbove};
+ghost use Rattle.cas_protocol.specs.Proposers.{state_read};
+ghost use Rattle.cas_model.specs.Calls.Step.{offered_by};
+ghost use Rattle.cas_model.specs.Step.{Step, Propose, Count};
+ghost use Rattle.cas_model.specs.View.{CallerView, meaning};
+ghost use Rattle.cas_model.specs.Laws.{IsKept};
+ghost use Rattle.cas_world.specs.Calls.Count.{MayCount, Counts};
+ghost use Rattle.cas_world_calls.specs.Proposing.{disks, FailsToPropose};
+ghost use Rattle.cas_world.specs.Calls.Reading.{MayPropose, Reads, Proposes, EndsShort, HasProposed};
 ghost use Rattle.cas_world.specs.World.{IsInPhase, WasTold};
-ghost use Rattle.cas_calls.specs.declared.call.OpenCall.{OpenCall};
+ghost use Rattle.cas_world_calls.specs.declared.call.OpenCall.{OpenCall};
 ghost use Rattle.cas_proposer.specs.Desk.{may_read, may_ride};
 ghost use Rattle.cas_proposer.specs.Desk.{DeskView};
 ghost use Rattle.cas_proposer.specs.Round.{is_preparing, TurnsToAccept};
 ghost use Rattle.cas_proposer.specs.declared.round.Round.{Round};
 ghost use Rattle.cas_record.specs.declared.mark.Acknowledgment.{Acknowledgment as AnAcknowledgment};
 ghost use Rattle.cas_record.specs.declared.mark.Mark.TheVariants.{Acked};
-ghost use Rattle.cas_record.specs.Orderly.{IsAboveFloors};
+ghost use Rattle.cas_record.specs.Logs.Orderly.{IsAboveFloors};
 ghost use Rattle.cas_record.specs.Places.{Stands};
 ghost use Rattle.cas_slot.specs.Slot.{accepted_ballot};
 
@@ -27,9 +27,6 @@ use crate::proposing::propose_on;
 use crate::world::World;
 use cas_ballot::{Ballot, Members};
 use cas_cache::Ready;
-use cas_calls::answers::{cause_by, refusal_by};
-use cas_calls::call::Caller;
-use cas_calls::proposal::{Author, Copies, Proposing};
 use cas_change::{State, Took};
 use cas_disk::Disk;
 use cas_flow::Flow;
@@ -37,6 +34,9 @@ use cas_proposer::Desk;
 use cas_quorum::Era;
 use cas_record::{Acknowledgment, Answer, Mark, Record};
 use cas_slot::{Accepted, Shelf};
+use cas_world_calls::answers::{cause_by, refusal_by};
+use cas_world_calls::call::Caller;
+use cas_world_calls::proposal::{Author, Copies, Proposing};
 use std::alloc::Global;
 
 impl<S: Shelf, V: Disk> World<S, V> {

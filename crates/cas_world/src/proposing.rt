@@ -3,15 +3,13 @@
 ghost use Rattle.std.specs.Prelude.{◌≡◌, ◌<◌, ◌≤◌, length, false, Some, IsTrue, IfOk, IfErr, IfSome, OnOk, OnErr};
 ghost use Rattle.cas_ballot.specs.Ballot.{FitsBallot};
 ghost use Rattle.cas_change.specs.Outcome.{outcome_of};
-ghost use Rattle.cas_cluster.specs.StepCalls.{Sends, accepts_to};
+ghost use Rattle.cas_model.specs.Calls.Step.{Sends, accepts_to};
 ghost use Rattle.cas_proposer.specs.Desk.{may_ride};
 ghost use Rattle.cas_proposer.specs.declared.round.Round.{Round};
-ghost use Rattle.cas_calls.specs.Proposing.{proposing_of, disks, RidesOn, ProposesOn, FailsToPropose};
+ghost use Rattle.cas_world_calls.specs.Proposing.{proposing_of, disks, RidesOn, ProposesOn, FailsToPropose};
 
 use cas_ballot::Ballot;
 use cas_cache::Ready;
-use cas_calls::proposal::{Author, Copies, Proposing};
-use cas_calls::send::send_to;
 use cas_change::{Key, Outcome, Program, State, apply};
 use cas_disk::Disk;
 use cas_flow::Flow;
@@ -20,6 +18,8 @@ use cas_quorum::Era;
 use cas_record::{Answer, Mark, Proposal};
 use cas_slot::Ask;
 use cas_vault::VaultError;
+use cas_world_calls::proposal::{Author, Copies, Proposing};
+use cas_world_calls::send::send_to;
 use std::alloc::{AllocError, Global};
 
 /// Proposes what the program makes of the state that stands ready, in the accept phase of the desk's open round: draws the ballot

@@ -4,22 +4,19 @@ ghost use Rattle.std.specs.Prelude.{◌≡◌, ◌⊎◌, ◌≤◌, ◌^◌, fa
 ghost use Rattle.cas_ballot.specs.Ballot.{FitsBallot};
 ghost use Rattle.cas_collect.specs.declared.collect.CollectStep.TheVariants.{Renew as RenewStep, Floor as FloorStep};
 ghost use Rattle.cas_vault.specs.Vault.{kept_of};
-ghost use Rattle.cas_cluster.specs.Step.{Step, Renew, MakeFloor};
-ghost use Rattle.cas_cluster.specs.StepDesks.{Renews, FailsToRenew, FindsNoAge};
-ghost use Rattle.cas_cluster.specs.View.{meaning};
-ghost use Rattle.cas_calls.specs.Answers.{aged_answer, crash_answer};
-ghost use Rattle.cas_calls.specs.Council.{council_view};
-ghost use Rattle.cas_calls.specs.Proposing.{disks};
-ghost use Rattle.cas_world.specs.Collect.{IsDueStep, IsNextAge, GoesOnCollecting, MarksRenewal, AreFloorsPassed};
-ghost use Rattle.cas_world.specs.Exchange.{WasToldOrder};
-ghost use Rattle.cas_world.specs.Moving.{Leaves, closed_with};
+ghost use Rattle.cas_model.specs.Step.{Step, Renew, MakeFloor};
+ghost use Rattle.cas_model.specs.Calls.Desks.{Renews, FailsToRenew, FindsNoAge};
+ghost use Rattle.cas_model.specs.View.{meaning};
+ghost use Rattle.cas_world_calls.specs.Answers.{aged_answer, crash_answer};
+ghost use Rattle.cas_world_calls.specs.Council.{council_view};
+ghost use Rattle.cas_world_calls.specs.Proposing.{disks};
+ghost use Rattle.cas_world.specs.Collection.Collect.{IsDueStep, IsNextAge, GoesOnCollecting, MarksRenewal, AreFloorsPassed};
+ghost use Rattle.cas_world.specs.Exchanges.Exchange.{WasToldOrder};
+ghost use Rattle.cas_world.specs.Eras.Moving.{Leaves, closed_with};
 
 use crate::plans::{has_round, leave};
 use crate::world::World;
 use cas_ballot::Ballot;
-use cas_calls::answers::{aged_answer, crash_answer};
-use cas_calls::call::Caller;
-use cas_calls::council::{Council, EXCHANGE_PLACE, no_memory};
 use cas_change::{Key, State};
 use cas_disk::Disk;
 use cas_flow::Flow;
@@ -27,6 +24,9 @@ use cas_proposer::Desk;
 use cas_record::{Answer, Mark, OpAnswer};
 use cas_slot::Shelf;
 use cas_vault::VaultError;
+use cas_world_calls::answers::{aged_answer, crash_answer};
+use cas_world_calls::call::Caller;
+use cas_world_calls::council::{Council, EXCHANGE_PLACE, no_memory};
 
 impl<S: Shelf, V: Disk> World<S, V> {
     /// The proposer, whose renewal is the step of the collection that is due, is renewed: what it holds for the key is gone, its open round

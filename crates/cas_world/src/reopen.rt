@@ -3,12 +3,12 @@
 
 ghost use Rattle.std.specs.Prelude.{◌≡◌, ◌+◌, ◌<◌, ◌≤◌, ◌^◌, ℕ, true, [], map, drop, reverse, vec_len, vec_capacity, IsTrue, IfOk, IfErr, OnOk};
 ghost use Rattle.cas_ballot.specs.Members.{has_member};
-ghost use Rattle.cas_calls.specs.Proposing.{disks as disks_like};
+ghost use Rattle.cas_world_calls.specs.Proposing.{disks as disks_like};
 ghost use Rattle.cas_vault.specs.Error.{HasVaultCause};
 ghost use Rattle.cas_vault.specs.Vault.{disk_of, Stands};
-ghost use Rattle.cas_cluster.specs.Openings.{mark_of};
-ghost use Rattle.cas_cluster.specs.View.{IsAt};
-ghost use Rattle.cas_world.specs.OpeningOn.{opening_of, greatest_counter, placed_as, placed, IsRefused, IsTakenUp, IsTakenUpOver, AreTakenUpBelow, AVaultIsNotTakenUp, IsFaultOfVault, fault_of_vault};
+ghost use Rattle.cas_model.specs.Openings.{mark_of};
+ghost use Rattle.cas_model.specs.View.{IsAt};
+ghost use Rattle.cas_world.specs.Openings.OpeningOn.{opening_of, greatest_counter, placed_as, placed, IsRefused, IsTakenUp, IsTakenUpOver, AreTakenUpBelow, AVaultIsNotTakenUp, IsFaultOfVault, fault_of_vault};
 
 use crate::fault::OpenFault;
 use crate::open::ACCEPTORS;

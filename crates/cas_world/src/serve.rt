@@ -3,7 +3,7 @@
 ghost use Rattle.std.specs.Prelude.{◌≡◌, IfOk, None, OnErr, length};
 ghost use Rattle.cas_flow.specs.Message.{CanBeSent};
 ghost use Rattle.cas_flow.specs.declared.message.Message.TheVariants as message;
-ghost use Rattle.cas_world.specs.Serve.{voted_key, vote_by, shelves, Serves, KeepsAll, AreNumbered};
+ghost use Rattle.cas_world.specs.Frames.Serve.{voted_key, vote_by, shelves, Serves, KeepsAll, AreNumbered};
 
 use cas_acceptor::{Acceptor, HandleFault};
 use cas_change::Key;

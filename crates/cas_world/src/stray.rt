@@ -5,23 +5,23 @@ ghost use Rattle.cas_flow.specs.Message.{head_of, CanBeSent};
 ghost use Rattle.cas_flow.specs.declared.message.Message.TheVariants as message;
 ghost use Rattle.cas_proposer.specs.Desk.{met_counter};
 ghost use Rattle.cas_round.specs.Replies.{met_by};
-ghost use Rattle.cas_cluster.specs.Step.{Step, Stray, RefuseStray};
-ghost use Rattle.cas_cluster.specs.StepCalls.{most_marks};
-ghost use Rattle.cas_cluster.specs.View.{meaning, reserved_in_all as seen_in_all};
-ghost use Rattle.cas_world.specs.Serve.{shelves, KeepsAll, AreNumbered};
-ghost use Rattle.cas_world.specs.Stray.{AsksLate, ArrivesAt, LetsIn};
+ghost use Rattle.cas_model.specs.Step.{Step, Stray, RefuseStray};
+ghost use Rattle.cas_model.specs.Calls.Step.{most_marks};
+ghost use Rattle.cas_model.specs.View.{meaning, reserved_in_all as seen_in_all};
+ghost use Rattle.cas_world.specs.Frames.Serve.{shelves, KeepsAll, AreNumbered};
+ghost use Rattle.cas_world.specs.Frames.Stray.{AsksLate, ArrivesAt, LetsIn};
 
 use crate::fault::StrayFault;
 use crate::serve::{Served, serve};
 use crate::world::World;
 use cas_acceptor::Acceptor;
 use cas_ballot::AcceptorId;
-use cas_calls::council::reserved_in_all;
 use cas_disk::Disk;
 use cas_flow::{Flow, Message};
 use cas_proposer::Desk;
 use cas_record::{MOST_MARKS, Record};
 use cas_slot::{Reply, Request, Shelf};
+use cas_world_calls::council::reserved_in_all;
 use std::alloc::{AllocError, Global};
 
 impl<S: Shelf, V: Disk> World<S, V> {

@@ -7,18 +7,17 @@ ghost use Rattle.cas_flow.specs.declared.message.Message.{Message as AMessage};
 ghost use Rattle.cas_flow.specs.declared.message.Message.TheVariants as message;
 ghost use Rattle.cas_proposer.specs.Desk.{met_counter};
 ghost use Rattle.cas_round.specs.Replies.{met_by};
-ghost use Rattle.cas_world.specs.Exchange.{place_of, turn_of, refusal_of};
-ghost use Rattle.cas_world.specs.Serve.{shelves, KeepsAll, AreNumbered};
-ghost use Rattle.cas_world.specs.Turn.{MayMark, Makes, Harms, Asks, Arrives, Handles};
-ghost use Rattle.cas_cluster.specs.Step.{Step, Turn, RefuseTurn};
-ghost use Rattle.cas_cluster.specs.View.{meaning};
+ghost use Rattle.cas_world.specs.Exchanges.Exchange.{place_of, turn_of, refusal_of};
+ghost use Rattle.cas_world.specs.Frames.Serve.{shelves, KeepsAll, AreNumbered};
+ghost use Rattle.cas_world.specs.Frames.Turn.{MayMark, Makes, Harms, Asks, Arrives, Handles};
+ghost use Rattle.cas_model.specs.Step.{Step, Turn, RefuseTurn};
+ghost use Rattle.cas_model.specs.View.{meaning};
 ghost use Rattle.cas_slot.specs.declared.message.Request.{Request as ARequest};
 
 use crate::serve::{Served, serve_by};
 use crate::world::World;
 use cas_acceptor::Acceptor;
 use cas_ballot::AcceptorId;
-use cas_calls::call::Caller;
 use cas_change::Key;
 use cas_disk::Disk;
 use cas_fate::Verdict;
@@ -26,6 +25,7 @@ use cas_flow::{Fall, Flow, Message};
 use cas_proposer::Desk;
 use cas_record::{Answer, Record};
 use cas_slot::{Reply, Request, Shelf};
+use cas_world_calls::call::Caller;
 use std::alloc::{AllocError, Global};
 
 impl<S: Shelf, V: Disk> World<S, V> {

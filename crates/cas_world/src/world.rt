@@ -2,19 +2,19 @@
 
 ghost use Rattle.std.specs.Prelude.{◌≡◌, ◌+◌, ◌<◌, ◌≤◌, ◌^◌, length, take, slice_get, option_map, reverse, vec_len, Some, IfOk, IfErr};
 ghost use Rattle.cas_acceptor.specs.Acceptor.{AcceptorView};
-ghost use Rattle.cas_cluster.specs.SafeLaws.{HasPlaces};
-ghost use Rattle.cas_cluster.specs.Step.{IsOpening};
-ghost use Rattle.cas_cluster.specs.View.{CallerView, IsAt, era_at, meaning};
-ghost use Rattle.cas_cluster.specs.ViewLaws.{IsKept};
+ghost use Rattle.cas_model.specs.SafeLaws.{HasPlaces};
+ghost use Rattle.cas_model.specs.Step.{IsOpening};
+ghost use Rattle.cas_model.specs.View.{CallerView, IsAt, era_at, meaning};
+ghost use Rattle.cas_model.specs.Laws.{IsKept};
 ghost use Rattle.cas_ballot.specs.Members.{union_of};
-ghost use Rattle.cas_cluster.specs.Openings.{AreOpenings, IsOpeningOn};
-ghost use Rattle.cas_cluster.specs.StepCalls.{most_marks};
-ghost use Rattle.cas_world.specs.OpeningOn.{openings_of, greatest_counter, placed, MembersHold, AreTakenUpBelow, DoesNotGoOn};
-ghost use Rattle.cas_world.specs.Opening.{members_to, unstarted, shelves_of, disks_of, AreStartedBelow, AreDesksBelow, DoesNotOpen};
+ghost use Rattle.cas_model.specs.Openings.{AreOpenings, IsOpeningOn};
+ghost use Rattle.cas_model.specs.Calls.Step.{most_marks};
+ghost use Rattle.cas_world.specs.Openings.OpeningOn.{openings_of, greatest_counter, placed, MembersHold, AreTakenUpBelow, DoesNotGoOn};
+ghost use Rattle.cas_world.specs.Openings.Opening.{members_to, unstarted, shelves_of, disks_of, AreStartedBelow, AreDesksBelow, DoesNotOpen};
 ghost use Rattle.cas_world.specs.Readers.{next_number, told_if, closed_in, IsVerdictIn};
-ghost use Rattle.cas_world.specs.Exchange.{asks_as, place_of};
-ghost use Rattle.cas_world.specs.Serve.{shelves as shelves_like};
-ghost use Rattle.cas_calls.specs.Proposing.{disks as disks_like};
+ghost use Rattle.cas_world.specs.Exchanges.Exchange.{asks_as, place_of};
+ghost use Rattle.cas_world.specs.Frames.Serve.{shelves as shelves_like};
+ghost use Rattle.cas_world_calls.specs.Proposing.{disks as disks_like};
 ghost use Rattle.cas_flow.specs.Flow.{queue_at};
 ghost use Rattle.cas_flow.specs.Message.{head_of};
 ghost use Rattle.cas_proposer.specs.Desk.{DeskView};
@@ -22,7 +22,7 @@ ghost use Rattle.cas_slot.specs.Contents.{kept_at};
 ghost use Rattle.cas_record.specs.declared.mark.Acknowledgment.{Acknowledgment as AnAcknowledgment};
 ghost use Rattle.cas_record.specs.declared.mark.Mark.TheVariants.{Acked};
 ghost use Rattle.cas_record.specs.Legal.{IsLegal};
-ghost use Rattle.cas_record.specs.Orderly.{IsAboveFloors};
+ghost use Rattle.cas_record.specs.Logs.Orderly.{IsAboveFloors};
 ghost use Rattle.cas_record.specs.Places.{Stands};
 
 use crate::fault::OpenFault;
@@ -30,9 +30,6 @@ use crate::open::{Lists, Setup, first_members, give_disks, give_shelves, start, 
 use crate::reopen::{OpeningFloor, greatest_counter, place_shelves, record_of, take_up_desks};
 use cas_acceptor::Acceptor;
 use cas_ballot::{AcceptorId, Members};
-use cas_calls::answers::{copy_of, is_done};
-use cas_calls::call::{Caller, OpenCall};
-use cas_calls::council::{Council, EXCHANGE_PLACE};
 use cas_change::Key;
 use cas_disk::Disk;
 use cas_fate::Leg;
@@ -42,6 +39,9 @@ use cas_quorum::Era;
 use cas_record::{Answer, Record};
 use cas_round::RoundVerdict;
 use cas_slot::{Shelf, Slot};
+use cas_world_calls::answers::{copy_of, is_done};
+use cas_world_calls::call::{Caller, OpenCall};
+use cas_world_calls::council::{Council, EXCHANGE_PLACE};
 use std::alloc::{AllocError, Global};
 use std::marker::Model;
 
@@ -73,7 +73,7 @@ pub struct World<S: Shelf, V: Disk> {
 
 impl<S: Shelf, V: Disk> Model for World<S, V> {
     ghost use Rattle.std.specs.Prelude.{vec_len, vec_capacity};
-    ghost use Rattle.cas_cluster.specs.View.{View, meaning};
+    ghost use Rattle.cas_model.specs.View.{View, meaning};
     ghost use Rattle.cas_world.specs.World.{view_of, IsWorld};
 
     ghost Value = { View S V };

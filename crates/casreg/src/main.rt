@@ -1,16 +1,16 @@
 //! casreg, a store of replicated registers: the program.
 //!
-//! All that it does is in [`cluster`] of `cas_command`. Here stand the real words, input and output, and the disks.
+//! All that it does is in [`cluster`] of `casreg_command`. Here stand the real words, input and output, and the disks.
 #![tactic(auto)]
 
 ghost use Rattle.std.specs.Prelude.{◌≡◌, vec_len, IfOk};
 
-use cas_command::cluster::cluster;
-use cas_command::{Status, seeded_fates};
 use cas_disk::{FileDisk, Image, MemoryDisk};
 use cas_lines::sink::StdSink;
 use cas_lines::source::StdSource;
-use cas_rack::{ACCEPTORS, Rack, VAULTS};
+use cas_store::{ACCEPTORS, Rack, VAULTS};
+use casreg_command::cluster::cluster;
+use casreg_command::{Status, seeded_fates};
 use std::alloc::{AllocError, Global};
 use std::env;
 use std::fs::{File, OpenOptions};

@@ -1,7 +1,7 @@
 use Rattle.std.proofs.Common.{◌≡◌, arith, sym, ap, ◌∙◌}
 use Rattle.std.proofs.lemmas.Grind.{common_steps}
 use Rattle.std.specs.Prelude.{string_bytes}
-use Rattle.cas_audit.specs.Texts.{finding_line}
+use Rattle.cas_audit.specs.Spelling.Texts.{finding_line}
 use Rattle.cas_audit.specs.declared.finding.Finding.TheVariants.{Broken}
 use Rattle.cas_audit.proofs.finding.print_finding.Goals as goal
 

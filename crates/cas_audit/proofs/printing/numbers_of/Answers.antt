@@ -1,6 +1,6 @@
 use Rattle.std.proofs.Common.{◌++◌, ◌∷◌, [], List, ℕ, cond, sym, ap, ◌∙◌, arith}
 use Rattle.cas_ballot.specs.Members.{has_member}
-use Rattle.cas_audit.proofs.Numbers.{filter_more, members_listed}
+use Rattle.cas_audit.proofs.Spelling.Numbers.{filter_more, members_listed}
 use Rattle.cas_audit.proofs.printing.numbers_of.Goals as goal
 
 pub loop-number-preserved : goal.loop-number-preserved

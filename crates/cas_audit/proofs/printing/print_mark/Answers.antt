@@ -1,4 +1,4 @@
-use Rattle.cas_audit.proofs.MarksBack.{line_again}
+use Rattle.cas_audit.proofs.Spelling.MarksBack.{line_again}
 use Rattle.cas_audit.proofs.printing.print_mark.Goals as goal
 
 pub returns-clause-again : goal.returns-clause-again

@@ -1,7 +1,7 @@
 use Rattle.std.proofs.Common.{ap, ◌∙◌}
 use Rattle.cas_change_text.proofs.BothWays.{only_from_gives}
-use Rattle.cas_audit.specs.Reading.{line_mark}
-use Rattle.cas_audit.proofs.MarksBack.{mark_again}
+use Rattle.cas_audit.specs.Spelling.Reading.{line_mark}
+use Rattle.cas_audit.proofs.Spelling.MarksBack.{mark_again}
 use Rattle.cas_audit.proofs.reading.read_mark.Goals as goal
 
 pub returns-clause-again : goal.returns-clause-again

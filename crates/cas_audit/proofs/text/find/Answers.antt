@@ -1,7 +1,7 @@
 use Rattle.std.proofs.Common.{◌≡◌, arith, sym, ap, Err}
 use Rattle.std.proofs.lemmas.Result.{err_from_is_err_and}
 use Rattle.cas_audit.specs.declared.text.AuditFault.TheVariants.{ReadFault, WriteFault, TooManyLines, Endless}
-use Rattle.cas_audit.proofs.TextRuns.{midway-nothing, midway-line, midway-end, midway-whole, midway-too_many, midway-endless, not_write, was_read_fault, was_too_many, was_endless}
+use Rattle.cas_audit.proofs.Spelling.TextRuns.{midway-nothing, midway-line, midway-end, midway-whole, midway-too_many, midway-endless, not_write, was_read_fault, was_too_many, was_endless}
 use Rattle.cas_audit.proofs.text.find.Goals as goal
 
 pub loop-audit-init : goal.loop-audit-init

@@ -1,6 +1,6 @@
 use Rattle.std.proofs.Common.{◌-◌, ◌≤◌}
 use Rattle.cas_lines.specs.declared.lines.TheConstants.{MOST_LINES}
-use Rattle.cas_audit.proofs.TextRuns.{IsMidway}
+use Rattle.cas_audit.proofs.Spelling.TextRuns.{IsMidway}
 use Rattle.cas_audit.proofs.text.find.Given as goal
 
 abbrev pub invariant-loop-audit : goal.invariant-loop-audit

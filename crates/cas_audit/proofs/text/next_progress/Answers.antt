@@ -1,6 +1,6 @@
 use Rattle.std.proofs.Common.{sym, ap, ◌∙◌}
-use Rattle.cas_audit.specs.Reading.{line_mark}
-use Rattle.cas_audit.proofs.LineByLine.{next_mark}
+use Rattle.cas_audit.specs.Spelling.Reading.{line_mark}
+use Rattle.cas_audit.proofs.Spelling.LineByLine.{next_mark}
 use Rattle.cas_audit.proofs.text.next_progress.Goals as goal
 
 pub returns-in_ok-mark-in-Ok : goal.returns-in_ok-mark-in-Ok

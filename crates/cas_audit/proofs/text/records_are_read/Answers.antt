@@ -1,4 +1,4 @@
-use Rattle.cas_audit.proofs.TextRecords.{records_read}
+use Rattle.cas_audit.proofs.Spelling.TextRecords.{records_read}
 use Rattle.cas_audit.proofs.text.records_are_read.Goals as goal
 
 pub returns : goal.returns

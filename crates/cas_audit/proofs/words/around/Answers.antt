@@ -1,5 +1,5 @@
 use Rattle.std.proofs.Common.{◌==◌}
-use Rattle.cas_audit.proofs.Parts.{within_word, behind_cut}
+use Rattle.cas_audit.proofs.Spelling.Parts.{within_word, behind_cut}
 use Rattle.cas_audit.proofs.words.around.Goals as goal
 
 pub split_at-requires : goal.split_at-requires

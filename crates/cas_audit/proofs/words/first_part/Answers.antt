@@ -1,5 +1,5 @@
-use Rattle.cas_audit.specs.Reading.{is_comma}
-use Rattle.cas_audit.proofs.Parts.{within_word, one_part, first_of_parts}
+use Rattle.cas_audit.specs.Spelling.Reading.{is_comma}
+use Rattle.cas_audit.proofs.Spelling.Parts.{within_word, one_part, first_of_parts}
 use Rattle.cas_audit.proofs.words.first_part.Goals as goal
 
 pub split_at-requires : goal.split_at-requires

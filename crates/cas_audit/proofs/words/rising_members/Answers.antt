@@ -1,6 +1,6 @@
 use Rattle.std.proofs.Common.{ℕ, ◌∷◌, List, Option, Bor, subst, sym, ap, ◌∙◌, arith}
 use Rattle.std.specs.Option.{option_map}
-use Rattle.cas_audit.proofs.Rising.{IsReadSoFar, one_read, borrowed_parts}
+use Rattle.cas_audit.proofs.Spelling.Rising.{IsReadSoFar, one_read, borrowed_parts}
 use Rattle.cas_audit.proofs.words.rising_members.Goals as goal
 
 pub loop-rest-preserved : goal.loop-rest-preserved

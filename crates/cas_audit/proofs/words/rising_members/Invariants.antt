@@ -1,6 +1,6 @@
 use Rattle.std.proofs.Common.{ℕ, ◌+◌, List, Bor, length}
 use Rattle.std.specs.Option.{option_map, option_map_or}
-use Rattle.cas_audit.proofs.Rising.{IsReadSoFar}
+use Rattle.cas_audit.proofs.Spelling.Rising.{IsReadSoFar}
 use Rattle.cas_audit.proofs.words.rising_members.Given as goal
 
 -- the members so far are those of the parts before the rest

@@ -4,7 +4,7 @@ use Rattle.std.proofs.lemmas.List.{length-reverse}
 use Rattle.cas_record.specs.declared.mark.Mark.TheVariants.{Proposed}
 use Rattle.cas_record.specs.declared.row.Link.{Link}
 use Rattle.cas_record.proofs.Positions.{got}
-use Rattle.cas_record.proofs.HistoryLemmas.{at_low, placed, entry_read}
+use Rattle.cas_record.proofs.Histories.Lemmas.{at_low, placed, entry_read}
 use Rattle.cas_record.proofs.history.entry_at.Goals as goal
 
 pub offset_bounds-marks-link : goal.offset_bounds-marks-link

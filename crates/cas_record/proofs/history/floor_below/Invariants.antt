@@ -1,6 +1,6 @@
 -- the greatest floor of the marks so far
 use Rattle.std.proofs.Common.{◌≡◌, take, reverse}
-use Rattle.cas_record.specs.Chain.{floor_below}
+use Rattle.cas_record.specs.Histories.Chain.{floor_below}
 use Rattle.cas_record.proofs.history.floor_below.Given as goal
 
 abbrev pub invariant-loop-mark : goal.invariant-loop-mark

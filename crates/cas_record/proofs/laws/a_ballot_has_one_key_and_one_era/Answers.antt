@@ -1,4 +1,4 @@
-use Rattle.cas_record.proofs.Orders.{drawn_once}
+use Rattle.cas_record.proofs.Logs.Orders.{drawn_once}
 use Rattle.cas_record.proofs.laws.a_ballot_has_one_key_and_one_era.Goals as goal
 
 pub returns : goal.returns

@@ -1,4 +1,4 @@
-use Rattle.cas_record.proofs.Openings.{opening_stone}
+use Rattle.cas_record.proofs.Logs.Openings.{opening_stone}
 use Rattle.cas_record.proofs.laws.a_complete_listing_gives_opening_stones.Goals as goal
 
 pub returns : goal.returns

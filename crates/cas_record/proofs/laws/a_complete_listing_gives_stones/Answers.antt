@@ -1,4 +1,4 @@
-use Rattle.cas_record.proofs.Listings.{stones_of_listing}
+use Rattle.cas_record.proofs.Logs.Listings.{stones_of_listing}
 use Rattle.cas_record.proofs.laws.a_complete_listing_gives_stones.Goals as goal
 
 pub returns : goal.returns

@@ -1,4 +1,4 @@
-use Rattle.cas_record.proofs.Orders.{above_dropped}
+use Rattle.cas_record.proofs.Logs.Orders.{above_dropped}
 use Rattle.cas_record.proofs.laws.answers_are_above_removals.Goals as goal
 
 pub returns : goal.returns

@@ -1,4 +1,4 @@
-use Rattle.cas_record.proofs.Grants.{granted_promise, granted_ride}
+use Rattle.cas_record.proofs.Logs.Grants.{granted_promise, granted_ride}
 use Rattle.cas_record.proofs.laws.draws_are_granted.Goals as goal
 
 pub returns : goal.returns

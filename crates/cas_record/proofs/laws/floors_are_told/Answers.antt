@@ -1,4 +1,4 @@
-use Rattle.cas_record.proofs.Floors.{told_after}
+use Rattle.cas_record.proofs.Logs.Floors.{told_after}
 use Rattle.cas_record.proofs.laws.floors_are_told.Goals as goal
 
 pub returns : goal.returns

@@ -1,4 +1,4 @@
-use Rattle.cas_record.proofs.Leaving.{may_leave_more}
+use Rattle.cas_record.proofs.Logs.Leaving.{may_leave_more}
 use Rattle.cas_record.proofs.laws.leaving_stays_allowed.Goals as goal
 
 pub returns : goal.returns

@@ -1,4 +1,4 @@
-use Rattle.cas_record.proofs.LinkLemmas.{link_read}
+use Rattle.cas_record.proofs.Histories.Links.{link_read}
 use Rattle.cas_record.proofs.laws.links_are_read.Goals as goal
 
 pub returns : goal.returns

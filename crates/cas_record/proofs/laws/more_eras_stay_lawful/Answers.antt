@@ -1,4 +1,4 @@
-use Rattle.cas_record.proofs.Clusters.{lawful_more, orderly_more}
+use Rattle.cas_record.proofs.Logs.Clusters.{lawful_more, orderly_more}
 use Rattle.cas_record.proofs.laws.more_eras_stay_lawful.Goals as goal
 
 pub returns : goal.returns

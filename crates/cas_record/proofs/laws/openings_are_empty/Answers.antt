@@ -1,4 +1,4 @@
-use Rattle.cas_record.proofs.ChainLemmas.{chain-opened}
+use Rattle.cas_record.proofs.Histories.Chains.{chain-opened}
 use Rattle.cas_record.proofs.laws.openings_are_empty.Goals as goal
 
 pub returns : goal.returns

@@ -1,5 +1,5 @@
 use Rattle.cas_record.specs.Places.{here}
-use Rattle.cas_record.proofs.Openings.{opening_read}
+use Rattle.cas_record.proofs.Logs.Openings.{opening_read}
 use Rattle.cas_record.proofs.laws.openings_are_read.Goals as goal
 
 pub returns : goal.returns

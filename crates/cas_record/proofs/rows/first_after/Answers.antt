@@ -1,7 +1,7 @@
 use Rattle.std.proofs.Common.{◌+◌, sym, ap, subst}
 use Rattle.std.specs.Option.{option_copied}
-use Rattle.cas_record.specs.Tables.{IsFirstAfter}
-use Rattle.cas_record.proofs.NextLemmas.{after_place, after_gap}
+use Rattle.cas_record.specs.Kept.Tables.{IsFirstAfter}
+use Rattle.cas_record.proofs.Histories.Next.{after_place, after_gap}
 use Rattle.cas_record.proofs.rows.first_after.Goals as goal
 
 pub returns-in-Ok : goal.returns-in-Ok

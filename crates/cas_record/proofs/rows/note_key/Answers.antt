@@ -2,11 +2,11 @@ use Rattle.std.proofs.Common.{◌≡◌, ◌∷◌, ◌++◌, [], get_or-set_sam
 use Rattle.std.specs.List.{insert}
 use Rattle.std.proofs.lemmas.List.{length-reverse}
 use Rattle.cas_record.specs.declared.row.Row.{Row}
-use Rattle.cas_record.specs.Index.{home_of, IsRowOf}
-use Rattle.cas_record.specs.Tables.{HasRows, IsSearched}
-use Rattle.cas_record.proofs.Homes.{home_stays, home_here, names_it}
+use Rattle.cas_record.specs.Kept.Index.{home_of, IsRowOf}
+use Rattle.cas_record.specs.Kept.Tables.{HasRows, IsSearched}
+use Rattle.cas_record.proofs.Kept.Homes.{home_stays, home_here, names_it}
 use Rattle.cas_record.proofs.Positions.{gets}
-use Rattle.cas_record.proofs.RowLemmas.{rows_set, rows_insert, tells_none}
+use Rattle.cas_record.proofs.Kept.Rows.{rows_set, rows_insert, tells_none}
 use Rattle.cas_record.proofs.rows.note_key.Goals as goal
 
 pub returns-in-Ok-clause-rows : goal.returns-in-Ok-clause-rows

@@ -1,8 +1,8 @@
 use Rattle.std.proofs.Common.{rules, Ok, ap, sym, ◌∙◌}
 use Rattle.std.proofs.lemmas.List.{get_or_default}
 use Rattle.std.proofs.lemmas.Fn.{always_returns_same}
-use Rattle.cas_record.specs.Tables.{row_cmp}
-use Rattle.cas_record.proofs.RowLemmas.{searched, equal_is, no_row}
+use Rattle.cas_record.specs.Kept.Tables.{row_cmp}
+use Rattle.cas_record.proofs.Kept.Rows.{searched, equal_is, no_row}
 use Rattle.cas_record.proofs.rows.search.Goals as goal
 
 pub returns-then-is_eq : goal.returns-then-is_eq

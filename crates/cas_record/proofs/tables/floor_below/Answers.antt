@@ -1,5 +1,5 @@
 use Rattle.std.proofs.Common.{reverse, sym, ap, is_lt, ◌∙◌}
-use Rattle.cas_record.proofs.StandLemmas.{no_floor, floor_is}
+use Rattle.cas_record.proofs.Kept.Stands.{no_floor, floor_is}
 use Rattle.cas_record.proofs.tables.floor_below.Goals as goal
 
 pub returns-in-None : goal.returns-in-None

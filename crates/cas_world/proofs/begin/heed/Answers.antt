@@ -1,8 +1,8 @@
 use Rattle.std.proofs.Common.{Option, sym, subst}
-use Rattle.cas_calls.specs.Council.{council_view}
-use Rattle.cas_calls.specs.declared.call.OpenCall.{OpenCall}
-use Rattle.cas_world.specs.Beginning.{Heeds}
-use Rattle.cas_world.proofs.Planning.{none_there}
+use Rattle.cas_world_calls.specs.Council.{council_view}
+use Rattle.cas_world_calls.specs.declared.call.OpenCall.{OpenCall}
+use Rattle.cas_world.specs.Calls.Beginning.{Heeds}
+use Rattle.cas_world.proofs.Eras.Planning.{none_there}
 use Rattle.cas_world.proofs.begin.heed.Goals as goal
 
 pub returns-then-is_none-clause-heeds : goal.returns-then-is_none-clause-heeds

@@ -1,11 +1,11 @@
 use Rattle.std.proofs.Common.{◌≡◌, ◌+◌, ◌-◌, length, sym, ap, subst, ◌∙◌, arith}
 use Rattle.std.specs.Prelude.{Some, None, IfOk}
-use Rattle.cas_world.specs.Beginning.{opening_of}
+use Rattle.cas_world.specs.Calls.Beginning.{opening_of}
 use Rattle.std.specs.Prelude.{is_some}
-use Rattle.cas_calls.specs.declared.call.Caller.{Caller}
+use Rattle.cas_world_calls.specs.declared.call.Caller.{Caller}
 use Rattle.cas_world.proofs.Parts.{at_place}
-use Rattle.cas_world.proofs.Reserving.{others_within, some_not, none_not}
-use Rattle.cas_cluster.proofs.Places.{some_is}
+use Rattle.cas_world.proofs.Calls.Reserving.{others_within, some_not, none_not}
+use Rattle.cas_model.proofs.Places.{some_is}
 use Rattle.cas_world.proofs.begin.make_room.Goals as goal
 use Rattle.cas_world.proofs.begin.make_room.Goals.{then-is_none, else-is_none}
 

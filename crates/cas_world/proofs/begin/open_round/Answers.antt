@@ -5,9 +5,9 @@ use Rattle.cas_proposer.specs.Desk.{DeskView, Draws, DrawsFor, IsOpened, promise
 use Rattle.cas_proposer.specs.declared.began.Began.{Began}
 use Rattle.cas_proposer.specs.declared.began.Began.TheVariants as began
 use Rattle.cas_change.specs.Outcome.{outcome_of}
-use Rattle.cas_cluster.specs.StepDesks.{HasDrawn}
-use Rattle.cas_calls.specs.Proposing.{disks, ProposesOn, FailsToPropose}
-use Rattle.cas_world.proofs.Beginning.{drew_by, preparing_desk, gone_from, up_from, lost_at_once, accepting_desk, proposed_at_once, failed_at_once, kept_by, lost_idle, failed_idle, up_desk}
+use Rattle.cas_model.specs.Calls.Desks.{HasDrawn}
+use Rattle.cas_world_calls.specs.Proposing.{disks, ProposesOn, FailsToPropose}
+use Rattle.cas_world.proofs.Calls.Beginning.{drew_by, preparing_desk, gone_from, up_from, lost_at_once, accepting_desk, proposed_at_once, failed_at_once, kept_by, lost_idle, failed_idle, up_desk}
 use Rattle.cas_world.proofs.Parts.{some_and}
 use Rattle.cas_world.proofs.begin.open_round.Goals as goal
 

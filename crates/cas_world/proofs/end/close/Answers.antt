@@ -2,7 +2,7 @@ use Rattle.std.proofs.Common.{Option, ap, ◌∙◌}
 use Rattle.cas_proposer.specs.Desk.{counter_without}
 use Rattle.cas_proposer.specs.declared.round.Round.{Round}
 use Rattle.cas_vault.specs.Vault.{counter_of}
-use Rattle.cas_world.proofs.Stops.{end_goes_on}
+use Rattle.cas_world.proofs.Stops.Stops.{end_goes_on}
 use Rattle.cas_world.proofs.end.close.Goals as goal
 
 pub returns-then-is_some-clause-ends : goal.returns-then-is_some-clause-ends

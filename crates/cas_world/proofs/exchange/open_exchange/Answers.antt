@@ -1,9 +1,9 @@
 use Rattle.std.proofs.Common.{rules, List, [], length, None, refl, sym, ap, ◌∙◌}
 use Rattle.cas_record.specs.declared.mark.Mark.{Mark}
-use Rattle.cas_cluster.specs.StepCouncil.{new_exchange}
-use Rattle.cas_world.specs.Exchange.{asked_from, question_from}
+use Rattle.cas_model.specs.Exchanges.Step.{new_exchange}
+use Rattle.cas_world.specs.Exchanges.Exchange.{asked_from, question_from}
 use Rattle.std.specs.Prelude.{option_copied}
-use Rattle.cas_world.proofs.Beginning.{lost_idle, lost_tagged, goes_on_same, tags_all}
+use Rattle.cas_world.proofs.Calls.Beginning.{lost_idle, lost_tagged, goes_on_same, tags_all}
 use Rattle.cas_world.proofs.exchange.open_exchange.Goals as goal
 
 pub returns-then-is_err-clause-refused : goal.returns-then-is_err-clause-refused

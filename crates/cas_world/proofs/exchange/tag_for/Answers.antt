@@ -2,13 +2,13 @@ use Rattle.std.proofs.Common.{◌≡◌, false, [], None, Option, Ok, Err, Resul
 use Rattle.std.specs.Prelude.{IfErr, OnErr, option_copied}
 use Rattle.cas_ballot.specs.declared.ballot.Ballot.{Ballot}
 use Rattle.cas_base.proofs.Bools.{false_of_not}
-use Rattle.cas_cluster.specs.Council.{ListingView}
+use Rattle.cas_model.specs.Council.{ListingView}
 use Rattle.cas_proposer.specs.Desk.{ShowsTheSame}
 use Rattle.cas_vault.specs.declared.error.VaultError.{VaultError}
 use Rattle.cas_vault.specs.declared.error.VaultError.TheVariants as error
-use Rattle.cas_world.specs.Exchange.{FailsToTag}
-use Rattle.cas_calls.specs.Proposing.{disks}
-use Rattle.cas_world.proofs.Beginning.{kept_by, lost_idle, failed_tag}
+use Rattle.cas_world.specs.Exchanges.Exchange.{FailsToTag}
+use Rattle.cas_world_calls.specs.Proposing.{disks}
+use Rattle.cas_world.proofs.Calls.Beginning.{kept_by, lost_idle, failed_tag}
 use Rattle.cas_world.proofs.exchange.tag_for.Given.{Over}
 use Rattle.cas_world.proofs.exchange.tag_for.Goals as goal
 

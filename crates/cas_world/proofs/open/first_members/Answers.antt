@@ -1,7 +1,7 @@
 use Rattle.std.proofs.Common.{◌≡◌, ℕ, ◌+◌, ◌-◌, ◌<◌, ◌≤◌, List, sym, ap, subst, ◌∙◌, arith}
 use Rattle.std.specs.Prelude.{Option, IfSome}
 use Rattle.cas_ballot.specs.Members.{with_member}
-use Rattle.cas_world.specs.Opening.{members_to}
+use Rattle.cas_world.specs.Openings.Opening.{members_to}
 use Rattle.cas_world.proofs.Lists.{one_more_member}
 use Rattle.cas_world.proofs.open.first_members.Goals as goal
 

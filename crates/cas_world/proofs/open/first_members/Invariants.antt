@@ -1,5 +1,5 @@
 use Rattle.std.proofs.Common.{◌≡◌, ◌+◌, ◌-◌, ◌≤◌}
-use Rattle.cas_world.specs.Opening.{members_to}
+use Rattle.cas_world.specs.Openings.Opening.{members_to}
 use Rattle.cas_world.proofs.open.first_members.Given as goal
 
 -- the members so far

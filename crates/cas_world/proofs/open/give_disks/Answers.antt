@@ -1,6 +1,6 @@
 use Rattle.std.proofs.Common.{◌≡◌, ◌++◌, ◌∷◌, [], List, ap, ◌∙◌, arith}
 use Rattle.std.specs.Prelude.{reverse}
-use Rattle.cas_world.specs.Opening.{disks_of}
+use Rattle.cas_world.specs.Openings.Opening.{disks_of}
 use Rattle.cas_vault.specs.declared.vault.Vault.{Vault}
 use Rattle.cas_vault.specs.Vault.{disk_of}
 use Rattle.cas_world.proofs.Lists.{given}

@@ -1,6 +1,6 @@
 use Rattle.std.proofs.Common.{◌≡◌, ◌+◌, ◌≤◌, ◌++◌}
 use Rattle.std.specs.Prelude.{reverse, vec_len, vec_capacity}
-use Rattle.cas_world.specs.Opening.{disks_of}
+use Rattle.cas_world.specs.Openings.Opening.{disks_of}
 use Rattle.cas_world.proofs.open.give_disks.Given as goal
 
 abbrev pub decreases-loop-desk : goal.decreases-loop-desk

@@ -1,6 +1,6 @@
 use Rattle.std.proofs.Common.{◌≡◌, ◌+◌, ◌≤◌, replicate}
 use Rattle.std.specs.Prelude.{vec_capacity}
-use Rattle.cas_world.specs.Opening.{unbegun}
+use Rattle.cas_world.specs.Openings.Opening.{unbegun}
 use Rattle.cas_world.proofs.open.new_callers.Given as goal
 
 -- a caller for each number so far, and room for all

@@ -1,7 +1,7 @@
 use Rattle.std.proofs.Common.{◌≡◌, ◌+◌, ◌≤◌, drop}
 use Rattle.std.specs.Prelude.{reverse, vec_capacity}
-use Rattle.cas_world.specs.Opening.{AreDesksBelow}
-use Rattle.cas_calls.specs.Proposing.{disks}
+use Rattle.cas_world.specs.Openings.Opening.{AreDesksBelow}
+use Rattle.cas_world_calls.specs.Proposing.{disks}
 use Rattle.cas_world.proofs.open.start_desks.Given as goal
 
 abbrev pub invariant-loop-number : goal.invariant-loop-number

@@ -1,7 +1,7 @@
 use Rattle.std.proofs.Common.{◌≡◌, ◌+◌, ℕ, slice_set, subst, arith}
-use Rattle.cas_world.specs.Opening.{AreStartedBelow}
-use Rattle.cas_world.specs.Serve.{shelves}
-use Rattle.cas_world.proofs.Starting.{none_below, member_starts, member_fails}
+use Rattle.cas_world.specs.Openings.Opening.{AreStartedBelow}
+use Rattle.cas_world.specs.Frames.Serve.{shelves}
+use Rattle.cas_world.proofs.Openings.Starting.{none_below, member_starts, member_fails}
 use Rattle.cas_world.proofs.open.start_members.Goals as goal
 
 pub loop-number-init : goal.loop-number-init

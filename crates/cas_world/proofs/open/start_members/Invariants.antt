@@ -1,6 +1,6 @@
 use Rattle.std.proofs.Common.{◌+◌, ◌≤◌}
-use Rattle.cas_world.specs.Opening.{AreStartedBelow}
-use Rattle.cas_world.specs.Serve.{shelves}
+use Rattle.cas_world.specs.Openings.Opening.{AreStartedBelow}
+use Rattle.cas_world.specs.Frames.Serve.{shelves}
 use Rattle.cas_world.proofs.open.start_members.Given as goal
 
 -- the members below the next one have started

@@ -1,6 +1,6 @@
 use Rattle.std.proofs.Common.{◌≡◌, ◌+◌, ◌≤◌, ◌++◌, length}
 use Rattle.std.specs.Prelude.{reverse, vec_len, vec_capacity}
-use Rattle.cas_world.specs.Opening.{unstarted}
+use Rattle.cas_world.specs.Openings.Opening.{unstarted}
 use Rattle.cas_world.proofs.open.take_shelves.Given as goal
 
 abbrev pub decreases-loop-shelf : goal.decreases-loop-shelf

@@ -1,11 +1,11 @@
 use Rattle.std.proofs.Common.{◌≡◌, ℕ, Option, Some, refl, ap, subst, ◌∙◌, slice_set}
 use Rattle.std.specs.Prelude.{IfSome, option_map}
-use Rattle.cas_cluster.specs.Council.{PlanView, hushed}
-use Rattle.cas_cluster.specs.Course.{entering}
-use Rattle.cas_cluster.specs.StepPlans.{plan_after}
-use Rattle.cas_calls.specs.Council.{council_view, plan_view}
-use Rattle.cas_world.specs.Moving as moving
-use Rattle.cas_calls.specs.declared.plan.OpenPlan.{OpenPlan}
+use Rattle.cas_model.specs.Council.{PlanView, hushed}
+use Rattle.cas_model.specs.Eras.Course.{entering}
+use Rattle.cas_model.specs.Eras.Step.{plan_after}
+use Rattle.cas_world_calls.specs.Council.{council_view, plan_view}
+use Rattle.cas_world.specs.Eras.Moving as moving
+use Rattle.cas_world_calls.specs.declared.plan.OpenPlan.{OpenPlan}
 use Rattle.cas_world.proofs.Parts.{some_and}
 use Rattle.cas_world.proofs.plans.mark_move.Goals as goal
 

@@ -1,8 +1,8 @@
 use Rattle.std.proofs.Common.{Err, ap, refl}
-use Rattle.cas_cluster.specs.StepDesks.{EntersEra, FailsToEnter}
-use Rattle.cas_calls.specs.Answers.{crash_answer, moved_answer}
-use Rattle.cas_calls.specs.Proposing.{disks}
-use Rattle.cas_world.proofs.Moving.{enters_era, fails_to_enter, leaves}
+use Rattle.cas_model.specs.Calls.Desks.{EntersEra, FailsToEnter}
+use Rattle.cas_world_calls.specs.Answers.{crash_answer, moved_answer}
+use Rattle.cas_world_calls.specs.Proposing.{disks}
+use Rattle.cas_world.proofs.Eras.Moving.{enters_era, fails_to_enter, leaves}
 use Rattle.cas_world.proofs.plans.move_on.Goals as goal
 
 pub returns-in-Ok-clause-ok : goal.returns-in-Ok-clause-ok

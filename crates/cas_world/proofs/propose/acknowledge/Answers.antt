@@ -10,15 +10,15 @@ use Rattle.cas_record.specs.declared.answer.Answer.{Answer}
 use Rattle.cas_record.specs.declared.answer.Answer.TheVariants as answer
 use Rattle.cas_record.specs.declared.mark.Mark.TheVariants.{Acked}
 use Rattle.cas_vault.specs.Vault.{counter_of}
-use Rattle.cas_cluster.specs.StepCalls.{offered_by}
-use Rattle.cas_cluster.specs.StepDesks.{EndsRound}
-use Rattle.cas_cluster.proofs.Places.{some_is}
-use Rattle.cas_calls.specs.Call.{over}
-use Rattle.cas_world.specs.Count.{Counts}
-use Rattle.cas_calls.specs.declared.call.Caller.{Caller}
-use Rattle.cas_calls.specs.declared.call.OpenCall.{OpenCall}
-use Rattle.cas_calls.specs.declared.proposal.Copies.{Copies}
-use Rattle.cas_world.proofs.Stops.{end_goes_on}
+use Rattle.cas_model.specs.Calls.Step.{offered_by}
+use Rattle.cas_model.specs.Calls.Desks.{EndsRound}
+use Rattle.cas_model.proofs.Places.{some_is}
+use Rattle.cas_world_calls.specs.Call.{over}
+use Rattle.cas_world.specs.Calls.Count.{Counts}
+use Rattle.cas_world_calls.specs.declared.call.Caller.{Caller}
+use Rattle.cas_world_calls.specs.declared.call.OpenCall.{OpenCall}
+use Rattle.cas_world_calls.specs.declared.proposal.Copies.{Copies}
+use Rattle.cas_world.proofs.Stops.Stops.{end_goes_on}
 use Rattle.cas_world.proofs.propose.acknowledge.Given.{Over}
 use Rattle.cas_world.proofs.propose.acknowledge.Goals as goal
 

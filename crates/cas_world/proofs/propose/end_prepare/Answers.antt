@@ -2,8 +2,8 @@ use Rattle.std.proofs.Common.{Option, sym, ap, ◌∙◌}
 use Rattle.cas_proposer.specs.Desk.{counter_without}
 use Rattle.cas_proposer.specs.declared.round.Round.{Round}
 use Rattle.cas_vault.specs.Vault.{counter_of}
-use Rattle.cas_world.specs.Reading as reading
-use Rattle.cas_world.proofs.Stops.{end_goes_on}
+use Rattle.cas_world.specs.Calls.Reading as reading
+use Rattle.cas_world.proofs.Stops.Stops.{end_goes_on}
 use Rattle.cas_world.proofs.propose.end_prepare.Goals as goal
 
 -- src/propose.rt:84:1

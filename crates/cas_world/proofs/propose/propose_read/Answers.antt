@@ -6,12 +6,12 @@ use Rattle.cas_change.specs.Outcome.{outcome_of}
 use Rattle.cas_proposer.specs.Round.{TurnsToAccept}
 use Rattle.cas_proposer.specs.declared.round.Round.{Round}
 use Rattle.cas_cache.specs.declared.ready.Ready.{Ready}
-use Rattle.cas_cluster.proofs.Places.{some_is}
-use Rattle.cas_calls.specs.Proposing.{disks, proposing_of, ProposesOn, FailsToPropose}
-use Rattle.cas_world.specs.Reading.{Proposes}
-use Rattle.cas_calls.specs.declared.call.OpenCall.{OpenCall}
+use Rattle.cas_model.proofs.Places.{some_is}
+use Rattle.cas_world_calls.specs.Proposing.{disks, proposing_of, ProposesOn, FailsToPropose}
+use Rattle.cas_world.specs.Calls.Reading.{Proposes}
+use Rattle.cas_world_calls.specs.declared.call.OpenCall.{OpenCall}
 use Rattle.cas_world.proofs.Parts.{some_and}
-use Rattle.cas_world.proofs.Proposes.{quorum_in, proposed_on, failed_on, proposed_by}
+use Rattle.cas_world.proofs.Calls.Proposes.{quorum_in, proposed_on, failed_on, proposed_by}
 use Rattle.cas_world.proofs.propose.propose_read.Goals as goal
 
 -- src/propose.rt:127:5

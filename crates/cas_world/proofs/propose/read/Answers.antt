@@ -1,7 +1,7 @@
 use Rattle.std.proofs.Common.{◌≡◌, sym, ap, ◌∙◌}
 use Rattle.cas_proposer.specs.declared.round.Round.{Round}
-use Rattle.cas_cluster.proofs.Places.{some_is}
-use Rattle.cas_world.proofs.Proposes.{ready_is}
+use Rattle.cas_model.proofs.Places.{some_is}
+use Rattle.cas_world.proofs.Calls.Proposes.{ready_is}
 use Rattle.cas_world.proofs.propose.read.Goals as goal
 
 -- src/propose.rt:141:1

@@ -1,5 +1,5 @@
 use Rattle.std.proofs.Common.{refl}
-use Rattle.cas_world.proofs.Beginning.{loses_after}
+use Rattle.cas_world.proofs.Calls.Beginning.{loses_after}
 use Rattle.cas_world.proofs.proposing.propose_on.Goals as goal
 
 -- src/proposal.rt:69:1

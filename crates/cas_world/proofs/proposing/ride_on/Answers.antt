@@ -1,6 +1,6 @@
 use Rattle.std.proofs.Common.{Ok, Err, refl, ap}
 use Rattle.std.specs.Prelude.{None}
-use Rattle.cas_world.proofs.Beginning.{rides_by, fails_by, loses_by}
+use Rattle.cas_world.proofs.Calls.Beginning.{rides_by, fails_by, loses_by}
 use Rattle.cas_world.proofs.proposing.ride_on.Goals as goal
 
 -- src/proposal.rt:91:1

@@ -1,9 +1,9 @@
 use Rattle.std.proofs.Common.{Err, ap, refl}
-use Rattle.cas_cluster.specs.StepDesks.{Renews, FailsToRenew}
-use Rattle.cas_calls.specs.Answers.{aged_answer, crash_answer}
-use Rattle.cas_calls.specs.Proposing.{disks}
-use Rattle.cas_world.proofs.Moving.{leaves}
-use Rattle.cas_world.proofs.Renewing.{grows_older, fails_to_grow}
+use Rattle.cas_model.specs.Calls.Desks.{Renews, FailsToRenew}
+use Rattle.cas_world_calls.specs.Answers.{aged_answer, crash_answer}
+use Rattle.cas_world_calls.specs.Proposing.{disks}
+use Rattle.cas_world.proofs.Eras.Moving.{leaves}
+use Rattle.cas_world.proofs.Collection.Renewing.{grows_older, fails_to_grow}
 use Rattle.cas_world.proofs.renewal.grow_older.Goals as goal
 
 pub returns-in-Ok-clause-ok : goal.returns-in-Ok-clause-ok

@@ -1,5 +1,5 @@
 use Rattle.std.proofs.Common.{refl}
-use Rattle.cas_world.specs.Collect as marks
+use Rattle.cas_world.specs.Collection.Collect as marks
 use Rattle.cas_world.proofs.renewal.mark_renewal.Goals as goal
 
 pub returns-in-Ok-clause-marks : goal.returns-in-Ok-clause-marks

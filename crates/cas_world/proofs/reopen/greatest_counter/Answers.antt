@@ -1,8 +1,8 @@
 use Rattle.std.proofs.Common.{◌≡◌, ◌+◌, ℕ, List, refl, sym, ap, ◌∙◌, arith}
 use Rattle.std.specs.Prelude.{max, drop}
-use Rattle.cas_world.specs.OpeningOn.{greatest_counter}
+use Rattle.cas_world.specs.Openings.OpeningOn.{greatest_counter}
 use Rattle.cas_world.specs.declared.reopen.OpeningFloor.{OpeningFloor}
-use Rattle.cas_world.proofs.OpeningsOn.{one_more_counter, dropped_all}
+use Rattle.cas_world.proofs.Openings.OpeningsOn.{one_more_counter, dropped_all}
 use Rattle.cas_world.proofs.Parts.{at_place}
 use Rattle.cas_world.proofs.reopen.greatest_counter.Goals as goal
 

@@ -1,6 +1,6 @@
 use Rattle.std.proofs.Common.{◌≡◌}
 use Rattle.std.specs.Prelude.{max, drop}
-use Rattle.cas_world.specs.OpeningOn.{greatest_counter}
+use Rattle.cas_world.specs.Openings.OpeningOn.{greatest_counter}
 use Rattle.cas_world.proofs.reopen.greatest_counter.Given as goal
 
 -- the greatest so far, and that of the floors that are left

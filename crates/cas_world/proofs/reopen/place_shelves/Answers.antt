@@ -1,10 +1,10 @@
 use Rattle.std.proofs.Common.{◌≡◌, ◌+◌, ◌++◌, ◌∷◌, ℕ, suc, List, true, length, refl, sym, ap, subst, ◌∙◌, arith}
 use Rattle.std.specs.Prelude.{Option, Some, IfSome, reverse}
 use Rattle.cas_ballot.specs.Members.{has_member}
-use Rattle.cas_cluster.specs.View.{IsAt}
-use Rattle.cas_world.specs.OpeningOn.{placed, placed_as}
+use Rattle.cas_model.specs.View.{IsAt}
+use Rattle.cas_world.specs.Openings.OpeningOn.{placed, placed_as}
 use Rattle.cas_world.proofs.Lists.{last_first}
-use Rattle.cas_world.proofs.OpeningsOn.{placed_more}
+use Rattle.cas_world.proofs.Openings.OpeningsOn.{placed_more}
 use Rattle.cas_world.proofs.reopen.place_shelves.Given.{Over}
 use Rattle.cas_world.proofs.reopen.place_shelves.Goals as goal
 use Rattle.cas_world.proofs.reopen.place_shelves.Goals.{After-has}

@@ -1,8 +1,8 @@
 use Rattle.std.proofs.Common.{◌≡◌, ◌+◌, ◌≤◌, ◌++◌, ℕ, true, length}
 use Rattle.std.specs.Prelude.{reverse, vec_len, vec_capacity}
 use Rattle.cas_ballot.specs.Members.{has_member}
-use Rattle.cas_cluster.specs.View.{IsAt}
-use Rattle.cas_world.specs.OpeningOn.{placed}
+use Rattle.cas_model.specs.View.{IsAt}
+use Rattle.cas_world.specs.Openings.OpeningOn.{placed}
 use Rattle.cas_world.proofs.reopen.place_shelves.Given as goal
 
 abbrev pub decreases-loop-shelf : goal.decreases-loop-shelf

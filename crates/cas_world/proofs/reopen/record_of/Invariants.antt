@@ -1,7 +1,7 @@
 use Rattle.std.proofs.Common.{◌≡◌, ◌≤◌, ◌++◌}
 use Rattle.std.specs.Prelude.{map, reverse, vec_len}
-use Rattle.cas_cluster.specs.Openings.{mark_of}
-use Rattle.cas_world.specs.OpeningOn.{opening_of}
+use Rattle.cas_model.specs.Openings.{mark_of}
+use Rattle.cas_world.specs.Openings.OpeningOn.{opening_of}
 use Rattle.cas_world.proofs.reopen.record_of.Given as goal
 
 abbrev pub decreases-loop-floor : goal.decreases-loop-floor

@@ -1,10 +1,10 @@
 use Rattle.std.proofs.Common.{◌≡◌, ◌+◌, ◌++◌, ◌∷◌, [], ℕ, List, drop, sym, ap, subst, ◌∙◌, arith}
 use Rattle.std.specs.Prelude.{Option, Some, IfSome, reverse}
 use Rattle.cas_proposer.specs.Desk.{DeskView}
-use Rattle.cas_world.specs.OpeningOn.{IsFaultOfVault, IsTakenUpOver, AreTakenUpBelow}
-use Rattle.cas_calls.specs.Proposing.{disks}
+use Rattle.cas_world.specs.Openings.OpeningOn.{IsFaultOfVault, IsTakenUpOver, AreTakenUpBelow}
+use Rattle.cas_world_calls.specs.Proposing.{disks}
 use Rattle.cas_world.proofs.Lists.{last_first, next_disk}
-use Rattle.cas_world.proofs.OpeningsOn.{one_more_taken}
+use Rattle.cas_world.proofs.Openings.OpeningsOn.{one_more_taken}
 use Rattle.cas_world.proofs.reopen.take_up_desks.Given.{Over}
 use Rattle.cas_world.proofs.reopen.take_up_desks.Goals as goal
 use Rattle.cas_world.proofs.reopen.take_up_desks.Goals.{In-Ok}

@@ -1,9 +1,9 @@
 use Rattle.std.proofs.Common.{◌≡◌, ℕ, false, Err, refl, slice_set, ap, ◌∙◌, arith}
 use Rattle.cas_acceptor.specs.declared.fault.HandleFault.{HandleFault}
-use Rattle.cas_world.specs.Serve.{shelves, was_kept}
+use Rattle.cas_world.specs.Frames.Serve.{shelves, was_kept}
 use Rattle.cas_world.proofs.Parts.{at_place}
 use Rattle.cas_base.proofs.Bools.{false_of_not}
-use Rattle.cas_world.proofs.Serving.{no_failure, not_down, replies_by, finds_down, finds_no_memory}
+use Rattle.cas_world.proofs.Frames.Serving.{no_failure, not_down, replies_by, finds_down, finds_no_memory}
 use Rattle.cas_world.proofs.serve.serve_by.Goals as goal
 
 pub returns-in-Ok-clause-ok : goal.returns-in-Ok-clause-ok

@@ -1,5 +1,5 @@
 use Rattle.std.proofs.Common.{ℕ, slice_set, ap, arith}
-use Rattle.cas_world.specs.Stray.{at_desk}
+use Rattle.cas_world.specs.Frames.Stray.{at_desk}
 use Rattle.cas_world.proofs.Parts.{at_place}
 use Rattle.cas_world.proofs.stray.arrive.Goals as goal
 

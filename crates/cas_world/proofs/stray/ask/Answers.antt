@@ -1,9 +1,9 @@
 use Rattle.std.proofs.Common.{Option, None, Some, refl, sym, subst, arith, append-nil}
 use Rattle.cas_record.specs.declared.mark.Mark.{Mark}
-use Rattle.cas_world.specs.Serve.{shelves, Serves, RepliesBy}
-use Rattle.cas_world.specs.Stray.{is_down}
+use Rattle.cas_world.specs.Frames.Serve.{shelves, Serves, RepliesBy}
+use Rattle.cas_world.specs.Frames.Stray.{is_down}
 use Rattle.cas_world.specs.declared.serve.Served.{Served}
-use Rattle.cas_world.proofs.Straying.{answered_late}
+use Rattle.cas_world.proofs.Frames.Straying.{answered_late}
 use Rattle.cas_world.proofs.stray.ask.Goals as goal
 
 -- src/stray.rt:77:1

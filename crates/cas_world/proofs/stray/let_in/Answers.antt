@@ -1,6 +1,6 @@
 use Rattle.std.proofs.Common.{Some, refl, sym, ap, ◌∙◌}
 use Rattle.cas_flow.specs.declared.message.Message.{Message}
-use Rattle.cas_world.specs.Stray.{asks, arrives}
+use Rattle.cas_world.specs.Frames.Stray.{asks, arrives}
 use Rattle.cas_world.proofs.stray.let_in.Goals as goal
 
 -- src/stray.rt:72:1

@@ -1,11 +1,11 @@
 use Rattle.std.proofs.Common.{Option, None, Some, true, ap, subst, ◌∙◌}
 use Rattle.cas_flow.specs.Flow.{FlowView, taken}
 use Rattle.cas_record.specs.declared.mark.Mark.{Mark}
-use Rattle.cas_world.specs.Serve.{shelves, Serves}
-use Rattle.cas_world.specs.Turn.{is_down}
+use Rattle.cas_world.specs.Frames.Serve.{shelves, Serves}
+use Rattle.cas_world.specs.Frames.Turn.{is_down}
 use Rattle.cas_world.specs.declared.serve.Served.{Served}
 use Rattle.cas_world.specs.declared.serve.Served.TheVariants as served
-use Rattle.cas_world.proofs.Turning.{answered, makes_no_vote, makes_vote, makes_harm}
+use Rattle.cas_world.proofs.Frames.Turning.{answered, makes_no_vote, makes_vote, makes_harm}
 use Rattle.cas_world.proofs.turn.ask.Goals as goal
 
 -- src/turn.rt:143:1

@@ -1,7 +1,7 @@
 use Rattle.std.proofs.Common.{Some, refl, ap, ◌∙◌}
 use Rattle.cas_flow.specs.declared.message.Message.{Message}
-use Rattle.cas_world.specs.Turn.{asks, arrives}
-use Rattle.cas_world.proofs.Turning.{on_ok, makes_none}
+use Rattle.cas_world.specs.Frames.Turn.{asks, arrives}
+use Rattle.cas_world.proofs.Frames.Turning.{on_ok, makes_none}
 use Rattle.cas_world.proofs.turn.handle.Goals as goal
 
 -- src/turn.rt:98:1

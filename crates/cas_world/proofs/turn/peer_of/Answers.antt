@@ -1,5 +1,5 @@
 use Rattle.std.proofs.Common.{sym, ◌∙◌}
-use Rattle.cas_world.proofs.Turning.{none_waits}
+use Rattle.cas_world.proofs.Frames.Turning.{none_waits}
 use Rattle.cas_world.proofs.turn.peer_of.Goals as goal
 
 -- src/turn.rt:83:17

@@ -1,7 +1,7 @@
 use Rattle.std.proofs.Common.{◌≡◌, ◌-◌, ◌<◌, suc, length, arith, reverse, sym, ap, subst, ◌∙◌}
 use Rattle.std.specs.Prelude.{option_copied}
 use Rattle.cas_base.proofs.Bools.{not_both}
-use Rattle.cas_record.specs.Chain.{chain_of, settled_of}
+use Rattle.cas_record.specs.Histories.Chain.{chain_of, settled_of}
 use Rattle.cas_audit.specs.declared.told.Call.{Call}
 use Rattle.cas_audit.specs.declared.told.Row.{Row}
 use Rattle.cas_audit.specs.Tables.{IsFoundAt}

@@ -1,5 +1,5 @@
 use Rattle.std.proofs.Common.{◌≡◌, suc, arith, length, Some, subst}
-use Rattle.cas_record.specs.Chain.{chain_of}
+use Rattle.cas_record.specs.Histories.Chain.{chain_of}
 use Rattle.cas_audit.specs.Told.{Reaches}
 use Rattle.cas_audit.proofs.Walks.{reach_first}
 use Rattle.cas_audit.proofs.tables.Tables.front_of.Goals as goal

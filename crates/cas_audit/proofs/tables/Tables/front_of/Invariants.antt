@@ -1,7 +1,7 @@
 -- so many entries of the history are left as steps
 use Rattle.std.proofs.Common.{◌≡◌, ℕ, ◌+◌, List, length}
 use Rattle.cas_record.specs.declared.mark.Mark.{Mark}
-use Rattle.cas_record.specs.Chain.{chain_of}
+use Rattle.cas_record.specs.Histories.Chain.{chain_of}
 use Rattle.cas_audit.specs.Tables.{IsAudit}
 use Rattle.cas_audit.specs.Told.{Reaches}
 use Rattle.cas_audit.proofs.tables.Tables.front_of.Given as goal

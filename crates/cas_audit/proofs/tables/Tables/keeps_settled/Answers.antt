@@ -1,6 +1,6 @@
 use Rattle.std.proofs.Common.{sym, subst}
 use Rattle.std.specs.Prelude.{IsTrue, ◌↔◌}
-use Rattle.cas_record.specs.Chain.{settled_of}
+use Rattle.cas_record.specs.Histories.Chain.{settled_of}
 use Rattle.cas_record.specs.Places.{IsPrefix}
 use Rattle.cas_audit.specs.Keeping.{KeepsSettled}
 use Rattle.cas_audit.proofs.Decisions.{if_ok_map, floor_settled}

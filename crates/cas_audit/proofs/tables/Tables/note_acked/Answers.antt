@@ -3,7 +3,7 @@ use Rattle.std.specs.Prelude.{◌∷◌, Some, if◌then◌else◌}
 use Rattle.indexmap.specs.IndexMap.{get}
 use Rattle.cas_ballot.specs.Ballot.{greater_of}
 use Rattle.cas_record.specs.declared.mark.Mark.TheVariants.{Acked}
-use Rattle.cas_record.specs.Chain.{is_key, chain_of, top_of, settled_of}
+use Rattle.cas_record.specs.Histories.Chain.{is_key, chain_of, top_of, settled_of}
 use Rattle.cas_record.specs.Places.{IsPrefix, whole, later}
 use Rattle.cas_audit.specs.declared.told.Row.{Row}
 use Rattle.cas_audit.specs.declared.told.Spot.{Spot}

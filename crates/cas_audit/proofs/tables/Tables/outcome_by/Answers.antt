@@ -2,7 +2,7 @@ use Rattle.std.proofs.Common.{reverse, sym, ap, ◌∙◌}
 use Rattle.std.specs.Prelude.{option_copied}
 use Rattle.cas_base.proofs.Bools.{some_is}
 use Rattle.cas_change.specs.Outcome.{outcome_of}
-use Rattle.cas_record.specs.Chain.{program_of}
+use Rattle.cas_record.specs.Histories.Chain.{program_of}
 use Rattle.cas_audit.specs.declared.told.Call.{Call}
 use Rattle.cas_audit.specs.Tables.{program_at}
 use Rattle.cas_audit.proofs.Decisions.{if_ok_map}

@@ -3,7 +3,7 @@ use Rattle.std.specs.Prelude.{◌==◌}
 use mathlib.Core.Logic.{inl, inr}
 use Rattle.indexmap.specs.IndexMap.{get}
 use Rattle.cas_base.proofs.Bools.{true_or_false, not_both}
-use Rattle.cas_record.specs.Chain.{chain_of}
+use Rattle.cas_record.specs.Histories.Chain.{chain_of}
 use Rattle.cas_record.proofs.Tests.{nat_same, nat_is}
 use Rattle.cas_audit.specs.Tables.{IsFoundIn, same_place}
 use Rattle.cas_audit.proofs.tables.Tables.settle.Goals as goal

@@ -2,7 +2,7 @@
 use Rattle.std.proofs.Common.{◌≡◌, ℕ, ◌+◌, ◌≤◌, ◌<◌, List, length}
 use Rattle.indexmap.specs.IndexMap.{get}
 use Rattle.cas_record.specs.declared.mark.Mark.{Mark}
-use Rattle.cas_record.specs.Chain.{chain_of, settled_of}
+use Rattle.cas_record.specs.Histories.Chain.{chain_of, settled_of}
 use Rattle.cas_audit.specs.Tables.{AreTables, HasRoom, IsAudit, IsFoundIn, same_place}
 use Rattle.cas_audit.specs.Told.{Reaches}
 use Rattle.cas_audit.proofs.tables.Tables.settle.Given as goal

@@ -2,7 +2,7 @@ use Rattle.std.proofs.Common.{◌≡◌, Some, refl, sym, ap, subst, ◌∙◌}
 use Rattle.std.specs.Ordering.{is_lt}
 use mathlib.Core.Logic.{inl, inr}
 use Rattle.cas_ballot.specs.Ballot.{BallotLess, greater_of}
-use Rattle.cas_record.specs.Chain.{chain_of, top_of, settled_of}
+use Rattle.cas_record.specs.Histories.Chain.{chain_of, top_of, settled_of}
 use Rattle.cas_record.specs.Places.{IsPrefix}
 use Rattle.cas_record.proofs.Tests.{less_tells}
 use Rattle.cas_audit.specs.declared.told.Row.{Row}

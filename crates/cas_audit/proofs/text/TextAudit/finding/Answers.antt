@@ -1,7 +1,7 @@
 use Rattle.std.proofs.Common.{◌≡◌, arith, sym, ap, ◌∙◌, subst}
-use Rattle.cas_audit.specs.Progress.{IsProgress}
+use Rattle.cas_audit.specs.Spelling.Progress.{IsProgress}
 use Rattle.cas_audit.specs.declared.text.Progress.TheVariants.{Marks}
-use Rattle.cas_audit.proofs.LineByLine.{found_whole_legal, found_whole_broken, found_missing, found_bad_line}
+use Rattle.cas_audit.proofs.Spelling.LineByLine.{found_whole_legal, found_whole_broken, found_missing, found_bad_line}
 use Rattle.cas_audit.proofs.text.TextAudit.finding.Goals as goal
 
 pub returns-in-None : goal.returns-in-None

@@ -1,9 +1,9 @@
 use Rattle.std.proofs.Common.{sym, ap, subst, ◌∙◌}
 use Rattle.std.specs.Prelude.{OnOk, IfErr}
-use Rattle.cas_world.specs.Plans.{asked_to}
-use Rattle.cas_hold.specs.Membership.{HasPlan, IsPlanMark}
-use Rattle.cas_hold.specs.Orders.{OperatesIn, IsToldIn}
-use Rattle.cas_hold.specs.OwnParts.{own_part}
+use Rattle.cas_world.specs.Eras.Plans.{asked_to}
+use Rattle.cas_board_steps.specs.Eras.Membership.{HasPlan, IsPlanMark}
+use Rattle.cas_board_steps.specs.Exchanges.Orders.{OperatesIn, IsToldIn}
+use Rattle.cas_board_steps.specs.OwnParts.{own_part}
 use Rattle.cas_board.proofs.Sittings.{was_held, gives_back}
 use Rattle.cas_board.proofs.Operating.{operator_part, operator_own, operator_goes_on, operator_told, operates_or_tells, on_ok, if_err}
 use Rattle.cas_board.proofs.Steps.{stands_then}

@@ -1,9 +1,9 @@
 use Rattle.std.proofs.Common.{ℕ, List, [], ◌++◌, arith, sym, ap, subst, ◌∙◌}
 use Rattle.std.specs.Prelude.{take, length}
 use Rattle.cas_record.specs.declared.operator.Asked.TheVariants as asked
-use Rattle.cas_cluster.specs.StepCouncil.{told_marks}
+use Rattle.cas_model.specs.Exchanges.Step.{told_marks}
 use Rattle.cas_board.specs.Operations.{WasToldLast}
-use Rattle.cas_hold.specs.Orders.{HasProbe, IsAskingHarm, IsProbeAnswer}
+use Rattle.cas_board_steps.specs.Exchanges.Orders.{HasProbe, IsAskingHarm, IsProbeAnswer}
 use Rattle.cas_board.proofs.Sittings.{counted_none}
 use Rattle.cas_board.proofs.Operating.{told_behind, answers_any, own_grown, silent_since, silent_before, begun_in, true_among}
 use Rattle.cas_board.proofs.board.Board.ask_and_probe.Goals as goal

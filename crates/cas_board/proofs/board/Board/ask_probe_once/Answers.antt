@@ -2,10 +2,10 @@ use Rattle.std.proofs.Common.{List, length, [], sym, ap, subst, ◌∙◌}
 use Rattle.std.specs.Prelude.{OnOk, IfErr}
 use Rattle.cas_record.specs.declared.operator.Asked.TheVariants as asked
 use Rattle.cas_record.specs.declared.mark.Mark.{Mark}
-use Rattle.cas_cluster.specs.StepCouncil.{everyone}
-use Rattle.cas_world.specs.Plans.{rescanned_of}
-use Rattle.cas_hold.specs.Kept.{Makes}
-use Rattle.cas_hold.specs.Orders.{HasOrder, HasHarms, HasProbe, IsToldIn, IsTrueProbe, IsAskingHarm, WasAskedBehind}
+use Rattle.cas_model.specs.Exchanges.Step.{everyone}
+use Rattle.cas_world.specs.Eras.Plans.{rescanned_of}
+use Rattle.cas_board_steps.specs.Kept.{Makes}
+use Rattle.cas_board_steps.specs.Exchanges.Orders.{HasOrder, HasHarms, HasProbe, IsToldIn, IsTrueProbe, IsAskingHarm, WasAskedBehind}
 use Rattle.cas_board.proofs.Sittings.{was_held, gives_back}
 use Rattle.cas_board.proofs.Operating.{operator_part, operator_made, operator_own, operator_told, asks_or_tells, everyone_set, asked_earlier, seen_of, on_ok, if_err, still_counted}
 use Rattle.cas_board.proofs.board.Board.ask_probe_once.Goals as goal

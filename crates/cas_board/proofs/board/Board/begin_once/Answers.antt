@@ -1,9 +1,9 @@
 use Rattle.std.proofs.Common.{ℕ, arith, sym, ap, subst, ◌∙◌}
 use Rattle.std.specs.Prelude.{IfErr, IfOk}
-use Rattle.cas_hold.specs.Deeds.{BeginsIn, BeginsNot}
-use Rattle.cas_hold.specs.Open.{IsFree}
-use Rattle.cas_hold.specs.OwnParts.{own_part}
-use Rattle.cas_hold.proofs.Parts.{free_is_idle}
+use Rattle.cas_board_steps.specs.Calls.Deeds.{BeginsIn, BeginsNot}
+use Rattle.cas_board_steps.specs.Calls.Open.{IsFree}
+use Rattle.cas_board_steps.specs.OwnParts.{own_part}
+use Rattle.cas_board_steps.proofs.Parts.{free_is_idle}
 use Rattle.cas_board.proofs.Sittings.{was_held, gives_back, begun_makes, begun_told, refused_told}
 use Rattle.cas_board.proofs.board.Board.begin_once.Goals as goal
 

@@ -1,5 +1,5 @@
 use Rattle.std.proofs.Common.{ap, sym, subst, ◌∙◌}
-use Rattle.cas_hold.specs.Open.{IsFree}
+use Rattle.cas_board_steps.specs.Calls.Open.{IsFree}
 use Rattle.cas_board.proofs.Sittings.{counted_none, change_answered, change_refused, refused_own}
 use Rattle.cas_board.proofs.board.Board.change.Goals as goal
 

@@ -1,6 +1,6 @@
 use Rattle.std.proofs.Common.{refl, ap, ◌∙◌}
-use Rattle.cas_world.specs.Plans.{asked_to}
-use Rattle.cas_hold.specs.Membership.{IsRescanMark}
+use Rattle.cas_world.specs.Eras.Plans.{asked_to}
+use Rattle.cas_board_steps.specs.Eras.Membership.{IsRescanMark}
 use Rattle.cas_board.specs.Operations.{is_not_begun}
 use Rattle.cas_board.proofs.Sittings.{counted_none}
 use Rattle.cas_board.proofs.Operating.{told_behind, operates_told}

@@ -1,8 +1,8 @@
 use Rattle.std.proofs.Common.{ℕ, reverse, ap, subst, ◌∙◌}
 use Rattle.std.specs.Prelude.{slice_index_or}
-use Rattle.cas_causes.specs.Tellings.{AreTellingsSo}
-use Rattle.cas_hold.specs.Mine.{mine}
-use Rattle.cas_hold.proofs.Fronts.{mine_seen}
+use Rattle.cas_model_causes.specs.Eras.Tellings.{AreTellingsSo}
+use Rattle.cas_board_steps.specs.Mine.{mine}
+use Rattle.cas_board_steps.proofs.Fronts.{mine_seen}
 use Rattle.cas_board.proofs.board.Board.close.Goals as goal
 
 pub returns-clause-mine : goal.returns-clause-mine

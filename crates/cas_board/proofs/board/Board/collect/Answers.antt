@@ -1,8 +1,8 @@
 use Rattle.std.proofs.Common.{ℕ, List, refl, sym, ap, subst, ◌∙◌}
 use Rattle.cas_record.specs.declared.operator.Asked.TheVariants as asked
 use Rattle.cas_board.specs.Operations.{WasToldLast, is_not_begun}
-use Rattle.cas_hold.specs.Collecting.{HasCourse, IsCollectAnswer, IsCollectingMark, most_rounds}
-use Rattle.cas_hold.proofs.Tries.{most_is}
+use Rattle.cas_board_steps.specs.Collection.Collecting.{HasCourse, IsCollectAnswer, IsCollectingMark, most_rounds}
+use Rattle.cas_board_steps.proofs.Calls.Tries.{most_is}
 use Rattle.cas_board.proofs.Sittings.{counted_none}
 use Rattle.cas_board.proofs.Operating.{told_behind, operates_told}
 use Rattle.cas_board.proofs.board.Board.collect.Goals as goal

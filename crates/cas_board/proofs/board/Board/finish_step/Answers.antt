@@ -1,10 +1,10 @@
 use Rattle.std.proofs.Common.{sym, ap, subst, ◌∙◌}
 use Rattle.std.specs.Prelude.{Some}
-use Rattle.cas_world.specs.Plans.{asked_to}
-use Rattle.cas_hold.specs.Membership.{IsPlanMark, IsRescanMark, StandsAt}
-use Rattle.cas_hold.specs.Mine.{wanted_by, wants}
-use Rattle.cas_hold.specs.declared.membership.MembersStep.{MembersStep}
-use Rattle.cas_hold.proofs.Tries.{rescan_within}
+use Rattle.cas_world.specs.Eras.Plans.{asked_to}
+use Rattle.cas_board_steps.specs.Eras.Membership.{IsPlanMark, IsRescanMark, StandsAt}
+use Rattle.cas_board_steps.specs.Mine.{wanted_by, wants}
+use Rattle.cas_board_steps.specs.declared.membership.MembersStep.{MembersStep}
+use Rattle.cas_board_steps.proofs.Calls.Tries.{rescan_within}
 use Rattle.cas_board.proofs.Steps.{run_step}
 use Rattle.cas_board.proofs.Operating.{order_runs, if_err, told_less}
 use Rattle.cas_board.proofs.board.Board.finish_step.Goals as goal

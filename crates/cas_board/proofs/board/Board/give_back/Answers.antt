@@ -1,7 +1,7 @@
 use Rattle.std.proofs.Common.{ℕ, suc, List, reverse, sym, ap, subst, ◌∙◌}
 use Rattle.cas_record.specs.Legal.{IsLegal}
 use Rattle.cas_record.specs.declared.mark.Mark.{Mark}
-use Rattle.cas_causes.specs.Tellings.{AreTellingsSo}
+use Rattle.cas_model_causes.specs.Eras.Tellings.{AreTellingsSo}
 use Rattle.cas_board.proofs.Sittings.{gives_more, gives_lawful, gives_own}
 use Rattle.cas_board.proofs.board.Board.give_back.Goals as goal
 

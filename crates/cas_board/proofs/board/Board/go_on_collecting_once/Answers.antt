@@ -1,9 +1,9 @@
 use Rattle.std.proofs.Common.{sym, ap, subst, ◌∙◌}
 use Rattle.std.specs.Prelude.{OnOk, IfErr}
 use Rattle.cas_record.specs.declared.operator.Asked.TheVariants as asked
-use Rattle.cas_hold.specs.Collecting.{IsBurialMark, IsCollectingMark, most_rounds}
-use Rattle.cas_hold.specs.Deeds.{harm_by}
-use Rattle.cas_hold.specs.Orders.{OperatesIn, IsToldIn}
+use Rattle.cas_board_steps.specs.Collection.Collecting.{IsBurialMark, IsCollectingMark, most_rounds}
+use Rattle.cas_board_steps.specs.Calls.Deeds.{harm_by}
+use Rattle.cas_board_steps.specs.Exchanges.Orders.{OperatesIn, IsToldIn}
 use Rattle.cas_board.proofs.Sittings.{was_held, gives_back}
 use Rattle.cas_board.proofs.Operating.{operator_own, operator_goes_on, operator_told, operates_or_tells, on_ok, if_err}
 use Rattle.cas_board.proofs.Collections.{course_held, course_then}

@@ -1,9 +1,9 @@
 use Rattle.std.proofs.Common.{ℕ, ap, subst, ◌∙◌}
 use Rattle.std.specs.Prelude.{IfErr, OnOk}
-use Rattle.cas_hold.specs.Deeds.{GoesOnIn, EndsIn, harm_by}
-use Rattle.cas_hold.specs.Mine.{wanted_by}
-use Rattle.cas_hold.specs.OwnParts.{own_part}
-use Rattle.cas_hold.proofs.Fronts.{wanted_seen}
+use Rattle.cas_board_steps.specs.Calls.Deeds.{GoesOnIn, EndsIn, harm_by}
+use Rattle.cas_board_steps.specs.Mine.{wanted_by}
+use Rattle.cas_board_steps.specs.OwnParts.{own_part}
+use Rattle.cas_board_steps.proofs.Fronts.{wanted_seen}
 use Rattle.cas_board.proofs.Sittings.{was_held, gives_back, held_known, gone_makes, gone_told, ended_told, rounds_told, met_told, repeats_told}
 use Rattle.cas_board.proofs.board.Board.go_on_once.Goals as goal
 

@@ -2,9 +2,9 @@ use Rattle.std.proofs.Common.{ℕ, List, refl, sym, ap, subst, ◌∙◌}
 use Rattle.std.specs.Prelude.{OnOk, IfErr, take}
 use Rattle.cas_record.specs.declared.operator.Asked.TheVariants as asked
 use Rattle.cas_record.specs.declared.mark.Mark.{Mark}
-use Rattle.cas_hold.specs.Deeds.{harm_by}
-use Rattle.cas_hold.specs.Orders.{HasHarms, HasProbe, MarksHarms, OperatesIn, IsToldIn, IsAskingHarm, IsProbeAnswer, IsSilentAtMost, IsTrueProbe, WasAskedBehind}
-use Rattle.cas_hold.specs.OwnParts.{own_part}
+use Rattle.cas_board_steps.specs.Calls.Deeds.{harm_by}
+use Rattle.cas_board_steps.specs.Exchanges.Orders.{HasHarms, HasProbe, MarksHarms, OperatesIn, IsToldIn, IsAskingHarm, IsProbeAnswer, IsSilentAtMost, IsTrueProbe, WasAskedBehind}
+use Rattle.cas_board_steps.specs.OwnParts.{own_part}
 use Rattle.cas_board.proofs.Sittings.{was_held, gives_back}
 use Rattle.cas_board.proofs.Operating.{operator_part, operator_own, operator_goes_on, operator_harms, operator_told, operates_or_tells, on_ok, if_err}
 use Rattle.cas_board.proofs.board.Board.go_on_probing_once.Goals as goal

@@ -1,4 +1,4 @@
-use Rattle.cas_hold.proofs.Fronts.{mine_seen}
+use Rattle.cas_board_steps.proofs.Fronts.{mine_seen}
 use Rattle.cas_board.proofs.board.Board.meet.Goals as goal
 
 pub returns-clause-a_mine : goal.returns-clause-a_mine

@@ -1,8 +1,8 @@
 use Rattle.std.proofs.Common.{◌+◌, arith}
 use Rattle.std.proofs.lemmas.List.Elements.{All-same}
 use Rattle.cas_board.specs.Passes.{IsPassOf}
-use Rattle.cas_hold.specs.Open.{IsFree}
-use Rattle.cas_world.specs.Opening.{members_to}
+use Rattle.cas_board_steps.specs.Calls.Open.{IsFree}
+use Rattle.cas_world.specs.Openings.Opening.{members_to}
 use Rattle.cas_board.proofs.Blamed.{desks_up}
 use Rattle.cas_board.proofs.Opened.{opening_kept, opening_parts, fresh_passes}
 use Rattle.cas_board.proofs.board.Board.open.Goals as goal

@@ -1,11 +1,11 @@
 use Rattle.std.proofs.Common.{[], length, sym, ap, subst, ◌∙◌}
 use Rattle.cas_record.specs.declared.operator.Asked.TheVariants as asked
-use Rattle.cas_world.specs.Plans.{rescanned_of}
-use Rattle.cas_hold.specs.Deeds.{IsRefusal}
-use Rattle.cas_hold.specs.Kept.{Makes}
-use Rattle.cas_hold.specs.Open.{IsFree}
-use Rattle.cas_hold.specs.Orders.{HasOrder}
-use Rattle.cas_hold.specs.OwnParts.{own_part}
+use Rattle.cas_world.specs.Eras.Plans.{rescanned_of}
+use Rattle.cas_board_steps.specs.Calls.Deeds.{IsRefusal}
+use Rattle.cas_board_steps.specs.Kept.{Makes}
+use Rattle.cas_board_steps.specs.Calls.Open.{IsFree}
+use Rattle.cas_board_steps.specs.Exchanges.Orders.{HasOrder}
+use Rattle.cas_board_steps.specs.OwnParts.{own_part}
 use Rattle.cas_board.proofs.Sittings.{was_held, gives_back}
 use Rattle.cas_board.proofs.Operating.{operator_part, operator_made, operator_own, on_ok, if_err, still_counted}
 use Rattle.cas_board.proofs.board.Board.order_probe_once.Goals as goal

@@ -2,10 +2,10 @@ use Rattle.std.proofs.Common.{ℕ, List, [], refl, sym, ap, subst, ◌∙◌}
 use Rattle.std.specs.Prelude.{Contains}
 use Rattle.cas_record.specs.declared.mark.Mark.{Mark}
 use Rattle.cas_record.specs.declared.operator.Asked.TheVariants as asked
-use Rattle.cas_cluster.proofs.Places.{contains_front}
+use Rattle.cas_model.proofs.Places.{contains_front}
 use Rattle.cas_ballot.specs.Members.{IsMemberSet}
 use Rattle.cas_board.specs.Operations.{WasToldLast, is_not_begun}
-use Rattle.cas_hold.specs.Orders.{HasOrder, IsAskingHarm, IsProbeAnswer}
+use Rattle.cas_board_steps.specs.Exchanges.Orders.{HasOrder, IsAskingHarm, IsProbeAnswer}
 use Rattle.cas_world.specs.declared.exchange.Exchange.TheVariants as exchange
 use Rattle.cas_board.proofs.Sittings.{counted_none}
 use Rattle.cas_board.proofs.Operating.{told_behind, operates_told, refused_answers, own_grown, silent_before, true_among}

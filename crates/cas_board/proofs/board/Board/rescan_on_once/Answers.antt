@@ -1,12 +1,12 @@
 use Rattle.std.proofs.Common.{ℕ, List, refl, sym, ap, subst, ◌∙◌}
 use Rattle.std.specs.Prelude.{OnOk, IfOk, IfErr}
-use Rattle.cas_world.specs.Plans.{asked_to}
-use Rattle.cas_hold.specs.Deeds.{harm_by}
-use Rattle.cas_hold.specs.Membership.{HasRescan, HasRounds, IsRescannedTo, IsPlanMark, IsRescanMark}
-use Rattle.cas_hold.specs.Mine.{wanted_by}
-use Rattle.cas_hold.specs.Open.{rounds_after}
-use Rattle.cas_hold.specs.Orders.{OperatesIn, IsToldIn}
-use Rattle.cas_hold.specs.OwnParts.{own_part}
+use Rattle.cas_world.specs.Eras.Plans.{asked_to}
+use Rattle.cas_board_steps.specs.Calls.Deeds.{harm_by}
+use Rattle.cas_board_steps.specs.Eras.Membership.{HasRescan, HasRounds, IsRescannedTo, IsPlanMark, IsRescanMark}
+use Rattle.cas_board_steps.specs.Mine.{wanted_by}
+use Rattle.cas_board_steps.specs.Calls.Open.{rounds_after}
+use Rattle.cas_board_steps.specs.Exchanges.Orders.{OperatesIn, IsToldIn}
+use Rattle.cas_board_steps.specs.OwnParts.{own_part}
 use Rattle.cas_board.proofs.Sittings.{was_held, gives_back}
 use Rattle.cas_board.proofs.Operating.{operator_part, operator_own, operator_goes_on, operator_told, operates_or_tells, on_ok, if_err}
 use Rattle.cas_board.proofs.Steps.{wanted_held, wanted_then}

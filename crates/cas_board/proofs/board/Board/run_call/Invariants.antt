@@ -1,4 +1,4 @@
-use Rattle.cas_hold.specs.Stages.{tells_met}
+use Rattle.cas_board_steps.specs.Calls.Stages.{tells_met}
 use Rattle.cas_board.proofs.Sittings.{HasRun, HasTried}
 use Rattle.cas_board.proofs.board.Board.run_call.Given as goal
 

@@ -1,9 +1,9 @@
 use Rattle.std.proofs.Common.{ℕ, List, refl, sym, ap, subst, ◌∙◌}
 use Rattle.cas_record.specs.declared.operator.Asked.TheVariants as asked
 use Rattle.cas_board.specs.Operations.{HasOperated, WasToldLast}
-use Rattle.cas_hold.specs.Collecting.{HasCourse, IsBurialMark, IsCollectAnswer, IsCollectingMark, most_rounds}
-use Rattle.cas_hold.specs.Deeds.{harm_by}
-use Rattle.cas_hold.proofs.Tries.{burial_within}
+use Rattle.cas_board_steps.specs.Collection.Collecting.{HasCourse, IsBurialMark, IsCollectAnswer, IsCollectingMark, most_rounds}
+use Rattle.cas_board_steps.specs.Calls.Deeds.{harm_by}
+use Rattle.cas_board_steps.proofs.Calls.Tries.{burial_within}
 use Rattle.cas_board.proofs.Passes.{still_pass}
 use Rattle.cas_board.proofs.Operating.{order_runs, order_pass, order_number, order_ran, order_goes_on, order_ends, run_less}
 use Rattle.cas_board.proofs.Collections.{course_asked}

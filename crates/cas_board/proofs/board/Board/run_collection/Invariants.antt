@@ -1,6 +1,6 @@
 use Rattle.std.specs.Prelude.{◌≡◌}
-use Rattle.cas_cluster.specs.StepCollect.{keep_always}
-use Rattle.cas_hold.specs.Collecting.{HasCourse, IsBurialMark, most_rounds}
+use Rattle.cas_model.specs.Collection.Step.{keep_always}
+use Rattle.cas_board_steps.specs.Collection.Collecting.{HasCourse, IsBurialMark, most_rounds}
 use Rattle.cas_board.proofs.Operating.{HasRunOrder}
 use Rattle.cas_board.proofs.board.Board.run_collection.Given as goal
 

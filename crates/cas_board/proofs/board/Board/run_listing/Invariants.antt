@@ -1,5 +1,5 @@
-use Rattle.cas_world.specs.Plans.{asked_to}
-use Rattle.cas_hold.specs.Membership.{HasListing, IsPlanMark}
+use Rattle.cas_world.specs.Eras.Plans.{asked_to}
+use Rattle.cas_board_steps.specs.Eras.Membership.{HasListing, IsPlanMark}
 use Rattle.cas_board.proofs.Operating.{HasRunOrder}
 use Rattle.cas_board.proofs.board.Board.run_listing.Given as goal
 

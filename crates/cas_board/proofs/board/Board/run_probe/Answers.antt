@@ -1,8 +1,8 @@
 use Rattle.std.proofs.Common.{ℕ, List, refl, sym, ap, subst, ◌∙◌}
 use Rattle.cas_record.specs.declared.operator.Asked.TheVariants as asked
 use Rattle.cas_board.specs.Operations.{WasToldLast}
-use Rattle.cas_hold.specs.Deeds.{harm_by}
-use Rattle.cas_hold.specs.Orders.{HasProbe, IsAskingHarm, IsProbeAnswer, WasAskedBehind}
+use Rattle.cas_board_steps.specs.Calls.Deeds.{harm_by}
+use Rattle.cas_board_steps.specs.Exchanges.Orders.{HasProbe, IsAskingHarm, IsProbeAnswer, WasAskedBehind}
 use Rattle.cas_board.proofs.Passes.{still_pass}
 use Rattle.cas_board.proofs.Operating.{order_runs, order_pass, order_number, order_own, order_ran, order_goes_on, order_ends, marked_harms, none_marked, silent_then}
 use Rattle.cas_board.proofs.board.Board.run_probe.Goals as goal

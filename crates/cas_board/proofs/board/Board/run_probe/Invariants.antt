@@ -1,6 +1,6 @@
 use Rattle.std.specs.Prelude.{◌≡◌, ℕ, List}
 use Rattle.cas_board.specs.Operations.{HasMarkedHarms}
-use Rattle.cas_hold.specs.Orders.{HasProbe, IsAskingHarm, WasAskedBehind}
+use Rattle.cas_board_steps.specs.Exchanges.Orders.{HasProbe, IsAskingHarm, WasAskedBehind}
 use Rattle.cas_board.proofs.Operating.{HasRunOrder}
 use Rattle.cas_board.proofs.board.Board.run_probe.Given as goal
 

@@ -1,10 +1,10 @@
 use Rattle.std.proofs.Common.{sym, ap, subst, ◌∙◌}
 use Rattle.std.proofs.lemmas.Bool.{ltb-true, ltb-false}
-use Rattle.cas_world.specs.Plans.{asked_to}
-use Rattle.cas_hold.specs.Deeds.{harm_by}
-use Rattle.cas_hold.specs.Membership.{HasRescan, HasRounds, IsRescannedTo, IsPlanMark, IsRescanMark}
-use Rattle.cas_hold.specs.Stages.{tells_met}
-use Rattle.cas_hold.proofs.Tries.{rescan_within}
+use Rattle.cas_world.specs.Eras.Plans.{asked_to}
+use Rattle.cas_board_steps.specs.Calls.Deeds.{harm_by}
+use Rattle.cas_board_steps.specs.Eras.Membership.{HasRescan, HasRounds, IsRescannedTo, IsPlanMark, IsRescanMark}
+use Rattle.cas_board_steps.specs.Calls.Stages.{tells_met}
+use Rattle.cas_board_steps.proofs.Calls.Tries.{rescan_within}
 use Rattle.cas_board.proofs.Passes.{still_pass}
 use Rattle.cas_board.proofs.Sittings.{rounds_spent, tried_asked, tried_on}
 use Rattle.cas_board.proofs.Operating.{order_runs, order_pass, order_number, order_own, order_ran, order_goes_on, order_ends, run_less}

@@ -1,8 +1,8 @@
 use Rattle.std.specs.Prelude.{◌≡◌, Some}
-use Rattle.cas_world.specs.Plans.{asked_to}
-use Rattle.cas_hold.specs.Membership.{HasRescan, IsPlanMark}
-use Rattle.cas_hold.specs.Mine.{wanted_by, wants}
-use Rattle.cas_hold.specs.Stages.{tells_met}
+use Rattle.cas_world.specs.Eras.Plans.{asked_to}
+use Rattle.cas_board_steps.specs.Eras.Membership.{HasRescan, IsPlanMark}
+use Rattle.cas_board_steps.specs.Mine.{wanted_by, wants}
+use Rattle.cas_board_steps.specs.Calls.Stages.{tells_met}
 use Rattle.cas_board.proofs.Operating.{HasRunOrder}
 use Rattle.cas_board.proofs.Sittings.{HasTried}
 use Rattle.cas_board.proofs.board.Board.run_rescan.Given as goal

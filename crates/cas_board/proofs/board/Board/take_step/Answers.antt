@@ -1,7 +1,7 @@
 use Rattle.std.proofs.Common.{ap, ◌∙◌}
-use Rattle.cas_world.specs.Plans.{asked_to}
-use Rattle.cas_hold.specs.Membership.{IsPlanMark, IsRescanMark}
-use Rattle.cas_hold.proofs.Tries.{rescan_within}
+use Rattle.cas_world.specs.Eras.Plans.{asked_to}
+use Rattle.cas_board_steps.specs.Eras.Membership.{IsPlanMark, IsRescanMark}
+use Rattle.cas_board_steps.proofs.Calls.Tries.{rescan_within}
 use Rattle.cas_board.proofs.Sittings.{counted_none}
 use Rattle.cas_board.proofs.Operating.{on_ok, if_err, operated_less, told_less}
 use Rattle.cas_board.proofs.Steps.{step_goes_on, step_tells}

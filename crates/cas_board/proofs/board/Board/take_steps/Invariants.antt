@@ -1,5 +1,5 @@
-use Rattle.cas_world.specs.Plans.{asked_to}
-use Rattle.cas_hold.specs.Membership.{HasPlan, IsPlanMark}
+use Rattle.cas_world.specs.Eras.Plans.{asked_to}
+use Rattle.cas_board_steps.specs.Eras.Membership.{HasPlan, IsPlanMark}
 use Rattle.cas_board.proofs.Operating.{HasRunOrder}
 use Rattle.cas_board.proofs.board.Board.take_steps.Given as goal
 

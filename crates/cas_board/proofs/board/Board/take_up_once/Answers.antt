@@ -1,10 +1,10 @@
 use Rattle.std.proofs.Common.{[], sym, ap, subst, ◌∙◌}
 use Rattle.std.specs.Prelude.{OnOk, IfErr}
-use Rattle.cas_world.specs.Plans.{asked_to}
-use Rattle.cas_hold.specs.Kept.{Makes}
-use Rattle.cas_hold.specs.Membership.{HasPlan, IsPlanMark}
-use Rattle.cas_hold.specs.Orders.{HasOrder, IsToldIn}
-use Rattle.cas_world.specs.Plans.{rescanned_of}
+use Rattle.cas_world.specs.Eras.Plans.{asked_to}
+use Rattle.cas_board_steps.specs.Kept.{Makes}
+use Rattle.cas_board_steps.specs.Eras.Membership.{HasPlan, IsPlanMark}
+use Rattle.cas_board_steps.specs.Exchanges.Orders.{HasOrder, IsToldIn}
+use Rattle.cas_world.specs.Eras.Plans.{rescanned_of}
 use Rattle.cas_board.proofs.Sittings.{was_held, gives_back}
 use Rattle.cas_board.proofs.Operating.{operator_part, operator_made, operator_own, operator_told, asks_or_tells, on_ok, if_err, still_counted}
 use Rattle.cas_board.proofs.board.Board.take_up_once.Goals as goal

@@ -1,7 +1,7 @@
 use Rattle.std.proofs.Common.{ℕ, suc, List, reverse, refl, sym, ap, subst, ◌∙◌}
-use Rattle.cas_causes.specs.Tellings.{AreTellingsSo}
+use Rattle.cas_model_causes.specs.Eras.Tellings.{AreTellingsSo}
 use Rattle.cas_record.specs.declared.mark.Mark.{Mark}
-use Rattle.cas_steady.specs.Steady.{IsBlamed}
+use Rattle.cas_board_world.specs.Steady.{IsBlamed}
 use Rattle.cas_board.proofs.Blamed.{deserved_closed}
 use Rattle.cas_board.proofs.shared.Shared.into_closed.Goals as goal
 

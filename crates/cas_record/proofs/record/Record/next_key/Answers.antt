@@ -3,11 +3,11 @@ use Rattle.std.specs.Option.{option_copied}
 use Rattle.cas_record.specs.Book.{Book}
 use Rattle.cas_record.specs.declared.mark.Mark.{Mark}
 use Rattle.cas_record.specs.declared.row.Row.{Row}
-use Rattle.cas_record.specs.Index.{key_at, IsListed, IsAfter, KeyLess}
-use Rattle.cas_record.specs.Tables.{IsTablesOf, IsFirstAfter}
+use Rattle.cas_record.specs.Kept.Index.{key_at, IsListed, IsAfter, KeyLess}
+use Rattle.cas_record.specs.Kept.Tables.{IsTablesOf, IsFirstAfter}
 use Rattle.std.proofs.lemmas.List.{get_or_default}
-use Rattle.cas_record.proofs.RowLemmas.{no_row}
-use Rattle.cas_record.proofs.NextLemmas.{none_after, found_next, found_least, copied_some, copied_match}
+use Rattle.cas_record.proofs.Kept.Rows.{no_row}
+use Rattle.cas_record.proofs.Histories.Next.{none_after, found_next, found_least, copied_some, copied_match}
 use Rattle.cas_record.proofs.«record».Record.next_key.Goals as goal
 
 pub returns-in-Some-clause-next : goal.returns-in-Some-clause-next

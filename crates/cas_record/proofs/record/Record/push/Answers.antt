@@ -1,7 +1,7 @@
 use Rattle.std.proofs.Common.{◌≡◌, ◌+◌, ◌-◌, ◌<◌, ◌++◌, ◌∷◌, [], ℕ, List, subst, sym, ap, arith, ◌∙◌}
 use Rattle.cas_record.specs.Book.{Book}
 use Rattle.cas_record.specs.declared.mark.Mark.{Mark}
-use Rattle.cas_record.specs.Tables.{IsTablesOf, HasRoomFor}
+use Rattle.cas_record.specs.Kept.Tables.{IsTablesOf, HasRoomFor}
 use Rattle.cas_record.proofs.«record».Record.push.Goals as goal
 
 pub invariant_of-self : goal.invariant_of-self

@@ -2,10 +2,10 @@ use Rattle.std.proofs.Common.{◌≡◌, None, IfOk, List, reverse, refl, ap, su
 use Rattle.cas_record.specs.Book.{Book}
 use Rattle.cas_record.specs.declared.mark.Mark.{Mark}
 use Rattle.cas_record.specs.Places.{whole}
-use Rattle.cas_record.specs.Index.{home_of, state_at, IsRowOf}
-use Rattle.cas_record.specs.Replay.{opening_state}
-use Rattle.cas_record.proofs.RowLemmas.{no_row, tells_none}
-use Rattle.cas_record.proofs.HistoryLemmas.{opening_read}
+use Rattle.cas_record.specs.Kept.Index.{home_of, state_at, IsRowOf}
+use Rattle.cas_record.specs.Histories.Replay.{opening_state}
+use Rattle.cas_record.proofs.Kept.Rows.{no_row, tells_none}
+use Rattle.cas_record.proofs.Histories.Lemmas.{opening_read}
 use Rattle.cas_record.proofs.«record».Record.start.Goals as goal
 
 pub returns-in-Some : goal.returns-in-Some

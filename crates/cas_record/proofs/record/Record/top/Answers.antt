@@ -1,7 +1,7 @@
 use Rattle.std.proofs.Common.{◌≡◌, None, reverse, sym, ap, subst, ◌∙◌}
 use Rattle.cas_record.specs.Book.{Book}
-use Rattle.cas_record.specs.Index.{home_of}
-use Rattle.cas_record.proofs.StandLemmas.{top_of_none}
+use Rattle.cas_record.specs.Kept.Index.{home_of}
+use Rattle.cas_record.proofs.Kept.Stands.{top_of_none}
 use Rattle.cas_record.proofs.«record».Record.top.Goals as goal
 
 pub returns-in-None : goal.returns-in-None

@@ -1,9 +1,9 @@
 use Rattle.std.proofs.Common.{reverse, unwrap_or, sym, ap, ◌∙◌}
 use Rattle.cas_ballot.specs.declared.ballot.Ballot.{Ballot}
 use Rattle.cas_ballot.specs.Ballot.{zero_ballot}
-use Rattle.cas_record.specs.Index.{standing_at}
-use Rattle.cas_record.proofs.StandLemmas.{top_is}
-use Rattle.cas_record.proofs.NextLemmas.{listed_by, bare_of}
+use Rattle.cas_record.specs.Kept.Index.{standing_at}
+use Rattle.cas_record.proofs.Kept.Stands.{top_is}
+use Rattle.cas_record.proofs.Histories.Next.{listed_by, bare_of}
 use Rattle.cas_record.proofs.tables.Tables.is_listed.Goals as goal
 
 pub returns-else-is_some : goal.returns-else-is_some

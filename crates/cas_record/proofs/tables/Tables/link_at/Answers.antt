@@ -1,5 +1,5 @@
 use Rattle.std.proofs.Common.{reverse, sym, ap, ◌∙◌}
-use Rattle.cas_record.specs.Index.{next_at}
+use Rattle.cas_record.specs.Kept.Index.{next_at}
 use Rattle.cas_record.proofs.tables.Tables.link_at.Goals as goal
 
 pub returns-in-Some : goal.returns-in-Some

@@ -1,7 +1,7 @@
 use Rattle.std.proofs.Common.{refl, ap}
 use Rattle.std.specs.Map.{lookup}
-use Rattle.cas_record.specs.Tables.{same_spot, same_call}
-use Rattle.cas_record.proofs.RowLemmas.{no_rows}
+use Rattle.cas_record.specs.Kept.Tables.{same_spot, same_call}
+use Rattle.cas_record.proofs.Kept.Rows.{no_rows}
 use Rattle.cas_record.proofs.tables.Tables.new.Goals as goal
 
 pub returns : goal.returns

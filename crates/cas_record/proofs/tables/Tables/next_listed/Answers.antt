@@ -1,8 +1,8 @@
 use Rattle.std.proofs.Common.{rules, ◌≡◌, reverse, sym, subst, arith, ◌∙◌}
 use Rattle.cas_base.proofs.Bools.{not_both}
-use Rattle.cas_record.specs.Index.{IsRowOf}
+use Rattle.cas_record.specs.Kept.Index.{IsRowOf}
 use Rattle.cas_record.proofs.Positions.{got}
-use Rattle.cas_record.proofs.NextLemmas.{unlisted_more}
+use Rattle.cas_record.proofs.Histories.Next.{unlisted_more}
 use Rattle.cas_record.proofs.tables.Tables.next_listed.Goals as goal
 
 pub returns-then-is_listed : goal.returns-then-is_listed

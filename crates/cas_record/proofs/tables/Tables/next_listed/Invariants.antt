@@ -1,7 +1,7 @@
 -- no row so far is of a key with an entry or a floor
 use Rattle.std.proofs.Common.{◌≤◌, List}
 use Rattle.cas_record.specs.declared.mark.Mark.{Mark}
-use Rattle.cas_record.specs.Tables.{IsTablesOf, AreUnlisted}
+use Rattle.cas_record.specs.Kept.Tables.{IsTablesOf, AreUnlisted}
 use Rattle.cas_record.proofs.tables.Tables.next_listed.Given as goal
 
 abbrev pub invariant-loop-at : goal.invariant-loop-at

@@ -1,5 +1,5 @@
 use Rattle.std.proofs.Common.{arith}
-use Rattle.cas_record.proofs.TableLemmas.{quiet_by, quiet_next}
+use Rattle.cas_record.proofs.Kept.Tables.{quiet_by, quiet_next}
 use Rattle.cas_record.proofs.tables.Tables.note.Goals as goal
 
 pub returns-in_default : goal.returns-in_default

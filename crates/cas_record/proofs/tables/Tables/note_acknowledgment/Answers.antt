@@ -1,7 +1,7 @@
 use Rattle.std.proofs.Common.{◌∷◌, ◌++◌, [], refl, sym, subst, arith}
 use Rattle.cas_record.specs.declared.tables.Tables.{Tables}
-use Rattle.cas_record.specs.Tables.{IsTablesOf, HasRows}
-use Rattle.cas_record.proofs.TableLemmas.{acked_next}
+use Rattle.cas_record.specs.Kept.Tables.{IsTablesOf, HasRows}
+use Rattle.cas_record.proofs.Kept.Tables.{acked_next}
 use Rattle.cas_record.proofs.tables.Tables.note_acknowledgment.Goals as goal
 
 pub returns-clause-tables : goal.returns-clause-tables

@@ -1,7 +1,7 @@
 use Rattle.std.proofs.Common.{◌∷◌, ◌++◌, [], true, refl, sym, subst}
 use Rattle.cas_record.specs.declared.tables.Tables.{Tables}
-use Rattle.cas_record.specs.Tables.{IsTablesOf}
-use Rattle.cas_record.proofs.TableLemmas.{begun_next}
+use Rattle.cas_record.specs.Kept.Tables.{IsTablesOf}
+use Rattle.cas_record.proofs.Kept.Tables.{begun_next}
 use Rattle.cas_record.proofs.tables.Tables.note_call.Goals as goal
 
 pub returns-clause-tables : goal.returns-clause-tables

@@ -1,8 +1,8 @@
 use Rattle.std.proofs.Common.{◌≡◌, ◌∷◌, ◌++◌, [], Some, reverse, refl, sym, subst, arith}
-use Rattle.cas_record.specs.Index.{home_of}
+use Rattle.cas_record.specs.Kept.Index.{home_of}
 use Rattle.cas_record.specs.declared.tables.Tables.{Tables}
-use Rattle.cas_record.specs.Tables.{IsTablesOf, HasRows}
-use Rattle.cas_record.proofs.TableLemmas.{opening_next, floor_next}
+use Rattle.cas_record.specs.Kept.Tables.{IsTablesOf, HasRows}
+use Rattle.cas_record.proofs.Kept.Tables.{opening_next, floor_next}
 use Rattle.cas_record.proofs.tables.Tables.note_floor.Goals as goal
 
 pub returns-then-not-self-clause-tables : goal.returns-then-not-self-clause-tables

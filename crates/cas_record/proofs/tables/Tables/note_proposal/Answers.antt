@@ -5,10 +5,10 @@ use Rattle.indexmap.specs.IndexMap.{get}
 use Rattle.cas_base.proofs.Bools.{not_both}
 use Rattle.cas_record.specs.declared.row.Link.{Link}
 use Rattle.cas_record.specs.declared.tables.Tables.{Tables}
-use Rattle.cas_record.specs.Index.{home_of}
-use Rattle.cas_record.specs.Tables.{IsTablesOf, IsSearched, HasRows, same_spot}
+use Rattle.cas_record.specs.Kept.Index.{home_of}
+use Rattle.cas_record.specs.Kept.Tables.{IsTablesOf, IsSearched, HasRows, same_spot}
 use Rattle.cas_record.proofs.Tests.{ballot_same, ballot_is}
-use Rattle.cas_record.proofs.TableLemmas.{proposed_next, zero_next}
+use Rattle.cas_record.proofs.Kept.Tables.{proposed_next, zero_next}
 use Rattle.cas_record.proofs.tables.Tables.note_proposal.Goals as goal
 
 pub link_by-link-requires-clause-row : goal.link_by-link-requires-clause-row

@@ -1,5 +1,5 @@
 use Rattle.std.proofs.Common.{sym, subst, ◌∙◌}
-use Rattle.cas_record.specs.Tables.{IsSearched}
+use Rattle.cas_record.specs.Kept.Tables.{IsSearched}
 use Rattle.cas_record.proofs.tables.Tables.row_of.Goals as goal
 
 pub returns : goal.returns

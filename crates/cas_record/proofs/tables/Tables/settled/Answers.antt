@@ -1,13 +1,13 @@
 use Rattle.std.proofs.Common.{◌≡◌, None, reverse, unwrap_or, sym, ap, subst, ◌∙◌}
 use Rattle.cas_ballot.specs.declared.ballot.Ballot.{Ballot}
 use Rattle.cas_ballot.specs.Ballot.{zero_ballot}
-use Rattle.cas_record.specs.Chain.{top_of, chain_of}
-use Rattle.cas_record.specs.Index.{standing_at, next_at, home_of, IsRowOf}
-use Rattle.cas_record.specs.Tables.{IsRowFor}
-use Rattle.cas_record.proofs.ChainLemmas.{chain_zero}
+use Rattle.cas_record.specs.Histories.Chain.{top_of, chain_of}
+use Rattle.cas_record.specs.Kept.Index.{standing_at, next_at, home_of, IsRowOf}
+use Rattle.cas_record.specs.Kept.Tables.{IsRowFor}
+use Rattle.cas_record.proofs.Histories.Chains.{chain_zero}
 use Rattle.cas_record.proofs.PlaceLemmas.{at_part}
-use Rattle.cas_record.proofs.StandLemmas.{top_is, top_of_none}
-use Rattle.cas_record.proofs.HistoryLemmas.{IsReached, reached_first, reached_last, reached_link, reached_more, next_falls}
+use Rattle.cas_record.proofs.Kept.Stands.{top_is, top_of_none}
+use Rattle.cas_record.proofs.Histories.Lemmas.{IsReached, reached_first, reached_last, reached_link, reached_more, next_falls}
 use Rattle.cas_record.proofs.tables.Tables.settled.Goals as goal
 
 -- a key that no mark names has no history

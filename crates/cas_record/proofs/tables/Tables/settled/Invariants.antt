@@ -2,8 +2,8 @@
 use Rattle.std.proofs.Common.{◌+◌, reverse}
 use Rattle.std.specs.Option.{option_map_or}
 use Rattle.cas_record.specs.declared.row.Link.{Link}
-use Rattle.cas_record.specs.Chain.{top_of}
-use Rattle.cas_record.proofs.HistoryLemmas.{IsReached}
+use Rattle.cas_record.specs.Histories.Chain.{top_of}
+use Rattle.cas_record.proofs.Histories.Lemmas.{IsReached}
 use Rattle.cas_record.proofs.tables.Tables.settled.Given as goal
 
 abbrev pub invariant-loop-next : goal.invariant-loop-next

@@ -1,6 +1,6 @@
 use Rattle.std.proofs.Common.{reverse, sym, subst, ◌∙◌}
-use Rattle.cas_record.specs.Tables.{IsRowFor}
-use Rattle.cas_record.proofs.StandLemmas.{stands_not, stands_by, choice_shut, choice_lost, choice_made}
+use Rattle.cas_record.specs.Kept.Tables.{IsRowFor}
+use Rattle.cas_record.proofs.Kept.Stands.{stands_not, stands_by, choice_shut, choice_lost, choice_made}
 use Rattle.cas_record.proofs.tables.Tables.standing.Goals.{else-found-via-then-found+else-not-shut, else-found-via-else-found}
 use Rattle.cas_record.proofs.tables.Tables.standing.Goals as goal
 

@@ -9,31 +9,31 @@ use Rattle.cas_quorum.specs.declared.era.Era.{Era}
 use Rattle.cas_record.specs.declared.answer.Answer.TheVariants as answer
 use Rattle.cas_record.specs.declared.mark.Mark.{Mark}
 use Rattle.cas_record.specs.declared.operator.OpAnswer.TheVariants as op
-use Rattle.cas_cluster.specs.Collection.{CollectionView, tomb_of}
-use Rattle.cas_cluster.specs.Council.{ExchangeView, Removal, exchange_place, reserved_for_exchange}
-use Rattle.cas_cluster.specs.Safe.{IsSafe}
-use Rattle.cas_cluster.specs.Step as step
-use Rattle.cas_cluster.specs.Step.{Step}
-use Rattle.cas_cluster.specs.StepCalls.{Sends}
-use Rattle.cas_cluster.specs.StepCollect.{IsQuestionOf}
-use Rattle.cas_cluster.specs.StepCouncil.{everyone, new_exchange, questions_to, told_view, with_council}
-use Rattle.cas_cluster.specs.View.{View, IsAt, era_at, meaning, reserved_in_all}
-use Rattle.cas_cluster.proofs.Places.{at_one, some_is}
-use Rattle.cas_cluster.proofs.SafeMarks.{full_for_exchanges}
-use Rattle.cas_cluster.proofs.SafeSteps.{steps_are_safe}
-use Rattle.cas_calls.specs.Call.{reserved_of}
-use Rattle.cas_calls.specs.Council.{council_view, exchange_view, question_view}
+use Rattle.cas_model.specs.Collection.State.{CollectionView, tomb_of}
+use Rattle.cas_model.specs.Council.{ExchangeView, Removal, exchange_place, reserved_for_exchange}
+use Rattle.cas_model.specs.Safe.{IsSafe}
+use Rattle.cas_model.specs.Step as step
+use Rattle.cas_model.specs.Step.{Step}
+use Rattle.cas_model.specs.Calls.Step.{Sends}
+use Rattle.cas_model.specs.Collection.Step.{IsQuestionOf}
+use Rattle.cas_model.specs.Exchanges.Step.{everyone, new_exchange, questions_to, told_view, with_council}
+use Rattle.cas_model.specs.View.{View, IsAt, era_at, meaning, reserved_in_all}
+use Rattle.cas_model.proofs.Places.{at_one, some_is}
+use Rattle.cas_model.proofs.Safety.Marks.{full_for_exchanges}
+use Rattle.cas_model.proofs.Safety.Steps.{steps_are_safe}
+use Rattle.cas_world_calls.specs.Call.{reserved_of}
+use Rattle.cas_world_calls.specs.Council.{council_view, exchange_view, question_view}
 use Rattle.cas_collect.specs.declared.collect.CollectStep.TheVariants as collect
 use Rattle.cas_vault.specs.Vault.{Stands, kept_of}
 use Rattle.cas_vault.specs.declared.kept.Kept.{Kept}
 use Rattle.cas_vault.proofs.Keeping.{same_kept}
-use Rattle.cas_world.specs.Exchange.{MayAskCollected}
+use Rattle.cas_world.specs.Exchanges.Exchange.{MayAskCollected}
 use Rattle.cas_world.specs.World.{IsWorld, view_of}
-use Rattle.cas_world.proofs.Exchanges.{council_world, grown_world, reserved_fits}
-use Rattle.cas_world.proofs.Gathers.{Asks, asks_all, asks_down, asks_either, asks_full, asks_lost, told_not}
+use Rattle.cas_world.proofs.Exchanges.Exchanges.{council_world, grown_world, reserved_fits}
+use Rattle.cas_world.proofs.Collection.Gathers.{Asks, asks_all, asks_down, asks_either, asks_full, asks_lost, told_not}
 use Rattle.cas_world.proofs.Parts.{at_place, remembered_then, seen_from}
-use Rattle.cas_world.proofs.Planning.{ok_there}
-use Rattle.cas_world.proofs.Reserving.{sum_seen}
+use Rattle.cas_world.proofs.Eras.Planning.{ok_there}
+use Rattle.cas_world.proofs.Calls.Reserving.{sum_seen}
 use Rattle.cas_world.proofs.world.World.ask_collect.Given.{Over}
 use Rattle.cas_world.proofs.world.World.ask_collect.Goals as goal
 use Rattle.cas_world.proofs.world.World.ask_collect.Goals.{Joined-self-2}

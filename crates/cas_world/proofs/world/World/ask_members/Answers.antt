@@ -6,22 +6,22 @@ use Rattle.cas_proposer.specs.Desk.{DeskView}
 use Rattle.cas_quorum.specs.declared.era.Era.{Era}
 use Rattle.cas_record.specs.declared.answer.Answer.{Answer}
 use Rattle.cas_record.specs.declared.operator.OpAnswer.TheVariants as op
-use Rattle.cas_cluster.specs.Council as cluster
-use Rattle.cas_cluster.specs.Council.{ExchangeView, ListingView, reserved_by, reserved_for_exchange}
-use Rattle.cas_cluster.specs.Step as step
-use Rattle.cas_cluster.specs.StepCouncil.{StepAskAll, everyone, told_view}
-use Rattle.cas_cluster.specs.View.{View, meaning, era_at, with_desk}
-use Rattle.cas_cluster.proofs.Rescanning.{told_reserves}
-use Rattle.cas_cluster.proofs.SafeSteps.{steps_are_safe}
-use Rattle.cas_calls.specs.Call.{reserved_of}
-use Rattle.cas_calls.specs.Council.{council_view, goes_on_in}
-use Rattle.cas_world.specs.Exchange.{MayAsk, Opens, FailsToAsk, asked_from, question_in}
-use Rattle.cas_calls.specs.Proposing.{disks}
+use Rattle.cas_model.specs.Council as cluster
+use Rattle.cas_model.specs.Council.{ExchangeView, ListingView, reserved_by, reserved_for_exchange}
+use Rattle.cas_model.specs.Step as step
+use Rattle.cas_model.specs.Exchanges.Step.{StepAskAll, everyone, told_view}
+use Rattle.cas_model.specs.View.{View, meaning, era_at, with_desk}
+use Rattle.cas_model.proofs.Eras.Rescanning.{told_reserves}
+use Rattle.cas_model.proofs.Safety.Steps.{steps_are_safe}
+use Rattle.cas_world_calls.specs.Call.{reserved_of}
+use Rattle.cas_world_calls.specs.Council.{council_view, goes_on_in}
+use Rattle.cas_world.specs.Exchanges.Exchange.{MayAsk, Opens, FailsToAsk, asked_from, question_in}
+use Rattle.cas_world_calls.specs.Proposing.{disks}
 use Rattle.cas_world.specs.World.{view_of}
-use Rattle.cas_world.proofs.Asking.{idle_first, may_ask, tag_fits, asks, asks_not, full_to_ask, idle_then, refused_seen, first_id, asked_world}
-use Rattle.cas_world.proofs.Exchanges.{reserved_fits}
+use Rattle.cas_world.proofs.Exchanges.Asking.{idle_first, may_ask, tag_fits, asks, asks_not, full_to_ask, idle_then, refused_seen, first_id, asked_world}
+use Rattle.cas_world.proofs.Exchanges.Exchanges.{reserved_fits}
 use Rattle.cas_world.proofs.Parts.{at_place, remembered_then}
-use Rattle.cas_world.proofs.Reserving.{sum_seen}
+use Rattle.cas_world.proofs.Calls.Reserving.{sum_seen}
 use Rattle.cas_world.proofs.world.World.ask_members.Given.{Over}
 use Rattle.cas_world.proofs.world.World.ask_members.Goals as goal
 use Rattle.cas_world.proofs.world.World.ask_members.Goals.{After-begin_exchange, After-tell}

@@ -1,26 +1,26 @@
 use Rattle.std.proofs.Common.{◌<◌, ◌≡◌, ℕ, ◌+◌, ◌++◌, List, Option, Err, inl, inr, length, sum_by, slice_set, refl, sym, ap, subst, ◌∙◌, arith}
 use Rattle.std.specs.Prelude.{⊤, IsSome, IfOk}
-use Rattle.cas_world.proofs.Told.{begin_cause}
+use Rattle.cas_world.proofs.Calls.Told.{begin_cause}
 use Rattle.cas_record.specs.declared.answer.Answer.{Answer}
 use Rattle.cas_record.specs.declared.mark.Mark.{Mark}
-use Rattle.cas_cluster.specs.StepCalls.{round_marks}
-use Rattle.cas_cluster.specs.View.{View, IsAt, meaning, new_caller, era_at, era_in, reserved_of as seen_reserved}
+use Rattle.cas_model.specs.Calls.Step.{round_marks}
+use Rattle.cas_model.specs.View.{View, IsAt, meaning, new_caller, era_at, era_in, reserved_of as seen_reserved}
 use Rattle.cas_record.specs.declared.answer.Answer.TheVariants as answer
 use Rattle.cas_quorum.specs.declared.era.Era.{Era}
-use Rattle.cas_cluster.specs.Council.{reserved_by}
-use Rattle.cas_calls.specs.Council.{council_view}
-use Rattle.cas_calls.specs.Proposing.{disks}
-use Rattle.cas_world.specs.Beginning.{OpensRound, refused, reserved_beside, settled_marks, BeginsOrNot, Heeds, HeedsLoss}
-use Rattle.cas_cluster.specs.Safe.{IsSafe}
-use Rattle.cas_cluster.proofs.Places.{some_is}
-use Rattle.cas_cluster.proofs.SafeMarks.{full_for_rounds}
-use Rattle.cas_calls.specs.Call.{reserved_of}
+use Rattle.cas_model.specs.Council.{reserved_by}
+use Rattle.cas_world_calls.specs.Council.{council_view}
+use Rattle.cas_world_calls.specs.Proposing.{disks}
+use Rattle.cas_world.specs.Calls.Beginning.{OpensRound, refused, reserved_beside, settled_marks, BeginsOrNot, Heeds, HeedsLoss}
+use Rattle.cas_model.specs.Safe.{IsSafe}
+use Rattle.cas_model.proofs.Places.{some_is}
+use Rattle.cas_model.proofs.Safety.Marks.{full_for_rounds}
+use Rattle.cas_world_calls.specs.Call.{reserved_of}
 use Rattle.cas_world.specs.World.{view_of}
-use Rattle.cas_calls.specs.declared.call.Caller.{Caller}
-use Rattle.cas_calls.specs.declared.call.OpenCall.{OpenCall}
-use Rattle.cas_world.proofs.Begins.{beside_none}
-use Rattle.cas_world.proofs.Reserving.{sum_seen}
-use Rattle.cas_world.proofs.Settling.{found, found_caller, found_desk, all_fit, not_more, never_full, Settles, not_made, settles}
+use Rattle.cas_world_calls.specs.declared.call.Caller.{Caller}
+use Rattle.cas_world_calls.specs.declared.call.OpenCall.{OpenCall}
+use Rattle.cas_world.proofs.Calls.Begins.{beside_none}
+use Rattle.cas_world.proofs.Calls.Reserving.{sum_seen}
+use Rattle.cas_world.proofs.Calls.Settling.{found, found_caller, found_desk, all_fit, not_more, never_full, Settles, not_made, settles}
 use Rattle.cas_world.proofs.world.World.begin.Given.{Over}
 use Rattle.cas_world.proofs.world.World.begin.Goals as goal
 

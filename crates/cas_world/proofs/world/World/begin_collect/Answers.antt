@@ -5,30 +5,30 @@ use Rattle.cas_proposer.specs.Desk.{DeskView}
 use Rattle.cas_record.specs.declared.answer.Answer.TheVariants as answer
 use Rattle.cas_record.specs.declared.operator.OpAnswer.{OpAnswer}
 use Rattle.cas_record.specs.declared.operator.OpAnswer.TheVariants as op
-use Rattle.cas_cluster.specs.Collection.{new_collection}
-use Rattle.cas_cluster.specs.Council.{hushed, reserved_by}
-use Rattle.cas_cluster.specs.Safe.{IsSafe}
-use Rattle.cas_cluster.specs.Step as step
-use Rattle.cas_cluster.specs.Step.{Step, StepBegin}
-use Rattle.cas_cluster.specs.StepCollect.{IsCollecting, keep_always}
-use Rattle.cas_cluster.specs.StepCouncil.{told_view, with_council}
-use Rattle.cas_cluster.specs.View.{View, CallerView, IsAt, era_at, meaning}
-use Rattle.cas_cluster.proofs.Places.{at_one}
-use Rattle.cas_cluster.proofs.SafeCollecting.{Frame, begin_frame, frame_of}
-use Rattle.cas_cluster.proofs.SafeMarks.{full_for_rounds}
-use Rattle.cas_cluster.proofs.SafeParts.{at_low}
-use Rattle.cas_cluster.proofs.SafeSteps.{steps_are_safe}
-use Rattle.cas_calls.specs.Council.{council_view}
-use Rattle.cas_calls.specs.declared.call.OpenCall.{OpenCall}
-use Rattle.cas_causes.specs.Told.{BeginsBy}
-use Rattle.cas_world.specs.Beginning.{BeginsOrNot, HasNoCall}
-use Rattle.cas_world.specs.Collect.{RefusesCollection}
+use Rattle.cas_model.specs.Collection.State.{new_collection}
+use Rattle.cas_model.specs.Council.{hushed, reserved_by}
+use Rattle.cas_model.specs.Safe.{IsSafe}
+use Rattle.cas_model.specs.Step as step
+use Rattle.cas_model.specs.Step.{Step, StepBegin}
+use Rattle.cas_model.specs.Collection.Step.{IsCollecting, keep_always}
+use Rattle.cas_model.specs.Exchanges.Step.{told_view, with_council}
+use Rattle.cas_model.specs.View.{View, CallerView, IsAt, era_at, meaning}
+use Rattle.cas_model.proofs.Places.{at_one}
+use Rattle.cas_model.proofs.Collection.SafeCollecting.{Frame, begin_frame, frame_of}
+use Rattle.cas_model.proofs.Safety.Marks.{full_for_rounds}
+use Rattle.cas_model.proofs.Safety.Parts.{at_low}
+use Rattle.cas_model.proofs.Safety.Steps.{steps_are_safe}
+use Rattle.cas_world_calls.specs.Council.{council_view}
+use Rattle.cas_world_calls.specs.declared.call.OpenCall.{OpenCall}
+use Rattle.cas_model_causes.specs.Calls.Told.{BeginsBy}
+use Rattle.cas_world.specs.Calls.Beginning.{BeginsOrNot, HasNoCall}
+use Rattle.cas_world.specs.Collection.Collect.{RefusesCollection}
 use Rattle.cas_world.specs.World.{view_of, call_view, caller_view}
-use Rattle.cas_world.proofs.Callers.{at_map}
-use Rattle.cas_world.proofs.Collects.{Admits, admits_it, begins_collection, begun_again, begun_leaves, collected_err, collected_ok, collects_again, finds_no_memory, is_again, is_begun, loses_memory, lost_call, refusal_plain, refuses_collection, begun_call, begun_full, begun_reserves, call_none, hushed_stays, is_some_not, not_lost, refusal_full, refused_call, refused_order}
-use Rattle.cas_world.proofs.Exchanges.{council_next, council_world, some_there}
+use Rattle.cas_world.proofs.Calls.Callers.{at_map}
+use Rattle.cas_world.proofs.Collection.Collects.{Admits, admits_it, begins_collection, begun_again, begun_leaves, collected_err, collected_ok, collects_again, finds_no_memory, is_again, is_begun, loses_memory, lost_call, refusal_plain, refuses_collection, begun_call, begun_full, begun_reserves, call_none, hushed_stays, is_some_not, not_lost, refusal_full, refused_call, refused_order}
+use Rattle.cas_world.proofs.Exchanges.Exchanges.{council_next, council_world, some_there}
 use Rattle.cas_world.proofs.Parts.{Remembers, at_place, remembered_then}
-use Rattle.cas_world.proofs.Planning.{none_there}
+use Rattle.cas_world.proofs.Eras.Planning.{none_there}
 use Rattle.std.proofs.lemmas.List.{length-map}
 use Rattle.cas_world.proofs.world.World.begin_collect.Given.{Over}
 use Rattle.cas_world.proofs.world.World.begin_collect.Goals as goal

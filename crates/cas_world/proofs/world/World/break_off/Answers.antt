@@ -1,7 +1,7 @@
 use Rattle.std.proofs.Common.{sym, subst}
-use Rattle.cas_cluster.specs.View.{View, meaning}
+use Rattle.cas_model.specs.View.{View, meaning}
 use Rattle.cas_world.specs.World.{IsWorld}
-use Rattle.cas_world.proofs.Exchanges.{broken_seen, broken_world}
+use Rattle.cas_world.proofs.Exchanges.Exchanges.{broken_seen, broken_world}
 use Rattle.cas_world.proofs.world.World.break_off.Goals as goal
 
 -- src/parties.rt:79:5

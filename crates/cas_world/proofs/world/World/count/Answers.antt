@@ -1,28 +1,28 @@
 use Rattle.std.proofs.Common.{◌≡◌, ℕ, [], Option, None, Some, slice_set, refl, sym, ap, subst, ◌∙◌, arith}
 use Rattle.std.specs.Prelude.{IsSome, IfSome}
-use Rattle.cas_cluster.specs.History.{IsRemembered}
-use Rattle.cas_world.proofs.Told.{count_cause, count_above}
+use Rattle.cas_model.specs.History.{IsRemembered}
+use Rattle.cas_world.proofs.Calls.Told.{count_cause, count_above}
 use Rattle.cas_flow.specs.Flow.{queue_at}
 use Rattle.cas_proposer.specs.Desk.{DeskView, counter_without}
 use Rattle.cas_proposer.specs.declared.round.Round.{Round}
 use Rattle.cas_record.specs.declared.answer.Answer.TheVariants as answer
 use Rattle.cas_vault.specs.Vault.{counter_of}
-use Rattle.cas_cluster.specs.Step as step
-use Rattle.cas_cluster.specs.Step.{StepCount}
-use Rattle.cas_cluster.specs.StepDesks.{EndsRound}
-use Rattle.cas_cluster.specs.View.{View, IsAt, meaning}
-use Rattle.cas_cluster.proofs.SafeSteps.{steps_are_safe}
-use Rattle.cas_cluster.proofs.ViewLaws.{done_kept}
-use Rattle.cas_cluster.specs.Council.{reserved_by}
-use Rattle.cas_calls.specs.Council.{council_view}
-use Rattle.cas_calls.specs.Call.{over}
-use Rattle.cas_world.specs.Count.{Counts}
-use Rattle.cas_calls.specs.declared.call.OpenCall.{OpenCall}
+use Rattle.cas_model.specs.Step as step
+use Rattle.cas_model.specs.Step.{StepCount}
+use Rattle.cas_model.specs.Calls.Desks.{EndsRound}
+use Rattle.cas_model.specs.View.{View, IsAt, meaning}
+use Rattle.cas_model.proofs.Safety.Steps.{steps_are_safe}
+use Rattle.cas_model.proofs.ViewLaws.{done_kept}
+use Rattle.cas_model.specs.Council.{reserved_by}
+use Rattle.cas_world_calls.specs.Council.{council_view}
+use Rattle.cas_world_calls.specs.Call.{over}
+use Rattle.cas_world.specs.Calls.Count.{Counts}
+use Rattle.cas_world_calls.specs.declared.call.OpenCall.{OpenCall}
 use Rattle.cas_world.specs.World.{WasTold, view_of}
-use Rattle.cas_world.proofs.Counts.{IsCounting, counting, counted, fell_short, room_over, quorum_of}
+use Rattle.cas_world.proofs.Calls.Counts.{IsCounting, counting, counted, fell_short, room_over, quorum_of}
 use Rattle.cas_world.proofs.Parts.{seen_from, remembered_then}
-use Rattle.cas_world.proofs.Proposes.{was_told}
-use Rattle.cas_world.proofs.Stops.{end_goes_on, copies_idle}
+use Rattle.cas_world.proofs.Calls.Proposes.{was_told}
+use Rattle.cas_world.proofs.Stops.Stops.{end_goes_on, copies_idle}
 use Rattle.cas_world.proofs.world.World.count.Given.{Over}
 use Rattle.cas_world.proofs.world.World.count.Goals as goal
 

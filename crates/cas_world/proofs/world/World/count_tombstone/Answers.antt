@@ -2,21 +2,21 @@ use Rattle.std.proofs.Common.{◌≡◌, refl, sym, ap, subst, ◌∙◌, arith,
 use Rattle.std.specs.Prelude.{is_some}
 use Rattle.cas_flow.specs.Flow.{queue_at}
 use Rattle.cas_proposer.specs.Desk.{DeskView}
-use Rattle.cas_cluster.specs.Step as step
-use Rattle.cas_cluster.specs.Step.{Step, StepCount}
-use Rattle.cas_cluster.specs.View.{View, IsAt, meaning}
-use Rattle.cas_cluster.proofs.Places.{at_one}
-use Rattle.cas_cluster.proofs.SafeSteps.{steps_are_safe}
-use Rattle.cas_calls.specs.Proposing.{disks}
-use Rattle.cas_world.specs.Collect.{CountsTombstone, IsCollectingCall}
-use Rattle.cas_world.specs.Count.{Counts}
+use Rattle.cas_model.specs.Step as step
+use Rattle.cas_model.specs.Step.{Step, StepCount}
+use Rattle.cas_model.specs.View.{View, IsAt, meaning}
+use Rattle.cas_model.proofs.Places.{at_one}
+use Rattle.cas_model.proofs.Safety.Steps.{steps_are_safe}
+use Rattle.cas_world_calls.specs.Proposing.{disks}
+use Rattle.cas_world.specs.Collection.Collect.{CountsTombstone, IsCollectingCall}
+use Rattle.cas_world.specs.Calls.Count.{Counts}
 use Rattle.cas_world.specs.World.{view_of}
-use Rattle.cas_world.proofs.Collects.{not_acknowledged, counts_collect, counts_tombstone, counted_room}
-use Rattle.cas_world.proofs.Counts.{IsCounting, counting, counted, quorum_of}
+use Rattle.cas_world.proofs.Collection.Collects.{not_acknowledged, counts_collect, counts_tombstone, counted_room}
+use Rattle.cas_world.proofs.Calls.Counts.{IsCounting, counting, counted, quorum_of}
 use Rattle.cas_world.proofs.Parts.{at_place, remembered_then}
-use Rattle.cas_world.proofs.Proposes.{was_told}
-use Rattle.cas_world.proofs.Planning.{none_there}
-use Rattle.cas_world.proofs.Stops.{copies_idle}
+use Rattle.cas_world.proofs.Calls.Proposes.{was_told}
+use Rattle.cas_world.proofs.Eras.Planning.{none_there}
+use Rattle.cas_world.proofs.Stops.Stops.{copies_idle}
 use Rattle.cas_world.proofs.world.World.count_tombstone.Given.{Over}
 use Rattle.cas_world.proofs.world.World.count_tombstone.Goals as goal
 use Rattle.cas_world.proofs.world.World.count_tombstone.Goals.{After-count_round}

@@ -1,8 +1,8 @@
 use Rattle.std.proofs.Common.{◌≡◌, ℕ, true, slice_set, ap, ◌∙◌, arith}
-use Rattle.cas_cluster.specs.Step as step
-use Rattle.cas_cluster.specs.Step.{StepCrashAcceptor}
-use Rattle.cas_cluster.specs.View.{meaning}
-use Rattle.cas_cluster.proofs.SafeSteps.{steps_are_safe}
+use Rattle.cas_model.specs.Step as step
+use Rattle.cas_model.specs.Step.{StepCrashAcceptor}
+use Rattle.cas_model.specs.View.{meaning}
+use Rattle.cas_model.proofs.Safety.Steps.{steps_are_safe}
 use Rattle.cas_world.specs.World.{view_of}
 use Rattle.cas_world.proofs.Parts.{at_place, same_but, seen_from, remembered_then}
 use Rattle.cas_world.proofs.world.World.crash_acceptor.Given.{Over}

@@ -4,18 +4,18 @@ use Rattle.std.proofs.lemmas.List.{length-map}
 use Rattle.cas_flow.specs.Flow.{FlowView, abandoned}
 use Rattle.cas_proposer.specs.Desk.{DeskView}
 use Rattle.cas_vault.specs.Vault.{disk_of}
-use Rattle.cas_cluster.specs.StepStops.{CrashesDesk}
-use Rattle.cas_cluster.specs.StepDesks.{Crashes}
-use Rattle.cas_cluster.specs.View.{View, IsAt, meaning}
-use Rattle.cas_cluster.proofs.Places.{at_one}
-use Rattle.cas_cluster.proofs.SafeStops.{call_reserves_at}
-use Rattle.cas_cluster.proofs.SafeSteps.{crashed_desk_safe}
-use Rattle.cas_cluster.proofs.Remembering.{crashed_desk}
-use Rattle.cas_calls.specs.declared.call.Caller.{Caller}
-use Rattle.cas_calls.specs.declared.call.OpenCall.{OpenCall}
+use Rattle.cas_model.specs.Stops.Step.{CrashesDesk}
+use Rattle.cas_model.specs.Calls.Desks.{Crashes}
+use Rattle.cas_model.specs.View.{View, IsAt, meaning}
+use Rattle.cas_model.proofs.Places.{at_one}
+use Rattle.cas_model.proofs.Stops.Safe.{call_reserves_at}
+use Rattle.cas_model.proofs.Safety.Steps.{crashed_desk_safe}
+use Rattle.cas_model.proofs.Remembering.{crashed_desk}
+use Rattle.cas_world_calls.specs.declared.call.Caller.{Caller}
+use Rattle.cas_world_calls.specs.declared.call.OpenCall.{OpenCall}
 use Rattle.cas_world.specs.World.{view_of, call_view, caller_view}
-use Rattle.cas_world.proofs.Callers.{at_map, IsOpenIn, open_in, not_lent}
-use Rattle.cas_world.proofs.Stops.{crash_seen, crash_goes_on, crash_idle, crash_closes, crashed_caller, closed_is, room_closed, copies_closed, copies_idle}
+use Rattle.cas_world.proofs.Calls.Callers.{at_map, IsOpenIn, open_in, not_lent}
+use Rattle.cas_world.proofs.Stops.Stops.{crash_seen, crash_goes_on, crash_idle, crash_closes, crashed_caller, closed_is, room_closed, copies_closed, copies_idle}
 use Rattle.cas_world.proofs.Parts.{at_place}
 use Rattle.cas_world.proofs.world.World.crash_desk.Given.{Over}
 use Rattle.cas_world.proofs.world.World.crash_desk.Goals as goal

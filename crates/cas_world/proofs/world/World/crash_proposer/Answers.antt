@@ -1,4 +1,4 @@
-use Rattle.cas_cluster.specs.StepStops as stops
+use Rattle.cas_model.specs.Stops.Step as stops
 use Rattle.cas_world.proofs.world.World.crash_proposer.Goals as goal
 
 -- src/parties.rt:53:5

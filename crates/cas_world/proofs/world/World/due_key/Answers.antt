@@ -1,7 +1,7 @@
 use Rattle.std.proofs.Common.{ap, ◌∙◌}
-use Rattle.cas_cluster.specs.StepCouncil.{told_view}
-use Rattle.cas_world.proofs.Exchanges.{some_there}
-use Rattle.cas_world.proofs.Planning.{told_last}
+use Rattle.cas_model.specs.Exchanges.Step.{told_view}
+use Rattle.cas_world.proofs.Exchanges.Exchanges.{some_there}
+use Rattle.cas_world.proofs.Eras.Planning.{told_last}
 use Rattle.cas_world.proofs.world.World.due_key.Goals as goal
 
 pub returns-in-Err-clause-step : goal.returns-in-Err-clause-step

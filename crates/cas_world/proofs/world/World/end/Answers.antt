@@ -3,20 +3,20 @@ use Rattle.std.specs.Prelude.{◌⊎◌, map}
 use Rattle.cas_flow.specs.Flow.{FlowView, abandoned}
 use Rattle.cas_proposer.specs.declared.round.Round.{Round}
 use Rattle.cas_record.specs.declared.mark.Mark.TheVariants.{Ended}
-use Rattle.cas_cluster.specs.Step as step
-use Rattle.cas_cluster.specs.Step.{StepEnd}
-use Rattle.cas_cluster.specs.StepDesks.{EndsRound}
-use Rattle.cas_cluster.specs.View.{IsAt, meaning, reserved_of}
-use Rattle.cas_cluster.proofs.SafeSteps.{steps_are_safe}
-use Rattle.cas_cluster.specs.Council.{reserved_by}
-use Rattle.cas_calls.specs.Council.{council_view}
-use Rattle.cas_calls.specs.declared.call.Caller.{Caller}
+use Rattle.cas_model.specs.Step as step
+use Rattle.cas_model.specs.Step.{StepEnd}
+use Rattle.cas_model.specs.Calls.Desks.{EndsRound}
+use Rattle.cas_model.specs.View.{IsAt, meaning, reserved_of}
+use Rattle.cas_model.proofs.Safety.Steps.{steps_are_safe}
+use Rattle.cas_model.specs.Council.{reserved_by}
+use Rattle.cas_world_calls.specs.Council.{council_view}
+use Rattle.cas_world_calls.specs.declared.call.Caller.{Caller}
 use Rattle.cas_world.specs.World.{view_of, caller_view}
-use Rattle.cas_cluster.specs.StepCalls.{Rescans}
-use Rattle.cas_calls.specs.declared.call.EndedCall.{EndedCall}
-use Rattle.cas_world.proofs.Ends.{rescan_reserves, IsEnding, ending, ended_as, may_end, closed_or, none_after, ends, room_ended, some_room}
+use Rattle.cas_model.specs.Calls.Step.{Rescans}
+use Rattle.cas_world_calls.specs.declared.call.EndedCall.{EndedCall}
+use Rattle.cas_world.proofs.Calls.Ends.{rescan_reserves, IsEnding, ending, ended_as, may_end, closed_or, none_after, ends, room_ended, some_room}
 use Rattle.cas_world.proofs.Parts.{seen_from, remembered_then}
-use Rattle.cas_world.proofs.Stops.{copies_idle}
+use Rattle.cas_world.proofs.Stops.Stops.{copies_idle}
 use Rattle.cas_world.proofs.world.World.end.Given.{Over}
 use Rattle.cas_world.proofs.world.World.end.Goals as goal
 

@@ -1,17 +1,17 @@
 use Rattle.std.proofs.Common.{refl, sym, ap, subst, ◌∙◌, arith}
-use Rattle.cas_cluster.specs.Step as step
-use Rattle.cas_cluster.specs.View.{View, meaning}
-use Rattle.cas_cluster.proofs.SafeSteps.{steps_are_safe}
-use Rattle.cas_calls.specs.Council.{council_view}
+use Rattle.cas_model.specs.Step as step
+use Rattle.cas_model.specs.View.{View, meaning}
+use Rattle.cas_model.proofs.Safety.Steps.{steps_are_safe}
+use Rattle.cas_world_calls.specs.Council.{council_view}
 use Rattle.cas_world.specs.World.{view_of}
 use Rattle.cas_world.proofs.Parts.{remembered_then}
-use Rattle.cas_cluster.specs.Step.{StepEnd}
-use Rattle.cas_cluster.specs.StepCouncil.{with_council}
-use Rattle.cas_calls.specs.Collecting.{ended_in}
-use Rattle.cas_world.proofs.Collects.{ended_reserves, ends_collect}
-use Rattle.cas_world.proofs.Exchanges.{council_next, council_world}
-use Rattle.cas_cluster.specs.Safe.{IsSafe}
-use Rattle.cas_cluster.specs.Council.{reserved_by}
+use Rattle.cas_model.specs.Step.{StepEnd}
+use Rattle.cas_model.specs.Exchanges.Step.{with_council}
+use Rattle.cas_world_calls.specs.Collecting.{ended_in}
+use Rattle.cas_world.proofs.Collection.Collects.{ended_reserves, ends_collect}
+use Rattle.cas_world.proofs.Exchanges.Exchanges.{council_next, council_world}
+use Rattle.cas_model.specs.Safe.{IsSafe}
+use Rattle.cas_model.specs.Council.{reserved_by}
 use Rattle.cas_world.proofs.Parts.{Remembers}
 use Rattle.cas_world.proofs.world.World.end_collect.Given.{Over}
 use Rattle.cas_world.proofs.world.World.end_collect.Goals as goal

@@ -6,32 +6,32 @@ use Rattle.cas_quorum.specs.declared.era.Era.{Era}
 use Rattle.cas_record.specs.declared.mark.Mark.{Mark}
 use Rattle.cas_record.specs.declared.answer.Answer.TheVariants as answer
 use Rattle.cas_record.specs.declared.operator.OpAnswer.TheVariants as op
-use Rattle.cas_cluster.specs.Council.{OrderView}
-use Rattle.cas_cluster.specs.Course.{next_era}
-use Rattle.cas_cluster.specs.Safe.{IsSafe}
-use Rattle.cas_cluster.specs.Step as step
-use Rattle.cas_cluster.specs.StepCalls.{most_marks}
-use Rattle.cas_cluster.specs.StepCouncil.{told_view}
-use Rattle.cas_cluster.specs.StepPlans as plans
-use Rattle.cas_cluster.specs.StepPlans.{EntersNext, StepEnterEra}
-use Rattle.cas_cluster.specs.View.{View, IsAt, meaning, reserved_in_all}
-use Rattle.cas_cluster.proofs.Places.{some_is, at_one}
-use Rattle.cas_cluster.proofs.SafeParts.{at_low}
-use Rattle.cas_cluster.proofs.SafeSteps.{steps_are_safe}
-use Rattle.cas_cluster.proofs.SafeStops.{call_reserves_at}
-use Rattle.cas_calls.specs.Call.{reserved_of}
-use Rattle.cas_calls.specs.Council.{council_view}
-use Rattle.cas_world.specs.Exchange.{WasToldOrder}
-use Rattle.cas_world.specs.Plans.{IsUnderWay}
+use Rattle.cas_model.specs.Council.{OrderView}
+use Rattle.cas_model.specs.Eras.Course.{next_era}
+use Rattle.cas_model.specs.Safe.{IsSafe}
+use Rattle.cas_model.specs.Step as step
+use Rattle.cas_model.specs.Calls.Step.{most_marks}
+use Rattle.cas_model.specs.Exchanges.Step.{told_view}
+use Rattle.cas_model.specs.Eras.Step as plans
+use Rattle.cas_model.specs.Eras.Step.{EntersNext, StepEnterEra}
+use Rattle.cas_model.specs.View.{View, IsAt, meaning, reserved_in_all}
+use Rattle.cas_model.proofs.Places.{some_is, at_one}
+use Rattle.cas_model.proofs.Safety.Parts.{at_low}
+use Rattle.cas_model.proofs.Safety.Steps.{steps_are_safe}
+use Rattle.cas_model.proofs.Stops.Safe.{call_reserves_at}
+use Rattle.cas_world_calls.specs.Call.{reserved_of}
+use Rattle.cas_world_calls.specs.Council.{council_view}
+use Rattle.cas_world.specs.Exchanges.Exchange.{WasToldOrder}
+use Rattle.cas_world.specs.Eras.Plans.{IsUnderWay}
 use Rattle.cas_world.specs.World.{IsWorld, view_of, call_view, caller_view}
-use Rattle.cas_calls.specs.declared.call.OpenCall.{OpenCall}
-use Rattle.cas_world.proofs.Beginning.{goes_on_same}
-use Rattle.cas_world.proofs.Callers.{at_map}
-use Rattle.cas_world.proofs.Exchanges.{grown_world, reserved_fits}
-use Rattle.cas_world.proofs.Moving.{entered_so, entered_room, entered_copies, entered_ok, entered_err}
-use Rattle.cas_world.proofs.Planning.{by_order, entrant_known, enters_next, ok_there, open_call, told_last}
+use Rattle.cas_world_calls.specs.declared.call.OpenCall.{OpenCall}
+use Rattle.cas_world.proofs.Calls.Beginning.{goes_on_same}
+use Rattle.cas_world.proofs.Calls.Callers.{at_map}
+use Rattle.cas_world.proofs.Exchanges.Exchanges.{grown_world, reserved_fits}
+use Rattle.cas_world.proofs.Eras.Moving.{entered_so, entered_room, entered_copies, entered_ok, entered_err}
+use Rattle.cas_world.proofs.Eras.Planning.{by_order, entrant_known, enters_next, ok_there, open_call, told_last}
 use Rattle.cas_world.proofs.Parts.{Remembers, at_place, set_same, remembered_then}
-use Rattle.cas_world.proofs.Reserving.{sum_seen}
+use Rattle.cas_world.proofs.Calls.Reserving.{sum_seen}
 use Rattle.cas_world.proofs.world.World.enter_era.Given.{Over}
 use Rattle.cas_world.proofs.world.World.enter_era.Goals as goal
 use Rattle.cas_world.proofs.world.World.enter_era.Goals.{After-mark_move}

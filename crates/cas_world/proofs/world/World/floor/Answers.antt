@@ -5,18 +5,18 @@ use Rattle.cas_change.specs.declared.state.State.TheVariants.{Empty}
 use Rattle.cas_record.specs.declared.mark.Mark.{Mark}
 use Rattle.cas_record.specs.declared.mark.Mark.TheVariants.{Floor}
 use Rattle.cas_collect.specs.declared.collect.CollectStep.TheVariants as due
-use Rattle.cas_cluster.specs.Collection.{CollectionView, confirmed_step, reserved_for_collection, tomb_of}
-use Rattle.cas_cluster.specs.Council.{reserved_by}
-use Rattle.cas_cluster.specs.Step as step
-use Rattle.cas_cluster.specs.StepCollect.{StepMakeFloor}
-use Rattle.cas_cluster.specs.View.{View, meaning, with_marks}
-use Rattle.cas_cluster.proofs.Places.{some_is}
-use Rattle.cas_cluster.proofs.SafeSteps.{steps_are_safe}
-use Rattle.cas_calls.specs.Council.{council_view}
-use Rattle.cas_world.specs.Collect.{GoesOnCollecting, IsDueStep}
+use Rattle.cas_model.specs.Collection.State.{CollectionView, confirmed_step, reserved_for_collection, tomb_of}
+use Rattle.cas_model.specs.Council.{reserved_by}
+use Rattle.cas_model.specs.Step as step
+use Rattle.cas_model.specs.Collection.Step.{StepMakeFloor}
+use Rattle.cas_model.specs.View.{View, meaning, with_marks}
+use Rattle.cas_model.proofs.Places.{some_is}
+use Rattle.cas_model.proofs.Safety.Steps.{steps_are_safe}
+use Rattle.cas_world_calls.specs.Council.{council_view}
+use Rattle.cas_world.specs.Collection.Collect.{GoesOnCollecting, IsDueStep}
 use Rattle.cas_world.specs.World.{view_of}
-use Rattle.cas_world.proofs.Exchanges.{council_next, council_world, hushed_reserves}
-use Rattle.cas_world.proofs.Gathers.{floor_goes_on, floor_reserved, floors_kept, makes_floor}
+use Rattle.cas_world.proofs.Exchanges.Exchanges.{council_next, council_world, hushed_reserves}
+use Rattle.cas_world.proofs.Collection.Gathers.{floor_goes_on, floor_reserved, floors_kept, makes_floor}
 use Rattle.cas_world.proofs.Parts.{seen_from, remembered_then}
 use Rattle.cas_world.proofs.world.World.floor.Given.{Over}
 use Rattle.cas_world.proofs.world.World.floor.Goals as goal

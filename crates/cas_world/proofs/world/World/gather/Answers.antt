@@ -1,14 +1,14 @@
 use Rattle.std.proofs.Common.{◌≡◌, None, Some, Option, true, false, sym, ap, subst, ◌∙◌}
 use Rattle.std.specs.Option.{option_map_or}
 use Rattle.std.specs.Prelude.{is_some, option_map}
-use Rattle.cas_cluster.specs.Council.{ExchangeView}
-use Rattle.cas_cluster.specs.Safe.{is_of_collection}
-use Rattle.cas_cluster.specs.Step.{Step}
-use Rattle.cas_cluster.specs.View.{View, meaning}
-use Rattle.cas_calls.specs.Council.{exchange_view}
-use Rattle.cas_world.specs.Exchange.{gathering_by}
-use Rattle.cas_world.proofs.Gathers.{must_be_round, must_be_collected, must_be_members, some_seen}
-use Rattle.cas_world.proofs.Planning.{none_there}
+use Rattle.cas_model.specs.Council.{ExchangeView}
+use Rattle.cas_model.specs.Safe.{is_of_collection}
+use Rattle.cas_model.specs.Step.{Step}
+use Rattle.cas_model.specs.View.{View, meaning}
+use Rattle.cas_world_calls.specs.Council.{exchange_view}
+use Rattle.cas_world.specs.Exchanges.Exchange.{gathering_by}
+use Rattle.cas_world.proofs.Collection.Gathers.{must_be_round, must_be_collected, must_be_members, some_seen}
+use Rattle.cas_world.proofs.Eras.Planning.{none_there}
 use Rattle.cas_world.proofs.world.World.gather.Goals as goal
 
 pub gather_round-requires : goal.gather_round-requires

@@ -1,23 +1,23 @@
 use Rattle.std.proofs.Common.{refl, sym, ap, subst, ◌∙◌, arith}
 use Rattle.std.specs.Prelude.{IfOk}
-use Rattle.cas_cluster.specs.Step as step
-use Rattle.cas_cluster.specs.View.{View, meaning}
-use Rattle.cas_cluster.proofs.SafeSteps.{steps_are_safe}
-use Rattle.cas_calls.specs.Council.{council_view}
+use Rattle.cas_model.specs.Step as step
+use Rattle.cas_model.specs.View.{View, meaning}
+use Rattle.cas_model.proofs.Safety.Steps.{steps_are_safe}
+use Rattle.cas_world_calls.specs.Council.{council_view}
 use Rattle.cas_world.specs.World.{view_of}
 use Rattle.cas_world.proofs.Parts.{seen_from, remembered_then}
-use Rattle.cas_cluster.specs.StepCollect.{StepGatherCollect}
-use Rattle.cas_cluster.specs.Council.{exchange_place}
+use Rattle.cas_model.specs.Collection.Step.{StepGatherCollect}
+use Rattle.cas_model.specs.Council.{exchange_place}
 use Rattle.cas_flow.specs.Flow.{queue_at}
-use Rattle.cas_cluster.specs.Collection.{CollectionView}
+use Rattle.cas_model.specs.Collection.State.{CollectionView}
 use Rattle.std.proofs.Common.{Option}
 use Rattle.std.specs.Prelude.{IsSome}
-use Rattle.cas_calls.specs.Collecting.{GathersCollectAs}
-use Rattle.cas_cluster.proofs.CollectLaws.{removals_done}
-use Rattle.cas_world.specs.Collect.{AreRemovalsDone}
-use Rattle.cas_world.specs.Exchange.{HasGathered, MayGatherCollected}
-use Rattle.cas_world.proofs.Exchanges.{council_next, council_world, in_world, open_code}
-use Rattle.cas_world.proofs.Gathers.{Gathers, gathers_collect}
+use Rattle.cas_world_calls.specs.Collecting.{GathersCollectAs}
+use Rattle.cas_model.proofs.Collection.Laws.{removals_done}
+use Rattle.cas_world.specs.Collection.Collect.{AreRemovalsDone}
+use Rattle.cas_world.specs.Exchanges.Exchange.{HasGathered, MayGatherCollected}
+use Rattle.cas_world.proofs.Exchanges.Exchanges.{council_next, council_world, in_world, open_code}
+use Rattle.cas_world.proofs.Collection.Gathers.{Gathers, gathers_collect}
 use Rattle.cas_world.proofs.world.World.gather_collection.Given.{Over}
 use Rattle.cas_world.proofs.world.World.gather_collection.Goals as goal
 use Rattle.cas_world.proofs.world.World.gather_collection.Goals.{After-gather_collection}

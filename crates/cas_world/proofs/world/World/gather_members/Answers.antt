@@ -1,15 +1,15 @@
 use Rattle.std.proofs.Common.{◌≡◌, ◌<◌, Some, refl, ap, subst, ◌∙◌, arith}
 use Rattle.std.specs.Prelude.{IfOk}
-use Rattle.cas_cluster.specs.Council.{exchange_place}
-use Rattle.cas_cluster.specs.Step as step
-use Rattle.cas_cluster.specs.StepCouncil.{StepGather}
+use Rattle.cas_model.specs.Council.{exchange_place}
+use Rattle.cas_model.specs.Step as step
+use Rattle.cas_model.specs.Exchanges.Step.{StepGather}
 use Rattle.cas_flow.specs.Flow.{queue_at}
-use Rattle.cas_cluster.specs.View.{View, era_in, meaning}
-use Rattle.cas_cluster.proofs.SafeSteps.{steps_are_safe}
-use Rattle.cas_calls.specs.Council.{council_view, GathersAs, MayList, left_to_list}
-use Rattle.cas_world.specs.Exchange.{HasGathered}
+use Rattle.cas_model.specs.View.{View, era_in, meaning}
+use Rattle.cas_model.proofs.Safety.Steps.{steps_are_safe}
+use Rattle.cas_world_calls.specs.Council.{council_view, GathersAs, MayList, left_to_list}
+use Rattle.cas_world.specs.Exchanges.Exchange.{HasGathered}
 use Rattle.cas_world.specs.World.{view_of}
-use Rattle.cas_world.proofs.Exchanges.{council_world, gathers_so, gathered_reserves, gathered_ok, gathered_less, gathered_err, open_code, in_code, in_world, may_list}
+use Rattle.cas_world.proofs.Exchanges.Exchanges.{council_world, gathers_so, gathered_reserves, gathered_ok, gathered_less, gathered_err, open_code, in_code, in_world, may_list}
 use Rattle.cas_world.proofs.Parts.{seen_from, remembered_then}
 use Rattle.cas_world.proofs.world.World.gather_members.Given.{Over}
 use Rattle.cas_world.proofs.world.World.gather_members.Goals as goal

@@ -1,15 +1,15 @@
 use Rattle.std.proofs.Common.{refl, sym, subst, arith}
 use Rattle.std.specs.Prelude.{IfOk}
-use Rattle.cas_cluster.specs.Step as step
-use Rattle.cas_cluster.specs.View.{View, meaning}
-use Rattle.cas_cluster.proofs.SafeSteps.{steps_are_safe}
-use Rattle.cas_calls.specs.Council.{council_view}
+use Rattle.cas_model.specs.Step as step
+use Rattle.cas_model.specs.View.{View, meaning}
+use Rattle.cas_model.proofs.Safety.Steps.{steps_are_safe}
+use Rattle.cas_world_calls.specs.Council.{council_view}
 use Rattle.cas_world.specs.World.{view_of}
 use Rattle.cas_world.proofs.Parts.{seen_from, remembered_then}
-use Rattle.cas_cluster.specs.StepCollect.{StepGatherRound}
-use Rattle.cas_world.specs.Exchange.{HasGathered, MayGatherRound}
-use Rattle.cas_world.proofs.Exchanges.{council_next, council_world}
-use Rattle.cas_world.proofs.Gathers.{Gathers, gathers_round}
+use Rattle.cas_model.specs.Collection.Step.{StepGatherRound}
+use Rattle.cas_world.specs.Exchanges.Exchange.{HasGathered, MayGatherRound}
+use Rattle.cas_world.proofs.Exchanges.Exchanges.{council_next, council_world}
+use Rattle.cas_world.proofs.Collection.Gathers.{Gathers, gathers_round}
 use Rattle.cas_world.proofs.world.World.gather_round.Given.{Over}
 use Rattle.cas_world.proofs.world.World.gather_round.Goals as goal
 use Rattle.cas_world.proofs.world.World.gather_round.Goals.{After-gather_round}

@@ -1,14 +1,14 @@
 use Rattle.std.proofs.Common.{◌≡◌, ◌∙◌, Some, ap}
-use Rattle.cas_cluster.specs.Council.{exchange_place}
-use Rattle.cas_cluster.specs.Step as step
-use Rattle.cas_cluster.specs.StepCouncil.{StepTurnExchange, hears, with_exchange}
-use Rattle.cas_cluster.specs.View.{View, meaning}
+use Rattle.cas_model.specs.Council.{exchange_place}
+use Rattle.cas_model.specs.Step as step
+use Rattle.cas_model.specs.Exchanges.Step.{StepTurnExchange, hears, with_exchange}
+use Rattle.cas_model.specs.View.{View, meaning}
 use Rattle.cas_flow.specs.Flow.{queue_at}
 use Rattle.cas_flow.specs.Queue.{fall_of}
 use Rattle.cas_flow.specs.declared.message.Message.{Message}
 use Rattle.cas_flow.specs.declared.message.Message.TheVariants as message
 use Rattle.cas_world.specs.World.{view_of}
-use Rattle.cas_world.proofs.Exchanges.{asking, front_is, heard_seen, heard, heard_world}
+use Rattle.cas_world.proofs.Exchanges.Exchanges.{asking, front_is, heard_seen, heard, heard_world}
 use Rattle.cas_world.proofs.Parts.{seen_from}
 use Rattle.cas_world.proofs.world.World.handle_asked.Given.{Over}
 use Rattle.cas_world.proofs.world.World.handle_asked.Goals as goal

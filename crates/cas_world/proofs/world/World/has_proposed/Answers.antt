@@ -1,10 +1,10 @@
 use Rattle.std.proofs.Common.{refl, ap, ◌∙◌, arith}
 use Rattle.std.specs.Prelude.{slice_get}
 use Rattle.std.proofs.lemmas.List.{length-map}
-use Rattle.cas_cluster.specs.View.{View, IsAt}
+use Rattle.cas_model.specs.View.{View, IsAt}
 use Rattle.cas_world.specs.World.{caller_view}
 use Rattle.cas_world.proofs.Parts.{at_place}
-use Rattle.cas_world.proofs.Settling.{phase_tells}
+use Rattle.cas_world.proofs.Calls.Settling.{phase_tells}
 use Rattle.cas_world.proofs.world.World.has_proposed.Goals as goal
 
 pub returns-clause-phase : goal.returns-clause-phase

@@ -2,17 +2,17 @@ use Rattle.std.proofs.Common.{◌≡◌, ◌+◌, ◌-◌, ◌<◌, ℕ, true, L
 use Rattle.std.specs.Prelude.{nat_lt, sum_by}
 use Rattle.std.proofs.lemmas.List.{length-drop, length-map, take_all}
 use Rattle.cas_record.specs.declared.mark.Mark.{Mark}
-use Rattle.cas_cluster.specs.Council.{reserved_by}
-use Rattle.cas_cluster.specs.StepCalls.{round_marks}
-use Rattle.cas_cluster.specs.View.{View, era_at, new_caller, reserved_of as seen_reserved}
-use Rattle.cas_calls.specs.Call.{reserved_of}
-use Rattle.cas_calls.specs.Council.{council_view}
-use Rattle.cas_calls.specs.declared.call.Caller.{Caller}
-use Rattle.cas_world.specs.Beginning.{reserved_beside}
+use Rattle.cas_model.specs.Council.{reserved_by}
+use Rattle.cas_model.specs.Calls.Step.{round_marks}
+use Rattle.cas_model.specs.View.{View, era_at, new_caller, reserved_of as seen_reserved}
+use Rattle.cas_world_calls.specs.Call.{reserved_of}
+use Rattle.cas_world_calls.specs.Council.{council_view}
+use Rattle.cas_world_calls.specs.declared.call.Caller.{Caller}
+use Rattle.cas_world.specs.Calls.Beginning.{reserved_beside}
 use Rattle.cas_world.specs.World.{caller_view}
-use Rattle.cas_world.proofs.Begins.{beside_none}
-use Rattle.cas_world.proofs.Exchanges.{reserved_fits}
-use Rattle.cas_world.proofs.Reserving.{others_within}
+use Rattle.cas_world.proofs.Calls.Begins.{beside_none}
+use Rattle.cas_world.proofs.Exchanges.Exchanges.{reserved_fits}
+use Rattle.cas_world.proofs.Calls.Reserving.{others_within}
 use Rattle.cas_world.proofs.world.World.is_full.Given.{Over}
 use Rattle.cas_world.proofs.world.World.is_full.Goals as goal
 use Rattle.cas_world.proofs.world.World.is_full.Goals.{After-reserved}

@@ -1,15 +1,15 @@
 use Rattle.std.proofs.Common.{◌≡◌, ◌∙◌, ◌<◌, ◌+◌, ℕ, true, false, sym, ap, subst, length}
 use Rattle.cas_ballot.specs.Members.{has_member}
-use Rattle.cas_cluster.specs.Council.{exchange_place}
-use Rattle.cas_cluster.specs.Step as step
-use Rattle.cas_cluster.specs.StepCouncil.{StepTurnExchange}
-use Rattle.cas_cluster.specs.View.{View, meaning}
+use Rattle.cas_model.specs.Council.{exchange_place}
+use Rattle.cas_model.specs.Step as step
+use Rattle.cas_model.specs.Exchanges.Step.{StepTurnExchange}
+use Rattle.cas_model.specs.View.{View, meaning}
 use Rattle.cas_flow.specs.Flow.{queue_at}
 use Rattle.cas_world.specs.World.{view_of}
 use Rattle.cas_flow.specs.Queue.{fall_of}
-use Rattle.cas_cluster.specs.StepCouncil.{harms}
-use Rattle.cas_calls.specs.Council.{harms_of}
-use Rattle.cas_world.proofs.Exchanges.{asking, in_code, first_harm, harm_room, is_member, loses, harmed_seen, harmed_world}
+use Rattle.cas_model.specs.Exchanges.Step.{harms}
+use Rattle.cas_world_calls.specs.Council.{harms_of}
+use Rattle.cas_world.proofs.Exchanges.Exchanges.{asking, in_code, first_harm, harm_room, is_member, loses, harmed_seen, harmed_world}
 use Rattle.cas_world.proofs.Parts.{seen_from}
 use Rattle.cas_world.proofs.world.World.lose_asked.Given.{Over}
 use Rattle.cas_world.proofs.world.World.lose_asked.Goals as goal

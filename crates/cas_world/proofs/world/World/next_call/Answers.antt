@@ -1,6 +1,6 @@
 use Rattle.std.proofs.Common.{ap, arith}
 use Rattle.std.proofs.lemmas.List.{length-map}
-use Rattle.cas_cluster.specs.View.{View}
+use Rattle.cas_model.specs.View.{View}
 use Rattle.cas_world.specs.World.{caller_view}
 use Rattle.cas_world.proofs.Parts.{at_place}
 use Rattle.cas_world.proofs.Readers.{few_calls}

@@ -4,15 +4,15 @@ use Rattle.std.proofs.lemmas.List.{length-append, length-drop, length-map, lengt
 use Rattle.cas_acceptor.specs.Acceptor.{AcceptorView}
 use Rattle.cas_proposer.specs.Desk.{DeskView}
 use Rattle.cas_quorum.specs.Era.{majority_era}
-use Rattle.cas_cluster.specs.View.{IsAt, meaning}
+use Rattle.cas_model.specs.View.{IsAt, meaning}
 use Rattle.cas_vault.specs.Vault.{disk_of}
-use Rattle.cas_calls.specs.Council.{opening_council}
-use Rattle.cas_world.specs.Opening.{members_to}
-use Rattle.cas_world.specs.Opening as opening
-use Rattle.cas_world.specs.Opening.{unstarted, disks_of, AllStart, SomeDiskFails}
+use Rattle.cas_world_calls.specs.Council.{opening_council}
+use Rattle.cas_world.specs.Openings.Opening.{members_to}
+use Rattle.cas_world.specs.Openings.Opening as opening
+use Rattle.cas_world.specs.Openings.Opening.{unstarted, disks_of, AllStart, SomeDiskFails}
 use Rattle.cas_world.proofs.Lists.{unstarted_at, unstarted_places}
-use Rattle.cas_world.proofs.Openings.{is_opening, has_places, is_world}
-use Rattle.cas_world.proofs.Starting.{none_lost, none_lost_either}
+use Rattle.cas_world.proofs.Openings.Openings.{is_opening, has_places, is_world}
+use Rattle.cas_world.proofs.Openings.Starting.{none_lost, none_lost_either}
 use Rattle.cas_world.proofs.world.World.open.Given.{Over}
 use Rattle.cas_world.proofs.world.World.open.Goals as goal
 use Rattle.cas_world.proofs.world.World.open.Goals.{In-Ok-start, In-Err-start}

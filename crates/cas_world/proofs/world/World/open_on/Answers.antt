@@ -6,18 +6,18 @@ use Rattle.cas_ballot.specs.Members.{union_of}
 use Rattle.cas_proposer.specs.Desk.{DeskView}
 use Rattle.cas_quorum.specs.Era.{majority_era}
 use Rattle.cas_quorum.specs.declared.era.Era.{Era}
-use Rattle.cas_cluster.specs.View.{meaning}
+use Rattle.cas_model.specs.View.{meaning}
 use Rattle.cas_vault.specs.Vault.{disk_of}
-use Rattle.cas_calls.specs.Council.{opening_council}
-use Rattle.cas_calls.specs.declared.council.Council.{Council}
-use Rattle.cas_calls.specs.Proposing.{disks}
-use Rattle.cas_world.specs.Opening.{shelves_of, disks_of}
-use Rattle.cas_world.specs.OpeningOn as opening
-use Rattle.cas_world.specs.OpeningOn.{greatest_counter, AreTakenUpBelow, AVaultIsNotTakenUp}
+use Rattle.cas_world_calls.specs.Council.{opening_council}
+use Rattle.cas_world_calls.specs.declared.council.Council.{Council}
+use Rattle.cas_world_calls.specs.Proposing.{disks}
+use Rattle.cas_world.specs.Openings.Opening.{shelves_of, disks_of}
+use Rattle.cas_world.specs.Openings.OpeningOn as opening
+use Rattle.cas_world.specs.Openings.OpeningOn.{greatest_counter, AreTakenUpBelow, AVaultIsNotTakenUp}
 use Rattle.cas_world.specs.World.{IsWorld, view_of}
-use Rattle.cas_cluster.specs.Openings.{IsOpeningOn}
-use Rattle.cas_cluster.specs.SafeLaws.{HasPlaces}
-use Rattle.cas_world.proofs.OpeningsOn.{is_opening_on, has_places_on, is_world_on, placed_places, placed_shelves, none_lost_on}
+use Rattle.cas_model.specs.Openings.{IsOpeningOn}
+use Rattle.cas_model.specs.SafeLaws.{HasPlaces}
+use Rattle.cas_world.proofs.Openings.OpeningsOn.{is_opening_on, has_places_on, is_world_on, placed_places, placed_shelves, none_lost_on}
 use Rattle.cas_world.proofs.world.World.open_on.Given.{Over}
 use Rattle.cas_world.proofs.world.World.open_on.Goals as goal
 use Rattle.cas_world.proofs.world.World.open_on.Goals.{In-Ok-take_up_desks, In-Err-take_up_desks}

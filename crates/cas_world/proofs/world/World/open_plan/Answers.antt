@@ -4,20 +4,20 @@ use Rattle.cas_quorum.specs.declared.era.Era.{Era}
 use Rattle.cas_quorum.specs.Era.{majority_era}
 use Rattle.cas_record.specs.declared.operator.Asked.{Asked}
 use Rattle.cas_record.specs.declared.operator.OpAnswer.TheVariants as op
-use Rattle.cas_cluster.specs.Council as cluster
-use Rattle.cas_cluster.specs.Council.{PlanView, hushed, reserved_by}
-use Rattle.cas_cluster.specs.Safe.{IsSafe}
-use Rattle.cas_cluster.specs.Step as step
-use Rattle.cas_cluster.specs.StepCouncil.{told_view}
-use Rattle.cas_cluster.specs.StepPlans as plans
-use Rattle.cas_cluster.specs.StepPlans.{StepOpenPlan, opened_plan, new_plan, used_with}
-use Rattle.cas_cluster.specs.View.{View, IsAt, meaning, era_at}
-use Rattle.cas_cluster.proofs.SafeSteps.{steps_are_safe}
-use Rattle.cas_calls.specs.Council.{council_view, plan_view}
-use Rattle.cas_world.specs.Plans.{asked_to}
+use Rattle.cas_model.specs.Council as cluster
+use Rattle.cas_model.specs.Council.{PlanView, hushed, reserved_by}
+use Rattle.cas_model.specs.Safe.{IsSafe}
+use Rattle.cas_model.specs.Step as step
+use Rattle.cas_model.specs.Exchanges.Step.{told_view}
+use Rattle.cas_model.specs.Eras.Step as plans
+use Rattle.cas_model.specs.Eras.Step.{StepOpenPlan, opened_plan, new_plan, used_with}
+use Rattle.cas_model.specs.View.{View, IsAt, meaning, era_at}
+use Rattle.cas_model.proofs.Safety.Steps.{steps_are_safe}
+use Rattle.cas_world_calls.specs.Council.{council_view, plan_view}
+use Rattle.cas_world.specs.Eras.Plans.{asked_to}
 use Rattle.cas_world.specs.World.{view_of}
-use Rattle.cas_world.proofs.Exchanges.{council_world, hushed_reserves, some_there}
-use Rattle.cas_world.proofs.Planning.{opens_plan, told_last, welcome_council, settled_era, few_eras, none_there, planned_from, is_under_way, none_begins}
+use Rattle.cas_world.proofs.Exchanges.Exchanges.{council_world, hushed_reserves, some_there}
+use Rattle.cas_world.proofs.Eras.Planning.{opens_plan, told_last, welcome_council, settled_era, few_eras, none_there, planned_from, is_under_way, none_begins}
 use Rattle.cas_world.proofs.Parts.{Remembers, at_place, remembered_then}
 use Rattle.cas_world.proofs.world.World.open_plan.Given.{Over}
 use Rattle.cas_world.proofs.world.World.open_plan.Goals as goal

@@ -1,19 +1,19 @@
 use Rattle.std.proofs.Common.{◌≡◌, ◌+◌, List, Some, None, refl, ap, subst, ◌∙◌, arith, length}
 use Rattle.std.specs.Prelude.{sum_by, option_map}
 use Rattle.cas_record.specs.declared.mark.Mark.{Mark}
-use Rattle.cas_cluster.specs.Council.{reserved_for_order}
-use Rattle.cas_cluster.specs.Step as step
-use Rattle.cas_cluster.specs.StepCouncil.{StepOrder}
-use Rattle.cas_cluster.specs.View.{View, meaning, reserved_in_all}
-use Rattle.cas_cluster.specs.Safe.{IsSafe}
-use Rattle.cas_cluster.proofs.SafeMarks.{little_is_reserved}
-use Rattle.cas_cluster.proofs.SafeSteps.{steps_are_safe}
-use Rattle.cas_calls.specs.Call.{reserved_of}
-use Rattle.cas_calls.specs.Council.{order_view}
+use Rattle.cas_model.specs.Council.{reserved_for_order}
+use Rattle.cas_model.specs.Step as step
+use Rattle.cas_model.specs.Exchanges.Step.{StepOrder}
+use Rattle.cas_model.specs.View.{View, meaning, reserved_in_all}
+use Rattle.cas_model.specs.Safe.{IsSafe}
+use Rattle.cas_model.proofs.Safety.Marks.{little_is_reserved}
+use Rattle.cas_model.proofs.Safety.Steps.{steps_are_safe}
+use Rattle.cas_world_calls.specs.Call.{reserved_of}
+use Rattle.cas_world_calls.specs.Council.{order_view}
 use Rattle.cas_world.specs.World.{view_of}
-use Rattle.cas_world.proofs.Exchanges.{reserved_fits, ordered, council_world, grown_world}
+use Rattle.cas_world.proofs.Exchanges.Exchanges.{reserved_fits, ordered, council_world, grown_world}
 use Rattle.cas_world.proofs.Parts.{seen_from, remembered_then}
-use Rattle.cas_world.proofs.Reserving.{sum_seen}
+use Rattle.cas_world.proofs.Calls.Reserving.{sum_seen}
 use Rattle.cas_world.proofs.world.World.order.Given.{Over}
 use Rattle.cas_world.proofs.world.World.order.Goals as goal
 use Rattle.cas_world.proofs.world.World.order.Goals.{Joined-self}

@@ -2,13 +2,13 @@ use Rattle.std.proofs.Common.{◌≡◌, List, length, reverse, subst, ap, ◌�
 use Rattle.std.proofs.lemmas.List.{length-map}
 use Rattle.cas_record.specs.declared.mark.Acknowledgment.{Acknowledgment}
 use Rattle.cas_record.specs.declared.mark.Mark.TheVariants.{Acked}
-use Rattle.cas_record.specs.Orderly.{IsAboveFloors}
+use Rattle.cas_record.specs.Logs.Orderly.{IsAboveFloors}
 use Rattle.cas_record.specs.Places.{Stands}
-use Rattle.cas_cluster.specs.History.{IsRemembered}
-use Rattle.cas_cluster.specs.View.{Meaning, View}
-use Rattle.cas_cluster.specs.ViewLaws.{IsKept}
-use Rattle.cas_cluster.proofs.Opens.{remembered_legal}
-use Rattle.cas_cluster.proofs.ViewLaws.{done_kept}
+use Rattle.cas_model.specs.History.{IsRemembered}
+use Rattle.cas_model.specs.View.{Meaning, View}
+use Rattle.cas_model.specs.Laws.{IsKept}
+use Rattle.cas_model.proofs.Openings.Opens.{remembered_legal}
+use Rattle.cas_model.proofs.ViewLaws.{done_kept}
 use Rattle.cas_world.proofs.world.World.parts.Goals as goal
 
 pub returns-clause-legal : goal.returns-clause-legal

@@ -1,12 +1,12 @@
 use Rattle.std.proofs.Common.{Option, Some, sym, ap, subst, ◌∙◌}
 use Rattle.std.specs.Prelude.{option_map}
 use Rattle.cas_members.specs.declared.plan.PlanStep.{PlanStep}
-use Rattle.cas_calls.specs.Council.{plan_view}
-use Rattle.cas_calls.specs.declared.plan.OpenPlan.{OpenPlan}
-use Rattle.cas_cluster.specs.Safe.{IsSafe}
-use Rattle.cas_cluster.specs.View.{View}
-use Rattle.cas_world.specs.Plans.{step_of}
-use Rattle.cas_world.proofs.Planning.{at_end}
+use Rattle.cas_world_calls.specs.Council.{plan_view}
+use Rattle.cas_world_calls.specs.declared.plan.OpenPlan.{OpenPlan}
+use Rattle.cas_model.specs.Safe.{IsSafe}
+use Rattle.cas_model.specs.View.{View}
+use Rattle.cas_world.specs.Eras.Plans.{step_of}
+use Rattle.cas_world.proofs.Eras.Planning.{at_end}
 use Rattle.cas_world.proofs.world.World.plan_step.Goals as goal
 
 pub returns-in-Some-clause-end : goal.returns-in-Some-clause-end

@@ -1,23 +1,23 @@
 use Rattle.std.proofs.Common.{Err, ◌≡◌, ◌<◌, ℕ, Option, Some, slice_set, refl, sym, ap, subst, ◌∙◌, arith}
 use Rattle.std.specs.Prelude.{⊤, IsSome, IfSome}
-use Rattle.cas_cluster.specs.History.{IsRemembered}
-use Rattle.cas_world.proofs.Told.{propose_cause, propose_above}
+use Rattle.cas_model.specs.History.{IsRemembered}
+use Rattle.cas_world.proofs.Calls.Told.{propose_cause, propose_above}
 use Rattle.cas_flow.specs.Flow.{queue_at}
-use Rattle.cas_cluster.specs.Step as step
-use Rattle.cas_cluster.specs.Step.{StepPropose}
-use Rattle.cas_cluster.specs.View.{View, IsAt, meaning}
-use Rattle.cas_cluster.proofs.SafeSteps.{steps_are_safe}
-use Rattle.cas_cluster.specs.Council.{reserved_by}
-use Rattle.cas_calls.specs.Council.{council_view}
-use Rattle.cas_calls.specs.Call.{over, with_proposal}
-use Rattle.cas_calls.specs.Proposing.{disks}
-use Rattle.cas_world.specs.Reading.{Proposes, EndsShort, HasProposed}
+use Rattle.cas_model.specs.Step as step
+use Rattle.cas_model.specs.Step.{StepPropose}
+use Rattle.cas_model.specs.View.{View, IsAt, meaning}
+use Rattle.cas_model.proofs.Safety.Steps.{steps_are_safe}
+use Rattle.cas_model.specs.Council.{reserved_by}
+use Rattle.cas_world_calls.specs.Council.{council_view}
+use Rattle.cas_world_calls.specs.Call.{over, with_proposal}
+use Rattle.cas_world_calls.specs.Proposing.{disks}
+use Rattle.cas_world.specs.Calls.Reading.{Proposes, EndsShort, HasProposed}
 use Rattle.cas_world.specs.World.{WasTold, view_of}
-use Rattle.cas_calls.specs.declared.call.OpenCall.{OpenCall}
-use Rattle.cas_world.proofs.Counts.{room_over}
+use Rattle.cas_world_calls.specs.declared.call.OpenCall.{OpenCall}
+use Rattle.cas_world.proofs.Calls.Counts.{room_over}
 use Rattle.cas_world.proofs.Parts.{seen_from, remembered_then}
-use Rattle.cas_world.proofs.Proposes.{IsProposing, proposing_in, proposes, ends, not_done, idle_then, told_next, made_next, room_proposed, copies_made, has_proposed, was_told}
-use Rattle.cas_world.proofs.Stops.{copies_idle}
+use Rattle.cas_world.proofs.Calls.Proposes.{IsProposing, proposing_in, proposes, ends, not_done, idle_then, told_next, made_next, room_proposed, copies_made, has_proposed, was_told}
+use Rattle.cas_world.proofs.Stops.Stops.{copies_idle}
 use Rattle.cas_world.proofs.world.World.propose.Given.{Over}
 use Rattle.cas_world.proofs.world.World.propose.Goals as goal
 

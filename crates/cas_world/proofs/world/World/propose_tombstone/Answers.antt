@@ -1,8 +1,8 @@
 use Rattle.std.proofs.Common.{◌≡◌, ℕ, Some, Ok, refl, sym, ap, subst, ◌∙◌, arith}
 use Rattle.cas_proposer.specs.Desk.{DeskView}
-use Rattle.cas_cluster.specs.View.{View, IsAt}
-use Rattle.cas_cluster.proofs.Places.{at_one, some_is}
-use Rattle.cas_world.specs.Collect.{FindsHeld}
+use Rattle.cas_model.specs.View.{View, IsAt}
+use Rattle.cas_model.proofs.Places.{at_one, some_is}
+use Rattle.cas_world.specs.Collection.Collect.{FindsHeld}
 use Rattle.cas_world.specs.declared.collect.Reading.TheVariants.{Held}
 use Rattle.cas_world.proofs.Parts.{at_place}
 use Rattle.cas_world.proofs.world.World.propose_tombstone.Goals as goal

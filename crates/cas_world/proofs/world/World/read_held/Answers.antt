@@ -4,21 +4,21 @@ use Rattle.std.proofs.lemmas.List.{length-map}
 use Rattle.cas_proposer.specs.Desk.{DeskView, counter_without}
 use Rattle.cas_proposer.specs.declared.round.Round.{Round}
 use Rattle.cas_vault.specs.Vault.{counter_of}
-use Rattle.cas_cluster.specs.Council.{reserved_by}
-use Rattle.cas_cluster.specs.Step as step
-use Rattle.cas_cluster.specs.Step.{Step}
-use Rattle.cas_cluster.specs.StepDesks.{EndsRound}
-use Rattle.cas_cluster.specs.View.{View, IsAt, meaning, reserved_of}
-use Rattle.cas_cluster.proofs.Places.{at_one}
-use Rattle.cas_cluster.proofs.SafeSteps.{steps_are_safe}
-use Rattle.cas_calls.specs.Council.{council_view}
-use Rattle.cas_calls.specs.Proposing.{disks}
-use Rattle.cas_calls.specs.declared.call.Caller.{Caller}
-use Rattle.cas_world.specs.Collect.{IsCollectingCall}
+use Rattle.cas_model.specs.Council.{reserved_by}
+use Rattle.cas_model.specs.Step as step
+use Rattle.cas_model.specs.Step.{Step}
+use Rattle.cas_model.specs.Calls.Desks.{EndsRound}
+use Rattle.cas_model.specs.View.{View, IsAt, meaning, reserved_of}
+use Rattle.cas_model.proofs.Places.{at_one}
+use Rattle.cas_model.proofs.Safety.Steps.{steps_are_safe}
+use Rattle.cas_world_calls.specs.Council.{council_view}
+use Rattle.cas_world_calls.specs.Proposing.{disks}
+use Rattle.cas_world_calls.specs.declared.call.Caller.{Caller}
+use Rattle.cas_world.specs.Collection.Collect.{IsCollectingCall}
 use Rattle.cas_world.specs.World.{IsInPhase, view_of, caller_view}
-use Rattle.cas_world.proofs.Collects.{reads_held, held_room}
+use Rattle.cas_world.proofs.Collection.Collects.{reads_held, held_room}
 use Rattle.cas_world.proofs.Parts.{at_place, seen_from, remembered_then}
-use Rattle.cas_world.proofs.Stops.{copies_idle, end_goes_on}
+use Rattle.cas_world.proofs.Stops.Stops.{copies_idle, end_goes_on}
 use Rattle.cas_world.proofs.world.World.read_held.Given.{Over}
 use Rattle.cas_world.proofs.world.World.read_held.Goals as goal
 use Rattle.cas_world.proofs.world.World.read_held.Goals.{After-read_held}

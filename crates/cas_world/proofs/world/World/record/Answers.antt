@@ -1,4 +1,4 @@
-use Rattle.cas_cluster.proofs.Opens.{remembered_legal}
+use Rattle.cas_model.proofs.Openings.Opens.{remembered_legal}
 use Rattle.cas_world.proofs.world.World.record.Goals as goal
 
 pub returns-clause-legal : goal.returns-clause-legal

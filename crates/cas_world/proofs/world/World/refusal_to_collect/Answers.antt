@@ -3,11 +3,11 @@ use Rattle.std.specs.Prelude.{option_map}
 use Rattle.cas_proposer.specs.Desk.{DeskView}
 use Rattle.cas_quorum.specs.declared.era.Era.{Era}
 use Rattle.cas_record.specs.declared.operator.OpAnswer.TheVariants as op
-use Rattle.cas_cluster.specs.View.{View, IsAt}
-use Rattle.cas_cluster.proofs.Places.{at_one}
-use Rattle.cas_calls.specs.Council.{plan_view}
-use Rattle.cas_world.specs.Collect as collects
-use Rattle.cas_world.proofs.Exchanges.{some_there}
+use Rattle.cas_model.specs.View.{View, IsAt}
+use Rattle.cas_model.proofs.Places.{at_one}
+use Rattle.cas_world_calls.specs.Council.{plan_view}
+use Rattle.cas_world.specs.Collection.Collect as collects
+use Rattle.cas_world.proofs.Exchanges.Exchanges.{some_there}
 use Rattle.cas_world.proofs.Parts.{at_place}
 use Rattle.cas_world.proofs.world.World.refusal_to_collect.Goals as goal
 

@@ -1,9 +1,9 @@
 use Rattle.std.proofs.Common.{ap, ◌∙◌}
-use Rattle.cas_cluster.specs.Council.{telling}
-use Rattle.cas_cluster.specs.StepCouncil.{told_view}
-use Rattle.cas_cluster.specs.View.{View}
-use Rattle.cas_calls.specs.Council.{council_view}
-use Rattle.cas_world.proofs.Exchanges.{told_seen, told_world}
+use Rattle.cas_model.specs.Council.{telling}
+use Rattle.cas_model.specs.Exchanges.Step.{told_view}
+use Rattle.cas_model.specs.View.{View}
+use Rattle.cas_world_calls.specs.Council.{council_view}
+use Rattle.cas_world.proofs.Exchanges.Exchanges.{told_seen, told_world}
 use Rattle.cas_world.proofs.world.World.refuse.Goals as goal
 
 pub invariant_of-self : goal.invariant_of-self

@@ -5,29 +5,29 @@ use Rattle.cas_ballot.specs.Ballot.{FitsBallot}
 use Rattle.cas_ballot.specs.declared.ballot.Ballot.{Ballot}
 use Rattle.cas_collect.specs.declared.collect.CollectStep.TheVariants as due
 use Rattle.cas_proposer.specs.Desk.{DeskView}
-use Rattle.cas_cluster.specs.Collection.{CollectionView}
-use Rattle.cas_cluster.specs.Safe.{IsSafe, renewals_before}
-use Rattle.cas_cluster.specs.Step as step
-use Rattle.cas_cluster.specs.Step.{Step}
-use Rattle.cas_cluster.specs.StepCollect as collect
-use Rattle.cas_cluster.specs.StepDesks.{Renews, FindsNoAge}
-use Rattle.cas_cluster.specs.View.{View, IsAt, meaning}
-use Rattle.cas_cluster.proofs.Places.{at_one, some_is}
-use Rattle.cas_cluster.proofs.SafeParts.{at_low}
-use Rattle.cas_cluster.proofs.SafeSteps.{steps_are_safe}
-use Rattle.cas_cluster.proofs.SafeStops.{call_reserves_at}
-use Rattle.cas_calls.specs.Answers.{aged_answer}
-use Rattle.cas_calls.specs.Proposing.{disks}
-use Rattle.cas_calls.specs.declared.call.OpenCall.{OpenCall}
-use Rattle.cas_world.specs.Collect.{GoesOnCollecting, IsDueStep, IsNextAge}
-use Rattle.cas_world.specs.Exchange.{WasToldOrder}
-use Rattle.cas_world.specs.Moving.{Leaves, closed_with}
+use Rattle.cas_model.specs.Collection.State.{CollectionView}
+use Rattle.cas_model.specs.Safe.{IsSafe, renewals_before}
+use Rattle.cas_model.specs.Step as step
+use Rattle.cas_model.specs.Step.{Step}
+use Rattle.cas_model.specs.Collection.Step as collect
+use Rattle.cas_model.specs.Calls.Desks.{Renews, FindsNoAge}
+use Rattle.cas_model.specs.View.{View, IsAt, meaning}
+use Rattle.cas_model.proofs.Places.{at_one, some_is}
+use Rattle.cas_model.proofs.Safety.Parts.{at_low}
+use Rattle.cas_model.proofs.Safety.Steps.{steps_are_safe}
+use Rattle.cas_model.proofs.Stops.Safe.{call_reserves_at}
+use Rattle.cas_world_calls.specs.Answers.{aged_answer}
+use Rattle.cas_world_calls.specs.Proposing.{disks}
+use Rattle.cas_world_calls.specs.declared.call.OpenCall.{OpenCall}
+use Rattle.cas_world.specs.Collection.Collect.{GoesOnCollecting, IsDueStep, IsNextAge}
+use Rattle.cas_world.specs.Exchanges.Exchange.{WasToldOrder}
+use Rattle.cas_world.specs.Eras.Moving.{Leaves, closed_with}
 use Rattle.cas_world.specs.World.{IsWorld, view_of, call_view, caller_view}
-use Rattle.cas_world.proofs.Callers.{at_map}
-use Rattle.cas_world.proofs.Gathers.{collecting_at}
+use Rattle.cas_world.proofs.Calls.Callers.{at_map}
+use Rattle.cas_world.proofs.Collection.Gathers.{collecting_at}
 use Rattle.cas_world.proofs.Parts.{at_place, seen_from, remembered_then}
-use Rattle.cas_world.proofs.Planning.{open_call, told_last}
-use Rattle.cas_world.proofs.Renewing.{IsRenewal, next_ages, renewed_so, renews_next}
+use Rattle.cas_world.proofs.Eras.Planning.{open_call, told_last}
+use Rattle.cas_world.proofs.Collection.Renewing.{IsRenewal, next_ages, renewed_so, renews_next}
 use Rattle.cas_world.proofs.world.World.renew.Given.{Over}
 use Rattle.cas_world.proofs.world.World.renew.Goals as goal
 use Rattle.cas_world.proofs.world.World.renew.Goals.{After-mark_renewal}

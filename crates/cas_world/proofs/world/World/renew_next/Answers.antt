@@ -1,6 +1,6 @@
 use Rattle.std.proofs.Common.{◌≤◌, sym, subst, ◌∙◌}
 use Rattle.cas_collect.specs.Order.{IsStepOf}
-use Rattle.cas_cluster.specs.View.{View}
+use Rattle.cas_model.specs.View.{View}
 use Rattle.cas_world.proofs.world.World.renew_next.Goals as goal
 
 pub returns-in-Renew-clause-known : goal.returns-in-Renew-clause-known

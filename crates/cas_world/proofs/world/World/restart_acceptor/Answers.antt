@@ -1,11 +1,11 @@
 use Rattle.std.proofs.Common.{◌≡◌, ℕ, slice_set, sym, subst, ◌∙◌, arith}
-use Rattle.cas_cluster.specs.Step as step
-use Rattle.cas_cluster.specs.Step.{StepRestartAcceptor}
-use Rattle.cas_cluster.specs.View.{View, IsAt, meaning}
-use Rattle.cas_cluster.proofs.SafeSteps.{steps_are_safe}
+use Rattle.cas_model.specs.Step as step
+use Rattle.cas_model.specs.Step.{StepRestartAcceptor}
+use Rattle.cas_model.specs.View.{View, IsAt, meaning}
+use Rattle.cas_model.proofs.Safety.Steps.{steps_are_safe}
 use Rattle.cas_world.specs.World.{view_of}
-use Rattle.cas_world.specs.Serve.{shelves}
-use Rattle.cas_world.proofs.Stops.{restarted, acceptor_tells}
+use Rattle.cas_world.specs.Frames.Serve.{shelves}
+use Rattle.cas_world.proofs.Stops.Stops.{restarted, acceptor_tells}
 use Rattle.cas_world.proofs.Parts.{at_place, left_now, seen_from, remembered_then}
 use Rattle.cas_world.proofs.world.World.restart_acceptor.Given.{Over}
 use Rattle.cas_world.proofs.world.World.restart_acceptor.Goals as goal

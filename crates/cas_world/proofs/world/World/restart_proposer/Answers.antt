@@ -1,21 +1,21 @@
 use Rattle.std.proofs.Common.{◌≡◌, List, ◌∙◌, ℕ, map, refl, slice_set, sym, ap, subst, inl, inr, arith}
 use Rattle.cas_base.proofs.Bools.{true_or_false}
 use Rattle.cas_vault.specs.Vault.{disk_of}
-use Rattle.cas_cluster.specs.Step as step
-use Rattle.cas_cluster.specs.Step.{StepRestartProposer}
-use Rattle.cas_cluster.specs.View.{View, IsAt, meaning}
-use Rattle.cas_cluster.proofs.SafeParts.{at_low}
-use Rattle.cas_cluster.proofs.SafeSteps.{steps_are_safe}
+use Rattle.cas_model.specs.Step as step
+use Rattle.cas_model.specs.Step.{StepRestartProposer}
+use Rattle.cas_model.specs.View.{View, IsAt, meaning}
+use Rattle.cas_model.proofs.Safety.Parts.{at_low}
+use Rattle.cas_model.proofs.Safety.Steps.{steps_are_safe}
 use Rattle.cas_world.specs.World.{view_of, caller_view}
-use Rattle.cas_calls.specs.Proposing.{disks}
-use Rattle.cas_cluster.specs.Council.{reserved_by}
-use Rattle.cas_cluster.specs.Course.{era_shown}
-use Rattle.cas_cluster.specs.View.{era_at}
+use Rattle.cas_world_calls.specs.Proposing.{disks}
+use Rattle.cas_model.specs.Council.{reserved_by}
+use Rattle.cas_model.specs.Eras.Course.{era_shown}
+use Rattle.cas_model.specs.View.{era_at}
 use Rattle.cas_proposer.specs.Desk.{DeskView}
 use Rattle.cas_vault.specs.Vault.{kept_of}
-use Rattle.cas_calls.specs.Council.{council_view}
+use Rattle.cas_world_calls.specs.Council.{council_view}
 use Rattle.cas_world.proofs.Parts.{set_same}
-use Rattle.cas_world.proofs.Stops.{on_err_not, on_err_of, on_ok_of, on_ok_so, kept_same, restarts_vault, lasts_then, desk_restarted, desk_tells, desk_is_up, desk_stays_down, copies_still, same_round}
+use Rattle.cas_world.proofs.Stops.Stops.{on_err_not, on_err_of, on_ok_of, on_ok_so, kept_same, restarts_vault, lasts_then, desk_restarted, desk_tells, desk_is_up, desk_stays_down, copies_still, same_round}
 use Rattle.cas_world.proofs.Parts.{at_place, left_at, seen_from, remembered_then}
 use Rattle.cas_world.proofs.world.World.restart_proposer.Goals as goal
 

@@ -1,23 +1,23 @@
 use Rattle.std.proofs.Common.{◌≡◌, ◌∙◌, ◌<◌, ◌+◌, true, false, sym, ap, subst, length}
 use Rattle.std.specs.Prelude.{Option, Result, Ok, Err, OnErr, slice_get}
 use Rattle.cas_ballot.specs.Members.{has_member}
-use Rattle.cas_cluster.specs.Council.{ExchangeView, exchange_place}
-use Rattle.cas_cluster.specs.Step as step
-use Rattle.cas_cluster.specs.StepCouncil.{StepTurnExchange, harms}
-use Rattle.cas_cluster.specs.StepFrames.{FindsNoRoom}
-use Rattle.cas_cluster.specs.View.{View, meaning}
+use Rattle.cas_model.specs.Council.{ExchangeView, exchange_place}
+use Rattle.cas_model.specs.Step as step
+use Rattle.cas_model.specs.Exchanges.Step.{StepTurnExchange, harms}
+use Rattle.cas_model.specs.Frames.Step.{FindsNoRoom}
+use Rattle.cas_model.specs.View.{View, meaning}
 use Rattle.cas_flow.specs.Flow.{FlowView, queue_at}
 use Rattle.cas_flow.specs.Message.{head_of}
 use Rattle.cas_flow.specs.Queue.{fall_of}
 use Rattle.cas_flow.specs.declared.message.Message.{Message}
 use Rattle.cas_flow.specs.declared.message.Message.TheVariants as message
-use Rattle.cas_calls.specs.Council.{harms_of}
-use Rattle.cas_world.specs.Serve.{Serves}
+use Rattle.cas_world_calls.specs.Council.{harms_of}
+use Rattle.cas_world.specs.Frames.Serve.{Serves}
 use Rattle.cas_world.specs.World.{view_of}
 use Rattle.cas_world.specs.declared.serve.Served.{Served}
-use Rattle.cas_world.proofs.Exchanges.{asked_in, front_is, in_code, first_harm, harm_room, is_member, harmed_seen, harmed_world, reply_room, answers, answered_world, falls}
+use Rattle.cas_world.proofs.Exchanges.Exchanges.{asked_in, front_is, in_code, first_harm, harm_room, is_member, harmed_seen, harmed_world, reply_room, answers, answered_world, falls}
 use Rattle.cas_world.proofs.Parts.{seen_from}
-use Rattle.cas_world.proofs.Turns.{find_no_room}
+use Rattle.cas_world.proofs.Frames.Turns.{find_no_room}
 use Rattle.cas_world.proofs.world.World.serve_asked.Given.{Over}
 use Rattle.cas_world.proofs.world.World.serve_asked.Goals as goal
 use Rattle.cas_world.proofs.world.World.serve_asked.Goals.{After-from_residual, Joined-served-2, After-harm}

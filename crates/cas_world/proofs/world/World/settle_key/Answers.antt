@@ -1,10 +1,10 @@
 use Rattle.std.proofs.Common.{◌≡◌, refl, sym, ap, ◌∙◌}
 use Rattle.std.specs.Prelude.{option_copied, option_map}
-use Rattle.cas_cluster.specs.View.{View}
-use Rattle.cas_cluster.proofs.Places.{some_is}
-use Rattle.cas_calls.specs.Council.{due_key, plan_view}
-use Rattle.cas_world.specs.Plans.{IsPartial}
-use Rattle.cas_world.proofs.Planning.{if_none, none_due}
+use Rattle.cas_model.specs.View.{View}
+use Rattle.cas_model.proofs.Places.{some_is}
+use Rattle.cas_world_calls.specs.Council.{due_key, plan_view}
+use Rattle.cas_world.specs.Eras.Plans.{IsPartial}
+use Rattle.cas_world.proofs.Eras.Planning.{if_none, none_due}
 use Rattle.cas_world.proofs.world.World.settle_key.Goals as goal
 
 pub returns-in-Some-clause-none : goal.returns-in-Some-clause-none

@@ -1,17 +1,17 @@
 use Rattle.std.proofs.Common.{◌≡◌, ◌<◌, ◌+◌, ℕ, length, map, refl, sym, ap, subst, arith}
-use Rattle.cas_cluster.specs.Step as step
-use Rattle.cas_cluster.specs.Step.{StepStray}
-use Rattle.cas_cluster.specs.StepCalls.{most_marks}
-use Rattle.cas_cluster.specs.StepFrames.{FindsNoRoom}
-use Rattle.cas_cluster.specs.View.{View, meaning, reserved_of, reserved_in_all}
-use Rattle.cas_cluster.proofs.SafeSteps.{steps_are_safe}
-use Rattle.cas_cluster.specs.Council.{reserved_by}
-use Rattle.cas_calls.specs.Council.{council_view}
-use Rattle.cas_world.specs.Serve.{shelves, KeepsAll}
-use Rattle.cas_world.specs.Stray.{LetsIn}
+use Rattle.cas_model.specs.Step as step
+use Rattle.cas_model.specs.Step.{StepStray}
+use Rattle.cas_model.specs.Calls.Step.{most_marks}
+use Rattle.cas_model.specs.Frames.Step.{FindsNoRoom}
+use Rattle.cas_model.specs.View.{View, meaning, reserved_of, reserved_in_all}
+use Rattle.cas_model.proofs.Safety.Steps.{steps_are_safe}
+use Rattle.cas_model.specs.Council.{reserved_by}
+use Rattle.cas_world_calls.specs.Council.{council_view}
+use Rattle.cas_world.specs.Frames.Serve.{shelves, KeepsAll}
+use Rattle.cas_world.specs.Frames.Stray.{LetsIn}
 use Rattle.cas_world.specs.World.{view_of, caller_view}
 use Rattle.cas_world.proofs.Parts.{seen_from, remembered_then}
-use Rattle.cas_world.proofs.Strays.{reserved_is, reserved_fits, counted, few_counted, stray_step, strayed_kept, no_room, no_room_kept}
+use Rattle.cas_world.proofs.Frames.Strays.{reserved_is, reserved_fits, counted, few_counted, stray_step, strayed_kept, no_room, no_room_kept}
 use Rattle.cas_world.proofs.world.World.stray.Given.{Over}
 use Rattle.cas_world.proofs.world.World.stray.Goals as goal
 use Rattle.cas_world.proofs.world.World.stray.Goals.{in-Ok, in-Err}

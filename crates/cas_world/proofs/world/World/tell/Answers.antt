@@ -1,21 +1,21 @@
 use Rattle.cas_record.specs.declared.operator.OpAnswer.{OpAnswer}
-use Rattle.cas_cluster.proofs.CollectLaws.{collected_floors}
-use Rattle.cas_cluster.proofs.Finishing.{finished_have_entered}
-use Rattle.cas_cluster.specs.SafeLaws.{HaveEnteredIts}
-use Rattle.cas_cluster.specs.CollectLaws.{HasItsFloor}
-use Rattle.cas_cluster.specs.Council.{Council}
-use Rattle.cas_cluster.specs.StepCouncil.{IsCollectedBy, IsFinishedBy, told_marks}
+use Rattle.cas_model.proofs.Collection.Laws.{collected_floors}
+use Rattle.cas_model.proofs.Eras.Finishing.{finished_have_entered}
+use Rattle.cas_model.specs.SafeLaws.{HaveEnteredIts}
+use Rattle.cas_model.specs.Collection.Laws.{HasItsFloor}
+use Rattle.cas_model.specs.Council.{Council}
+use Rattle.cas_model.specs.Exchanges.Step.{IsCollectedBy, IsFinishedBy, told_marks}
 use Rattle.std.proofs.Common.{◌++◌, Option, refl, sym, ap, subst, reverse, ◌∙◌, arith}
 use Rattle.std.specs.Prelude.{option_map}
-use Rattle.cas_cluster.specs.Council.{reserved_by, reserved_for_order}
-use Rattle.cas_cluster.specs.Step as step
-use Rattle.cas_cluster.specs.Step.{Step}
-use Rattle.cas_cluster.specs.View.{View, meaning}
-use Rattle.cas_cluster.proofs.SafeSteps.{steps_are_safe}
-use Rattle.cas_calls.specs.Council.{council_view, order_view, concluded}
+use Rattle.cas_model.specs.Council.{reserved_by, reserved_for_order}
+use Rattle.cas_model.specs.Step as step
+use Rattle.cas_model.specs.Step.{Step}
+use Rattle.cas_model.specs.View.{View, meaning}
+use Rattle.cas_model.proofs.Safety.Steps.{steps_are_safe}
+use Rattle.cas_world_calls.specs.Council.{council_view, order_view, concluded}
 use Rattle.cas_world.specs.World.{view_of}
-use Rattle.cas_calls.specs.declared.council.Order.{Order}
-use Rattle.cas_world.proofs.Exchanges.{council_world, may_tell, may_close, over_there, plain_there, told_step, concluded_reserves}
+use Rattle.cas_world_calls.specs.declared.council.Order.{Order}
+use Rattle.cas_world.proofs.Exchanges.Exchanges.{council_world, may_tell, may_close, over_there, plain_there, told_step, concluded_reserves}
 use Rattle.cas_world.proofs.Parts.{seen_from, remembered_then}
 use Rattle.cas_world.proofs.world.World.tell.Given.{Over}
 use Rattle.cas_world.proofs.world.World.tell.Goals as goal

@@ -1,9 +1,9 @@
 use Rattle.std.proofs.Common.{◌∙◌, sym, ap, subst}
-use Rattle.cas_cluster.specs.StepCouncil.{StepTurnExchange, told_view}
-use Rattle.cas_cluster.specs.StepFrames.{FindsNoRoom}
-use Rattle.cas_cluster.specs.View.{View, meaning}
+use Rattle.cas_model.specs.Exchanges.Step.{StepTurnExchange, told_view}
+use Rattle.cas_model.specs.Frames.Step.{FindsNoRoom}
+use Rattle.cas_model.specs.View.{View, meaning}
 use Rattle.cas_world.specs.World.{view_of}
-use Rattle.cas_world.proofs.Exchanges.{asking, holds, told_world, told_seen, some_there}
+use Rattle.cas_world.proofs.Exchanges.Exchanges.{asking, holds, told_world, told_seen, some_there}
 use Rattle.cas_world.proofs.world.World.turn_exchange.Goals as goal
 
 pub returns-in-Held-clause-ok : goal.returns-in-Held-clause-ok

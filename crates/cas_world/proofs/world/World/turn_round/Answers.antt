@@ -1,15 +1,15 @@
 use Rattle.std.proofs.Common.{ℕ, List, false, slice_set, sym, subst, ◌∙◌}
-use Rattle.cas_cluster.specs.Step as step
-use Rattle.cas_cluster.specs.Step.{StepTurn, StepRefuseTurn}
-use Rattle.cas_cluster.proofs.SafeSteps.{steps_are_safe}
+use Rattle.cas_model.specs.Step as step
+use Rattle.cas_model.specs.Step.{StepTurn, StepRefuseTurn}
+use Rattle.cas_model.proofs.Safety.Steps.{steps_are_safe}
 use Rattle.cas_flow.specs.Flow.{FlowView}
 use Rattle.cas_proposer.specs.Desk.{DeskView}
 use Rattle.cas_record.specs.Book.{Book}
-use Rattle.cas_calls.specs.declared.call.Caller.{Caller}
+use Rattle.cas_world_calls.specs.declared.call.Caller.{Caller}
 use Rattle.cas_world.specs.World.{view_of, IsWorld}
 use Rattle.cas_world.proofs.Parts.{seen_from, remembered_then}
-use Rattle.cas_cluster.specs.View.{View, meaning}
-use Rattle.cas_world.proofs.Turns.{turning, open_in, may_mark, has_room, holds, loses, place_in, desk_in, harm_kept, handles, handled_kept, told_caller, may_tell, IsRefused, refused, refused_step, refused_kept}
+use Rattle.cas_model.specs.View.{View, meaning}
+use Rattle.cas_world.proofs.Frames.Turns.{turning, open_in, may_mark, has_room, holds, loses, place_in, desk_in, harm_kept, handles, handled_kept, told_caller, may_tell, IsRefused, refused, refused_step, refused_kept}
 use Rattle.cas_world.proofs.world.World.turn_round.Goals as goal
 
 -- src/turn.rt:43:27

@@ -1,11 +1,11 @@
 use Rattle.std.proofs.Common.{◌≡◌, ℕ, sym, ap, subst, refl, ◌∙◌}
-use Rattle.cas_cluster.specs.StepPlans as plans
-use Rattle.cas_cluster.specs.StepPlans.{Welcomes}
-use Rattle.cas_cluster.specs.View.{IsAt, meaning}
-use Rattle.cas_world.specs.Plans.{asked_to}
+use Rattle.cas_model.specs.Eras.Step as plans
+use Rattle.cas_model.specs.Eras.Step.{Welcomes}
+use Rattle.cas_model.specs.View.{IsAt, meaning}
+use Rattle.cas_world.specs.Eras.Plans.{asked_to}
 use Rattle.cas_world.specs.declared.plans.PlanKind.{PlanKind}
-use Rattle.cas_world.specs.Serve.{shelves}
-use Rattle.cas_world.proofs.Planning.{joined_of, one_fault, start_faulted, welcomed}
+use Rattle.cas_world.specs.Frames.Serve.{shelves}
+use Rattle.cas_world.proofs.Eras.Planning.{joined_of, one_fault, start_faulted, welcomed}
 use Rattle.cas_world.proofs.world.World.welcome.Goals as goal
 
 pub returns-in-Ok-clause-welcomes : goal.returns-in-Ok-clause-welcomes

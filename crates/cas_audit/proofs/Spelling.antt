@@ -1,0 +1,10 @@
+pub mod LineByLine
+pub mod MarksBack
+pub mod MemberWords
+pub mod Numbers
+pub mod Parts
+pub mod PartsBack
+pub mod Rising
+pub mod TextRecords
+pub mod TextRuns
+pub mod TextWords

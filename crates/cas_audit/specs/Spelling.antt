@@ -1,0 +1,5 @@
+pub mod Printing
+pub mod Progress
+pub mod Ranges
+pub mod Reading
+pub mod Texts

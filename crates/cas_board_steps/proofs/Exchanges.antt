@@ -1,0 +1,3 @@
+pub mod Councils
+pub mod Operating
+pub mod Probes

@@ -1,0 +1,4 @@
+pub mod Conflicts
+pub mod Deeds
+pub mod Open
+pub mod Stages

@@ -1,0 +1,132 @@
+-- What a hold does for a call of the operator, whose marks are caller 0's, and what of caller 0's own part tells of it.
+use Rattle.std.specs.Prelude.{◌≡◌, ◌≤◌, ⊤, ℕ, ◌+◌, Bool, true, false, List, ◌++◌, length, map, reverse, All, None, Some}
+use Rattle.cas_ballot.specs.Members.{has_member}
+use Rattle.cas_record.specs.Places.{Stands}
+use Rattle.cas_record.specs.declared.answer.Answer.{Answer}
+use Rattle.cas_record.specs.declared.answer.Answer.TheVariants as answer
+use Rattle.cas_record.specs.declared.mark.Acknowledgment.{Acknowledgment}
+use Rattle.cas_record.specs.declared.mark.Mark.{Mark}
+use Rattle.cas_record.specs.declared.mark.Mark.TheVariants.{Acked, Harmed}
+use Rattle.cas_record.specs.declared.operator.Asked.{Asked}
+use Rattle.cas_record.specs.declared.operator.Asked.TheVariants as asked
+use Rattle.cas_record.specs.declared.operator.OpAnswer.{OpAnswer}
+use Rattle.cas_record.specs.declared.operator.OpAnswer.TheVariants as told
+use Rattle.cas_record.specs.declared.operator.Probes.{Probes}
+use Rattle.cas_model.specs.Council.{Probe, ExchangeView, OrderView, Council}
+use Rattle.cas_model.specs.Exchanges.Step.{told_marks}
+use Rattle.cas_model.specs.View.{View}
+use Rattle.cas_world.specs.Eras.Plans.{rescanned_of}
+use Rattle.cas_board_steps.specs.Eras.Counting.{CountsTo, EntersEras, TellsCount}
+use Rattle.cas_board_steps.specs.Kept.{Makes}
+use Rattle.cas_board_steps.specs.Mine.{mine, losses}
+use Rattle.cas_board_steps.specs.Calls.Open.{IsFree}
+use Rattle.cas_board_steps.specs.OwnParts.{asked_of, harms_part, council_part, own_part}
+use Rattle.cas_model_causes.specs.Exchanges.Answering.{silent_in}
+use Rattle.cas_model_causes.specs.Exchanges.Confirmed.{era_marked}
+use Rattle.cas_model_causes.specs.Exchanges.Current.{AreCurrentTells}
+use Rattle.cas_model_causes.specs.Exchanges.Unaged.{AreToldSo}
+
+-- ---- what is open
+-- a call of the operator that was told nothing
+abbrev pub new_order : Asked → OrderView
+new_order asked = record { asked = asked; told = None }
+
+-- the operator's call for this is open, and no exchange, no collection and no caller's call beside it
+pub record HasOrder (asked : Asked) (own : List ℕ) : Type 0 where
+  pub council : Council
+  pub is : own ≡ council_part council
+  pub order : council.order ≡ Some (new_order asked)
+  pub exchange : council.exchange ≡ None
+  pub collection : council.collection ≡ None
+
+-- a probe of the key is open, for which these were asked
+pub record HasProbe (key members own : List ℕ) : Type 0 where
+  pub council : Council
+  pub is : own ≡ council_part council
+  pub order : council.order ≡ Some (new_order (asked.Probe key))
+  pub exchange : ExchangeView
+  pub is_open : council.exchange ≡ Some exchange
+  pub question : exchange.question ≡ Probe key
+  pub asks : asked_of exchange ≡ members
+
+-- of so many of those that it asks a frame was harmed
+pub record HasHarms (harms : ℕ) (own : List ℕ) : Type 0 where
+  pub council : Council
+  pub is : own ≡ council_part council
+  pub exchange : ExchangeView
+  pub is_open : council.exchange ≡ Some exchange
+  pub harmed : harms_part exchange.question exchange.harmed ≡ harms
+
+-- the members were asked when at least so many marks had been made
+pub record WasAskedBehind (many : ℕ) (own : List ℕ) : Type 0 where
+  pub council : Council
+  pub is : own ≡ council_part council
+  pub exchange : ExchangeView
+  pub is_open : council.exchange ≡ Some exchange
+  pub behind : many ≤ exchange.since
+
+-- ---- what a hold does
+-- the operator's call goes on: it makes such marks, marks at most so many losses, and counts what a change of membership proposes anew, or
+-- leaves that count where no proposer enters an era on its way
+pub record OperatesIn {S V : Type 0} (such : Mark → Type 0) (most : ℕ) (old new : View S V) : Type 0 where
+  pub marks : List Mark
+  pub makes : Makes 0 old new marks
+  pub all_such : All such (mine 0 marks)
+  pub few : losses (mine 0 marks) ≤ most
+  pub counts : EntersEras such → CountsTo (rescanned_of new.council.plan) old new
+  pub keeps : (EntersEras such → ⊥) → rescanned_of new.council.plan ≡ rescanned_of old.council.plan
+
+-- it ends, and is told this, which is marked last but for what a probe found
+pub record IsToldIn {S V : Type 0} (asked : Asked) (such : Mark → Type 0) (most : ℕ) (old new : View S V) (answer : OpAnswer) : Type 0 where
+  pub marks : List Mark
+  pub makes : Makes 0 old new (marks ++ told_marks asked answer)
+  pub all_such : All such (mine 0 marks)
+  pub few : losses (mine 0 marks) ≤ most
+  pub is_free : IsFree (own_part new 0)
+  pub counts : EntersEras such → TellsCount answer old new
+  pub keeps : (EntersEras such → ⊥) → rescanned_of new.council.plan ≡ rescanned_of old.council.plan
+
+-- ---- a probe
+-- it tells of a frame that was harmed within an exchange, which is of no caller's call
+abbrev pub IsAskingHarm : Mark → Type 0
+IsAskingHarm (Harmed caller call down) = call ≡ 0
+IsAskingHarm other = ⊥
+
+-- what may stop it
+abbrev pub stops_probe : Answer → Bool
+stops_probe answer.Down = true
+stops_probe answer.Crashed = true
+stops_probe answer.Spent = true
+stops_probe answer.VaultFault = true
+stops_probe answer.RecordFull = true
+stops_probe (answer.NoMemory proposed) = true
+stops_probe other = false
+
+-- whom probes name, in their order
+abbrev pub named_in : Probes → List ℕ
+named_in found = map (λ probe. probe.acceptor) found.probes.items
+
+-- it is answered with what each of the members told of the key, or with what stopped it
+abbrev pub IsProbeAnswer : List ℕ → List ℕ → OpAnswer → Type 0
+IsProbeAnswer key members (told.Probed other found) = (other ≡ key) × (named_in found ≡ members)
+IsProbeAnswer key members (told.Stopped why) = stops_probe why ≡ true
+IsProbeAnswer key members other = ⊥
+
+-- no more of them told nothing than this
+abbrev pub IsSilentAtMost : ℕ → OpAnswer → Type 0
+IsSilentAtMost most (told.Probed key found) = silent_in found.probes.items ≤ most
+IsSilentAtMost most other = ⊤
+
+-- whoever confirmed what was acknowledged in the era that proposer 0 was marked last as having entered is one of these
+abbrev pub AreAllConfirmers : List Mark → List ℕ → Type 0
+AreAllConfirmers marks asked = (a : Acknowledgment) (acceptor : ℕ) → Stands (Acked a) marks → a.era ≡ era_marked 0 marks → has_member a.by acceptor ≡ true → has_member asked acceptor ≡ true
+
+-- Each that told anything told what it keeps of the key, which is so by all these marks, and at or above what it had confirmed among those
+-- before; and all such confirmers are asked.
+abbrev pub IsTrueProbe : List Mark → List Mark → OpAnswer → Type 0
+IsTrueProbe before all (told.Probed key found) = AreToldSo (reverse all) key found.probes.items × AreCurrentTells (reverse all) before key found.probes.items × AreAllConfirmers (reverse all) (named_in found)
+IsTrueProbe before all other = ⊤
+
+-- No more of them are harmed as a hold goes on with it than marks of caller 0 were made.
+abbrev pub MarksHarms : {S V : Type 0} → View S V → View S V → Type 0
+MarksHarms {S} {V} old new = (harms : ℕ) → HasHarms harms (own_part old 0) → (more : ℕ) × HasHarms more (own_part new 0) × (more + length (mine 0 old.marks) ≤ harms + length (mine 0 new.marks))

@@ -1,6 +1,0 @@
-use Rattle.cas_cluster.specs.View.{meaning}
-use Rattle.cas_causes.proofs.Ends.{begin_afresh}
-use Rattle.cas_causes.proofs.rounds_begin_afresh.Goals as goal
-
-pub returns : goal.returns
-returns g c = begin_afresh (meaning g.S.Shelf.contents g.S.Shelf.tells g.S.Shelf.may_leave g.S.Shelf.fault_count g.V.Disk.tells g.V.Disk.may_leave g.V.Disk.fault_count)

@@ -1,5 +1,0 @@
-use Rattle.cas_causes.proofs.Answering.{silent_are_harmed}
-use Rattle.cas_causes.proofs.silent_are_harmed.Goals as goal
-
-pub returns : goal.returns
-returns g c = silent_are_harmed

@@ -1,5 +1,0 @@
-use Rattle.cas_cluster.proofs.Answered as answered
-use Rattle.cas_cluster.proofs.laws.acceptors_answer_lawfully.Goals as goal
-
-pub returns : goal.returns
-returns c cluster log old new request reply = answered.answers cluster old new request reply

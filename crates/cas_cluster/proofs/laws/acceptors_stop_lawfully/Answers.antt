@@ -1,5 +1,0 @@
-use Rattle.cas_cluster.proofs.Staying as staying
-use Rattle.cas_cluster.proofs.laws.acceptors_stop_lawfully.Goals as goal
-
-pub returns : goal.returns
-returns c = staying.stop

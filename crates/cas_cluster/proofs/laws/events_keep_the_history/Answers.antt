@@ -1,5 +1,0 @@
-use Rattle.cas_cluster.proofs.Events as events
-use Rattle.cas_cluster.proofs.laws.events_keep_the_history.Goals as goal
-
-pub returns : goal.returns
-returns c = events.keeps

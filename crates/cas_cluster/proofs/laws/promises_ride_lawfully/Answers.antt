@@ -1,5 +1,0 @@
-use Rattle.cas_cluster.proofs.Known as known
-use Rattle.cas_cluster.proofs.laws.promises_ride_lawfully.Goals as goal
-
-pub returns : goal.returns
-returns c = known.rides_along

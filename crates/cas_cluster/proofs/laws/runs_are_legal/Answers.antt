@@ -1,5 +1,0 @@
-use Rattle.cas_cluster.proofs.Events as events
-use Rattle.cas_cluster.proofs.laws.runs_are_legal.Goals as goal
-
-pub returns : goal.returns
-returns c = events.runs

@@ -1,5 +1,0 @@
-use Rattle.cas_cluster.proofs.Witness as witness
-use Rattle.cas_cluster.proofs.laws.some_run_is_done.Goals as goal
-
-pub returns : goal.returns
-returns c = witness.done

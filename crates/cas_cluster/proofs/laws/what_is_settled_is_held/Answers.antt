@@ -1,5 +1,0 @@
-use Rattle.cas_cluster.proofs.Held as held
-use Rattle.cas_cluster.proofs.laws.what_is_settled_is_held.Goals as goal
-
-pub returns : goal.returns
-returns c = held.settled

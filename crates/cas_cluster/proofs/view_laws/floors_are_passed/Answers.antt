@@ -1,6 +1,0 @@
-use Rattle.cas_cluster.specs.View.{meaning}
-use Rattle.cas_cluster.proofs.ViewLaws as laws
-use Rattle.cas_cluster.proofs.view_laws.floors_are_passed.Goals as goal
-
-pub returns : goal.returns
-returns g c = laws.floors_passed (meaning g.S.Shelf.contents g.S.Shelf.tells g.S.Shelf.may_leave g.S.Shelf.fault_count g.V.Disk.tells g.V.Disk.may_leave g.V.Disk.fault_count)

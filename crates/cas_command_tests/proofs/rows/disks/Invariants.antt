@@ -1,5 +1,0 @@
-use Rattle.std.proofs.Common.{◌≡◌, vec_len}
-use Rattle.cas_command_tests.proofs.rows.disks.Given as goal
-
-abbrev pub invariant-loop-number : goal.invariant-loop-number
-invariant-loop-number l = record { made : vec_len l.disks ≡ l.number }

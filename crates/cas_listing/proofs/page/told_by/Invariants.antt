@@ -1,7 +1,0 @@
-use Rattle.std.proofs.Common.{◌≡◌, drop}
-use Rattle.cas_cluster.specs.Listings.{told_by}
-use Rattle.cas_listing.proofs.page.told_by.Given as goal
-
--- none of the probes so far is the member's
-abbrev pub invariant-loop-probe : goal.invariant-loop-probe
-invariant-loop-probe l = told_by l.told l.member ≡ told_by (drop l.probe-index l.told) l.member

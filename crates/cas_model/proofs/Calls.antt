@@ -1,0 +1,11 @@
+pub mod Asks
+pub mod Beginnings
+pub mod Caches
+pub mod Counts
+pub mod Draws
+pub mod Ends
+pub mod Proposals
+pub mod Rounds
+pub mod Safe
+pub mod SafeRounds
+pub mod Steps

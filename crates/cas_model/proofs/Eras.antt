@@ -1,0 +1,16 @@
+pub mod CourseSteps
+pub mod Courses
+pub mod Finishing
+pub mod InEras
+pub mod ListingExamples
+pub mod Listings
+pub mod OnCourse
+pub mod OpeningPlans
+pub mod Plans
+pub mod Remaining
+pub mod Rescanning
+pub mod Safe
+pub mod SafeListings
+pub mod Steps
+pub mod Widening
+pub mod Wider

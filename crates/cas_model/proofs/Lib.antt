@@ -1,0 +1,16 @@
+pub mod Around
+pub mod Calls
+pub mod Collection
+pub mod Eras
+pub mod Exchanges
+pub mod Frames
+pub mod Needed
+pub mod Openings
+pub mod Others
+pub mod Places
+pub mod Remembering
+pub mod Safety
+pub mod Steps
+pub mod Stops
+pub mod ViewLaws
+pub mod Witness

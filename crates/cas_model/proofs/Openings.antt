@@ -1,0 +1,3 @@
+pub mod FirstLogs
+pub mod Opens
+pub mod Safe

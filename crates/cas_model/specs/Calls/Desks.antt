@@ -1,0 +1,159 @@
+-- What a step does to a desk and its vault.
+use Rattle.std.specs.Prelude.{◌≡◌, ◌⊎◌, ℕ, ◌+◌, ◌≤◌, max, true, false, List, [], Option, None, Some}
+use Rattle.cas_base.specs.Faults.{Rose}
+use Rattle.cas_ballot.specs.declared.ballot.Ballot.{Ballot}
+use Rattle.cas_ballot.specs.Ballot.{FitsBallot}
+use Rattle.cas_cache.specs.declared.ready.Ready.{Ready}
+use Rattle.cas_cache.specs.Entries.{promise_at, without}
+use Rattle.cas_proposer.specs.Desk.{DeskView, Draws, ShowsTheSame, IsCrashed, IsOpened, cache_after, cache_without, counter_after, counter_without}
+use Rattle.cas_proposer.specs.declared.began.Began.TheVariants as began
+use Rattle.cas_proposer.specs.declared.round.Round.{Round}
+use Rattle.cas_proposer.specs.Round.{Hears, TurnsToAccept}
+use Rattle.cas_quorum.specs.declared.era.Era.{Era}
+use Rattle.cas_slot.specs.declared.message.Reply.{Reply}
+use Rattle.cas_vault.specs.declared.vault.Vault.{Vault}
+use Rattle.cas_vault.specs.Vault.{disk_of, counter_of, kept_of, IsPast}
+use Rattle.cas_model.specs.Parties.{IsWithin, IsAged}
+use Rattle.cas_model.specs.View.{DiskMeaning}
+
+-- ---- vaults
+-- the vault is past all that it was past, at the ages that it was, and in the same eras, wherever it stops; the count of its disk's faults
+-- does not fall
+pub record GoesOn {V : Type 0} (m : DiskMeaning V) (old new : Vault V) : Type 0 where
+  pub still_past : m.tells → (n : ℕ) → IsPast m.may_leave n old → IsPast m.may_leave n new
+  pub ages : m.tells → (age : ℕ) → IsAged m age old → IsAged m age new
+  pub era : m.tells → (era other : ℕ) → IsWithin m era other old → IsWithin m era other new
+  pub never_falls : m.faults (disk_of old) ≤ m.faults (disk_of new)
+
+-- a ballot of this proposer was drawn, and is never drawn again
+pub record HasDrawn {V : Type 0} (m : DiskMeaning V) (id : ℕ) (old new : Vault V) (ballot : Ballot) : Type 0 where
+  pub draws : Draws id old new ballot
+  pub fits : FitsBallot ballot
+  pub past : m.tells → IsPast m.may_leave ballot.counter new
+  pub goes_on : GoesOn m old new
+
+-- what it shows stays
+pub record HasKept {V : Type 0} (m : DiskMeaning V) (old new : Vault V) : Type 0 where
+  pub shows : ShowsTheSame old new
+  pub goes_on : GoesOn m old new
+
+-- the ballot that may ride: one that was drawn, or none
+abbrev pub MayHaveDrawn : {V : Type 0} → DiskMeaning V → ℕ → Vault V → Vault V → Option Ballot → Type 0
+MayHaveDrawn m id old new None = HasKept m old new
+MayHaveDrawn m id old new (Some ballot) = HasDrawn m id old new ballot
+
+-- ---- rounds
+-- What asks bears the age that the desk shows as it begins, and its vault keeps that age then, wherever it stops.
+
+-- a round begins at a ballot that is drawn
+pub record BeginsToPrepare {V : Type 0} (m : DiskMeaning V) (era : Era) (key : List ℕ) (old new : DeskView V) (ballot : Ballot) (round : Round) : Type 0 where
+  pub none_open : old.round ≡ None
+  pub no_promise : promise_at key old.cache ≡ None
+  pub drawn : HasDrawn m old.id old.vault new.vault ballot
+  pub aged : m.tells → IsAged m (kept_of old.vault).age new.vault
+  pub opened : IsOpened key era (began.Prepare ballot) round
+  pub desk : new ≡ record old { vault = new.vault; cache = without key old.cache; round = Some round }
+
+-- a round begins by a promise, and goes on with the ballot that rides with its accepts
+pub record BeginsByPromise {V : Type 0} (m : DiskMeaning V) (era : Era) (key : List ℕ) (old new : DeskView V) (ready : Ready) (ride : Option Ballot) (round : Round) : Type 0 where
+  pub none_open : old.round ≡ None
+  pub promise : promise_at key old.cache ≡ Some ready
+  pub drawn : MayHaveDrawn m old.id old.vault new.vault ride
+  pub aged : m.tells → IsAged m (kept_of old.vault).age new.vault
+  pub opened : IsOpened key era (began.Accept ready) round
+  pub desk : new ≡ record old { vault = new.vault; cache = without key old.cache; round = Some (record round { ride = ride }) }
+
+-- its prepare phase ends and its accept phase begins, with the ballot that rides
+pub record TurnsWith {V : Type 0} (m : DiskMeaning V) (old new : DeskView V) (round turned : Round) (ride : Option Ballot) : Type 0 where
+  pub turns : TurnsToAccept round turned
+  pub drawn : MayHaveDrawn m old.id old.vault new.vault ride
+  pub aged : m.tells → IsAged m (kept_of old.vault).age new.vault
+  pub desk : new ≡ record old { vault = new.vault; round = Some (record turned { ride = ride }) }
+
+-- a reply is heard
+pub record HearsReply {V : Type 0} (old new : DeskView V) (round heard : Round) (reply : Reply) : Type 0 where
+  pub hears : Hears round reply heard
+  pub desk : new ≡ record old { round = Some heard }
+
+-- the open round ends: the counter moves up to what it met, and the promise that it offers may be kept
+pub record EndsRound {V : Type 0} (m : DiskMeaning V) (old new : DeskView V) (round : Round) (offered : Option Ready) : Type 0 where
+  pub desk : new ≡ record old { vault = new.vault; cache = cache_after round offered old.cache; round = None }
+  pub counter : counter_of new.vault ≡ counter_after (counter_of old.vault) round.met
+  pub goes_on : GoesOn m old.vault new.vault
+
+-- ---- failures
+-- its vault failed in a draw, and the count of its disk's faults rose: a round that was open ends
+pub record FailsToDraw {V : Type 0} (m : DiskMeaning V) (key : List ℕ) (old new : DeskView V) : Type 0 where
+  pub desk : new ≡ record old { vault = new.vault; cache = new.cache; round = None; down = true }
+  pub cache : (new.cache ≡ old.cache) ⊎ (new.cache ≡ without key old.cache)
+  pub counter : counter_of new.vault ≡ counter_without old.round (counter_of old.vault)
+  pub kept : kept_of new.vault ≡ kept_of old.vault
+  pub goes_on : GoesOn m old.vault new.vault
+  pub faulted : Rose (m.faults (disk_of old.vault)) (m.faults (disk_of new.vault))
+
+-- No memory was found: a ballot may be drawn, the promise of the key may be gone, and a round that was open ends.
+pub record LosesMemory {V : Type 0} (m : DiskMeaning V) (key : List ℕ) (old new : DeskView V) (ballot : Option Ballot) : Type 0 where
+  pub desk : new ≡ record old { vault = new.vault; cache = new.cache; round = None }
+  pub cache : (new.cache ≡ old.cache) ⊎ (new.cache ≡ without key old.cache)
+  pub middle : Vault V
+  pub drawn : MayHaveDrawn m old.id old.vault middle ballot
+  pub counter : counter_of new.vault ≡ counter_without old.round (counter_of middle)
+  pub kept : kept_of new.vault ≡ kept_of middle
+  pub goes_on : GoesOn m middle new.vault
+
+pub record Crashes {V : Type 0} (m : DiskMeaning V) (old new : DeskView V) : Type 0 where
+  pub crashed : IsCrashed old new
+  pub goes_on : GoesOn m old.vault new.vault
+
+-- ---- eras
+-- it works in this era from now on: no promise stays, and a round that was open ends
+pub record EntersEra {V : Type 0} (m : DiskMeaning V) (era : Era) (old new : DeskView V) : Type 0 where
+  pub up : old.down ≡ false
+  pub desk : new ≡ record old { vault = new.vault; cache = []; round = None }
+  pub still_past : m.tells → (n : ℕ) → IsPast m.may_leave n old.vault → IsPast m.may_leave n new.vault
+  pub ages : m.tells → (age : ℕ) → IsAged m age old.vault → IsAged m age new.vault
+  pub in_era : m.tells → IsWithin m era.number era.number new.vault
+  pub never_falls : m.faults (disk_of old.vault) ≤ m.faults (disk_of new.vault)
+
+-- its vault failed within that, and the count of its disk's faults rose: it is down, and a crash leaves the vault in the era or as it was
+pub record FailsToEnter {V : Type 0} (m : DiskMeaning V) (era : Era) (old new : DeskView V) : Type 0 where
+  pub up : old.down ≡ false
+  pub crashed : IsCrashed old new
+  pub still_past : m.tells → (n : ℕ) → IsPast m.may_leave n old.vault → IsPast m.may_leave n new.vault
+  pub ages : m.tells → (age : ℕ) → IsAged m age old.vault → IsAged m age new.vault
+  pub torn : m.tells → (number : ℕ) → IsWithin m number number old.vault → IsWithin m number era.number new.vault
+  pub faulted : Rose (m.faults (disk_of old.vault)) (m.faults (disk_of new.vault))
+
+-- ---- ages
+-- it is renewed to this age before the key's tombstone is removed: a round that was open ends, and the key has no promise
+pub record Renews {V : Type 0} (m : DiskMeaning V) (key : List ℕ) (tomb : Ballot) (age : ℕ) (old new : DeskView V) : Type 0 where
+  pub up : old.down ≡ false
+  pub desk : new ≡ record old { vault = new.vault; cache = without key (cache_without old.round old.cache); round = None }
+  pub one_more : age ≡ (kept_of old.vault).age + 1
+  pub past : m.tells → IsPast m.may_leave tomb.counter new.vault
+  pub aged : m.tells → IsAged m age new.vault
+  pub goes_on : GoesOn m old.vault new.vault
+
+-- its vault failed within that, and the count of its disk's faults rose: it is down, and a crash leaves the vault at the new age or as it was
+pub record FailsToRenew {V : Type 0} (m : DiskMeaning V) (old new : DeskView V) : Type 0 where
+  pub up : old.down ≡ false
+  pub crashed : IsCrashed old new
+  pub goes_on : GoesOn m old.vault new.vault
+  pub faulted : Rose (m.faults (disk_of old.vault)) (m.faults (disk_of new.vault))
+
+-- no memory was found for that: the counter is at least the tombstone's, and all else stays
+pub record FindsNoAge {V : Type 0} (m : DiskMeaning V) (tomb : Ballot) (old new : DeskView V) : Type 0 where
+  pub desk : new ≡ record old { vault = new.vault }
+  pub counter : counter_of new.vault ≡ max (counter_of old.vault) tomb.counter
+  pub kept : kept_of new.vault ≡ kept_of old.vault
+  pub goes_on : GoesOn m old.vault new.vault
+
+-- ---- restarts
+-- A desk is up again, in the era that its vault showed, or stays down.
+pub record Restarts {V : Type 0} (m : DiskMeaning V) (old new : DeskView V) : Type 0 where
+  pub desk : new ≡ record old { vault = new.vault; down = new.down }
+  pub still_past : m.tells → (n : ℕ) → IsPast m.may_leave n old.vault → IsPast m.may_leave n new.vault
+  pub ages : m.tells → (age : ℕ) → IsAged m age old.vault → IsAged m age new.vault
+  pub shows : new.down ≡ false → m.tells → (era other : ℕ) → IsWithin m era other old.vault → IsWithin m era era new.vault ⊎ IsWithin m other other new.vault
+  pub stays : new.down ≡ true → m.tells → (era other : ℕ) → IsWithin m era other old.vault → IsWithin m era other new.vault
+  pub never_falls : m.faults (disk_of old.vault) ≤ m.faults (disk_of new.vault)

@@ -1,0 +1,4 @@
+pub mod Laws
+pub mod Logged
+pub mod State
+pub mod Step

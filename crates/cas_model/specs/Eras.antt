@@ -1,0 +1,5 @@
+pub mod Course
+pub mod Listed
+pub mod Listings
+pub mod Remaining
+pub mod Step

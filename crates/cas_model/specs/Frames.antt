@@ -1,0 +1,2 @@
+pub mod Acceptors
+pub mod Step

@@ -1,0 +1,16 @@
+pub mod Calls
+pub mod Collection
+pub mod Council
+pub mod Eras
+pub mod Exchanges
+pub mod Frames
+pub mod History
+pub mod Laws
+pub mod Openings
+pub mod Parties
+pub mod Safe
+pub mod SafeLaws
+pub mod Step
+pub mod Stops
+pub mod View
+pub mod Witness

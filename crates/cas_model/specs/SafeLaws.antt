@@ -1,0 +1,59 @@
+-- What is true of every cluster as it is seen, whatever its disks tell.
+use Rattle.std.specs.Prelude.{◌≡◌, ⊤, ◌<◌, ◌≤◌, ℕ, suc, List, length, reverse}
+use Rattle.cas_record.specs.Places.{Stands}
+use Rattle.cas_record.specs.declared.mark.Mark.{Mark}
+use Rattle.cas_record.specs.declared.mark.Mark.TheVariants.{EraEntered}
+use Rattle.cas_record.specs.declared.operator.OpAnswer.{OpAnswer}
+use Rattle.cas_record.specs.declared.operator.OpAnswer.TheVariants as told
+use Rattle.cas_model.specs.Openings.{Opening, IsOpeningOn}
+use Rattle.cas_model.specs.Safe.{IsSafe}
+use Rattle.cas_model.specs.Council.{Question, OrderView}
+use Rattle.cas_model.specs.Step.{Event, Step, IsOpening}
+use Rattle.cas_model.specs.Calls.Step.{IsFull}
+use Rattle.cas_model.specs.Exchanges.Step.{HasRoomToAsk, IsFinishedBy}
+use Rattle.cas_model.specs.View.{Meaning, View, reserved_in_all}
+
+-- There is a place for each acceptor that a cluster may have, and for each proposer and its caller.
+pub record HasPlaces {S V : Type 0} (view : View S V) : Type 0 where
+  pub acceptors : length view.acceptors ≡ 64
+  pub desks : length view.desks ≡ suc view.greatest
+  pub callers : length view.callers ≡ suc view.greatest
+
+-- A cluster that has just opened with a place for each party is safe.
+abbrev pub OpeningsAreSafe : {S V : Type 0} → Meaning S V → Type 0
+OpeningsAreSafe {S} {V} m = (members : List ℕ) (view : View S V) → IsOpening m members view → HasPlaces view → IsSafe view
+
+-- And so is one that has just opened on what stood before.
+abbrev pub OpeningsOnAreSafe : {S V : Type 0} → Meaning S V → Type 0
+OpeningsOnAreSafe {S} {V} m = (members used : List ℕ) (floors : List Opening) (view : View S V) → IsOpeningOn m members used floors view → HasPlaces view → IsSafe view
+
+-- Whatever is called on a cluster that is safe, it is safe then.
+abbrev pub StepsAreSafe : {S V : Type 0} → Meaning S V → Type 0
+StepsAreSafe {S} {V} m = (old : View S V) (event : Event) (new : View S V) → IsSafe old → Step m old event new → IsSafe new
+
+-- All that is reserved is less than 1,000 marks.
+abbrev pub LittleIsReserved : Type 0 → Type 0 → Type 0
+LittleIsReserved S V = (view : View S V) → IsSafe view → reserved_in_all view < 1000
+
+-- Where the marks of a round do not fit, more than 999,000 are made.
+abbrev pub FullForRounds : Type 0 → Type 0 → Type 0
+FullForRounds S V = (view : View S V) (id : ℕ) → IsSafe view → IsFull view id → 999000 < length view.marks
+
+-- And so it is where those of an exchange do not fit.
+abbrev pub FullForExchanges : Type 0 → Type 0 → Type 0
+FullForExchanges S V = (view : View S V) (question : Question) → IsSafe view → (HasRoomToAsk view question → ⊥) → 999000 < length view.marks
+
+-- ---- what the operator is told
+-- each proposer up to the greatest is marked as having entered the era
+abbrev pub HaveAllEntered : ℕ → ℕ → List Mark → Type 0
+HaveAllEntered greatest era marks = (proposer : ℕ) → proposer ≤ greatest → Stands (EraEntered proposer era) marks
+
+-- and so it is with the era that is told of a join or a leave
+abbrev pub HaveEnteredIts : ℕ → OpAnswer → List Mark → Type 0
+HaveEnteredIts greatest (told.Joined id era rescanned) marks = HaveAllEntered greatest era marks
+HaveEnteredIts greatest (told.Left id era rescanned) marks = HaveAllEntered greatest era marks
+HaveEnteredIts greatest other marks = ⊤
+
+-- It is where a change of membership is at its end.
+abbrev pub FinishedHaveEntered : Type 0 → Type 0 → Type 0
+FinishedHaveEntered S V = (view : View S V) (order : OrderView) (answer : OpAnswer) → IsSafe view → IsFinishedBy view.council order answer → HaveEnteredIts view.greatest answer (reverse view.marks)

@@ -1,0 +1,10 @@
+pub mod Answering
+pub mod Asking
+pub mod Confirmed
+pub mod Current
+pub mod Probed
+pub mod Tellers
+pub mod TooOld
+pub mod Touched
+pub mod Unaged
+pub mod Vaults

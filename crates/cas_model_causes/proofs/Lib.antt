@@ -1,0 +1,5 @@
+pub mod Calls
+pub mod Collection
+pub mod Eras
+pub mod Exchanges
+pub mod Marks

@@ -1,0 +1,4 @@
+pub mod Causes
+pub mod Rounds
+pub mod Told
+pub mod Undisturbed

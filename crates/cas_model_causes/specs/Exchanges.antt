@@ -1,0 +1,5 @@
+pub mod Answering
+pub mod Confirmed
+pub mod Current
+pub mod Probed
+pub mod Unaged

@@ -1,0 +1,4 @@
+pub mod Calls
+pub mod Collection
+pub mod Eras
+pub mod Exchanges

@@ -1,0 +1,15 @@
+pub mod Along
+pub mod Answered
+pub mod Deeds
+pub mod Events
+pub mod Growing
+pub mod Handling
+pub mod Held
+pub mod Known
+pub mod Pages
+pub mod Proposes
+pub mod Proposing
+pub mod Rides
+pub mod SlotChanges
+pub mod Staying
+pub mod Witness

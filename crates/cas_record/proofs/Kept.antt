@@ -1,0 +1,4 @@
+pub mod Homes
+pub mod Rows
+pub mod Stands
+pub mod Tables

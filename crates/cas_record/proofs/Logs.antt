@@ -1,0 +1,16 @@
+pub mod Agreement
+pub mod Checks
+pub mod Clusters
+pub mod Eras
+pub mod Floors
+pub mod Grants
+pub mod Leaving
+pub mod Lemmas
+pub mod Listings
+pub mod Openings
+pub mod Orders
+pub mod Quorums
+pub mod Reasons
+pub mod Removals
+pub mod Slots
+pub mod Witness

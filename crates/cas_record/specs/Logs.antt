@@ -1,0 +1,5 @@
+pub mod Happening
+pub mod Lawful
+pub mod Listing
+pub mod Orderly
+pub mod Witness

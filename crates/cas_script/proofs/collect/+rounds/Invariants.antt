@@ -1,4 +1,0 @@
-use Rattle.cas_script.proofs.collect.+rounds.Given as goal
-
-abbrev pub decreases-rounds : goal.decreases-rounds
-decreases-rounds g l = l.tries

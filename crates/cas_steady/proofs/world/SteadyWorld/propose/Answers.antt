@@ -1,8 +1,0 @@
-use Rattle.std.proofs.Common.{refl}
-use Rattle.cas_cluster.specs.Step as step
-use Rattle.cas_cluster.specs.View.{meaning}
-use Rattle.cas_steady.proofs.Steps.{steady_then}
-use Rattle.cas_steady.proofs.world.SteadyWorld.propose.Goals as goal
-
-pub invariant_of-self : goal.invariant_of-self
-invariant_of-self g c = steady_then (meaning g.S.Shelf.contents g.S.Shelf.tells g.S.Shelf.may_leave g.S.Shelf.fault_count g.V.Disk.tells g.V.Disk.may_leave g.V.Disk.fault_count) c.self.inside.world (step.Propose c.args.proposer) c.propose.new.self refl c.self.invariant c.propose.ensures.step

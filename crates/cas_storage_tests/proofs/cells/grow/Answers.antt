@@ -1,8 +1,0 @@
-use Rattle.std.proofs.Common.{◌∷◌, [], arith}
-use Rattle.cas_cells.specs.Cells.{cells_of}
-use Rattle.cas_cells.specs.Format.{narrow_in}
-use Rattle.cas_cells.proofs.Places.{fits_narrow}
-use Rattle.cas_storage_tests.proofs.cells.grow.Goals as goal
-
-pub write_spare-requires-clause-fits : goal.write_spare-requires-clause-fits
-write_spare-requires-clause-fits g c = fits_narrow (narrow_in (cells_of c.close_spare.new.self)) 1 (7 ∷ []) (record { not_empty = omega arith; fits = omega arith })

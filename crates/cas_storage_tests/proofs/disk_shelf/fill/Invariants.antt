@@ -1,4 +1,0 @@
-use Rattle.cas_storage_tests.proofs.disk_shelf.fill.Given as goal
-
-abbrev pub invariant-loop-n : goal.invariant-loop-n
-invariant-loop-n g l = g.S.Shelf.is_up l.shelf

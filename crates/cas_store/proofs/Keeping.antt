@@ -1,0 +1,29 @@
+-- What is kept on the shelves of a world is kept on the disks below them.
+use Rattle.std.proofs.Common.{ℕ, List, reverse, Ok, refl, sym, subst}
+use Rattle.cas_acceptor.specs.Acceptor.{AcceptorView}
+use Rattle.cas_record.specs.declared.mark.Acknowledgment.{Acknowledgment}
+use Rattle.cas_record.specs.declared.mark.Mark.TheVariants.{Acked}
+use Rattle.cas_record.specs.Logs.Orderly.{IsAboveFloors}
+use Rattle.cas_record.specs.Places.{Stands}
+use Rattle.cas_slot.specs.Shelf.{Left}
+use Rattle.cas_disk_shelf.specs.Image.{left_on}
+use Rattle.cas_disk_shelf.specs.Shelf.{disk_of, MayLeave}
+use Rattle.cas_disk_shelf.specs.declared.shelf.DiskShelf.{DiskShelf}
+use Rattle.cas_model.specs.View.{Meaning, View}
+use Rattle.cas_model.specs.Laws.{IsKept}
+use Rattle.cas_store.specs.Kept.{AreKept}
+use Rattle.cas_store.specs.Store.{acceptor_disks}
+use Rattle.cas_store.proofs.Standing.{at_mapped}
+
+pub kept_on_disks : {D : Type 0} (m : Meaning (DiskShelf D) D) (may_leave : D → List ℕ → Type 0) (view : View (DiskShelf D) D) → ((shelf : DiskShelf D) (left : Left) → MayLeave may_leave shelf left → m.shelves.may_leave shelf left)
+    → ((a : Acknowledgment) → Stands (Acked a) (reverse view.marks) → IsAboveFloors (reverse view.marks) a.key a.ballot → IsKept m view a) → AreKept may_leave (reverse view.marks) (acceptor_disks view.acceptors)
+kept_on_disks {D} m may_leave view reads kept a stands above id disk member at image may =
+    let found = at_mapped (λ (x : AcceptorView (DiskShelf D)). disk_of x.shelf) view.acceptors id disk at in
+    let by = (kept a stands above).kept id found.0 member found.1 in
+    let left : may_leave (disk_of found.0.shelf) image = subst (λ (d : D). may_leave d image) (sym found.2) may in
+    let whole = by.whole (left_on image) (reads found.0.shelf (left_on image) (image, left, refl)) in
+    record {
+      contents = whole.0;
+      spelled = whole.1;
+      at_least = by.at_least whole.0 (reads found.0.shelf (Ok whole.0) (image, left, sym whole.1));
+    }

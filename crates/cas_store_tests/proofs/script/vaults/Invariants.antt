@@ -1,5 +1,0 @@
-use Rattle.std.proofs.Common.{◌≡◌, vec_len}
-use Rattle.cas_store_tests.proofs.script.vaults.Given as goal
-
-abbrev pub invariant-loop-vault : goal.invariant-loop-vault
-invariant-loop-vault l = record { made : vec_len l.vaults ≡ l._vault }

@@ -1,0 +1,9 @@
+pub mod Beginning
+pub mod Begins
+pub mod Callers
+pub mod Counts
+pub mod Ends
+pub mod Proposes
+pub mod Reserving
+pub mod Settling
+pub mod Told

@@ -1,0 +1,5 @@
+pub mod Serving
+pub mod Straying
+pub mod Strays
+pub mod Turning
+pub mod Turns

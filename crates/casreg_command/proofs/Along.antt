@@ -1,0 +1,44 @@
+-- Along a script over a store that just opened was done what nothing stood against.
+use Rattle.std.proofs.Common.{◌≡◌, ℕ, List, Option, subst}
+use Rattle.cas_model.proofs.Openings.Safe.{opens_are_safe}
+use Rattle.cas_model.specs.Safe.{IsSafe}
+use Rattle.cas_model.specs.View.{Meaning, View}
+use Rattle.cas_disk_shelf.specs.declared.shelf.DiskShelf.{DiskShelf}
+use Rattle.cas_store.specs.Rack.{RackMeaning, IsAllEmpty}
+use Rattle.cas_store.specs.declared.rack.Rack.{Rack}
+use Rattle.casreg_script.specs.Script.{opening_state}
+use Rattle.casreg_progress.proofs.Runs.{runs_are_done}
+use Rattle.cas_world.specs.Openings.Opening.{members_to}
+use Rattle.casreg_command.specs.Causes.{AreDoneAlong, IsNewOver, Ran, Wrote, ran}
+use Rattle.casreg_command.specs.Words.{AreWords, acceptors_of, proposers_of}
+use Rattle.casreg_command.specs.declared.words.Request.{Request}
+use Rattle.casreg_command.specs.declared.status.Status.{Status}
+use Rattle.casreg_command.specs.declared.status.Status.TheVariants as status
+use Rattle.casreg_command.specs.declared.words.Options.{Options}
+use Rattle.casreg_command.specs.declared.words.Request.TheVariants as request
+
+safe_done : {D : Type 0} (meant : Meaning (DiskShelf D) D) (tells : Type 0) (tries : ℕ) (P : List (List ℕ) → Type 0) (input old new : Option (List ℕ)) (world : View (DiskShelf D) D) (back : Rack D) (result : Status) → IsSafe world → (by : Ran meant tells tries P input old new world result back)
+    → AreDoneAlong result by
+safe_done meant tells tries P input old new world back status.Ok safe by = runs_are_done meant tries (opening_state world) by.last by.wrote.lines by.wrote.answers safe by.wrote.run
+safe_done meant tells tries P input old new world back status.Usage safe by = by.wrote
+safe_done meant tells tries P input old new world back status.ReadFault safe by = runs_are_done meant tries (opening_state world) by.last by.wrote.lines by.wrote.answers safe by.wrote.run
+safe_done meant tells tries P input old new world back status.WriteFault safe by = runs_are_done meant tries (opening_state world) by.last by.wrote.lines by.wrote.answers safe by.wrote.run
+safe_done meant tells tries P input old new world back (status.NotEmpty disk) safe by = by.wrote
+safe_done meant tells tries P input old new world back (status.DiskFault disk) safe by = by.wrote
+safe_done meant tells tries P input old new world back status.TooManyLines safe by = runs_are_done meant tries (opening_state world) by.last by.wrote.lines by.wrote.answers safe by.wrote.run
+safe_done meant tells tries P input old new world back status.NoMemory safe by = runs_are_done meant tries (opening_state world) by.last by.wrote.lines by.wrote.answers safe by.wrote.run
+safe_done meant tells tries P input old new world back (status.Endless line) safe by = runs_are_done meant tries (opening_state world) by.last by.wrote.lines by.wrote.answers safe by.wrote.run
+
+-- a run over a new world
+pub ran_over : {D : Type 0} {meant : Meaning (DiskShelf D) D} {m : RackMeaning D} {words : List (List ℕ)} {P : List (List ℕ) → Type 0} {input old new : Option (List ℕ)} {harms harms_then : List ℕ} {rack asked back : Rack D} {result : Status} (options : Options) (world : View (DiskShelf D) D) → AreWords words (request.Script options) → IsAllEmpty m rack asked
+    → IsNewOver meant options.acceptors options.proposers asked world → Ran meant m.tells options.tries P input old new world result back → Wrote meant m words P input old new harms harms_then rack result back
+ran_over {D} {meant} {m} {words} {P} {input} {old} {new} {harms} {harms_then} {rack} {asked} {back} {result} options world are empty over by =
+    ran options world are empty over by (safe_done meant m.tells options.tries P input old new world back result (opens_are_safe meant (members_to options.acceptors) world over.opening over.places) by)
+
+-- ---- the world that was asked for
+-- a new world of as many acceptors and proposers as are asked for is one of a request that asks for the same
+pub new_of : {D : Type 0} {meant : Meaning (DiskShelf D) D} {asked : Rack D} {world : View (DiskShelf D) D} (acceptors proposers : ℕ) (asks other : Request) → acceptors ≡ acceptors_of asks → proposers ≡ proposers_of asks → asks ≡ other → IsNewOver meant acceptors proposers asked world
+    → IsNewOver meant (acceptors_of other) (proposers_of other) asked world
+new_of {D} {meant} {asked} {world} acceptors proposers asks other are_acceptors are_proposers same over =
+    subst (λ (r : Request). IsNewOver meant (acceptors_of r) (proposers_of r) asked world) same
+    (subst (λ (n : ℕ). IsNewOver meant n (proposers_of asks) asked world) are_acceptors (subst (λ (n : ℕ). IsNewOver meant acceptors n asked world) are_proposers over))

@@ -1,0 +1,140 @@
+-- A status that names a disk comes by what became of that disk.
+use Rattle.std.proofs.Common.{suc, zero, ◌≡◌, ◌⊎◌, inl, inr, ◌+◌, ◌<◌, ◌≤◌, ℕ, List, Option, sym, subst, ◌∙◌, arith}
+use Rattle.cas_base.specs.Faults.{Rose}
+use Rattle.cas_model.specs.View.{Meaning, View, IsAt}
+use Rattle.cas_disk_shelf.specs.declared.shelf.DiskShelf.{DiskShelf}
+use Rattle.cas_store.specs.Rack.{RackMeaning, AreFoundEmptyBelow, IsWhyNot, IsAllEmpty, IsNotEmpty, an_acceptor, a_vault}
+use Rattle.cas_store.specs.Store.{StaysClosed, nothing_reached, a_member_fails, a_vault_fails}
+use Rattle.cas_store.specs.declared.rack.Rack.{Rack}
+use Rattle.cas_store.specs.declared.rack.RackFault.{RackFault}
+use Rattle.cas_store.specs.declared.rack.RackFault.TheVariants as rack_fault
+use Rattle.cas_world.specs.Openings.Opening.{IsFaultOf}
+use Rattle.cas_world.specs.declared.fault.OpenFault.{OpenFault}
+use Rattle.cas_world.specs.declared.fault.OpenFault.TheVariants as opening
+use Rattle.casreg_script.specs.Script.{State}
+use Rattle.casreg_script.specs.declared.load.Load.{Load}
+use Rattle.casreg_command.specs.Causes.{IsDisk, of_acceptor, of_vault, AreDisksToBlame, WroteIn, Wrote, wrong_words, no_words_read, not_empty, not_opened, ran, loaded, no_board, raced, WroteSummary, whole, sink_failed, no_text, broke_off}
+use Rattle.casreg_command.specs.Words.{acceptors_of, proposers_of}
+use Rattle.std.specs.Prelude.{Result, Ok, Err}
+use Rattle.cas_lines.specs.declared.lines.LineFault.TheVariants as fault
+use Rattle.casreg_race.specs.declared.race.RaceFault.{RaceFault}
+use Rattle.casreg_race.specs.declared.race.RaceFault.TheVariants as race
+use Rattle.casreg_tasks.specs.declared.histories.HistoryFault.TheVariants as text
+use Rattle.casreg_command.specs.Status.{status_of_rack, status_of_opening, status_of_race}
+use Rattle.casreg_command.specs.declared.status.Status.{Status}
+use Rattle.casreg_command.specs.declared.status.Status.TheVariants as status
+
+-- a count that did not fall and then rose has risen
+rose_later : (old mid new : ℕ) → old ≤ mid → Rose mid new → Rose old new
+rose_later old mid new low (inl up) = inl (omega (arith, low, up))
+rose_later old mid new low (inr most) = inr most
+
+from_zero : (n : ℕ) → 0 + n ≡ n
+from_zero n = omega arith
+
+low_or_high : (a b : ℕ) → (a < b) ⊎ (b ≤ a)
+low_or_high a zero = inr (omega arith)
+low_or_high zero (suc b) = inl (omega arith)
+low_or_high (suc a) (suc b) = elim (low_or_high a b) [
+  | inl low ↦ inl (omega (arith, low))
+  | inr high ↦ inr (omega (arith, high))
+]
+
+-- ---- disks that were asked for their lengths
+not_empty_by : {D : Type 0} (m : RackMeaning D) (rack back : Rack D) (number : ℕ) (was now : D) (fault : RackFault) → IsDisk rack number was → IsDisk back number now → IsWhyNot m number was fault now → AreDisksToBlame m rack back (status_of_rack fault)
+not_empty_by {D} m rack back number was now (rack_fault.NotEmpty disk) is_was is_now why = record {
+  disk = was;
+  is_disk = subst (λ (n : ℕ). IsDisk rack n was) (sym why.cause.0) is_was;
+  not_empty = λ tells empty. why.cause.1 tells ((why.asked.kept tells).content ∙ empty);
+}
+not_empty_by {D} m rack back number was now (rack_fault.DiskFault disk) is_was is_now why = record {
+  was = was;
+  is_was = subst (λ (n : ℕ). IsDisk rack n was) (sym why.cause.0) is_was;
+  now = now;
+  is_now = subst (λ (n : ℕ). IsDisk back n now) (sym why.cause.0) is_now;
+  rose = why.cause.1;
+}
+not_empty_by m rack back number was now rack_fault.NoMemory is_was is_now why = tt
+
+rack_blamed : {D : Type 0} (m : RackMeaning D) (rack back : Rack D) (fault : RackFault) → IsNotEmpty m rack fault back → AreDisksToBlame m rack back (status_of_rack fault)
+rack_blamed m rack back fault (an_acceptor one same) = not_empty_by m rack back one.place one.was one.now fault (of_acceptor one.place one.was one.at_was) (of_acceptor one.place one.now one.at_now) (subst (λ (n : ℕ). IsWhyNot m n one.was fault one.now) (from_zero one.place) one.why)
+rack_blamed m rack back fault (a_vault empty one) = not_empty_by m rack back (64 + one.place) one.was one.now fault (of_vault one.place one.was one.at_was) (of_vault one.place one.now one.at_now) one.why
+
+-- ---- disks that were started
+-- a disk that was asked stands where it stood, and its count did not fall
+record WasThere {D : Type 0} (m : RackMeaning D) (old : List D) (place : ℕ) (now : D) : Type 0 where
+  pub was : D
+  pub at_was : IsAt old place was
+  pub never_falls : m.faults was ≤ m.faults now
+
+was_there : {D : Type 0} (m : RackMeaning D) (old new : List D) (to place : ℕ) (now : D) → AreFoundEmptyBelow m old to new → IsAt new place now → WasThere m old place now
+was_there {D} m old new to place now empty at = elim (low_or_high place to) [
+  | inl low ↦ let before = empty.empty place now low at in record { was = before.0; at_was = before.1; never_falls = before.2.asked.never_falls }
+  | inr high ↦ record { was = now; at_was = empty.others place now high at; never_falls = omega arith }
+]
+
+opening_by : {D : Type 0} (m : RackMeaning D) (rack asked back : Rack D) (number : ℕ) (was mid now : D) (fault : OpenFault) → IsDisk rack number was → m.faults was ≤ m.faults mid → IsDisk back number now
+    → IsFaultOf number (m.faults mid) (m.faults now) fault → AreDisksToBlame m rack back (status_of_opening fault)
+opening_by {D} m rack asked back number was mid now (opening.DiskFault disk) is_was low is_now cause = record {
+  was = was;
+  is_was = subst (λ (n : ℕ). IsDisk rack n was) (sym cause.0) is_was;
+  now = now;
+  is_now = subst (λ (n : ℕ). IsDisk back n now) (sym cause.0) is_now;
+  rose = rose_later (m.faults was) (m.faults mid) (m.faults now) low cause.1;
+}
+opening_by m rack asked back number was mid now (opening.Foreign disk at) is_was low is_now cause = absurd cause
+opening_by m rack asked back number was mid now (opening.Spent disk) is_was low is_now cause = absurd cause
+opening_by m rack asked back number was mid now opening.NoMemory is_was low is_now cause = tt
+
+opening_blamed : {D : Type 0} (m : RackMeaning D) (count greatest : ℕ) (rack asked back : Rack D) (fault : OpenFault) → IsAllEmpty m rack asked → StaysClosed m.faults count greatest asked.acceptors.items asked.vaults.items fault back.acceptors.items back.vaults.items
+    → AreDisksToBlame m rack back (status_of_opening fault)
+opening_blamed m count greatest rack asked back fault empty (nothing_reached none acceptors vaults) = subst (λ (f : OpenFault). AreDisksToBlame m rack back (status_of_opening f)) (sym none) tt
+opening_blamed m count greatest rack asked back fault empty (a_member_fails one vaults) =
+    let before = was_there m rack.acceptors.items asked.acceptors.items 64 one.place one.was empty.acceptors one.at_was in
+    opening_by m rack asked back one.place before.was one.was one.now fault (of_acceptor one.place before.was before.at_was) before.never_falls (of_acceptor one.place one.now one.at_now)
+    (subst (λ (n : ℕ). IsFaultOf n (m.faults one.was) (m.faults one.now) fault) (from_zero one.place) one.cause)
+opening_blamed m count greatest rack asked back fault empty (a_vault_fails members one) =
+    let before = was_there m rack.vaults.items asked.vaults.items 17 one.place one.was empty.vaults one.at_was in
+    opening_by m rack asked back (64 + one.place) before.was one.was one.now fault (of_vault one.place before.was before.at_was) before.never_falls (of_vault one.place one.now one.at_now)
+    one.cause
+
+-- ---- all of it
+-- a run that began ends with no status that names a disk
+ran_blamed : {D : Type 0} (meant : Meaning (DiskShelf D) D) (m : RackMeaning D) (tries : ℕ) (P : List (List ℕ) → Type 0) (input old new : Option (List ℕ)) (first last : State (DiskShelf D) D) (rack back : Rack D) (result : Status)
+    → WroteIn meant tries P input old new first last result → AreDisksToBlame m rack back result
+ran_blamed meant m tries P input old new first last rack back status.Ok wrote = tt
+ran_blamed meant m tries P input old new first last rack back status.Usage wrote = tt
+ran_blamed meant m tries P input old new first last rack back status.ReadFault wrote = tt
+ran_blamed meant m tries P input old new first last rack back status.WriteFault wrote = tt
+ran_blamed meant m tries P input old new first last rack back (status.NotEmpty disk) wrote = absurd wrote
+ran_blamed meant m tries P input old new first last rack back (status.DiskFault disk) wrote = absurd wrote
+ran_blamed meant m tries P input old new first last rack back status.TooManyLines wrote = tt
+ran_blamed meant m tries P input old new first last rack back status.NoMemory wrote = tt
+ran_blamed meant m tries P input old new first last rack back (status.Endless line) wrote = tt
+
+-- and so does a load
+load_blamed : {S V D : Type 0} (meant : Meaning S V) (m : RackMeaning D) (load : Load) (old new : Option (List ℕ)) (world last : View S V) (rack back : Rack D) (result : Status) → WroteSummary meant load old new world last result → AreDisksToBlame m rack back result
+load_blamed meant m load old new world last rack back result (whole summary sums wrote) = tt
+load_blamed meant m load old new world last rack back result (sink_failed summary sums wrote) = tt
+load_blamed meant m load old new world last rack back result (no_text summary sums same) = tt
+load_blamed meant m load old new world last rack back result (broke_off breaks same) = tt
+
+-- and so does a race
+race_blamed : {D : Type 0} (m : RackMeaning D) (rack back : Rack D) (ended : Result (Unit {0}) RaceFault) → AreDisksToBlame m rack back (status_of_race ended)
+race_blamed m rack back (Ok done) = tt
+race_blamed m rack back (Err (race.NotRun fault.ReadFault)) = tt
+race_blamed m rack back (Err (race.NotRun fault.TooManyLines)) = tt
+race_blamed m rack back (Err (race.NotRun (fault.Endless line))) = tt
+race_blamed m rack back (Err (race.NotRun fault.NoMemory)) = tt
+race_blamed m rack back (Err (race.CutOff text.WriteFault)) = tt
+race_blamed m rack back (Err (race.CutOff text.NoMemory)) = tt
+
+pub blamed : {D : Type 0} (meant : Meaning (DiskShelf D) D) (m : RackMeaning D) (words : List (List ℕ)) (P : List (List ℕ) → Type 0) (input old new : Option (List ℕ)) (harms harms_then : List ℕ) (rack : Rack D) (result : Status) (back : Rack D) → Wrote meant m words P input old new harms harms_then rack result back → AreDisksToBlame m rack back result
+blamed meant m words P input old new harms harms_then rack result back (wrong_words same) = tt
+blamed meant m words P input old new harms harms_then rack result back (no_words_read same) = tt
+blamed meant m words P input old new harms harms_then rack result back (not_empty fault is same) = rack_blamed m rack back fault is
+blamed meant m words P input old new harms harms_then rack result back (not_opened {asked = asked} request fault are empty closed same) = opening_blamed m (acceptors_of request) (proposers_of request) rack asked back fault empty closed
+blamed meant m words P input old new harms harms_then rack result back (ran options world are empty over run done) = ran_blamed meant m options.tries P input old new _ run.last rack back result run.wrote
+blamed meant m words P input old new harms harms_then rack result back (loaded load world are empty over run) = load_blamed meant m load old new world run.last rack back result run.wrote
+blamed meant m words P input old new harms harms_then rack result back (no_board options are empty same) = tt
+blamed meant m words P input old new harms harms_then rack result back (raced options are empty over) = subst (λ (s : Status). AreDisksToBlame m rack back s) (sym over.is) (race_blamed m rack back over.ended)

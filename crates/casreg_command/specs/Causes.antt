@@ -1,0 +1,240 @@
+-- When each status comes, and what was written by then.
+use Rattle.std.specs.Prelude.{◌≡◌, ◌≢◌, [], ◌⊎◌, ◌+◌, ℕ, suc, List, ◌++◌, ⊤, length, reverse, take, Option, IfSome, Result}
+use Rattle.std.specs.Io.KnownBytes.{Appends}
+use Rattle.cas_base.specs.Faults.{Rose}
+use Rattle.cas_disk_shelf.specs.declared.shelf.DiskShelf.{DiskShelf}
+use Rattle.cas_lines.specs.declared.lines.TheConstants.{MOST_LINES}
+use Rattle.cas_lines.specs.Lines.{lines_of, Ending, Whole, TooMany, TooLong, ending_of}
+use Rattle.cas_record.specs.Legal.{IsLegal}
+use Rattle.cas_record.specs.declared.mark.Mark.{Mark}
+use Rattle.casreg_race.specs.Race.{WroteRace}
+use Rattle.casreg_race.specs.declared.race.RaceFault.{RaceFault}
+use Rattle.cas_model_causes.specs.Eras.Tellings.{AreTellingsSo}
+use Rattle.cas_model.specs.SafeLaws.{HasPlaces}
+use Rattle.cas_model.specs.Step.{IsOpening}
+use Rattle.cas_world.specs.Openings.Opening.{members_to, disks_of, AreDesksBelow}
+use Rattle.cas_world.specs.declared.fault.OpenFault.{OpenFault}
+use Rattle.cas_store.specs.Kept.{AreKept}
+use Rattle.cas_store.specs.Rack.{RackMeaning, IsAllEmpty, IsNotEmpty}
+use Rattle.cas_store.specs.Store.{acceptor_disks, AreReached, StaysClosed}
+use Rattle.cas_store.specs.declared.rack.Rack.{Rack}
+use Rattle.cas_store.specs.declared.rack.RackFault.{RackFault}
+use Rattle.cas_model.specs.View.{Meaning, View, IsAt}
+use Rattle.cas_board_world.specs.Blame.{AreDeserved}
+use Rattle.casreg_script.specs.Script.{State, LineAnswer, ScriptRun, IsIn, opening_state, transcript_of}
+use Rattle.casreg_script.specs.Stage.{Stage}
+use Rattle.casreg_progress.specs.Runs.{AreDoneWhereReady}
+use Rattle.casreg_command.specs.declared.status.Status.{Status}
+use Rattle.casreg_command.specs.declared.status.Status.TheVariants as status
+use Rattle.casreg_command.specs.declared.words.Options.{Options}
+use Rattle.casreg_command.specs.Status.{status_of_rack, status_of_opening, status_of_race}
+use Rattle.cas_lines.specs.Sink.{AppendsFront}
+use Rattle.cas_lines.specs.Summary.{summary_line}
+use Rattle.cas_lines.specs.declared.summary.Summary.{Summary}
+use Rattle.casreg_script.specs.Load.{SumsUp, BreaksOff}
+use Rattle.casreg_script.specs.declared.load.Load.{Load}
+use Rattle.casreg_command.specs.declared.words.Request.{Request}
+use Rattle.casreg_command.specs.declared.words.Request.TheVariants as request
+use Rattle.casreg_command.specs.Words.{AreWords, acceptors_of, proposers_of}
+
+-- ---- causes
+-- the status of a run that nothing hinders, by where its input ends
+abbrev pub status_of : Ending → Status
+status_of Whole = status.Ok
+status_of TooMany = status.TooManyLines
+status_of (TooLong line) = status.Endless line
+
+-- the statuses of a load that opened, or whose disks were not empty or failed
+abbrev pub LoadEnds : Status → Type 0
+LoadEnds status.Ok = ⊤
+LoadEnds status.Usage = ⊥
+LoadEnds status.ReadFault = ⊥
+LoadEnds status.WriteFault = ⊤
+LoadEnds (status.NotEmpty disk) = ⊤
+LoadEnds (status.DiskFault disk) = ⊤
+LoadEnds status.TooManyLines = ⊥
+LoadEnds status.NoMemory = ⊤
+LoadEnds (status.Endless line) = ⊥
+
+-- a command that reads lines
+abbrev pub ReadsLines : Request → Type 0
+ReadsLines (request.Script options) = ⊤
+ReadsLines (request.Race options) = ⊤
+ReadsLines (request.Load load) = ⊥
+
+-- a status that names a disk
+abbrev pub IsOfDisk : Status → Type 0
+IsOfDisk (status.NotEmpty disk) = ⊤
+IsOfDisk (status.DiskFault disk) = ⊤
+IsOfDisk other = ⊥
+
+-- a status by the words, the input where its source tells it, and the faults of source and sink before and after
+pub record Causes (words : List (List ℕ)) (input : Option (List ℕ)) (source_old source_new sink_old sink_new : ℕ) (result : Status) : Type 0 where
+  pub usage : result ≡ status.Usage → (request : Request) → AreWords words request → ⊥
+  pub no_words : ((request : Request) → AreWords words request → ⊥) → (result ≡ status.Usage) ⊎ (result ≡ status.NoMemory)
+  pub read_fault : result ≡ status.ReadFault → Rose source_old source_new
+  pub write_fault : result ≡ status.WriteFault → Rose sink_old sink_new
+  -- of a script or a race 0, 7 and 9 come by where the input ends alone
+  pub ends : (asked : Request) → ReadsLines asked → AreWords words asked → (ending : Ending) → result ≡ status_of ending → IfSome input (λ bytes. ending_of bytes ≡ ending)
+  -- with the right words and no fault of source and sink one of these comes, unless there is no memory, or a disk is not empty or fails
+  -- as the store is opened
+  pub completes : (asked : Request) → ReadsLines asked → AreWords words asked → (Rose source_old source_new → ⊥) → (Rose sink_old sink_new → ⊥)
+      → IfSome input (λ bytes. (result ≡ status_of (ending_of bytes)) ⊎ (result ≡ status.NoMemory) ⊎ IsOfDisk result)
+  -- and so does 0 of a load, which reads nothing
+  pub load_completes : (load : Load) → AreWords words (request.Load load) → (Rose sink_old sink_new → ⊥) → (result ≡ status.Ok) ⊎ (result ≡ status.NoMemory) ⊎ IsOfDisk result
+
+-- ---- disks
+-- the disk of that number: those of acceptors are numbered from 0 on, and those of vaults from 64 on
+pub data IsDisk {D : Type 0} (rack : Rack D) : ℕ → D → Type 0 where
+  of_acceptor : (place : ℕ) (disk : D) → IsAt rack.acceptors.items place disk → IsDisk rack place disk
+  of_vault : (place : ℕ) (disk : D) → IsAt rack.vaults.items place disk → IsDisk rack (64 + place) disk
+
+-- it was not empty, where disks tell what they keep
+pub record WasNotEmpty {D : Type 0} (m : RackMeaning D) (rack : Rack D) (number : ℕ) : Type 0 where
+  pub disk : D
+  pub is_disk : IsDisk rack number disk
+  pub not_empty : m.tells → m.seen disk ≢ []
+
+-- its count of faults rose
+pub record HasFailed {D : Type 0} (m : RackMeaning D) (rack back : Rack D) (number : ℕ) : Type 0 where
+  pub was : D
+  pub is_was : IsDisk rack number was
+  pub now : D
+  pub is_now : IsDisk back number now
+  pub rose : Rose (m.faults was) (m.faults now)
+
+-- a status that names a disk comes only by what became of that disk
+abbrev pub AreDisksToBlame : {D : Type 0} → RackMeaning D → Rack D → Rack D → Status → Type 0
+AreDisksToBlame m rack back (status.NotEmpty disk) = WasNotEmpty m rack disk
+AreDisksToBlame m rack back (status.DiskFault disk) = HasFailed m rack back disk
+AreDisksToBlame m rack back other = ⊤
+
+-- ---- what was written, where input and sink tell their bytes
+-- the first lines of an input
+abbrev pub AreFirstLines : Option (List ℕ) → List (List ℕ) → Type 0
+AreFirstLines input lines = IfSome input (λ bytes. (later : List (List ℕ)) × (lines_of bytes ≡ lines ++ later))
+
+-- the answers to first lines of the input, of which this holds, from the first world on
+pub record AnswersTo {S V : Type 0} (meant : Meaning S V) (tries : ℕ) (P : List (List ℕ) → Type 0) (input old new : Option (List ℕ)) (first world : State S V) : Type 0 where
+  pub lines : List (List ℕ)
+  pub of_input : AreFirstLines input lines
+  pub are : P lines
+  pub answers : List LineAnswer
+  pub run : ScriptRun meant tries first lines answers world
+  pub written : Appends old new (transcript_of 1 answers)
+
+-- a front of the answers to first lines
+pub record AnswersFront {S V : Type 0} (meant : Meaning S V) (tries : ℕ) (input old new : Option (List ℕ)) (first world : State S V) : Type 0 where
+  pub lines : List (List ℕ)
+  pub of_input : AreFirstLines input lines
+  pub answers : List LineAnswer
+  pub run : ScriptRun meant tries first lines answers world
+  pub front : List ℕ
+  pub rest : List ℕ
+  pub is_front : transcript_of 1 answers ≡ front ++ rest
+  pub written : Appends old new front
+
+-- what was written by the end of a run from the first world to this one: to all lines of the input, to as many as there may be, to those
+-- before the one that is too long, to those that had ended when the source failed, or a front
+abbrev pub WroteIn : {S V : Type 0} → Meaning S V → ℕ → (List (List ℕ) → Type 0) → Option (List ℕ) → Option (List ℕ) → Option (List ℕ) → State S V → State S V → Status → Type 0
+WroteIn meant tries HadEnded input old new first world status.Ok = AnswersTo meant tries (λ lines. IfSome input (λ bytes. lines ≡ lines_of bytes)) input old new first world
+WroteIn meant tries HadEnded input old new first world status.Usage = ⊥
+WroteIn meant tries HadEnded input old new first world status.ReadFault = AnswersTo meant tries HadEnded input old new first world
+WroteIn meant tries HadEnded input old new first world status.WriteFault = AnswersFront meant tries input old new first world
+WroteIn meant tries HadEnded input old new first world (status.NotEmpty disk) = ⊥
+WroteIn meant tries HadEnded input old new first world (status.DiskFault disk) = ⊥
+WroteIn meant tries HadEnded input old new first world status.TooManyLines = AnswersTo meant tries (λ lines. length lines ≡ MOST_LINES) input old new first world
+WroteIn meant tries HadEnded input old new first world status.NoMemory = AnswersFront meant tries input old new first world
+WroteIn meant tries HadEnded input old new first world (status.Endless line) = AnswersTo meant tries (λ lines. suc (length lines) ≡ line) input old new first world
+
+-- the same of a script that is in some state then
+pub record EndsIn {S V : Type 0} (meant : Meaning S V) (tries : ℕ) (HadEnded : List (List ℕ) → Type 0) (input old new : Option (List ℕ)) (first : State S V) (stage : Stage S V) (result : Status) : Type 0 where
+  pub last : State S V
+  pub is_in : IsIn stage last
+  pub wrote : WroteIn meant tries HadEnded input old new first last result
+
+-- ---- the world of a run
+-- A world of so many acceptors and proposers in which nothing has happened, over the disks of a rack: each acceptor and each proposer on
+-- the disk at the place of its number, of which those of the members and of the proposers were started.
+pub record IsNewOver {D : Type 0} (meant : Meaning (DiskShelf D) D) (acceptors proposers : ℕ) (rack : Rack D) (world : View (DiskShelf D) D) : Type 0 where
+  pub opening : IsOpening meant (members_to acceptors) world
+  pub places : HasPlaces world
+  pub greatest : world.greatest ≡ proposers
+  pub shelves : AreReached meant.disks.faults 1 (acceptors + 1) rack.acceptors.items (acceptor_disks world.acceptors)
+  pub vaults : AreDesksBelow meant.disks meant.disks.faults rack.vaults.items (proposers + 1) world.desks
+
+-- the rack that comes back holds the disks of the world, each at its place
+pub record IsRackOf {D : Type 0} (world : View (DiskShelf D) D) (rack : Rack D) : Type 0 where
+  pub acceptors : rack.acceptors.items ≡ acceptor_disks world.acceptors
+  pub vaults : take (world.greatest + 1) rack.vaults.items ≡ disks_of world.desks
+
+-- what a script wrote that ran from this world on, whose record was legal then, where disks tell what they keep, and the rack that comes
+-- back, on which what is acknowledged stands
+pub record Ran {D : Type 0} (meant : Meaning (DiskShelf D) D) (tells : Type 0) (tries : ℕ) (HadEnded : List (List ℕ) → Type 0) (input old new : Option (List ℕ)) (world : View (DiskShelf D) D) (result : Status) (back : Rack D) : Type 0 where
+  pub last : State (DiskShelf D) D
+  pub wrote : WroteIn meant tries HadEnded input old new (opening_state world) last result
+  pub legal : tells → IsLegal (reverse last.world.marks)
+  pub kept : tells → AreKept meant.disks.may_leave (reverse last.world.marks) back.acceptors.items
+  pub rack : IsRackOf last.world back
+
+-- ---- a load
+-- What a load wrote that ran from this world to that one: the summary of its answers, or a front of it where the sink failed or there was no
+-- memory. Where memory failed before the end of the load nothing was written.
+pub data WroteSummary {S V : Type 0} (meant : Meaning S V) (load : Load) (old new : Option (List ℕ)) (world last : View S V) : Status → Type 0 where
+  whole : (summary : Summary) → SumsUp meant load world summary last → Appends old new (summary_line summary) → WroteSummary meant load old new world last status.Ok
+  sink_failed : (summary : Summary) → SumsUp meant load world summary last → AppendsFront old new (summary_line summary) → WroteSummary meant load old new world last status.WriteFault
+  no_text : (summary : Summary) → SumsUp meant load world summary last → new ≡ old → WroteSummary meant load old new world last status.NoMemory
+  broke_off : BreaksOff meant load world last → new ≡ old → WroteSummary meant load old new world last status.NoMemory
+
+-- what a load wrote that ran from this world on, whose record was legal then, where disks tell what they keep, and the rack that comes
+-- back, on which what is acknowledged stands
+pub record Loaded {D : Type 0} (meant : Meaning (DiskShelf D) D) (tells : Type 0) (load : Load) (old new : Option (List ℕ)) (world : View (DiskShelf D) D) (result : Status) (back : Rack D) : Type 0 where
+  pub last : View (DiskShelf D) D
+  pub wrote : WroteSummary meant load old new world last result
+  pub legal : tells → IsLegal (reverse last.marks)
+  pub kept : tells → AreKept meant.disks.may_leave (reverse last.marks) back.acceptors.items
+  pub rack : IsRackOf last back
+
+-- ---- a race
+-- what a race did whose record was legal, where disks tell what they keep, and tells what is so of the operator's calls, and what it wrote;
+-- what is acknowledged in that stands on the disks that come back, and whom a mark of it blames has a disk there that failed
+pub record RacedOver {D : Type 0} (m : RackMeaning D) (options : Options) (input old new : Option (List ℕ)) (harms harms_then : List ℕ) (result : Status) (back : Rack D) : Type 0 where
+  pub marks : List Mark
+  pub ended : Result (Unit {0}) RaceFault
+  pub is : result ≡ status_of_race ended
+  pub legal : m.tells → IsLegal (reverse marks)
+  pub tellings : m.tells → AreTellingsSo (options.proposers + 1) (reverse marks)
+  pub kept : m.tells → AreKept m.may_leave (reverse marks) back.acceptors.items
+  pub deserved : AreDeserved m.faults back.acceptors.items back.vaults.items marks
+  pub wrote : WroteRace m.tells options.tries options.proposers input old new harms harms_then marks ended
+
+-- ---- a script along its lines
+-- Along the run whose answers, or a front of them, were written, each change line that nothing stood against was answered done, or that
+-- there was no memory, where the members and its proposer were up after it.
+abbrev pub AreDoneAlong : {D : Type 0} {meant : Meaning (DiskShelf D) D} {tells : Type 0} {tries : ℕ} {HadEnded : List (List ℕ) → Type 0} {input old new : Option (List ℕ)} {world : View (DiskShelf D) D} {back : Rack D} (result : Status) → Ran meant tells tries HadEnded input old new world result back → Type 0
+AreDoneAlong {meant = meant} status.Ok by = AreDoneWhereReady meant by.wrote.run
+AreDoneAlong status.Usage by = ⊥
+AreDoneAlong {meant = meant} status.ReadFault by = AreDoneWhereReady meant by.wrote.run
+AreDoneAlong {meant = meant} status.WriteFault by = AreDoneWhereReady meant by.wrote.run
+AreDoneAlong (status.NotEmpty disk) by = ⊥
+AreDoneAlong (status.DiskFault disk) by = ⊥
+AreDoneAlong {meant = meant} status.TooManyLines by = AreDoneWhereReady meant by.wrote.run
+AreDoneAlong {meant = meant} status.NoMemory by = AreDoneWhereReady meant by.wrote.run
+AreDoneAlong {meant = meant} (status.Endless line) by = AreDoneWhereReady meant by.wrote.run
+
+-- ---- all of it
+-- What was written by the end, and the rack that comes back: nothing, where the words are none of a command, where there was no memory,
+-- where a disk is not known to be empty, or where the store did not open; or what a script or a load wrote, from a new world over the rack on
+-- to one whose record is legal, and along a script was done what nothing stood against; or what a race wrote, over disks that were empty.
+pub data Wrote {D : Type 0} (meant : Meaning (DiskShelf D) D) (m : RackMeaning D) (words : List (List ℕ)) (HadEnded : List (List ℕ) → Type 0) (input old new : Option (List ℕ)) (harms harms_then : List ℕ) (rack : Rack D) : Status → Rack D → Type 0 where
+  wrong_words : new ≡ old → Wrote meant m words HadEnded input old new harms harms_then rack status.Usage rack
+  no_words_read : new ≡ old → Wrote meant m words HadEnded input old new harms harms_then rack status.NoMemory rack
+  not_empty : {back : Rack D} (fault : RackFault) → IsNotEmpty m rack fault back → new ≡ old → Wrote meant m words HadEnded input old new harms harms_then rack (status_of_rack fault) back
+  not_opened : {asked back : Rack D} (request : Request) (fault : OpenFault) → AreWords words request → IsAllEmpty m rack asked
+      → StaysClosed m.faults (acceptors_of request) (proposers_of request) asked.acceptors.items asked.vaults.items fault back.acceptors.items back.vaults.items → new ≡ old → Wrote meant m words HadEnded input old new harms harms_then rack (status_of_opening fault) back
+  ran : {asked back : Rack D} {result : Status} (options : Options) (world : View (DiskShelf D) D) → AreWords words (request.Script options) → IsAllEmpty m rack asked → IsNewOver meant options.acceptors options.proposers asked world
+      → (by : Ran meant m.tells options.tries HadEnded input old new world result back) → AreDoneAlong result by → Wrote meant m words HadEnded input old new harms harms_then rack result back
+  loaded : {asked back : Rack D} {result : Status} (load : Load) (world : View (DiskShelf D) D) → AreWords words (request.Load load) → IsAllEmpty m rack asked → IsNewOver meant load.acceptors load.proposers asked world
+      → Loaded meant m.tells load old new world result back → Wrote meant m words HadEnded input old new harms harms_then rack result back
+  no_board : {asked back : Rack D} (options : Options) → AreWords words (request.Race options) → IsAllEmpty m rack asked → new ≡ old → Wrote meant m words HadEnded input old new harms harms_then rack status.NoMemory back
+  raced : {asked back : Rack D} {result : Status} (options : Options) → AreWords words (request.Race options) → IsAllEmpty m rack asked → RacedOver m options input old new harms harms_then result back → Wrote meant m words HadEnded input old new harms harms_then rack result back

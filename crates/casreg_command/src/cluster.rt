@@ -1,0 +1,229 @@
+//! The top call: a command over the store, from the bytes in to the bytes out.
+
+ghost use Rattle.std.specs.Prelude.{◌≡◌, ◌≢◌, List, ℕ, map, string_bytes, vec_len, OnOk, IfErr, IfSome, IsErrOf};
+ghost use Rattle.std.specs.Io.KnownBytes.{IsAtEnd};
+ghost use Rattle.cas_base.specs.Faults.{Rose};
+ghost use Rattle.cas_lines.specs.Lines.{Ending, Whole, ending_of, FailsBehind};
+ghost use Rattle.cas_model.specs.Council.{IsAtRest};
+ghost use Rattle.cas_model.specs.View.{meaning};
+ghost use Rattle.cas_store.specs.Rack.{rack_meaning};
+ghost use Rattle.casreg_script.specs.Script.{State, IsIn};
+ghost use Rattle.casreg_script.specs.Stage.{AllIdle};
+ghost use Rattle.casreg_command.specs.Causes.{AreDisksToBlame, Causes, EndsIn, LoadEnds, Ran, ReadsLines, Wrote, status_of};
+ghost use Rattle.casreg_script.specs.declared.load.Load.{Load as ALoad};
+ghost use Rattle.casreg_command.specs.Words.{AreWords, AreOptionsInRange, IsInRange, acceptors_of, proposers_of};
+ghost use Rattle.casreg_command.specs.declared.words.Options.{Options as ScriptOptions};
+ghost use Rattle.casreg_command.specs.declared.words.Request.{Request as ARequest};
+
+use crate::load::load_store;
+use crate::race::race_board;
+use crate::status::Status;
+use crate::words::{Options, Request, read_words};
+use cas_board::Board;
+use cas_disk::Disk;
+use cas_disk_shelf::DiskShelf;
+use cas_fate::Fate;
+use cas_lines::lines::Lines;
+use cas_lines::sink::{Sink, put_all};
+use cas_lines::source::Source;
+use cas_slot::Shelf;
+use cas_store::{Rack, Store};
+use cas_world::Config;
+use casreg_script::{Load, Script};
+use std::alloc::{AllocError, Global};
+use std::sync::Wait;
+use std::thread::Threads;
+
+/// Runs the command that the words name. A script runs over the source's lines, and the answer to each line is written before it reads on. A
+/// race reads all lines before it runs any, runs each caller's in a thread of its own, with the fate at the place of its number, and writes
+/// once all have ended: the answers to bad lines in line order, then each caller's answers, callers in rising order, then the settled history
+/// of each key that has one, keys in byte order. A load reads nothing, runs lines that it draws, and writes the summary of their answers. The
+/// rack, which has 64 disks of acceptors and 17 of vaults, comes back with the same disks in their places, and so do the fates, which are 17.
+///
+/// The words are read by clap: `script`, `race` or `load`, with the options `--acceptors` (1 to 9, or 3 where it is not given), `--proposers` (1 to
+/// 16, or 1) and `--tries` (1 to 64, or 1), and of `load` `--seed` (any `u64`, or 1) and `--lines` (up to 100,000, or 1,000). Then all disks
+/// are asked for their lengths in the order of their numbers, and each must be empty. Then the members' and the proposers' disks are started
+/// in that order. A line of a script asks for a change or for an event, is a remark, which has no answer, or is answered as bad, with the
+/// reason; in a race an event's line is bad. The statuses say how the run ended: [`Status::NotEmpty`] comes only of a disk that was not empty, where disks tell what they keep,
+/// and [`Status::DiskFault`] only of one whose count of faults rose.
+pub fn cluster<R: Threads + Wait + Sync, S: Source, K: Sink, D: Disk + Send + Drop, F: Fate + Send>(
+    rt: &R,
+    alloc: Global,
+    words: &[String],
+    source: &mut S,
+    sink: &mut K,
+    rack: Rack<D>,
+    fates: &mut Vec<F>,
+) -> (Status, Rack<D>)
+    requires acceptors { vec_len rack.acceptors ≡ 64 }
+    requires vaults { vec_len rack.vaults ≡ 17 }
+    requires fates { vec_len fates.old ≡ 17 }
+    // Of a script, what was written is the transcript of a script run over the lines of the input, in a new world over the rack's disks; the record of
+    // that run is legal, along it each change line that nothing stood against was answered done, or that there was no memory, where the
+    // members and its proposer were up after it, and the rack that comes back holds the disks of its last world. Where the source failed
+    // these are all lines that had ended by then, and no others. Of a load, what was written is the summary of the answers of the load run
+    // over the lines that its seed draws, in a new world over the rack's disks; the record of that run is legal, and the rack that comes back
+    // holds the disks of its last world. Of a race, what was written is the text of a legal record in which each caller's own marks are those of
+    // what its lines ask for, in their order, with the answers that are written, and tell of no more losses than its fate counted harms.
+    ensures wrote { Wrote (meaning ⟦<DiskShelf<D> as Shelf>⟧.contents ⟦<DiskShelf<D> as Shelf>⟧.tells ⟦<DiskShelf<D> as Shelf>⟧.may_leave ⟦<DiskShelf<D> as Shelf>⟧.fault_count D.tells D.may_leave D.fault_count) (rack_meaning D.tells D.seen D.may_leave D.fault_count)
+        (map string_bytes words.now) (FailsBehind S.take_gives source.old source.new) (S.remaining source.old) (K.contents sink.old) (K.contents sink.new) (map F.harm_count fates.old.items) (map F.harm_count fates.new.items) rack result.0 result.1 }
+    ensures causes { Causes (map string_bytes words.now) (S.remaining source.old)
+        (S.faults_of source.old) (S.faults_of source.new) (K.faults_of sink.old) (K.faults_of sink.new) result.0 }
+    ensures disks { AreDisksToBlame (rack_meaning D.tells D.seen D.may_leave D.fault_count) rack result.1 result.0 }
+    ensures read { (asked : ARequest) → ReadsLines asked → AreWords (map string_bytes words.now) asked → result.0 ≡ Status.Ok → IsAtEnd (S.remaining source.new) }
+    ensures unread { (load : ALoad) → AreWords (map string_bytes words.now) (Request.Load load) → source.new ≡ source.old }
+    ensures unraced { ((options : ScriptOptions) → AreWords (map string_bytes words.now) (Request.Race options) → ⊥) → fates.new ≡ fates.old }
+    ensures untouched { result.0 ≡ Status.Usage → (source.new ≡ source.old) × (sink.new ≡ sink.old) × (result.1 ≡ rack) }
+    ensures all_acceptors { vec_len result.1.acceptors ≡ 64 }
+    ensures all_vaults { vec_len result.1.vaults ≡ 17 }
+    ensures all_fates { vec_len fates.new ≡ 17 }
+{
+    match read_words(alloc, words) {
+        Ok(Some(request)) => run(rt, alloc, request, source, sink, rack, fates),
+        Ok(None) => (Status::Usage, rack),
+        Err(AllocError) => (Status::NoMemory, rack),
+    }
+}
+
+/// Runs what was asked for over the rack.
+fn run<R: Threads + Wait + Sync, S: Source, K: Sink, D: Disk + Send + Drop, F: Fate + Send>(
+    rt: &R,
+    alloc: Global,
+    request: Request,
+    source: &mut S,
+    sink: &mut K,
+    mut rack: Rack<D>,
+    fates: &mut Vec<F>,
+) -> (Status, Rack<D>)
+    requires acceptors { vec_len rack.acceptors ≡ 64 }
+    requires vaults { vec_len rack.vaults ≡ 17 }
+    requires fates { vec_len fates.old ≡ 17 }
+    requires range { IsInRange request }
+    ensures wrote { (words : List (List ℕ)) → AreWords words request → Wrote (meaning ⟦<DiskShelf<D> as Shelf>⟧.contents ⟦<DiskShelf<D> as Shelf>⟧.tells ⟦<DiskShelf<D> as Shelf>⟧.may_leave ⟦<DiskShelf<D> as Shelf>⟧.fault_count D.tells D.may_leave D.fault_count) (rack_meaning D.tells D.seen D.may_leave D.fault_count)
+        words (FailsBehind S.take_gives source.old source.new) (S.remaining source.old) (K.contents sink.old) (K.contents sink.new) (map F.harm_count fates.old.items) (map F.harm_count fates.new.items) rack result.0 result.1 }
+    ensures usage { result.0 ≢ Status.Usage }
+    ensures read_fault { result.0 ≡ Status.ReadFault → Rose (S.faults_of source.old) (S.faults_of source.new) }
+    ensures write_fault { result.0 ≡ Status.WriteFault → Rose (K.faults_of sink.old) (K.faults_of sink.new) }
+    ensures ends { ReadsLines request → (ending : Ending) → result.0 ≡ status_of ending → IfSome (S.remaining source.old) (λ input. ending_of input ≡ ending) }
+    ensures read { ReadsLines request → result.0 ≡ Status.Ok → IsAtEnd (S.remaining source.new) }
+    ensures unraced { ((options : ScriptOptions) → request ≡ Request.Race options → ⊥) → fates.new ≡ fates.old }
+    ensures loads { (load : ALoad) → request ≡ Request.Load load → (source.new ≡ source.old) × LoadEnds result.0 }
+    ensures all_acceptors { vec_len result.1.acceptors ≡ 64 }
+    ensures all_vaults { vec_len result.1.vaults ≡ 17 }
+    ensures all_fates { vec_len fates.new ≡ 17 }
+{
+    if let Err(fault) = rack.expect_empty() {
+        return (Status::from(fault), rack);
+    }
+    let config = config_of(request);
+    match request {
+        Request::Script(options) => match Store::open(alloc, config, rack) {
+            Ok(store) => run_script(alloc, options, source, sink, store),
+            Err((fault, rack)) => (Status::from(fault), rack),
+        },
+        Request::Race(options) => match Board::open(alloc, config, rack) {
+            Ok((board, passes)) => {
+                race_board(rt, alloc, options, source, sink, board, passes, fates)
+            }
+            Err((fault, rack)) => (Status::from(fault), rack),
+        },
+        Request::Load(load) => match Store::open(alloc, config, rack) {
+            Ok(store) => load_store(alloc, load, sink, store),
+            Err((fault, rack)) => (Status::from(fault), rack),
+        },
+    }
+}
+
+/// How large a cluster is asked for.
+fn config_of(request: Request) -> Config
+    ensures acceptors { result.acceptors ≡ acceptors_of request }
+    ensures proposers { result.proposers ≡ proposers_of request }
+{
+    match request {
+        Request::Script(
+            Options {
+                acceptors,
+                proposers,
+                ..
+            },
+        )
+        | Request::Race(
+            Options {
+                acceptors,
+                proposers,
+                ..
+            },
+        )
+        | Request::Load(
+            Load {
+                acceptors,
+                proposers,
+                ..
+            },
+        ) => Config {
+            acceptors,
+            proposers,
+        },
+    }
+}
+
+/// Runs the script in a store in which nothing has happened, and takes the store apart then.
+fn run_script<S: Source, K: Sink, D: Disk + Drop>(
+    alloc: Global,
+    options: Options,
+    source: &mut S,
+    sink: &mut K,
+    store: Store<D>,
+) -> (Status, Rack<D>)
+    requires range { AreOptionsInRange options }
+    requires known { store.world.greatest ≡ options.proposers }
+    requires idle { AllIdle store.world }
+    requires quiet { IsAtRest store.world.council }
+    ensures ran { Ran (meaning ⟦<DiskShelf<D> as Shelf>⟧.contents ⟦<DiskShelf<D> as Shelf>⟧.tells ⟦<DiskShelf<D> as Shelf>⟧.may_leave ⟦<DiskShelf<D> as Shelf>⟧.fault_count D.tells D.may_leave D.fault_count) D.tells options.tries
+        (FailsBehind S.take_gives source.old source.new) (S.remaining source.old) (K.contents sink.old) (K.contents sink.new) store.world result.0 result.1 }
+    ensures usage { result.0 ≢ Status.Usage }
+    ensures read_fault { result.0 ≡ Status.ReadFault → Rose (S.faults_of source.old) (S.faults_of source.new) }
+    ensures write_fault { result.0 ≡ Status.WriteFault → Rose (K.faults_of sink.old) (K.faults_of sink.new) }
+    ensures ends { (ending : Ending) → result.0 ≡ status_of ending → IfSome (S.remaining source.old) (λ input. ending_of input ≡ ending) }
+    ensures read { result.0 ≡ Status.Ok → IsAtEnd (S.remaining source.new) }
+    ensures all_acceptors { vec_len result.1.acceptors ≡ 64 }
+    ensures all_vaults { vec_len result.1.vaults ≡ 17 }
+{
+    let Store { world, room } = store;
+    let mut script = Script::new(world, options.proposers, options.tries);
+    let answered = answer_lines(alloc, &mut script, source, sink);
+    let store = Store {
+        world: script.into_world(),
+        room,
+    };
+    let (_record, rack) = store.close();
+    match answered {
+        Ok(()) => (Status::Ok, rack),
+        Err(status) => (status, rack),
+    }
+}
+
+/// Answers each line of the source before it reads the next one. An `Err` has the status of the run.
+fn answer_lines<S: Source, K: Sink, H: Shelf, D: Disk>(
+    alloc: Global,
+    script: &mut Script<H, D>,
+    source: &mut S,
+    sink: &mut K,
+) -> Result<(), Status>
+    requires state { (first : State _ _) × IsIn script.old first }
+    ensures all { (first : State _ _) → IsIn script.old first → OnOk result (EndsIn (meaning H.contents H.tells H.may_leave H.fault_count D.tells D.may_leave D.fault_count) script.old.tries (FailsBehind S.take_gives source.old source.new) (S.remaining source.old) (K.contents sink.old) (K.contents sink.new) first script.new Status.Ok) }
+    ensures wrote { (first : State _ _) → IsIn script.old first → IfErr result (λ status. EndsIn (meaning H.contents H.tells H.may_leave H.fault_count D.tells D.may_leave D.fault_count) script.old.tries (FailsBehind S.take_gives source.old source.new) (S.remaining source.old) (K.contents sink.old) (K.contents sink.new) first script.new status) }
+    ensures read { OnOk result (IsAtEnd (S.remaining source.new)) }
+    ensures whole { OnOk result (IfSome (S.remaining source.old) (λ input. ending_of input ≡ Whole)) }
+    ensures fails { IfErr result (λ status. (status ≢ Status.Ok) × (status ≢ Status.Usage)) }
+    ensures read_fault { IsErrOf result Status.ReadFault → Rose (S.faults_of source.old) (S.faults_of source.new) }
+    ensures write_fault { IsErrOf result Status.WriteFault → Rose (K.faults_of sink.old) (K.faults_of sink.new) }
+    ensures ends { (ending : Ending) → IsErrOf result (status_of ending) → IfSome (S.remaining source.old) (λ input. ending_of input ≡ ending) }
+{
+    let mut lines = Lines::new(alloc);
+    while let Some(line) = lines.next(source)? {
+        let text = script.answer(alloc, &line)?;
+        put_all(sink, &text)?;
+    }
+    Ok(())
+}

@@ -1,0 +1,69 @@
+//! A load over the store: from its options to the line that sums it up.
+
+ghost use Rattle.std.specs.Prelude.{◌≡◌, ◌≢◌, vec_len, OnOk, IfErr, IsErrOf};
+ghost use Rattle.cas_base.specs.Faults.{Rose};
+ghost use Rattle.cas_model.specs.Council.{IsAtRest};
+ghost use Rattle.cas_model.specs.View.{meaning};
+ghost use Rattle.casreg_script.specs.Load.{IsLoad};
+ghost use Rattle.casreg_script.specs.Stage.{AllIdle};
+ghost use Rattle.casreg_command.specs.Causes.{Loaded, WroteSummary};
+
+use crate::status::Status;
+use cas_disk::Disk;
+use cas_disk_shelf::DiskShelf;
+use cas_lines::sink::{Sink, put_all};
+use cas_lines::summary::print_summary;
+use cas_slot::Shelf;
+use cas_store::{Rack, Store};
+use cas_world::World;
+use casreg_script::{Load, run_load};
+use std::alloc::Global;
+
+/// Runs the load in a store in which nothing has happened, and takes the store apart then.
+pub(crate) fn load_store<K: Sink, D: Disk + Drop>(
+    alloc: Global,
+    load: Load,
+    sink: &mut K,
+    store: Store<D>,
+) -> (Status, Rack<D>)
+    requires load { IsLoad load }
+    requires known { store.world.greatest ≡ load.proposers }
+    requires idle { AllIdle store.world }
+    requires quiet { IsAtRest store.world.council }
+    ensures loaded { Loaded (meaning ⟦<DiskShelf<D> as Shelf>⟧.contents ⟦<DiskShelf<D> as Shelf>⟧.tells ⟦<DiskShelf<D> as Shelf>⟧.may_leave ⟦<DiskShelf<D> as Shelf>⟧.fault_count D.tells D.may_leave D.fault_count) D.tells load (K.contents sink.old) (K.contents sink.new) store.world result.0 result.1 }
+    ensures usage { result.0 ≢ Status.Usage }
+    ensures read_fault { result.0 ≢ Status.ReadFault }
+    ensures write_fault { result.0 ≡ Status.WriteFault → Rose (K.faults_of sink.old) (K.faults_of sink.new) }
+    ensures all_acceptors { vec_len result.1.acceptors ≡ 64 }
+    ensures all_vaults { vec_len result.1.vaults ≡ 17 }
+{
+    let Store { mut world, room } = store;
+    let written = write_summary(alloc, &mut world, load, sink);
+    let store = Store { world, room };
+    let (_record, rack) = store.close();
+    match written {
+        Ok(()) => (Status::Ok, rack),
+        Err(status) => (status, rack),
+    }
+}
+
+/// Runs the load, and writes the summary of its answers. An `Err` has the status of the run.
+fn write_summary<K: Sink, H: Shelf, D: Disk>(
+    alloc: Global,
+    world: &mut World<H, D>,
+    load: Load,
+    sink: &mut K,
+) -> Result<(), Status>
+    requires load { IsLoad load }
+    requires known { world.old.greatest ≡ load.proposers }
+    requires idle { AllIdle world.old }
+    requires quiet { IsAtRest world.old.council }
+    ensures all { OnOk result (WroteSummary (meaning H.contents H.tells H.may_leave H.fault_count D.tells D.may_leave D.fault_count) load (K.contents sink.old) (K.contents sink.new) world.old world.new Status.Ok) }
+    ensures wrote { IfErr result (WroteSummary (meaning H.contents H.tells H.may_leave H.fault_count D.tells D.may_leave D.fault_count) load (K.contents sink.old) (K.contents sink.new) world.old world.new) }
+    ensures write_fault { IsErrOf result Status.WriteFault → Rose (K.faults_of sink.old) (K.faults_of sink.new) }
+{
+    let summary = run_load(alloc, world, load)?;
+    let text = print_summary(alloc, &summary)?;
+    put_all(sink, &text)?;
+    Ok(())
+}

@@ -1,0 +1,27 @@
+-- Along a script: each line leaves a safe cluster safe, and each change line that nothing stood against was answered done.
+use Rattle.std.specs.Prelude.{⊤, ℕ, List}
+use Rattle.cas_model.specs.Safe.{IsSafe}
+use Rattle.cas_model.specs.View.{Meaning, era_at}
+use Rattle.casreg_script.specs.Script as script
+use Rattle.casreg_script.specs.Script.{State, LineAnswer, IsAnswered, ScriptRun}
+use Rattle.casreg_progress.specs.Lines.{next_ballot, IsReadyLine, AreUp, IsDoneOrNoMemory}
+
+-- Each line of a script leaves a safe cluster safe, whatever it asks for and is answered.
+abbrev pub LinesKeepSafe : {S V : Type 0} → Meaning S V → Type 0
+LinesKeepSafe {S} {V} m = (tries : ℕ) (old new : State S V) (line : List ℕ) (answer : LineAnswer) → IsSafe old.world → IsAnswered m tries old line answer new → IsSafe new.world
+
+-- If the line asked for a change, nothing stood against it, and the members of the era and its proposer's desk were up after it, then it
+-- was answered done, at the ballot of its proposer's next round, or that there was no memory.
+abbrev pub IsDoneWhereReady : {S V : Type 0} (m : Meaning S V) {tries : ℕ} {old new : State S V} {line : List ℕ} {answer : LineAnswer} → IsAnswered m tries old line answer new → Type 0
+IsDoneWhereReady m {old = old} (script.changes {answer = answer} {new = new} command asked is_line asks runs) =
+    (ready : IsReadyLine m old asked) → AreUp (era_at old.world asked.caller) new.world asked.caller → IsDoneOrNoMemory (next_ballot ready.all_ready.desk asked.key) answer
+IsDoneWhereReady m other = ⊤
+
+-- so it is with each line of a run
+abbrev pub AreDoneWhereReady : {S V : Type 0} (m : Meaning S V) {tries : ℕ} {first_ last : State S V} {lines : List (List ℕ)} {answers : List LineAnswer} → ScriptRun m tries first_ lines answers last → Type 0
+AreDoneWhereReady m script.none = ⊤
+AreDoneWhereReady m (script.one_more line answer before by) = AreDoneWhereReady m before × IsDoneWhereReady m by
+
+-- Along a script that begins in a safe cluster, each change line that nothing stood against was answered done, where all were up after it.
+abbrev pub RunsAreDone : {S V : Type 0} → Meaning S V → Type 0
+RunsAreDone {S} {V} m = (tries : ℕ) (old new : State S V) (lines : List (List ℕ)) (answers : List LineAnswer) → IsSafe old.world → (run : ScriptRun m tries old lines answers new) → AreDoneWhereReady m run

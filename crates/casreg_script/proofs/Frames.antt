@@ -1,0 +1,4 @@
+pub mod Networks
+pub mod Ruled
+pub mod Rules
+pub mod Straying

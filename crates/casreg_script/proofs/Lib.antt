@@ -1,0 +1,12 @@
+pub mod Answering
+pub mod Calls
+pub mod Collection
+pub mod Eras
+pub mod Exchanges
+pub mod Frames
+pub mod Happenings
+pub mod Loads
+pub mod Opened
+pub mod Others
+pub mod Outcomes
+pub mod Stages

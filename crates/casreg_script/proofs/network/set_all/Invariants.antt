@@ -1,0 +1,11 @@
+use Rattle.std.proofs.Common.{◌≡◌, ◌<◌, ℕ, nat_lt}
+use Rattle.cas_fate.specs.Legs.{row_of}
+use Rattle.cas_fate.specs.Links.{verdict_at}
+use Rattle.cas_fate.specs.declared.fate.Leg.{Leg}
+use Rattle.casreg_script.specs.Frames.Network.{ruled}
+use Rattle.casreg_script.proofs.network.set_all.Given as goal
+
+abbrev pub invariant-loop-leg : goal.invariant-loop-leg
+invariant-loop-leg l = record {
+  table : (one : Leg) (peer : ℕ) → peer < 64 → verdict_at l.links one peer ≡ ruled (nat_lt (row_of one) l.leg-index) l.verdict (verdict_at l.initial.links one peer);
+}

@@ -1,0 +1,29 @@
+use Rattle.std.proofs.Common.{◌∙◌}
+use Rattle.std.proofs.lemmas.Result.{IfOk-weaker}
+use Rattle.cas_model.specs.View.{meaning}
+use Rattle.casreg_script.specs.Exchanges.Probes.{IsProbe}
+use Rattle.casreg_script.specs.Frames.Conditions.{Ruled}
+use Rattle.casreg_script.specs.Frames.Network.{Through}
+use Rattle.casreg_script.specs.Script.{RunsProbe, Runs}
+use Rattle.casreg_script.proofs.Answering.{probe_runs}
+use Rattle.casreg_script.proofs.Calls.Keeping.{still_idle}
+use Rattle.casreg_script.proofs.Frames.Ruled.{ruled_after, probe_stay}
+use Rattle.casreg_script.proofs.Stages.{stage_of}
+use Rattle.casreg_script.proofs.script.Script.run_probe.Goals as goal
+
+pub invariant_of-self : goal.invariant_of-self
+invariant_of-self g c = record {
+  known = c.probe.ensures.calls.greatest ∙ c.self.invariant.known;
+  few = c.self.invariant.few;
+  some = c.self.invariant.some;
+  idle = still_idle c.self.inside.world c.probe.new.world c.probe.ensures.calls.greatest c.probe.ensures.calls.callers c.self.invariant.idle;
+  quiet = c.probe.ensures.quiet;
+  ruled = (c.self.invariant.ruled.0, ruled_after c.probe.result c.self.inside.network c.probe.new.network (λ a by next. IsProbe (meaning {S = g.row.S.Denot} g.S.Shelf.contents g.S.Shelf.tells g.S.Shelf.may_leave g.S.Shelf.fault_count g.V.Disk.tells g.V.Disk.may_leave g.V.Disk.fault_count) by c.args.key.now c.self.inside.world a next c.probe.new.world) (λ a by next. probe_stay (meaning {S = g.row.S.Denot} g.S.Shelf.contents g.S.Shelf.tells g.S.Shelf.may_leave g.S.Shelf.fault_count g.V.Disk.tells g.V.Disk.may_leave g.V.Disk.fault_count) by next c.args.key.now c.self.inside.world c.probe.new.world a) (λ same. same.1) c.probe.ensures.probe c.probe.ensures.err c.self.invariant.ruled.0 c.self.invariant.ruled.1);
+}
+
+pub returns-clause-runs : goal.returns-clause-runs
+returns-clause-runs g c state at =
+    IfOk-weaker c.probe.result (λ a. Through c.self.inside.network c.probe.new.network (λ by next. IsProbe (meaning {S = g.row.S.Denot} g.S.Shelf.contents g.S.Shelf.tells g.S.Shelf.may_leave g.S.Shelf.fault_count g.V.Disk.tells g.V.Disk.may_leave g.V.Disk.fault_count) by c.args.key.now c.self.inside.world a next c.probe.new.world))
+    (λ a. Runs (RunsProbe (meaning {S = g.row.S.Denot} g.S.Shelf.contents g.S.Shelf.tells g.S.Shelf.may_leave g.S.Shelf.fault_count g.V.Disk.tells g.V.Disk.may_leave g.V.Disk.fault_count) state c.args.key.now a) (stage_of c.probe.new.world c.probe.new.network c.self.inside.halts c.self.inside.tries))
+    (λ a h. probe_runs (meaning {S = g.row.S.Denot} g.S.Shelf.contents g.S.Shelf.tells g.S.Shelf.may_leave g.S.Shelf.fault_count g.V.Disk.tells g.V.Disk.may_leave g.V.Disk.fault_count) c.self.inside.world c.probe.new.world c.self.inside.network c.probe.new.network c.self.inside.halts c.self.inside.tries c.args.self.now state c.args.key.now a c.self.view_is at (h (Ruled state.rules)))
+    c.probe.ensures.probe

@@ -1,0 +1,9 @@
+pub mod Calls
+pub mod Collection
+pub mod Eras
+pub mod Events
+pub mod Exchanges
+pub mod Frames
+pub mod Load
+pub mod Script
+pub mod Stage

@@ -1,0 +1,93 @@
+//! The words of the command line.
+
+use casreg_command::{Options, Request, read_words};
+use casreg_script::Load;
+use std::test::Fail;
+
+/// A script with these options is asked for.
+fn runs(acceptors: u8, proposers: u8, tries: u8) -> Option<Request> {
+    Some(Request::Script(Options {
+        acceptors,
+        proposers,
+        tries,
+    }))
+}
+
+/// A race with these options is asked for.
+fn races(acceptors: u8, proposers: u8, tries: u8) -> Option<Request> {
+    Some(Request::Race(Options {
+        acceptors,
+        proposers,
+        tries,
+    }))
+}
+
+/// A load with these options is asked for.
+fn loads(acceptors: u8, proposers: u8, tries: u8, seed: u64, lines: u32) -> Option<Request> {
+    Some(Request::Load(Load {
+        acceptors,
+        proposers,
+        tries,
+        seed,
+        lines,
+    }))
+}
+
+#[test]
+fn knows_the_words(rt: HostRuntime) -> Result<(), Fail> {
+    for (line, want) in [
+        ("script", runs(3, 1, 1)),
+        ("script --acceptors 3 --proposers 1", runs(3, 1, 1)),
+        ("script --tries 64 --acceptors=9", runs(9, 1, 64)),
+        ("script --proposers=16 --acceptors=1", runs(1, 16, 1)),
+        ("script --acceptors 03 --", runs(3, 1, 1)),
+        ("script --acceptors +4", runs(4, 1, 1)),
+        ("script --acceptors 10", None),
+        ("script --acceptors 0", None),
+        ("script --proposers 17", None),
+        ("script --tries 65", None),
+        ("script --tries -1", None),
+        ("script --acceptors 3 --acceptors 3", None),
+        ("script --acceptors", None),
+        ("script --seed 1", None),
+        ("script 3", None),
+        ("script --help", None),
+        ("--acceptors 3 script", None),
+        ("load", loads(3, 1, 1, 1, 1000)),
+        ("load --lines 0 --seed=0", loads(3, 1, 1, 0, 0)),
+        (
+            "load --seed 18446744073709551615 --lines=100000",
+            loads(3, 1, 1, u64::MAX, 100_000),
+        ),
+        (
+            "load --tries 8 --acceptors 5 --proposers 4",
+            loads(5, 4, 8, 1, 1000),
+        ),
+        ("load --lines 100001", None),
+        ("load --seed 18446744073709551616", None),
+        ("load --seed -1", None),
+        ("load --seed 1 --seed 1", None),
+        ("load 3", None),
+        ("load script", None),
+        ("race", races(3, 1, 1)),
+        (
+            "race --tries 64 --acceptors=9 --proposers 16",
+            races(9, 16, 64),
+        ),
+        ("race --proposers 17", None),
+        ("race --tries 8 --tries 8", None),
+        ("race --seed 1", None),
+        ("race script", None),
+        ("races", None),
+        ("help", None),
+        ("", None),
+    ] {
+        let mut words = Vec::new(rt.alloc());
+        for word in line.split_whitespace() {
+            words.push(String::from_str(rt.alloc(), word)?)?;
+        }
+        let read = read_words(rt.alloc(), &words)?;
+        assert_eq!(rt; read, want, "at {line}");
+    }
+    Ok(())
+}
