@@ -32,7 +32,7 @@ at_taken (suc n) (y ∷ xs) (suc place) x at = at_taken n xs place x at
 
 -- an acceptor has failed by its disk, and a proposer by that of its vault
 fair_closed : {D : Type 0} (m : Meaning (DiskShelf D) D) (faults : D → ℕ) (view : View (DiskShelf D) D) (acceptors vaults : List D) → ((shelf : DiskShelf D) → m.shelves.faults shelf ≡ faults (disk_of shelf)) → ((disk : D) → m.disks.faults disk ≡ faults disk)
-    → acceptors ≡ acceptor_disks view.acceptors → take (view.greatest + 1) vaults ≡ disks_of view.desks → (blame : Blame) → IsFair m view.acceptors view.desks blame → IsDeserved faults faults acceptors vaults blame
+    → acceptors ≡ acceptor_disks view.acceptors → take (view.last_proposer + 1) vaults ≡ disks_of view.desks → (blame : Blame) → IsFair m view.acceptors view.desks blame → IsDeserved faults faults acceptors vaults blame
 fair_closed m faults view acceptors vaults first second shelves disks Nobody fair = tt
 fair_closed {D} m faults view acceptors vaults first second shelves disks SomeAcceptor fair = (
   fair.0,
@@ -44,12 +44,12 @@ fair_closed {D} m faults view acceptors vaults first second shelves disks SomeAc
 )
 fair_closed {D} m faults view acceptors vaults first second shelves disks (VaultOf proposer) fair = record {
   one = vault_disk fair.one.vault;
-  at = at_taken (view.greatest + 1) vaults proposer (vault_disk fair.one.vault) (subst (λ (l : List D). IsAt l proposer (vault_disk fair.one.vault)) (sym disks) (at_map (λ (d : DeskView D). vault_disk d.vault) view.desks proposer fair.one fair.at));
+  at = at_taken (view.last_proposer + 1) vaults proposer (vault_disk fair.one.vault) (subst (λ (l : List D). IsAt l proposer (vault_disk fair.one.vault)) (sym disks) (at_map (λ (d : DeskView D). vault_disk d.vault) view.desks proposer fair.one fair.at));
   failed = subst (λ (n : ℕ). 0 < n) (second (vault_disk fair.one.vault)) fair.failed;
 }
 
 pub deserved_closed : {D : Type 0} (m : Meaning (DiskShelf D) D) (faults : D → ℕ) (view : View (DiskShelf D) D) (acceptors vaults : List D) (marks : List Mark) → IsBlamed m view
-    → ((shelf : DiskShelf D) → m.shelves.faults shelf ≡ faults (disk_of shelf)) → ((disk : D) → m.disks.faults disk ≡ faults disk) → acceptors ≡ acceptor_disks view.acceptors → take (view.greatest + 1) vaults ≡ disks_of view.desks → marks ≡ view.marks
+    → ((shelf : DiskShelf D) → m.shelves.faults shelf ≡ faults (disk_of shelf)) → ((disk : D) → m.disks.faults disk ≡ faults disk) → acceptors ≡ acceptor_disks view.acceptors → take (view.last_proposer + 1) vaults ≡ disks_of view.desks → marks ≡ view.marks
     → AreDeserved faults acceptors vaults marks
 deserved_closed m faults view acceptors vaults marks is first second shelves disks same k d low =
     let mark = slice_index_or marks k d in

@@ -51,7 +51,7 @@ get_low (y ∷ xs) zero x e = omega arith
 get_low (y ∷ xs) (suc place) x e = let low : place < length xs = get_low xs place x e in omega (arith, low)
 
 -- a caller with an open call is known
-pub open_known : {S V : Type 0} (view : View S V) (n call : ℕ) → HasOpen call (own_part view n) → IsKept view → n ≤ view.greatest
+pub open_known : {S V : Type 0} (view : View S V) (n call : ℕ) → HasOpen call (own_part view n) → IsKept view → n ≤ view.last_proposer
 open_known view n call has kept = let o = open_at view n call has in let low : n < length view.callers = get_low view.callers n o.caller o.at_caller in omega (arith, low, kept.places.callers)
 
 -- ---- what the pass tells then
@@ -145,7 +145,7 @@ gives_back {S} {V} n before after old held holds number makes x is =
     (subst (λ (k : ℕ). IsHeldBy k before after) number makes)
 
 -- a caller with an open call is known
-pub held_known : {S V : Type 0} (n number call : ℕ) (before : View S V) (own : List ℕ) → n ≡ number → own_part before number ≡ own → HasOpen call own → IsKept before → n ≤ before.greatest
+pub held_known : {S V : Type 0} (n number call : ℕ) (before : View S V) (own : List ℕ) → n ≡ number → own_part before number ≡ own → HasOpen call own → IsKept before → n ≤ before.last_proposer
 held_known n number call before own same part has kept = open_known before n call (subst (λ (k : ℕ). HasOpen call (own_part before k)) (sym same) (subst (HasOpen call) (sym part) has)) kept
 
 -- ---- by what a hold answers

@@ -153,7 +153,7 @@ impl<D: Disk> Shared<D> {
     fn into_closed(self) -> Closed<D>
         ensures marks { result.book.marks ≡ self.marks }
         ensures legal { D.tells → IsLegal (reverse result.book.marks) }
-        ensures tellings { D.tells → AreTellingsSo (suc self.greatest) (reverse result.book.marks) }
+        ensures tellings { D.tells → AreTellingsSo (suc self.last_proposer) (reverse result.book.marks) }
         ensures kept { D.tells → AreKept D.may_leave (reverse result.book.marks) result.rack.acceptors.items }
         ensures deserved { AreDeserved D.fault_count result.rack.acceptors.items result.rack.vaults.items result.book.marks }
         ensures all_acceptors { vec_len result.rack.acceptors ≡ 64 }

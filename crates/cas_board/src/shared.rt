@@ -50,7 +50,7 @@ impl<D: Disk> Grows for Shared<D> {
 
     ghost part = { own_part };
 
-    ghost seats = { λ s. suc s.greatest };
+    ghost seats = { λ s. suc s.last_proposer };
 
     ghost may_add = { MayAdd };
 

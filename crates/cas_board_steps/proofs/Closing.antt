@@ -27,9 +27,9 @@ use Rattle.cas_board_steps.proofs.Fronts.{wanted_append}
 
 -- ---- what is kept
 -- where more is marked, by which nobody asks for anything
-pub kept_marked : {S V : Type 0} (old new : View S V) (marks : List Mark) → new.greatest ≡ old.greatest → new.desks ≡ old.desks → new.callers ≡ old.callers → new.marks ≡ old.marks ++ marks → ((n : ℕ) (before : Option Wanted) → wanted_after n before marks ≡ before) → IsKept old → IsKept new
-kept_marked {S} {V} old new marks greatest desks callers made asks kept = record {
-  places = record { desks = ap (λ (l : List (DeskView V)). length l) desks ∙ kept.places.desks ∙ ap suc (sym greatest); callers = ap (λ (l : List CallerView). length l) callers ∙ kept.places.callers ∙ ap suc (sym greatest) };
+pub kept_marked : {S V : Type 0} (old new : View S V) (marks : List Mark) → new.last_proposer ≡ old.last_proposer → new.desks ≡ old.desks → new.callers ≡ old.callers → new.marks ≡ old.marks ++ marks → ((n : ℕ) (before : Option Wanted) → wanted_after n before marks ≡ before) → IsKept old → IsKept new
+kept_marked {S} {V} old new marks last_proposer desks callers made asks kept = record {
+  places = record { desks = ap (λ (l : List (DeskView V)). length l) desks ∙ kept.places.desks ∙ ap suc (sym last_proposer); callers = ap (λ (l : List CallerView). length l) callers ∙ kept.places.callers ∙ ap suc (sym last_proposer) };
   staged = λ id desk caller call at_desk at_caller is_call. kept.staged id desk caller call (subst (λ (l : List (DeskView V)). IsAt l id desk) desks at_desk) (subst (λ (l : List CallerView). IsAt l id caller) callers at_caller) is_call;
   wanted = λ id caller call at_caller is_call. ap (wanted_by id) made ∙ wanted_append id None old.marks marks ∙ asks id (wanted_by id old.marks) ∙ kept.wanted id caller call (subst (λ (l : List CallerView). IsAt l id caller) callers at_caller) is_call;
 }
@@ -37,7 +37,7 @@ kept_marked {S} {V} old new marks greatest desks callers made asks kept = record
 -- ---- a round that is closed
 -- Each caller keeps its own part.
 pub record ClosesRound {S V : Type 0} (old new : View S V) : Type 0 where
-  pub greatest : new.greatest ≡ old.greatest
+  pub last_proposer : new.last_proposer ≡ old.last_proposer
   pub marks : new.marks ≡ old.marks
   pub council : new.council ≡ old.council
   pub parts : (p : ℕ) → caller_part (slice_get new.callers p) ≡ caller_part (slice_get old.callers p)
@@ -77,10 +77,10 @@ module _ {S V : Type 0} {DeskTurns : DeskView V → DeskView V → Type 0} (told
   none_closed : (desk now : DeskView V) → IsAt old.desks id desk → desk.round ≡ None → now.round ≡ None → new ≡ record (with_desk old id now) { flow = abandoned old.flow id } → ClosesRound old new
   none_closed desk now at was_none is_none is =
       let callers : new.callers ≡ old.callers = ap (λ (w : View S V). w.callers) is in
-      let acts : Acts id old new [] = record { greatest = ap (λ (w : View S V). w.greatest) is; desks = desks_set id old new now (ap (λ (w : View S V). w.desks) is); callers = spares_same id old.callers new.callers callers; council = ap (λ (w : View S V). w.council) is; made = ap (λ (w : View S V). w.marks) is ∙ sym (append-nil old.marks) } in
+      let acts : Acts id old new [] = record { last_proposer = ap (λ (w : View S V). w.last_proposer) is; desks = desks_set id old new now (ap (λ (w : View S V). w.desks) is); callers = spares_same id old.callers new.callers callers; council = ap (λ (w : View S V). w.council) is; made = ap (λ (w : View S V). w.marks) is ∙ sym (append-nil old.marks) } in
       let at_now : IsAt new.desks id now = subst (λ (w : View S V). IsAt w.desks id now) (sym is) (at_set old.desks id desk now at) in
       record {
-        greatest = acts.greatest;
+        last_proposer = acts.last_proposer;
         marks = ap (λ (w : View S V). w.marks) is;
         council = acts.council;
         parts = λ p. ap (λ (l : List CallerView). caller_part (slice_get l p)) callers;
@@ -111,12 +111,12 @@ module _ {S V : Type 0} {DeskTurns : DeskView V → DeskView V → Type 0} (told
       let next : CallView = closed_by told why of_call.call in
       let next_caller : CallerView = record of_call.caller { call = Some next } in
       let callers : new.callers ≡ slice_set old.callers id next_caller = ap (λ (w : View S V). w.callers) is in
-      let acts : Acts id old new [] = record { greatest = ap (λ (w : View S V). w.greatest) is; desks = desks_set id old new now (ap (λ (w : View S V). w.desks) is); callers = spares_set id old.callers new.callers next_caller callers; council = ap (λ (w : View S V). w.council) is; made = ap (λ (w : View S V). w.marks) is ∙ sym (append-nil old.marks) } in
+      let acts : Acts id old new [] = record { last_proposer = ap (λ (w : View S V). w.last_proposer) is; desks = desks_set id old new now (ap (λ (w : View S V). w.desks) is); callers = spares_set id old.callers new.callers next_caller callers; council = ap (λ (w : View S V). w.council) is; made = ap (λ (w : View S V). w.marks) is ∙ sym (append-nil old.marks) } in
       let at_now : IsAt new.desks id now = subst (λ (w : View S V). IsAt w.desks id now) (sym is) (at_set old.desks id desk now at) in
       let at_next : IsAt new.callers id next_caller = subst (λ (l : List CallerView). IsAt l id next_caller) (sym callers) (at_set old.callers id of_call.caller next_caller of_call.at_caller) in
       let was_unmet : told_conflict of_call.call.told ≡ false = running_unmet desk of_call.call (kept.staged id desk of_call.caller of_call.call at of_call.at_caller of_call.is_open) (subst IsSome (sym is_round) refl) in
       record {
-        greatest = acts.greatest;
+        last_proposer = acts.last_proposer;
         marks = ap (λ (w : View S V). w.marks) is;
         council = acts.council;
         parts = λ p. elim (same_or_not p id) [

@@ -24,8 +24,8 @@ IsWanted id caller call marks = wanted_by id marks ≡ Some (wants caller.number
 
 -- there is a desk for each proposer, and a caller
 pub record IsPlaced {S V : Type 0} (view : View S V) : Type 0 where
-  pub desks : length view.desks ≡ suc view.greatest
-  pub callers : length view.callers ≡ suc view.greatest
+  pub desks : length view.desks ≡ suc view.last_proposer
+  pub callers : length view.callers ≡ suc view.last_proposer
 
 pub record IsKept {S V : Type 0} (view : View S V) : Type 0 where
   pub places : IsPlaced view
@@ -35,7 +35,7 @@ pub record IsKept {S V : Type 0} (view : View S V) : Type 0 where
 -- ---- what a hold does
 -- a hold of the caller makes these marks, and leaves what is the others' own, and how many proposers there are
 pub record Makes {S V : Type 0} (n : ℕ) (old new : View S V) (marks : List Mark) : Type 0 where
-  pub greatest : new.greatest ≡ old.greatest
+  pub last_proposer : new.last_proposer ≡ old.last_proposer
   pub made : new.marks ≡ old.marks ++ marks
   pub may_add : MayAdd marks
   pub owned : OnlyOwnedBy owner_of n marks

@@ -22,14 +22,13 @@ ghost use Rattle.cas_world.specs.Eras.Plans.{rescanned_of};
 ghost use Rattle.cas_world.specs.Readers.{closed_in};
 ghost use Rattle.cas_world.specs.World.{IsInPhase, WasTold};
 
-use crate::deeds::{Waiting, first_frame, is_conflict};
-use crate::membership::always_keep;
+use crate::deeds::{Waiting, first_frame};
 use crate::orders::open_order;
 use cas_board_world::SteadyWorld;
 use cas_change::{Key, Program};
 use cas_disk::Disk;
 use cas_fate::Verdict;
-use cas_record::{Answer, Asked, OpAnswer};
+use cas_record::{Answer, Asked, OpAnswer, keep_always};
 use cas_slot::Shelf;
 use cas_world::{Exchange, Reading};
 use cas_world_calls::council::no_memory;
@@ -80,7 +79,7 @@ pub fn order_collection<S: Shelf, V: Disk>(
     requires kept { IsKept world.old }
     requires free { IsFree (own_part world.old 0) }
     ensures kept { IsKept world.new }
-    ensures greatest { world.new.greatest ≡ world.old.greatest }
+    ensures last_proposer { world.new.last_proposer ≡ world.old.last_proposer }
     ensures makes { Makes 0 world.old world.new [] }
     ensures counted { rescanned_of world.new.council.plan ≡ rescanned_of world.old.council.plan }
     ensures key { IfOk result (λ collecting. collecting.key ≡ key.now) }
@@ -108,7 +107,7 @@ fn prepare(alloc: Global, key: &Key, tries: u32) -> Result<(Asked, KeyCollection
 {
     let asked = Asked::Collect(key.copy()?);
     let key = key.copy()?;
-    let program = always_keep(alloc)?;
+    let program = keep_always(alloc)?;
     let collecting = KeyCollection {
         key,
         program,
@@ -131,7 +130,7 @@ pub fn go_on_collecting<S: Shelf, V: Disk>(
     requires keeps { collecting.program ≡ keep_always }
     requires at { HasCourse collecting.key (most_rounds collecting.tries) collecting.course (own_part world.old 0) world.old.marks }
     ensures kept { IsKept world.new }
-    ensures greatest { world.new.greatest ≡ world.old.greatest }
+    ensures last_proposer { world.new.last_proposer ≡ world.old.last_proposer }
     ensures key { IfOk result (λ next. next.key ≡ collecting.key) }
     ensures keeps { IfOk result (λ next. next.program ≡ keep_always) }
     ensures tries { IfOk result (λ next. next.tries ≡ collecting.tries) }
@@ -186,7 +185,7 @@ fn take_step<S: Shelf, V: Disk>(
     requires at { HasCourse key.now (most_rounds tries) course (own_part world.old 0) world.old.marks }
     requires waits { course ≡ Course.HearsRemovals → (queue_at world.old.flow exchange_place).messages ≢ [] }
     ensures kept { IsKept world.new }
-    ensures greatest { world.new.greatest ≡ world.old.greatest }
+    ensures last_proposer { world.new.last_proposer ≡ world.old.last_proposer }
     ensures collects { CollectsIn key.now (most_rounds tries) (harm_by verdict) world.old world.new result }
 {
     match course {
@@ -213,7 +212,7 @@ fn begin_burial<S: Shelf, V: Disk>(
     requires keeps { program.now ≡ keep_always }
     requires at { HasOrder (asked.Collect key.now) (own_part world.old 0) }
     ensures kept { IsKept world.new }
-    ensures greatest { world.new.greatest ≡ world.old.greatest }
+    ensures last_proposer { world.new.last_proposer ≡ world.old.last_proposer }
     ensures collects { (tries most : ℕ) → 1 ≤ tries → CollectsIn key.now tries most world.old world.new result }
 {
     let call = world.next_call(0);
@@ -260,7 +259,7 @@ fn go_on_burying<S: Shelf, V: Disk>(
     requires at { HasBurial key.now call (own_part world.old 0) world.old.marks }
     requires within { IsWithin (most_rounds tries) rounds (own_part world.old 0) }
     ensures kept { IsKept world.new }
-    ensures greatest { world.new.greatest ≡ world.old.greatest }
+    ensures last_proposer { world.new.last_proposer ≡ world.old.last_proposer }
     ensures collects { CollectsIn key.now (most_rounds tries) (harm_by verdict) world.old world.new result }
 {
     if let Some(told) = world.closed(0) {
@@ -292,7 +291,7 @@ fn bury_again<S: Shelf, V: Disk>(
     requires idle { (desk : DeskView V) → IsAt world.old.desks 0 desk → desk.round ≡ None }
     requires unclosed { (seen : CallerView) → IsAt world.old.callers 0 seen → closed_in seen.call ≡ None }
     ensures kept { IsKept world.new }
-    ensures greatest { world.new.greatest ≡ world.old.greatest }
+    ensures last_proposer { world.new.last_proposer ≡ world.old.last_proposer }
     ensures collects { (tries most : ℕ) → IsWithin tries rounds (own_part world.old 0) → CollectsIn key.now tries most world.old world.new result }
 {
     match world.begin_collect(call, key, program) {
@@ -318,7 +317,7 @@ fn take_burial_turn<S: Shelf, V: Disk>(
     requires running { (desk : DeskView V) → IsAt world.old.desks 0 desk → IsSome desk.round }
     requires waits { (queue_at world.old.flow 0).messages ≢ [] }
     ensures kept { IsKept world.new }
-    ensures greatest { world.new.greatest ≡ world.old.greatest }
+    ensures last_proposer { world.new.last_proposer ≡ world.old.last_proposer }
     ensures collects { (tries : ℕ) → IsWithin tries rounds (own_part world.old 0) → CollectsIn key.now tries (harm_by verdict) world.old world.new result }
 {
     match world.turn(0, verdict) {
@@ -345,14 +344,14 @@ fn propose_tombstone<S: Shelf, V: Disk>(
     requires preparing { IsInPhase world.old 0 true }
     requires unproposed { (seen : CallerView) → IsAt world.old.callers 0 seen → IfSome seen.call (λ open_call. open_call.proposed ≡ None) }
     ensures kept { IsKept world.new }
-    ensures greatest { world.new.greatest ≡ world.old.greatest }
+    ensures last_proposer { world.new.last_proposer ≡ world.old.last_proposer }
     ensures collects { (most : ℕ) → CollectsIn key.now (most_rounds tries) most world.old world.new result }
 {
     match world.propose_tombstone() {
         Ok(Reading::Empty) => Ok(Course::Buries { call, rounds }),
         Ok(Reading::Held { .. }) => Ok(Course::Buried),
         Err(told) => {
-            if rounds < tries && is_conflict(&told) {
+            if rounds < tries && told.is_conflict() {
                 return Ok(Course::Buries { call, rounds });
             }
             Err(stop(world, call, told))
@@ -370,7 +369,7 @@ fn count_tombstone<S: Shelf, V: Disk>(
     requires at { HasBurial key.now call (own_part world.old 0) world.old.marks }
     requires counting { IsInPhase world.old 0 false }
     ensures kept { IsKept world.new }
-    ensures greatest { world.new.greatest ≡ world.old.greatest }
+    ensures last_proposer { world.new.last_proposer ≡ world.old.last_proposer }
     ensures collects { (tries most : ℕ) → CollectsIn key.now tries most world.old world.new result }
 {
     let told = world.count_tombstone();
@@ -401,7 +400,7 @@ fn gather_round<S: Shelf, V: Disk>(
     requires kept { IsKept world.old }
     requires at { HasStep key.now step.Round (own_part world.old 0) }
     ensures kept { IsKept world.new }
-    ensures greatest { world.new.greatest ≡ world.old.greatest }
+    ensures last_proposer { world.new.last_proposer ≡ world.old.last_proposer }
     ensures collects { (tries most : ℕ) → CollectsIn key.now tries most world.old world.new result }
 {
     match world.gather() {
@@ -415,7 +414,7 @@ fn renew<S: Shelf, V: Disk>(world: &mut SteadyWorld<S, V>, key: &Key) -> Result<
     requires kept { IsKept world.old }
     requires at { HasStep key.now step.Ages (own_part world.old 0) ⊎ ((proposer : ℕ) × HasStep key.now (step.Renew proposer) (own_part world.old 0)) }
     ensures kept { IsKept world.new }
-    ensures greatest { world.new.greatest ≡ world.old.greatest }
+    ensures last_proposer { world.new.last_proposer ≡ world.old.last_proposer }
     ensures collects { (tries most : ℕ) → CollectsIn key.now tries most world.old world.new result }
 {
     match world.renew_next() {
@@ -430,11 +429,11 @@ fn renew_proposer<S: Shelf, V: Disk>(
     key: &Key,
     proposer: u8,
 ) -> Result<Course, OpAnswer>
-    requires known { proposer ≤ world.old.greatest }
+    requires known { proposer ≤ world.old.last_proposer }
     requires kept { IsKept world.old }
     requires at { HasStep key.now (step.Renew proposer) (own_part world.old 0) }
     ensures kept { IsKept world.new }
-    ensures greatest { world.new.greatest ≡ world.old.greatest }
+    ensures last_proposer { world.new.last_proposer ≡ world.old.last_proposer }
     ensures collects { (tries most : ℕ) → CollectsIn key.now tries most world.old world.new result }
 {
     match world.renew(proposer) {
@@ -448,7 +447,7 @@ fn ask_ages<S: Shelf, V: Disk>(world: &mut SteadyWorld<S, V>, key: &Key) -> Resu
     requires kept { IsKept world.old }
     requires at { HasStep key.now step.Ages (own_part world.old 0) }
     ensures kept { IsKept world.new }
-    ensures greatest { world.new.greatest ≡ world.old.greatest }
+    ensures last_proposer { world.new.last_proposer ≡ world.old.last_proposer }
     ensures collects { (tries most : ℕ) → CollectsIn key.now tries most world.old world.new result }
 {
     match world.ask_all(Exchange::Ages) {
@@ -465,7 +464,7 @@ fn ask_removals<S: Shelf, V: Disk>(
     requires kept { IsKept world.old }
     requires at { HasStep key.now step.Remove (own_part world.old 0) }
     ensures kept { IsKept world.new }
-    ensures greatest { world.new.greatest ≡ world.old.greatest }
+    ensures last_proposer { world.new.last_proposer ≡ world.old.last_proposer }
     ensures collects { (tries most : ℕ) → CollectsIn key.now tries most world.old world.new result }
 {
     match world.ask_all(Exchange::Remove) {
@@ -484,7 +483,7 @@ fn hear_ages<S: Shelf, V: Disk>(
     requires kept { IsKept world.old }
     requires at { HasQuestion key.now step.Ages (own_part world.old 0) }
     ensures kept { IsKept world.new }
-    ensures greatest { world.new.greatest ≡ world.old.greatest }
+    ensures last_proposer { world.new.last_proposer ≡ world.old.last_proposer }
     ensures collects { (tries : ℕ) → CollectsIn key.now tries (harm_by verdict) world.old world.new result }
 {
     if world.front(0).is_none() {
@@ -505,7 +504,7 @@ fn gather_ages<S: Shelf, V: Disk>(
     requires at { HasQuestion key.now step.Ages (own_part world.old 0) }
     requires through { (queue_at world.old.flow exchange_place).messages ≡ [] }
     ensures kept { IsKept world.new }
-    ensures greatest { world.new.greatest ≡ world.old.greatest }
+    ensures last_proposer { world.new.last_proposer ≡ world.old.last_proposer }
     ensures collects { (tries most : ℕ) → CollectsIn key.now tries most world.old world.new result }
 {
     match world.gather() {
@@ -519,7 +518,7 @@ fn floor<S: Shelf, V: Disk>(world: &mut SteadyWorld<S, V>, key: &Key) -> Course
     requires kept { IsKept world.old }
     requires at { HasStep key.now step.Floor (own_part world.old 0) }
     ensures kept { IsKept world.new }
-    ensures greatest { world.new.greatest ≡ world.old.greatest }
+    ensures last_proposer { world.new.last_proposer ≡ world.old.last_proposer }
     ensures collects { (tries most : ℕ) → CollectsIn key.now tries most world.old world.new (Ok result) }
 {
     world.floor();
@@ -536,7 +535,7 @@ fn hear_removals<S: Shelf, V: Disk>(
     requires at { HasQuestion key.now step.Remove (own_part world.old 0) }
     requires waits { (queue_at world.old.flow exchange_place).messages ≢ [] }
     ensures kept { IsKept world.new }
-    ensures greatest { world.new.greatest ≡ world.old.greatest }
+    ensures last_proposer { world.new.last_proposer ≡ world.old.last_proposer }
     ensures collects { (tries : ℕ) → CollectsIn key.now tries (harm_by verdict) world.old world.new result }
 {
     match world.turn(0, verdict) {
@@ -551,7 +550,7 @@ fn gather_removals<S: Shelf, V: Disk>(world: &mut SteadyWorld<S, V>, key: Key) -
     requires at { HasQuestion key step.Remove (own_part world.old 0) }
     requires through { (queue_at world.old.flow exchange_place).messages ≡ [] }
     ensures kept { IsKept world.new }
-    ensures greatest { world.new.greatest ≡ world.old.greatest }
+    ensures last_proposer { world.new.last_proposer ≡ world.old.last_proposer }
     ensures collects { (tries most : ℕ) → CollectsIn key tries most world.old world.new (Err result) }
 {
     match world.gather() {

@@ -54,7 +54,7 @@ pub struct Begun {
 
 /// The first frame of the caller that waits: of its round or, where caller 0 asks all members, of its exchange.
 pub fn first_frame<S: Shelf, V: Disk>(world: &SteadyWorld<S, V>, caller: u8) -> Option<Waiting>
-    requires { caller ≤ world.now.greatest }
+    requires { caller ≤ world.now.last_proposer }
     ensures first { IfSome result (IsFirst world.now caller) }
     ensures none { result ≡ None → front_of world.now caller ≡ None }
 {
@@ -70,7 +70,7 @@ pub fn first_frame<S: Shelf, V: Disk>(world: &SteadyWorld<S, V>, caller: u8) -> 
 
 /// How far the caller's open call has come.
 pub fn stage_of<S: Shelf, V: Disk>(world: &SteadyWorld<S, V>, caller: u8) -> Stage
-    requires { caller ≤ world.now.greatest }
+    requires { caller ≤ world.now.last_proposer }
     ensures { IsStageOf world.now caller result }
 {
     match first_frame(world, caller) {
@@ -89,7 +89,7 @@ pub fn stage_of<S: Shelf, V: Disk>(world: &SteadyWorld<S, V>, caller: u8) -> Sta
 pub fn let_in<S: Shelf, V: Disk>(world: &mut SteadyWorld<S, V>, index: usize)
     requires kept { IsKept world.old }
     ensures kept { IsKept world.new }
-    ensures greatest { world.new.greatest ≡ world.old.greatest }
+    ensures last_proposer { world.new.last_proposer ≡ world.old.last_proposer }
     ensures strays { StraysIn world.old world.new }
 {
     if index < world.late() {
@@ -104,11 +104,11 @@ pub fn begin<S: Shelf, V: Disk>(
     key: &Key,
     program: &Program,
 ) -> Result<Begun, Answer>
-    requires known { caller ≤ world.old.greatest }
+    requires known { caller ≤ world.old.last_proposer }
     requires kept { IsKept world.old }
     requires idle { IsIdle (own_part world.old caller) }
     ensures kept { IsKept world.new }
-    ensures greatest { world.new.greatest ≡ world.old.greatest }
+    ensures last_proposer { world.new.last_proposer ≡ world.old.last_proposer }
     ensures begun { IfOk result (λ begun. BeginsIn caller begun.call key.now program.now world.old world.new) }
     ensures stage { IfOk result (λ begun. IsStageOf world.new caller begun.stage) }
     ensures fresh { IfOk result (λ begun. tells_met begun.stage ≡ false) }
@@ -120,7 +120,7 @@ pub fn begin<S: Shelf, V: Disk>(
             call,
             stage: stage_of(world, caller),
         }),
-        Err(refusal) if is_refusal(&refusal) => Err(refusal),
+        Err(refusal) if refusal.is_refusal() => Err(refusal),
         Err(told) => Err(world.end(caller, call, told)),
     }
 }
@@ -138,12 +138,12 @@ pub fn go_on<S: Shelf, V: Disk>(
     verdict: Verdict,
     may_repeat: bool,
 ) -> Result<Stage, Answer>
-    requires known { caller ≤ world.old.greatest }
+    requires known { caller ≤ world.old.last_proposer }
     requires kept { IsKept world.old }
     requires called { HasOpen call (own_part world.old caller) }
     requires wanted { wanted_by caller world.old.marks ≡ Some (wants call key.now program.now) }
     ensures kept { IsKept world.new }
-    ensures greatest { world.new.greatest ≡ world.old.greatest }
+    ensures last_proposer { world.new.last_proposer ≡ world.old.last_proposer }
     ensures goes_on { OnOk result (GoesOnIn caller call (harm_by verdict) world.old world.new) }
     ensures stage { IfOk result (IsStageOf world.new caller) }
     ensures met { IfOk result (λ stage. is_met_in (own_part world.new caller) ≡ tells_met stage) }
@@ -175,14 +175,14 @@ fn begin_again<S: Shelf, V: Disk>(
     key: &Key,
     program: &Program,
 ) -> Result<Stage, Answer>
-    requires known { caller ≤ world.old.greatest }
+    requires known { caller ≤ world.old.last_proposer }
     requires kept { IsKept world.old }
     requires called { HasOpen call (own_part world.old caller) }
     requires wanted { wanted_by caller world.old.marks ≡ Some (wants call key.now program.now) }
     requires idle { (desk : DeskView V) → IsAt world.old.desks caller desk → desk.round ≡ None }
     requires unclosed { (seen : CallerView) → IsAt world.old.callers caller seen → closed_in seen.call ≡ None }
     ensures kept { IsKept world.new }
-    ensures greatest { world.new.greatest ≡ world.old.greatest }
+    ensures last_proposer { world.new.last_proposer ≡ world.old.last_proposer }
     ensures goes_on { (most : ℕ) → OnOk result (GoesOnIn caller call most world.old world.new) }
     ensures stage { IfOk result (IsStageOf world.new caller) }
     ensures met { IfOk result (λ stage. is_met_in (own_part world.new caller) ≡ tells_met stage) }
@@ -203,13 +203,13 @@ fn take_turn<S: Shelf, V: Disk>(
     call: u32,
     verdict: Verdict,
 ) -> Result<Stage, Answer>
-    requires known { caller ≤ world.old.greatest }
+    requires known { caller ≤ world.old.last_proposer }
     requires kept { IsKept world.old }
     requires called { HasOpen call (own_part world.old caller) }
     requires running { (desk : DeskView V) → IsAt world.old.desks caller desk → IsSome desk.round }
     requires waits { (queue_at world.old.flow caller).messages ≢ [] }
     ensures kept { IsKept world.new }
-    ensures greatest { world.new.greatest ≡ world.old.greatest }
+    ensures last_proposer { world.new.last_proposer ≡ world.old.last_proposer }
     ensures goes_on { OnOk result (GoesOnIn caller call (harm_by verdict) world.old world.new) }
     ensures stage { IfOk result (IsStageOf world.new caller) }
     ensures met { IfOk result (λ stage. is_met_in (own_part world.new caller) ≡ tells_met stage) }
@@ -235,13 +235,13 @@ fn propose<S: Shelf, V: Disk>(
     call: u32,
     may_repeat: bool,
 ) -> Result<Stage, Answer>
-    requires known { caller ≤ world.old.greatest }
+    requires known { caller ≤ world.old.last_proposer }
     requires kept { IsKept world.old }
     requires called { HasOpen call (own_part world.old caller) }
     requires preparing { IsInPhase world.old caller true }
     requires unproposed { (seen : CallerView) → IsAt world.old.callers caller seen → IfSome seen.call (λ open_call. open_call.proposed ≡ None) }
     ensures kept { IsKept world.new }
-    ensures greatest { world.new.greatest ≡ world.old.greatest }
+    ensures last_proposer { world.new.last_proposer ≡ world.old.last_proposer }
     ensures goes_on { (most : ℕ) → OnOk result (GoesOnIn caller call most world.old world.new) }
     ensures stage { IfOk result (IsStageOf world.new caller) }
     ensures met { IfOk result (λ stage. is_met_in (own_part world.new caller) ≡ tells_met stage) }
@@ -252,24 +252,10 @@ fn propose<S: Shelf, V: Disk>(
     match world.propose(caller) {
         Ok(()) => Ok(stage_of(world, caller)),
         Err(told) => {
-            if may_repeat && is_conflict(&told) {
+            if may_repeat && told.is_conflict() {
                 return Ok(stage_of(world, caller));
             }
             Err(world.end(caller, call, told))
         }
     }
-}
-
-/// Whether a new call that is answered so was not begun.
-fn is_refusal(answer: &Answer) -> bool
-    ensures { result ≡ is_refusal answer.now }
-{
-    matches!(answer, Answer::RecordFull | Answer::NoMemory { .. })
-}
-
-/// Whether it tells of a conflict.
-pub fn is_conflict(answer: &Answer) -> bool
-    ensures { result ≡ is_conflict answer.now }
-{
-    matches!(answer, Answer::Conflict { .. })
 }

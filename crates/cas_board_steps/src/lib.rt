@@ -10,7 +10,7 @@ mod membership;
 mod orders;
 
 pub use collections::{Course, KeyCollection, go_on_collecting, order_collection};
-pub use deeds::{Begun, Stage, Waiting, begin, first_frame, go_on, is_conflict, let_in, stage_of};
+pub use deeds::{Begun, Stage, Waiting, begin, first_frame, go_on, let_in, stage_of};
 pub use membership::{
     Aim, Listing, MembersStep, Rescan, Rescanning, advance, list_on, order_members, rescan_on,
     take_up,

@@ -20,16 +20,16 @@ use crate::deeds::{Begun, Stage, Waiting, begin, first_frame, go_on};
 use crate::orders::open_order;
 use cas_ballot::AcceptorId;
 use cas_board_world::SteadyWorld;
-use cas_change::{Act, Clause, Guard, Key, Program};
+use cas_change::{Key, Program};
 use cas_disk::Disk;
 use cas_fate::Verdict;
 use cas_members::PlanStep;
-use cas_record::{Answer, OpAnswer};
+use cas_record::{Answer, OpAnswer, keep_always};
 use cas_slot::Shelf;
 use cas_world::{Exchange, PlanKind};
 use cas_world_calls::answers::is_done;
 use cas_world_calls::council::no_memory;
-use std::alloc::{AllocError, Global};
+use std::alloc::Global;
 
 /// A change of membership that the operator asks for.
 #[derive(Clone, Copy, Debug, PartialEq, Eq)]
@@ -73,14 +73,14 @@ pub fn order_members<S: Shelf, V: Disk>(
     requires kept { IsKept world.old }
     requires free { IsFree (own_part world.old 0) }
     ensures kept { IsKept world.new }
-    ensures greatest { world.new.greatest ≡ world.old.greatest }
+    ensures last_proposer { world.new.last_proposer ≡ world.old.last_proposer }
     ensures makes { Makes 0 world.old world.new [] }
     ensures counted { rescanned_of world.new.council.plan ≡ rescanned_of world.old.council.plan }
     ensures program { IfOk result (λ program. program ≡ keep_always) }
     ensures ordered { OnOk result (HasOrder (asked_to aim.now.kind aim.now.id) (own_part world.new 0)) }
     ensures refused { IfErr result (λ why. IsRefusal (length world.new.marks) why × IsFree (own_part world.new 0)) }
 {
-    match always_keep(alloc) {
+    match keep_always(alloc) {
         Ok(program) => match open_order(world, &aim.kind.asked(aim.id)) {
             Ok(()) => Ok(program),
             Err(refusal) => Err(refusal),
@@ -89,27 +89,12 @@ pub fn order_members<S: Shelf, V: Disk>(
     }
 }
 
-/// The program that leaves each state as it is.
-pub(crate) fn always_keep(alloc: Global) -> Result<Program, AllocError>
-    ensures { IfOk result (λ program. program ≡ keep_always) }
-{
-    let mut clauses = Vec::with_capacity(alloc, 1)?;
-    clauses.push(Clause {
-        guard: Guard::Always,
-        act: Act::Keep,
-    })?;
-    match Program::new(clauses) {
-        Ok(program) => Ok(program),
-        Err(_) => unreachable!(),
-    }
-}
-
 /// The change of membership begins, unless it is under way. An `Err` is what the operator was told, and its call is over.
 pub fn take_up<S: Shelf, V: Disk>(world: &mut SteadyWorld<S, V>, aim: &Aim) -> Result<(), OpAnswer>
     requires kept { IsKept world.old }
     requires ordered { HasOrder (asked_to aim.now.kind aim.now.id) (own_part world.old 0) }
     ensures kept { IsKept world.new }
-    ensures greatest { world.new.greatest ≡ world.old.greatest }
+    ensures last_proposer { world.new.last_proposer ≡ world.old.last_proposer }
     ensures makes { OnOk result (Makes 0 world.old world.new []) }
     ensures counted { OnOk result (rescanned_of world.new.council.plan ≡ rescanned_of world.old.council.plan) }
     ensures planned { OnOk result (HasPlan (asked_to aim.now.kind aim.now.id) (own_part world.new 0)) }
@@ -130,7 +115,7 @@ fn enter<S: Shelf, V: Disk>(world: &mut SteadyWorld<S, V>, aim: &Aim) -> Result<
     requires kept { IsKept world.old }
     requires planned { HasPlan (asked_to aim.now.kind aim.now.id) (own_part world.old 0) }
     ensures kept { IsKept world.new }
-    ensures greatest { world.new.greatest ≡ world.old.greatest }
+    ensures last_proposer { world.new.last_proposer ≡ world.old.last_proposer }
     ensures goes_on { OnOk result (OperatesIn IsPlanMark 0 world.old world.new) }
     ensures planned { OnOk result (HasPlan (asked_to aim.now.kind aim.now.id) (own_part world.new 0)) }
     ensures told { IfErr result (IsToldIn (asked_to aim.now.kind aim.now.id) IsPlanMark 0 world.old world.new) }
@@ -155,7 +140,7 @@ fn list<S: Shelf, V: Disk>(
     requires settles { step_of world.old.council.plan ≡ Some step.Settle }
     requires partial { IsPartial world.old.council.plan }
     ensures kept { IsKept world.new }
-    ensures greatest { world.new.greatest ≡ world.old.greatest }
+    ensures last_proposer { world.new.last_proposer ≡ world.old.last_proposer }
     ensures makes { OnOk result (Makes 0 world.old world.new []) }
     ensures counted { OnOk result (rescanned_of world.new.council.plan ≡ rescanned_of world.old.council.plan) }
     ensures lists { OnOk result (HasListing (asked_to aim.now.kind aim.now.id) (own_part world.new 0)) }
@@ -174,7 +159,7 @@ fn finish<S: Shelf, V: Disk>(world: &mut SteadyWorld<S, V>, aim: &Aim) -> OpAnsw
     requires planned { HasPlan (asked_to aim.now.kind aim.now.id) (own_part world.old 0) }
     requires end { IsAtEnd world.old }
     ensures kept { IsKept world.new }
-    ensures greatest { world.new.greatest ≡ world.old.greatest }
+    ensures last_proposer { world.new.last_proposer ≡ world.old.last_proposer }
     ensures told { IsToldIn (asked_to aim.now.kind aim.now.id) IsPlanMark 0 world.old world.new result }
     ensures answer { IsMembersAnswer (asked_to aim.now.kind aim.now.id) result }
 {
@@ -210,7 +195,7 @@ fn begin_rescan<S: Shelf, V: Disk>(
     requires due { due_in world.old.council.plan ≡ Some key }
     requires program { program.now ≡ keep_always }
     ensures kept { IsKept world.new }
-    ensures greatest { world.new.greatest ≡ world.old.greatest }
+    ensures last_proposer { world.new.last_proposer ≡ world.old.last_proposer }
     ensures goes_on { OnOk result (OperatesIn IsPlanMark 0 world.old world.new) }
     ensures step { IfOk result (StandsAt (asked_to aim.now.kind aim.now.id) (own_part world.new 0) (wanted_by 0 world.new.marks)) }
     ensures told { IfErr result (IsToldIn (asked_to aim.now.kind aim.now.id) IsPlanMark 0 world.old world.new) }
@@ -239,7 +224,7 @@ fn begin_due<S: Shelf, V: Disk>(
     requires due { due ≡ due_in world.old.council.plan }
     requires program { program.now ≡ keep_always }
     ensures kept { IsKept world.new }
-    ensures greatest { world.new.greatest ≡ world.old.greatest }
+    ensures last_proposer { world.new.last_proposer ≡ world.old.last_proposer }
     ensures goes_on { OnOk result (OperatesIn IsPlanMark 0 world.old world.new) }
     ensures step { IfOk result (StandsAt (asked_to aim.now.kind aim.now.id) (own_part world.new 0) (wanted_by 0 world.new.marks)) }
     ensures told { IfErr result (IsToldIn (asked_to aim.now.kind aim.now.id) IsPlanMark 0 world.old world.new) }
@@ -261,7 +246,7 @@ fn take_key<S: Shelf, V: Disk>(
     requires planned { HasPlan (asked_to aim.now.kind aim.now.id) (own_part world.old 0) }
     requires program { program.now ≡ keep_always }
     ensures kept { IsKept world.new }
-    ensures greatest { world.new.greatest ≡ world.old.greatest }
+    ensures last_proposer { world.new.last_proposer ≡ world.old.last_proposer }
     ensures goes_on { OnOk result (OperatesIn IsPlanMark 0 world.old world.new) }
     ensures step { IfOk result (StandsAt (asked_to aim.now.kind aim.now.id) (own_part world.new 0) (wanted_by 0 world.new.marks)) }
     ensures told { IfErr result (IsToldIn (asked_to aim.now.kind aim.now.id) IsPlanMark 0 world.old world.new) }
@@ -285,7 +270,7 @@ fn settle<S: Shelf, V: Disk>(
     requires settles { step_of world.old.council.plan ≡ Some step.Settle }
     requires program { program.now ≡ keep_always }
     ensures kept { IsKept world.new }
-    ensures greatest { world.new.greatest ≡ world.old.greatest }
+    ensures last_proposer { world.new.last_proposer ≡ world.old.last_proposer }
     ensures goes_on { OnOk result (OperatesIn IsPlanMark 0 world.old world.new) }
     ensures step { IfOk result (StandsAt (asked_to aim.now.kind aim.now.id) (own_part world.new 0) (wanted_by 0 world.new.marks)) }
     ensures told { IfErr result (IsToldIn (asked_to aim.now.kind aim.now.id) IsPlanMark 0 world.old world.new) }
@@ -311,7 +296,7 @@ pub fn advance<S: Shelf, V: Disk>(
     requires planned { HasPlan (asked_to aim.now.kind aim.now.id) (own_part world.old 0) }
     requires program { program.now ≡ keep_always }
     ensures kept { IsKept world.new }
-    ensures greatest { world.new.greatest ≡ world.old.greatest }
+    ensures last_proposer { world.new.last_proposer ≡ world.old.last_proposer }
     ensures goes_on { OnOk result (OperatesIn IsPlanMark 0 world.old world.new) }
     ensures step { IfOk result (StandsAt (asked_to aim.now.kind aim.now.id) (own_part world.new 0) (wanted_by 0 world.new.marks)) }
     ensures told { IfErr result (IsToldIn (asked_to aim.now.kind aim.now.id) IsPlanMark 0 world.old world.new) }
@@ -346,7 +331,7 @@ pub fn list_on<S: Shelf, V: Disk>(
     requires kept { IsKept world.old }
     requires lists { HasListing (asked_to aim.now.kind aim.now.id) (own_part world.old 0) }
     ensures kept { IsKept world.new }
-    ensures greatest { world.new.greatest ≡ world.old.greatest }
+    ensures last_proposer { world.new.last_proposer ≡ world.old.last_proposer }
     ensures goes_on { OnOk result (OperatesIn IsPlanMark (harm_by verdict) world.old world.new) }
     ensures listed { IfOk result (IsListedTo (asked_to aim.now.kind aim.now.id) (own_part world.new 0)) }
     ensures told { IfErr result (IsToldIn (asked_to aim.now.kind aim.now.id) IsPlanMark (harm_by verdict) world.old world.new) }
@@ -370,7 +355,7 @@ fn gather_list<S: Shelf, V: Disk>(world: &mut SteadyWorld<S, V>, aim: &Aim) -> R
     requires lists { HasListing (asked_to aim.now.kind aim.now.id) (own_part world.old 0) }
     requires through { (queue_at world.old.flow exchange_place).messages ≡ [] }
     ensures kept { IsKept world.new }
-    ensures greatest { world.new.greatest ≡ world.old.greatest }
+    ensures last_proposer { world.new.last_proposer ≡ world.old.last_proposer }
     ensures goes_on { (most : ℕ) → OnOk result (OperatesIn IsPlanMark most world.old world.new) }
     ensures planned { OnOk result (HasPlan (asked_to aim.now.kind aim.now.id) (own_part world.new 0)) }
     ensures told { (most : ℕ) → IfErr result (IsToldIn (asked_to aim.now.kind aim.now.id) IsPlanMark most world.old world.new) }
@@ -393,7 +378,7 @@ fn turn_list<S: Shelf, V: Disk>(
     requires lists { HasListing (asked_to aim.now.kind aim.now.id) (own_part world.old 0) }
     requires waits { (queue_at world.old.flow exchange_place).messages ≢ [] }
     ensures kept { IsKept world.new }
-    ensures greatest { world.new.greatest ≡ world.old.greatest }
+    ensures last_proposer { world.new.last_proposer ≡ world.old.last_proposer }
     ensures goes_on { OnOk result (OperatesIn IsPlanMark (harm_by verdict) world.old world.new) }
     ensures lists { OnOk result (HasListing (asked_to aim.now.kind aim.now.id) (own_part world.new 0)) }
     ensures told { IfErr result (IsToldIn (asked_to aim.now.kind aim.now.id) IsPlanMark (harm_by verdict) world.old world.new) }
@@ -428,7 +413,7 @@ pub fn rescan_on<S: Shelf, V: Disk>(
     requires rescans { HasRescan (asked_to aim.now.kind aim.now.id) call key.now (own_part world.old 0) }
     requires wanted { wanted_by 0 world.old.marks ≡ Some (wants call key.now program.now) }
     ensures kept { IsKept world.new }
-    ensures greatest { world.new.greatest ≡ world.old.greatest }
+    ensures last_proposer { world.new.last_proposer ≡ world.old.last_proposer }
     ensures goes_on { OnOk result (OperatesIn IsPlanMark (harm_by verdict) world.old world.new) }
     ensures wanted { IfOk result (λ now. now ≢ Rescanning.Counted → wanted_by 0 world.new.marks ≡ wanted_by 0 world.old.marks) }
     ensures rescans { IfOk result (IsRescannedTo (asked_to aim.now.kind aim.now.id) call key.now (own_part world.new 0)) }

@@ -49,7 +49,7 @@ pub(crate) fn open_order<S: Shelf, V: Disk>(
     requires kept { IsKept world.old }
     requires free { IsFree (own_part world.old 0) }
     ensures kept { IsKept world.new }
-    ensures greatest { world.new.greatest ≡ world.old.greatest }
+    ensures last_proposer { world.new.last_proposer ≡ world.old.last_proposer }
     ensures makes { Makes 0 world.old world.new [] }
     ensures counted { rescanned_of world.new.council.plan ≡ rescanned_of world.old.council.plan }
     ensures ordered { OnOk result (HasOrder asked.now (own_part world.new 0)) }
@@ -70,7 +70,7 @@ pub fn order_probe<S: Shelf, V: Disk>(
     requires kept { IsKept world.old }
     requires free { IsFree (own_part world.old 0) }
     ensures kept { IsKept world.new }
-    ensures greatest { world.new.greatest ≡ world.old.greatest }
+    ensures last_proposer { world.new.last_proposer ≡ world.old.last_proposer }
     ensures makes { Makes 0 world.old world.new [] }
     ensures counted { rescanned_of world.new.council.plan ≡ rescanned_of world.old.council.plan }
     ensures ordered { OnOk result (HasOrder (Asked.Probe key.now) (own_part world.new 0)) }
@@ -108,7 +108,7 @@ pub fn ask_probe<S: Shelf, V: Disk>(
     requires question { order.question ≡ Exchange.Probe order.key }
     requires ordered { HasOrder (Asked.Probe order.key) (own_part world.old 0) }
     ensures kept { IsKept world.new }
-    ensures greatest { world.new.greatest ≡ world.old.greatest }
+    ensures last_proposer { world.new.last_proposer ≡ world.old.last_proposer }
     ensures makes { OnOk result (Makes 0 world.old world.new []) }
     ensures counted { OnOk result (rescanned_of world.new.council.plan ≡ rescanned_of world.old.council.plan) }
     ensures asks { OnOk result (HasProbe order.key (everyone world.old) (own_part world.new 0)) }
@@ -141,7 +141,7 @@ pub fn go_on_probing<S: Shelf, V: Disk>(
     requires kept { IsKept world.old }
     requires asks { (members : List ℕ) × HasProbe probing.key members (own_part world.old 0) }
     ensures kept { IsKept world.new }
-    ensures greatest { world.new.greatest ≡ world.old.greatest }
+    ensures last_proposer { world.new.last_proposer ≡ world.old.last_proposer }
     ensures goes_on { OnOk result (OperatesIn IsAskingHarm (harm_by verdict) world.old world.new) }
     ensures still { OnOk result ((members : List ℕ) → HasProbe probing.key members (own_part world.old 0) → HasProbe probing.key members (own_part world.new 0)) }
     ensures harms { OnOk result (MarksHarms world.old world.new) }
@@ -174,7 +174,7 @@ fn take_probe_turn<S: Shelf, V: Disk>(
     requires asks { (members : List ℕ) × HasProbe key.now members (own_part world.old 0) }
     requires waits { (queue_at world.old.flow exchange_place).messages ≢ [] }
     ensures kept { IsKept world.new }
-    ensures greatest { world.new.greatest ≡ world.old.greatest }
+    ensures last_proposer { world.new.last_proposer ≡ world.old.last_proposer }
     ensures goes_on { OnOk result (OperatesIn IsAskingHarm (harm_by verdict) world.old world.new) }
     ensures still { OnOk result ((members : List ℕ) → HasProbe key.now members (own_part world.old 0) → HasProbe key.now members (own_part world.new 0)) }
     ensures harms { OnOk result (MarksHarms world.old world.new) }
@@ -197,7 +197,7 @@ fn gather_probe<S: Shelf, V: Disk>(world: &mut SteadyWorld<S, V>, key: Key) -> O
     requires asks { (members : List ℕ) × HasProbe key members (own_part world.old 0) }
     requires through { (queue_at world.old.flow exchange_place).messages ≡ [] }
     ensures kept { IsKept world.new }
-    ensures greatest { world.new.greatest ≡ world.old.greatest }
+    ensures last_proposer { world.new.last_proposer ≡ world.old.last_proposer }
     ensures told { (most : ℕ) → IsToldIn (Asked.Probe key) IsAskingHarm most world.old world.new result }
     ensures answer { (members : List ℕ) → HasProbe key members (own_part world.old 0) → IsProbeAnswer key members result }
     ensures silent { (harms : ℕ) → HasHarms harms (own_part world.old 0) → IsSilentAtMost harms result }

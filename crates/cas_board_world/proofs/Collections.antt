@@ -47,7 +47,7 @@ begin_collect_blamed {S} {V} m old key new safe is by = by_case by.begins
     by_case (collect.is_busy plan idle up busy view) = subst (IsBlamed m) (sym view) (on_telling m is (told.Busy (era_at old 0).number) tt)
     by_case (collect.is_full idle up none full view) = subst (IsBlamed m) (sym view) (on_telling m is (told.Stopped answer.RecordFull) tt)
     by_case (collect.no_memory middle idle up none refuses view) = subst (IsBlamed m) (sym view) (on_telling m (refuses_blamed m old 0 key middle is refuses) (told.Stopped (answer.NoMemory false)) tt)
-    by_case (collect.begins middle idle none begins view) = subst (IsBlamed m) (sym view) (on_collecting m (begin_blamed m old 0 key keep_always middle safe is begins) by.may.order None (new_collection key (era_at old 0) old.greatest) tt)
+    by_case (collect.begins middle idle none begins view) = subst (IsBlamed m) (sym view) (on_collecting m (begin_blamed m old 0 key keep_always middle safe is begins) by.may.order None (new_collection key (era_at old 0) old.last_proposer) tt)
     by_case (collect.goes_on middle call at is_open begins view) = subst (IsBlamed m) (sym view) (on_collecting m (begin_blamed m old 0 key keep_always middle safe is begins) by.may.order None at.at.collection tt)
 
 pub read_held_blamed : {S V : Type 0} (m : Meaning S V) (old new : View S V) → IsBlamed m old → StepReadHeld m old new → IsBlamed m new

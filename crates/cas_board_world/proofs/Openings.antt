@@ -69,7 +69,7 @@ none_at (past at) none = cc none
 -- no mark tells anything yet
 opening_truly : {S V : Type 0} (m : Meaning S V) (members : List ℕ) (view : View S V) → IsOpening m members view → TellsTruly view
 opening_truly {S} {V} m members view is = record {
-  tellings = subst (λ (l : List Mark). AreTellingsSo (suc view.greatest) (reverse l)) (sym is.marks) (record { so = λ at. absurd (none_at at refl) });
+  tellings = subst (λ (l : List Mark). AreTellingsSo (suc view.last_proposer) (reverse l)) (sym is.marks) (record { so = λ at. absurd (none_at at refl) });
   passing = subst (λ (c : Council). IsPassingBy c.order) (sym is.council) tt;
 }
 

@@ -181,8 +181,8 @@ rest_later (Settle ∷ left) era there = there
 rest_later (Enter next ∷ left) era there = contains_older (eras_in left) there
 rest_later (Finished ∷ left) era there = there
 
-later_entered : (greatest : ℕ) (plan : PlanView) (next era : Era) → Contains (later_of (Some (plan_after greatest plan next))) era → Contains (later_of (Some plan)) era
-later_entered greatest plan next era = by_last (plan.entered == greatest)
+later_entered : (last_proposer : ℕ) (plan : PlanView) (next era : Era) → Contains (later_of (Some (plan_after last_proposer plan next))) era → Contains (later_of (Some plan)) era
+later_entered last_proposer plan next era = by_last (plan.entered == last_proposer)
   where
     by_last : (b : Bool) → Contains (later_of (Some (if b then record plan { progress = record { era = next; left = rest_of plan.progress.left }; entered = 0; listing = None } else record plan { entered = suc plan.entered }))) era → Contains (later_of (Some plan)) era
     by_last true there = rest_later plan.progress.left era there
@@ -191,8 +191,8 @@ later_entered greatest plan next era = by_last (plan.entered == greatest)
 enters_blamed : {S V : Type 0} (m : Meaning S V) (old middle : View S V) (plan : PlanView) (next : Era) → IsBlamed m old → old.council.plan ≡ Some plan → next_era old.council.plan ≡ Some next
     → LeavesRound (EntersEra m.disks next) (closed_by (answer.Moved next.number) (cause.Moved next.number)) old plan.entered middle → IsBlamed m (entered_view middle plan next)
 enters_blamed {S} {V} m old middle plan next is is_plan is_next leaves =
-    on_mark m (on_eras m (on_council m left (record (hushed middle.council) { plan = Some (plan_after middle.greatest plan next) }) refl (hushed_order m middle.acceptors middle.desks middle.council.order) left.exchange
-    (λ era there. left.later era (subst (λ (p : Option PlanView). Contains (later_of p) era) (sym (ap (λ (c : Council). c.plan) same ∙ is_plan)) (later_entered middle.greatest plan next era there)))
+    on_mark m (on_eras m (on_council m left (record (hushed middle.council) { plan = Some (plan_after middle.last_proposer plan next) }) refl (hushed_order m middle.acceptors middle.desks middle.council.order) left.exchange
+    (λ era there. left.later era (subst (λ (p : Option PlanView). Contains (later_of p) era) (sym (ap (λ (c : Council). c.plan) same ∙ is_plan)) (later_entered middle.last_proposer plan next era there)))
     left.asked) plan.entered next (left.later next (subst (λ (c : Council). Contains (later_of c.plan) next) (sym same) (next_in old.council.plan next is_next)))) (EraEntered plan.entered next.number) tt
   where
     same : middle.council ≡ old.council

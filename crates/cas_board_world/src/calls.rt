@@ -36,7 +36,7 @@ impl<S: Shelf, V: Disk> SteadyWorld<S, V> {
         key: &Key,
         program: &Program,
     ) -> Result<(), Answer>
-        requires known { caller ≤ self.old.greatest }
+        requires known { caller ≤ self.old.last_proposer }
         requires unasked { caller ≡ 0 → self.old.council.exchange ≡ None }
         requires may { MayBegin self.old caller call key.now program.now }
         ensures full { IsErrOf result Answer.RecordFull ↔ IsFull self.old caller }
@@ -49,7 +49,7 @@ impl<S: Shelf, V: Disk> SteadyWorld<S, V> {
 
     /// As [`World::turn`].
     pub fn turn(&mut self, proposer: u8, verdict: Verdict) -> Result<(), AllocError>
-        requires proposer { proposer ≤ self.old.greatest }
+        requires proposer { proposer ≤ self.old.last_proposer }
         requires waits { (queue_at self.old.flow (place_of self.old proposer)).messages ≢ [] }
         ensures ok { OnOk result (Step (meaning S.contents S.tells S.may_leave S.fault_count V.tells V.may_leave V.fault_count) self.old (turn_of self.old proposer verdict) self.new) }
         ensures err { OnErr result (Step (meaning S.contents S.tells S.may_leave S.fault_count V.tells V.may_leave V.fault_count) self.old (refusal_of self.old proposer) self.new) }
@@ -59,7 +59,7 @@ impl<S: Shelf, V: Disk> SteadyWorld<S, V> {
 
     /// As [`World::propose`].
     pub fn propose(&mut self, proposer: u8) -> Result<(), Answer>
-        requires known { proposer ≤ self.old.greatest }
+        requires known { proposer ≤ self.old.last_proposer }
         requires preparing { IsInPhase self.old proposer true }
         ensures step { Step (meaning S.contents S.tells S.may_leave S.fault_count V.tells V.may_leave V.fault_count) self.old (Propose proposer) self.new }
         ensures proposed { OnOk result (HasProposed self.new proposer) }
@@ -72,7 +72,7 @@ impl<S: Shelf, V: Disk> SteadyWorld<S, V> {
 
     /// As [`World::count`].
     pub fn count(&mut self, proposer: u8) -> Answer
-        requires known { proposer ≤ self.old.greatest }
+        requires known { proposer ≤ self.old.last_proposer }
         requires counting { IsInPhase self.old proposer false }
         ensures step { Step (meaning S.contents S.tells S.may_leave S.fault_count V.tells V.may_leave V.fault_count) self.old (Count proposer) self.new }
         ensures told { (caller : CallerView) → slice_get self.old.callers proposer ≡ Some caller → WasTold self.new proposer caller.number result }
@@ -85,7 +85,7 @@ impl<S: Shelf, V: Disk> SteadyWorld<S, V> {
 
     /// As [`World::end`].
     pub fn end(&mut self, caller: u8, call: u32, answer: Answer) -> Answer
-        requires known { caller ≤ self.old.greatest }
+        requires known { caller ≤ self.old.last_proposer }
         requires told { WasTold self.old caller call answer }
         ensures same { result ≡ answer }
         ensures step { Step (meaning S.contents S.tells S.may_leave S.fault_count V.tells V.may_leave V.fault_count) self.old (End caller answer) self.new }

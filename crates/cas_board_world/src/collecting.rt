@@ -68,7 +68,7 @@ impl<S: Shelf, V: Disk> SteadyWorld<S, V> {
 
     /// As [`World::renew`].
     pub fn renew(&mut self, proposer: u8) -> Result<u64, OpAnswer>
-        requires known { proposer ≤ self.old.greatest }
+        requires known { proposer ≤ self.old.last_proposer }
         requires due { IsDueStep self.old (RenewStep proposer) }
         ensures step { Step (meaning S.contents S.tells S.may_leave S.fault_count V.tells V.may_leave V.fault_count) self.old (Renew proposer) self.new }
         ensures ok { OnOk result (GoesOnCollecting self.old self.new) }

@@ -39,7 +39,7 @@ impl<S: Shelf, V: Disk> SteadyWorld<S, V> {
         ensures same { result ≡ answer }
         ensures step { Step (meaning S.contents S.tells S.may_leave S.fault_count V.tells V.may_leave V.fault_count) self.old (Tell answer) self.new }
         ensures floor { S.tells → V.tells → HasCollectedAll self.old answer → HasItsFloor answer (reverse self.old.marks) }
-        ensures entered { HasFinished self.old answer → HaveEnteredIts self.old.greatest answer (reverse self.old.marks) }
+        ensures entered { HasFinished self.old answer → HaveEnteredIts self.old.last_proposer answer (reverse self.old.marks) }
     {
         self.world.tell(answer)
     }

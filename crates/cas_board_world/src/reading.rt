@@ -31,7 +31,7 @@ impl<S: Shelf, V: Disk> SteadyWorld<S, V> {
     pub fn record(&self) -> &Record
         ensures marks { result.now.marks ≡ self.now.marks }
         ensures legal { S.tells → V.tells → IsLegal (reverse result.now.marks) }
-        ensures tellings { S.tells → V.tells → AreTellingsSo (suc self.now.greatest) (reverse result.now.marks) }
+        ensures tellings { S.tells → V.tells → AreTellingsSo (suc self.now.last_proposer) (reverse result.now.marks) }
     {
         self.world.record()
     }
@@ -45,7 +45,7 @@ impl<S: Shelf, V: Disk> SteadyWorld<S, V> {
 
     /// As [`World::next_call`].
     pub fn next_call(&self, caller: u8) -> u32
-        requires { caller ≤ self.now.greatest }
+        requires { caller ≤ self.now.last_proposer }
         ensures { option_map next_number (slice_get self.now.callers caller) ≡ Some result }
     {
         self.world.next_call(caller)
@@ -53,7 +53,7 @@ impl<S: Shelf, V: Disk> SteadyWorld<S, V> {
 
     /// As [`World::front`].
     pub fn front(&self, proposer: u8) -> Option<(Leg, AcceptorId)>
-        requires { proposer ≤ self.now.greatest }
+        requires { proposer ≤ self.now.last_proposer }
         ensures { result ≡ option_map head_of (slice_get (queue_at self.now.flow (place_of self.now proposer)).messages 0) }
     {
         self.world.front(proposer)
@@ -61,7 +61,7 @@ impl<S: Shelf, V: Disk> SteadyWorld<S, V> {
 
     /// As [`World::closed`].
     pub fn closed(&self, proposer: u8) -> Option<Answer>
-        requires { proposer ≤ self.now.greatest }
+        requires { proposer ≤ self.now.last_proposer }
         ensures { (caller : CallerView) → IsAt self.now.callers proposer caller → result ≡ closed_in caller.call }
     {
         self.world.closed(proposer)
@@ -69,7 +69,7 @@ impl<S: Shelf, V: Disk> SteadyWorld<S, V> {
 
     /// As [`World::verdict`].
     pub fn verdict(&self, proposer: u8) -> Option<RoundVerdict>
-        requires { proposer ≤ self.now.greatest }
+        requires { proposer ≤ self.now.last_proposer }
         ensures { (desk : DeskView V) → IsAt self.now.desks proposer desk → IsVerdictIn desk.round result }
     {
         self.world.verdict(proposer)
@@ -77,7 +77,7 @@ impl<S: Shelf, V: Disk> SteadyWorld<S, V> {
 
     /// As [`World::has_proposed`].
     pub fn has_proposed(&self, caller: u8) -> bool
-        requires { caller ≤ self.now.greatest }
+        requires { caller ≤ self.now.last_proposer }
         ensures proposed { (seen : CallerView) → slice_get self.now.callers caller ≡ Some seen → IfSome seen.call (λ call. result ≡ is_some call.proposed) }
         ensures phase { (desk : DeskView V) → slice_get self.now.desks caller ≡ Some desk → IfSome desk.round (λ round. is_preparing round.phase ≡ not result) }
     {
@@ -116,7 +116,7 @@ impl<S: Shelf, V: Disk> SteadyWorld<S, V> {
     /// As [`World::enter_next`].
     pub fn enter_next(&self) -> Option<u8>
         ensures next { result ≡ entrant_of self.now.council.plan }
-        ensures known { IfSome result (λ proposer. proposer ≤ self.now.greatest) }
+        ensures known { IfSome result (λ proposer. proposer ≤ self.now.last_proposer) }
     {
         self.world.enter_next()
     }
@@ -132,7 +132,7 @@ impl<S: Shelf, V: Disk> SteadyWorld<S, V> {
     /// As [`World::renew_next`].
     pub fn renew_next(&self) -> Option<u8>
         ensures next { result ≡ renewal_in self.now.council.collection }
-        ensures known { IfSome result (λ proposer. proposer ≤ self.now.greatest) }
+        ensures known { IfSome result (λ proposer. proposer ≤ self.now.last_proposer) }
     {
         self.world.renew_next()
     }

@@ -46,7 +46,7 @@ impl<S: Shelf, V: Disk> SteadyWorld<S, V> {
     pub fn into_world(self) -> World<S, V>
         ensures same { result ≡ self }
         ensures blamed { IsBlamed (meaning S.contents S.tells S.may_leave S.fault_count V.tells V.may_leave V.fault_count) self }
-        ensures tellings { S.tells → V.tells → AreTellingsSo (suc self.greatest) (reverse self.marks) }
+        ensures tellings { S.tells → V.tells → AreTellingsSo (suc self.last_proposer) (reverse self.marks) }
     {
         let SteadyWorld { world } = self;
         world

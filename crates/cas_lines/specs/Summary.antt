@@ -1,4 +1,5 @@
 -- How the lines of a load were answered, in numbers, and the line that tells it.
+pub use Rattle.cas_record.specs.Answers.{is_conflict}
 use Rattle.std.specs.Prelude.{ℕ, ◌+◌, Bool, true, false, not, ◌||◌, if◌then◌else◌, List, [], ◌∷◌, ◌++◌, length, codes, decimal}
 use Rattle.cas_record.specs.declared.answer.Answer.{Answer}
 use Rattle.cas_record.specs.declared.answer.Answer.TheVariants as answer
@@ -9,11 +10,6 @@ use Rattle.cas_lines.specs.declared.summary.Summary.{Summary}
 abbrev pub is_done : Answer → Bool
 is_done (answer.Done state took ballot) = true
 is_done other = false
-
--- its last round met a greater ballot
-abbrev pub is_conflict : Answer → Bool
-is_conflict (answer.Conflict met) = true
-is_conflict other = false
 
 -- it was proposed, and is not known to stand
 abbrev pub is_unsettled : Answer → Bool

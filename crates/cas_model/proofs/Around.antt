@@ -26,9 +26,9 @@ use Rattle.cas_model.proofs.Places.{same_or_not, other_set}
 -- ---- parties
 -- these proposers with their callers, and all frames, are as the log tells
 pub record Parties {S V : Type 0} (m : Meaning S V) (cluster : Cluster) (log : List Happening) (all : List Made) (view : View S V) (These : ℕ → Type 0) : Type 0 where
-  pub greatest : cluster.greatest ≡ view.greatest
-  pub few : view.greatest ≤ 16
-  pub eras : (p : ℕ) → p ≤ view.greatest → IsEraOf cluster (era_at view p)
+  pub last_proposer : cluster.last_proposer ≡ view.last_proposer
+  pub few : view.last_proposer ≤ 16
+  pub eras : (p : ℕ) → p ≤ view.last_proposer → IsEraOf cluster (era_at view p)
   pub desks : (p : ℕ) → These p → (desk : DeskView V) (caller : CallerView) → IsAt view.desks p desk → IsAt view.callers p caller
       → IsDeskTrue m cluster log all (era_at view p).number p caller (queue_at view.flow p).messages desk
   pub callers : (p : ℕ) → These p → (caller : CallerView) → IsAt view.callers p caller → IsCallerTrue log all p caller
@@ -38,7 +38,7 @@ pub record Parties {S V : Type 0} (m : Meaning S V) (cluster : Cluster) (log : L
 
 pub parties_of : {S V : Type 0} (m : Meaning S V) (cluster : Cluster) (global : GlobalState) (view : View S V) (These : ℕ → Type 0) → AgreesWith m cluster global view → Parties m cluster global.log global.made view These
 parties_of m cluster global view These is = record {
-  greatest = is.greatest;
+  last_proposer = is.last_proposer;
   few = is.few;
   eras = is.eras;
   desks = λ p these desk caller at_desk at_caller. is.desks p desk caller at_desk at_caller;
@@ -52,7 +52,7 @@ parties_of m cluster global view These is = record {
 pub parties_more : {S V : Type 0} (m : Meaning S V) (cluster : Cluster) (log : List Happening) (all : List Made) (view : View S V) (These : ℕ → Type 0) (h : Happening) → Lawful cluster (h ∷ log) → Orderly cluster (h ∷ log) → FloorsNot h → AsksFor view.council.collection h → ((p : ℕ) → These p → IsOfOthers p h)
     → Parties m cluster log all view These → Parties m cluster (h ∷ log) all view These
 parties_more m cluster log all view These h lawful orderly none asks of was = record {
-  greatest = was.greatest;
+  last_proposer = was.last_proposer;
   few = was.few;
   eras = was.eras;
   desks = λ p these desk caller at_desk at_caller. desk_still m cluster h log all (era_at view p).number p caller (queue_at view.flow p).messages desk orderly (of p these) (was.desks p these desk caller at_desk at_caller);
@@ -66,7 +66,7 @@ parties_more m cluster log all view These h lawful orderly none asks of was = re
 parties_made : {S V : Type 0} (m : Meaning S V) (cluster : Cluster) (log : List Happening) (all more : List Made) (view : View S V) (These : ℕ → Type 0) → ((x : Made) → Stands x all → Stands x more)
     → Parties m cluster log all view These → Parties m cluster log more view These
 parties_made m cluster log all more view These grows was = record {
-  greatest = was.greatest;
+  last_proposer = was.last_proposer;
   few = was.few;
   eras = was.eras;
   desks = λ p these desk caller at_desk at_caller. desk_more m cluster log (era_at view p).number p caller (queue_at view.flow p).messages desk grows (was.desks p these desk caller at_desk at_caller);
@@ -78,12 +78,12 @@ parties_made m cluster log all more view These grows was = record {
 
 -- a view with the same desks, callers and frames
 pub parties_seen : {S V : Type 0} (m : Meaning S V) (cluster : Cluster) (log : List Happening) (all : List Made) (old new : View S V) (These : ℕ → Type 0)
-    → new.greatest ≡ old.greatest → new.eras ≡ old.eras → new.desks ≡ old.desks → new.callers ≡ old.callers → new.flow ≡ old.flow → new.council ≡ old.council
+    → new.last_proposer ≡ old.last_proposer → new.eras ≡ old.eras → new.desks ≡ old.desks → new.callers ≡ old.callers → new.flow ≡ old.flow → new.council ≡ old.council
     → Parties m cluster log all old These → Parties m cluster log all new These
-parties_seen {S} {V} m cluster log all old new These greatest eras desks callers flow council was = record {
-  greatest = was.greatest ∙ sym greatest;
-  few = subst (λ (n : ℕ). n ≤ 16) (sym greatest) was.few;
-  eras = λ p low. subst (λ (l : List Era). IsEraOf cluster (era_in l p)) (sym eras) (was.eras p (subst (λ (n : ℕ). p ≤ n) greatest low));
+parties_seen {S} {V} m cluster log all old new These last_proposer eras desks callers flow council was = record {
+  last_proposer = was.last_proposer ∙ sym last_proposer;
+  few = subst (λ (n : ℕ). n ≤ 16) (sym last_proposer) was.few;
+  eras = λ p low. subst (λ (l : List Era). IsEraOf cluster (era_in l p)) (sym eras) (was.eras p (subst (λ (n : ℕ). p ≤ n) last_proposer low));
   desks = λ p these desk caller at_desk at_caller.
       subst (λ (l : List Era). IsDeskTrue m cluster log all (era_in l p).number p caller (queue_at new.flow p).messages desk) (sym eras)
       (subst (λ (f : FlowView). IsDeskTrue m cluster log all (era_at old p).number p caller (queue_at f p).messages desk) (sym flow)
@@ -120,7 +120,7 @@ logged m cluster global view whole marks = record {
   history = whole.history;
   agrees = record {
     marks = marks;
-    greatest = whole.parties.greatest;
+    last_proposer = whole.parties.last_proposer;
     few = whole.parties.few;
     eras = whole.parties.eras;
     acceptors = whole.acceptors;
@@ -146,7 +146,7 @@ around m cluster global view id whole = record {
   history = whole.history;
   acceptors = whole.acceptors;
   parties = record {
-    greatest = whole.parties.greatest;
+    last_proposer = whole.parties.last_proposer;
     few = whole.parties.few;
     eras = whole.parties.eras;
     desks = λ p other desk caller at_desk at_caller. whole.parties.desks p tt desk caller at_desk at_caller;
@@ -195,7 +195,7 @@ around_era {S} {V} m cluster global old id era places is was = record {
   history = was.history;
   acceptors = was.acceptors;
   parties = record {
-    greatest = was.parties.greatest;
+    last_proposer = was.parties.last_proposer;
     few = was.parties.few;
     eras = λ p low. era_there p low (same_or_not p id);
     desks = λ p other desk caller at_desk at_caller.
@@ -207,14 +207,14 @@ around_era {S} {V} m cluster global old id era places is was = record {
   };
 }
   where
-    era_there : (p : ℕ) → p ≤ old.greatest → (p ≡ id) ⊎ (p ≡ id → ⊥) → IsEraOf cluster (era_in (slice_set old.eras id era) p)
+    era_there : (p : ℕ) → p ≤ old.last_proposer → (p ≡ id) ⊎ (p ≡ id → ⊥) → IsEraOf cluster (era_in (slice_set old.eras id era) p)
     era_there p low (inl same) = subst (λ (q : ℕ). IsEraOf cluster (era_in (slice_set old.eras id era) q)) (sym same)
         (subst (IsEraOf cluster) (sym (era_set old.eras id era (omega (arith, same, low, was.parties.few, places)))) is)
     era_there p low (inr other) = subst (IsEraOf cluster) (sym (era_kept old.eras id p era other)) (was.parties.eras p low)
 
 -- what a step of the proposer leaves alone
 pub record Leaves {S V : Type 0} (old new : View S V) (id : ℕ) : Type 0 where
-  pub greatest : new.greatest ≡ old.greatest
+  pub last_proposer : new.last_proposer ≡ old.last_proposer
   pub eras : new.eras ≡ old.eras
   pub acceptors : new.acceptors ≡ old.acceptors
   pub desks : (p : ℕ) (desk : DeskView V) → (p ≡ id → ⊥) → IsAt new.desks p desk → IsAt old.desks p desk
@@ -236,9 +236,9 @@ settles {S} {V} m cluster global old new id rest leaves becomes = record {
   history = rest.history;
   acceptors = λ a acceptor at. rest.acceptors a acceptor (subst (λ (l : List (AcceptorView S)). IsAt l a acceptor) leaves.acceptors at);
   parties = record {
-    greatest = rest.parties.greatest ∙ sym leaves.greatest;
-    few = subst (λ (n : ℕ). n ≤ 16) (sym leaves.greatest) rest.parties.few;
-    eras = λ p low. subst (λ (l : List Era). IsEraOf cluster (era_in l p)) (sym leaves.eras) (rest.parties.eras p (subst (λ (n : ℕ). p ≤ n) leaves.greatest low));
+    last_proposer = rest.parties.last_proposer ∙ sym leaves.last_proposer;
+    few = subst (λ (n : ℕ). n ≤ 16) (sym leaves.last_proposer) rest.parties.few;
+    eras = λ p low. subst (λ (l : List Era). IsEraOf cluster (era_in l p)) (sym leaves.eras) (rest.parties.eras p (subst (λ (n : ℕ). p ≤ n) leaves.last_proposer low));
     desks = λ p these desk caller at_desk at_caller. at_desks p desk caller at_desk at_caller (same_or_not p id);
     callers = λ p these caller at. at_callers p caller at (same_or_not p id);
     council = subst (IsCouncilTrue cluster global.log) (sym leaves.council) rest.parties.council;
@@ -269,7 +269,7 @@ settles {S} {V} m cluster global old new id rest leaves becomes = record {
 pub leaves_both : {S V : Type 0} (old : View S V) (id : ℕ) (desk : DeskView V) (caller : CallerView) (flow : FlowView) (marks : List Mark) → ((p : ℕ) → (p ≡ id → ⊥) → (queue_at flow p).messages ≡ (queue_at old.flow p).messages)
     → Leaves old (record old { desks = slice_set old.desks id desk; callers = slice_set old.callers id caller; flow = flow; marks = marks }) id
 leaves_both old id desk caller flow marks others = record {
-  greatest = refl;
+  last_proposer = refl;
   eras = refl;
   acceptors = refl;
   desks = λ p d other at. other_set old.desks id desk p d other at;
@@ -281,7 +281,7 @@ leaves_both old id desk caller flow marks others = record {
 pub leaves_desk : {S V : Type 0} (old : View S V) (id : ℕ) (desk : DeskView V) (flow : FlowView) → ((p : ℕ) → (p ≡ id → ⊥) → (queue_at flow p).messages ≡ (queue_at old.flow p).messages)
     → Leaves old (record old { desks = slice_set old.desks id desk; flow = flow }) id
 leaves_desk old id desk flow others = record {
-  greatest = refl;
+  last_proposer = refl;
   eras = refl;
   acceptors = refl;
   desks = λ p d other at. other_set old.desks id desk p d other at;
@@ -293,7 +293,7 @@ leaves_desk old id desk flow others = record {
 pub leaves_caller : {S V : Type 0} (old : View S V) (id : ℕ) (caller : CallerView) (flow : FlowView) (marks : List Mark) → ((p : ℕ) → (p ≡ id → ⊥) → (queue_at flow p).messages ≡ (queue_at old.flow p).messages)
     → Leaves old (record old { callers = slice_set old.callers id caller; flow = flow; marks = marks }) id
 leaves_caller old id caller flow marks others = record {
-  greatest = refl;
+  last_proposer = refl;
   eras = refl;
   acceptors = refl;
   desks = λ p d other at. at;

@@ -281,7 +281,7 @@ quorum_of (suc zero) by = has_member by 1 && has_member by 2
 quorum_of (suc (suc era)) by = has_member by 2
 
 abbrev moving : Cluster
-moving = record { greatest = 1; members = members_of; prepares = quorum_of; accepts = quorum_of }
+moving = record { last_proposer = 1; members = members_of; prepares = quorum_of; accepts = quorum_of }
 
 moving_meets : ClusterMeets moving
 moving_meets zero zero low high p a e f = record { acceptor = 1; left = e; right = f }

@@ -94,7 +94,7 @@ one_of (inr x) = x
 
 -- ---- eras
 -- a proposer whose vault shows the number of its era works in that era
-shown_same : (of : Course) (id : ℕ) → id ≤ of.greatest → IsCourse of → era_shown of.plan (era_in of.eras id) (era_in of.eras id).number ≡ era_in of.eras id
+shown_same : (of : Course) (id : ℕ) → id ≤ of.last_proposer → IsCourse of → era_shown of.plan (era_in of.eras id) (era_in of.eras id).number ≡ era_in of.eras id
 shown_same of id low is = by_plan of.plan is.under_way
   where
     by_plan : (plan : Option PlanView) → IsUnderWay of plan → era_shown plan (era_in of.eras id) (era_in of.eras id).number ≡ era_in of.eras id
@@ -118,7 +118,7 @@ same_course m {cluster} old new same log on desks = record {
   cluster = cluster;
   logged = log;
   course = subst (IsCourseOf cluster) (sym same) on;
-  in_eras = λ id desk at. subst (λ (of : Course). (id ≤ of.greatest) × IsInEra m of id desk) (sym same) (desks id desk at);
+  in_eras = λ id desk at. subst (λ (of : Course). (id ≤ of.last_proposer) × IsInEra m of id desk) (sym same) (desks id desk at);
 }
 
 -- ---- a proposer is up again
@@ -141,13 +141,13 @@ record GoesNext {S V : Type 0} (m : Meaning S V) (old : View S V) (id : ℕ) (pl
   at_desk : IsAt old.desks id desk
   at_caller : IsAt old.callers id caller
 
-planned : {S V : Type 0} (m : Meaning S V) (old : View S V) (id : ℕ) (plan : PlanView) (next : Era) → (at : GoesNext m old id plan next) → IsCourseOf at.is.cluster (course old.greatest old.eras (Some plan) (entries_in old.marks))
-planned m old id plan next at = subst (λ (p : Option PlanView). IsCourseOf at.is.cluster (course old.greatest old.eras p (entries_in old.marks))) at.is_plan at.is.course
+planned : {S V : Type 0} (m : Meaning S V) (old : View S V) (id : ℕ) (plan : PlanView) (next : Era) → (at : GoesNext m old id plan next) → IsCourseOf at.is.cluster (course old.last_proposer old.eras (Some plan) (entries_in old.marks))
+planned m old id plan next at = subst (λ (p : Option PlanView). IsCourseOf at.is.cluster (course old.last_proposer old.eras p (entries_in old.marks))) at.is_plan at.is.course
 
 follows_next : {S V : Type 0} (m : Meaning S V) (old : View S V) (id : ℕ) (plan : PlanView) (next : Era) → GoesNext m old id plan next → Follows plan.progress.era next
 follows_next m old id plan next at = (leads plan.progress.era next plan.progress.left at.is_next (planned m old id plan next at).is_course.under_way.start).follows
 
-known_in : {S V : Type 0} (m : Meaning S V) (old : View S V) (id : ℕ) (plan : PlanView) (next : Era) → GoesNext m old id plan next → id ≤ old.greatest
+known_in : {S V : Type 0} (m : Meaning S V) (old : View S V) (id : ℕ) (plan : PlanView) (next : Era) → GoesNext m old id plan next → id ≤ old.last_proposer
 known_in m old id plan next at = (at.is.in_eras id at.desk at.at_desk).0
 
 -- the next era is one of the cluster's
@@ -184,7 +184,7 @@ leaving m old id plan next at in_base =
 none_beyond_next : {S V : Type 0} (m : Meaning S V) (old : View S V) (id : ℕ) (plan : PlanView) (next : Era) → (at : GoesNext m old id plan next) → Stands (Entered id (suc next.number)) at.is.logged.global.log → ⊥
 none_beyond_next m old id plan next at =
     none_after at.is.cluster at.is.logged.global.log id plan.entered next.number at.is.logged.history.lawful (omega (arith, (follows_next m old id plan next at).number))
-    (omega (arith, (planned m old id plan next at).is_course.under_way.some_left, at.is.logged.agrees.greatest)) (unmarked m old id plan next at)
+    (omega (arith, (planned m old id plan next at).is_course.under_way.some_left, at.is.logged.agrees.last_proposer)) (unmarked m old id plan next at)
 
 -- no caller begins, proposes or ends with that
 entered_leaves : (proposer era id : ℕ) → LeavesCalls (Entered proposer era) id
@@ -232,9 +232,9 @@ restarts_entered : {S V : Type 0} (m : Meaning S V) (old : View S V) (id : ℕ) 
 restarts_entered {S} {V} m old id plan next now at disks in_base none idle by within = record {
   cluster = at.is.cluster;
   logged = logged m at.is.cluster after new whole at.is.logged.agrees.marks;
-  course = subst (λ (p : Option PlanView). IsCourseOf at.is.cluster (course old.greatest (slice_set old.eras id next) p (entries_in old.marks))) (sym at.is_plan)
+  course = subst (λ (p : Option PlanView). IsCourseOf at.is.cluster (course old.last_proposer (slice_set old.eras id next) p (entries_in old.marks))) (sym at.is_plan)
       (let on = planned m old id plan next at in
-      record { is_course = stays_on old.greatest old.eras plan (entries_in old.marks) id next (λ low. entered at.is_next) (λ low. follows_sized (follows_next m old id plan next at)) on.is_course; later = on.later; none_beyond = on.none_beyond });
+      record { is_course = stays_on old.last_proposer old.eras plan (entries_in old.marks) id next (λ low. entered at.is_next) (λ low. follows_sized (follows_next m old id plan next at)) on.is_course; later = on.later; none_beyond = on.none_beyond });
   in_eras = λ p d at_d. by_place p d at_d (same_or_not p id);
 }
   where
@@ -262,8 +262,8 @@ restarts_entered {S} {V} m old id plan next now at disks in_base none idle by wi
       late = messages_still (Entered id next.number) at.is.logged.global.log old.flow.late log_whole.parties.late;
     })
 
-    by_place : (p : ℕ) (d : DeskView V) → IsAt (slice_set old.desks id now) p d → (p ≡ id) ⊎ (p ≡ id → ⊥) → (p ≤ old.greatest) × IsInEra m (course_of new) p d
-    by_place p d at_d (inl own) = subst (λ (q : ℕ). (q ≤ old.greatest) × IsInEra m (course_of new) q d) (sym own) (
+    by_place : (p : ℕ) (d : DeskView V) → IsAt (slice_set old.desks id now) p d → (p ≡ id) ⊎ (p ≡ id → ⊥) → (p ≤ old.last_proposer) × IsInEra m (course_of new) p d
+    by_place p d at_d (inl own) = subst (λ (q : ℕ). (q ≤ old.last_proposer) × IsInEra m (course_of new) q d) (sym own) (
       known_in m old id plan next at,
       subst (IsInEra m (course_of new) id) (sym (own_set old.desks id now d (subst (λ (q : ℕ). IsAt (slice_set old.desks id now) q d) own at_d)))
           (inside (subst (λ (e : Era). IsWithin m.disks e.number e.number now.vault) (sym (era_set old.eras id next (omega (arith, known_in m old id plan next at, at.is.course.is_course.few, at.is.course.is_course.places)))) within)),
@@ -277,7 +277,7 @@ shown_up : {S V : Type 0} (m : Meaning S V) (old : View S V) (id : ℕ) (desk no
     → IsFollowed m (record (with_desk old id now) { eras = slice_set old.eras id (era_shown old.council.plan (era_at old id) (kept_of now.vault).era) })
 shown_up {S} {V} m old id desk now caller is disks at at_c by up = by_era (is.in_eras id desk at).1
   where
-    low : id ≤ old.greatest
+    low : id ≤ old.last_proposer
     low = (is.in_eras id desk at).0
 
     -- it shows its era
@@ -396,10 +396,10 @@ plan_entered cluster log plan next false settles known = record { settled = know
 enters_logged : {S V : Type 0} (m : Meaning S V) (old : View S V) (plan : PlanView) (next : Era) (middle : View S V) → (at : GoesNext m old plan.entered plan next) → m.disks.tells
     → LeavesRound (EntersEra m.disks next) (closed_by (answer.Moved next.number) (cause.Moved next.number)) old plan.entered middle → IsLogged m at.is.cluster (entered_view middle plan next)
 enters_logged {S} {V} m old plan next middle at disks leaves =
-    marked m at.is.cluster marked_global (record (with_plan middle (Some (plan_after middle.greatest plan next))) { eras = slice_set middle.eras plan.entered next }) (EraEntered plan.entered next.number ∷ []) (marks_of at.is.logged.global.log)
-    (council.counsels m at.is.cluster marked_global (record middle { eras = slice_set middle.eras plan.entered next }) (record (hushed middle.council) { plan = Some (plan_after middle.greatest plan next) }) (
+    marked m at.is.cluster marked_global (record (with_plan middle (Some (plan_after middle.last_proposer plan next))) { eras = slice_set middle.eras plan.entered next }) (EraEntered plan.entered next.number ∷ []) (marks_of at.is.logged.global.log)
+    (council.counsels m at.is.cluster marked_global (record middle { eras = slice_set middle.eras plan.entered next }) (record (hushed middle.council) { plan = Some (plan_after middle.last_proposer plan next) }) (
       marked_whole.parties.council.0,
-      plan_entered at.is.cluster marked_global.log plan next (plan.entered == middle.greatest) (path_settles next (rest_of plan.progress.left) (leads plan.progress.era next plan.progress.left at.is_next (planned m old plan.entered plan next at).is_course.under_way.start).path)
+      plan_entered at.is.cluster marked_global.log plan next (plan.entered == middle.last_proposer) (path_settles next (rest_of plan.progress.left) (leads plan.progress.era next plan.progress.left at.is_next (planned m old plan.entered plan next at).is_course.under_way.start).path)
           (subst (IsPlanTrue at.is.cluster marked_global.log) (ap (λ (c : Course). c.plan) (left_course (EntersEra m.disks next) (closed_by (answer.Moved next.number) (cause.Moved next.number)) old middle plan.entered leaves) ∙ at.is_plan) marked_whole.parties.council.1),
       marked_whole.parties.council.2,
       marked_whole.parties.council.3,
@@ -433,12 +433,12 @@ enters_logged {S} {V} m old plan next middle at disks leaves =
         (happens at.is.cluster whole.meets log.after whole.history (MarksEra id next.number may)) whole
 
 -- what is to come is still to come, or was the next
-later_of_next : (cluster : Cluster) (plan : PlanView) (next : Era) (b : Bool) (greatest : ℕ) (eras : List Era) (entries : List Entry) → entering plan.progress.left ≡ Some next → Follows plan.progress.era next
+later_of_next : (cluster : Cluster) (plan : PlanView) (next : Era) (b : Bool) (last_proposer : ℕ) (eras : List Era) (entries : List Entry) → entering plan.progress.left ≡ Some next → Follows plan.progress.era next
     → ((era : Era) → Contains (eras_in plan.progress.left) era → IsEraOf cluster era) → ((number : ℕ) → plan.progress.era.number + length (eras_in plan.progress.left) < number → IsNoEra cluster number)
-    → IsCourse (course greatest eras (Some (if b then record plan { progress = record { era = next; left = rest_of plan.progress.left }; entered = 0; listing = None } else record plan { entered = suc plan.entered })) entries)
-    → IsCourseOf cluster (course greatest eras (Some (if b then record plan { progress = record { era = next; left = rest_of plan.progress.left }; entered = 0; listing = None } else record plan { entered = suc plan.entered })) entries)
-later_of_next cluster plan next false greatest eras entries is_next follows have beyond on = record { is_course = on; later = have; none_beyond = beyond }
-later_of_next cluster plan next true greatest eras entries is_next follows have beyond on = record {
+    → IsCourse (course last_proposer eras (Some (if b then record plan { progress = record { era = next; left = rest_of plan.progress.left }; entered = 0; listing = None } else record plan { entered = suc plan.entered })) entries)
+    → IsCourseOf cluster (course last_proposer eras (Some (if b then record plan { progress = record { era = next; left = rest_of plan.progress.left }; entered = 0; listing = None } else record plan { entered = suc plan.entered })) entries)
+later_of_next cluster plan next false last_proposer eras entries is_next follows have beyond on = record { is_course = on; later = have; none_beyond = beyond }
+later_of_next cluster plan next true last_proposer eras entries is_next follows have beyond on = record {
   is_course = on;
   later = λ era has_it. have era (after plan.progress.left is_next era has_it);
   none_beyond = λ number far. beyond number (omega (arith, far, follows.number, fewer plan.progress.left is_next));
@@ -458,18 +458,18 @@ later_of_next cluster plan next true greatest eras entries is_next follows have 
 
 -- who is torn between two eras still is, since it did not enter the next
 torn_still : {S V : Type 0} (m : Meaning S V) (old : View S V) (plan : PlanView) (next : Era) → (at : GoesNext m old plan.entered plan next) → (p : ℕ) (d : DeskView V) → (p ≡ plan.entered → ⊥) → IsAt old.desks p d
-    → IsInEra m (course old.greatest (slice_set old.eras plan.entered next) (Some (plan_after old.greatest plan next)) (entries_in old.marks ++ record { proposer = plan.entered; era = next.number } ∷ [])) p d
+    → IsInEra m (course old.last_proposer (slice_set old.eras plan.entered next) (Some (plan_after old.last_proposer plan next)) (entries_in old.marks ++ record { proposer = plan.entered; era = next.number } ∷ [])) p d
 torn_still {S} {V} m old plan next at p d other at_d = by_era (at.is.in_eras p d at_d).1
   where
     New : PlanView → Course
-    New after = course old.greatest (slice_set old.eras plan.entered next) (Some after) (entries_in old.marks ++ record { proposer = plan.entered; era = next.number } ∷ [])
+    New after = course old.last_proposer (slice_set old.eras plan.entered next) (Some after) (entries_in old.marks ++ record { proposer = plan.entered; era = next.number } ∷ [])
 
     same : era_in (slice_set old.eras plan.entered next) p ≡ era_in old.eras p
     same = era_kept old.eras plan.entered p next other
 
-    by_era : IsInEra m (course_of old) p d → IsInEra m (New (plan_after old.greatest plan next)) p d
+    by_era : IsInEra m (course_of old) p d → IsInEra m (New (plan_after old.last_proposer plan next)) p d
     by_era (inside within) = inside (subst (λ (e : Era). IsWithin m.disks e.number e.number d.vault) (sym same) within)
-    by_era (torn plan_ next_ is_plan_ is_next_ in_base down none idle within) = by_last (plan.entered == old.greatest) refl
+    by_era (torn plan_ next_ is_plan_ is_next_ in_base down none idle within) = by_last (plan.entered == old.last_proposer) refl
       where
         one : plan_ ≡ plan
         one = some_is (sym is_plan_ ∙ at.is_plan)
@@ -480,7 +480,7 @@ torn_still {S} {V} m old plan next at p d other at_d = by_era (at.is.in_eras p d
         next_is : entering plan.progress.left ≡ Some next_
         next_is = ap next_era (sym at.is_plan) ∙ is_next_
 
-        by_last : (b : Bool) → (plan.entered == old.greatest) ≡ b → IsInEra m (New (if b then record plan { progress = record { era = next; left = rest_of plan.progress.left }; entered = 0; listing = None } else record plan { entered = suc plan.entered })) p d
+        by_last : (b : Bool) → (plan.entered == old.last_proposer) ≡ b → IsInEra m (New (if b then record plan { progress = record { era = next; left = rest_of plan.progress.left }; entered = 0; listing = None } else record plan { entered = suc plan.entered })) p d
         by_last false is = torn (record plan { entered = suc plan.entered }) next_ refl next_is (same ∙ base) down none idle (subst (λ (e : Era). IsWithin m.disks e.number next_.number d.vault) (sym same) within)
         by_last true is = elim ((planned m old plan.entered plan next at).is_course.under_way.each p (at.is.in_eras p d at_d).0) [
           | not_yet few in_era ↦ absurd (omega (arith, few, other, nat_same is, (at.is.in_eras p d at_d).0))
@@ -492,18 +492,18 @@ enters_remembered : {S V : Type 0} (m : Meaning S V) (old : View S V) (plan : Pl
 enters_remembered {S} {V} m old plan next middle at disks leaves = record {
   cluster = at.is.cluster;
   logged = enters_logged m old plan next middle at disks leaves;
-  course = subst (IsCourseOf at.is.cluster) (sym is) (later_of_next at.is.cluster plan next (plan.entered == old.greatest) old.greatest (slice_set old.eras plan.entered next) entries at.is_next (follows_next m old plan.entered plan next at) on.later on.none_beyond
-      (course_entered old.greatest old.eras plan (entries_in old.marks) next at.is_next on.is_course));
-  in_eras = λ p d at_d. subst (λ (c : Course). (p ≤ c.greatest) × IsInEra m c p d) (sym is) (by_place p d (there leaves p d at_d));
+  course = subst (IsCourseOf at.is.cluster) (sym is) (later_of_next at.is.cluster plan next (plan.entered == old.last_proposer) old.last_proposer (slice_set old.eras plan.entered next) entries at.is_next (follows_next m old plan.entered plan next at) on.later on.none_beyond
+      (course_entered old.last_proposer old.eras plan (entries_in old.marks) next at.is_next on.is_course));
+  in_eras = λ p d at_d. subst (λ (c : Course). (p ≤ c.last_proposer) × IsInEra m c p d) (sym is) (by_place p d (there leaves p d at_d));
 }
   where
     entries : List Entry
     entries = entries_in old.marks ++ record { proposer = plan.entered; era = next.number } ∷ []
 
-    on : IsCourseOf at.is.cluster (course old.greatest old.eras (Some plan) (entries_in old.marks))
+    on : IsCourseOf at.is.cluster (course old.last_proposer old.eras (Some plan) (entries_in old.marks))
     on = planned m old plan.entered plan next at
 
-    is : course_of (entered_view middle plan next) ≡ course old.greatest (slice_set old.eras plan.entered next) (Some (plan_after old.greatest plan next)) entries
+    is : course_of (entered_view middle plan next) ≡ course old.last_proposer (slice_set old.eras plan.entered next) (Some (plan_after old.last_proposer plan next)) entries
     is = enters_course m old middle plan next leaves
 
     -- it is the desk that changed, or another
@@ -520,8 +520,8 @@ enters_remembered {S} {V} m old plan next middle at disks leaves = record {
     there (stops.idle desk now at_d none enters view) p d at_p = put desk now at_d enters p d (subst (λ (w : View S V). IsAt w.desks p d) view at_p)
     there (stops.closes desk now round of at_d is_round enters view) p d at_p = put desk now at_d enters p d (subst (λ (w : View S V). IsAt w.desks p d) view at_p)
 
-    by_place : (p : ℕ) (d : DeskView V) → Changed p d → (p ≤ old.greatest) × IsInEra m (course old.greatest (slice_set old.eras plan.entered next) (Some (plan_after old.greatest plan next)) entries) p d
-    by_place p d (inl own) = subst (λ (q : ℕ). (q ≤ old.greatest) × IsInEra m (course old.greatest (slice_set old.eras plan.entered next) (Some (plan_after old.greatest plan next)) entries) q d) (sym own.0) (
+    by_place : (p : ℕ) (d : DeskView V) → Changed p d → (p ≤ old.last_proposer) × IsInEra m (course old.last_proposer (slice_set old.eras plan.entered next) (Some (plan_after old.last_proposer plan next)) entries) p d
+    by_place p d (inl own) = subst (λ (q : ℕ). (q ≤ old.last_proposer) × IsInEra m (course old.last_proposer (slice_set old.eras plan.entered next) (Some (plan_after old.last_proposer plan next)) entries) q d) (sym own.0) (
       known_in m old plan.entered plan next at,
       inside (subst (λ (e : Era). IsWithin m.disks e.number e.number d.vault)
           (sym (era_set old.eras plan.entered next (omega (arith, known_in m old plan.entered plan next at, at.is.course.is_course.few, at.is.course.is_course.places)))) (own.1.in_era disks)),
@@ -574,15 +574,15 @@ finishes {S} {V} m old asked answer plan is is_plan none = record {
   cluster = is.cluster;
   logged = council.counsels_by m old _ refl is.logged tt is.logged.agrees.council.2 is.logged.agrees.council.3;
   course = record {
-    is_course = course_finished old.greatest old.eras (entries_in old.marks) plan none on.is_course;
+    is_course = course_finished old.last_proposer old.eras (entries_in old.marks) plan none on.is_course;
     later = λ era none_left. absurd (contains_none none_left);
     none_beyond = λ number far. on.none_beyond number (omega (arith, far, ap (λ (l : List PlanStep). length (eras_in l)) none, ap (λ (e : Era). e.number) base));
   };
   in_eras = λ p d at_d. ((is.in_eras p d at_d).0, by_era p d (is.in_eras p d at_d).1);
 }
   where
-    on : IsCourseOf is.cluster (course old.greatest old.eras (Some plan) (entries_in old.marks))
-    on = subst (λ (o : Option PlanView). IsCourseOf is.cluster (course old.greatest old.eras o (entries_in old.marks))) is_plan is.course
+    on : IsCourseOf is.cluster (course old.last_proposer old.eras (Some plan) (entries_in old.marks))
+    on = subst (λ (o : Option PlanView). IsCourseOf is.cluster (course old.last_proposer old.eras o (entries_in old.marks))) is_plan is.course
 
     base : era_in old.eras 0 ≡ plan.progress.era
     base = elim (on.is_course.under_way.each 0 (omega arith)) [
@@ -590,35 +590,35 @@ finishes {S} {V} m old asked answer plan is is_plan none = record {
       | entered there ↦ absurd (cc (there, ap entering none))
     ]
 
-    by_era : (p : ℕ) (d : DeskView V) → IsInEra m (course_of old) p d → IsInEra m (course old.greatest old.eras None (entries_in old.marks)) p d
+    by_era : (p : ℕ) (d : DeskView V) → IsInEra m (course_of old) p d → IsInEra m (course old.last_proposer old.eras None (entries_in old.marks)) p d
     by_era p d (inside within) = inside within
     by_era p d (torn plan_ next is_plan_ is_next in_base down no_promise idle within) = absurd (cc (is_next, ap next_era is_plan, ap entering none))
 
 -- ---- the change of membership goes on, and all else stays
 -- with another plan
 record Carries {S V : Type 0} (m : Meaning S V) (cluster : Cluster) (old : View S V) (plan next : PlanView) : Type 0 where
-  on_course : IsCourseOf cluster (course old.greatest old.eras (Some plan) (entries_in old.marks)) → IsCourseOf cluster (course old.greatest old.eras (Some next) (entries_in old.marks))
-  in_era : (id : ℕ) (desk : DeskView V) → IsInEra m (course old.greatest old.eras (Some plan) (entries_in old.marks)) id desk → IsInEra m (course old.greatest old.eras (Some next) (entries_in old.marks)) id desk
+  on_course : IsCourseOf cluster (course old.last_proposer old.eras (Some plan) (entries_in old.marks)) → IsCourseOf cluster (course old.last_proposer old.eras (Some next) (entries_in old.marks))
+  in_era : (id : ℕ) (desk : DeskView V) → IsInEra m (course old.last_proposer old.eras (Some plan) (entries_in old.marks)) id desk → IsInEra m (course old.last_proposer old.eras (Some next) (entries_in old.marks)) id desk
 
-carried : {S V : Type 0} (m : Meaning S V) {cluster : Cluster} (old new : View S V) (plan next : PlanView) → old.council.plan ≡ Some plan → course_of new ≡ course old.greatest old.eras (Some next) (entries_in old.marks)
+carried : {S V : Type 0} (m : Meaning S V) {cluster : Cluster} (old new : View S V) (plan next : PlanView) → old.council.plan ≡ Some plan → course_of new ≡ course old.last_proposer old.eras (Some next) (entries_in old.marks)
     → Carries m cluster old plan next → IsLogged m cluster new → IsCourseOf cluster (course_of old) → AreIn m (course_of old) new.desks → IsFollowed m new
 carried {S} {V} m {cluster} old new plan next is_plan same by log on desks = record {
   cluster = cluster;
   logged = log;
-  course = subst (IsCourseOf cluster) (sym same) (by.on_course (subst (λ (p : Option PlanView). IsCourseOf cluster (course old.greatest old.eras p (entries_in old.marks))) is_plan on));
-  in_eras = λ id desk at. subst (λ (of : Course). (id ≤ of.greatest) × IsInEra m of id desk) (sym same)
-      ((desks id desk at).0, by.in_era id desk (subst (λ (p : Option PlanView). IsInEra m (course old.greatest old.eras p (entries_in old.marks)) id desk) is_plan (desks id desk at).1));
+  course = subst (IsCourseOf cluster) (sym same) (by.on_course (subst (λ (p : Option PlanView). IsCourseOf cluster (course old.last_proposer old.eras p (entries_in old.marks))) is_plan on));
+  in_eras = λ id desk at. subst (λ (of : Course). (id ≤ of.last_proposer) × IsInEra m of id desk) (sym same)
+      ((desks id desk at).0, by.in_era id desk (subst (λ (p : Option PlanView). IsInEra m (course old.last_proposer old.eras p (entries_in old.marks)) id desk) is_plan (desks id desk at).1));
 }
 
 -- other keys are listed or proposed anew
 relists : {S V : Type 0} (m : Meaning S V) (cluster : Cluster) (old : View S V) (plan : PlanView) (count : ℕ) (listing : Option ListingView) → Carries m cluster old plan (record plan { rescanned = count; listing = listing })
 relists {S} {V} m cluster old plan count listing = record {
-  on_course = λ on. record { is_course = course_relisted old.greatest old.eras plan (entries_in old.marks) count listing on.is_course; later = on.later; none_beyond = on.none_beyond };
+  on_course = λ on. record { is_course = course_relisted old.last_proposer old.eras plan (entries_in old.marks) count listing on.is_course; later = on.later; none_beyond = on.none_beyond };
   in_era = in_era;
 }
   where
-    in_era : (id : ℕ) (desk : DeskView V) → IsInEra m (course old.greatest old.eras (Some plan) (entries_in old.marks)) id desk
-        → IsInEra m (course old.greatest old.eras (Some (record plan { rescanned = count; listing = listing })) (entries_in old.marks)) id desk
+    in_era : (id : ℕ) (desk : DeskView V) → IsInEra m (course old.last_proposer old.eras (Some plan) (entries_in old.marks)) id desk
+        → IsInEra m (course old.last_proposer old.eras (Some (record plan { rescanned = count; listing = listing })) (entries_in old.marks)) id desk
     in_era id desk (inside within) = inside within
     in_era id desk (torn other next is_plan is_next in_base down none idle within) =
         torn (record plan { rescanned = count; listing = listing }) next refl is_next (in_base ∙ ap (λ (p : PlanView). p.progress.era) (sym (some_is is_plan))) down none idle within
@@ -627,7 +627,7 @@ relists {S} {V} m cluster old plan count listing = record {
 steps_on : {S V : Type 0} (m : Meaning S V) (cluster : Cluster) (old : View S V) (plan : PlanView) → next_of plan.progress.left ≡ Settle → Carries m cluster old plan (stepped plan)
 steps_on {S} {V} m cluster old plan settles = record {
   on_course = λ on. record {
-    is_course = course_stepped old.greatest old.eras plan (entries_in old.marks) settles on.is_course;
+    is_course = course_stepped old.last_proposer old.eras plan (entries_in old.marks) settles on.is_course;
     later = λ era among. on.later era (subst (λ (l : List Era). Contains l era) (same_eras plan.progress.left settles) among);
     none_beyond = λ number far. on.none_beyond number (subst (λ (l : List Era). plan.progress.era.number + length l < number) (same_eras plan.progress.left settles) far);
   };
@@ -640,7 +640,7 @@ steps_on {S} {V} m cluster old plan settles = record {
     same_eras (Enter era ∷ left) is = absurd (cc is)
     same_eras (Finished ∷ left) is = absurd (cc is)
 
-    in_era : (id : ℕ) (desk : DeskView V) → IsInEra m (course old.greatest old.eras (Some plan) (entries_in old.marks)) id desk → IsInEra m (course old.greatest old.eras (Some (stepped plan)) (entries_in old.marks)) id desk
+    in_era : (id : ℕ) (desk : DeskView V) → IsInEra m (course old.last_proposer old.eras (Some plan) (entries_in old.marks)) id desk → IsInEra m (course old.last_proposer old.eras (Some (stepped plan)) (entries_in old.marks)) id desk
     in_era id desk (inside within) = inside within
     in_era id desk (torn other next is_plan is_next in_base down none idle within) = absurd (cc (is_next, settle_enters plan.progress.left settles))
 
@@ -659,16 +659,16 @@ over {S} {V} m old asked answer is = by_plan old.council.plan refl
     log = council.ends_told m old asked answer is.logged
 
     by_plan : (plan : Option PlanView) → old.council.plan ≡ plan → IsFollowed m (told_over old asked answer)
-    by_plan None none = same_course m old (told_over old asked answer) (told_course old asked answer ∙ ap (λ (p : Option PlanView). course old.greatest old.eras (option_map without_partial p) (entries_in old.marks)) none
-        ∙ sym (ap (λ (p : Option PlanView). course old.greatest old.eras p (entries_in old.marks)) none)) log is.course is.in_eras
+    by_plan None none = same_course m old (told_over old asked answer) (told_course old asked answer ∙ ap (λ (p : Option PlanView). course old.last_proposer old.eras (option_map without_partial p) (entries_in old.marks)) none
+        ∙ sym (ap (λ (p : Option PlanView). course old.last_proposer old.eras p (entries_in old.marks)) none)) log is.course is.in_eras
     by_plan (Some plan) is_plan = carried m old (told_over old asked answer) plan (without_partial plan) is_plan
-        (told_course old asked answer ∙ ap (λ (p : Option PlanView). course old.greatest old.eras (option_map without_partial p) (entries_in old.marks)) is_plan)
+        (told_course old asked answer ∙ ap (λ (p : Option PlanView). course old.last_proposer old.eras (option_map without_partial p) (entries_in old.marks)) is_plan)
         (relists m is.cluster old plan plan.rescanned (complete_only plan.listing)) log is.course is.in_eras
 
 -- ---- an era is settled
 -- what is so of the cluster then
-settling : {S V : Type 0} (m : Meaning S V) (old : View S V) (plan : PlanView) → IsFollowed m old → old.council.plan ≡ Some plan → next_of plan.progress.left ≡ Settle → AtSettle old.greatest old.eras plan (entries_in old.marks)
-settling m old plan is is_plan settles = at_settle old.greatest old.eras plan (entries_in old.marks) settles (subst (λ (p : Option PlanView). IsCourse (course old.greatest old.eras p (entries_in old.marks))) is_plan is.course.is_course)
+settling : {S V : Type 0} (m : Meaning S V) (old : View S V) (plan : PlanView) → IsFollowed m old → old.council.plan ≡ Some plan → next_of plan.progress.left ≡ Settle → AtSettle old.last_proposer old.eras plan (entries_in old.marks)
+settling m old plan is is_plan settles = at_settle old.last_proposer old.eras plan (entries_in old.marks) settles (subst (λ (p : Option PlanView). IsCourse (course old.last_proposer old.eras p (entries_in old.marks))) is_plan is.course.is_course)
 
 -- all are asked for their next keys
 asks_keys : {S V : Type 0} (m : Meaning S V) (old : View S V) (places : List MemberPlace) (new : View S V) → m.disks.tells → IsFollowed m old → StepAskAll m old (NextKeys places) new → IsFollowed m new
@@ -683,7 +683,7 @@ asks_keys {S} {V} m old places new disks is by = by_case by.asks
         record {
           in_base = ap (λ (e : Era). e.number) (at.in_base 0 (omega arith));
           entered = λ proposer known. subst (Stands (EraEntered proposer plan.progress.era.number)) (sym is.logged.agrees.marks)
-              (entry_stands old.marks proposer plan.progress.era.number (at.all proposer (omega (arith, known, is.logged.agrees.greatest))));
+              (entry_stands old.marks proposer plan.progress.era.number (at.all proposer (omega (arith, known, is.logged.agrees.last_proposer))));
         }
 
     log : IsLogged m is.cluster new
@@ -695,7 +695,7 @@ asks_keys {S} {V} m old places new disks is by = by_case by.asks
     by_case : told_by.AsksAll m old (NextKeys places) by.desk new → IsFollowed m new
     by_case (told_by.asks now tag flow up room tagged now_is sends view) =
         carried m old new due.plan (told_by.listing_begun places tag due.plan) due.is_plan
-        (ap course_of view ∙ ap (λ (p : Option PlanView). course old.greatest old.eras (option_map (told_by.listing_begun places tag) p) (entries_in old.marks)) due.is_plan)
+        (ap course_of view ∙ ap (λ (p : Option PlanView). course old.last_proposer old.eras (option_map (told_by.listing_begun places tag) p) (entries_in old.marks)) due.is_plan)
         (relists m is.cluster old due.plan due.plan.rescanned (Some (told_by.begun_listing places tag due.plan.listing))) log is.course desks
     by_case (told_by.is_down down view) = same_course m old new (ap course_of view) log is.course desks
     by_case (told_by.is_full up full view) = same_course m old new (ap course_of view) log is.course desks
@@ -769,9 +769,9 @@ ends {S} {V} m old id told new disks is by = by_case by.ends.rescans
         (known.listing of.listing of.is_listing) beyond
 
     by_case : Rescans old.council id at.call.key told by.ends.council → IsFollowed m new
-    by_case (calls.is_none none same) = same_course m old new (end_course m old new id told by ∙ ap (λ (c : Council). course old.greatest old.eras c.plan (entries_in old.marks)) same)
+    by_case (calls.is_none none same) = same_course m old new (end_course m old new id told by ∙ ap (λ (c : Council). course old.last_proposer old.eras c.plan (entries_in old.marks)) same)
         (logged_with old.council.plan (ap (λ (c : Council). c.plan) same) (ap (λ (c : Council). c.exchange) same) is.logged.agrees.council.1) is.course desks
-    by_case (calls.stops of undone same) = same_course m old new (end_course m old new id told by ∙ ap (λ (c : Council). course old.greatest old.eras c.plan (entries_in old.marks)) same)
+    by_case (calls.stops of undone same) = same_course m old new (end_course m old new id told by ∙ ap (λ (c : Council). course old.last_proposer old.eras c.plan (entries_in old.marks)) same)
         (logged_with old.council.plan (ap (λ (c : Council). c.plan) same) (ap (λ (c : Council). c.exchange) same) is.logged.agrees.council.1) is.course desks
     by_case (calls.rescans of done same) =
         let known = subst (IsPlanTrue is.cluster is.logged.global.log) of.is_plan is.logged.agrees.council.1 in
@@ -779,7 +779,7 @@ ends {S} {V} m old id told new disks is by = by_case by.ends.rescans
         let listing : ListingView = record of.listing { keys = drop 1 of.listing.keys } in
         let first = relists m is.cluster old of.plan (one_more of.plan.rescanned) of.plan.listing in
         let then_ = lists_on m is.cluster old counted listing of.settles in
-        carried m old new of.plan (rescanned_by of.plan of.listing) of.is_plan (end_course m old new id told by ∙ ap (λ (c : Council). course old.greatest old.eras c.plan (entries_in old.marks)) same)
+        carried m old new of.plan (rescanned_by of.plan of.listing) of.is_plan (end_course m old new id told by ∙ ap (λ (c : Council). course old.last_proposer old.eras c.plan (entries_in old.marks)) same)
         (record { on_course = λ on. then_.on_course (first.on_course on); in_era = λ p desk in_it. then_.in_era p desk (first.in_era p desk in_it) })
         (logged_with (Some (rescanned_by of.plan of.listing)) (ap (λ (c : Council). c.plan) same) (ap (λ (c : Council). c.exchange) same)
         (known_listed is.cluster is.logged.global.log counted listing (record { settled = known.settled; listing = known.listing })

@@ -154,7 +154,7 @@ kept_by_member m view is id acceptor at up left may =
     cc same
 
 -- the era in which a proposer works is that of the floor, or a later one
-pub reached : {S V : Type 0} (m : Meaning S V) (view : View S V) → IsSafe view → (is : IsRemembered m view) (key : List ℕ) (floor : Ballot) (clear : IsFloorClear is.followed.cluster is.followed.logged.global.log key floor) (proposer : ℕ) → proposer ≤ view.greatest
+pub reached : {S V : Type 0} (m : Meaning S V) (view : View S V) → IsSafe view → (is : IsRemembered m view) (key : List ℕ) (floor : Ballot) (clear : IsFloorClear is.followed.cluster is.followed.logged.global.log key floor) (proposer : ℕ) → proposer ≤ view.last_proposer
     → clear.era ≤ (era_at view proposer).number
 reached {S} {V} m view safe is key floor clear proposer known =
     let desk = at_low view.desks proposer (omega (arith, known, safe.sound.desks)) in
@@ -164,7 +164,7 @@ reached {S} {V} m view safe is key floor clear proposer known =
     all_in_low is.followed.cluster is.followed.logged.global.log clear.era proposer (era_at view proposer).number is.followed.logged.history.lawful of.known of.vault.not_beyond clear.all_in
 
 -- who prepares or accepts in that era is a member of it
-pub member_of : {S V : Type 0} (m : Meaning S V) (view : View S V) (is : IsRemembered m view) (proposer id : ℕ) → proposer ≤ view.greatest → (has_member (era_at view proposer).prep id ≡ true) ⊎ (has_member (era_at view proposer).acc id ≡ true)
+pub member_of : {S V : Type 0} (m : Meaning S V) (view : View S V) (is : IsRemembered m view) (proposer id : ℕ) → proposer ≤ view.last_proposer → (has_member (era_at view proposer).prep id ≡ true) ⊎ (has_member (era_at view proposer).acc id ≡ true)
     → has_member (is.followed.cluster.members (era_at view proposer).number) id ≡ true
 member_of m view is proposer id known (inl prepares) = (is.followed.logged.agrees.eras proposer known).prep_members id prepares
 member_of m view is proposer id known (inr accepts) = (is.followed.logged.agrees.eras proposer known).acc_members id accepts

@@ -140,7 +140,7 @@ module _ {D : Type 0} (begun : Vault D) where
   -- proposer 1 and its caller among the others, with acceptors 1 to 3
   abbrev seen : AcceptorView ToyShelf → AcceptorView ToyShelf → AcceptorView ToyShelf → DeskView ToyDisk → CallerView → FlowView → List Mark → View ToyShelf ToyDisk
   seen a b c desk caller flow marks = record {
-    greatest = 2;
+    last_proposer = 2;
     eras = replicate 17 era;
     acceptors = never_up ∷ a ∷ b ∷ c ∷ [];
     desks = idle_desk 0 ∷ desk ∷ idle_desk 2 ∷ [];

@@ -18,9 +18,9 @@ use Rattle.cas_model.specs.View.{Meaning, View, CallerView, IsAt, era_at, era_in
 -- each party and each frame is as the cluster's log tells
 pub record AgreesWith {S V : Type 0} (m : Meaning S V) (cluster : Cluster) (global : GlobalState) (view : View S V) : Type 0 where
   pub marks : marks_of global.log ≡ reverse view.marks
-  pub greatest : cluster.greatest ≡ view.greatest
-  pub few : view.greatest ≤ 16
-  pub eras : (id : ℕ) → id ≤ view.greatest → IsEraOf cluster (era_at view id)
+  pub last_proposer : cluster.last_proposer ≡ view.last_proposer
+  pub few : view.last_proposer ≤ 16
+  pub eras : (id : ℕ) → id ≤ view.last_proposer → IsEraOf cluster (era_at view id)
   pub acceptors : (id : ℕ) (acceptor : AcceptorView S) → IsAt view.acceptors id acceptor → IsAcceptorTrue m global.log id (global.kept id) acceptor
   pub desks : (id : ℕ) (desk : DeskView V) (caller : CallerView) → IsAt view.desks id desk → IsAt view.callers id caller → IsDeskTrue m cluster global.log global.made (era_at view id).number id caller (queue_at view.flow id).messages desk
   pub callers : (id : ℕ) (caller : CallerView) → IsAt view.callers id caller → IsCallerTrue global.log global.made id caller
@@ -44,7 +44,7 @@ pub data IsInEra {S V : Type 0} (m : Meaning S V) (course : Course) (id : ℕ) (
       → IsWithin m.disks (era_in course.eras id).number next.number desk.vault → IsInEra m course id desk
 
 abbrev pub AreInEras : {S V : Type 0} → Meaning S V → View S V → Type 0
-AreInEras {S} {V} m view = (id : ℕ) (desk : DeskView V) → IsAt view.desks id desk → (id ≤ view.greatest) × IsInEra m (course_of view) id desk
+AreInEras {S} {V} m view = (id : ℕ) (desk : DeskView V) → IsAt view.desks id desk → (id ≤ view.last_proposer) × IsInEra m (course_of view) id desk
 
 -- ---- the whole
 -- there is a cluster whose log agrees with it, with the eras of its course, and each proposer's disk is in its era

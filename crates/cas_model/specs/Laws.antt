@@ -53,7 +53,7 @@ pub record IsKeptBy {S V : Type 0} (m : Meaning S V) (marks : List Mark) (key : 
 -- What is acknowledged stands on the shelves of those that confirmed it, who are an accept quorum of its era, until a floor is made at or
 -- above it.
 pub record IsKept {S V : Type 0} (m : Meaning S V) (view : View S V) (a : Acknowledgment) : Type 0 where
-  pub quorum : (id : ℕ) → id ≤ view.greatest → a.era ≡ (era_at view id).number → holds_acc (era_at view id) a.by ≡ true
+  pub quorum : (id : ℕ) → id ≤ view.last_proposer → a.era ≡ (era_at view id).number → holds_acc (era_at view id) a.by ≡ true
   pub kept : (id : ℕ) (acceptor : AcceptorView S) → has_member a.by id ≡ true → IsAt view.acceptors id acceptor → IsKeptBy m (reverse view.marks) a.key a.ballot acceptor
 
 abbrev pub WhatIsDoneIsKept : {S V : Type 0} → Meaning S V → Type 0
@@ -74,6 +74,6 @@ FloorsArePassed {S} {V} m = m.shelves.tells → m.disks.tells → (view : View S
 -- Whatever a crash now leaves of an acceptor that is up, and a member of an era in which a proposer works, it accepted nothing of the key below
 -- the floor: it has no state of the key, or one at or above the floor.
 abbrev pub MembersAreClear : {S V : Type 0} → Meaning S V → Type 0
-MembersAreClear {S} {V} m = m.shelves.tells → m.disks.tells → (view : View S V) (key : List ℕ) (floor : Ballot) (proposer id : ℕ) (acceptor : AcceptorView S) → IsSafe view → IsRemembered m view → HasFloor key floor (reverse view.marks) → proposer ≤ view.greatest
+MembersAreClear {S} {V} m = m.shelves.tells → m.disks.tells → (view : View S V) (key : List ℕ) (floor : Ballot) (proposer id : ℕ) (acceptor : AcceptorView S) → IsSafe view → IsRemembered m view → HasFloor key floor (reverse view.marks) → proposer ≤ view.last_proposer
     → (has_member (era_at view proposer).prep id ≡ true) ⊎ (has_member (era_at view proposer).acc id ≡ true) → IsAt view.acceptors id acceptor → acceptor.down ≡ false
     → (left : Contents) → m.shelves.may_leave acceptor.shelf (Ok left) → IsNoneOrAbove floor (accepted_ballot (accepted_at left key))

@@ -75,7 +75,7 @@ pub record IsOpenDesk {S V : Type 0} (m : Meaning S V) (floors : List Opening) (
 -- nothing has happened yet but that the floors were marked; who was used before is never to join
 pub record IsOpeningOn {S V : Type 0} (m : Meaning S V) (members used : List ℕ) (floors : List Opening) (view : View S V) : Type 0 where
   pub eras : view.eras ≡ replicate 17 (majority_era 0 members)
-  pub few : view.greatest ≤ 16
+  pub few : view.last_proposer ≤ 16
   pub member_set : IsMemberSet members
   pub some : 0 < length members
   pub few_members : length members ≤ 9
@@ -85,7 +85,7 @@ pub record IsOpeningOn {S V : Type 0} (m : Meaning S V) (members used : List ℕ
   pub acceptors : (id : ℕ) (acceptor : AcceptorView S) → IsAt view.acceptors id acceptor → IsOpenAcceptor m members floors id acceptor
   -- each member is up where there are floors
   pub up : (o : Opening) → Contains floors o → (id : ℕ) → has_member members id ≡ true → IsUp view id
-  pub desks : (id : ℕ) (desk : DeskView V) → IsAt view.desks id desk → (id ≤ view.greatest) × IsOpenDesk m floors id desk
+  pub desks : (id : ℕ) (desk : DeskView V) → IsAt view.desks id desk → (id ≤ view.last_proposer) × IsOpenDesk m floors id desk
   pub callers : (id : ℕ) (caller : CallerView) → IsAt view.callers id caller → caller ≡ new_caller
   pub council : view.council ≡ opening_council used
   pub flow : view.flow ≡ empty_flow

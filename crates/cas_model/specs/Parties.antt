@@ -228,7 +228,7 @@ HasNone (Some round) cache = (ready : Ready) → Contains cache (round.key, read
 
 pub record IsDeskTrue {S V : Type 0} (m : Meaning S V) (cluster : Cluster) (log : List Happening) (all : List Made) (era id : ℕ) (caller : CallerView) (waiting : List Message) (desk : DeskView V) : Type 0 where
   pub same_id : desk.id ≡ id
-  pub known : id ≤ cluster.greatest
+  pub known : id ≤ cluster.last_proposer
   pub vault : IsVaultTrue m log id era desk.vault
   pub cached : AreReady cluster log all id era desk.cache
   pub one_each : HaveOneEach desk.cache

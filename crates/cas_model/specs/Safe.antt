@@ -144,9 +144,9 @@ IsCouncilSafe council = AreListingsSafe council.plan × IsAskingOf council.plan 
 -- ---- collections
 -- how many proposers were renewed before that step
 abbrev pub renewals_before : ℕ → CollectStep → ℕ
-renewals_before greatest CollectRound = 0
-renewals_before greatest (Renew proposer) = proposer
-renewals_before greatest step = greatest + 1
+renewals_before last_proposer CollectRound = 0
+renewals_before last_proposer (Renew proposer) = proposer
+renewals_before last_proposer step = last_proposer + 1
 
 -- all who accept in the era acknowledged it
 pub record IsAcknowledgedByAll (era : Era) (tombstone : Tombstone) : Type 0 where
@@ -158,16 +158,16 @@ pub record IsAcknowledgedByAll (era : Era) (tombstone : Tombstone) : Type 0 wher
 -- The open call asked for it, and no change of membership is under way. It is of this era, and of the proposers up to the greatest, and at
 -- one of its steps. Its own call is open in its round alone. Past its round all who accept acknowledged its tombstone, and from then to its
 -- floor the mark of that floor is reserved.
-pub record IsCollectionSafe (council : Council) (era : Era) (greatest : ℕ) (collection : CollectionView) : Type 0 where
+pub record IsCollectionSafe (council : Council) (era : Era) (last_proposer : ℕ) (collection : CollectionView) : Type 0 where
   pub order : OrderView
   pub is_open : council.order ≡ Some order
   pub is_for : order.asked ≡ Collect collection.course.key
   pub none_planned : council.plan ≡ None
   pub same_era : collection.course.era ≡ era
-  pub proposers : collection.course.proposers ≡ greatest
-  pub is_step : IsStepOf greatest collection.course.step
+  pub proposers : collection.course.proposers ≡ last_proposer
+  pub is_step : IsStepOf last_proposer collection.course.step
   pub calling : collection.calling ≡ true → collection.course.step ≡ CollectRound
-  pub ages : length collection.ages ≡ renewals_before greatest collection.course.step
+  pub ages : length collection.ages ≡ renewals_before last_proposer collection.course.step
   pub tomb : FitsBallot (tomb_of collection.tombstone)
   pub acknowledged : (collection.course.step ≡ CollectRound → ⊥) → IsAcknowledgedByAll era collection.tombstone
   pub reserved : (ballot : Ballot) (by : List ℕ) → collection.tombstone ≡ Acknowledged ballot by → is_after_floor collection.course.step ≡ false → 0 < collection.reserved
@@ -186,26 +186,26 @@ pub record IsOfCollection (under_way : Option CollectionView) (era : Era) (excha
   pub tag : exchange.tag ≡ tomb_of collection.tombstone
   pub members : exchange.members ≡ union_of era.prep era.acc
 
-pub record IsCollectingIn (council : Council) (era : Era) (greatest : ℕ) : Type 0 where
-  pub each : (collection : CollectionView) → council.collection ≡ Some collection → IsCollectionSafe council era greatest collection
+pub record IsCollectingIn (council : Council) (era : Era) (last_proposer : ℕ) : Type 0 where
+  pub each : (collection : CollectionView) → council.collection ≡ Some collection → IsCollectionSafe council era last_proposer collection
   pub exchange : (exchange : ExchangeView) → council.exchange ≡ Some exchange → is_of_collection exchange.question ≡ true → IsOfCollection council.collection era exchange
 
 -- it is of the era in which proposer 0 works
 abbrev pub IsCollectingSafe : {S V : Type 0} → View S V → Type 0
-IsCollectingSafe view = IsCollectingIn view.council (era_at view 0) view.greatest
+IsCollectingSafe view = IsCollectingIn view.council (era_at view 0) view.last_proposer
 
 -- ---- the whole
 -- each party, each exchange, each listing and the marks are so
 pub record IsSound {S V : Type 0} (view : View S V) : Type 0 where
-  pub few : view.greatest ≤ 16
+  pub few : view.last_proposer ≤ 16
   pub prep_sets : (id : ℕ) → IsMemberSet (era_at view id).prep
   pub acc_sets : (id : ℕ) → IsMemberSet (era_at view id).acc
   pub few_members : (id : ℕ) → HasFewMembers (era_at view id)
   pub eras : length view.eras ≡ 17
   pub acceptors : length view.acceptors ≡ 64
   pub acceptor_ids : (id : ℕ) (acceptor : AcceptorView S) → IsAt view.acceptors id acceptor → acceptor.id ≡ id
-  pub desks : length view.desks ≡ suc view.greatest
-  pub callers : length view.callers ≡ suc view.greatest
+  pub desks : length view.desks ≡ suc view.last_proposer
+  pub callers : length view.callers ≡ suc view.last_proposer
   pub own : length view.flow.own ≡ 18
   pub parties : (id : ℕ) (desk : DeskView V) (caller : CallerView) → IsAt view.desks id desk → IsAt view.callers id caller → IsPartySafe (era_at view id) (length view.marks) id desk caller (queue_at view.flow id)
   pub asking : IsAskingSafe view.council.exchange (queue_at view.flow exchange_place)

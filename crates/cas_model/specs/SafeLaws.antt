@@ -16,8 +16,8 @@ use Rattle.cas_model.specs.View.{Meaning, View, reserved_in_all}
 -- There is a place for each acceptor that a cluster may have, and for each proposer and its caller.
 pub record HasPlaces {S V : Type 0} (view : View S V) : Type 0 where
   pub acceptors : length view.acceptors ≡ 64
-  pub desks : length view.desks ≡ suc view.greatest
-  pub callers : length view.callers ≡ suc view.greatest
+  pub desks : length view.desks ≡ suc view.last_proposer
+  pub callers : length view.callers ≡ suc view.last_proposer
 
 -- A cluster that has just opened with a place for each party is safe.
 abbrev pub OpeningsAreSafe : {S V : Type 0} → Meaning S V → Type 0
@@ -46,14 +46,14 @@ FullForExchanges S V = (view : View S V) (question : Question) → IsSafe view �
 -- ---- what the operator is told
 -- each proposer up to the greatest is marked as having entered the era
 abbrev pub HaveAllEntered : ℕ → ℕ → List Mark → Type 0
-HaveAllEntered greatest era marks = (proposer : ℕ) → proposer ≤ greatest → Stands (EraEntered proposer era) marks
+HaveAllEntered last_proposer era marks = (proposer : ℕ) → proposer ≤ last_proposer → Stands (EraEntered proposer era) marks
 
 -- and so it is with the era that is told of a join or a leave
 abbrev pub HaveEnteredIts : ℕ → OpAnswer → List Mark → Type 0
-HaveEnteredIts greatest (told.Joined id era rescanned) marks = HaveAllEntered greatest era marks
-HaveEnteredIts greatest (told.Left id era rescanned) marks = HaveAllEntered greatest era marks
-HaveEnteredIts greatest other marks = ⊤
+HaveEnteredIts last_proposer (told.Joined id era rescanned) marks = HaveAllEntered last_proposer era marks
+HaveEnteredIts last_proposer (told.Left id era rescanned) marks = HaveAllEntered last_proposer era marks
+HaveEnteredIts last_proposer other marks = ⊤
 
 -- It is where a change of membership is at its end.
 abbrev pub FinishedHaveEntered : Type 0 → Type 0 → Type 0
-FinishedHaveEntered S V = (view : View S V) (order : OrderView) (answer : OpAnswer) → IsSafe view → IsFinishedBy view.council order answer → HaveEnteredIts view.greatest answer (reverse view.marks)
+FinishedHaveEntered S V = (view : View S V) (order : OrderView) (answer : OpAnswer) → IsSafe view → IsFinishedBy view.council order answer → HaveEnteredIts view.last_proposer answer (reverse view.marks)

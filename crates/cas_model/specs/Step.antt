@@ -204,12 +204,12 @@ pub record IsFreshDesk {S V : Type 0} (m : Meaning S V) (id : ℕ) (desk : DeskV
 -- nothing has happened yet
 pub record IsOpening {S V : Type 0} (m : Meaning S V) (members : List ℕ) (view : View S V) : Type 0 where
   pub eras : view.eras ≡ replicate 17 (majority_era 0 members)
-  pub few : view.greatest ≤ 16
+  pub few : view.last_proposer ≤ 16
   pub member_set : IsMemberSet members
   pub some : 0 < length members
   pub few_members : length members ≤ 9
   pub acceptors : (id : ℕ) (acceptor : AcceptorView S) → IsAt view.acceptors id acceptor → IsFreshAcceptor m id acceptor
-  pub desks : (id : ℕ) (desk : DeskView V) → IsAt view.desks id desk → (id ≤ view.greatest) × IsFreshDesk m id desk
+  pub desks : (id : ℕ) (desk : DeskView V) → IsAt view.desks id desk → (id ≤ view.last_proposer) × IsFreshDesk m id desk
   pub callers : (id : ℕ) (caller : CallerView) → IsAt view.callers id caller → caller ≡ new_caller
   pub council : view.council ≡ opening_council members
   pub flow : view.flow ≡ empty_flow

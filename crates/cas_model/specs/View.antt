@@ -72,7 +72,7 @@ reserved_of (caller ∷ callers) = reserved_in caller.call + reserved_of callers
 -- ---- the whole
 pub record View (S V : Type 0) : Type 0 where
   -- the greatest number of a proposer
-  pub greatest : ℕ
+  pub last_proposer : ℕ
   -- the era in which each proposer works, at the place of its number
   pub eras : List Era
   -- each at the place of its number

@@ -53,7 +53,7 @@ plain_both (mark ∷ marks) more these plain = (these.0, plain_both marks more t
 
 -- a step makes such marks and no others, and tells the open call of no end
 pub record Adds {S V : Type 0} (old new : View S V) : Type 0 where
-  pub greatest : new.greatest ≡ old.greatest
+  pub last_proposer : new.last_proposer ≡ old.last_proposer
   pub more : List Mark
   pub marks : new.marks ≡ old.marks ++ more
   pub plain : ArePlain more
@@ -61,9 +61,9 @@ pub record Adds {S V : Type 0} (old new : View S V) : Type 0 where
 
 module _ {S V : Type 0} where
   -- it is as another view, whose marks are those of the old one and these
-  still : (old new middle : View S V) (more : List Mark) → new ≡ middle → ArePlain more → middle.greatest ≡ old.greatest → middle.marks ≡ old.marks ++ more → (IsPassingBy old.council.order → IsPassingBy middle.council.order) → Adds old new
-  still old new middle more is plain greatest marks passing = record {
-    greatest = ap (λ (v : View S V). v.greatest) is ∙ greatest;
+  still : (old new middle : View S V) (more : List Mark) → new ≡ middle → ArePlain more → middle.last_proposer ≡ old.last_proposer → middle.marks ≡ old.marks ++ more → (IsPassingBy old.council.order → IsPassingBy middle.council.order) → Adds old new
+  still old new middle more is plain last_proposer marks passing = record {
+    last_proposer = ap (λ (v : View S V). v.last_proposer) is ∙ last_proposer;
     more = more;
     marks = ap (λ (v : View S V). v.marks) is ∙ marks;
     plain = plain;
@@ -72,19 +72,19 @@ module _ {S V : Type 0} where
 
   then_ : (a b c : View S V) → Adds a b → Adds b c → Adds a c
   then_ a b c first next = record {
-    greatest = next.greatest ∙ first.greatest;
+    last_proposer = next.last_proposer ∙ first.last_proposer;
     more = first.more ++ next.more;
     marks = next.marks ∙ ap (λ (l : List Mark). l ++ next.more) first.marks ∙ append_assoc a.marks first.more next.more;
     plain = plain_both first.more next.more first.plain next.plain;
     passing = λ was. next.passing (first.passing was);
   }
 
-  same : (old new middle : View S V) → new ≡ middle → middle.greatest ≡ old.greatest → middle.marks ≡ old.marks → (IsPassingBy old.council.order → IsPassingBy middle.council.order) → Adds old new
-  same old new middle is greatest marks passing = still old new middle [] is tt greatest (marks ∙ sym (append-nil old.marks)) passing
+  same : (old new middle : View S V) → new ≡ middle → middle.last_proposer ≡ old.last_proposer → middle.marks ≡ old.marks → (IsPassingBy old.council.order → IsPassingBy middle.council.order) → Adds old new
+  same old new middle is last_proposer marks passing = still old new middle [] is tt last_proposer (marks ∙ sym (append-nil old.marks)) passing
 
   -- what is as another view but for what has no marks
-  after : (old middle new shown : View S V) → Adds old middle → new ≡ shown → shown.greatest ≡ middle.greatest → shown.marks ≡ middle.marks → (IsPassingBy middle.council.order → IsPassingBy shown.council.order) → Adds old new
-  after old middle new shown adds is greatest marks passing = then_ old middle new adds (same middle new shown is greatest marks passing)
+  after : (old middle new shown : View S V) → Adds old middle → new ≡ shown → shown.last_proposer ≡ middle.last_proposer → shown.marks ≡ middle.marks → (IsPassingBy middle.council.order → IsPassingBy shown.council.order) → Adds old new
+  after old middle new shown adds is last_proposer marks passing = then_ old middle new adds (same middle new shown is last_proposer marks passing)
 
 -- ---- what the open call is told
 told_so : (order : Option OrderView) (answer : OpAnswer) → IsPassing answer → IsPassingBy (option_map (so answer) order)

@@ -238,7 +238,7 @@ member_promised cluster p replies orderly drawn true_ acceptor member =
     (member_heard cluster p.key p.ballot p.era who.reply orderly drawn (true_ who.reply (contains who.reply replies who.stands)) who.is_heard)
 
 -- an era that all are in comes after that of no proposer
-pub all_in_low : (cluster : Cluster) (log : List Happening) (all proposer era : ℕ) → Lawful cluster log → proposer ≤ cluster.greatest → (Stands (Entered proposer (suc era)) log → ⊥)
+pub all_in_low : (cluster : Cluster) (log : List Happening) (all proposer era : ℕ) → Lawful cluster log → proposer ≤ cluster.last_proposer → (Stands (Entered proposer (suc era)) log → ⊥)
     → (all ≡ 0) ⊎ AllEntered cluster all (marks_of log) → all ≤ era
 all_in_low cluster log all proposer era lawful known not_beyond (inl first) = omega (arith, first)
 all_in_low cluster log all proposer era lawful known not_beyond (inr all_in) = elim (le_or_lt all era) [

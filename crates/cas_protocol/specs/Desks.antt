@@ -22,7 +22,7 @@ pub record IsRiding (cluster : Cluster) (log : List Happening) (key : List ℕ) 
 
 -- a proposer that is in the era, and whose counter is at or above that of each ballot that it drew and of each floor of the key
 pub record IsPastAll (cluster : Cluster) (log : List Happening) (proposer era counter : ℕ) (key : List ℕ) : Type 0 where
-  pub known : proposer ≤ cluster.greatest
+  pub known : proposer ≤ cluster.last_proposer
   pub is_in : IsIn log proposer era
   pub drawn : (ballot : Ballot) (k : List ℕ) (e : ℕ) → Stands (Drew ballot k e) log → ballot.proposer ≡ proposer → ballot.counter ≤ counter
   pub floors : (floor : Ballot) → HasFloor key floor (marks_of log) → floor.counter ≤ counter

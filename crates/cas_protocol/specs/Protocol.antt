@@ -175,7 +175,7 @@ pub record IsListed (cluster : Cluster) (log : List Happening) (era : ℕ) : Typ
 
 -- a proposer that is known leaves this era for the next, once: era 0 as it likes, and any other when it is listed
 pub record IsLeaving (cluster : Cluster) (log : List Happening) (proposer left : ℕ) : Type 0 where
-  pub known : proposer ≤ cluster.greatest
+  pub known : proposer ≤ cluster.last_proposer
   pub once : Stands (Entered proposer (suc left)) log → ⊥
   pub listed : (left ≡ 0) ⊎ IsListed cluster log left
 

@@ -1,3 +1,4 @@
+pub mod Answers
 pub mod Book
 pub mod Histories
 pub mod Kept

@@ -1,5 +1,7 @@
 //! The answers to calls of clients.
 
+ghost use Rattle.cas_record.specs.Answers.{is_conflict, is_refusal};
+
 use cas_ballot::{AcceptorId, Ballot};
 use cas_change::{State, Took};
 
@@ -57,6 +59,22 @@ pub enum Answer {
     NoMemory {
         proposed: bool,
     },
+}
+
+impl Answer {
+    /// Whether the last round met a greater ballot.
+    pub fn is_conflict(&self) -> bool
+        ensures { result ≡ is_conflict self.now }
+    {
+        matches!(self, Answer::Conflict { .. })
+    }
+
+    /// Whether a new call that is answered so was not begun.
+    pub fn is_refusal(&self) -> bool
+        ensures { result ≡ is_refusal self.now }
+    {
+        matches!(self, Answer::RecordFull | Answer::NoMemory { .. })
+    }
 }
 
 /// Why a change that was proposed is not known to stand.

@@ -59,7 +59,8 @@ pub(crate) fn floor_below(marks: &[Mark], key: &Key, ballot: Ballot) -> Ballot
     floor
 }
 
-fn keep_always(alloc: Global) -> Result<Program, AllocError>
+/// The program that leaves each state as it is.
+pub fn keep_always(alloc: Global) -> Result<Program, AllocError>
     ensures { IfOk result (λ program. program ≡ keep_always) }
 {
     let mut clauses = Vec::new(alloc);

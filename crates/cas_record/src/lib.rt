@@ -17,6 +17,7 @@ mod tables;
 
 pub use answer::{Answer, Cause};
 pub use entry::Entry;
+pub use history::keep_always;
 pub use mark::{Acknowledgment, Mark, Proposal};
 pub use operator::{Asked, OpAnswer, Probe, Probes};
 pub use record::{MOST_MARKS, Record};

@@ -60,8 +60,8 @@ impl Record {
     /// Makes room for so many further marks in all, and for what is kept beside them: room that was there counts. Where that is too little,
     /// it makes room for 256 more, so that few calls make any.
     ///
-    /// `_key` is the key of the marks that the room is for. After an `Err` all is as before.
-    pub fn reserve(&mut self, _key: Option<&Key>, marks: usize) -> Result<(), AllocError>
+    /// After an `Err` all is as before.
+    pub fn reserve(&mut self, marks: usize) -> Result<(), AllocError>
         ensures same { self.new.marks ≡ self.old.marks }
         ensures ok { OnOk result (marks ≤ self.new.room) }
         ensures grows { self.old.room ≤ self.new.room }

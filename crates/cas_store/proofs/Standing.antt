@@ -136,9 +136,9 @@ module _ {D : Type 0} (m : ShelfMeaning (DiskShelf D)) (faults : D → ℕ) (she
       at_view (b ∷ acceptors) (suc place) a at = at_view acceptors place a at
 
 -- ---- vaults on their disks
-pub vault_fails_on : {D : Type 0} (m : DiskMeaning D) (faults : D → ℕ) (disks : List D) (greatest : ℕ) (fault : OpenFault) (desks : List (DeskView D)) (left back : List D) → back ≡ disks_of desks ++ left → length back ≡ length disks
-    → AVaultFails m faults disks greatest fault desks left → OneFails faults 64 0 greatest fault disks back
-vault_fails_on {D} m faults disks greatest fault desks left back is places fails =
+pub vault_fails_on : {D : Type 0} (m : DiskMeaning D) (faults : D → ℕ) (disks : List D) (last_proposer : ℕ) (fault : OpenFault) (desks : List (DeskView D)) (left back : List D) → back ≡ disks_of desks ++ left → length back ≡ length disks
+    → AVaultFails m faults disks last_proposer fault desks left → OneFails faults 64 0 last_proposer fault disks back
+vault_fails_on {D} m faults disks last_proposer fault desks left back is places fails =
     let rest = drop (fails.number + 1) disks in
     let all : back ≡ disks_of desks ++ fails.now ∷ rest = is ∙ ap (λ (l : List D). disks_of desks ++ l) fails.rest in
     let made : length (disks_of desks) ≡ fails.number = length-map desks (λ (d : DeskView D). vault_disk_of d.vault) ∙ fails.made.places in
@@ -176,19 +176,19 @@ vault_fails_on {D} m faults disks greatest fault desks left back is places fails
     before p number made high other is = omega (arith, high, other, is)
 
 -- ---- what comes back
-pub stays_closed : {D : Type 0} (m : Meaning (DiskShelf D) D) (faults : D → ℕ) (count greatest : ℕ) (shelves : List (DiskShelf D)) (disks vaults : List D) (fault : OpenFault) (shelves_back : List (DiskShelf D)) (disks_back vaults_back : List D)
+pub stays_closed : {D : Type 0} (m : Meaning (DiskShelf D) D) (faults : D → ℕ) (count last_proposer : ℕ) (shelves : List (DiskShelf D)) (disks vaults : List D) (fault : OpenFault) (shelves_back : List (DiskShelf D)) (disks_back vaults_back : List D)
     → map disk_of shelves ≡ disks → disks_back ≡ map disk_of shelves_back → count < length disks → length vaults_back ≡ length vaults
-    → DoesNotOpen m (λ shelf. faults (disk_of shelf)) faults count greatest shelves vaults fault shelves_back vaults_back → StaysClosed faults count greatest disks vaults fault disks_back vaults_back
-stays_closed {D} m faults count greatest shelves disks vaults fault shelves_back disks_back vaults_back over off few places (nothing_touched none same_shelves same_vaults) =
+    → DoesNotOpen m (λ shelf. faults (disk_of shelf)) faults count last_proposer shelves vaults fault shelves_back vaults_back → StaysClosed faults count last_proposer disks vaults fault disks_back vaults_back
+stays_closed {D} m faults count last_proposer shelves disks vaults fault shelves_back disks_back vaults_back over off few places (nothing_touched none same_shelves same_vaults) =
     store.nothing_reached none (off ∙ (ap (λ (l : List (DiskShelf D)). map disk_of l) same_shelves ∙ over)) same_vaults
-stays_closed {D} m faults count greatest shelves disks vaults fault shelves_back disks_back vaults_back over off few places (some_fails acceptors desks left (a_shelf fails none same) shelves_are vaults_are) =
+stays_closed {D} m faults count last_proposer shelves disks vaults fault shelves_back disks_back vaults_back over off few places (some_fails acceptors desks left (a_shelf fails none same) shelves_are vaults_are) =
     let back : acceptor_disks acceptors ≡ disks_back = sym (off ∙ (ap (λ (l : List (DiskShelf D)). map disk_of l) shelves_are ∙ disks_shelved acceptors)) in
     store.a_member_fails (subst (λ (l : List D). OneFails faults 0 1 count fault disks l) back (member_fails_on m.shelves faults shelves disks over count fault acceptors few fails))
     (vaults_are ∙ (ap (λ (l : List (DeskView D)). disks_of l ++ left) none ∙ same))
-stays_closed {D} m faults count greatest shelves disks vaults fault shelves_back disks_back vaults_back over off few places (some_fails acceptors desks left (a_disk starts fails) shelves_are vaults_are) =
+stays_closed {D} m faults count last_proposer shelves disks vaults fault shelves_back disks_back vaults_back over off few places (some_fails acceptors desks left (a_disk starts fails) shelves_are vaults_are) =
     let back : acceptor_disks acceptors ≡ disks_back = sym (off ∙ (ap (λ (l : List (DiskShelf D)). map disk_of l) shelves_are ∙ disks_shelved acceptors)) in
     store.a_vault_fails (subst (λ (l : List D). AreReached faults 1 (count + 1) disks l) back (started_on m.shelves faults shelves disks over (count + 1) acceptors starts))
-    (vault_fails_on m.disks faults vaults greatest fault desks left vaults_back vaults_are places fails)
+    (vault_fails_on m.disks faults vaults last_proposer fault desks left vaults_back vaults_are places fails)
 
 -- ---- who is up
 in_range : (from count n : ℕ) → has_member (range_with_len from count) n ≡ true → (from ≤ n) × (n < from + count)

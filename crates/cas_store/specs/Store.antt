@@ -32,7 +32,7 @@ pub record OneFails {D : Type 0} (faults : D → ℕ) (first from to : ℕ) (fau
 
 -- Why a store is not opened, by the disks of the acceptors and of the vaults before and after: there was no memory, and no disk was
 -- reached; or the disk of a member did not start, and no vault was reached; or the members have started, and a vault did not.
-pub data StaysClosed {D : Type 0} (faults : D → ℕ) (count greatest : ℕ) (acceptors vaults : List D) (fault : OpenFault) (acceptors_back vaults_back : List D) : Type 0 where
-  nothing_reached : fault ≡ NoMemory → acceptors_back ≡ acceptors → vaults_back ≡ vaults → StaysClosed faults count greatest acceptors vaults fault acceptors_back vaults_back
-  a_member_fails : OneFails faults 0 1 count fault acceptors acceptors_back → vaults_back ≡ vaults → StaysClosed faults count greatest acceptors vaults fault acceptors_back vaults_back
-  a_vault_fails : AreReached faults 1 (count + 1) acceptors acceptors_back → OneFails faults 64 0 greatest fault vaults vaults_back → StaysClosed faults count greatest acceptors vaults fault acceptors_back vaults_back
+pub data StaysClosed {D : Type 0} (faults : D → ℕ) (count last_proposer : ℕ) (acceptors vaults : List D) (fault : OpenFault) (acceptors_back vaults_back : List D) : Type 0 where
+  nothing_reached : fault ≡ NoMemory → acceptors_back ≡ acceptors → vaults_back ≡ vaults → StaysClosed faults count last_proposer acceptors vaults fault acceptors_back vaults_back
+  a_member_fails : OneFails faults 0 1 count fault acceptors acceptors_back → vaults_back ≡ vaults → StaysClosed faults count last_proposer acceptors vaults fault acceptors_back vaults_back
+  a_vault_fails : AreReached faults 1 (count + 1) acceptors acceptors_back → OneFails faults 64 0 last_proposer fault vaults vaults_back → StaysClosed faults count last_proposer acceptors vaults fault acceptors_back vaults_back

@@ -57,7 +57,7 @@ impl<D: Disk> Store<D> {
         ensures opening { IfOk result (λ store. IsOpening (meaning ⟦<DiskShelf<D> as Shelf>⟧.contents ⟦<DiskShelf<D> as Shelf>⟧.tells ⟦<DiskShelf<D> as Shelf>⟧.may_leave ⟦<DiskShelf<D> as Shelf>⟧.fault_count D.tells D.may_leave D.fault_count) (members_to config.acceptors) store.world) }
         ensures places { IfOk result (λ store. HasPlaces store.world) }
         ensures up { IfOk result (λ store. (id : ℕ) (acceptor : AcceptorView (DiskShelf D)) → IsAt store.world.acceptors id acceptor → has_member (members_to config.acceptors) id ≡ true → acceptor.down ≡ false) }
-        ensures greatest { IfOk result (λ store. store.world.greatest ≡ config.proposers) }
+        ensures last_proposer { IfOk result (λ store. store.world.last_proposer ≡ config.proposers) }
         ensures acceptors { IfOk result (λ store. AreReached D.fault_count 1 (config.acceptors + 1) rack.acceptors.items (acceptor_disks store.world.acceptors)) }
         ensures vaults { IfOk result (λ store. AreDesksBelow (disks_like D.tells D.may_leave D.fault_count) D.fault_count rack.vaults.items (config.proposers + 1) store.world.desks) }
         ensures fault { IfErr result (λ back. StaysClosed D.fault_count config.acceptors config.proposers rack.acceptors.items rack.vaults.items back.0 back.1.acceptors.items back.1.vaults.items) }
@@ -92,7 +92,7 @@ impl<D: Disk> Store<D> {
         ensures legal { D.tells → IsLegal (reverse result.0.marks) }
         ensures kept { D.tells → AreKept D.may_leave (reverse result.0.marks) result.1.acceptors.items }
         ensures acceptors { result.1.acceptors.items ≡ acceptor_disks self.world.acceptors }
-        ensures vaults { take (self.world.greatest + 1) result.1.vaults.items ≡ disks_of self.world.desks }
+        ensures vaults { take (self.world.last_proposer + 1) result.1.vaults.items ≡ disks_of self.world.desks }
         ensures all_acceptors { vec_len result.1.acceptors ≡ 64 }
         ensures all_vaults { vec_len result.1.vaults ≡ 17 }
     {

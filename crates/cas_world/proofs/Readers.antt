@@ -14,8 +14,8 @@ use Rattle.cas_world.proofs.Calls.Callers.{at_map}
 use Rattle.cas_model.proofs.Safety.Parts.{at_low}
 
 -- a caller begins no more calls than there are marks
-pub few_calls : {S V : Type 0} (greatest : ℕ) (council : Council) (acceptors : List (AcceptorView S)) (desks : List (DeskView V)) (callers : List Caller) (flow : FlowView) (book : Book) (id : ℕ) (caller : Caller)
-    → IsSafe (view_of greatest council acceptors desks callers flow book) → id ≤ greatest → IsAt callers id caller → caller.number + 1 < 2 ^ 32
-few_calls greatest council acceptors desks callers flow book id caller safe low at =
+pub few_calls : {S V : Type 0} (last_proposer : ℕ) (council : Council) (acceptors : List (AcceptorView S)) (desks : List (DeskView V)) (callers : List Caller) (flow : FlowView) (book : Book) (id : ℕ) (caller : Caller)
+    → IsSafe (view_of last_proposer council acceptors desks callers flow book) → id ≤ last_proposer → IsAt callers id caller → caller.number + 1 < 2 ^ 32
+few_calls last_proposer council acceptors desks callers flow book id caller safe low at =
     let found = at_low desks id (omega (arith, safe.sound.desks, low)) in
     omega (arith, safe.sound.room, (safe.sound.parties id found.0 (caller_view caller) found.1 (at_map caller_view callers id caller at)).number)

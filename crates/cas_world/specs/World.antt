@@ -33,8 +33,8 @@ abbrev pub caller_view : Caller → CallerView
 caller_view caller = record { number = caller.number; call = option_map call_view caller.call }
 
 abbrev pub view_of : {S V : Type 0} → ℕ → Council → List (AcceptorView S) → List (DeskView V) → List Caller → FlowView → Book → View S V
-view_of greatest council acceptors desks callers flow book = record {
-  greatest = greatest;
+view_of last_proposer council acceptors desks callers flow book = record {
+  last_proposer = last_proposer;
   eras = council.eras.0;
   acceptors = acceptors;
   desks = desks;

@@ -55,7 +55,7 @@ impl<S: Shelf, V: Disk> World<S, V> {
         key: &Key,
         program: &Program,
     ) -> Result<(), Answer>
-        requires known { caller ≤ self.old.greatest }
+        requires known { caller ≤ self.old.last_proposer }
         requires unasked { caller ≡ 0 → self.old.council.exchange ≡ None }
         requires may { MayBegin self.old caller call key.now program.now }
         ensures full { IsErrOf result Answer.RecordFull ↔ IsFull self.old caller }
@@ -202,7 +202,7 @@ fn make_room(
     let made = if callers[place].call.is_none() {
         new_opening(record, others + marks, author, key, program)
     } else {
-        reserve(record, others + marks, key)
+        reserve(record, others + marks)
     };
     match made {
         Ok(opening) => Ok(opening),
@@ -211,14 +211,14 @@ fn make_room(
 }
 
 /// Makes room for so many marks, and nothing else. After an `Err` all is as before.
-fn reserve(record: &mut Record, marks: usize, key: &Key) -> Result<Option<Opening>, AllocError>
+fn reserve(record: &mut Record, marks: usize) -> Result<Option<Opening>, AllocError>
     ensures none { IfOk result (λ opening. opening ≡ None) }
     ensures room { OnOk result (marks ≤ «record».new.room) }
     ensures marks { «record».new.marks ≡ «record».old.marks }
     ensures grows { «record».old.room ≤ «record».new.room }
     ensures err { OnErr result («record».new ≡ «record».old) }
 {
-    record.reserve(Some(key), marks)?;
+    record.reserve(marks)?;
     Ok(None)
 }
 
@@ -235,7 +235,7 @@ fn new_opening(
     ensures marks { «record».new.marks ≡ «record».old.marks }
     ensures grows { «record».old.room ≤ «record».new.room }
 {
-    record.reserve(Some(key), marks)?;
+    record.reserve(marks)?;
     let mark = Mark::Begun {
         caller: author.caller,
         call: author.call,

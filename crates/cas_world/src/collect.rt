@@ -40,7 +40,7 @@ impl<S: Shelf, V: Disk> World<S, V> {
     /// The proposer whose renewal is the step of the collection that is due. `None` comes where another step is, or none is under way.
     pub fn renew_next(&self) -> Option<u8>
         ensures next { result ≡ renewal_in self.now.council.collection }
-        ensures known { IfSome result (λ proposer. proposer ≤ self.now.greatest) }
+        ensures known { IfSome result (λ proposer. proposer ≤ self.now.last_proposer) }
     {
         match &self.council.collection {
             Some(collection) => match collection.next() {
@@ -102,8 +102,8 @@ impl<S: Shelf, V: Disk> World<S, V> {
         if self.callers[0].call.is_none() {
             return Err(self.refuse(no_memory()));
         }
-        let greatest = self.config.proposers;
-        self.council.begin_collection(own, for_floor, greatest);
+        let last_proposer = self.setup.proposers;
+        self.council.begin_collection(own, for_floor, last_proposer);
         or_stopped(begun)
     }
 
@@ -126,7 +126,7 @@ impl<S: Shelf, V: Disk> World<S, V> {
 
     /// Whether the marks of a round of this caller do not fit beside those that are made and those that are reserved for others.
     fn is_full(&self, caller: u8) -> bool
-        requires { caller ≤ self.now.greatest }
+        requires { caller ≤ self.now.last_proposer }
         ensures { IsTrue result ↔ IsFull self.now caller }
     {
         let place = usize::from(caller);

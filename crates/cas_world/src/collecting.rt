@@ -33,7 +33,7 @@ impl<S: Shelf, V: Disk> World<S, V> {
         if since + marks > MOST_MARKS {
             return Err(self.refuse(OpAnswer::Stopped(Answer::RecordFull)));
         }
-        if self.record.reserve(None, marks).is_err() {
+        if self.record.reserve(marks).is_err() {
             return Err(self.refuse(no_memory()));
         }
         let alloc = *self.acceptors.allocator();

@@ -21,7 +21,7 @@ impl<S: Shelf, V: Disk> World<S, V> {
     /// membership that is under way, the key is counted, and with the last one the era is settled. Where caller 0 is told otherwise of that
     /// key, the operator's call is told that it stopped, and why.
     pub fn end(&mut self, caller: u8, call: u32, answer: Answer) -> Answer
-        requires known { caller ≤ self.old.greatest }
+        requires known { caller ≤ self.old.last_proposer }
         requires told { WasTold self.old caller call answer }
         ensures same { result ≡ answer }
         ensures step { Step (meaning S.contents S.tells S.may_leave S.fault_count V.tells V.may_leave V.fault_count) self.old (End caller answer) self.new }

@@ -92,7 +92,7 @@ impl<S: Shelf, V: Disk> World<S, V> {
         ensures same { result ≡ answer }
         ensures step { Step (meaning S.contents S.tells S.may_leave S.fault_count V.tells V.may_leave V.fault_count) self.old (Tell answer) self.new }
         ensures floor { S.tells → V.tells → HasCollectedAll self.old answer → HasItsFloor answer (reverse self.old.marks) }
-        ensures entered { HasFinished self.old answer → HaveEnteredIts self.old.greatest answer (reverse self.old.marks) }
+        ensures entered { HasFinished self.old answer → HaveEnteredIts self.old.last_proposer answer (reverse self.old.marks) }
     {
         self.flow.abandon(EXCHANGE_PLACE);
         let EndedOrder {
@@ -301,7 +301,7 @@ fn to_order(record: &mut Record, reserved: usize, asked: &Asked) -> Result<Order
     ensures marks { «record».new.marks ≡ «record».old.marks }
     ensures grows { «record».old.room ≤ «record».new.room }
 {
-    record.reserve(None, reserved + 1)?;
+    record.reserve(reserved + 1)?;
     Ok(Order {
         asked: asked.copy()?,
         told: None,
@@ -342,7 +342,7 @@ fn open_exchange<V: Disk>(
     if since + reserved + count > MOST_MARKS {
         return Err(Answer::RecordFull);
     }
-    if record.reserve(None, reserved + count).is_err() {
+    if record.reserve(reserved + count).is_err() {
         return Err(Answer::NoMemory { proposed: false });
     }
     let age = desk.age();

@@ -52,7 +52,7 @@ impl<S: Shelf, V: Disk> World<S, V> {
     /// The proposer crashes: its open round is closed, its caller is told so, and the frames of the round join the late ones. So do those of
     /// an exchange of proposer 0, which ends then with what it was told.
     pub fn crash_proposer(&mut self, proposer: u8)
-        requires { proposer ≤ self.old.greatest }
+        requires { proposer ≤ self.old.last_proposer }
         ensures { Step (meaning S.contents S.tells S.may_leave S.fault_count V.tells V.may_leave V.fault_count) self.old (CrashProposer proposer) self.new }
     {
         self.crash_desk(proposer);
@@ -63,7 +63,7 @@ impl<S: Shelf, V: Disk> World<S, V> {
 
     /// The proposer's desk crashes, within a round or beside one.
     fn crash_desk(&mut self, proposer: u8)
-        requires { proposer ≤ self.old.greatest }
+        requires { proposer ≤ self.old.last_proposer }
         ensures { CrashesDesk (meaning S.contents S.tells S.may_leave S.fault_count V.tells V.may_leave V.fault_count) self.old proposer self.new }
     {
         let place = usize::from(proposer);
@@ -90,7 +90,7 @@ impl<S: Shelf, V: Disk> World<S, V> {
     /// [`VaultError::VaultFault`] comes only where the count of faults of its vault's disk rose, [`VaultError::Foreign`] only where a
     /// crash left bytes that are no vault from that place on, and [`VaultError::Spent`] never.
     pub fn restart_proposer(&mut self, proposer: u8) -> Result<(), VaultError>
-        requires { proposer ≤ self.old.greatest }
+        requires { proposer ≤ self.old.last_proposer }
         ensures step { Step (meaning S.contents S.tells S.may_leave S.fault_count V.tells V.may_leave V.fault_count) self.old (RestartProposer proposer) self.new }
         ensures tells { (was now : DeskView V) → IsAt self.old.desks proposer was → IsAt self.new.desks proposer now → TellsOfDesk (disks V.tells V.may_leave V.fault_count) was now result }
     {

@@ -103,7 +103,7 @@ impl<S: Shelf, V: Disk> World<S, V> {
     /// The proposer that has to enter the next era: the least that is not marked as in it. `None` comes where no era is to be entered next.
     pub fn enter_next(&self) -> Option<u8>
         ensures next { result ≡ entrant_of self.now.council.plan }
-        ensures known { IfSome result (λ proposer. proposer ≤ self.now.greatest) }
+        ensures known { IfSome result (λ proposer. proposer ≤ self.now.last_proposer) }
     {
         match &self.council.plan {
             Some(plan) => match plan.next() {
@@ -219,7 +219,7 @@ impl<S: Shelf, V: Disk> World<S, V> {
         if self.desks[place].is_down() {
             return Err(self.refuse(OpAnswer::ProposerDown { proposer }));
         }
-        if self.record.reserve(None, reserved + 1).is_err() {
+        if self.record.reserve(reserved + 1).is_err() {
             return Err(self.refuse(no_memory()));
         }
         let Some(next) = self.council.next_era() else {
@@ -228,13 +228,13 @@ impl<S: Shelf, V: Disk> World<S, V> {
         let desk = &mut self.desks[place];
         let caller = &mut self.callers[place];
         let moved = move_on(desk, caller, &mut self.flow, proposer, &next);
-        let greatest = self.config.proposers;
+        let last_proposer = self.setup.proposers;
         let council = &mut self.council;
         mark_move(
             council,
             &mut self.record,
             &mut self.flow,
-            greatest,
+            last_proposer,
             proposer,
             next,
             moved,
@@ -317,7 +317,7 @@ fn mark_move(
     council: &mut Council,
     record: &mut Record,
     flow: &mut Flow,
-    greatest: u8,
+    last_proposer: u8,
     proposer: u8,
     next: Era,
     moved: Result<(), VaultError>,
@@ -326,12 +326,12 @@ fn mark_move(
     requires proposer { proposer ≤ 16 }
     requires room { 0 < «record».old.room }
     requires cause { IfErr moved (λ error. (error ≡ VaultError.VaultFault) ⊎ (error ≡ VaultError.NoMemory)) }
-    ensures moves { MarksMove greatest proposer next moved (council_view council.old) (council_view council.new) council.old.eras.0 council.new.eras.0 flow.old flow.new «record».old «record».new result }
+    ensures moves { MarksMove last_proposer proposer next moved (council_view council.old) (council_view council.new) council.old.eras.0 council.new.eras.0 flow.old flow.new «record».old «record».new result }
 {
     match moved {
         Ok(()) => {
             let number = next.number;
-            council.enter(greatest, next);
+            council.enter(last_proposer, next);
             record.push(Mark::EraEntered { proposer, number });
             Ok(())
         }

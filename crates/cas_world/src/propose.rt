@@ -48,7 +48,7 @@ impl<S: Shelf, V: Disk> World<S, V> {
     ///
     /// Where the shelves and the disks tell what they keep, the ballot of a conflict is above the round's.
     pub fn propose(&mut self, proposer: u8) -> Result<(), Answer>
-        requires known { proposer ≤ self.old.greatest }
+        requires known { proposer ≤ self.old.last_proposer }
         requires preparing { IsInPhase self.old proposer true }
         ensures step { Step (meaning S.contents S.tells S.may_leave S.fault_count V.tells V.may_leave V.fault_count) self.old (Propose proposer) self.new }
         ensures proposed { OnOk result (HasProposed self.new proposer) }
@@ -78,7 +78,7 @@ impl<S: Shelf, V: Disk> World<S, V> {
     /// Where the shelves and the disks tell what they keep, what is acknowledged, this change among it, stands on the shelves of those
     /// that confirmed it, who are an accept quorum, whatever a crash now leaves of each, until a floor is made at or above it.
     pub fn count(&mut self, proposer: u8) -> Answer
-        requires known { proposer ≤ self.old.greatest }
+        requires known { proposer ≤ self.old.last_proposer }
         requires counting { IsInPhase self.old proposer false }
         ensures step { Step (meaning S.contents S.tells S.may_leave S.fault_count V.tells V.may_leave V.fault_count) self.old (Count proposer) self.new }
         ensures told { (caller : CallerView) → slice_get self.old.callers proposer ≡ Some caller → WasTold self.new proposer caller.number result }
@@ -104,7 +104,7 @@ impl<S: Shelf, V: Disk> World<S, V> {
 impl<S: Shelf, V: Disk> World<S, V> {
     /// Whether the caller's open call has proposed something. An open round of it is in its accept phase exactly then.
     pub fn has_proposed(&self, caller: u8) -> bool
-        requires { caller ≤ self.now.greatest }
+        requires { caller ≤ self.now.last_proposer }
         ensures proposed { (seen : CallerView) → slice_get self.now.callers caller ≡ Some seen → IfSome seen.call (λ call. result ≡ is_some call.proposed) }
         ensures phase { (desk : DeskView V) → slice_get self.now.desks caller ≡ Some desk → IfSome desk.round (λ round. is_preparing round.phase ≡ not result) }
     {

@@ -36,7 +36,7 @@ impl<S: Shelf, V: Disk> World<S, V> {
     /// down, or goes down in this step, and then its open round is closed as by a crash; [`Answer::Spent`] exactly where its age is 2^48;
     /// [`Answer::NoMemory`], after which its counter is at least the tombstone's. After each of them the step is still due.
     pub fn renew(&mut self, proposer: u8) -> Result<u64, OpAnswer>
-        requires known { proposer ≤ self.old.greatest }
+        requires known { proposer ≤ self.old.last_proposer }
         requires due { IsDueStep self.old (RenewStep proposer) }
         ensures step { Step (meaning S.contents S.tells S.may_leave S.fault_count V.tells V.may_leave V.fault_count) self.old (Renew proposer) self.new }
         ensures ok { OnOk result (GoesOnCollecting self.old self.new) }

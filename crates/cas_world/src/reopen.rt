@@ -80,7 +80,7 @@ pub(crate) fn record_of(alloc: Global, mut floors: Vec<OpeningFloor>) -> Result<
     ensures { IfOk result (λ book. book.marks ≡ map (λ floor. mark_of (opening_of floor)) floors.items) }
 {
     let mut record = Record::new(alloc);
-    record.reserve(None, floors.len())?;
+    record.reserve(floors.len())?;
     floors.reverse();
     while let Some(floor) = floors.pop() {
         record.push(Mark::Floor {

@@ -85,7 +85,7 @@ fn let_in<S: Shelf, V: Disk>(
     ensures err { OnErr result (KeepsAll (shelves S.contents S.tells S.may_leave S.fault_count) acceptors.old.items acceptors.new.items) }
     ensures same { OnErr result ((desks.new.items ≡ desks.old.items) × (flow.new ≡ flow.old) × («record».new.marks ≡ «record».old.marks) × («record».old.room ≤ «record».new.room)) }
 {
-    record.reserve(None, marks)?;
+    record.reserve(marks)?;
     match flow.look_late(index).read(alloc)? {
         Message::Request(request) => {
             ask(alloc, acceptors, flow, record, index, &request)?;

@@ -37,7 +37,7 @@ impl<S: Shelf, V: Disk> World<S, V> {
     ///
     /// While an exchange is open, its frames are those of proposer 0; the operator's call is then told that no memory was found.
     pub fn turn(&mut self, proposer: u8, verdict: Verdict) -> Result<(), AllocError>
-        requires proposer { proposer ≤ self.old.greatest }
+        requires proposer { proposer ≤ self.old.last_proposer }
         requires waits { (queue_at self.old.flow (place_of self.old proposer)).messages ≢ [] }
         ensures ok { OnOk result (Step (meaning S.contents S.tells S.may_leave S.fault_count V.tells V.may_leave V.fault_count) self.old (turn_of self.old proposer verdict) self.new) }
         ensures err { OnErr result (Step (meaning S.contents S.tells S.may_leave S.fault_count V.tells V.may_leave V.fault_count) self.old (refusal_of self.old proposer) self.new) }
@@ -51,7 +51,7 @@ impl<S: Shelf, V: Disk> World<S, V> {
 
     /// The first frame of the proposer's round has its turn.
     fn turn_round(&mut self, proposer: u8, verdict: Verdict) -> Result<(), AllocError>
-        requires proposer { proposer ≤ self.old.greatest }
+        requires proposer { proposer ≤ self.old.last_proposer }
         requires waits { (queue_at self.old.flow proposer).messages ≢ [] }
         ensures ok { OnOk result (Step (meaning S.contents S.tells S.may_leave S.fault_count V.tells V.may_leave V.fault_count) self.old (Turn proposer verdict) self.new) }
         ensures err { OnErr result (Step (meaning S.contents S.tells S.may_leave S.fault_count V.tells V.may_leave V.fault_count) self.old (RefuseTurn proposer) self.new) }

@@ -59,7 +59,7 @@ pub struct Config {
 #[derive(Drop)]
 pub struct World<S: Shelf, V: Disk> {
     /// How many proposers there are, and the lists in which all is handed back.
-    pub(crate) config: Setup<S, V>,
+    pub(crate) setup: Setup<S, V>,
     pub(crate) council: Council,
     /// The acceptors, each at the place of its number.
     pub(crate) acceptors: Vec<Acceptor<S>>,
@@ -78,9 +78,9 @@ impl<S: Shelf, V: Disk> Model for World<S, V> {
 
     ghost Value = { View S V };
 
-    ghost view = { λ w. view_of w.config.proposers w.council w.acceptors.items w.desks.items w.callers.items w.flow w.«record» };
+    ghost view = { λ w. view_of w.setup.proposers w.council w.acceptors.items w.desks.items w.callers.items w.flow w.«record» };
 
-    ghost invariant = { λ w. IsWorld (meaning S.contents S.tells S.may_leave S.fault_count V.tells V.may_leave V.fault_count) (view_of w.config.proposers w.council w.acceptors.items w.desks.items w.callers.items w.flow w.«record») w.callers.items w.«record».room };
+    ghost invariant = { λ w. IsWorld (meaning S.contents S.tells S.may_leave S.fault_count V.tells V.may_leave V.fault_count) (view_of w.setup.proposers w.council w.acceptors.items w.desks.items w.callers.items w.flow w.«record») w.callers.items w.«record».room };
 }
 
 impl<S: Shelf, V: Disk> World<S, V> {
@@ -101,7 +101,7 @@ impl<S: Shelf, V: Disk> World<S, V> {
         requires vaults { vec_len vaults ≡ 17 }
         ensures opening { IfOk result (IsOpening (meaning S.contents S.tells S.may_leave S.fault_count V.tells V.may_leave V.fault_count) (members_to config.acceptors)) }
         ensures places { IfOk result HasPlaces }
-        ensures greatest { IfOk result (λ world. world.greatest ≡ config.proposers) }
+        ensures last_proposer { IfOk result (λ world. world.last_proposer ≡ config.proposers) }
         ensures shelves { IfOk result (λ world. AreStartedBelow (shelves_like S.contents S.tells S.may_leave S.fault_count) S.fault_count (unstarted 0 shelves.items) (config.acceptors + 1) world.acceptors) }
         ensures vaults { IfOk result (λ world. AreDesksBelow (disks_like V.tells V.may_leave V.fault_count) V.fault_count vaults.items (config.proposers + 1) world.desks) }
         ensures fault { IfErr result (λ back. DoesNotOpen (meaning S.contents S.tells S.may_leave S.fault_count V.tells V.may_leave V.fault_count) S.fault_count V.fault_count config.acceptors config.proposers shelves.items vaults.items back.0 back.1.items back.2.items) }
@@ -121,7 +121,7 @@ impl<S: Shelf, V: Disk> World<S, V> {
         let members = first_members(config.acceptors);
         match start(alloc, config, &mut acceptors, &mut desks, &mut vaults) {
             Ok(()) => Ok(World {
-                config: Setup {
+                setup: Setup {
                     proposers: config.proposers,
                     shelves,
                     disks: vaults,
@@ -169,7 +169,7 @@ impl<S: Shelf, V: Disk> World<S, V> {
         requires held { MembersHold S.is_up S.contents members (openings_of floors.items) shelves.items }
         ensures opening { IfOk result (IsOpeningOn (meaning S.contents S.tells S.may_leave S.fault_count V.tells V.may_leave V.fault_count) members (union_of used members) (openings_of floors.items)) }
         ensures places { IfOk result HasPlaces }
-        ensures greatest { IfOk result (λ world. world.greatest ≡ config.proposers) }
+        ensures last_proposer { IfOk result (λ world. world.last_proposer ≡ config.proposers) }
         ensures shelves { IfOk result (λ world. world.acceptors ≡ placed members 0 shelves.items) }
         ensures vaults { IfOk result (λ world. AreTakenUpBelow (disks_like V.tells V.may_leave V.fault_count) V.fault_count (greatest_counter floors.items) vaults.items (config.proposers + 1) world.desks) }
         ensures fault { IfErr result (λ back. DoesNotGoOn (disks_like V.tells V.may_leave V.fault_count) V.seen V.fault_count (greatest_counter floors.items) config.proposers shelves.items vaults.items back.0 back.1.items back.2.items) }
@@ -193,7 +193,7 @@ impl<S: Shelf, V: Disk> World<S, V> {
         vaults.reverse();
         match take_up_desks(alloc, &mut desks, &mut vaults, config.proposers, past) {
             Ok(()) => Ok(World {
-                config: Setup {
+                setup: Setup {
                     proposers: config.proposers,
                     shelves,
                     disks: vaults,
@@ -221,12 +221,12 @@ impl<S: Shelf, V: Disk> World<S, V> {
         ensures legal { S.tells → V.tells → IsLegal (reverse result.0.marks) }
         ensures shelves { result.1.items ≡ shelves_of self.acceptors }
         ensures all_shelves { vec_len result.1 ≡ 64 }
-        ensures disks { take (self.greatest + 1) result.2.items ≡ disks_of self.desks }
+        ensures disks { take (self.last_proposer + 1) result.2.items ≡ disks_of self.desks }
         ensures all { vec_len result.2 ≡ 17 }
         ensures kept { S.tells → V.tells → (a : AnAcknowledgment) → Stands (Acked a) (reverse self.marks) → IsAboveFloors (reverse self.marks) a.key a.ballot → IsKept (meaning S.contents S.tells S.may_leave S.fault_count V.tells V.may_leave V.fault_count) self a }
     {
         let World {
-            config,
+            setup,
             council: _,
             acceptors,
             desks,
@@ -238,7 +238,7 @@ impl<S: Shelf, V: Disk> World<S, V> {
             proposers: _,
             mut shelves,
             mut disks,
-        } = config;
+        } = setup;
         give_shelves(acceptors, &mut shelves);
         give_disks(desks, &mut disks);
         (record, shelves, disks)
@@ -263,7 +263,7 @@ impl<S: Shelf, V: Disk> World<S, V> {
 
     /// The number of the caller's next call.
     pub fn next_call(&self, caller: u8) -> u32
-        requires { caller ≤ self.now.greatest }
+        requires { caller ≤ self.now.last_proposer }
         ensures { option_map next_number (slice_get self.now.callers caller) ≡ Some result }
     {
         self.callers[usize::from(caller)].next()
@@ -272,7 +272,7 @@ impl<S: Shelf, V: Disk> World<S, V> {
     /// The leg of the proposer's first frame, and the acceptor at its other end. `None` comes exactly where no own frame waits. While an
     /// exchange is open, its frames are those of proposer 0.
     pub fn front(&self, proposer: u8) -> Option<(Leg, AcceptorId)>
-        requires { proposer ≤ self.now.greatest }
+        requires { proposer ≤ self.now.last_proposer }
         ensures { result ≡ option_map head_of (slice_get (queue_at self.now.flow (place_of self.now proposer)).messages 0) }
     {
         let place = if self.asks_as(proposer) {
@@ -292,7 +292,7 @@ impl<S: Shelf, V: Disk> World<S, V> {
 
     /// How the caller's open call was closed by another. `None` comes where it was not; `Done` never comes.
     pub fn closed(&self, proposer: u8) -> Option<Answer>
-        requires { proposer ≤ self.now.greatest }
+        requires { proposer ≤ self.now.last_proposer }
         ensures { (caller : CallerView) → IsAt self.now.callers proposer caller → result ≡ closed_in caller.call }
     {
         match &self.callers[usize::from(proposer)].call {
@@ -303,7 +303,7 @@ impl<S: Shelf, V: Disk> World<S, V> {
 
     /// How the open phase of the proposer's round ends, should no other reply arrive. `None` comes exactly where no round is open.
     pub fn verdict(&self, proposer: u8) -> Option<RoundVerdict>
-        requires { proposer ≤ self.now.greatest }
+        requires { proposer ≤ self.now.last_proposer }
         ensures { (desk : DeskView V) → IsAt self.now.desks proposer desk → IsVerdictIn desk.round result }
     {
         match self.desks[usize::from(proposer)].round() {

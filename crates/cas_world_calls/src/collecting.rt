@@ -39,14 +39,14 @@ pub enum Saying {
 impl Council {
     /// The collection of the key is under way, in the era in which proposer 0 works and with the proposers 0 to `greatest`, and its call is
     /// open. The mark of its floor is to bear the second key, which is the same.
-    pub fn begin_collection(&mut self, key: Key, for_floor: Key, greatest: u8)
+    pub fn begin_collection(&mut self, key: Key, for_floor: Key, last_proposer: u8)
         requires { for_floor ≡ key }
-        ensures begun { council_view self.new ≡ record (hushed (council_view self.old)) { collection = Some (new_collection key (era_in self.old.eras.0 0) greatest) } }
+        ensures begun { council_view self.new ≡ record (hushed (council_view self.old)) { collection = Some (new_collection key (era_in self.old.eras.0 0) last_proposer) } }
         ensures eras { self.new.eras ≡ self.old.eras }
     {
         self.hush();
         let era = *self.eras.of(0);
-        self.collection = Some(OpenCollection::begin(key, for_floor, &era, greatest));
+        self.collection = Some(OpenCollection::begin(key, for_floor, &era, last_proposer));
     }
 
     /// Its round read a held state of this version, and its call is over.

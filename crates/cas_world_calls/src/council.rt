@@ -337,15 +337,15 @@ impl Council {
 
     /// The proposer whose turn it is works in the next era of the change of membership, and is marked so. With the last one, whose
     /// number is the greatest, all do.
-    pub fn enter(&mut self, greatest: u8, next: Era)
+    pub fn enter(&mut self, last_proposer: u8, next: Era)
         requires plan { IsSomeAnd (council_view self.old).plan (λ plan. (entering plan.progress.left ≡ Some next) × (plan.entered ≤ 16)) }
-        ensures entered { IfSome (council_view self.old).plan (λ plan. council_view self.new ≡ record (hushed (council_view self.old)) { plan = Some (plan_after greatest plan next) }) }
+        ensures entered { IfSome (council_view self.old).plan (λ plan. council_view self.new ≡ record (hushed (council_view self.old)) { plan = Some (plan_after last_proposer plan next) }) }
         ensures eras { IfSome (council_view self.old).plan (λ plan. self.new.eras.0 ≡ slice_set self.old.eras.0 plan.entered next) }
     {
         self.hush();
         if let Some(plan) = &mut self.plan {
             self.eras.put(plan.entered, next);
-            plan.enter(greatest);
+            plan.enter(last_proposer);
         }
     }
 

@@ -57,12 +57,12 @@ impl OpenPlan {
     }
 
     /// The proposer whose turn it is entered the next era. With the last one, whose number is the greatest, all have.
-    pub fn enter(&mut self, greatest: u8)
+    pub fn enter(&mut self, last_proposer: u8)
         requires next { IsSome (entering self.old.plan.left) }
         requires few { self.old.entered + 1 < 2 ^ 8 }
-        ensures { IfSome (entering self.old.plan.left) (λ next. plan_view self.new ≡ plan_after greatest (plan_view self.old) next) }
+        ensures { IfSome (entering self.old.plan.left) (λ next. plan_view self.new ≡ plan_after last_proposer (plan_view self.old) next) }
     {
-        if self.entered == greatest {
+        if self.entered == last_proposer {
             self.plan.entered();
             self.entered = 0;
             self.listing = None;

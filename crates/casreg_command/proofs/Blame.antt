@@ -86,14 +86,14 @@ opening_by m rack asked back number was mid now (opening.Foreign disk at) is_was
 opening_by m rack asked back number was mid now (opening.Spent disk) is_was low is_now cause = absurd cause
 opening_by m rack asked back number was mid now opening.NoMemory is_was low is_now cause = tt
 
-opening_blamed : {D : Type 0} (m : RackMeaning D) (count greatest : ℕ) (rack asked back : Rack D) (fault : OpenFault) → IsAllEmpty m rack asked → StaysClosed m.faults count greatest asked.acceptors.items asked.vaults.items fault back.acceptors.items back.vaults.items
+opening_blamed : {D : Type 0} (m : RackMeaning D) (count last_proposer : ℕ) (rack asked back : Rack D) (fault : OpenFault) → IsAllEmpty m rack asked → StaysClosed m.faults count last_proposer asked.acceptors.items asked.vaults.items fault back.acceptors.items back.vaults.items
     → AreDisksToBlame m rack back (status_of_opening fault)
-opening_blamed m count greatest rack asked back fault empty (nothing_reached none acceptors vaults) = subst (λ (f : OpenFault). AreDisksToBlame m rack back (status_of_opening f)) (sym none) tt
-opening_blamed m count greatest rack asked back fault empty (a_member_fails one vaults) =
+opening_blamed m count last_proposer rack asked back fault empty (nothing_reached none acceptors vaults) = subst (λ (f : OpenFault). AreDisksToBlame m rack back (status_of_opening f)) (sym none) tt
+opening_blamed m count last_proposer rack asked back fault empty (a_member_fails one vaults) =
     let before = was_there m rack.acceptors.items asked.acceptors.items 64 one.place one.was empty.acceptors one.at_was in
     opening_by m rack asked back one.place before.was one.was one.now fault (of_acceptor one.place before.was before.at_was) before.never_falls (of_acceptor one.place one.now one.at_now)
     (subst (λ (n : ℕ). IsFaultOf n (m.faults one.was) (m.faults one.now) fault) (from_zero one.place) one.cause)
-opening_blamed m count greatest rack asked back fault empty (a_vault_fails members one) =
+opening_blamed m count last_proposer rack asked back fault empty (a_vault_fails members one) =
     let before = was_there m rack.vaults.items asked.vaults.items 17 one.place one.was empty.vaults one.at_was in
     opening_by m rack asked back (64 + one.place) before.was one.was one.now fault (of_vault one.place before.was before.at_was) before.never_falls (of_vault one.place one.now one.at_now)
     one.cause

@@ -227,7 +227,7 @@ ends_whole input ends (TooLong line) is = absurd (cc is)
 -- ---- the store is taken apart
 pub ran_from : {D : Type 0} (meant : Meaning (DiskShelf D) D) (tells : Type 0) (tries made : ℕ) (P : List (List ℕ) → Type 0) (input old new : Option (List ℕ)) (world closed : View (DiskShelf D) D) (stage : Stage (DiskShelf D) D) (marks : List Mark) (result : Status) (back : Rack D) → made ≡ tries
     → closed ≡ stage.world → EndsIn meant made P input old new (opening_state world) stage result → marks ≡ closed.marks → (tells → IsLegal (reverse marks)) → (tells → AreKept meant.disks.may_leave (reverse marks) back.acceptors.items) → back.acceptors.items ≡ acceptor_disks closed.acceptors
-    → take (closed.greatest + 1) back.vaults.items ≡ disks_of closed.desks → Ran meant tells tries P input old new world result back
+    → take (closed.last_proposer + 1) back.vaults.items ≡ disks_of closed.desks → Ran meant tells tries P input old new world result back
 ran_from {D} meant tells tries made P input old new world closed stage marks result back tries_are is ends marks_are legal kept acceptors vaults =
     let e : EndsIn meant tries P input old new (opening_state world) stage result = subst (λ (n : ℕ). EndsIn meant n P input old new (opening_state world) stage result) tries_are ends in
     let same : closed ≡ e.last.world = is ∙ e.is_in.world in
@@ -241,7 +241,7 @@ ran_from {D} meant tells tries made P input old new world closed stage marks res
 
 -- the same of a load
 pub loaded_from : {D : Type 0} (meant : Meaning (DiskShelf D) D) (tells : Type 0) (load : Load) (old new : Option (List ℕ)) (world closed : View (DiskShelf D) D) (marks : List Mark) (result : Status) (back : Rack D) → WroteSummary meant load old new world closed result → marks ≡ closed.marks → (tells → IsLegal (reverse marks))
-    → (tells → AreKept meant.disks.may_leave (reverse marks) back.acceptors.items) → back.acceptors.items ≡ acceptor_disks closed.acceptors → take (closed.greatest + 1) back.vaults.items ≡ disks_of closed.desks → Loaded meant tells load old new world result back
+    → (tells → AreKept meant.disks.may_leave (reverse marks) back.acceptors.items) → back.acceptors.items ≡ acceptor_disks closed.acceptors → take (closed.last_proposer + 1) back.vaults.items ≡ disks_of closed.desks → Loaded meant tells load old new world result back
 loaded_from meant tells load old new world closed marks result back wrote marks_are legal kept acceptors vaults = record {
   last = closed;
   wrote = wrote;

@@ -159,14 +159,14 @@ pub record EndsIn {S V : Type 0} (meant : Meaning S V) (tries : ℕ) (HadEnded :
 pub record IsNewOver {D : Type 0} (meant : Meaning (DiskShelf D) D) (acceptors proposers : ℕ) (rack : Rack D) (world : View (DiskShelf D) D) : Type 0 where
   pub opening : IsOpening meant (members_to acceptors) world
   pub places : HasPlaces world
-  pub greatest : world.greatest ≡ proposers
+  pub last_proposer : world.last_proposer ≡ proposers
   pub shelves : AreReached meant.disks.faults 1 (acceptors + 1) rack.acceptors.items (acceptor_disks world.acceptors)
   pub vaults : AreDesksBelow meant.disks meant.disks.faults rack.vaults.items (proposers + 1) world.desks
 
 -- the rack that comes back holds the disks of the world, each at its place
 pub record IsRackOf {D : Type 0} (world : View (DiskShelf D) D) (rack : Rack D) : Type 0 where
   pub acceptors : rack.acceptors.items ≡ acceptor_disks world.acceptors
-  pub vaults : take (world.greatest + 1) rack.vaults.items ≡ disks_of world.desks
+  pub vaults : take (world.last_proposer + 1) rack.vaults.items ≡ disks_of world.desks
 
 -- what a script wrote that ran from this world on, whose record was legal then, where disks tell what they keep, and the rack that comes
 -- back, on which what is acknowledged stands

@@ -176,7 +176,7 @@ fn run_script<S: Source, K: Sink, D: Disk + Drop>(
     store: Store<D>,
 ) -> (Status, Rack<D>)
     requires range { AreOptionsInRange options }
-    requires known { store.world.greatest ≡ options.proposers }
+    requires known { store.world.last_proposer ≡ options.proposers }
     requires idle { AllIdle store.world }
     requires quiet { IsAtRest store.world.council }
     ensures ran { Ran (meaning ⟦<DiskShelf<D> as Shelf>⟧.contents ⟦<DiskShelf<D> as Shelf>⟧.tells ⟦<DiskShelf<D> as Shelf>⟧.may_leave ⟦<DiskShelf<D> as Shelf>⟧.fault_count D.tells D.may_leave D.fault_count) D.tells options.tries

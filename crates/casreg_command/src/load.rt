@@ -27,7 +27,7 @@ pub(crate) fn load_store<K: Sink, D: Disk + Drop>(
     store: Store<D>,
 ) -> (Status, Rack<D>)
     requires load { IsLoad load }
-    requires known { store.world.greatest ≡ load.proposers }
+    requires known { store.world.last_proposer ≡ load.proposers }
     requires idle { AllIdle store.world }
     requires quiet { IsAtRest store.world.council }
     ensures loaded { Loaded (meaning ⟦<DiskShelf<D> as Shelf>⟧.contents ⟦<DiskShelf<D> as Shelf>⟧.tells ⟦<DiskShelf<D> as Shelf>⟧.may_leave ⟦<DiskShelf<D> as Shelf>⟧.fault_count D.tells D.may_leave D.fault_count) D.tells load (K.contents sink.old) (K.contents sink.new) store.world result.0 result.1 }
@@ -55,7 +55,7 @@ fn write_summary<K: Sink, H: Shelf, D: Disk>(
     sink: &mut K,
 ) -> Result<(), Status>
     requires load { IsLoad load }
-    requires known { world.old.greatest ≡ load.proposers }
+    requires known { world.old.last_proposer ≡ load.proposers }
     requires idle { AllIdle world.old }
     requires quiet { IsAtRest world.old.council }
     ensures all { OnOk result (WroteSummary (meaning H.contents H.tells H.may_leave H.fault_count D.tells D.may_leave D.fault_count) load (K.contents sink.old) (K.contents sink.new) world.old world.new Status.Ok) }

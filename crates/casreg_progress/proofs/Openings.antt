@@ -96,7 +96,7 @@ all_ready {S} {V} m members world id key desk opens places at low up = record {
       (there.0, there.1, ready_member m id key desk there.0 (omega (arith, fresh.0, opens.few)) fresh.1.same_id is_up ((opens.acceptors member there.0 there.1).keeps is_up));
 }
   where
-    fresh : (id ≤ world.greatest) × IsFreshDesk m id desk
+    fresh : (id ≤ world.last_proposer) × IsFreshDesk m id desk
     fresh = opens.desks id desk at
 
     era_is : era_at world id ≡ majority_era 0 members

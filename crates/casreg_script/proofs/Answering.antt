@@ -40,31 +40,31 @@ without_text m tries state line stage (Err e) answer new is_in run = ran answer 
 
 -- ---- what is run
 -- the line says so of the world of the state
-pub line_of : {S V : Type 0} (stage : Stage S V) (state : State S V) (line : List ℕ) (said : Option Command) → IsIn stage state → IsLine stage.world.greatest line said → IsLine state.world.greatest line said
-line_of {S} {V} stage state line said at is = subst (λ (w : View S V). IsLine w.greatest line said) at.world is
+pub line_of : {S V : Type 0} (stage : Stage S V) (state : State S V) (line : List ℕ) (said : Option Command) → IsIn stage state → IsLine stage.world.last_proposer line said → IsLine state.world.last_proposer line said
+line_of {S} {V} stage state line said at is = subst (λ (w : View S V). IsLine w.last_proposer line said) at.world is
 
-pub changes_run : {S V : Type 0} (m : Meaning S V) (tries : ℕ) (old stage : Stage S V) (state : State S V) (line : List ℕ) (command : Command) (asked : Asked) (answer : Answer) → IsIn old state → IsLine old.world.greatest line (Some command) → change_of command ≡ Some asked
+pub changes_run : {S V : Type 0} (m : Meaning S V) (tries : ℕ) (old stage : Stage S V) (state : State S V) (line : List ℕ) (command : Command) (asked : Asked) (answer : Answer) → IsIn old state → IsLine old.world.last_proposer line (Some command) → change_of command ≡ Some asked
     → (runs : Runs (RunsChange m tries state asked answer) stage) → IsAnswered m tries state line (Changed asked.caller answer) runs.new
 changes_run m tries old stage state line command asked answer at is asks runs = changes command asked (line_of old state line (Some command) at is) asks runs.has
 
-pub happens_run : {S V : Type 0} (m : Meaning S V) (tries : ℕ) (old stage : Stage S V) (state : State S V) (line : List ℕ) (command : Command) (answer : EventAnswer) → IsIn old state → IsLine old.world.greatest line (Some command)
+pub happens_run : {S V : Type 0} (m : Meaning S V) (tries : ℕ) (old stage : Stage S V) (state : State S V) (line : List ℕ) (command : Command) (answer : EventAnswer) → IsIn old state → IsLine old.world.last_proposer line (Some command)
     → (runs : Runs (RunsEvent m state command answer) stage) → IsAnswered m tries state line (Happened answer) runs.new
 happens_run m tries old stage state line command answer at is runs = happens command (line_of old state line (Some command) at is) runs.has
 
-pub shows_run : {S V : Type 0} (m : Meaning S V) (tries : ℕ) (stage : Stage S V) (state : State S V) (line : List ℕ) (command : Command) (id : ℕ) (key : List ℕ) (shown : Shown) (world : View S V) → IsIn stage state → IsLine stage.world.greatest line (Some command) → command ≡ Show id key
+pub shows_run : {S V : Type 0} (m : Meaning S V) (tries : ℕ) (stage : Stage S V) (state : State S V) (line : List ℕ) (command : Command) (id : ℕ) (key : List ℕ) (shown : Shown) (world : View S V) → IsIn stage state → IsLine stage.world.last_proposer line (Some command) → command ≡ Show id key
     → world ≡ state.world → IsShown m world id key shown → IsAnswered m tries state line (Shows id key shown) state
 shows_run {S} {V} m tries stage state line command id key shown world at is says same has =
-    shows id key (subst (λ (c : Command). IsLine state.world.greatest line (Some c)) says (line_of stage state line (Some command) at is)) (subst (λ (w : View S V). IsShown m w id key shown) same has)
+    shows id key (subst (λ (c : Command). IsLine state.world.last_proposer line (Some c)) says (line_of stage state line (Some command) at is)) (subst (λ (w : View S V). IsShown m w id key shown) same has)
 
-pub probes_run : {S V : Type 0} (m : Meaning S V) (tries : ℕ) (old stage : Stage S V) (state : State S V) (line : List ℕ) (command : Command) (key : List ℕ) (answer : OpAnswer) → IsIn old state → IsLine old.world.greatest line (Some command) → command ≡ Probe key
+pub probes_run : {S V : Type 0} (m : Meaning S V) (tries : ℕ) (old stage : Stage S V) (state : State S V) (line : List ℕ) (command : Command) (key : List ℕ) (answer : OpAnswer) → IsIn old state → IsLine old.world.last_proposer line (Some command) → command ≡ Probe key
     → (runs : Runs (RunsProbe m state key answer) stage) → IsAnswered m tries state line (Operated answer) runs.new
-probes_run m tries old stage state line command key answer at is says runs = probes key (subst (λ (c : Command). IsLine state.world.greatest line (Some c)) says (line_of old state line (Some command) at is)) runs.has
+probes_run m tries old stage state line command key answer at is says runs = probes key (subst (λ (c : Command). IsLine state.world.last_proposer line (Some c)) says (line_of old state line (Some command) at is)) runs.has
 
-pub collects_run : {S V : Type 0} (m : Meaning S V) (tries : ℕ) (old stage : Stage S V) (state : State S V) (line : List ℕ) (command : Command) (key : List ℕ) (answer : OpAnswer) → IsIn old state → IsLine old.world.greatest line (Some command) → command ≡ Collect key
+pub collects_run : {S V : Type 0} (m : Meaning S V) (tries : ℕ) (old stage : Stage S V) (state : State S V) (line : List ℕ) (command : Command) (key : List ℕ) (answer : OpAnswer) → IsIn old state → IsLine old.world.last_proposer line (Some command) → command ≡ Collect key
     → (runs : Runs (RunsCollection m tries state key answer) stage) → IsAnswered m tries state line (Operated answer) runs.new
-collects_run m tries old stage state line command key answer at is says runs = collects key (subst (λ (c : Command). IsLine state.world.greatest line (Some c)) says (line_of old state line (Some command) at is)) runs.has
+collects_run m tries old stage state line command key answer at is says runs = collects key (subst (λ (c : Command). IsLine state.world.last_proposer line (Some c)) says (line_of old state line (Some command) at is)) runs.has
 
-pub members_run : {S V : Type 0} (m : Meaning S V) (tries : ℕ) (old stage : Stage S V) (state : State S V) (line : List ℕ) (command : Command) (asked : operator.Asked) (answer : OpAnswer) → IsIn old state → IsLine old.world.greatest line (Some command) → membership_of command ≡ Some asked
+pub members_run : {S V : Type 0} (m : Meaning S V) (tries : ℕ) (old stage : Stage S V) (state : State S V) (line : List ℕ) (command : Command) (asked : operator.Asked) (answer : OpAnswer) → IsIn old state → IsLine old.world.last_proposer line (Some command) → membership_of command ≡ Some asked
     → (runs : Runs (RunsMembership m tries state asked answer) stage) → IsAnswered m tries state line (Operated answer) runs.new
 members_run m tries old stage state line command asked answer at is asks runs = changes_members command asked (line_of old state line (Some command) at is) asks runs.has
 
@@ -152,11 +152,11 @@ change_runs {S} {V} m world now network next halts tries seen state index asked 
     }
 
 pub change_stage : {S V : Type 0} (m : Meaning S V) (world now : View S V) (network next : Network) (halts afters : List Halt) (tries proposers : ℕ) (id : ℕ) (key : List ℕ) (program : List Clause) (halt after : Halt) (answer : Answer) → IsStage (stage_of world network halts tries) proposers
-    → now.greatest ≡ world.greatest → HasNoCall now id → Through network next (λ by view. IsChange m tries by id key program halt world answer view after now)
+    → now.last_proposer ≡ world.last_proposer → HasNoCall now id → Through network next (λ by view. IsChange m tries by id key program halt world answer view after now)
     → IsStage (stage_of now next afters tries) proposers
-change_stage m world now network next halts afters tries proposers id key program halt after answer is greatest idle runs =
+change_stage m world now network next halts afters tries proposers id key program halt after answer is last_proposer idle runs =
     let leaves = change_leaves m tries id key program halt after world now answer (runs (Ruled is.ruled.0) is.ruled.1).has in record {
-      known = greatest ∙ is.known;
+      known = last_proposer ∙ is.known;
       few = is.few;
       some = is.some;
       idle = idle_then world now id leaves is.idle idle;

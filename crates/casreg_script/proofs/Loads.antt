@@ -24,13 +24,13 @@ use Rattle.casreg_script.proofs.Calls.Keeping.{KeepsCallers, crashes_keep, resta
 -- ---- stops
 callers_join : {S V : Type 0} (old mid new : View S V) → KeepsCallers old mid → KeepsCallers mid new → KeepsCallers old new
 callers_join old mid new before after = record {
-  greatest = after.greatest ∙ before.greatest;
+  last_proposer = after.last_proposer ∙ before.last_proposer;
   callers = after.callers ∙ before.callers;
   council = λ rest. after.council (stays_quiet (before.council rest) rest) ∙ before.council rest;
 }
 
 pub stops_keep : {S V : Type 0} (m : Meaning S V) (load : Load) (line : ℕ) (old new : View S V) → StopsBehind m load line old new → KeepsCallers old new
-stops_keep m load line old new (load_specs.none other) = record { greatest = refl; callers = refl; council = λ rest. refl }
+stops_keep m load line old new (load_specs.none other) = record { last_proposer = refl; callers = refl; council = λ rest. refl }
 stops_keep m load line old new (load_specs.stops {down = down} at crashes restarts) = callers_join old down new (crashes_keep m old down _ _ crashes) (restarts_keep m down new _ _ restarts)
 
 -- ---- so far

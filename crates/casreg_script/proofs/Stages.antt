@@ -25,7 +25,7 @@ halt_at halts now index place same low is =
 
 -- what is left between two lines
 pub goes_idle : {S V : Type 0} (world now : View S V) (network : Network) (halts : List Halt) (tries proposers : ℕ) → IsStage (stage_of world network halts tries) proposers → KeepsCallers world now → IsStage (stage_of now network halts tries) proposers
-goes_idle world now network halts tries proposers is keeps = record { known = keeps.greatest ∙ is.known; few = is.few; some = is.some; idle = still_idle world now keeps.greatest keeps.callers is.idle; quiet = stays_quiet (keeps.council is.quiet) is.quiet; ruled = is.ruled }
+goes_idle world now network halts tries proposers is keeps = record { known = keeps.last_proposer ∙ is.known; few = is.few; some = is.some; idle = still_idle world now keeps.last_proposer keeps.callers is.idle; quiet = stays_quiet (keeps.council is.quiet) is.quiet; ruled = is.ruled }
 
 -- ---- states
 -- what the world of the state is

@@ -104,17 +104,17 @@ pub record RunsCollection {S V : Type 0} (m : Meaning S V) (tries : ℕ) (old : 
 
 -- the line is run as its words say, by a script of so many tries
 pub data IsAnswered {S V : Type 0} (m : Meaning S V) (tries : ℕ) (old : State S V) (line : List ℕ) : LineAnswer → State S V → Type 0 where
-  changes : {answer : Answer} {new : State S V} (command : Command) (asked : Asked) → IsLine old.world.greatest line (Some command) → change_of command ≡ Some asked → RunsChange m tries old asked answer new
+  changes : {answer : Answer} {new : State S V} (command : Command) (asked : Asked) → IsLine old.world.last_proposer line (Some command) → change_of command ≡ Some asked → RunsChange m tries old asked answer new
       → IsAnswered m tries old line (Changed asked.caller answer) new
-  happens : {answer : EventAnswer} {new : State S V} (command : Command) → IsLine old.world.greatest line (Some command) → RunsEvent m old command answer new → IsAnswered m tries old line (Happened answer) new
-  shows : {shown : Shown} (id : ℕ) (key : List ℕ) → IsLine old.world.greatest line (Some (Show id key)) → IsShown m old.world id key shown → IsAnswered m tries old line (Shows id key shown) old
-  probes : {answer : OpAnswer} {new : State S V} (key : List ℕ) → IsLine old.world.greatest line (Some (Probe key)) → RunsProbe m old key answer new → IsAnswered m tries old line (Operated answer) new
-  collects : {answer : OpAnswer} {new : State S V} (key : List ℕ) → IsLine old.world.greatest line (Some (Collect key)) → RunsCollection m tries old key answer new → IsAnswered m tries old line (Operated answer) new
-  changes_members : {answer : OpAnswer} {new : State S V} (command : Command) (asked : operator.Asked) → IsLine old.world.greatest line (Some command) → membership_of command ≡ Some asked → RunsMembership m tries old asked answer new
+  happens : {answer : EventAnswer} {new : State S V} (command : Command) → IsLine old.world.last_proposer line (Some command) → RunsEvent m old command answer new → IsAnswered m tries old line (Happened answer) new
+  shows : {shown : Shown} (id : ℕ) (key : List ℕ) → IsLine old.world.last_proposer line (Some (Show id key)) → IsShown m old.world id key shown → IsAnswered m tries old line (Shows id key shown) old
+  probes : {answer : OpAnswer} {new : State S V} (key : List ℕ) → IsLine old.world.last_proposer line (Some (Probe key)) → RunsProbe m old key answer new → IsAnswered m tries old line (Operated answer) new
+  collects : {answer : OpAnswer} {new : State S V} (key : List ℕ) → IsLine old.world.last_proposer line (Some (Collect key)) → RunsCollection m tries old key answer new → IsAnswered m tries old line (Operated answer) new
+  changes_members : {answer : OpAnswer} {new : State S V} (command : Command) (asked : operator.Asked) → IsLine old.world.last_proposer line (Some command) → membership_of command ≡ Some asked → RunsMembership m tries old asked answer new
       → IsAnswered m tries old line (Operated answer) new
   -- a line that is refused changes nothing
-  refused : (why : Why) (word : ℕ) → line_in old.world.greatest line ≡ Err (record { why = why; word = word }) → IsAnswered m tries old line (Bad why) old
-  remark : IsLine old.world.greatest line None → IsAnswered m tries old line Remark old
+  refused : (why : Why) (word : ℕ) → line_in old.world.last_proposer line ≡ Err (record { why = why; word = word }) → IsAnswered m tries old line (Bad why) old
+  remark : IsLine old.world.last_proposer line None → IsAnswered m tries old line Remark old
 
 -- the lines were run one after another, with these answers
 pub data ScriptRun {S V : Type 0} (m : Meaning S V) (tries : ℕ) (old : State S V) : List (List ℕ) → List LineAnswer → State S V → Type 0 where

@@ -18,10 +18,10 @@ pub record Stage (S V : Type 0) : Type 0 where
 
 -- no call is open
 abbrev pub AllIdle : {S V : Type 0} → View S V → Type 0
-AllIdle view = (id : ℕ) → id ≤ view.greatest → HasNoCall view id
+AllIdle view = (id : ℕ) → id ≤ view.last_proposer → HasNoCall view id
 
 pub record IsStage {S V : Type 0} (stage : Stage S V) (proposers : ℕ) : Type 0 where
-  pub known : stage.world.greatest ≡ proposers
+  pub known : stage.world.last_proposer ≡ proposers
   pub few : proposers ≤ 16
   pub some : 1 ≤ stage.tries
   pub idle : AllIdle stage.world

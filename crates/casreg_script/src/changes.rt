@@ -34,7 +34,7 @@ pub fn change<S: Shelf, V: Disk>(
     key: &Key,
     program: &Program,
 ) -> Answer
-    requires known { caller ≤ world.old.greatest }
+    requires known { caller ≤ world.old.last_proposer }
     requires quiet { world.old.council.exchange ≡ None }
     requires idle { HasNoCall world.old caller }
     requires some { 1 ≤ tries }
@@ -43,7 +43,7 @@ pub fn change<S: Shelf, V: Disk>(
     ensures network { (by : NetworkView) → IsNetwork network.old by → (next : NetworkView) × IsNetwork network.new next }
     ensures rescans { Rescans world.old.council caller key.now result world.new.council }
     ensures idle { HasNoCall world.new caller }
-    ensures greatest { world.new.greatest ≡ world.old.greatest }
+    ensures last_proposer { world.new.last_proposer ≡ world.old.last_proposer }
 {
     let call = world.next_call(caller);
     match world.begin(caller, call, key, program) {
@@ -51,16 +51,9 @@ pub fn change<S: Shelf, V: Disk>(
             let answer = rounds(world, network, halt, tries, caller, call, key, program);
             world.end(caller, call, answer)
         }
-        Err(refusal) if is_refusal(&refusal) => refusal,
+        Err(refusal) if refusal.is_refusal() => refusal,
         Err(told) => world.end(caller, call, told),
     }
-}
-
-/// Whether a new call that is answered so was not begun.
-fn is_refusal(answer: &Answer) -> bool
-    ensures { result ≡ is_refusal answer.now }
-{
-    matches!(answer, Answer::RecordFull | Answer::NoMemory { .. })
 }
 
 /// Runs the caller's round, which is open, and as many more as there are tries while each ends with a conflict. Gives what the caller
@@ -75,33 +68,26 @@ fn rounds<S: Shelf, V: Disk>(
     key: &Key,
     program: &Program,
 ) -> Answer
-    requires known { caller ≤ world.old.greatest }
+    requires known { caller ≤ world.old.last_proposer }
     requires begun { HasBegun world.old caller (record { number = call; key = key.now; program = program.now }) }
     requires some { 1 ≤ tries }
     requires network { (by : NetworkView) × IsNetwork network.old by }
     ensures rounds { Through network.old network.new (λ by next. AreRounds (meaning S.contents S.tells S.may_leave S.fault_count V.tells V.may_leave V.fault_count) caller key.now program.now tries by halt.old world.old next halt.new world.new) }
     ensures network { (by : NetworkView) → IsNetwork network.old by → (next : NetworkView) × IsNetwork network.new next }
     ensures over { IsOver world.new caller (record { number = call; key = key.now; program = program.now }) result }
-    ensures greatest { world.new.greatest ≡ world.old.greatest }
+    ensures last_proposer { world.new.last_proposer ≡ world.old.last_proposer }
 {
     let told = round(world, network, halt, caller);
     if tries == 1 {
         return told;
     }
-    if !is_conflict(&told) {
+    if !told.is_conflict() {
         return told;
     }
     match world.begin(caller, call, key, program) {
         Ok(()) => rounds(world, network, halt, tries - 1, caller, call, key, program),
         Err(told) => told,
     }
-}
-
-/// Whether it tells of a conflict.
-pub(crate) fn is_conflict(answer: &Answer) -> bool
-    ensures { result ≡ is_conflict answer.now }
-{
-    matches!(answer, Answer::Conflict { .. })
 }
 
 /// Runs the proposer's round, which is open, and gives what its caller is told.
@@ -111,13 +97,13 @@ fn round<S: Shelf, V: Disk>(
     halt: &mut Halt,
     proposer: u8,
 ) -> Answer
-    requires known { proposer ≤ world.old.greatest }
+    requires known { proposer ≤ world.old.last_proposer }
     requires begun { (asked : Asked) × HasBegun world.old proposer asked }
     requires network { (by : NetworkView) × IsNetwork network.old by }
     ensures round { Through network.old network.new (λ by next. IsRound (meaning S.contents S.tells S.may_leave S.fault_count V.tells V.may_leave V.fault_count) by proposer halt.old world.old next halt.new world.new) }
     ensures network { (by : NetworkView) → IsNetwork network.old by → (next : NetworkView) × IsNetwork network.new next }
     ensures over { (asked : Asked) → HasBegun world.old proposer asked → IsOver world.new proposer asked result }
-    ensures greatest { world.new.greatest ≡ world.old.greatest }
+    ensures last_proposer { world.new.last_proposer ≡ world.old.last_proposer }
 {
     if world.has_proposed(proposer) {
         return accept(world, network, halt, proposer);
@@ -135,7 +121,7 @@ fn prepare<S: Shelf, V: Disk>(
     halt: &mut Halt,
     proposer: u8,
 ) -> Result<(), Answer>
-    requires known { proposer ≤ world.old.greatest }
+    requires known { proposer ≤ world.old.last_proposer }
     requires open { (asked : Asked) × IsPlaying world.old proposer asked false }
     requires network { (by : NetworkView) × IsNetwork network.old by }
     ensures proposed { OnOk result (Through network.old network.new (λ by next. EndsPrepare (meaning S.contents S.tells S.may_leave S.fault_count V.tells V.may_leave V.fault_count) by proposer halt.old world.old next world.new)) }
@@ -144,7 +130,7 @@ fn prepare<S: Shelf, V: Disk>(
     ensures refused { OnErr result (Through network.old network.new (λ by next. IsRound (meaning S.contents S.tells S.may_leave S.fault_count V.tells V.may_leave V.fault_count) by proposer halt.old world.old next halt.new world.new)) }
     ensures over { (asked : Asked) → IsPlaying world.old proposer asked false → IfErr result (IsOver world.new proposer asked) }
     ensures network { (by : NetworkView) → IsNetwork network.old by → (next : NetworkView) × IsNetwork network.new next }
-    ensures greatest { world.new.greatest ≡ world.old.greatest }
+    ensures last_proposer { world.new.last_proposer ≡ world.old.last_proposer }
 {
     prepare_turns(world, network, halt, proposer)?;
     world.propose(proposer)
@@ -158,7 +144,7 @@ pub(crate) fn prepare_turns<S: Shelf, V: Disk>(
     halt: &mut Halt,
     proposer: u8,
 ) -> Result<(), Answer>
-    requires known { proposer ≤ world.old.greatest }
+    requires known { proposer ≤ world.old.last_proposer }
     requires open { (asked : Asked) × IsPlaying world.old proposer asked false }
     requires network { (by : NetworkView) × IsNetwork network.old by }
     ensures turned { OnOk result (Through network.old network.new (λ by next. AllTurned (meaning S.contents S.tells S.may_leave S.fault_count V.tells V.may_leave V.fault_count) by proposer world.old next world.new)) }
@@ -170,7 +156,7 @@ pub(crate) fn prepare_turns<S: Shelf, V: Disk>(
     ensures not_done { IfErr result (λ told. is_done told ≡ false) }
     ensures network { (by : NetworkView) → IsNetwork network.old by → (next : NetworkView) × IsNetwork network.new next }
     ensures council { world.new.council ≡ world.old.council }
-    ensures greatest { world.new.greatest ≡ world.old.greatest }
+    ensures last_proposer { world.new.last_proposer ≡ world.old.last_proposer }
 {
     if all_turns(world, network, proposer).is_err() {
         return Err(Answer::NoMemory { proposed: false });
@@ -189,13 +175,13 @@ fn accept<S: Shelf, V: Disk>(
     halt: &mut Halt,
     proposer: u8,
 ) -> Answer
-    requires known { proposer ≤ world.old.greatest }
+    requires known { proposer ≤ world.old.last_proposer }
     requires open { (asked : Asked) × IsPlaying world.old proposer asked true }
     requires network { (by : NetworkView) × IsNetwork network.old by }
     ensures accepted { Through network.old network.new (λ by next. IsAccepted (meaning S.contents S.tells S.may_leave S.fault_count V.tells V.may_leave V.fault_count) by proposer halt.old world.old next halt.new world.new) }
     ensures over { (asked : Asked) → IsPlaying world.old proposer asked true → IsOver world.new proposer asked result }
     ensures network { (by : NetworkView) → IsNetwork network.old by → (next : NetworkView) × IsNetwork network.new next }
-    ensures greatest { world.new.greatest ≡ world.old.greatest }
+    ensures last_proposer { world.new.last_proposer ≡ world.old.last_proposer }
 {
     match accept_turns(world, network, halt, proposer) {
         Ok(()) => world.count(proposer),
@@ -211,7 +197,7 @@ pub(crate) fn accept_turns<S: Shelf, V: Disk>(
     halt: &mut Halt,
     proposer: u8,
 ) -> Result<(), Answer>
-    requires known { proposer ≤ world.old.greatest }
+    requires known { proposer ≤ world.old.last_proposer }
     requires open { (asked : Asked) × IsPlaying world.old proposer asked true }
     requires network { (by : NetworkView) × IsNetwork network.old by }
     ensures turned { OnOk result (Through network.old network.new (λ by next. AllTurned (meaning S.contents S.tells S.may_leave S.fault_count V.tells V.may_leave V.fault_count) by proposer world.old next world.new)) }
@@ -223,7 +209,7 @@ pub(crate) fn accept_turns<S: Shelf, V: Disk>(
     ensures not_done { IfErr result (λ told. is_done told ≡ false) }
     ensures network { (by : NetworkView) → IsNetwork network.old by → (next : NetworkView) × IsNetwork network.new next }
     ensures council { world.new.council ≡ world.old.council }
-    ensures greatest { world.new.greatest ≡ world.old.greatest }
+    ensures last_proposer { world.new.last_proposer ≡ world.old.last_proposer }
 {
     if halt.after_propose {
         halt.after_propose = false;
@@ -241,7 +227,7 @@ fn all_turns<S: Shelf, V: Disk>(
     network: &mut Network,
     proposer: u8,
 ) -> Result<(), AllocError>
-    requires known { proposer ≤ world.old.greatest }
+    requires known { proposer ≤ world.old.last_proposer }
     requires quiet { world.old.council.exchange ≡ None }
     requires network { (by : NetworkView) × IsNetwork network.old by }
     ensures through { OnOk result (Through network.old network.new (λ by next. AllTurned (meaning S.contents S.tells S.may_leave S.fault_count V.tells V.may_leave V.fault_count) by proposer world.old next world.new)) }
@@ -249,7 +235,7 @@ fn all_turns<S: Shelf, V: Disk>(
     ensures plays { (asked : Asked) (proposed : Bool) → IsPlaying world.old proposer asked proposed → OnOk result (IsPlaying world.new proposer asked proposed) }
     ensures told { (asked : Asked) (proposed : Bool) → IsPlaying world.old proposer asked proposed → OnErr result (IsOver world.new proposer asked (answer.NoMemory proposed)) }
     ensures network { (by : NetworkView) → IsNetwork network.old by → (next : NetworkView) × IsNetwork network.new next }
-    ensures greatest { world.new.greatest ≡ world.old.greatest }
+    ensures last_proposer { world.new.last_proposer ≡ world.old.last_proposer }
 {
     let mut again = false;
     while let Some(front) = world.front(proposer) {
@@ -263,7 +249,7 @@ fn all_turns<S: Shelf, V: Disk>(
 
 /// Whether a quorum confirmed in the open phase of the proposer's round.
 fn has_quorum<S: Shelf, V: Disk>(world: &World<S, V>, proposer: u8) -> bool
-    requires known { proposer ≤ world.now.greatest }
+    requires known { proposer ≤ world.now.last_proposer }
     requires open { (asked : Asked) × (proposed : Bool) × IsPlaying world.now proposer asked proposed }
     ensures { IsTrue result ↔ HasQuorum world.now proposer }
 {
@@ -279,12 +265,12 @@ fn is_quorum(verdict: Option<RoundVerdict>) -> bool
 
 /// The proposer crashes within its round, which is open. Gives what its caller is told.
 fn crash<S: Shelf, V: Disk>(world: &mut World<S, V>, proposer: u8) -> Answer
-    requires known { proposer ≤ world.old.greatest }
+    requires known { proposer ≤ world.old.last_proposer }
     requires open { (asked : Asked) × (proposed : Bool) × IsPlaying world.old proposer asked proposed }
     ensures step { Step (meaning S.contents S.tells S.may_leave S.fault_count V.tells V.may_leave V.fault_count) world.old (CrashProposer proposer) world.new }
     ensures over { (asked : Asked) (proposed : Bool) → IsPlaying world.old proposer asked proposed → IsOver world.new proposer asked result }
     ensures not_done { is_done result ≡ false }
-    ensures greatest { world.new.greatest ≡ world.old.greatest }
+    ensures last_proposer { world.new.last_proposer ≡ world.old.last_proposer }
 {
     world.crash_proposer(proposer);
     match world.closed(proposer) {

@@ -21,14 +21,13 @@ ghost use Rattle.casreg_script.specs.Frames.Network.{IsNetwork, Through};
 ghost use Rattle.casreg_script.specs.Exchanges.Orders.{IsOrdered, IsFree, KeepsIdle};
 ghost use Rattle.casreg_script.specs.Calls.Playing.{Asked as Wanted};
 
-use crate::changes::{accept_turns, is_conflict, prepare_turns};
+use crate::changes::{accept_turns, prepare_turns};
 use crate::exchange::exchange;
 use crate::halt::Halt;
-use crate::membership::always_keep;
 use crate::network::Network;
 use cas_change::{Key, Program};
 use cas_disk::Disk;
-use cas_record::{Answer, Asked, OpAnswer};
+use cas_record::{Answer, Asked, OpAnswer, keep_always};
 use cas_slot::Shelf;
 use cas_world::{Exchange, Reading, World};
 use std::alloc::{AllocError, Global};
@@ -54,7 +53,7 @@ pub fn collect<S: Shelf, V: Disk>(
     ensures quiet { IsAtRest world.new.council }
     ensures idle { KeepsIdle world.old world.new }
 {
-    let program = always_keep(alloc)?;
+    let program = keep_always(alloc)?;
     let asked = Asked::Collect(key.copy()?);
     let told = key.copy()?;
     match world.order(&asked) {
@@ -244,7 +243,7 @@ fn rounds<S: Shelf, V: Disk>(
     if tries == 1 {
         return Some(told);
     }
-    if !is_conflict(&told) {
+    if !told.is_conflict() {
         return Some(told);
     }
     match world.begin_collect(call, key, program) {

@@ -59,7 +59,7 @@ pub(crate) fn restart_proposer<S: Shelf, V: Disk>(
     world: &mut World<S, V>,
     proposer: u8,
 ) -> EventAnswer
-    requires { proposer ≤ world.old.greatest }
+    requires { proposer ≤ world.old.last_proposer }
     ensures { RestartsProposer (meaning S.contents S.tells S.may_leave S.fault_count V.tells V.may_leave V.fault_count) world.old proposer result world.new }
 {
     vault_answer(world.restart_proposer(proposer))

@@ -58,7 +58,7 @@ pub fn run_load<S: Shelf, V: Disk>(
     load: Load,
 ) -> Result<Summary, AllocError>
     requires load { IsLoad load }
-    requires known { world.old.greatest ≡ load.proposers }
+    requires known { world.old.last_proposer ≡ load.proposers }
     requires idle { AllIdle world.old }
     requires quiet { IsAtRest world.old.council }
     ensures runs { IfOk result (λ summary. SumsUp (meaning S.contents S.tells S.may_leave S.fault_count V.tells V.may_leave V.fault_count) load world.old summary world.new) }
@@ -86,7 +86,7 @@ fn answer_line<S: Shelf, V: Disk>(
     line: u32,
 ) -> Result<Answer, AllocError>
     requires load { IsLoad load }
-    requires known { world.old.greatest ≡ load.proposers }
+    requires known { world.old.last_proposer ≡ load.proposers }
     requires idle { AllIdle world.old }
     requires quiet { IsAtRest world.old.council }
     requires network { (by : NetworkView) × IsNetwork network.old by }
@@ -96,7 +96,7 @@ fn answer_line<S: Shelf, V: Disk>(
     ensures idle { AllIdle world.new }
     ensures quiet { IsAtRest world.new.council }
     ensures network { (by : NetworkView) → IsNetwork network.old by → (next : NetworkView) × IsNetwork network.new next }
-    ensures greatest { world.new.greatest ≡ world.old.greatest }
+    ensures last_proposer { world.new.last_proposer ≡ world.old.last_proposer }
 {
     let drawn = generator.next(load.proposers);
     let command = draw_command(alloc, drawn, line)?;

@@ -20,10 +20,10 @@ use crate::exchange::exchange;
 use crate::halt::Halt;
 use crate::network::Network;
 use cas_ballot::AcceptorId;
-use cas_change::{Act, Clause, Guard, Program};
+use cas_change::{Act, Guard, Program};
 use cas_disk::Disk;
 use cas_members::PlanStep;
-use cas_record::{Answer, OpAnswer};
+use cas_record::{Answer, OpAnswer, keep_always};
 use cas_slot::Shelf;
 use cas_world::{Exchange, Gathered, PlanKind, World};
 use std::alloc::{AllocError, Global};
@@ -50,28 +50,13 @@ pub fn change_members<S: Shelf, V: Disk>(
     ensures quiet { IsAtRest world.new.council }
     ensures idle { KeepsIdle world.old world.new }
 {
-    let program = always_keep(alloc)?;
+    let program = keep_always(alloc)?;
     match world.order(&kind.asked(id)) {
         Ok(()) => {
             let answer = carry_out(world, network, halt, tries, kind, id, &program);
             Ok(world.tell(answer))
         }
         Err(refusal) => Ok(OpAnswer::Stopped(refusal)),
-    }
-}
-
-/// The program that leaves each state as it is.
-pub(crate) fn always_keep(alloc: Global) -> Result<Program, AllocError>
-    ensures { IfOk result (λ program. program ≡ one Guard.Always Act.Keep) }
-{
-    let mut clauses = Vec::with_capacity(alloc, 1)?;
-    clauses.push(Clause {
-        guard: Guard::Always,
-        act: Act::Keep,
-    })?;
-    match Program::new(clauses) {
-        Ok(program) => Ok(program),
-        Err(_) => unreachable!(),
     }
 }
 

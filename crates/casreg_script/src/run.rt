@@ -33,7 +33,7 @@ use std::alloc::{AllocError, Global};
 impl<S: Shelf, V: Disk> Script<S, V> {
     /// A script over this world, which has so many proposers of clients, and in which no call is open. A change has so many rounds at most.
     pub fn new(world: World<S, V>, proposers: u8, tries: u8) -> Script<S, V>
-        requires known { world.greatest ≡ proposers }
+        requires known { world.last_proposer ≡ proposers }
         requires few { proposers ≤ 16 }
         requires some { 1 ≤ tries }
         requires idle { AllIdle world }
@@ -73,9 +73,9 @@ impl<S: Shelf, V: Disk> Script<S, V> {
 
     /// Runs what a line asks for, and gives the text of its answer.
     fn answer_command(&mut self, alloc: Global, command: &Command) -> Result<Vec<u8>, AllocError>
-        requires { IsKnown self.old.world.greatest command.now }
-        ensures answers { (state : State _ _) (line : List ℕ) (number : ℕ) → IsIn self.old state → IsLine self.old.world.greatest line (Some command.now) → IfOk result (λ text. AnswersLine (meaning S.contents S.tells S.may_leave S.fault_count V.tells V.may_leave V.fault_count) self.old.tries state line number (vec_items text) self.new) }
-        ensures err { (state : State _ _) (line : List ℕ) → IsIn self.old state → IsLine self.old.world.greatest line (Some command.now) → OnErr result (RanOrNot (meaning S.contents S.tells S.may_leave S.fault_count V.tells V.may_leave V.fault_count) self.old.tries state line self.new) }
+        requires { IsKnown self.old.world.last_proposer command.now }
+        ensures answers { (state : State _ _) (line : List ℕ) (number : ℕ) → IsIn self.old state → IsLine self.old.world.last_proposer line (Some command.now) → IfOk result (λ text. AnswersLine (meaning S.contents S.tells S.may_leave S.fault_count V.tells V.may_leave V.fault_count) self.old.tries state line number (vec_items text) self.new) }
+        ensures err { (state : State _ _) (line : List ℕ) → IsIn self.old state → IsLine self.old.world.last_proposer line (Some command.now) → OnErr result (RanOrNot (meaning S.contents S.tells S.may_leave S.fault_count V.tells V.may_leave V.fault_count) self.old.tries state line self.new) }
         ensures tries { self.new.tries ≡ self.old.tries }
     {
         if let Command::Show { id, key } = command {
@@ -112,7 +112,7 @@ impl<S: Shelf, V: Disk> Script<S, V> {
 
     /// Runs a change, and gives its answer.
     fn run_change(&mut self, asked: &Change<'_>) -> Answer
-        requires { asked.now.caller ≤ self.old.world.greatest }
+        requires { asked.now.caller ≤ self.old.world.last_proposer }
         ensures runs { (state : State _ _) → IsIn self.old state → Runs (λ new. RunsChange (meaning S.contents S.tells S.may_leave S.fault_count V.tells V.may_leave V.fault_count) self.old.tries state (record { caller = asked.now.caller; key = asked.now.key.now; program = asked.now.program }) result new) self.new }
         ensures tries { self.new.tries ≡ self.old.tries }
     {
@@ -177,7 +177,7 @@ impl<S: Shelf, V: Disk> Script<S, V> {
 
     /// Runs an event line, and gives its answer.
     fn run_event(&mut self, command: &Command) -> EventAnswer
-        requires known { IsKnown self.old.world.greatest command.now }
+        requires known { IsKnown self.old.world.last_proposer command.now }
         requires event { is_event command.now ≡ true }
         ensures runs { (state : State _ _) → IsIn self.old state → Runs (λ new. RunsEvent (meaning S.contents S.tells S.may_leave S.fault_count V.tells V.may_leave V.fault_count) state command.now result new) self.new }
         ensures tries { self.new.tries ≡ self.old.tries }

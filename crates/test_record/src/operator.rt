@@ -18,7 +18,7 @@ fn is_marked_with_its_answer(rt: HostRuntime) -> Result<(), Fail> {
     let answer = OpAnswer::Probed { key, found };
     let asked = Asked::Probe(Key::read(alloc, b"a")?);
     let mut record = Record::new(alloc);
-    record.reserve(None, 1)?;
+    record.reserve(1)?;
     record.push(Mark::Told { asked, answer });
     assert!(rt;
         matches!(

@@ -124,7 +124,7 @@ pub enum Step {
 }
 
 fn push(record: &mut Record, mark: Mark) -> Result<(), Fail> {
-    record.reserve(None, 1)?;
+    record.reserve(1)?;
     record.push(mark);
     Ok(())
 }

@@ -34,7 +34,7 @@ members_hold is_up contents members floors floor shelves one each = subst (λ (l
 
 -- ---- a new play
 pub new_play_on : {S V : Type 0} (m : Meaning S V) (members used : List ℕ) (floors : List Opening) (world : View S V) (proposers : ℕ) (calls : List Bool) → IsOpeningOn m members used floors world → HasPlaces world
-    → world.greatest ≡ proposers → IsPlay world proposers calls None
+    → world.last_proposer ≡ proposers → IsPlay world proposers calls None
 new_play_on m members used floors world proposers calls opening places known = record {
   known = known;
   few = subst (λ (n : ℕ). n ≤ 16) known opening.few;

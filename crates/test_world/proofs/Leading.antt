@@ -34,10 +34,10 @@ use Rattle.test_world.specs.Play.{Goes, IsRenewing, Leads, renews, renewed}
 
 -- ---- what they leave
 pub same_leads : {S V : Type 0} (old : View S V) → Leads old old
-same_leads old = record { greatest = refl; others = λ id other was. was; safe = λ was. was }
+same_leads old = record { last_proposer = refl; others = λ id other was. was; safe = λ was. was }
 
 pub then_leads : {S V : Type 0} (old mid new : View S V) → Leads old mid → Leads mid new → Leads old new
-then_leads old mid new before after = record { greatest = after.greatest ∙ before.greatest; others = λ id other was. after.others id other (before.others id other was); safe = λ was. after.safe (before.safe was) }
+then_leads old mid new before after = record { last_proposer = after.last_proposer ∙ before.last_proposer; others = λ id other was. after.others id other (before.others id other was); safe = λ was. after.safe (before.safe was) }
 
 pub same_goes : {S V : Type 0} (old : View S V) → Goes old old
 same_goes old = record { idle = same_idle old; safe = λ was. was }
@@ -58,20 +58,20 @@ tell_goes m old new told by = step_goes m old new (step.Tell told) by (keeps_idl
 -- a step by which the others keep theirs
 clients_lead : {S V : Type 0} (m : Meaning S V) (old new : View S V) (event : Event) → Step m old event new → KeepsClients old new → Leads old new
 clients_lead m old new event by keeps = record {
-  greatest = keeps.greatest;
+  last_proposer = keeps.last_proposer;
   others = λ id other was. record { caller = was.caller; at_caller = keeps.others id other ∙ was.at_caller; none_open = was.none_open };
   safe = λ was. steps_are_safe m old event new was by;
 }
 
 of_others : {S V : Type 0} (old new : View S V) → KeepsOthers old new 0 → KeepsClients old new
-of_others old new keeps = record { greatest = keeps.greatest; others = keeps.others }
+of_others old new keeps = record { last_proposer = keeps.last_proposer; others = keeps.others }
 
 pub others_lead : {S V : Type 0} (m : Meaning S V) (old new : View S V) (event : Event) → Step m old event new → KeepsOthers old new 0 → Leads old new
 others_lead m old new event by keeps = clients_lead m old new event by (of_others old new keeps)
 
 -- and caller 0 has none after it
 pub leads_on : {S V : Type 0} (old new : View S V) → Leads old new → HasNoCall new 0 → Goes old new
-leads_on {S} {V} old new by own = record { idle = record { greatest = by.greatest; idle = idle }; safe = by.safe }
+leads_on {S} {V} old new by own = record { idle = record { last_proposer = by.last_proposer; idle = idle }; safe = by.safe }
   where
     idle : (id : ℕ) → HasNoCall old id → HasNoCall new id
     idle id was = elim (true_or_false (nat_eq id 0)) [
@@ -80,26 +80,26 @@ leads_on {S} {V} old new by own = record { idle = record { greatest = by.greates
     ]
 
 -- ---- the call of a collection
-same_callers : {S V : Type 0} (old new : View S V) → new.greatest ≡ old.greatest → new.callers ≡ old.callers → KeepsClients old new
-same_callers old new greatest callers = record { greatest = greatest; others = λ p other. ap (λ (l : List CallerView). slice_get l p) callers }
+same_callers : {S V : Type 0} (old new : View S V) → new.last_proposer ≡ old.last_proposer → new.callers ≡ old.callers → KeepsClients old new
+same_callers old new last_proposer callers = record { last_proposer = last_proposer; others = λ p other. ap (λ (l : List CallerView). slice_get l p) callers }
 
 clients_join : {S V : Type 0} (old mid new : View S V) → KeepsClients old mid → KeepsClients mid new → KeepsClients old new
-clients_join old mid new before after = record { greatest = after.greatest ∙ before.greatest; others = λ p other. after.others p other ∙ before.others p other }
+clients_join old mid new before after = record { last_proposer = after.last_proposer ∙ before.last_proposer; others = λ p other. after.others p other ∙ before.others p other }
 
 refused_clients : {S V : Type 0} (m : Meaning S V) (old new : View S V) (key : List ℕ) → calls.RefusesCall m old 0 key new → KeepsClients old new
-refused_clients {S} {V} m old new key (calls.stays told council refusal anew is) = same_callers old new (ap (λ (w : View S V). w.greatest) is) (ap (λ (w : View S V). w.callers) is)
-refused_clients {S} {V} m old new key (calls.loses caller desk now ballot council at_caller at_desk none up loses anew is) = same_callers old new (ap (λ (w : View S V). w.greatest) is) (ap (λ (w : View S V). w.callers) is)
+refused_clients {S} {V} m old new key (calls.stays told council refusal anew is) = same_callers old new (ap (λ (w : View S V). w.last_proposer) is) (ap (λ (w : View S V). w.callers) is)
+refused_clients {S} {V} m old new key (calls.loses caller desk now ballot council at_caller at_desk none up loses anew is) = same_callers old new (ap (λ (w : View S V). w.last_proposer) is) (ap (λ (w : View S V). w.callers) is)
 
 pub begin_leads : {S V : Type 0} (m : Meaning S V) (old new : View S V) (key : List ℕ) → Step m old (BeginCollect key) new → Leads old new
 begin_leads {S} {V} m old new key by = clients_lead m old new (BeginCollect key) by (by_case by.begins)
   where
-    after : (middle changed : View S V) → KeepsClients old middle → new ≡ changed → changed.greatest ≡ middle.greatest → changed.callers ≡ middle.callers → KeepsClients old new
-    after middle changed before is greatest callers = clients_join old middle new before (same_callers middle new (ap (λ (w : View S V). w.greatest) is ∙ greatest) (ap (λ (w : View S V). w.callers) is ∙ callers))
+    after : (middle changed : View S V) → KeepsClients old middle → new ≡ changed → changed.last_proposer ≡ middle.last_proposer → changed.callers ≡ middle.callers → KeepsClients old new
+    after middle changed before is last_proposer callers = clients_join old middle new before (same_callers middle new (ap (λ (w : View S V). w.last_proposer) is ∙ last_proposer) (ap (λ (w : View S V). w.callers) is ∙ callers))
 
     by_case : BeginsCollection m (λ before next. StepBegin m before 0 key keep_always next) old key by.may.order by.desk by.caller new → KeepsClients old new
-    by_case (collects.is_down none down is) = same_callers old new (ap (λ (w : View S V). w.greatest) is) (ap (λ (w : View S V). w.callers) is)
-    by_case (collects.is_busy plan none up is_plan is) = same_callers old new (ap (λ (w : View S V). w.greatest) is) (ap (λ (w : View S V). w.callers) is)
-    by_case (collects.is_full none up no_plan full is) = same_callers old new (ap (λ (w : View S V). w.greatest) is) (ap (λ (w : View S V). w.callers) is)
+    by_case (collects.is_down none down is) = same_callers old new (ap (λ (w : View S V). w.last_proposer) is) (ap (λ (w : View S V). w.callers) is)
+    by_case (collects.is_busy plan none up is_plan is) = same_callers old new (ap (λ (w : View S V). w.last_proposer) is) (ap (λ (w : View S V). w.callers) is)
+    by_case (collects.is_full none up no_plan full is) = same_callers old new (ap (λ (w : View S V). w.last_proposer) is) (ap (λ (w : View S V). w.callers) is)
     by_case (collects.no_memory middle none up no_plan refuses is) = after middle _ (refused_clients m old middle key refuses) is refl refl
     by_case (collects.begins middle none no_plan begins is) = after middle _ (of_others old middle (begin_keeps m old middle 0 key keep_always begins)) is refl refl
     by_case (collects.goes_on middle call is_c is_call begins is) = after middle _ (of_others old middle (begin_keeps m old middle 0 key keep_always begins)) is refl refl
@@ -110,7 +110,7 @@ pub reading_leads : {S V : Type 0} (m : Meaning S V) (old new : View S V) (resul
 reading_leads {S} {V} m old new (Ok (reading.Held version)) empty held err =
     let by = held version refl in
     clients_lead m old new step.ReadHeld by (record {
-      greatest = ap (λ (w : View S V). w.greatest) by.view;
+      last_proposer = ap (λ (w : View S V). w.last_proposer) by.view;
       others = λ p other. ap (λ (w : View S V). slice_get w.callers p) by.view ∙ get_other old.callers 0 (record by.of_call.caller { call = None }) p other;
     })
 reading_leads m old new (Ok reading.Empty) empty held err = others_lead m old new (step.Propose 0) (empty refl) (propose_keeps m old new 0 (empty refl))
@@ -119,7 +119,7 @@ reading_leads m old new (Err told) empty held err = others_lead m old new (step.
 -- what was accepted is counted
 acknowledges_lead : {S V : Type 0} (m : Meaning S V) (old new : View S V) → Step m old CountCollect new → Leads old new
 acknowledges_lead {S} {V} m old new by =
-    clients_lead m old new CountCollect by (clients_join old by.middle new (of_others old by.middle (count_keeps m old by.middle 0 by.counts)) (same_callers by.middle new (ap (λ (w : View S V). w.greatest) by.view) (ap (λ (w : View S V). w.callers) by.view)))
+    clients_lead m old new CountCollect by (clients_join old by.middle new (of_others old by.middle (count_keeps m old by.middle 0 by.counts)) (same_callers by.middle new (ap (λ (w : View S V). w.last_proposer) by.view) (ap (λ (w : View S V). w.callers) by.view)))
 
 counts_done : {S V : Type 0} (m : Meaning S V) (old new : View S V) (told : Answer) → is_done told ≡ true → CountsTombstone m old told new → Step m old CountCollect new
 counts_done m old new (answer.Done state took ballot) done by = by
@@ -139,7 +139,7 @@ count_leads m old new told by = elim (true_or_false (is_done told)) [
 pub end_leads : {S V : Type 0} (m : Meaning S V) (old new : View S V) (told : Answer) → Step m old (EndCollect told) new → Leads old new
 end_leads {S} {V} m old new told by =
     let leaves = end_leaves m old by.middle 0 told by.ends in
-    clients_lead m old new (EndCollect told) by (clients_join old by.middle new (record { greatest = leaves.greatest; others = leaves.others }) (same_callers by.middle new (ap (λ (w : View S V). w.greatest) by.view) (ap (λ (w : View S V). w.callers) by.view)))
+    clients_lead m old new (EndCollect told) by (clients_join old by.middle new (record { last_proposer = leaves.last_proposer; others = leaves.others }) (same_callers by.middle new (ap (λ (w : View S V). w.last_proposer) by.view) (ap (λ (w : View S V). w.callers) by.view)))
 
 -- ---- how far it has come
 as_script : {S V : Type 0} (view : View S V) (key : List ℕ) → IsRenewing view key → script.IsRenewing view key
@@ -159,7 +159,7 @@ pub all_renewed : {S V : Type 0} (view : View S V) (key : List ℕ) → IsRenewi
 all_renewed view key was is = script.all_renewed view key (as_script view key was) is
 
 -- it was made
-pub goes_renewing : {S V : Type 0} (m : Meaning S V) (old new : View S V) (key : List ℕ) (proposer : ℕ) → proposer ≤ old.greatest → IsDue old key (due.Renew proposer) → GoesOnCollecting old new → StepRenew m old proposer new → IsRenewing new key
+pub goes_renewing : {S V : Type 0} (m : Meaning S V) (old new : View S V) (key : List ℕ) (proposer : ℕ) → proposer ≤ old.last_proposer → IsDue old key (due.Renew proposer) → GoesOnCollecting old new → StepRenew m old proposer new → IsRenewing new key
 goes_renewing m old new key proposer few was by made = of_script new key (renewed_so old new key proposer few was by (renew_idle m old new proposer made)).still
 
 pub quiet_in : {S V : Type 0} (view : View S V) (key : List ℕ) → IsRenewing view key → view.council.exchange ≡ None

@@ -81,10 +81,10 @@ same_idle : {S V : Type 0} (old new : View S V) (id : ℕ) → slice_get new.cal
 same_idle old new id same was = record { caller = was.caller; at_caller = same ∙ was.at_caller; none_open = was.none_open }
 
 -- nothing of the operator's changes
-goes : {S V : Type 0} (old new : View S V) (proposers : ℕ) (opened after : List Bool) (task : Option Task) → IsPlay old proposers opened task → IsSafe new → new.greatest ≡ old.greatest → new.council ≡ old.council
+goes : {S V : Type 0} (old new : View S V) (proposers : ℕ) (opened after : List Bool) (task : Option Task) → IsPlay old proposers opened task → IsSafe new → new.last_proposer ≡ old.last_proposer → new.council ≡ old.council
     → ((id : ℕ) → id ≤ proposers → slice_get after id ≡ Some false → HasNoCall new id) → StandsStill after task → IsPlay new proposers after task
-goes old new proposers opened after task was safe greatest same idle still = record {
-  known = greatest ∙ was.known;
+goes old new proposers opened after task was safe last_proposer same idle still = record {
+  known = last_proposer ∙ was.known;
   few = was.few;
   safe = safe;
   idle = idle;
@@ -97,7 +97,7 @@ goes old new proposers opened after task was safe greatest same idle still = rec
 pub goes_on : {S V : Type 0} (m : Meaning S V) (old new : View S V) (event : Event) (id proposers : ℕ) (opened : List Bool) (change : Option Task) → IsPlay old proposers opened change → slice_get opened id ≡ Some true
     → Step m old event new → KeepsOthers old new id → IsPlay new proposers opened change
 goes_on {S} {V} m old new event id proposers opened change was is_open by keeps =
-    goes old new proposers opened opened change was (steps_are_safe m old event new was.safe by) keeps.greatest (keeps.council was.quiet) (λ p low closed. idle p low closed) was.still
+    goes old new proposers opened opened change was (steps_are_safe m old event new was.safe by) keeps.last_proposer (keeps.council was.quiet) (λ p low closed. idle p low closed) was.still
   where
     idle : (p : ℕ) → p ≤ proposers → slice_get opened p ≡ Some false → HasNoCall new p
     idle p low closed = elim (same_or_not p id) [
@@ -120,7 +120,7 @@ pub begins : {S V : Type 0} (m : Meaning S V) (old new : View S V) (id proposers
     → StepBegin m old id key program new → IsPlay new proposers after change
 begins {S} {V} m old new id proposers key program opened after change was after_is free by =
     subst (λ (l : List Bool). IsPlay new proposers l change) (sym after_is)
-    (goes old new proposers opened (slice_set opened id true) change was (steps_are_safe m old (step.Begin id key program) new was.safe by) keeps.greatest (keeps.council was.quiet) idle (still_set opened id true change free was.still))
+    (goes old new proposers opened (slice_set opened id true) change was (steps_are_safe m old (step.Begin id key program) new was.safe by) keeps.last_proposer (keeps.council was.quiet) idle (still_set opened id true change free was.still))
   where
     keeps : KeepsOthers old new id
     keeps = begin_keeps m old new id key program by
@@ -153,12 +153,12 @@ ends_after m old mid new event id told safe by keeps ends = record { mid = mid; 
 
 -- it was closed by another
 pub ends_so : {S V : Type 0} (m : Meaning S V) (old new : View S V) (id : ℕ) (told : Answer) → IsSafe old → StepEnd m old id told new → EndsBy m old new id
-ends_so m old new id told safe ends = record { mid = old; safe = safe; keeps = record { greatest = refl; others = λ p other. refl; council = λ quiet. refl }; told = told; ends = ends }
+ends_so m old new id told safe ends = record { mid = old; safe = safe; keeps = record { last_proposer = refl; others = λ p other. refl; council = λ quiet. refl }; told = told; ends = ends }
 
 ended : {S V : Type 0} (m : Meaning S V) (old new : View S V) (id proposers : ℕ) (opened after : List Bool) (change : Option Task) → IsPlay old proposers opened change → (id ≡ 0 → change ≡ None)
     → ((p : ℕ) → (p ≡ id → ⊥) → slice_get after p ≡ Some false → slice_get opened p ≡ Some false) → StandsStill after change → EndsBy m old new id → IsPlay new proposers after change
 ended {S} {V} m old new id proposers opened after change was free others still by =
-    goes old new proposers opened after change was (steps_are_safe m by.mid (step.End id by.told) new by.safe by.ends) (ap (λ (w : View S V). w.greatest) by.ends.ends.view ∙ by.keeps.greatest) (same ∙ before) idle still
+    goes old new proposers opened after change was (steps_are_safe m by.mid (step.End id by.told) new by.safe by.ends) (ap (λ (w : View S V). w.last_proposer) by.ends.ends.view ∙ by.keeps.last_proposer) (same ∙ before) idle still
   where
     before : by.mid.council ≡ old.council
     before = by.keeps.council was.quiet
@@ -187,10 +187,10 @@ pub record Unchanged {S V : Type 0} (old new : View S V) : Type 0 where
   pub idle : KeepsIdle old new
   pub council : new.council ≡ old.council
 
-unchanged_by : {S V : Type 0} (old changed new : View S V) → new ≡ changed → changed.greatest ≡ old.greatest → changed.callers ≡ old.callers → changed.council ≡ old.council → Unchanged old new
-unchanged_by {S} {V} old changed new is greatest callers council = record {
+unchanged_by : {S V : Type 0} (old changed new : View S V) → new ≡ changed → changed.last_proposer ≡ old.last_proposer → changed.callers ≡ old.callers → changed.council ≡ old.council → Unchanged old new
+unchanged_by {S} {V} old changed new is last_proposer callers council = record {
   idle = record {
-    greatest = ap (λ (w : View S V). w.greatest) is ∙ greatest;
+    last_proposer = ap (λ (w : View S V). w.last_proposer) is ∙ last_proposer;
     idle = λ id was. same_idle old new id (ap (λ (w : View S V). slice_get w.callers id) is ∙ ap (λ (l : List CallerView). slice_get l id) callers) was;
   };
   council = ap (λ (w : View S V). w.council) is ∙ council;
@@ -198,7 +198,7 @@ unchanged_by {S} {V} old changed new is greatest callers council = record {
 
 pub stays : {S V : Type 0} (m : Meaning S V) (old new : View S V) (event : Event) (proposers : ℕ) (opened : List Bool) (change : Option Task) → IsPlay old proposers opened change → Step m old event new → Unchanged old new → IsPlay new proposers opened change
 stays m old new event proposers opened change was by same =
-    goes old new proposers opened opened change was (steps_are_safe m old event new was.safe by) same.idle.greatest same.council (λ id low closed. same.idle.idle id (was.idle id low closed)) was.still
+    goes old new proposers opened opened change was (steps_are_safe m old event new was.safe by) same.idle.last_proposer same.council (λ id low closed. same.idle.idle id (was.idle id low closed)) was.still
 
 -- a call is not begun
 pub refused : {S V : Type 0} (m : Meaning S V) (old new : View S V) (id proposers : ℕ) (key : List ℕ) (opened : List Bool) (change : Option Task) → IsPlay old proposers opened change → (id ≡ 0 → change ≡ None) → RefusesCall m old id key new
@@ -215,7 +215,7 @@ proposer_restarts m old new id (step.restarts desk now caller at at_caller down 
 
 desk_idle : {S V : Type 0} (m : Meaning S V) (old new : View S V) (id : ℕ) → CrashesDesk m old id new → KeepsIdle old new
 desk_idle m old new id (stops.idle desk now at none crashes is) = (unchanged_by old _ new is refl refl refl).idle
-desk_idle {S} {V} m old new id (stops.closes desk now round at there is_round crashes is) = record { greatest = ap (λ (w : View S V). w.greatest) is; idle = still }
+desk_idle {S} {V} m old new id (stops.closes desk now round at there is_round crashes is) = record { last_proposer = ap (λ (w : View S V). w.last_proposer) is; idle = still }
   where
     still : (p : ℕ) → HasNoCall old p → HasNoCall new p
     still p was = elim (same_or_not p id) [
@@ -232,7 +232,7 @@ proposer_crashes {S} {V} m old new id quiet by = record { idle = by_who by; coun
     by_who (stops.of_operator middle operator crashes is) =
         let before = desk_idle m old middle id crashes in
         record {
-          greatest = ap (λ (w : View S V). w.greatest) is ∙ before.greatest;
+          last_proposer = ap (λ (w : View S V). w.last_proposer) is ∙ before.last_proposer;
           idle = λ p was. same_idle middle new p (ap (λ (w : View S V). slice_get w.callers p) is) (before.idle p was);
         }
 
@@ -262,7 +262,7 @@ pub is_told : {S V : Type 0} (m : Meaning S V) (old mid new : View S V) (told : 
 is_told {S} {V} m old mid new told proposers opened change was before safe by =
     let after = keeps_idle mid new (tell_keeps mid new told by) in
     record {
-      known = after.greatest ∙ before.greatest ∙ was.known;
+      known = after.last_proposer ∙ before.last_proposer ∙ was.known;
       few = was.few;
       safe = steps_are_safe m mid (step.Tell told) new safe by;
       idle = λ id low closed. after.idle id (before.idle id (was.idle id low closed));
@@ -282,12 +282,12 @@ is_told {S} {V} m old mid new told proposers opened change was before safe by =
     none_told (council.collects order is_open by is) = ap (λ (w : View S V). w.council.order) is
 
 -- the next proposer enters the era
-pub enters : {S V : Type 0} (m : Meaning S V) (old new : View S V) (id : ℕ) (plan : Plan) (proposers : ℕ) (opened : List Bool) → IsPlay old proposers opened (Some (Change plan)) → id ≤ old.greatest → IsUnderWay new (asked_to plan.kind plan.id) → StepEnterEra m old id new
+pub enters : {S V : Type 0} (m : Meaning S V) (old new : View S V) (id : ℕ) (plan : Plan) (proposers : ℕ) (opened : List Bool) → IsPlay old proposers opened (Some (Change plan)) → id ≤ old.last_proposer → IsUnderWay new (asked_to plan.kind plan.id) → StepEnterEra m old id new
     → IsPlay new proposers opened (Some (Change plan))
 enters m old new id plan proposers opened was low now by =
     let keeps = enter_idle m old new id by in
     record {
-      known = keeps.greatest ∙ was.known;
+      known = keeps.last_proposer ∙ was.known;
       few = was.few;
       safe = steps_are_safe m old (step.EnterEra id) new was.safe by;
       idle = λ p known closed. keeps.idle p (was.idle p known closed);
@@ -301,7 +301,7 @@ enters m old new id plan proposers opened was low now by =
 pub collects : {S V : Type 0} (old new : View S V) (key : List ℕ) (proposers : ℕ) (opened : List Bool) (task : Option Task) → IsPlay old proposers opened task → slice_get opened 0 ≡ Some false → Goes old new → IsRenewing new key
     → new.council.exchange ≡ None → IsPlay new proposers opened (Some (Collection key))
 collects old new key proposers opened task was closed by now quiet = record {
-  known = by.idle.greatest ∙ was.known;
+  known = by.idle.last_proposer ∙ was.known;
   few = was.few;
   safe = by.safe was.safe;
   idle = λ id low none. by.idle.idle id (was.idle id low none);
@@ -313,7 +313,7 @@ collects old new key proposers opened task was closed by now quiet = record {
 -- none is under way after it
 pub rests : {S V : Type 0} (old new : View S V) (proposers : ℕ) (opened : List Bool) (task : Option Task) → IsPlay old proposers opened task → Goes old new → IsAtRest new.council → IsPlay new proposers opened None
 rests old new proposers opened task was by rest = record {
-  known = by.idle.greatest ∙ was.known;
+  known = by.idle.last_proposer ∙ was.known;
   few = was.few;
   safe = by.safe was.safe;
   idle = λ id low none. by.idle.idle id (was.idle id low none);

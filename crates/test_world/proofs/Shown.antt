@@ -22,7 +22,7 @@ use Rattle.casreg_script.proofs.Opened.{new_idle, new_quiet}
 use Rattle.test_world.specs.Play.{IsPlay}
 
 -- ---- a new world
-pub new_play : {S V : Type 0} (m : Meaning S V) (members : List ℕ) (world : View S V) (proposers : ℕ) (calls : List Bool) → IsOpening m members world → HasPlaces world → world.greatest ≡ proposers → IsPlay world proposers calls None
+pub new_play : {S V : Type 0} (m : Meaning S V) (members : List ℕ) (world : View S V) (proposers : ℕ) (calls : List Bool) → IsOpening m members world → HasPlaces world → world.last_proposer ≡ proposers → IsPlay world proposers calls None
 new_play m members world proposers calls opening places known =
     let quiet = new_quiet m members world opening in
     record {
@@ -36,7 +36,7 @@ new_play m members world proposers calls opening places known =
     }
 
 -- ---- an open round
-pub phase_shown : {S V : Type 0} (view : View S V) (id : ℕ) (verdict : Option RoundVerdict) (one : RoundVerdict) (proposed : Bool) → IsSafe view → id ≤ view.greatest → ((desk : DeskView V) → IsAt view.desks id desk → IsVerdictIn desk.round verdict)
+pub phase_shown : {S V : Type 0} (view : View S V) (id : ℕ) (verdict : Option RoundVerdict) (one : RoundVerdict) (proposed : Bool) → IsSafe view → id ≤ view.last_proposer → ((desk : DeskView V) → IsAt view.desks id desk → IsVerdictIn desk.round verdict)
     → verdict ≡ Some one → ((desk : DeskView V) → slice_get view.desks id ≡ Some desk → IfSome desk.round (λ round. is_preparing round.phase ≡ not proposed)) → (queue_at view.flow id).messages ≡ [] → IsInPhase view id (not proposed)
 phase_shown {S} {V} view id verdict one proposed safe low shows is phase none =
     let there = at_low view.desks id (omega (arith, safe.sound.desks, low)) in
@@ -54,11 +54,11 @@ phase_shown {S} {V} view id verdict one proposed safe low shows is phase none =
     }
 
 -- ---- an open call
-pub caller_there : {S V : Type 0} (view : View S V) (id : ℕ) → IsSafe view → id ≤ view.greatest → (caller : CallerView) × IsAt view.callers id caller
+pub caller_there : {S V : Type 0} (view : View S V) (id : ℕ) → IsSafe view → id ≤ view.last_proposer → (caller : CallerView) × IsAt view.callers id caller
 caller_there view id safe low = at_low view.callers id (omega (arith, safe.sound.callers, low))
 
 -- what its last step told, by the number of the call
-pub told_last : {S V : Type 0} (old new : View S V) (id last : ℕ) (told : Answer) → IsSafe old → id ≤ old.greatest → ((caller : CallerView) → slice_get old.callers id ≡ Some caller → caller.number ≡ last)
+pub told_last : {S V : Type 0} (old new : View S V) (id last : ℕ) (told : Answer) → IsSafe old → id ≤ old.last_proposer → ((caller : CallerView) → slice_get old.callers id ≡ Some caller → caller.number ≡ last)
     → ((caller : CallerView) → slice_get old.callers id ≡ Some caller → WasTold new id caller.number told) → WasTold new id last told
 told_last old new id last told safe low numbered tells =
     let there = caller_there old id safe low in
@@ -83,7 +83,7 @@ told_of (Some call) told is = record { open_call = call; is_open = refl; was_tol
     by_told (Some said) is = by_closed call.is_closed (is_done said) said is
 
 -- how it was closed by another
-pub closed_told : {S V : Type 0} (view : View S V) (id last : ℕ) (closed : Option Answer) (told : Answer) → IsSafe view → id ≤ view.greatest → ((caller : CallerView) → slice_get view.callers id ≡ Some caller → caller.number ≡ last)
+pub closed_told : {S V : Type 0} (view : View S V) (id last : ℕ) (closed : Option Answer) (told : Answer) → IsSafe view → id ≤ view.last_proposer → ((caller : CallerView) → slice_get view.callers id ≡ Some caller → caller.number ≡ last)
     → ((caller : CallerView) → IsAt view.callers id caller → closed ≡ closed_in caller.call) → closed ≡ Some told → WasTold view id last told
 closed_told view id last closed told safe low numbered shows is =
     let there = caller_there view id safe low in

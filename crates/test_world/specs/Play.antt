@@ -13,7 +13,7 @@ use Rattle.test_world.specs.declared.task.Task.TheVariants.{Change, Collection}
 -- ---- what the operator's calls leave
 -- all but caller 0 that have no open call have none after it
 pub record Leads {S V : Type 0} (old new : View S V) : Type 0 where
-  pub greatest : new.greatest ≡ old.greatest
+  pub last_proposer : new.last_proposer ≡ old.last_proposer
   pub others : (id : ℕ) → id ≢ 0 → HasNoCall old id → HasNoCall new id
   pub safe : IsSafe old → IsSafe new
 
@@ -42,7 +42,7 @@ StandsStill calls (Some (Collection key)) = slice_get calls 0 ≡ Some false
 
 -- ---- the whole
 pub record IsPlay {S V : Type 0} (world : View S V) (proposers : ℕ) (calls : List Bool) (task : Option Task) : Type 0 where
-  pub known : world.greatest ≡ proposers
+  pub known : world.last_proposer ≡ proposers
   pub few : proposers ≤ 16
   pub safe : IsSafe world
   -- a caller that is not remembered to have an open call has none

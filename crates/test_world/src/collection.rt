@@ -21,28 +21,13 @@ ghost use Rattle.casreg_script.specs.Calls.Playing.{Asked as Wanted, IsOver, IsP
 ghost use Rattle.test_world.specs.Play.{Goes, Leads};
 
 use cas_ballot::AcceptorId;
-use cas_change::{Act, Clause, Guard, Key, Program};
+use cas_change::{Key, Program};
 use cas_disk::Disk;
 use cas_fate::{Fate, Leg, Links, Verdict};
 use cas_record::{Answer, Asked, OpAnswer};
 use cas_slot::Shelf;
 use cas_world::{Exchange, Gathered, Reading, World};
-use std::alloc::{AllocError, Global};
-
-/// The program that leaves each state as it is.
-pub fn always_keep(alloc: Global) -> Result<Program, AllocError>
-    ensures { IfOk result (λ program. program ≡ keep_always) }
-{
-    let mut clauses = Vec::with_capacity(alloc, 1)?;
-    clauses.push(Clause {
-        guard: Guard::Always,
-        act: Act::Keep,
-    })?;
-    match Program::new(clauses) {
-        Ok(program) => Ok(program),
-        Err(_) => unreachable!(),
-    }
-}
+use std::alloc::AllocError;
 
 /// The operator's call for the collection of the key is opened, and in one round the tombstone is proposed and acknowledged by all who
 /// accept. What becomes of each frame the links say. After an `Err`, which is what the call was told, none is open.

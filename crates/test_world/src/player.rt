@@ -14,13 +14,13 @@ ghost use Rattle.cas_world.specs.Eras.Plans.{IsUnderWay, asked_to};
 ghost use Rattle.cas_world.specs.World.{IsInPhase};
 ghost use Rattle.test_world.specs.Tasks.{is_change, is_collection};
 
-use crate::collection::{always_keep, begin_collection, end_collection};
+use crate::collection::{begin_collection, end_collection};
 use crate::task::{Plan, Task};
 use cas_ballot::{AcceptorId, Members};
 use cas_change::{Key, Program};
 use cas_disk::Disk;
 use cas_fate::{Leg, Links, Verdict};
-use cas_record::{Answer, Asked, Entry, OpAnswer};
+use cas_record::{Answer, Asked, Entry, OpAnswer, keep_always};
 use cas_slot::Shelf;
 use cas_vault::VaultError;
 use cas_world::{Config, OpeningFloor, PlanKind, StrayFault, World};
@@ -165,7 +165,7 @@ impl<S: Shelf, V: Disk> Player<S, V> {
                 set(&mut self.calls, caller, true);
                 Some(Ok(()))
             }
-            Err(refusal) if is_refusal(&refusal) => Some(Err(refusal)),
+            Err(refusal) if refusal.is_refusal() => Some(Err(refusal)),
             Err(told) => Some(Err(self.world.end(caller, call, told))),
         }
     }
@@ -327,7 +327,7 @@ impl<S: Shelf, V: Disk> Player<S, V> {
         let Ok(own) = key.copy() else {
             return None;
         };
-        let Ok(program) = always_keep(alloc) else {
+        let Ok(program) = keep_always(alloc) else {
             return None;
         };
         let asked = Asked::Collect(own);
@@ -414,16 +414,9 @@ fn is_collection(task: &Option<Task>) -> bool
     matches!(task, Some(Task::Collection(_)))
 }
 
-/// Whether a new call that is answered so was not begun.
-fn is_refusal(answer: &Answer) -> bool
-    ensures { result ≡ is_refusal answer.now }
-{
-    matches!(answer, Answer::RecordFull | Answer::NoMemory { .. })
-}
-
 /// The number of the caller's last call.
 fn last_call<S: Shelf, V: Disk>(world: &World<S, V>, caller: u8) -> u32
-    requires { caller ≤ world.now.greatest }
+    requires { caller ≤ world.now.last_proposer }
     ensures { (seen : CallerView) → slice_get world.now.callers caller ≡ Some seen → seen.number ≡ result }
 {
     world.next_call(caller) - 1
@@ -431,7 +424,7 @@ fn last_call<S: Shelf, V: Disk>(world: &World<S, V>, caller: u8) -> u32
 
 /// What is due of the proposer's round, if one is open and none of its frames waits.
 fn what_is_due<S: Shelf, V: Disk>(world: &World<S, V>, proposer: u8) -> Option<Due>
-    requires known { proposer ≤ world.now.greatest }
+    requires known { proposer ≤ world.now.last_proposer }
     requires safe { IsSafe world.now }
     requires quiet { world.now.council.exchange ≡ None }
     ensures proposes { result ≡ Some Due.Propose → IsInPhase world.now proposer true }

@@ -56,7 +56,7 @@ round_set {V} old place now was at same p = elim (same_or_not p place) [
 -- ---- a call on the world
 -- It leaves all that is other callers' own, and makes these marks.
 pub record Acts {S V : Type 0} (n : ℕ) (old new : View S V) (marks : List Mark) : Type 0 where
-  pub greatest : new.greatest ≡ old.greatest
+  pub last_proposer : new.last_proposer ≡ old.last_proposer
   pub desks : SparesRounds n old.desks new.desks
   pub callers : Spares n old.callers new.callers
   pub council : new.council ≡ old.council
@@ -64,7 +64,7 @@ pub record Acts {S V : Type 0} (n : ℕ) (old new : View S V) (marks : List Mark
 
 pub acts_then : {S V : Type 0} (n : ℕ) (a b c : View S V) (marks more : List Mark) → Acts n a b marks → Acts n b c more → Acts n a c (marks ++ more)
 acts_then n a b c marks more first then_ = record {
-  greatest = then_.greatest ∙ first.greatest;
+  last_proposer = then_.last_proposer ∙ first.last_proposer;
   desks = rounds_then n a.desks b.desks c.desks first.desks then_.desks;
   callers = spares_then n a.callers b.callers c.callers first.callers then_.callers;
   council = then_.council ∙ first.council;
@@ -77,14 +77,14 @@ part_same old new zero callers council = ap₂ (λ (c : Option CallerView) (k : 
 part_same old new (suc m) callers council = ap caller_part callers
 
 pub makes_of : {S V : Type 0} (n : ℕ) (old new : View S V) (marks : List Mark) → Acts n old new marks → MayAdd marks → OnlyOwnedBy owner_of n marks → Makes n old new marks
-makes_of n old new marks acts may only = record { greatest = acts.greatest; made = acts.made; may_add = may; owned = only; others = λ m other. part_same old new m (acts.callers.others m other) acts.council }
+makes_of n old new marks acts may only = record { last_proposer = acts.last_proposer; made = acts.made; may_add = may; owned = only; others = λ m other. part_same old new m (acts.callers.others m other) acts.council }
 
 -- where it changes what the operator has under way, that is as if it had been so before
 pub acts_aside : {S V : Type 0} (n : ℕ) (old new : View S V) (council : Council) (marks : List Mark) → Acts n old new marks → Acts n (record old { council = council }) (record new { council = council }) marks
-acts_aside n old new council marks acts = record { greatest = acts.greatest; desks = acts.desks; callers = acts.callers; council = refl; made = acts.made }
+acts_aside n old new council marks acts = record { last_proposer = acts.last_proposer; desks = acts.desks; callers = acts.callers; council = refl; made = acts.made }
 
 pub makes_aside : {S V : Type 0} (n : ℕ) (old new : View S V) (marks : List Mark) → Acts n (record old { council = new.council }) new marks → MayAdd marks → OnlyOwnedBy owner_of n marks → (n ≢ 0 → new.council ≡ old.council) → Makes n old new marks
-makes_aside {S} {V} n old new marks acts may only council = record { greatest = acts.greatest; made = acts.made; may_add = may; owned = only; others = others }
+makes_aside {S} {V} n old new marks acts may only council = record { last_proposer = acts.last_proposer; made = acts.made; may_add = may; owned = only; others = others }
   where
     others : (m : ℕ) → m ≢ n → own_part new m ≡ own_part old m
     others zero other = part_same old new zero (acts.callers.others zero other) (council (λ is. other (sym is)))
@@ -129,7 +129,7 @@ was_desk {V} old new p desk same at = by_old (slice_get old p) refl
 
 pub kept_by : {S V : Type 0} (n : ℕ) (old new : View S V) (marks : List Mark) → Acts n old new marks → OnlyOwnedBy owner_of n marks → IsKept old → OwnKept n new → IsKept new
 kept_by {S} {V} n old new marks acts only was own = record {
-  places = record { desks = acts.desks.places ∙ was.places.desks ∙ ap suc (sym acts.greatest); callers = acts.callers.places ∙ was.places.callers ∙ ap suc (sym acts.greatest) };
+  places = record { desks = acts.desks.places ∙ was.places.desks ∙ ap suc (sym acts.last_proposer); callers = acts.callers.places ∙ was.places.callers ∙ ap suc (sym acts.last_proposer) };
   staged = staged;
   wanted = wanted;
 }

@@ -159,16 +159,16 @@ same_caller : (caller : CallerView) (call : CallView) → caller.call ≡ Some c
 same_caller caller call is = ap (λ (o : Option CallView). record caller { call = o }) is
 
 -- the caller's call alone changes, and its desk may
-acts_set : {S V : Type 0} (n : ℕ) (old new : View S V) (next : CallerView) (marks : List Mark) → new.greatest ≡ old.greatest → SparesRounds n old.desks new.desks → new.callers ≡ slice_set old.callers n next → new.council ≡ old.council → new.marks ≡ old.marks ++ marks → Acts n old new marks
-acts_set n old new next marks greatest desks callers council made = record { greatest = greatest; desks = desks; callers = spares_set n old.callers new.callers next callers; council = council; made = made }
+acts_set : {S V : Type 0} (n : ℕ) (old new : View S V) (next : CallerView) (marks : List Mark) → new.last_proposer ≡ old.last_proposer → SparesRounds n old.desks new.desks → new.callers ≡ slice_set old.callers n next → new.council ≡ old.council → new.marks ≡ old.marks ++ marks → Acts n old new marks
+acts_set n old new next marks last_proposer desks callers council made = record { last_proposer = last_proposer; desks = desks; callers = spares_set n old.callers new.callers next callers; council = council; made = made }
 
-goes_on_set : {S V : Type 0} (n most : ℕ) (old new : View S V) (caller : CallerView) (call next : CallView) (marks : List Mark) → IsAt old.callers n caller → new.greatest ≡ old.greatest → SparesRounds n old.desks new.desks
+goes_on_set : {S V : Type 0} (n most : ℕ) (old new : View S V) (caller : CallerView) (call next : CallView) (marks : List Mark) → IsAt old.callers n caller → new.last_proposer ≡ old.last_proposer → SparesRounds n old.desks new.desks
     → new.callers ≡ slice_set old.callers n (record caller { call = Some next }) → new.council ≡ old.council → new.marks ≡ old.marks ++ marks → Fine n caller.number most marks → next.key ≡ call.key → next.program ≡ call.program → next.rounds ≡ call.rounds
     → next.is_closed ≡ call.is_closed → ((desk : DeskView V) → IsAt new.desks n desk → IsSome desk.round → told_conflict next.told ≡ false) → CallGoesOn n most old new caller call
-goes_on_set {S} {V} n most old new caller call next marks at greatest desks callers council made fine key program rounds closed told = record {
+goes_on_set {S} {V} n most old new caller call next marks at last_proposer desks callers council made fine key program rounds closed told = record {
   next = next;
   marks = marks;
-  acts = acts_set n old new (record caller { call = Some next }) marks greatest desks callers council made;
+  acts = acts_set n old new (record caller { call = Some next }) marks last_proposer desks callers council made;
   fine = fine;
   at_next = subst (λ (l : List CallerView). IsAt l n (record caller { call = Some next })) (sym callers) (at_set old.callers n caller (record caller { call = Some next }) at);
   key = key;
@@ -189,11 +189,11 @@ pub turn_goes_on : {S V : Type 0} (m : Meaning S V) (n : ℕ) (v : Verdict) (old
 turn_goes_on {S} {V} m n v old new by = in_turn by.of_call by.front by.turn
   where
     -- the harm is marked unless one of that acceptor was
-    harmed : (at : OpenCallAt old n) (acceptor : ℕ) (down : Bool) → SparesRounds n old.desks new.desks → new.greatest ≡ old.greatest → new.council ≡ old.council
+    harmed : (at : OpenCallAt old n) (acceptor : ℕ) (down : Bool) → SparesRounds n old.desks new.desks → new.last_proposer ≡ old.last_proposer → new.council ≡ old.council
         → new.callers ≡ slice_set old.callers n (record at.caller { call = Some (frames.harmed_by at.call acceptor) }) → new.marks ≡ old.marks ++ frames.harms_marked n at.caller.number at.call acceptor down
         → losses (Harmed n at.caller.number down ∷ []) ≤ harm_by v → CallGoesOn n (harm_by v) old new at.caller at.call
-    harmed at acceptor down spares greatest council callers made few =
-        goes_on_set n (harm_by v) old new at.caller at.call (frames.harmed_by at.call acceptor) (frames.harms_marked n at.caller.number at.call acceptor down) at.at_caller greatest spares callers council made
+    harmed at acceptor down spares last_proposer council callers made few =
+        goes_on_set n (harm_by v) old new at.caller at.call (frames.harmed_by at.call acceptor) (frames.harms_marked n at.caller.number at.call acceptor down) at.at_caller last_proposer spares callers council made
         (by_member (has_member at.call.harmed acceptor)) refl refl refl refl (λ desk at_desk some. refl)
       where
         by_member : (b : Bool) → Fine n at.caller.number (harm_by v) (if b then [] else Harmed n at.caller.number down ∷ [])
@@ -204,7 +204,7 @@ turn_goes_on {S} {V} m n v old new by = in_turn by.of_call by.front by.turn
     in_turn at front (frames.held fall same) = record {
       next = at.call;
       marks = [];
-      acts = record { greatest = ap (λ (w : View S V). w.greatest) same; desks = desks_same n old new (ap (λ (w : View S V). w.desks) same); callers = spares_same n old.callers new.callers (ap (λ (w : View S V). w.callers) same); council = ap (λ (w : View S V). w.council) same; made = ap (λ (w : View S V). w.marks) same ∙ sym (append-nil old.marks) };
+      acts = record { last_proposer = ap (λ (w : View S V). w.last_proposer) same; desks = desks_same n old new (ap (λ (w : View S V). w.desks) same); callers = spares_same n old.callers new.callers (ap (λ (w : View S V). w.callers) same); council = ap (λ (w : View S V). w.council) same; made = ap (λ (w : View S V). w.marks) same ∙ sym (append-nil old.marks) };
       fine = fine_none n at.caller.number (harm_by v);
       at_next = subst (λ (w : View S V). IsAt w.callers n (record at.caller { call = Some at.call })) (sym same) (subst (λ (c : CallerView). IsAt old.callers n c) (same_caller at.caller at.call at.is_open) at.at_caller);
       key = refl;
@@ -214,17 +214,17 @@ turn_goes_on {S} {V} m n v old new by = in_turn by.of_call by.front by.turn
       told = λ desk at_desk some unmet. unmet;
     }
     in_turn at front (frames.gone fall same) =
-        harmed at _ false (desks_same n old new (ap (λ (w : View S V). w.desks) same)) (ap (λ (w : View S V). w.greatest) same) (ap (λ (w : View S V). w.council) same) (ap (λ (w : View S V). w.callers) same) (ap (λ (w : View S V). w.marks) same)
+        harmed at _ false (desks_same n old new (ap (λ (w : View S V). w.desks) same)) (ap (λ (w : View S V). w.last_proposer) same) (ap (λ (w : View S V). w.council) same) (ap (λ (w : View S V). w.callers) same) (ap (λ (w : View S V). w.marks) same)
         (let some : 1 ≤ harm_by v = gone_harms (queue_at old.flow n).again v fall in omega (arith, some))
     in_turn at front (frames.answers request acceptor now reply fall is there table same) =
-        goes_on_set n (harm_by v) old new at.caller at.call (frames.marking at.call (length (frames.votes_marked request reply))) (frames.votes_marked request reply) at.at_caller (ap (λ (w : View S V). w.greatest) same) (desks_same n old new (ap (λ (w : View S V). w.desks) same))
+        goes_on_set n (harm_by v) old new at.caller at.call (frames.marking at.call (length (frames.votes_marked request reply))) (frames.votes_marked request reply) at.at_caller (ap (λ (w : View S V). w.last_proposer) same) (desks_same n old new (ap (λ (w : View S V). w.desks) same))
         (ap (λ (w : View S V). w.callers) same) (ap (λ (w : View S V). w.council) same) (ap (λ (w : View S V). w.marks) same) (fine_votes n at.caller.number (harm_by v) request reply) refl refl refl refl (λ desk_ at_desk some. refl)
     in_turn at front (frames.finds_down request acceptor fall is there down same) =
-        harmed at _ true (desks_same n old new (ap (λ (w : View S V). w.desks) same)) (ap (λ (w : View S V). w.greatest) same) (ap (λ (w : View S V). w.council) same) (ap (λ (w : View S V). w.callers) same) (ap (λ (w : View S V). w.marks) same) (omega arith)
+        harmed at _ true (desks_same n old new (ap (λ (w : View S V). w.desks) same)) (ap (λ (w : View S V). w.last_proposer) same) (ap (λ (w : View S V). w.council) same) (ap (λ (w : View S V). w.callers) same) (ap (λ (w : View S V). w.marks) same) (omega arith)
     in_turn at front (frames.brings_down request acceptor now fall is there stops same) =
-        harmed at _ true (desks_same n old new (ap (λ (w : View S V). w.desks) same)) (ap (λ (w : View S V). w.greatest) same) (ap (λ (w : View S V). w.council) same) (ap (λ (w : View S V). w.callers) same) (ap (λ (w : View S V). w.marks) same) (omega arith)
+        harmed at _ true (desks_same n old new (ap (λ (w : View S V). w.desks) same)) (ap (λ (w : View S V). w.last_proposer) same) (ap (λ (w : View S V). w.council) same) (ap (λ (w : View S V). w.callers) same) (ap (λ (w : View S V). w.marks) same) (omega arith)
     in_turn at front (frames.arrives reply desk now round heard fall is there is_round hears same) =
-        goes_on_set n (harm_by v) old new at.caller at.call (frames.silent at.call) [] at.at_caller (ap (λ (w : View S V). w.greatest) same) (desks_set n old new now (ap (λ (w : View S V). w.desks) same))
+        goes_on_set n (harm_by v) old new at.caller at.call (frames.silent at.call) [] at.at_caller (ap (λ (w : View S V). w.last_proposer) same) (desks_set n old new now (ap (λ (w : View S V). w.desks) same))
         (ap (λ (w : View S V). w.callers) same) (ap (λ (w : View S V). w.council) same) (ap (λ (w : View S V). w.marks) same ∙ sym (append-nil old.marks)) (fine_none n at.caller.number (harm_by v)) refl refl refl refl (λ desk_ at_desk some. refl)
 
 -- no memory was found for it
@@ -242,14 +242,14 @@ refused_turn_goes_on {S} {V} m n most old new by = in_case by.middle by.refuses 
     in_case middle (frames.stays stays_) same = record {
       silent = λ number told was. refl;
       goes = goes_on_set n most old new at.caller at.call next [] at.at_caller
-          (ap (λ (w : View S V). w.greatest) same ∙ ap (λ (w : View S V). w.greatest) stays_) (desks_same n old new (ap (λ (w : View S V). w.desks) same ∙ ap (λ (w : View S V). w.desks) stays_))
+          (ap (λ (w : View S V). w.last_proposer) same ∙ ap (λ (w : View S V). w.last_proposer) stays_) (desks_same n old new (ap (λ (w : View S V). w.desks) same ∙ ap (λ (w : View S V). w.desks) stays_))
           (ap (λ (w : View S V). w.callers) same ∙ ap (λ (w : View S V). slice_set w.callers n (record at.caller { call = Some next })) stays_) (ap (λ (w : View S V). w.council) same ∙ ap (λ (w : View S V). w.council) stays_)
           (ap (λ (w : View S V). w.marks) same ∙ ap (λ (w : View S V). w.marks) stays_ ∙ sym (append-nil old.marks)) (fine_none n at.caller.number most) refl refl refl refl (λ desk at_desk some. refl);
     }
     in_case middle (frames.kept id acceptor now there finds kept_) same = record {
       silent = λ number told was. refl;
       goes = goes_on_set n most old new at.caller at.call next [] at.at_caller
-          (ap (λ (w : View S V). w.greatest) same ∙ ap (λ (w : View S V). w.greatest) kept_) (desks_same n old new (ap (λ (w : View S V). w.desks) same ∙ ap (λ (w : View S V). w.desks) kept_))
+          (ap (λ (w : View S V). w.last_proposer) same ∙ ap (λ (w : View S V). w.last_proposer) kept_) (desks_same n old new (ap (λ (w : View S V). w.desks) same ∙ ap (λ (w : View S V). w.desks) kept_))
           (ap (λ (w : View S V). w.callers) same ∙ ap (λ (w : View S V). slice_set w.callers n (record at.caller { call = Some next })) kept_) (ap (λ (w : View S V). w.council) same ∙ ap (λ (w : View S V). w.council) kept_)
           (ap (λ (w : View S V). w.marks) same ∙ ap (λ (w : View S V). w.marks) kept_ ∙ sym (append-nil old.marks)) (fine_none n at.caller.number most) refl refl refl refl (λ desk at_desk some. refl);
     }
@@ -262,7 +262,7 @@ propose_goes_on {S} {V} m n most old new by = in_phase by.at_round.of_call by.at
     over : (at : OpenCallAt old n) (now : DeskView V) (told : Answer) → ((desk : DeskView V) → IsAt new.desks n desk → IsSome desk.round → told_conflict (Some told) ≡ false) → new ≡ calls.with_call (record old { desks = slice_set old.desks n now }) n at.caller (calls.over at.call told) → SilentGoesOn n most old new at.caller at.call
     over at now told tells same = record {
       silent = λ number answer_ was. refl;
-      goes = goes_on_set n most old new at.caller at.call (calls.over at.call told) [] at.at_caller (ap (λ (w : View S V). w.greatest) same) (desks_set n old new now (ap (λ (w : View S V). w.desks) same))
+      goes = goes_on_set n most old new at.caller at.call (calls.over at.call told) [] at.at_caller (ap (λ (w : View S V). w.last_proposer) same) (desks_set n old new now (ap (λ (w : View S V). w.desks) same))
           (ap (λ (w : View S V). w.callers) same) (ap (λ (w : View S V). w.council) same) (ap (λ (w : View S V). w.marks) same ∙ sym (append-nil old.marks)) (fine_none n at.caller.number most) refl refl refl refl tells;
     }
 
@@ -270,7 +270,7 @@ propose_goes_on {S} {V} m n most old new by = in_phase by.at_round.of_call by.at
     in_phase at desk there round (calls.proposes now turned read by_ ride outcome flow quorum confirmers reads turns made sends same) =
         record {
           silent = λ number told was. absurd (cc (told_in new n number told was _ (calls.proposing at.call outcome) (subst (λ (w : View S V). IsAt w.callers n (record at.caller { call = Some (calls.proposing at.call outcome) })) (sym same) (at_set old.callers n at.caller _ at.at_caller)) refl));
-          goes = goes_on_set n most old new at.caller at.call (calls.proposing at.call outcome) (Proposed (calls.proposal_of n at.caller.number round _ by_) ∷ []) at.at_caller (ap (λ (w : View S V). w.greatest) same) (desks_set n old new now (ap (λ (w : View S V). w.desks) same))
+          goes = goes_on_set n most old new at.caller at.call (calls.proposing at.call outcome) (Proposed (calls.proposal_of n at.caller.number round _ by_) ∷ []) at.at_caller (ap (λ (w : View S V). w.last_proposer) same) (desks_set n old new now (ap (λ (w : View S V). w.desks) same))
               (ap (λ (w : View S V). w.callers) same) (ap (λ (w : View S V). w.council) same) (ap (λ (w : View S V). w.marks) same) (fine_proposal n at.caller.number most _ refl refl) refl refl refl refl (λ desk_ at_desk some. refl);
         }
     in_phase at desk there round (calls.ends now v told is refuses ends same) =
@@ -296,13 +296,13 @@ count_is_over {S} {V} m n most old new by = in_phase by.at_round.of_call by.at_r
     in_phase at desk round (calls.counts now by_ outcome quorum confirmers proposed ends same) =
         record {
           may_end = λ rounds told. (tt, (tt, tt));
-          goes = goes_on_set n most old new at.caller at.call (calls.over at.call _) (Acked _ ∷ []) at.at_caller (ap (λ (w : View S V). w.greatest) same) (desks_set n old new now (ap (λ (w : View S V). w.desks) same))
+          goes = goes_on_set n most old new at.caller at.call (calls.over at.call _) (Acked _ ∷ []) at.at_caller (ap (λ (w : View S V). w.last_proposer) same) (desks_set n old new now (ap (λ (w : View S V). w.desks) same))
               (ap (λ (w : View S V). w.callers) same) (ap (λ (w : View S V). w.council) same) (ap (λ (w : View S V). w.marks) same) (fine_ack n at.caller.number most _) refl refl refl refl (λ desk_ at_desk some. refl);
         }
     in_phase at desk round (calls.ends now v why is cause ends same) =
         record {
           may_end = λ rounds told. (tt, tt);
-          goes = goes_on_set n most old new at.caller at.call (calls.over at.call (answer.Unsettled why)) [] at.at_caller (ap (λ (w : View S V). w.greatest) same) (desks_set n old new now (ap (λ (w : View S V). w.desks) same))
+          goes = goes_on_set n most old new at.caller at.call (calls.over at.call (answer.Unsettled why)) [] at.at_caller (ap (λ (w : View S V). w.last_proposer) same) (desks_set n old new now (ap (λ (w : View S V). w.desks) same))
               (ap (λ (w : View S V). w.callers) same) (ap (λ (w : View S V). w.council) same) (ap (λ (w : View S V). w.marks) same ∙ sym (append-nil old.marks)) (fine_none n at.caller.number most) refl refl refl refl (λ desk_ at_desk some. refl);
         }
 
@@ -334,7 +334,7 @@ pub record CallEnds {S V : Type 0} (n : ℕ) (old new : View S V) (caller : Call
 
 pub end_ends : {S V : Type 0} (m : Meaning S V) (n : ℕ) (told : Answer) (old new : View S V) (by : StepEnd m old n told new) → CallEnds n old new by.of_call.caller by.of_call.call told
 end_ends {S} {V} m n told old new by = record {
-  acts = acts_set n (record old { council = new.council }) new (record by.of_call.caller { call = None }) _ (ap (λ (w : View S V). w.greatest) by.ends.view) (desks_set n (record old { council = new.council }) new by.ends.now (ap (λ (w : View S V). w.desks) by.ends.view)) (ap (λ (w : View S V). w.callers) by.ends.view)
+  acts = acts_set n (record old { council = new.council }) new (record by.of_call.caller { call = None }) _ (ap (λ (w : View S V). w.last_proposer) by.ends.view) (desks_set n (record old { council = new.council }) new by.ends.now (ap (λ (w : View S V). w.desks) by.ends.view)) (ap (λ (w : View S V). w.callers) by.ends.view)
       refl (ap (λ (w : View S V). w.marks) by.ends.view);
   rescans = subst (calls.Rescans old.council n by.of_call.call.key told) (sym (ap (λ (w : View S V). w.council) by.ends.view)) by.ends.rescans;
   at_next = subst (λ (w : View S V). IsAt w.callers n (record by.of_call.caller { call = None })) (sym by.ends.view) (at_set old.callers n by.of_call.caller (record by.of_call.caller { call = None }) by.of_call.at_caller);
@@ -344,7 +344,7 @@ end_ends {S} {V} m n told old new by = record {
 -- All that callers have open stays, whoever lets a late frame in.
 pub record LetsIn {S V : Type 0} (old new : View S V) : Type 0 where
   pub marks : List Mark
-  pub greatest : new.greatest ≡ old.greatest
+  pub last_proposer : new.last_proposer ≡ old.last_proposer
   pub places : length new.desks ≡ length old.desks
   pub rounds : (p : ℕ) → has_round (slice_get new.desks p) ≡ has_round (slice_get old.desks p)
   pub callers : new.callers ≡ old.callers
@@ -352,10 +352,10 @@ pub record LetsIn {S V : Type 0} (old new : View S V) : Type 0 where
   pub made : new.marks ≡ old.marks ++ marks
   pub fine : (n call most : ℕ) → Fine n call most marks
 
-lets_in_same : {S V : Type 0} (old new : View S V) (marks : List Mark) → new.greatest ≡ old.greatest → new.desks ≡ old.desks → new.callers ≡ old.callers → new.council ≡ old.council → new.marks ≡ old.marks ++ marks → ((n call most : ℕ) → Fine n call most marks) → LetsIn old new
-lets_in_same {S} {V} old new marks greatest desks callers council made fine = record {
+lets_in_same : {S V : Type 0} (old new : View S V) (marks : List Mark) → new.last_proposer ≡ old.last_proposer → new.desks ≡ old.desks → new.callers ≡ old.callers → new.council ≡ old.council → new.marks ≡ old.marks ++ marks → ((n call most : ℕ) → Fine n call most marks) → LetsIn old new
+lets_in_same {S} {V} old new marks last_proposer desks callers council made fine = record {
   marks = marks;
-  greatest = greatest;
+  last_proposer = last_proposer;
   places = ap (λ (l : List (DeskView V)). length l) desks;
   rounds = λ p. ap (λ (l : List (DeskView V)). has_round (slice_get l p)) desks;
   callers = callers;
@@ -372,15 +372,15 @@ stray_lets_in {S} {V} m index old new by = by_late by.late by.strays
 
     by_late : (late : Message) → frames.Strays m old index late new → LetsIn old new
     by_late late (frames.answers request acceptor now reply is there table same) =
-        lets_in_same old new (frames.votes_marked request reply) (ap (λ (w : View S V). w.greatest) same) (ap (λ (w : View S V). w.desks) same) (ap (λ (w : View S V). w.callers) same) (ap (λ (w : View S V). w.council) same) (ap (λ (w : View S V). w.marks) same)
+        lets_in_same old new (frames.votes_marked request reply) (ap (λ (w : View S V). w.last_proposer) same) (ap (λ (w : View S V). w.desks) same) (ap (λ (w : View S V). w.callers) same) (ap (λ (w : View S V). w.council) same) (ap (λ (w : View S V). w.marks) same)
         (λ n call most. fine_votes n call most request reply)
     by_late late (frames.brings_down request acceptor now is there stops same) =
-        lets_in_same old new [] (ap (λ (w : View S V). w.greatest) same) (ap (λ (w : View S V). w.desks) same) (ap (λ (w : View S V). w.callers) same) (ap (λ (w : View S V). w.council) same) (none_made (ap (λ (w : View S V). w.marks) same)) (λ n call most. fine_none n call most)
+        lets_in_same old new [] (ap (λ (w : View S V). w.last_proposer) same) (ap (λ (w : View S V). w.desks) same) (ap (λ (w : View S V). w.callers) same) (ap (λ (w : View S V). w.council) same) (none_made (ap (λ (w : View S V). w.marks) same)) (λ n call most. fine_none n call most)
     by_late late (frames.drops ignored same) =
-        lets_in_same old new [] (ap (λ (w : View S V). w.greatest) same) (ap (λ (w : View S V). w.desks) same) (ap (λ (w : View S V). w.callers) same) (ap (λ (w : View S V). w.council) same) (none_made (ap (λ (w : View S V). w.marks) same)) (λ n call most. fine_none n call most)
+        lets_in_same old new [] (ap (λ (w : View S V). w.last_proposer) same) (ap (λ (w : View S V). w.desks) same) (ap (λ (w : View S V). w.callers) same) (ap (λ (w : View S V). w.council) same) (none_made (ap (λ (w : View S V). w.marks) same)) (λ n call most. fine_none n call most)
     by_late late (frames.arrives reply desk now round heard is there is_round hears same) = record {
       marks = [];
-      greatest = ap (λ (w : View S V). w.greatest) same;
+      last_proposer = ap (λ (w : View S V). w.last_proposer) same;
       places = ap (λ (w : View S V). length w.desks) same ∙ length-set old.desks reply.to now;
       rounds = λ p. ap (λ (w : View S V). has_round (slice_get w.desks p)) same
           ∙ round_set old.desks reply.to now desk there (ap (λ (d : DeskView V). is_some d.round) hears.desk ∙ sym (ap (λ (o : Option Round). is_some o) is_round)) p;
@@ -392,9 +392,9 @@ stray_lets_in {S} {V} m index old new by = by_late by.late by.strays
 
 pub refused_stray_lets_in : {S V : Type 0} (m : Meaning S V) (old new : View S V) → frames.FindsNoRoom m old new → LetsIn old new
 refused_stray_lets_in {S} {V} m old new (frames.stays same) =
-    lets_in_same old new [] (ap (λ (w : View S V). w.greatest) same) (ap (λ (w : View S V). w.desks) same) (ap (λ (w : View S V). w.callers) same) (ap (λ (w : View S V). w.council) same) (ap (λ (w : View S V). w.marks) same ∙ sym (append-nil old.marks)) (λ n call most. fine_none n call most)
+    lets_in_same old new [] (ap (λ (w : View S V). w.last_proposer) same) (ap (λ (w : View S V). w.desks) same) (ap (λ (w : View S V). w.callers) same) (ap (λ (w : View S V). w.council) same) (ap (λ (w : View S V). w.marks) same ∙ sym (append-nil old.marks)) (λ n call most. fine_none n call most)
 refused_stray_lets_in {S} {V} m old new (frames.kept id acceptor now there finds same) =
-    lets_in_same old new [] (ap (λ (w : View S V). w.greatest) same) (ap (λ (w : View S V). w.desks) same) (ap (λ (w : View S V). w.callers) same) (ap (λ (w : View S V). w.council) same) (ap (λ (w : View S V). w.marks) same ∙ sym (append-nil old.marks)) (λ n call most. fine_none n call most)
+    lets_in_same old new [] (ap (λ (w : View S V). w.last_proposer) same) (ap (λ (w : View S V). w.desks) same) (ap (λ (w : View S V). w.callers) same) (ap (λ (w : View S V). w.council) same) (ap (λ (w : View S V). w.marks) same ∙ sym (append-nil old.marks)) (λ n call most. fine_none n call most)
 
 -- ---- a round begins
 -- no conflict keeps it from beginning
@@ -419,7 +419,7 @@ begins_goes_on {S} {V} m n most old new caller call at is (calls.prepares desk n
   goes = record {
     next = call;
     marks = [];
-    acts = record { greatest = ap (λ (w : View S V). w.greatest) same; desks = desks_set n old new now (ap (λ (w : View S V). w.desks) same); callers = spares_same n old.callers new.callers (ap (λ (w : View S V). w.callers) same); council = ap (λ (w : View S V). w.council) same; made = ap (λ (w : View S V). w.marks) same ∙ sym (append-nil old.marks) };
+    acts = record { last_proposer = ap (λ (w : View S V). w.last_proposer) same; desks = desks_set n old new now (ap (λ (w : View S V). w.desks) same); callers = spares_same n old.callers new.callers (ap (λ (w : View S V). w.callers) same); council = ap (λ (w : View S V). w.council) same; made = ap (λ (w : View S V). w.marks) same ∙ sym (append-nil old.marks) };
     fine = fine_none n caller.number most;
     at_next = subst (λ (w : View S V). IsAt w.callers n (record caller { call = Some call })) (sym same) (subst (λ (c : CallerView). IsAt old.callers n c) (same_caller caller call is) at);
     key = refl;
@@ -431,26 +431,26 @@ begins_goes_on {S} {V} m n most old new caller call at is (calls.prepares desk n
   silent = λ number told was. refl;
 }
 begins_goes_on {S} {V} m n most old new caller call at is (calls.proposes desk now ready ride round outcome flow at_desk up few begins made sends same) =
-    let goes : CallGoesOn n most old new caller call = goes_on_set n most old new caller call (calls.proposing call outcome) (Proposed (calls.proposal_of n caller.number round ready.read ready.by) ∷ []) at (ap (λ (w : View S V). w.greatest) same) (desks_set n old new now (ap (λ (w : View S V). w.desks) same))
+    let goes : CallGoesOn n most old new caller call = goes_on_set n most old new caller call (calls.proposing call outcome) (Proposed (calls.proposal_of n caller.number round ready.read ready.by) ∷ []) at (ap (λ (w : View S V). w.last_proposer) same) (desks_set n old new now (ap (λ (w : View S V). w.desks) same))
     (ap (λ (w : View S V). w.callers) same) (ap (λ (w : View S V). w.council) same) (ap (λ (w : View S V). w.marks) same) (fine_proposal n caller.number most _ refl refl) refl refl refl refl (λ desk_ at_desk_ some. refl) in
     record { goes = goes; silent = λ number told was. absurd (cc (told_in new n number told was _ (calls.proposing call outcome) (subst (λ (w : View S V). IsAt w.callers n (record caller { call = Some (calls.proposing call outcome) })) (sym same) (at_set old.callers n caller _ at)) refl)) }
 begins_goes_on {S} {V} m n most old new caller call at is (calls.stays told none no_round full same) = record {
-  goes = goes_on_set n most old new caller call (calls.over call told) [] at (ap (λ (w : View S V). w.greatest) same) (desks_same n old new (ap (λ (w : View S V). w.desks) same)) (ap (λ (w : View S V). w.callers) same) (ap (λ (w : View S V). w.council) same)
+  goes = goes_on_set n most old new caller call (calls.over call told) [] at (ap (λ (w : View S V). w.last_proposer) same) (desks_same n old new (ap (λ (w : View S V). w.desks) same)) (ap (λ (w : View S V). w.callers) same) (ap (λ (w : View S V). w.council) same)
       (ap (λ (w : View S V). w.marks) same ∙ sym (append-nil old.marks)) (fine_none n caller.number most) refl refl refl refl (λ desk at_desk some. none_begun told none);
   silent = λ number told was. refl;
 }
 begins_goes_on {S} {V} m n most old new caller call at is (calls.spent desk now at_desk none up no_promise spent kept is_now same) = record {
-  goes = goes_on_set n most old new caller call (calls.over call answer.Spent) [] at (ap (λ (w : View S V). w.greatest) same) (desks_set n old new now (ap (λ (w : View S V). w.desks) same)) (ap (λ (w : View S V). w.callers) same) (ap (λ (w : View S V). w.council) same)
+  goes = goes_on_set n most old new caller call (calls.over call answer.Spent) [] at (ap (λ (w : View S V). w.last_proposer) same) (desks_set n old new now (ap (λ (w : View S V). w.desks) same)) (ap (λ (w : View S V). w.callers) same) (ap (λ (w : View S V). w.council) same)
       (ap (λ (w : View S V). w.marks) same ∙ sym (append-nil old.marks)) (fine_none n caller.number most) refl refl refl refl (λ desk_ at_desk_ some. refl);
   silent = λ number told was. refl;
 }
 begins_goes_on {S} {V} m n most old new caller call at is (calls.fails desk now at_desk none up fails same) = record {
-  goes = goes_on_set n most old new caller call (calls.over call answer.VaultFault) [] at (ap (λ (w : View S V). w.greatest) same) (desks_set n old new now (ap (λ (w : View S V). w.desks) same)) (ap (λ (w : View S V). w.callers) same) (ap (λ (w : View S V). w.council) same)
+  goes = goes_on_set n most old new caller call (calls.over call answer.VaultFault) [] at (ap (λ (w : View S V). w.last_proposer) same) (desks_set n old new now (ap (λ (w : View S V). w.desks) same)) (ap (λ (w : View S V). w.callers) same) (ap (λ (w : View S V). w.council) same)
       (ap (λ (w : View S V). w.marks) same ∙ sym (append-nil old.marks)) (fine_none n caller.number most) refl refl refl refl (λ desk_ at_desk_ some. refl);
   silent = λ number told was. refl;
 }
 begins_goes_on {S} {V} m n most old new caller call at is (calls.loses desk now ballot at_desk none up loses same) = record {
-  goes = goes_on_set n most old new caller call (calls.over call (answer.NoMemory false)) [] at (ap (λ (w : View S V). w.greatest) same) (desks_set n old new now (ap (λ (w : View S V). w.desks) same)) (ap (λ (w : View S V). w.callers) same) (ap (λ (w : View S V). w.council) same)
+  goes = goes_on_set n most old new caller call (calls.over call (answer.NoMemory false)) [] at (ap (λ (w : View S V). w.last_proposer) same) (desks_set n old new now (ap (λ (w : View S V). w.desks) same)) (ap (λ (w : View S V). w.callers) same) (ap (λ (w : View S V). w.council) same)
       (ap (λ (w : View S V). w.marks) same ∙ sym (append-nil old.marks)) (fine_none n caller.number most) refl refl refl refl (λ desk_ at_desk_ some. refl);
   silent = λ number told was. refl;
 }
@@ -494,7 +494,7 @@ first_begins {S} {V} m n most key program old new caller at none by = by_opens b
         let at_first : IsAt by.middle.callers n first_ = subst (λ (l : List CallerView). IsAt l n first_) (sym callers) (at_set old.callers n caller first_ at) in
         let is_first : by.caller ≡ first_ = at_one by.middle.callers n by.at_caller at_first in
         let is_made : by.call ≡ made = some_is (sym by.is_open ∙ ap (λ (c : CallerView). c.call) is_first) in
-        let opens : Acts n old by.middle (Begun n (suc caller.number) key program ∷ []) = acts_set n old by.middle first_ _ (ap (λ (w : View S V). w.greatest) same) (desks_same n old by.middle (ap (λ (w : View S V). w.desks) same)) callers (ap (λ (w : View S V). w.council) same)
+        let opens : Acts n old by.middle (Begun n (suc caller.number) key program ∷ []) = acts_set n old by.middle first_ _ (ap (λ (w : View S V). w.last_proposer) same) (desks_same n old by.middle (ap (λ (w : View S V). w.desks) same)) callers (ap (λ (w : View S V). w.council) same)
         (ap (λ (w : View S V). w.marks) same ∙ ap (λ (c : CallerView). old.marks ++ Begun n (suc c.number) key program ∷ []) one) in
         let round = begins_goes_on m n most by.middle new by.caller by.call by.at_caller by.is_open by.begins in
         let goes = round.goes in
@@ -535,7 +535,7 @@ again_goes_on {S} {V} m n most key program old new caller call at is by = by_ope
         let at_first : IsAt by.middle.callers n next_ = subst (λ (l : List CallerView). IsAt l n next_) (sym callers) (at_set old.callers n caller next_ at) in
         let is_first : by.caller ≡ next_ = at_one by.middle.callers n by.at_caller at_first in
         let is_tried : by.call ≡ tried = some_is (sym by.is_open ∙ ap (λ (c : CallerView). c.call) is_first) in
-        let opens : Acts n old by.middle [] = acts_set n old by.middle next_ [] (ap (λ (w : View S V). w.greatest) same) (desks_same n old by.middle (ap (λ (w : View S V). w.desks) same)) callers (ap (λ (w : View S V). w.council) same)
+        let opens : Acts n old by.middle [] = acts_set n old by.middle next_ [] (ap (λ (w : View S V). w.last_proposer) same) (desks_same n old by.middle (ap (λ (w : View S V). w.desks) same)) callers (ap (λ (w : View S V). w.council) same)
         (ap (λ (w : View S V). w.marks) same ∙ sym (append-nil old.marks)) in
         let round = begins_goes_on m n most by.middle new by.caller by.call by.at_caller by.is_open by.begins in
         let goes = round.goes in
@@ -564,7 +564,7 @@ again_goes_on {S} {V} m n most key program old new caller call at is by = by_ope
 pub refused_acts : {S V : Type 0} (m : Meaning S V) (n : ℕ) (key : List ℕ) (old new : View S V) → calls.RefusesCall m old n key new → Acts n (record old { council = new.council }) new [] × (new.callers ≡ old.callers)
 refused_acts {S} {V} m n key old new (calls.stays told council refusal anew same) = (
   record {
-    greatest = ap (λ (w : View S V). w.greatest) same;
+    last_proposer = ap (λ (w : View S V). w.last_proposer) same;
     desks = desks_same n old new (ap (λ (w : View S V). w.desks) same);
     callers = spares_same n old.callers new.callers (ap (λ (w : View S V). w.callers) same);
     council = refl;
@@ -574,7 +574,7 @@ refused_acts {S} {V} m n key old new (calls.stays told council refusal anew same
 )
 refused_acts {S} {V} m n key old new (calls.loses caller desk now ballot council at_caller at_desk no_round up loses anew same) = (
   record {
-    greatest = ap (λ (w : View S V). w.greatest) same;
+    last_proposer = ap (λ (w : View S V). w.last_proposer) same;
     desks = desks_set n old new now (ap (λ (w : View S V). w.desks) same);
     callers = spares_same n old.callers new.callers (ap (λ (w : View S V). w.callers) same);
     council = refl;

@@ -46,7 +46,7 @@ number_of view n call has caller at = let open_ = open_at view n call has in ap 
 pub record Held {S V : Type 0} (old new : View S V) (Does : Type 0) : Type 0 where
   pub does : Does
   pub kept : IsKept new
-  pub greatest : new.greatest ≡ old.greatest
+  pub last_proposer : new.last_proposer ≡ old.last_proposer
 
 wanted_by_acts : {S V : Type 0} (n call most : ℕ) (old new : View S V) (marks : List Mark) → Acts n old new marks → Fine n call most marks → wanted_by n new.marks ≡ wanted_by n old.marks
 wanted_by_acts n call most old new marks acts fine = ap (wanted_by n) acts.made ∙ wanted_append n None old.marks marks ∙ fine.asks (wanted_by n old.marks)
@@ -90,7 +90,7 @@ goes_on_in {S} {V} n call most old new caller was entered at is enters has kept 
             wanted ∙ before ∙ ap₂ (λ (k : List ℕ) (p : List Clause). Some (wants caller.number k p)) (sym (goes.key ∙ enters.key)) (sym (goes.program ∙ enters.program))
             ∙ ap₂ (λ (c : CallerView) (o : CallView). Some (wants c.number o.key o.program)) same same_call;
       });
-      greatest = goes.acts.greatest;
+      last_proposer = goes.acts.last_proposer;
     }
 
 -- ---- calls that end
@@ -100,7 +100,7 @@ over_at_once n most old caller was at is = record {
   goes = record {
     next = was;
     marks = [];
-    acts = record { greatest = refl; desks = spares_rounds n old.desks old.desks (spares_same n old.desks old.desks refl); callers = spares_same n old.callers old.callers refl; council = refl; made = sym (append-nil old.marks) };
+    acts = record { last_proposer = refl; desks = spares_rounds n old.desks old.desks (spares_same n old.desks old.desks refl); callers = spares_same n old.callers old.callers refl; council = refl; made = sym (append-nil old.marks) };
     fine = fine_none n caller.number most;
     at_next = subst (λ (c : CallerView). IsAt old.callers n c) (ap (λ (o : Option CallView). record caller { call = o }) is) at;
     key = refl;
@@ -160,7 +160,7 @@ ends_in {S} {V} m n call most told old mid new caller was entered at is enters h
         still = λ free. own_closed new n next_none ended.at_next refl ∙ rest_still n was.key told old new then_ (subst IsFree (beside_part old n caller was at is) free) ∙ sym (beside_part old n caller was at is);
       };
       kept = kept_aside n old new all acts only kept (idle_kept n new next_none ended.at_next refl);
-      greatest = acts.greatest;
+      last_proposer = acts.last_proposer;
     }
 
 -- ---- calls that begin
@@ -207,7 +207,7 @@ begins_in {S} {V} m n key program old new caller at none idle kept by has =
             wanted ∙ ap₂ (λ (k : List ℕ) (p : List Clause). Some (wants number k p)) (sym b.key_is) (sym b.program_is)
             ∙ ap₂ (λ (c : CallerView) (o : CallView). Some (wants c.number o.key o.program)) same same_call;
       });
-      greatest = b.acts.greatest;
+      last_proposer = b.acts.last_proposer;
     }
 
 -- no call is open behind one that is not begun, or ends at once
@@ -242,7 +242,7 @@ passes_in {S} {V} m n key program told old mid new caller at none idle kept by n
       does = ends_at_once call rounds (makes_aside n old new all acts (tt, (tt, tt)) only (λ not_first. quiet_rescans n old.council new.council key told (λ first_. absurd (not_first first_)) then_))
           (leaves_idle n key told old new caller next_none at none idle ended.at_next refl then_) no_conflict;
       kept = kept_aside n old new all acts only kept (idle_kept n new next_none ended.at_next refl);
-      greatest = acts.greatest;
+      last_proposer = acts.last_proposer;
     }
 
 -- why it is not begun, before as many marks as there were
@@ -261,7 +261,7 @@ refused_in {S} {V} m n key told old new program caller at none idle kept refusal
       does = is_refused (refusal_then told old new refusal long (done.0.made ∙ append-nil old.marks)) (makes_aside n old new [] done.0 tt fine.only (λ not_first. quiet_rescans n old.council new.council key told (λ first_. absurd (not_first first_)) then_))
           (leaves_idle n key told old new caller caller at none idle at_new none then_);
       kept = kept_aside n old new [] done.0 fine.only kept (idle_kept n new caller at_new none);
-      greatest = done.0.greatest;
+      last_proposer = done.0.last_proposer;
     }
 
 -- ---- by how a result goes
@@ -446,20 +446,20 @@ pub strays_in : {S V : Type 0} (old new : View S V) → IsKept old → LetsIn ol
 strays_in {S} {V} old new kept by = record {
   does = record {
     marks = by.marks;
-    makes = λ n. record { greatest = by.greatest; made = by.made; may_add = (by.fine n 0 0).may_add; owned = (by.fine n 0 0).only; others = λ m other. own m };
+    makes = λ n. record { last_proposer = by.last_proposer; made = by.made; may_add = (by.fine n 0 0).may_add; owned = (by.fine n 0 0).only; others = λ m other. own m };
     none_own = λ n. none_of_call (mine n by.marks) (by.fine n 0 0).of_call (by.fine n 1 0).of_call;
     own = own;
     wanted = λ n. ap (wanted_by n) by.made ∙ wanted_append n None old.marks by.marks ∙ (by.fine n 0 0).asks (wanted_by n old.marks);
   };
   kept = record {
-    places = record { desks = by.places ∙ kept.places.desks ∙ ap suc (sym by.greatest); callers = ap (λ (l : List CallerView). length l) by.callers ∙ kept.places.callers ∙ ap suc (sym by.greatest) };
+    places = record { desks = by.places ∙ kept.places.desks ∙ ap suc (sym by.last_proposer); callers = ap (λ (l : List CallerView). length l) by.callers ∙ kept.places.callers ∙ ap suc (sym by.last_proposer) };
     staged = λ id desk caller call at_desk at_caller is_call.
         let d = was_desk old.desks new.desks id desk (by.rounds id) at_desk in
         staged_same desk d.was call d.same (kept.staged id d.was caller call d.at_was (subst (λ (l : List CallerView). IsAt l id caller) by.callers at_caller) is_call);
     wanted = λ id caller call at_caller is_call.
         ap (wanted_by id) by.made ∙ wanted_append id None old.marks by.marks ∙ (by.fine id 0 0).asks (wanted_by id old.marks) ∙ kept.wanted id caller call (subst (λ (l : List CallerView). IsAt l id caller) by.callers at_caller) is_call;
   };
-  greatest = by.greatest;
+  last_proposer = by.last_proposer;
 }
   where
     own : (n : ℕ) → own_part new n ≡ own_part old n
@@ -475,8 +475,8 @@ stray_ends m index old new (Ok peer) ok err kept = strays_in old new kept (stray
 stray_ends m index old new (Err fault) ok err kept = strays_in old new kept (refused_stray_lets_in m old new err)
 
 -- ---- how many proposers there are within a hold
-pub greatest_refused : {S V : Type 0} (m : Meaning S V) (n : ℕ) (old new : View S V) → StepRefuseTurn m old n new → new.greatest ≡ old.greatest
-greatest_refused m n old new by = (refused_turn_goes_on m n 0 old new by).goes.acts.greatest
+pub greatest_refused : {S V : Type 0} (m : Meaning S V) (n : ℕ) (old new : View S V) → StepRefuseTurn m old n new → new.last_proposer ≡ old.last_proposer
+greatest_refused m n old new by = (refused_turn_goes_on m n 0 old new by).goes.acts.last_proposer
 
-pub greatest_proposed : {S V : Type 0} (m : Meaning S V) (n : ℕ) (old new : View S V) → StepPropose m old n new → new.greatest ≡ old.greatest
-greatest_proposed m n old new by = (propose_goes_on m n 0 old new by).goes.acts.greatest
+pub greatest_proposed : {S V : Type 0} (m : Meaning S V) (n : ℕ) (old new : View S V) → StepPropose m old n new → new.last_proposer ≡ old.last_proposer
+greatest_proposed m n old new by = (propose_goes_on m n 0 old new by).goes.acts.last_proposer

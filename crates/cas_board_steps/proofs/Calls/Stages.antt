@@ -116,7 +116,7 @@ pub record DeskAt {S V : Type 0} (view : View S V) (n : ℕ) : Type 0 where
   pub desk : DeskView V
   pub at_desk : IsAt view.desks n desk
 
-pub desk_at : {S V : Type 0} (view : View S V) (n : ℕ) → n ≤ view.greatest → IsKept view → DeskAt view n
+pub desk_at : {S V : Type 0} (view : View S V) (n : ℕ) → n ≤ view.last_proposer → IsKept view → DeskAt view n
 desk_at view n known kept = let there = at_low view.desks n (omega (arith, kept.places.desks, known)) in record { desk = there.0; at_desk = there.1 }
 
 -- where its caller stands, its desk does
@@ -188,12 +188,12 @@ phase_in : {S V : Type 0} (view : View S V) (n : ℕ) (preparing : Bool) (desk :
 phase_in view n preparing desk at None is some phase none = absurd (cc some)
 phase_in view n preparing desk at (Some round) is some phase none = record { desk = desk; at_desk = at; round = round; is_round = is; phase = phase; none_waits = none }
 
-pub in_phase : {S V : Type 0} (view : View S V) (n : ℕ) (proposed : Bool) → n ≤ view.greatest → IsKept view → ((desk : DeskView V) → IsAt view.desks n desk → IsSome desk.round)
+pub in_phase : {S V : Type 0} (view : View S V) (n : ℕ) (proposed : Bool) → n ≤ view.last_proposer → IsKept view → ((desk : DeskView V) → IsAt view.desks n desk → IsSome desk.round)
     → ((desk : DeskView V) → IsAt view.desks n desk → IfSome desk.round (λ r. is_preparing r.phase ≡ not proposed)) → (queue_at view.flow n).messages ≡ [] → IsInPhase view n (not proposed)
 in_phase view n proposed known kept running_ phase none = let d = desk_at view n known kept in phase_in view n (not proposed) d.desk d.at_desk d.desk.round refl (running_ d.desk d.at_desk) (phase d.desk d.at_desk) none
 
 -- ---- another round
-pub may_again : {S V : Type 0} (view : View S V) (n call : ℕ) (key : List ℕ) (program : List Clause) → n ≤ view.greatest → IsKept view → HasOpen call (own_part view n) → wanted_by n view.marks ≡ Some (wants call key program)
+pub may_again : {S V : Type 0} (view : View S V) (n call : ℕ) (key : List ℕ) (program : List Clause) → n ≤ view.last_proposer → IsKept view → HasOpen call (own_part view n) → wanted_by n view.marks ≡ Some (wants call key program)
     → ((desk : DeskView V) → IsAt view.desks n desk → desk.round ≡ None) → ((caller : CallerView) → IsAt view.callers n caller → closed_in caller.call ≡ None) → MayBegin view n call key program
 may_again {S} {V} view n call key program known kept has wanted idle unclosed =
     let o = open_at view n call has in

@@ -46,14 +46,14 @@ use Rattle.cas_board_steps.proofs.Exchanges.Operating.{leaves_desks}
 pub record Passes {S V : Type 0} (old mid : View S V) : Type 0 where
   pub makes : Makes 0 old mid []
   pub kept : IsKept mid
-  pub greatest : mid.greatest ≡ old.greatest
+  pub last_proposer : mid.last_proposer ≡ old.last_proposer
   pub none : (caller : CallerView) → IsAt mid.callers 0 caller → caller.call ≡ None
 
 passes_council : {S V : Type 0} (old mid new : View S V) (council : Council) → Passes old mid → new ≡ record mid { council = council } → Passes old new
 passes_council {S} {V} old mid new council passes is = subst (λ (w : View S V). Passes old w) (sym is) (record {
-  makes = record { greatest = passes.makes.greatest; made = passes.makes.made; may_add = passes.makes.may_add; owned = passes.makes.owned; others = others };
+  makes = record { last_proposer = passes.makes.last_proposer; made = passes.makes.made; may_add = passes.makes.may_add; owned = passes.makes.owned; others = others };
   kept = record { places = record { desks = passes.kept.places.desks; callers = passes.kept.places.callers }; staged = passes.kept.staged; wanted = passes.kept.wanted };
-  greatest = passes.greatest;
+  last_proposer = passes.last_proposer;
   none = passes.none;
 })
   where
@@ -63,7 +63,7 @@ passes_council {S} {V} old mid new council passes is = subst (λ (w : View S V).
 
 makes_behind : {S V : Type 0} (a b c : View S V) (l : List Mark) → Makes 0 a b [] → Makes 0 b c l → Makes 0 a c l
 makes_behind a b c l first then_ = record {
-  greatest = then_.greatest ∙ first.greatest;
+  last_proposer = then_.last_proposer ∙ first.last_proposer;
   made = then_.made ∙ ap (λ (k : List Mark). k ++ l) (first.made ∙ append-nil a.marks);
   may_add = then_.may_add;
   owned = then_.owned;
@@ -79,22 +79,22 @@ passes_told key most old mid new said told passes order answers planned was ends
     record {
       does = (record { marks = d.marks; makes = makes_behind old mid new _ passes.makes d.makes; all_such = d.all_such; few = d.few; is_free = d.is_free; counts = λ enters. absurd (enters 0 0); keeps = λ not. d.keeps (λ enters. enters 0 0) ∙ planned }, held.does.1);
       kept = held.kept;
-      greatest = held.greatest ∙ passes.greatest;
+      last_proposer = held.last_proposer ∙ passes.last_proposer;
     }
 
 -- ---- a desk changes, and its round stays open or not
-passes_desk : {S V : Type 0} (old mid : View S V) (p : ℕ) (desk now : DeskView V) → IsAt old.desks p desk → is_some now.round ≡ is_some desk.round → mid.greatest ≡ old.greatest → mid.desks ≡ slice_set old.desks p now → mid.callers ≡ old.callers → mid.marks ≡ old.marks
+passes_desk : {S V : Type 0} (old mid : View S V) (p : ℕ) (desk now : DeskView V) → IsAt old.desks p desk → is_some now.round ≡ is_some desk.round → mid.last_proposer ≡ old.last_proposer → mid.desks ≡ slice_set old.desks p now → mid.callers ≡ old.callers → mid.marks ≡ old.marks
     → IsKept old → ((caller : CallerView) → IsAt old.callers 0 caller → caller.call ≡ None) → Passes old mid
-passes_desk {S} {V} old mid p desk now at same greatest desks callers made kept none = record {
-  makes = record { greatest = greatest; made = made ∙ sym (append-nil old.marks); may_add = tt; owned = All-nil (λ i. (m : ℕ) → owner_of i ≡ Some m → m ≡ 0); others = others };
+passes_desk {S} {V} old mid p desk now at same last_proposer desks callers made kept none = record {
+  makes = record { last_proposer = last_proposer; made = made ∙ sym (append-nil old.marks); may_add = tt; owned = All-nil (λ i. (m : ℕ) → owner_of i ≡ Some m → m ≡ 0); others = others };
   kept = record {
-    places = record { desks = ap (λ (l : List (DeskView V)). length l) desks ∙ length-set old.desks p now ∙ kept.places.desks ∙ ap suc (sym greatest); callers = ap (λ (l : List CallerView). length l) callers ∙ kept.places.callers ∙ ap suc (sym greatest) };
+    places = record { desks = ap (λ (l : List (DeskView V)). length l) desks ∙ length-set old.desks p now ∙ kept.places.desks ∙ ap suc (sym last_proposer); callers = ap (λ (l : List CallerView). length l) callers ∙ kept.places.callers ∙ ap suc (sym last_proposer) };
     staged = λ id one caller call at_desk at_caller is_call.
         let d = was_desk old.desks mid.desks id one (ap (λ (l : List (DeskView V)). has_round (slice_get l id)) desks ∙ round_set old.desks p now desk at same id) at_desk in
         staged_same one d.was call d.same (kept.staged id d.was caller call d.at_was (subst (λ (l : List CallerView). IsAt l id caller) callers at_caller) is_call);
     wanted = λ id caller call at_caller is_call. ap (wanted_by id) made ∙ kept.wanted id caller call (subst (λ (l : List CallerView). IsAt l id caller) callers at_caller) is_call;
   };
-  greatest = greatest;
+  last_proposer = last_proposer;
   none = λ caller here. none caller (subst (λ (l : List CallerView). IsAt l 0 caller) callers here);
 }
   where
@@ -121,16 +121,16 @@ running_unmet desk call round is (is_met none met unproposed unclosed) = absurd 
 running_unmet desk call round is (is_closed none closed unmet) = unmet
 
 passes_closed : {S V : Type 0} (old mid : View S V) (p : ℕ) (told : Answer) (why : Cause) (desk now : DeskView V) (round : Round) (of_call : OpenCallAt old p) → is_conflict told ≡ false → is_done told ≡ false → IsAt old.desks p desk → desk.round ≡ Some round → now.round ≡ None
-    → mid.greatest ≡ old.greatest → mid.desks ≡ slice_set old.desks p now → mid.callers ≡ slice_set old.callers p (record of_call.caller { call = Some (closed_by told why of_call.call) }) → mid.marks ≡ old.marks
+    → mid.last_proposer ≡ old.last_proposer → mid.desks ≡ slice_set old.desks p now → mid.callers ≡ slice_set old.callers p (record of_call.caller { call = Some (closed_by told why of_call.call) }) → mid.marks ≡ old.marks
     → IsKept old → ((caller : CallerView) → IsAt old.callers 0 caller → caller.call ≡ None) → Passes old mid
-passes_closed {S} {V} old mid p told why desk now round of_call no_conflict undone at is_round idle greatest desks callers made kept none = record {
-  makes = record { greatest = greatest; made = made ∙ sym (append-nil old.marks); may_add = tt; owned = All-nil (λ i. (m : ℕ) → owner_of i ≡ Some m → m ≡ 0); others = others };
+passes_closed {S} {V} old mid p told why desk now round of_call no_conflict undone at is_round idle last_proposer desks callers made kept none = record {
+  makes = record { last_proposer = last_proposer; made = made ∙ sym (append-nil old.marks); may_add = tt; owned = All-nil (λ i. (m : ℕ) → owner_of i ≡ Some m → m ≡ 0); others = others };
   kept = record {
-    places = record { desks = ap (λ (l : List (DeskView V)). length l) desks ∙ length-set old.desks p now ∙ kept.places.desks ∙ ap suc (sym greatest); callers = ap (λ (l : List CallerView). length l) callers ∙ length-set old.callers p next ∙ kept.places.callers ∙ ap suc (sym greatest) };
+    places = record { desks = ap (λ (l : List (DeskView V)). length l) desks ∙ length-set old.desks p now ∙ kept.places.desks ∙ ap suc (sym last_proposer); callers = ap (λ (l : List CallerView). length l) callers ∙ length-set old.callers p next ∙ kept.places.callers ∙ ap suc (sym last_proposer) };
     staged = staged;
     wanted = wanted;
   };
-  greatest = greatest;
+  last_proposer = last_proposer;
   none = λ caller here. none caller (sym (sparing.others 0 not_operator) ∙ here);
 }
   where
@@ -193,23 +193,23 @@ passes_closed {S} {V} old mid p told why desk now round of_call no_conflict undo
 pub leaves_round : {S V : Type 0} {T : DeskView V → DeskView V → Type 0} (old mid : View S V) (p : ℕ) (told : Answer) (why : Cause) → is_conflict told ≡ false → is_done told ≡ false → ((desk now : DeskView V) → T desk now → now.round ≡ None) → LeavesRound T (closed_by told why) old p mid
     → IsKept old → ((caller : CallerView) → IsAt old.callers 0 caller → caller.call ≡ None) → Passes old mid × (mid.council ≡ old.council)
 leaves_round {S} {V} {T} old mid p told why unmet undone ends (stops.idle desk now at none_open turns is) kept none = (
-  passes_desk old mid p desk now at (ap (λ (o : Option Round). is_some o) (ends desk now turns ∙ sym none_open)) (ap (λ (w : View S V). w.greatest) is) (ap (λ (w : View S V). w.desks) is) (ap (λ (w : View S V). w.callers) is) (ap (λ (w : View S V). w.marks) is) kept none,
+  passes_desk old mid p desk now at (ap (λ (o : Option Round). is_some o) (ends desk now turns ∙ sym none_open)) (ap (λ (w : View S V). w.last_proposer) is) (ap (λ (w : View S V). w.desks) is) (ap (λ (w : View S V). w.callers) is) (ap (λ (w : View S V). w.marks) is) kept none,
   ap (λ (w : View S V). w.council) is,
 )
 leaves_round {S} {V} {T} old mid p told why unmet undone ends (stops.closes desk now round of_call at is_round turns is) kept none = (
-  passes_closed old mid p told why desk now round of_call unmet undone at is_round (ends desk now turns) (ap (λ (w : View S V). w.greatest) is) (ap (λ (w : View S V). w.desks) is) (ap (λ (w : View S V). w.callers) is) (ap (λ (w : View S V). w.marks) is) kept none,
+  passes_closed old mid p told why desk now round of_call unmet undone at is_round (ends desk now turns) (ap (λ (w : View S V). w.last_proposer) is) (ap (λ (w : View S V). w.desks) is) (ap (λ (w : View S V). w.callers) is) (ap (λ (w : View S V). w.marks) is) kept none,
   ap (λ (w : View S V). w.council) is,
 )
 
 -- nothing happens, or an exchange that none is of is broken off
 passes_none : {S V : Type 0} (view : View S V) → IsKept view → ((caller : CallerView) → IsAt view.callers 0 caller → caller.call ≡ None) → Passes view view
-passes_none view kept none = record { makes = record { greatest = refl; made = sym (append-nil view.marks); may_add = tt; owned = All-nil (λ i. (m : ℕ) → owner_of i ≡ Some m → m ≡ 0); others = λ m other. refl }; kept = kept; greatest = refl; none = none }
+passes_none view kept none = record { makes = record { last_proposer = refl; made = sym (append-nil view.marks); may_add = tt; owned = All-nil (λ i. (m : ℕ) → owner_of i ≡ Some m → m ≡ 0); others = λ m other. refl }; kept = kept; last_proposer = refl; none = none }
 
 passes_broken : {S V : Type 0} (old inner middle : View S V) → Passes old inner → middle ≡ stops.broken_off_view inner → Passes old middle
 passes_broken {S} {V} old inner middle passes is = subst (λ (w : View S V). Passes old w) (sym is) (record {
-  makes = record { greatest = passes.makes.greatest; made = passes.makes.made; may_add = passes.makes.may_add; owned = passes.makes.owned; others = others };
+  makes = record { last_proposer = passes.makes.last_proposer; made = passes.makes.made; may_add = passes.makes.may_add; owned = passes.makes.owned; others = others };
   kept = record { places = record { desks = passes.kept.places.desks; callers = passes.kept.places.callers }; staged = passes.kept.staged; wanted = passes.kept.wanted };
-  greatest = passes.greatest;
+  last_proposer = passes.last_proposer;
   none = passes.none;
 })
   where
@@ -250,7 +250,7 @@ renew_held {S} {V} m key proposer most old new has kept by ok = by_case by.renew
             by_next by.at.collection by.is_due (step_after by.at.collection.course.proposers by.at.collection.course.step) refl (has_step new key (step_after by.at.collection.course.proposers by.at.collection.course.step) (record { no_call = passes.none; at = at; none_asked = ap (λ (w : View S V). w.council.exchange) is ∙ ap (λ (c : Council). c.exchange) l.1 ∙ was.none_asked })),
           );
           kept = passes.kept;
-          greatest = passes.greatest;
+          last_proposer = passes.last_proposer;
         }
     by_case (collect.is_down down is) = told_not (op.ProposerDown proposer) old.council refl (ap (λ (w : View S V). w.council.order) is)
     by_case (collect.fails middle (stops.of_client not leaves) is) =
@@ -283,7 +283,7 @@ renew_told {S} {V} m key proposer most old mid new told has kept by said ends = 
         passes_told key most old mid new (op.ProposerDown proposer) told (passes_council old middle mid _ (passes_broken old inner middle l.0 broken) is) (ap (λ (w : View S V). w.council.order) is ∙ order_of (op.ProposerDown proposer) middle.council (ap (λ (w : View S V). w.council.order) broken ∙ ap (λ (c : Council). c.order) l.1)) tt (ap (λ (w : View S V). rescanned_of w.council.plan) is ∙ ap (λ (w : View S V). rescanned_of w.council.plan) broken ∙ ap (λ (c : Council). rescanned_of c.plan) l.1) said ends
     by_case (collect.is_spent up spent is) = passes_told key most old mid new (op.Stopped answer.Spent) told (passes_council old old mid _ (passes_none old kept was.no_call) is) (ap (λ (w : View S V). w.council.order) is ∙ order_of (op.Stopped answer.Spent) old.council refl) tt (ap (λ (w : View S V). rescanned_of w.council.plan) is) said ends
     by_case (collect.no_memory now up finds is) =
-        passes_told key most old mid new (op.Stopped (answer.NoMemory false)) told (passes_desk old mid proposer by.desk now by.at_desk (ap (λ (d : DeskView V). is_some d.round) finds.desk) (ap (λ (w : View S V). w.greatest) is) (ap (λ (w : View S V). w.desks) is) (ap (λ (w : View S V). w.callers) is) (ap (λ (w : View S V). w.marks) is) kept was.no_call)
+        passes_told key most old mid new (op.Stopped (answer.NoMemory false)) told (passes_desk old mid proposer by.desk now by.at_desk (ap (λ (d : DeskView V). is_some d.round) finds.desk) (ap (λ (w : View S V). w.last_proposer) is) (ap (λ (w : View S V). w.desks) is) (ap (λ (w : View S V). w.callers) is) (ap (λ (w : View S V). w.marks) is) kept was.no_call)
         (ap (λ (w : View S V). w.council.order) is ∙ order_of (op.Stopped (answer.NoMemory false)) old.council refl) tt (ap (λ (w : View S V). rescanned_of w.council.plan) is) said ends
 
 -- which step is due, as is read of the world

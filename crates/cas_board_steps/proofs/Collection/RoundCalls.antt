@@ -147,11 +147,11 @@ begins_burial {S} {V} m key old new was by = by_case by.begins
 
     by_refusal : (middle : View S V) → old.council.plan ≡ None → calls.RefusesCall m old 0 key middle → new ≡ told_view middle (op.Stopped (answer.NoMemory false)) → BeginsBurial m key old new
     by_refusal middle none (calls.stays told council refusal anew same) is =
-        refuses (leaves_desks old (told_view middle (op.Stopped (answer.NoMemory false))) new [] is (ap (λ (w : View S V). w.greatest) same) (ap (λ (w : View S V). w.desks) same) (ap (λ (w : View S V). w.callers) same) (ap (λ (w : View S V). w.marks) same ∙ sym (append-nil old.marks)))
+        refuses (leaves_desks old (told_view middle (op.Stopped (answer.NoMemory false))) new [] is (ap (λ (w : View S V). w.last_proposer) same) (ap (λ (w : View S V). w.desks) same) (ap (λ (w : View S V). w.callers) same) (ap (λ (w : View S V). w.marks) same ∙ sym (append-nil old.marks)))
         (op.Stopped (answer.NoMemory false)) (ap (λ (w : View S V). w.council.order) is ∙ told_order (op.Stopped (answer.NoMemory false)) middle.council (ap (λ (w : View S V). w.council.order) same ∙ ap (λ (c : Council). c.order) (none_rescanned key told old.council council none anew))) tt
         (ap (λ (w : View S V). rescanned_of w.council.plan) is ∙ ap (λ (w : View S V). rescanned_of w.council.plan) same ∙ ap (λ (c : Council). rescanned_of c.plan) (none_rescanned key told old.council council none anew))
     by_refusal middle none (calls.loses caller desk now ballot council at_caller at_desk no_round up loses anew same) is =
-        refuses (leaves_others old (told_view middle (op.Stopped (answer.NoMemory false))) new now [] is (ap (λ (w : View S V). w.greatest) same) (ap (λ (w : View S V). w.desks) same) (ap (λ (w : View S V). w.callers) same) (ap (λ (w : View S V). w.marks) same ∙ sym (append-nil old.marks)))
+        refuses (leaves_others old (told_view middle (op.Stopped (answer.NoMemory false))) new now [] is (ap (λ (w : View S V). w.last_proposer) same) (ap (λ (w : View S V). w.desks) same) (ap (λ (w : View S V). w.callers) same) (ap (λ (w : View S V). w.marks) same ∙ sym (append-nil old.marks)))
         (op.Stopped (answer.NoMemory false)) (ap (λ (w : View S V). w.council.order) is ∙ told_order (op.Stopped (answer.NoMemory false)) middle.council (ap (λ (w : View S V). w.council.order) same ∙ ap (λ (c : Council). c.order) (none_rescanned key (answer.NoMemory false) old.council council none anew))) tt
         (ap (λ (w : View S V). rescanned_of w.council.plan) is ∙ ap (λ (w : View S V). rescanned_of w.council.plan) same ∙ ap (λ (c : Council). rescanned_of c.plan) (none_rescanned key (answer.NoMemory false) old.council council none anew))
 
@@ -162,7 +162,7 @@ begins_burial {S} {V} m key old new was by = by_case by.begins
     by_case (collect.no_memory middle none up unplanned refused is) = by_refusal middle unplanned refused is
     by_case (collect.begins middle none unplanned begun is) =
         let b = first_begins m 0 0 key keep_always old middle by.caller by.may.at_caller none begun in
-        begins by.caller by.may.at_caller middle b _ is (new_at key middle.council by.may.order (new_collection key (era_at old 0) old.greatest) by.may.is_for (ap (λ (c : Council). c.plan) b.acts.council ∙ unplanned) refl refl refl) (ap (λ (c : Council). c.exchange) b.acts.council ∙ was.exchange) unplanned
+        begins by.caller by.may.at_caller middle b _ is (new_at key middle.council by.may.order (new_collection key (era_at old 0) old.last_proposer) by.may.is_for (ap (λ (c : Council). c.plan) b.acts.council ∙ unplanned) refl refl refl) (ap (λ (c : Council). c.exchange) b.acts.council ∙ was.exchange) unplanned
     by_case (collect.goes_on middle call is_it open_ begun is) = absurd (cc (sym (was.no_call by.caller by.may.at_caller) ∙ open_))
 
 pub begun_held : {S V : Type 0} (m : Meaning S V) (key : List ℕ) (call most : ℕ) (old new : View S V) → option_map next_number (slice_get old.callers 0) ≡ Some call → HasOrder (asked.Collect key) (own_part old 0) → IsKept old → StepBeginCollect m (λ before after. StepBegin m before 0 key keep_always after) old key new → HasCollected new call key
@@ -197,7 +197,7 @@ begun_held {S} {V} m key call most old new next has kept by round = by_case (beg
                 let same_call : b.next ≡ open_ = some_is (ap (λ (c : CallerView). c.call) same ∙ is_open) in
                 wanted ∙ ap₂ (λ (k : List ℕ) (p : List Clause). Some (wants (suc caller.number) k p)) (sym b.key_is) (sym b.program_is) ∙ ap₂ (λ (c : CallerView) (o : CallView). Some (wants c.number o.key o.program)) same same_call;
           });
-          greatest = leads.greatest;
+          last_proposer = leads.last_proposer;
         }
 
 -- a call that was told something is that of the collection

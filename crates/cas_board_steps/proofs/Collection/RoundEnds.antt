@@ -52,7 +52,7 @@ read_held {S} {V} m key call most old new has kept by =
     let next : CallerView = record by.of_call.caller { call = None } in
     let callers : new.callers ≡ slice_set old.callers 0 next = ap (λ (w : View S V). w.callers) by.view in
     let leads : Leads old new [] = record {
-      greatest = ap (λ (w : View S V). w.greatest) by.view;
+      last_proposer = ap (λ (w : View S V). w.last_proposer) by.view;
       desks = spares_rounds 0 old.desks new.desks (spares_set 0 old.desks new.desks by.now (ap (λ (w : View S V). w.desks) by.view));
       callers = spares_set 0 old.callers new.callers next callers;
       made = ap (λ (w : View S V). w.marks) by.view ∙ sym (append-nil old.marks);
@@ -67,7 +67,7 @@ read_held {S} {V} m key call most old new has kept by =
         has_step new key step.Round (record { no_call = none; at = subst (λ (w : View S V). CollectsAt key step.Round 2 w.council) (sym by.view) at; none_asked = ap (λ (w : View S V). w.council.exchange) by.view ∙ is.none_asked }),
       );
       kept = kept_led old new [] leads only kept (none_kept new none);
-      greatest = leads.greatest;
+      last_proposer = leads.last_proposer;
     }
 
 -- by what it was told
@@ -161,5 +161,5 @@ done_held {S} {V} m key call most old mid new told has kept done counts by =
         has_step new key step.Round (record { no_call = none; at = subst (λ (w : View S V). CollectsAt key step.Round 2 w.council) (sym silent) at_now; none_asked = ap (λ (w : View S V). w.council.exchange) silent ∙ ap (λ (k : Council). k.exchange) second ∙ ap (λ (w : View S V). w.council.exchange) c.view ∙ ap (λ (k : Council). k.exchange) first_council ∙ is.none_asked }),
       );
       kept = kept_led old new all leads only kept (none_kept new none);
-      greatest = leads.greatest;
+      last_proposer = leads.last_proposer;
     }

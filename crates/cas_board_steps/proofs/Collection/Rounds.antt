@@ -119,20 +119,20 @@ module _ (n number rounds : ℕ) (told : Answer) (asks : Asked) (tells : OpAnswe
 
 -- ---- a call on the world for caller 0, whatever becomes of what the operator has under way
 pub record Leads {S V : Type 0} (old new : View S V) (made_ : List Mark) : Type 0 where
-  pub greatest : new.greatest ≡ old.greatest
+  pub last_proposer : new.last_proposer ≡ old.last_proposer
   pub desks : SparesRounds 0 old.desks new.desks
   pub callers : Spares 0 old.callers new.callers
   pub made : new.marks ≡ old.marks ++ made_
 
 pub leads_acts : {S V : Type 0} (old new : View S V) (l : List Mark) → Acts 0 old new l → Leads old new l
-leads_acts old new l acts = record { greatest = acts.greatest; desks = acts.desks; callers = acts.callers; made = acts.made }
+leads_acts old new l acts = record { last_proposer = acts.last_proposer; desks = acts.desks; callers = acts.callers; made = acts.made }
 
 pub leads_leaves : {S V : Type 0} (old new : View S V) (l : List Mark) → Leaves old new l → Leads old new l
-leads_leaves old new l leaves = record { greatest = leaves.greatest; desks = leaves.desks; callers = spares_same 0 old.callers new.callers leaves.callers; made = leaves.made }
+leads_leaves old new l leaves = record { last_proposer = leaves.last_proposer; desks = leaves.desks; callers = spares_same 0 old.callers new.callers leaves.callers; made = leaves.made }
 
 pub leads_then : {S V : Type 0} (a b c : View S V) (l more : List Mark) → Leads a b l → Leads b c more → Leads a c (l ++ more)
 leads_then a b c l more first then_ = record {
-  greatest = then_.greatest ∙ first.greatest;
+  last_proposer = then_.last_proposer ∙ first.last_proposer;
   desks = rounds_then 0 a.desks b.desks c.desks first.desks then_.desks;
   callers = spares_then 0 a.callers b.callers c.callers first.callers then_.callers;
   made = then_.made ∙ ap (λ (k : List Mark). k ++ more) first.made ∙ append_assoc a.marks l more;
@@ -140,13 +140,13 @@ leads_then a b c l more first then_ = record {
 
 -- with another council beside
 pub leads_council : {S V : Type 0} (old mid new : View S V) (l : List Mark) (council : Council) → Leads old mid l → new ≡ record mid { council = council } → Leads old new l
-leads_council {S} {V} old mid new l council leads is = subst (λ (w : View S V). Leads old w l) (sym is) (record { greatest = leads.greatest; desks = leads.desks; callers = leads.callers; made = leads.made })
+leads_council {S} {V} old mid new l council leads is = subst (λ (w : View S V). Leads old w l) (sym is) (record { last_proposer = leads.last_proposer; desks = leads.desks; callers = leads.callers; made = leads.made })
 
 leads_by : {S V : Type 0} (old new : View S V) (l : List Mark) → Leads old new l → Acts 0 (record old { council = new.council }) new l
-leads_by old new l leads = record { greatest = leads.greatest; desks = leads.desks; callers = leads.callers; council = refl; made = leads.made }
+leads_by old new l leads = record { last_proposer = leads.last_proposer; desks = leads.desks; callers = leads.callers; council = refl; made = leads.made }
 
 pub makes_led : {S V : Type 0} (old new : View S V) (l : List Mark) → Leads old new l → MayAdd l → OnlyOwnedBy owner_of 0 l → Makes 0 old new l
-makes_led {S} {V} old new l leads may only = record { greatest = leads.greatest; made = leads.made; may_add = may; owned = only; others = others }
+makes_led {S} {V} old new l leads may only = record { last_proposer = leads.last_proposer; made = leads.made; may_add = may; owned = only; others = others }
   where
     others : (m : ℕ) → m ≢ 0 → own_part new m ≡ own_part old m
     others zero other = absurd (other refl)
@@ -187,7 +187,7 @@ ends_last {S} {V} m told old new by =
     let callers : new.callers ≡ slice_set old.callers 0 next = ap (λ (w : View S V). w.callers) by.ends.view in
     record {
       leads = record {
-        greatest = ap (λ (w : View S V). w.greatest) by.ends.view;
+        last_proposer = ap (λ (w : View S V). w.last_proposer) by.ends.view;
         desks = spares_rounds 0 old.desks new.desks (spares_set 0 old.desks new.desks by.ends.now (ap (λ (w : View S V). w.desks) by.ends.view));
         callers = spares_set 0 old.callers new.callers next callers;
         made = ap (λ (w : View S V). w.marks) by.ends.view;
@@ -261,7 +261,7 @@ stops_held {S} {V} such m key call most old mid new told weaker not_entering las
         tt,
       );
       kept = kept_led old new all leads only kept (none_kept new none);
-      greatest = leads.greatest;
+      last_proposer = leads.last_proposer;
     }
 
 -- ---- a step of its open call
@@ -307,5 +307,5 @@ burial_held {S} {V} key call most old mid new caller was council number goes is 
             ∙ ap₂ (λ (k : List ℕ) (p : List Clause). Some (wants caller.number k p)) (sym (goes.key ∙ keeping.key_is)) (sym (goes.program ∙ keeping.program_is))
             ∙ ap₂ (λ (c : CallerView) (o : CallView). Some (wants c.number o.key o.program)) same same_call;
       });
-      greatest = leads.greatest;
+      last_proposer = leads.last_proposer;
     }

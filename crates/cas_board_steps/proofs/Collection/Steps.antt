@@ -102,7 +102,7 @@ pub step_held : {S V : Type 0} (key : List ℕ) (most : ℕ) (next : CollectStep
     → rescanned_of new.council.plan ≡ rescanned_of old.council.plan → Held old new (OperatesIn (IsBurialMark key) most old new × HasStep key next (own_part new 0))
 step_held key most next old new leaves kept none at exchange planned =
     let held = silently old new leaves kept none in
-    record { does = (no_marks key most old new held.does planned, has_step new key next (record { no_call = none_then old new [] leaves none; at = at; none_asked = exchange })); kept = held.kept; greatest = held.greatest }
+    record { does = (no_marks key most old new held.does planned, has_step new key next (record { no_call = none_then old new [] leaves none; at = at; none_asked = exchange })); kept = held.kept; last_proposer = held.last_proposer }
 
 -- ---- what the operator is told
 -- what says the same of such an answer is one, too
@@ -126,10 +126,10 @@ pub record StopsSo {S V : Type 0} (old mid : View S V) (key : List ℕ) : Type 0
   pub answers : IsCollectAnswer key said
   pub planned : rescanned_of mid.council.plan ≡ rescanned_of old.council.plan
 
-pub stops_so : {S V : Type 0} (old mid changed : View S V) (key : List ℕ) (due : CollectStep) (round : ℕ) (said : OpAnswer) → CollectsAt key due round old.council → mid ≡ changed → changed.greatest ≡ old.greatest → changed.desks ≡ old.desks → changed.callers ≡ old.callers → changed.marks ≡ old.marks
+pub stops_so : {S V : Type 0} (old mid changed : View S V) (key : List ℕ) (due : CollectStep) (round : ℕ) (said : OpAnswer) → CollectsAt key due round old.council → mid ≡ changed → changed.last_proposer ≡ old.last_proposer → changed.desks ≡ old.desks → changed.callers ≡ old.callers → changed.marks ≡ old.marks
     → changed.council.order ≡ option_map (told_so said) old.council.order → rescanned_of changed.council.plan ≡ rescanned_of old.council.plan → IsCollectAnswer key said → StopsSo old mid key
-stops_so {S} {V} old mid changed key due round said at is greatest desks callers made order planned answers = record {
-  leaves = leaves_desks old changed mid [] is greatest desks callers (made ∙ sym (append-nil old.marks));
+stops_so {S} {V} old mid changed key due round said at is last_proposer desks callers made order planned answers = record {
+  leaves = leaves_desks old changed mid [] is last_proposer desks callers (made ∙ sym (append-nil old.marks));
   said = said;
   order = ap (λ (w : View S V). w.council.order) is ∙ order ∙ ap (option_map (told_so said)) at.order;
   answers = answers;
@@ -141,7 +141,7 @@ pub stopped_held : {S V : Type 0} (key : List ℕ) (most : ℕ) (old mid new : V
 stopped_held key most old mid new told stops said ends kept none =
     let held = tells_in (IsBurialMark key) most old mid new (asked.Collect key) told (told_so stops.said (new_order (asked.Collect key))) stops.leaves stops.order refl ends kept none (λ enters. absurd (enters 0 0))
     (λ not. lasts_told mid new (asked.Collect key) told (told_so stops.said (new_order (asked.Collect key))) stops.order refl (λ era rescanned is. is) ends ∙ stops.planned) in
-    record { does = (held.does, answers_same key stops.said told stops.answers (says_same mid (new_order (asked.Collect key)) stops.said told stops.order said)); kept = held.kept; greatest = held.greatest }
+    record { does = (held.does, answers_same key stops.said told stops.answers (says_same mid (new_order (asked.Collect key)) stops.said told stops.order said)); kept = held.kept; last_proposer = held.last_proposer }
 
 -- ---- the round
 pub no_call_at : {S V : Type 0} (view : View S V) → IsKept view → ((caller : CallerView) → IsAt view.callers 0 caller → caller.call ≡ None) → HasNoCall view 0
@@ -251,7 +251,7 @@ ask_held {S} {V} m key due most old new has kept by some = by_case (asks_or_not 
     by_case : AsksOrStops key due old new → Held old new (OperatesIn (IsBurialMark key) most old new × HasQuestion key due (own_part new 0))
     by_case (asks leaves at exchange is_open of_it) =
         let held = silently old new leaves kept was.no_call in
-        record { does = (no_marks key most old new held.does (none_counted was.at at), has_question new key due (record { no_call = none_then old new [] leaves was.no_call; at = at; exchange = exchange; is_open = is_open; of_it = of_it })); kept = held.kept; greatest = held.greatest }
+        record { does = (no_marks key most old new held.does (none_counted was.at at), has_question new key due (record { no_call = none_then old new [] leaves was.no_call; at = at; exchange = exchange; is_open = is_open; of_it = of_it })); kept = held.kept; last_proposer = held.last_proposer }
     by_case (stops_asking so none) = absurd (cc (subst (λ (o : Option ExchangeView). IsSome o) none some))
 
 pub ask_told : {S V : Type 0} (m : Meaning S V) (key : List ℕ) (due : CollectStep) (most : ℕ) (old mid new : View S V) (told : OpAnswer) → HasStep key due (own_part old 0) → IsKept old → StepAskCollect m old mid → WasToldOrder mid told → StepTell mid told new
@@ -303,7 +303,7 @@ turn_held {S} {V} m key due v old new has kept step_ =
         subst (HasQuestion key due) (sym (own_kept (harm_by v) old new by.at.exchange by.at.is_open turns was.no_call (collecting_harms by.at.exchange.question (ap (λ (x : ExchangeView). is_of_collection x.question) (some_is (sym by.at.is_open ∙ was.is_open)) ∙ was.of_it)))) has,
       );
       kept = held.kept;
-      greatest = held.greatest;
+      last_proposer = held.last_proposer;
     }
 
 pub turn_may_tell : {S V : Type 0} (m : Meaning S V) (key : List ℕ) (due : CollectStep) (old mid : View S V) → HasQuestion key due (own_part old 0) → Step m old (refusal_of old 0) mid → WasToldOrder mid (op.Stopped (answer.NoMemory false))
@@ -320,7 +320,7 @@ turn_told {S} {V} m key due most old mid new told is has kept step_ ends =
     let refuses = refuses_asking m old mid (new_order (asked.Collect key)) was.at.order by in
     let held = tells_in (IsBurialMark key) most old mid new (asked.Collect key) told (told_so (op.Stopped (answer.NoMemory false)) (new_order (asked.Collect key))) refuses.0 refuses.1 refl ends kept was.no_call (λ enters. absurd (enters 0 0))
     (λ not. lasts_told mid new (asked.Collect key) told (told_so (op.Stopped (answer.NoMemory false)) (new_order (asked.Collect key))) refuses.1 refl (λ era rescanned is. is) ends ∙ refusal_planned m old mid by) in
-    record { does = (held.does, subst (IsCollectAnswer key) (sym is) tt); kept = held.kept; greatest = held.greatest }
+    record { does = (held.does, subst (IsCollectAnswer key) (sym is) tt); kept = held.kept; last_proposer = held.last_proposer }
 
 -- ---- what they told
 pub may_gather : {S V : Type 0} (view : View S V) (key : List ℕ) (due : CollectStep) → HasQuestion key due (own_part view 0) → (queue_at view.flow exchange_place).messages ≡ [] → MayGather view
@@ -374,7 +374,7 @@ floor_held {S} {V} key most old new has kept by =
         has_step new key step.Remove (record { no_call = none; at = at; none_asked = ap (λ (w : View S V). w.council.exchange) by.view ∙ was.none_asked }),
       );
       kept = kept_then old new made leaves only kept none;
-      greatest = leaves.greatest;
+      last_proposer = leaves.last_proposer;
     }
 
 -- ---- the end
@@ -404,7 +404,7 @@ collected_told {S} {V} m key most old mid new result told is has kept by ok ends
 
     by_case : GoesOrStops key step.End old mid → Held old new (IsToldIn (asked.Collect key) (IsBurialMark key) most old new told × IsCollectAnswer key told)
     by_case (goes leaves at exchange planned) = let held = tells_in (IsBurialMark key) most old mid new (asked.Collect key) told (new_order (asked.Collect key)) leaves at.order refl ends kept was.no_call (λ enters. absurd (enters 0 0))
-        (λ not. lasts_told mid new (asked.Collect key) told (new_order (asked.Collect key)) at.order refl (λ era rescanned is. is) ends ∙ planned) in record { does = (held.does, is); kept = held.kept; greatest = held.greatest }
+        (λ not. lasts_told mid new (asked.Collect key) told (new_order (asked.Collect key)) at.order refl (λ era rescanned is. is) ends ∙ planned) in record { does = (held.does, is); kept = held.kept; last_proposer = held.last_proposer }
     by_case (stops so) = absurd (cc (ap (option_map (λ (o : OrderView). o.told)) (sym (gathered_now key step.Remove old mid result was ok) ∙ so.order)))
 
 -- what is read of it then

@@ -128,8 +128,8 @@ listed_same plan listing = by_end (listing.complete && (length listing.keys == 0
     by_end true = refl
     by_end false = refl
 
-pub after_same : (greatest : ℕ) (plan : PlanView) (next : Era) → (plan_after greatest plan next).rescanned ≡ plan.rescanned
-after_same greatest plan next = by_last (plan.entered == greatest)
+pub after_same : (last_proposer : ℕ) (plan : PlanView) (next : Era) → (plan_after last_proposer plan next).rescanned ≡ plan.rescanned
+after_same last_proposer plan next = by_last (plan.entered == last_proposer)
   where
     by_last : (b : Bool) → (if b then record plan { progress = record { era = next; left = rest_of plan.progress.left }; entered = 0; listing = None } else record plan { entered = suc plan.entered }).rescanned ≡ plan.rescanned
     by_last true = refl

@@ -206,7 +206,7 @@ open_held m old new asked has kept by up =
     let was = is_ordered old asked has in
     let opens = opens_or_tells m old new asked was by in
     let deed = quiet_deed old new opens.leaves kept was.no_call in
-    record { does = (deed.makes, has_plan new asked (under_way new asked deed.none opens.unasked up), opens.planned); kept = deed.kept; greatest = deed.greatest }
+    record { does = (deed.makes, has_plan new asked (under_way new asked deed.none opens.unasked up), opens.planned); kept = deed.kept; last_proposer = deed.last_proposer }
 
 pub open_told : {S V : Type 0} (m : Meaning S V) (old mid new : View S V) (asked : Asked) (told : OpAnswer) → HasOrder asked (own_part old 0) → IsKept old → StepOpenPlan m old mid → WasToldOrder mid told → StepTell mid told new
     → Held old new (IsToldIn asked IsPlanMark 0 old new told × IsMembersAnswer asked told)
@@ -216,7 +216,7 @@ open_told m old mid new asked told has kept by said ends =
     let tells = opens.tells told said in
     let held = tells_in IsPlanMark 0 old mid new asked told tells.0 opens.leaves tells.1 tells.2 ends kept was.no_call
     (λ enters. told_counts asked told tells.0 mid new tells.1 tells.2 ends old tells.3.1 (counts_still old mid [] opens.leaves.made refl opens.planned)) (λ not. absurd (not (λ p e. tt))) in
-    record { does = (held.does, tells.3.0); kept = held.kept; greatest = held.greatest }
+    record { does = (held.does, tells.3.0); kept = held.kept; last_proposer = held.last_proposer }
 
 -- ---- a proposer enters the next era
 only_entered : (proposer number : ℕ) → OnlyOwnedBy owner_of 0 (EraEntered proposer number ∷ [])
@@ -241,9 +241,9 @@ record EntersOrTells {S V : Type 0} (old new : View S V) (asked : Asked) : Type 
 
 closes_deed : {S V : Type 0} (old new : View S V) → ClosesRound old new → Deed old new []
 closes_deed {S} {V} old new closes = record {
-  makes = record { greatest = closes.greatest; made = closes.marks ∙ sym (append-nil old.marks); may_add = tt; owned = All-nil (λ i. (m : ℕ) → owner_of i ≡ Some m → m ≡ 0); others = others };
+  makes = record { last_proposer = closes.last_proposer; made = closes.marks ∙ sym (append-nil old.marks); may_add = tt; owned = All-nil (λ i. (m : ℕ) → owner_of i ≡ Some m → m ≡ 0); others = others };
   kept = closes.kept;
-  greatest = closes.greatest;
+  last_proposer = closes.last_proposer;
   none = closes.none;
 }
   where
@@ -252,9 +252,9 @@ closes_deed {S} {V} old new closes = record {
     others (suc m) other = closes.parts (suc m)
 
 -- a deed, and then something that leaves all but what the operator has under way
-deed_told : {S V : Type 0} (old middle changed new : View S V) → Deed old middle [] → new ≡ changed → changed.greatest ≡ middle.greatest → changed.desks ≡ middle.desks → changed.callers ≡ middle.callers → changed.marks ≡ middle.marks → Deed old new []
-deed_told old middle changed new deed is greatest desks callers marks =
-    deed_then old middle new [] [] deed (quiet_deed middle new (leaves_desks middle changed new [] is greatest desks callers (marks ∙ sym (append-nil middle.marks))) deed.kept deed.none) tt
+deed_told : {S V : Type 0} (old middle changed new : View S V) → Deed old middle [] → new ≡ changed → changed.last_proposer ≡ middle.last_proposer → changed.desks ≡ middle.desks → changed.callers ≡ middle.callers → changed.marks ≡ middle.marks → Deed old new []
+deed_told old middle changed new deed is last_proposer desks callers marks =
+    deed_then old middle new [] [] deed (quiet_deed middle new (leaves_desks middle changed new [] is last_proposer desks callers (marks ∙ sym (append-nil middle.marks))) deed.kept deed.none) tt
 
 tells_nothing : {S V : Type 0} (old middle new : View S V) (asked : Asked) (said : OpAnswer) → Deed old middle [] → middle.council.order ≡ Some (new_order asked) → middle.council.exchange ≡ None → new ≡ council.told_view middle said → ((told : OpAnswer) → SaysTheSame said told → IsMidway asked told) → rescanned_of middle.council.plan ≡ rescanned_of old.council.plan → EntersOrTells old new asked
 tells_nothing {S} {V} old middle new asked said deed order unasked is answers planned =
@@ -275,18 +275,18 @@ tells_nothing {S} {V} old middle new asked said deed order unasked is answers pl
 -- the vault of a proposer alone changes
 vault_deed : {S V : Type 0} (old new : View S V) (id : ℕ) (desk now : DeskView V) → IsAt old.desks id desk → now.round ≡ desk.round → new ≡ with_desk old id now → IsKept old → ((caller : CallerView) → IsAt old.callers 0 caller → caller.call ≡ None) → Deed old new []
 vault_deed {S} {V} old new id desk now at same is kept none =
-    let acts : Acts id old new [] = record { greatest = ap (λ (w : View S V). w.greatest) is; desks = desks_set id old new now (ap (λ (w : View S V). w.desks) is); callers = spares_same id old.callers new.callers (ap (λ (w : View S V). w.callers) is); council = ap (λ (w : View S V). w.council) is; made = ap (λ (w : View S V). w.marks) is ∙ sym (append-nil old.marks) } in
+    let acts : Acts id old new [] = record { last_proposer = ap (λ (w : View S V). w.last_proposer) is; desks = desks_set id old new now (ap (λ (w : View S V). w.desks) is); callers = spares_same id old.callers new.callers (ap (λ (w : View S V). w.callers) is); council = ap (λ (w : View S V). w.council) is; made = ap (λ (w : View S V). w.marks) is ∙ sym (append-nil old.marks) } in
     let callers : new.callers ≡ old.callers = ap (λ (w : View S V). w.callers) is in
     let at_now : IsAt new.desks id now = subst (λ (w : View S V). IsAt w.desks id now) (sym is) (at_set old.desks id desk now at) in
     record {
-      makes = record { greatest = acts.greatest; made = acts.made; may_add = tt; owned = All-nil (λ i. (m : ℕ) → owner_of i ≡ Some m → m ≡ 0); others = λ k other. marked_others old new callers k other };
+      makes = record { last_proposer = acts.last_proposer; made = acts.made; may_add = tt; owned = All-nil (λ i. (m : ℕ) → owner_of i ≡ Some m → m ≡ 0); others = λ k other. marked_others old new callers k other };
       kept = kept_by id old new [] acts (All-nil (λ i. (m : ℕ) → owner_of i ≡ Some m → m ≡ id)) kept (record {
         staged = λ one caller call at_desk at_caller is_call.
             staged_same one desk call (ap (λ (d : DeskView V). is_some d.round) (sym (at_one new.desks id at_now at_desk)) ∙ ap (λ (o : Option Round). is_some o) same)
             (kept.staged id desk caller call at (subst (λ (l : List CallerView). IsAt l id caller) callers at_caller) is_call);
         wanted = λ caller call at_caller is_call. ap (wanted_by id) (ap (λ (w : View S V). w.marks) is) ∙ kept.wanted id caller call (subst (λ (l : List CallerView). IsAt l id caller) callers at_caller) is_call;
       });
-      greatest = acts.greatest;
+      last_proposer = acts.last_proposer;
       none = λ caller at_caller. none caller (subst (λ (l : List CallerView). IsAt l 0 caller) callers at_caller);
     }
 
@@ -336,9 +336,9 @@ enters_or_tells {S} {V} m old new asked proposer was kept by = by_case by.enters
         let made : new.marks ≡ middle.marks ++ marked = ap (λ (w : View S V). w.marks) is in
         let order_now : new.council.order ≡ Some (silent_order (new_order asked)) = ap (λ (w : View S V). w.council.order) is ∙ ap (λ (k : Council). option_map silent_order k.order) closes.council ∙ ap (option_map silent_order) was.order in
         let marks_deed : Deed middle new marked = record {
-          makes = record { greatest = ap (λ (w : View S V). w.greatest) is; made = made; may_add = (tt, tt); owned = only_entered by.plan.entered by.next.number; others = λ k other. marked_others middle new (ap (λ (w : View S V). w.callers) is) k other };
-          kept = kept_marked middle new marked (ap (λ (w : View S V). w.greatest) is) (ap (λ (w : View S V). w.desks) is) (ap (λ (w : View S V). w.callers) is) made (λ n before. refl) deed.kept;
-          greatest = ap (λ (w : View S V). w.greatest) is;
+          makes = record { last_proposer = ap (λ (w : View S V). w.last_proposer) is; made = made; may_add = (tt, tt); owned = only_entered by.plan.entered by.next.number; others = λ k other. marked_others middle new (ap (λ (w : View S V). w.callers) is) k other };
+          kept = kept_marked middle new marked (ap (λ (w : View S V). w.last_proposer) is) (ap (λ (w : View S V). w.desks) is) (ap (λ (w : View S V). w.callers) is) made (λ n before. refl) deed.kept;
+          last_proposer = ap (λ (w : View S V). w.last_proposer) is;
           none = λ caller at. deed.none caller (subst (λ (w : View S V). IsAt w.callers 0 caller) is at);
         } in
         record {
@@ -351,7 +351,7 @@ enters_or_tells {S} {V} m old new asked proposer was kept by = by_case by.enters
           asks = λ one is_one. ap (λ (o : OrderView). o.asked) (some_is (sym is_one ∙ order_now));
           tells = λ told said. absurd (cc (sym (ap (λ (o : OrderView). o.told) (some_is (sym said.is_open ∙ order_now))) ∙ said.was_said));
           none_done = refl;
-          planned = ap (λ (w : View S V). rescanned_of w.council.plan) is ∙ after_same middle.greatest by.plan by.next ∙ sym (ap rescanned_of by.may.is_plan);
+          planned = ap (λ (w : View S V). rescanned_of w.council.plan) is ∙ after_same middle.last_proposer by.plan by.next ∙ sym (ap rescanned_of by.may.is_plan);
         }
 
 pub enter_held : {S V : Type 0} (m : Meaning S V) (old new : View S V) (asked : Asked) (proposer : ℕ) → HasPlan asked (own_part old 0) → IsKept old → StepEnterEra m old proposer new → IsUnderWay new asked → Held old new (OperatesIn IsPlanMark 0 old new × HasPlan asked (own_part new 0))
@@ -360,7 +360,7 @@ enter_held m old new asked proposer has kept by up =
     record {
       does = (record { marks = enters.marks; makes = enters.deed.makes; all_such = enters.such; few = (let none = enters.none_lost in omega (arith, none)); counts = λ eras. counts_still old new enters.marks enters.deed.makes.made enters.none_done enters.planned; keeps = λ not. absurd (not (λ p e. tt)) }, has_plan new asked (under_way new asked enters.deed.none enters.unasked up));
       kept = enters.deed.kept;
-      greatest = enters.deed.greatest;
+      last_proposer = enters.deed.last_proposer;
     }
 
 pub enter_told : {S V : Type 0} (m : Meaning S V) (old mid new : View S V) (asked : Asked) (proposer : ℕ) (told : OpAnswer) → HasPlan asked (own_part old 0) → IsKept old → StepEnterEra m old proposer mid → WasToldOrder mid told → StepTell mid told new
@@ -369,7 +369,7 @@ enter_told m old mid new asked proposer told has kept by said ends =
     let enters = enters_or_tells m old mid asked proposer (is_changing old asked has) kept by in
     let held = tells_after IsPlanMark 0 old mid new enters.marks asked told said.order enters.deed (enters.such) (let none = enters.none_lost in omega (arith, none)) (enters.may_tell told) said.is_open (enters.asks said.order said.is_open) ends
     (λ eras. told_counts asked told said.order mid new said.is_open (enters.asks said.order said.is_open) ends old (enters.tells told said).1 (counts_still old mid enters.marks enters.deed.makes.made enters.none_done enters.planned)) (λ not. absurd (not (λ p e. tt))) in
-    record { does = (held.does, (enters.tells told said).0); kept = held.kept; greatest = held.greatest }
+    record { does = (held.does, (enters.tells told said).0); kept = held.kept; last_proposer = held.last_proposer }
 
 -- it was at its end already
 pub finishes : {S V : Type 0} (old new : View S V) (asked : Asked) (told : OpAnswer) → HasPlan asked (own_part old 0) → IsKept old → StepTell old told new → HasFinished old told → Held old new (IsToldIn asked IsPlanMark 0 old new told)
@@ -448,7 +448,7 @@ list_held m old new asked has kept by some =
     let was = is_changing old asked has in
     let lists = lists_or_tells m old new asked _ was by in
     let deed = quiet_deed old new lists.leaves kept was.no_call in
-    record { does = (deed.makes, has_listing new asked (lists.opens some deed.none), lists.planned); kept = deed.kept; greatest = deed.greatest }
+    record { does = (deed.makes, has_listing new asked (lists.opens some deed.none), lists.planned); kept = deed.kept; last_proposer = deed.last_proposer }
 
 pub list_told : {S V : Type 0} (m : Meaning S V) (old mid new : View S V) (asked : Asked) (told : OpAnswer) → HasPlan asked (own_part old 0) → IsKept old → StepAskAll m old (question_in old query.List) mid → WasToldOrder mid told → StepTell mid told new
     → Held old new (IsToldIn asked IsPlanMark 0 old new told × IsMembersAnswer asked told)
@@ -457,7 +457,7 @@ list_told m old mid new asked told has kept by said ends =
     let lists = lists_or_tells m old mid asked _ was by in
     let held = tells_in IsPlanMark 0 old mid new asked told lists.order lists.leaves lists.is_order lists.asks ends kept was.no_call
     (λ enters. told_counts asked told lists.order mid new lists.is_order lists.asks ends old (lists.tells told said).1 (counts_still old mid [] lists.leaves.made refl lists.planned)) (λ not. absurd (not (λ p e. tt))) in
-    record { does = (held.does, (lists.tells told said).0); kept = held.kept; greatest = held.greatest }
+    record { does = (held.does, (lists.tells told said).0); kept = held.kept; last_proposer = held.last_proposer }
 
 -- ---- a turn of that
 listing_turn : {S V : Type 0} (view : View S V) (asked : Asked) (v : Verdict) → HasListing asked (own_part view 0) → turn_of view 0 v ≡ step.TurnExchange v
@@ -489,7 +489,7 @@ list_turn_held {S} {V} m old new asked v has kept step_ =
         own,
       );
       kept = held.kept;
-      greatest = held.greatest;
+      last_proposer = held.last_proposer;
     }
 
 pub list_turn_may_tell : {S V : Type 0} (m : Meaning S V) (old mid : View S V) (asked : Asked) → HasListing asked (own_part old 0) → Step m old (refusal_of old 0) mid → WasToldOrder mid (op.Stopped (answer.NoMemory false))
@@ -538,8 +538,8 @@ gathers_list {S} {V} old new asked was by = by_case by.gathers
     asks : by.at.exchange.question ≡ NextKeys was.places
     asks = ap (λ (x : ExchangeView). x.question) (some_is (sym by.at.is_open ∙ was.is_open)) ∙ was.question
 
-    leaves : (changed : View S V) → new ≡ changed → changed.greatest ≡ old.greatest → changed.desks ≡ old.desks → changed.callers ≡ old.callers → changed.marks ≡ old.marks → Leaves old new []
-    leaves changed is greatest desks callers marks = leaves_desks old changed new [] is greatest desks callers (marks ∙ sym (append-nil old.marks))
+    leaves : (changed : View S V) → new ≡ changed → changed.last_proposer ≡ old.last_proposer → changed.desks ≡ old.desks → changed.callers ≡ old.callers → changed.marks ≡ old.marks → Leaves old new []
+    leaves changed is last_proposer desks callers marks = leaves_desks old changed new [] is last_proposer desks callers (marks ∙ sym (append-nil old.marks))
 
     stopped : (why : Answer) → Leaves old new [] → new.council.order ≡ option_map (told_so (op.Stopped why)) old.council.order → rescanned_of new.council.plan ≡ rescanned_of old.council.plan → GathersList old new asked
     stopped why left order planned =
@@ -567,7 +567,7 @@ gather_list_held {S} {V} m old new asked result has kept step_ gathered_ =
     let by : StepGather old new = subst (λ (e : step.Event). Step m old e new) (gathering_list old asked has) step_ in
     let gathers = gathers_list old new asked was by in
     let deed = quiet_deed old new gathers.leaves kept was.no_call in
-    record { does = (deed.makes, has_plan new asked (on deed.none gathered_), gathers.planned); kept = deed.kept; greatest = deed.greatest }
+    record { does = (deed.makes, has_plan new asked (on deed.none gathered_), gathers.planned); kept = deed.kept; last_proposer = deed.last_proposer }
   where
     was : IsListing old asked
     was = is_listing old asked has
@@ -594,7 +594,7 @@ gather_list_told {S} {V} m most old mid new asked told has kept step_ said ends 
     let gathers = gathers_list old mid asked was by in
     let held = tells_in IsPlanMark most old mid new asked told gathers.order gathers.leaves gathers.is_order gathers.asks ends kept was.no_call
     (λ enters. told_counts asked told gathers.order mid new gathers.is_order gathers.asks ends old (gathers.tells told said).1 (counts_still old mid [] gathers.leaves.made refl gathers.planned)) (λ not. absurd (not (λ p e. tt))) in
-    record { does = (held.does, (gathers.tells told said).0); kept = held.kept; greatest = held.greatest }
+    record { does = (held.does, (gathers.tells told said).0); kept = held.kept; last_proposer = held.last_proposer }
 
 -- ---- what the world asks
 pub may_open : {S V : Type 0} (view : View S V) (asked : Asked) → HasOrder asked (own_part view 0) → (IsFor view.council.plan asked → ⊥) → MayOpenPlan view asked
@@ -632,7 +632,7 @@ enter_under_way old new asked has up = up (new_order asked) (is_changing old ask
 pub up_held : {S V : Type 0} (view : View S V) (asked : Asked) → HasOrder asked (own_part view 0) → IsKept view → IsFor view.council.plan asked → Held view view (Makes 0 view view [] × HasPlan asked (own_part view 0) × (rescanned_of view.council.plan ≡ rescanned_of view.council.plan))
 up_held view asked has kept for_it =
     let deed = quiet_deed view view (same_view view) kept (is_ordered view asked has).no_call in
-    record { does = (deed.makes, up_already view asked has for_it, refl); kept = deed.kept; greatest = deed.greatest }
+    record { does = (deed.makes, up_already view asked has for_it, refl); kept = deed.kept; last_proposer = deed.last_proposer }
 
 -- nothing is done
 pub nothing_done : {S V : Type 0} (view : View S V) (asked : Asked) → HasPlan asked (own_part view 0) → IsKept view → OperatesIn IsPlanMark 0 view view
@@ -650,7 +650,7 @@ key_may_tell {S} {V} old mid new asked told has kept by said ends =
     let midway = subst (IsMidway asked) (says_same mid (new_order asked) (op.Stopped (answer.NoMemory false)) told order_now said) (tt, tt) in
     let held = tells_in IsPlanMark 0 old mid new asked told (told_so (op.Stopped (answer.NoMemory false)) (new_order asked)) leaves order_now refl ends kept was.no_call
     (λ enters. told_counts asked told (told_so (op.Stopped (answer.NoMemory false)) (new_order asked)) mid new order_now refl ends old midway.1 (counts_still old mid [] leaves.made refl (ap (λ (w : View S V). rescanned_of w.council.plan) by.view))) (λ not. absurd (not (λ p e. tt))) in
-    record { does = (held.does, midway.0); kept = held.kept; greatest = held.greatest }
+    record { does = (held.does, midway.0); kept = held.kept; last_proposer = held.last_proposer }
 
 pub none_settled : {A : Type 0} {P : Type 0} (o : Option A) → is_some o ≡ false → IfNone o P → P
 none_settled None none p = p

@@ -255,9 +255,9 @@ stopped_order mid asked told (is_stopped did order) undone = order
 may_stop : {S V : Type 0} (such : Mark → Type 0) (most : ℕ) (old mid : View S V) (asked : Asked) (told : Answer) → EndsRescan such most old mid asked told → is_done told ≡ false → WasToldOrder mid (op.Stopped told)
 may_stop such most old mid asked told e undone = record { order = told_so (op.Stopped told) (new_order asked); is_open = stopped_order mid asked told e.becomes undone; said = op.Stopped told; was_said = refl; same = refl }
 
-stops_so : {S V : Type 0} (such : Mark → Type 0) → EntersEras such → (most : ℕ) (old mid new : View S V) (asked : Asked) (told : Answer) → EndsRescan such most old mid asked told → IsKept mid → mid.greatest ≡ old.greatest → is_done told ≡ false → StepTell mid (op.Stopped told) new → Held old new (IsToldIn asked such most old new (op.Stopped told))
-stops_so such entering most old mid new asked told e kept greatest undone ends =
-    tells_after such most old mid new e.marks asked (op.Stopped told) (told_so (op.Stopped told) (new_order asked)) (record { makes = e.makes; kept = kept; greatest = greatest; none = e.none }) e.all_such e.few (e.may_tell (op.Stopped told)) (stopped_order mid asked told e.becomes undone) refl ends
+stops_so : {S V : Type 0} (such : Mark → Type 0) → EntersEras such → (most : ℕ) (old mid new : View S V) (asked : Asked) (told : Answer) → EndsRescan such most old mid asked told → IsKept mid → mid.last_proposer ≡ old.last_proposer → is_done told ≡ false → StepTell mid (op.Stopped told) new → Held old new (IsToldIn asked such most old new (op.Stopped told))
+stops_so such entering most old mid new asked told e kept last_proposer undone ends =
+    tells_after such most old mid new e.marks asked (op.Stopped told) (told_so (op.Stopped told) (new_order asked)) (record { makes = e.makes; kept = kept; last_proposer = last_proposer; none = e.none }) e.all_such e.few (e.may_tell (op.Stopped told)) (stopped_order mid asked told e.becomes undone) refl ends
     (λ enters. told_counts asked (op.Stopped told) (told_so (op.Stopped told) (new_order asked)) mid new (stopped_order mid asked told e.becomes undone) refl ends old tt e.counts) (λ not. absurd (not entering))
 
 -- ---- by how it began
@@ -268,7 +268,7 @@ module _ {S V : Type 0} (old mid : View S V) (asked : Asked) (key : List ℕ) (t
   pub not_begun_may_stop : is_done told ≡ false → WasToldOrder mid (op.Stopped told)
   not_begun_may_stop = may_stop IsPlanMark 0 old mid asked told (begins_not old mid asked key told has due begun)
 
-  pub not_begun_stops : (new : View S V) → IsKept mid → mid.greatest ≡ old.greatest → is_done told ≡ false → StepTell mid (op.Stopped told) new → Held old new (IsToldIn asked IsPlanMark 0 old new (op.Stopped told))
+  pub not_begun_stops : (new : View S V) → IsKept mid → mid.last_proposer ≡ old.last_proposer → is_done told ≡ false → StepTell mid (op.Stopped told) new → Held old new (IsToldIn asked IsPlanMark 0 old new (op.Stopped told))
   not_begun_stops new = stops_so IsPlanMark (λ p e. tt) 0 old mid new asked told (begins_not old mid asked key told has due begun)
 
 -- ---- by how it ended
@@ -282,5 +282,5 @@ module _ {S V : Type 0} (call most : ℕ) (old mid : View S V) (asked : Asked) (
   pub ended_may_stop : is_done told ≡ false → WasToldOrder mid (op.Stopped told)
   ended_may_stop = may_stop (IsRescanMark (rounds_after (own_part old 0))) most old mid asked told (ends_within (rounds_after (own_part old 0)) (λ conflict. refl))
 
-  pub ended_stops : (tries : ℕ) → (is_conflict told ≡ true → rounds_after (own_part old 0) ≡ tries) → (new : View S V) → IsKept mid → mid.greatest ≡ old.greatest → is_done told ≡ false → StepTell mid (op.Stopped told) new → Held old new (IsToldIn asked (IsRescanMark tries) most old new (op.Stopped told))
+  pub ended_stops : (tries : ℕ) → (is_conflict told ≡ true → rounds_after (own_part old 0) ≡ tries) → (new : View S V) → IsKept mid → mid.last_proposer ≡ old.last_proposer → is_done told ≡ false → StepTell mid (op.Stopped told) new → Held old new (IsToldIn asked (IsRescanMark tries) most old new (op.Stopped told))
   ended_stops tries spent new = stops_so (IsRescanMark tries) (λ p e. tt) most old mid new asked told (ends_within tries spent)

@@ -53,32 +53,32 @@ use Rattle.cas_board_steps.proofs.Calls.Holds.{Held}
 
 -- ---- a call on the world that leaves all callers' calls
 pub record Leaves {S V : Type 0} (old new : View S V) (marks : List Mark) : Type 0 where
-  pub greatest : new.greatest ≡ old.greatest
+  pub last_proposer : new.last_proposer ≡ old.last_proposer
   pub desks : SparesRounds 0 old.desks new.desks
   pub callers : new.callers ≡ old.callers
   pub made : new.marks ≡ old.marks ++ marks
 
 pub leaves_then : {S V : Type 0} (a b c : View S V) (marks more : List Mark) → Leaves a b marks → Leaves b c more → Leaves a c (marks ++ more)
 leaves_then a b c marks more first then_ = record {
-  greatest = then_.greatest ∙ first.greatest;
+  last_proposer = then_.last_proposer ∙ first.last_proposer;
   desks = rounds_then 0 a.desks b.desks c.desks first.desks then_.desks;
   callers = then_.callers ∙ first.callers;
   made = then_.made ∙ ap (λ (l : List Mark). l ++ more) first.made ∙ append_assoc a.marks marks more;
 }
 
 -- it is this one, in which callers and desks are as before but for that of proposer 0
-pub leaves_desks : {S V : Type 0} (old changed new : View S V) (marks : List Mark) → new ≡ changed → changed.greatest ≡ old.greatest → changed.desks ≡ old.desks → changed.callers ≡ old.callers → changed.marks ≡ old.marks ++ marks → Leaves old new marks
-leaves_desks {S} {V} old changed new marks is greatest desks callers made = subst (λ (w : View S V). Leaves old w marks) (sym is) (record { greatest = greatest; desks = spares_rounds 0 old.desks changed.desks (spares_same 0 old.desks changed.desks desks); callers = callers; made = made })
+pub leaves_desks : {S V : Type 0} (old changed new : View S V) (marks : List Mark) → new ≡ changed → changed.last_proposer ≡ old.last_proposer → changed.desks ≡ old.desks → changed.callers ≡ old.callers → changed.marks ≡ old.marks ++ marks → Leaves old new marks
+leaves_desks {S} {V} old changed new marks is last_proposer desks callers made = subst (λ (w : View S V). Leaves old w marks) (sym is) (record { last_proposer = last_proposer; desks = spares_rounds 0 old.desks changed.desks (spares_same 0 old.desks changed.desks desks); callers = callers; made = made })
 
-pub leaves_others : {S V : Type 0} (old changed new : View S V) (now : DeskView V) (marks : List Mark) → new ≡ changed → changed.greatest ≡ old.greatest → changed.desks ≡ slice_set old.desks 0 now → changed.callers ≡ old.callers → changed.marks ≡ old.marks ++ marks → Leaves old new marks
-leaves_others {S} {V} old changed new now marks is greatest desks callers made = subst (λ (w : View S V). Leaves old w marks) (sym is) (record { greatest = greatest; desks = spares_rounds 0 old.desks changed.desks (spares_set 0 old.desks changed.desks now desks); callers = callers; made = made })
+pub leaves_others : {S V : Type 0} (old changed new : View S V) (now : DeskView V) (marks : List Mark) → new ≡ changed → changed.last_proposer ≡ old.last_proposer → changed.desks ≡ slice_set old.desks 0 now → changed.callers ≡ old.callers → changed.marks ≡ old.marks ++ marks → Leaves old new marks
+leaves_others {S} {V} old changed new now marks is last_proposer desks callers made = subst (λ (w : View S V). Leaves old w marks) (sym is) (record { last_proposer = last_proposer; desks = spares_rounds 0 old.desks changed.desks (spares_set 0 old.desks changed.desks now desks); callers = callers; made = made })
 
 -- all but what the operator has under way changes as by a call of caller 0
 acts_by : {S V : Type 0} (old new : View S V) (marks : List Mark) → Leaves old new marks → Acts 0 (record old { council = new.council }) new marks
-acts_by old new marks leaves = record { greatest = leaves.greatest; desks = leaves.desks; callers = spares_same 0 old.callers new.callers leaves.callers; council = refl; made = leaves.made }
+acts_by old new marks leaves = record { last_proposer = leaves.last_proposer; desks = leaves.desks; callers = spares_same 0 old.callers new.callers leaves.callers; council = refl; made = leaves.made }
 
 pub makes_by : {S V : Type 0} (old new : View S V) (marks : List Mark) → Leaves old new marks → MayAdd marks → OnlyOwnedBy owner_of 0 marks → Makes 0 old new marks
-makes_by {S} {V} old new marks leaves may only = record { greatest = leaves.greatest; made = leaves.made; may_add = may; owned = only; others = others }
+makes_by {S} {V} old new marks leaves may only = record { last_proposer = leaves.last_proposer; made = leaves.made; may_add = may; owned = only; others = others }
   where
     others : (m : ℕ) → m ≢ 0 → own_part new m ≡ own_part old m
     others zero other = absurd (other refl)
@@ -98,7 +98,7 @@ none_then old new marks leaves none caller at = none caller (subst (λ (l : List
 pub silently : {S V : Type 0} (old new : View S V) → Leaves old new [] → IsKept old → ((caller : CallerView) → IsAt old.callers 0 caller → caller.call ≡ None) → Held old new (Makes 0 old new [])
 silently old new leaves kept none =
     let fine = fine_none 0 0 0 in
-    record { does = makes_by old new [] leaves fine.may_add fine.only; kept = kept_then old new [] leaves fine.only kept (none_then old new [] leaves none); greatest = leaves.greatest }
+    record { does = makes_by old new [] leaves fine.may_add fine.only; kept = kept_then old new [] leaves fine.only kept (none_then old new [] leaves none); last_proposer = leaves.last_proposer }
 
 -- one that makes marks of an exchange
 pub record IsOfAsking (most : ℕ) (marks : List Mark) : Type 0 where
@@ -109,27 +109,27 @@ pub operates : {S V : Type 0} (most : ℕ) (old new : View S V) (marks : List Ma
 operates most old new marks leaves of kept none planned = record {
   does = record { marks = marks; makes = makes_by old new marks leaves of.fine.may_add of.fine.only; all_such = of.harms; few = of.fine.few; counts = λ enters. absurd (enters 0 0); keeps = λ not. planned };
   kept = kept_then old new marks leaves of.fine.only kept (none_then old new marks leaves none);
-  greatest = leaves.greatest;
+  last_proposer = leaves.last_proposer;
 }
 
 -- ---- what one call after another does
 pub record Deed {S V : Type 0} (old new : View S V) (marks : List Mark) : Type 0 where
   pub makes : Makes 0 old new marks
   pub kept : IsKept new
-  pub greatest : new.greatest ≡ old.greatest
+  pub last_proposer : new.last_proposer ≡ old.last_proposer
   pub none : (caller : CallerView) → IsAt new.callers 0 caller → caller.call ≡ None
 
 pub deed_of : {S V : Type 0} (old new : View S V) (marks : List Mark) → Leaves old new marks → MayAdd marks → OnlyOwnedBy owner_of 0 marks → IsKept old → ((caller : CallerView) → IsAt old.callers 0 caller → caller.call ≡ None) → Deed old new marks
 deed_of old new marks leaves may only kept none =
     let none_now = none_then old new marks leaves none in
-    record { makes = makes_by old new marks leaves may only; kept = kept_then old new marks leaves only kept none_now; greatest = leaves.greatest; none = none_now }
+    record { makes = makes_by old new marks leaves may only; kept = kept_then old new marks leaves only kept none_now; last_proposer = leaves.last_proposer; none = none_now }
 
 pub quiet_deed : {S V : Type 0} (old new : View S V) → Leaves old new [] → IsKept old → ((caller : CallerView) → IsAt old.callers 0 caller → caller.call ≡ None) → Deed old new []
 quiet_deed old new leaves kept none = let fine = fine_none 0 0 0 in deed_of old new [] leaves fine.may_add fine.only kept none
 
 pub makes_then : {S V : Type 0} (a b c : View S V) (marks more : List Mark) → Makes 0 a b marks → Makes 0 b c more → MayAdd (marks ++ more) → Makes 0 a c (marks ++ more)
 makes_then a b c marks more first then_ may = record {
-  greatest = then_.greatest ∙ first.greatest;
+  last_proposer = then_.last_proposer ∙ first.last_proposer;
   made = then_.made ∙ ap (λ (l : List Mark). l ++ more) first.made ∙ append_assoc a.marks marks more;
   may_add = may;
   owned = All-append (λ i. (m : ℕ) → owner_of i ≡ Some m → m ≡ 0) marks more first.owned then_.owned;
@@ -137,7 +137,7 @@ makes_then a b c marks more first then_ may = record {
 }
 
 pub deed_then : {S V : Type 0} (a b c : View S V) (marks more : List Mark) → Deed a b marks → Deed b c more → MayAdd (marks ++ more) → Deed a c (marks ++ more)
-deed_then a b c marks more first then_ may = record { makes = makes_then a b c marks more first.makes then_.makes may; kept = then_.kept; greatest = then_.greatest ∙ first.greatest; none = then_.none }
+deed_then a b c marks more first then_ may = record { makes = makes_then a b c marks more first.makes then_.makes may; kept = then_.kept; last_proposer = then_.last_proposer ∙ first.last_proposer; none = then_.none }
 
 -- ---- the operator is told
 told_some : (asks : Asked) (told : OpAnswer) → (told_marks asks told ≡ []) ⊎ (told_marks asks told ≡ Told asks told ∷ [])
@@ -183,9 +183,9 @@ tells_of {S} {V} old new asks told order is_order is_asked by = by_case by
     same_asked : (other : OrderView) → old.council.order ≡ Some other → other.asked ≡ asks
     same_asked other is_other = ap (λ (o : OrderView). o.asked) (some_is (sym is_other ∙ is_order)) ∙ is_asked
 
-    over : (before : View S V) (other : OrderView) → old.council.order ≡ Some other → before.greatest ≡ old.greatest → before.desks ≡ old.desks → before.callers ≡ old.callers → before.marks ≡ old.marks → new ≡ told_over before other.asked told → TellsOf old new asks told
-    over before other is_other greatest desks callers marks is = record {
-      leaves = leaves_desks old (told_over before other.asked told) new (told_marks asks told) is greatest desks callers (ap (λ (l : List Mark). l ++ told_marks other.asked told) marks ∙ ap (λ (a : Asked). old.marks ++ told_marks a told) (same_asked other is_other));
+    over : (before : View S V) (other : OrderView) → old.council.order ≡ Some other → before.last_proposer ≡ old.last_proposer → before.desks ≡ old.desks → before.callers ≡ old.callers → before.marks ≡ old.marks → new ≡ told_over before other.asked told → TellsOf old new asks told
+    over before other is_other last_proposer desks callers marks is = record {
+      leaves = leaves_desks old (told_over before other.asked told) new (told_marks asks told) is last_proposer desks callers (ap (λ (l : List Mark). l ++ told_marks other.asked told) marks ∙ ap (λ (a : Asked). old.marks ++ told_marks a told) (same_asked other is_other));
       order = ap (λ (w : View S V). w.council.order) is;
       exchange = ap (λ (w : View S V). w.council.exchange) is;
       collection = ap (λ (w : View S V). w.council.collection) is;
@@ -214,7 +214,7 @@ tells_after such most old mid new marks asks told order deed all_such few may is
         keeps = keeps;
       };
       kept = all.kept;
-      greatest = all.greatest;
+      last_proposer = all.last_proposer;
     }
 
 pub tells_in : {S V : Type 0} (such : Mark → Type 0) (most : ℕ) (old mid new : View S V) (asks : Asked) (told : OpAnswer) (order : OrderView) → Leaves old mid [] → mid.council.order ≡ Some order → order.asked ≡ asks → StepTell mid told new → IsKept old
@@ -310,11 +310,11 @@ turns_asking {S} {V} m v old new by = by_case by.turn
     same_council : old.council ≡ record old.council { exchange = Some by.at.exchange }
     same_council = ap (λ (o : Option ExchangeView). record old.council { exchange = o }) by.at.is_open
 
-    harmed : (member : ℕ) (down : Bool) (changed : View S V) → new ≡ changed → changed.greatest ≡ old.greatest → changed.desks ≡ old.desks → changed.callers ≡ old.callers → changed.council ≡ record old.council { exchange = Some (council.harmed_exchange by.at.exchange member) }
+    harmed : (member : ℕ) (down : Bool) (changed : View S V) → new ≡ changed → changed.last_proposer ≡ old.last_proposer → changed.desks ≡ old.desks → changed.callers ≡ old.callers → changed.council ≡ record old.council { exchange = Some (council.harmed_exchange by.at.exchange member) }
         → changed.marks ≡ old.marks ++ harm_marks by.at.exchange member down → losses (Harmed 0 0 down ∷ []) ≤ harm_by v → TurnsAsking (harm_by v) old new by.at.exchange
-    harmed member down changed is greatest desks callers councils made few = record {
+    harmed member down changed is last_proposer desks callers councils made few = record {
       marks = harm_marks by.at.exchange member down;
-      leaves = leaves_desks old changed new (harm_marks by.at.exchange member down) is greatest desks callers made;
+      leaves = leaves_desks old changed new (harm_marks by.at.exchange member down) is last_proposer desks callers made;
       of_asking = of_harm (harm_by v) by.at.exchange member down few;
       next = council.harmed_exchange by.at.exchange member;
       council = ap (λ (w : View S V). w.council) is ∙ councils;

@@ -74,7 +74,7 @@ order_held {S} {V} old new asked free kept by =
         }),
       );
       kept = held.kept;
-      greatest = held.greatest;
+      last_proposer = held.last_proposer;
     }
 
 -- it is refused, or no memory was found for it
@@ -153,7 +153,7 @@ ask_held {S} {V} m old new what key is has kept by_what some = elim (asks_or_not
   | inl asks ↦ let held = silently old new asks.leaves kept was.no_call in record {
     does = (held.does, has_probe new key (everyone old) (record { no_call = none_then old new [] asks.leaves was.no_call; order = asks.order; exchange = asks.exchange; is_open = asks.is_open; question = asks.question; asks = asks.everyone }), subst (λ (n : ℕ). HasHarms n (own_part new 0)) asks.harmless (has_harms new asks.exchange (none_then old new [] asks.leaves was.no_call) asks.is_open), asked_behind new asks.exchange (length old.marks) (none_then old new [] asks.leaves was.no_call) asks.is_open (omega (arith, asks.since)), asks.planned);
     kept = held.kept;
-    greatest = held.greatest;
+    last_proposer = held.last_proposer;
   }
   | inr stopped ↦ absurd (cc (subst (λ (o : Option ExchangeView). IsSome o) stopped.exchange some))
 ]
@@ -184,7 +184,7 @@ ask_told {S} {V} m old mid new what key told is has kept by_what none said ends 
       λ before. stopped_truly before new.marks stopped.why told (says_same mid (new_order (asked.Probe key)) (op.Stopped stopped.why) told stopped.order said),
     );
     kept = held.kept;
-    greatest = held.greatest;
+    last_proposer = held.last_proposer;
   }
 ]
   where
@@ -268,7 +268,7 @@ turn_held {S} {V} m old new key members v has kept step_ =
     let was = is_probed old key members has in
     let turns = turns_asking m v old new by in
     let held = operates (harm_by v) old new turns.marks turns.leaves turns.of_asking kept was.no_call (turns_planned turns) in
-    record { does = (held.does, λ them asks. probe_then (harm_by v) old new key them by.at.exchange by.at.is_open turns asks, harms_then (harm_by v) old new by.at.exchange by.at.is_open turns was.no_call, λ many asked_then. behind_then (harm_by v) old new by.at.exchange many by.at.is_open turns was.no_call asked_then); kept = held.kept; greatest = held.greatest }
+    record { does = (held.does, λ them asks. probe_then (harm_by v) old new key them by.at.exchange by.at.is_open turns asks, harms_then (harm_by v) old new by.at.exchange by.at.is_open turns was.no_call, λ many asked_then. behind_then (harm_by v) old new by.at.exchange many by.at.is_open turns was.no_call asked_then); kept = held.kept; last_proposer = held.last_proposer }
 
 pub turn_may_tell : {S V : Type 0} (m : Meaning S V) (old mid : View S V) (key members : List ℕ) → HasProbe key members (own_part old 0) → Step m old (refusal_of old 0) mid → WasToldOrder mid (op.Stopped (answer.NoMemory false))
 turn_may_tell {S} {V} m old mid key members has step_ =
@@ -378,8 +378,8 @@ gathers_probe {S} {V} m old new key members was by = by_case by.gathers
     asks : by.at.exchange.question ≡ Probe key
     asks = ap (λ (x : ExchangeView). x.question) same_exchange ∙ was.question
 
-    leaves : (changed : View S V) → new ≡ changed → changed.greatest ≡ old.greatest → changed.desks ≡ old.desks → changed.callers ≡ old.callers → changed.marks ≡ old.marks → Leaves old new []
-    leaves changed is greatest desks callers marks = leaves_desks old changed new [] is greatest desks callers (marks ∙ sym (append-nil old.marks))
+    leaves : (changed : View S V) → new ≡ changed → changed.last_proposer ≡ old.last_proposer → changed.desks ≡ old.desks → changed.callers ≡ old.callers → changed.marks ≡ old.marks → Leaves old new []
+    leaves changed is last_proposer desks callers marks = leaves_desks old changed new [] is last_proposer desks callers (marks ∙ sym (append-nil old.marks))
 
     stopped : (why : Answer) → Leaves old new [] → new.council.order ≡ option_map (told_so (op.Stopped why)) old.council.order → rescanned_of new.council.plan ≡ rescanned_of old.council.plan → IsProbeAnswer key members (op.Stopped why) → GathersProbe m old new key members
     stopped why left order planned stops = record { leaves = left; said = op.Stopped why; order = order ∙ ap (option_map (told_so (op.Stopped why))) was.order; planned = planned; answer = λ told same. stopped_says key members why told stops same; silent = λ steady harms has told same. stopped_silent harms why told same; truly = λ shelves disks steady many asked_then told same. stopped_truly (take many old.marks) old.marks why told same }
@@ -429,7 +429,7 @@ gather_told {S} {V} m most old mid new key members told has kept step_ said ends
     let gathers = gathers_probe m old mid key members (is_probed old key members has) (gathers_by m old mid key members has step_) in
     let held = tells_in IsAskingHarm most old mid new (asked.Probe key) told (told_so gathers.said (new_order (asked.Probe key))) gathers.leaves gathers.order refl ends kept (is_probed old key members has).no_call (λ enters. absurd (enters 0 0))
     (λ not. lasts_told mid new (asked.Probe key) told (told_so gathers.said (new_order (asked.Probe key))) gathers.order refl (λ era rescanned is. is) ends ∙ gathers.planned) in
-    record { does = (held.does, gathers.answer told (says_same mid (new_order (asked.Probe key)) gathers.said told gathers.order said)); kept = held.kept; greatest = held.greatest }
+    record { does = (held.does, gathers.answer told (says_same mid (new_order (asked.Probe key)) gathers.said told gathers.order said)); kept = held.kept; last_proposer = held.last_proposer }
 
 -- no more are silent than were harmed
 pub gather_silent : {S V : Type 0} (m : Meaning S V) (old mid : View S V) (key members : List ℕ) (told : OpAnswer) → HasProbe key members (own_part old 0) → Step m old (gathering_of old) mid → WasToldOrder mid told → IsSteady m old → (harms : ℕ) → HasHarms harms (own_part old 0) → IsSilentAtMost harms told

@@ -1,11 +1,7 @@
 -- What tells of a conflict.
-use Rattle.std.specs.Prelude.{Bool, true, false, Option, None, Some}
+use Rattle.std.specs.Prelude.{Bool, false, Option, None, Some}
 use Rattle.cas_record.specs.declared.answer.Answer.{Answer}
-use Rattle.cas_record.specs.declared.answer.Answer.TheVariants as answer
-
-abbrev pub is_conflict : Answer → Bool
-is_conflict (answer.Conflict met) = true
-is_conflict other = false
+pub use Rattle.cas_record.specs.Answers.{is_conflict}
 
 -- whether a conflict was told last
 abbrev pub told_conflict : Option Answer → Bool

@@ -85,7 +85,7 @@ pub begins_to_prepare : {S V : Type 0} (m : Meaning S V) (cluster : Cluster) (gl
     → BeginsToPrepare m.disks (era_at old id) call.key desk now ballot round → Sends old.flow id (prepares_to id (kept_of desk.vault).age call.key ballot (era_at old id).prep) flow → IsRenewedFor m.disks old.council.collection id desk → Whole m cluster global old
     → Whole m cluster (asked_global (drew global (Some ballot) call.key (era_at old id).number) (prepare_request id (kept_of desk.vault).age call.key ballot) (era_at old id).prep) (record (with_desk old id now) { flow = flow })
 begins_to_prepare {S} {V} m cluster global old id caller call desk now ballot round flow tells at_caller is_open unproposed at_desk begins sends renewed whole =
-    let low : id ≤ 16 = omega (arith, of.known, whole.parties.greatest, whole.parties.few) in
+    let low : id ≤ 16 = omega (arith, of.known, whole.parties.last_proposer, whole.parties.few) in
     let after_draw = drew_around m cluster global old id call.key desk.vault now.vault (Some ballot) of.known drawn of.vault (around m cluster global old id whole) in
     let after_asks = asked_around m cluster middle old id f (era_at old id).prep (λ to. refl)
     (λ rest to h. may_prepare cluster (asked_global middle f rest) (f to) id era call.key ballot refl refl
@@ -113,7 +113,7 @@ begins_to_prepare {S} {V} m cluster global old id caller call desk now ballot ro
     of = whole.parties.desks id tt desk caller at_desk at_caller
 
     era_is : IsEraOf cluster (era_at old id)
-    era_is = whole.parties.eras id (omega (arith, of.known, whole.parties.greatest))
+    era_is = whole.parties.eras id (omega (arith, of.known, whole.parties.last_proposer))
 
     drawn : HasDrawn m.disks id desk.vault now.vault ballot
     drawn = subst (λ (i : ℕ). HasDrawn m.disks i desk.vault now.vault ballot) of.same_id begins.drawn

@@ -43,7 +43,7 @@ vault_goes_on m log id era tells on was = record {
 }
 
 -- its counter is past all that it drew and past each floor
-pub past_all : {S V : Type 0} (m : Meaning S V) (cluster : Cluster) (log : List Happening) (id era : ℕ) (key : List ℕ) (vault : Vault V) → id ≤ cluster.greatest → IsVaultTrue m log id era vault → IsPastAll cluster log id era (counter_of vault) key
+pub past_all : {S V : Type 0} (m : Meaning S V) (cluster : Cluster) (log : List Happening) (id era : ℕ) (key : List ℕ) (vault : Vault V) → id ≤ cluster.last_proposer → IsVaultTrue m log id era vault → IsPastAll cluster log id era (counter_of vault) key
 past_all m cluster log id era key vault known was = record {
   known = known;
   is_in = was.is_in;
@@ -116,7 +116,7 @@ drew_marks log key era (Some ballot) = refl
 
 -- what is around the proposer stays
 pub drew_around : {S V : Type 0} (m : Meaning S V) (cluster : Cluster) (global : GlobalState) (view : View S V) (id : ℕ) (key : List ℕ) (old new : Vault V) (ballot : Option Ballot)
-    → id ≤ cluster.greatest → MayHaveDrawn m.disks id old new ballot → IsVaultTrue m global.log id (era_at view id).number old
+    → id ≤ cluster.last_proposer → MayHaveDrawn m.disks id old new ballot → IsVaultTrue m global.log id (era_at view id).number old
     → Around m cluster global view id → Around m cluster (drew global ballot key (era_at view id).number) view id
 drew_around m cluster global view id key old new None known by vault around = around
 drew_around m cluster global view id key old new (Some ballot) known by vault around =
@@ -129,7 +129,7 @@ drew_around m cluster global view id key old new (Some ballot) known by vault ar
 
 -- the ballot is in hand
 pub drew_in_hand : {S V : Type 0} (m : Meaning S V) (cluster : Cluster) (global : GlobalState) (id era : ℕ) (key : List ℕ) (old new : Vault V) (ballot : Ballot)
-    → id ≤ cluster.greatest → HasDrawn m.disks id old new ballot → IsVaultTrue m global.log id era old → HasHistory cluster global → IsInHand (drew global (Some ballot) key era).log id era key ballot
+    → id ≤ cluster.last_proposer → HasDrawn m.disks id old new ballot → IsVaultTrue m global.log id era old → HasHistory cluster global → IsInHand (drew global (Some ballot) key era).log id era key ballot
 drew_in_hand m cluster global id era key old new ballot known by vault history =
     let own : ballot.proposer ≡ id = ap (λ (b : Ballot). b.proposer) by.draws.next in
     let counter : ballot.counter ≡ counter_of old + 1 = ap (λ (b : Ballot). b.counter) by.draws.next in
@@ -162,7 +162,7 @@ drawn_above m log id era e k b old new ballot by vault hand =
 
 -- the ballot that rides, where one does: it is in hand, and above the one that it rides on
 pub drew_ride : {S V : Type 0} (m : Meaning S V) (cluster : Cluster) (global : GlobalState) (id era : ℕ) (key : List ℕ) (b : Ballot) (old new : Vault V) (ride : Option Ballot)
-    → id ≤ cluster.greatest → MayHaveDrawn m.disks id old new ride → IsVaultTrue m global.log id era old → HasHistory cluster global → IsInHand global.log id era key b
+    → id ≤ cluster.last_proposer → MayHaveDrawn m.disks id old new ride → IsVaultTrue m global.log id era old → HasHistory cluster global → IsInHand global.log id era key b
     → (r : Ballot) → ride ≡ Some r → IsInHand (drew global ride key era).log id era key r × BallotLess b r
 drew_ride m cluster global id era key b old new None known by vault history hand r rides = absurd (cc rides)
 drew_ride m cluster global id era key b old new (Some ballot) known by vault history hand r rides =

@@ -118,7 +118,7 @@ short_accept cluster log all id number call round by got need orderly accepting 
 -- what it knows once no round is open there
 pub record IsQuiet {S V : Type 0} (m : Meaning S V) (cluster : Cluster) (log : List Happening) (all : List Made) (id era : ℕ) (desk : DeskView V) : Type 0 where
   pub same_id : desk.id ≡ id
-  pub known : id ≤ cluster.greatest
+  pub known : id ≤ cluster.last_proposer
   pub vault : IsVaultTrue m log id era desk.vault
   pub cached : AreReady cluster log all id era desk.cache
   pub one_each : HaveOneEach desk.cache

@@ -122,7 +122,7 @@ pub record IsReadyToPropose {S V : Type 0} (m : Meaning S V) (cluster : Cluster)
   pub at_caller : IsAt old.callers id caller
   pub is_open : caller.call ≡ Some call
   pub caller_true : IsCallerTrue global.log global.made id caller
-  pub known : id ≤ cluster.greatest
+  pub known : id ≤ cluster.last_proposer
   pub same_id : now.id ≡ id
   pub vault : IsVaultTrue m global.log id (era_at old id).number now.vault
   pub aged : IsAged m.disks age now.vault
@@ -192,7 +192,7 @@ proposes {S} {V} m cluster global old id age caller call now round outcome flow 
     waiting = of.sends.own ∙ ap (λ (l : List Message). l ++ accepts_to id age round.key round.ballot round.era.number round.ride outcome.state round.era.acc) of.none_waits
 
     low : id ≤ 16
-    low = omega (arith, of.known, around.parties.greatest, around.parties.few)
+    low = omega (arith, of.known, around.parties.last_proposer, around.parties.few)
 
     after_proposal : Around m cluster after old id
     after_proposal = around_made m cluster global.log global.kept global.made made old id h (proposal_of_one id caller.number round read by of.in_hand.own) (λ request now. absurd (cc now)) (λ x stands. later stands) around history

@@ -162,7 +162,7 @@ begins_by_promise {S} {V} m cluster global old id caller call desk now ready rid
       is_round = ap (λ (d : DeskView V). d.round) begins.desk;
       same_key = about_key;
       same_era = ap (λ (e : Era). e.number) about_era;
-      is_era = subst (IsEraOf cluster) (sym about_era) (whole.parties.eras id (omega (arith, of.known, whole.parties.greatest)));
+      is_era = subst (IsEraOf cluster) (sym about_era) (whole.parties.eras id (omega (arith, of.known, whole.parties.last_proposer)));
       in_hand = hand;
       ride = rides;
       prepared = [];

@@ -172,19 +172,19 @@ desk_floored m cluster log all key tomb age era id caller waiting desk renewed w
 
 -- ---- the whole
 pub whole_floored : {S V : Type 0} (m : Meaning S V) (cluster : Cluster) (global : GlobalState) (view : View S V) (key : List ℕ) (tomb : Ballot)
-    → ((id : ℕ) (desk : DeskView V) → IsAt view.desks id desk → id ≤ view.greatest → (age : ℕ) × IsRenewed m.disks key tomb age desk)
+    → ((id : ℕ) (desk : DeskView V) → IsAt view.desks id desk → id ≤ view.last_proposer → (age : ℕ) × IsRenewed m.disks key tomb age desk)
     → IsCouncilTrue cluster (floor_mark key tomb ∷ global.log) view.council → HasHistory cluster (with_mark global (floor_mark key tomb)) → Whole m cluster global view → Whole m cluster (with_mark global (floor_mark key tomb)) view
 whole_floored {S} {V} m cluster global view key tomb renewed council history whole = record {
   meets = whole.meets;
   history = history;
   acceptors = λ a acceptor at. acceptor_still m cluster (floor_mark key tomb) global.log a (global.kept a) history.lawful tt (whole.acceptors a acceptor at);
   parties = record {
-    greatest = whole.parties.greatest;
+    last_proposer = whole.parties.last_proposer;
     few = whole.parties.few;
     eras = whole.parties.eras;
     desks = λ p these desk caller at_desk at_caller.
         let was = whole.parties.desks p these desk caller at_desk at_caller in
-        let of = renewed p desk at_desk (subst (λ (n : ℕ). p ≤ n) whole.parties.greatest was.known) in
+        let of = renewed p desk at_desk (subst (λ (n : ℕ). p ≤ n) whole.parties.last_proposer was.known) in
         desk_floored m cluster global.log global.made key tomb of.0 (era_at view p).number p caller (queue_at view.flow p).messages desk of.1 was;
     callers = λ p these caller at. caller_still (floor_mark key tomb) global.log global.made caller (record { begins = λ n k program now. absurd (cc now); ends = λ n rounds told now. absurd (cc now); proposes = λ q now. absurd (cc now) }) (whole.parties.callers p these caller at);
     council = council;

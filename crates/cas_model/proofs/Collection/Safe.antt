@@ -63,7 +63,7 @@ begin_collect_safe {S} {V} m old new key was by = in_case by.begins
     in_case (collect.is_full none up unplanned full view) = subst IsSound (sym view) (told_view_safe old _ was)
     in_case (collect.no_memory middle none up unplanned refuses view) = subst IsSound (sym view) (told_view_safe middle _ (refuses_call_safe m old 0 key middle was refuses))
     in_case (collect.begins middle none unplanned begins view) = subst IsSound (sym view)
-        (collecting_safe middle by.may.order None (new_collection key (era_at old 0) old.greatest) (begin_safe m old 0 key keep_always middle was begins) (still middle begins) (omega arith))
+        (collecting_safe middle by.may.order None (new_collection key (era_at old 0) old.last_proposer) (begin_safe m old 0 key keep_always middle was begins) (still middle begins) (omega arith))
     in_case (collect.goes_on middle call is open_ begins view) = subst IsSound (sym view)
         (collecting_safe middle by.may.order None is.at.collection (begin_safe m old 0 key keep_always middle was begins) (still middle begins)
         (as_before middle.council is.at.collection (ap (λ (f : Frame). f.council.collection) (begin_frame m old middle 0 key keep_always begins) ∙ is.at.is_collection)))
@@ -207,7 +207,7 @@ gather_collect_safe {S} {V} old new was by = in_case by.gathers
 pub make_floor_safe : {S V : Type 0} (old new : View S V) → IsSound old → IsCollectingSafe old → StepMakeFloor old new → IsSound new
 make_floor_safe {S} {V} old new was safe by =
     let at = by.at in
-    let of : IsCollectionSafe old.council (era_at old 0) old.greatest at.collection = safe.each at.collection at.is_collection in
+    let of : IsCollectionSafe old.council (era_at old 0) old.last_proposer at.collection = safe.each at.collection at.is_collection in
     let by_all : IsAcknowledgedByAll (era_at old 0) at.collection.tombstone = of.acknowledged (λ is. cc (is, by.is_due)) in
     let marks = old.marks ++ Floor at.collection.course.key (tomb_of at.collection.tombstone) Empty ∷ [] in
     subst IsSound (sym by.view) (council_safe old old.flow (record old.council { order = Some (record at.order { told = None }); collection = Some (record (confirmed_step at.collection) { reserved = 0 }) }) marks was refl (λ p other. refl)

@@ -37,13 +37,13 @@ use Rattle.cas_model.proofs.Places.{some_is}
 pub record Frame : Type 0 where
   pub council : Council
   pub era : Era
-  pub greatest : ℕ
+  pub last_proposer : ℕ
 
 abbrev pub frame_of : {S V : Type 0} → View S V → Frame
-frame_of view = record { council = view.council; era = era_at view 0; greatest = view.greatest }
+frame_of view = record { council = view.council; era = era_at view 0; last_proposer = view.last_proposer }
 
 abbrev pub IsCollectingBy : Frame → Type 0
-IsCollectingBy frame = IsCollectingIn frame.council frame.era frame.greatest
+IsCollectingBy frame = IsCollectingIn frame.council frame.era frame.last_proposer
 
 -- the same then
 pub same_collecting : {S V : Type 0} (old new : View S V) → frame_of new ≡ frame_of old → IsCollectingSafe old → IsCollectingSafe new
@@ -67,7 +67,7 @@ record HadExchange (council : Council) (now : ExchangeView) : Type 0 where
 -- a call that leaves the collection alone
 record LeavesAlone (old new : Frame) : Type 0 where
   pub collection : new.council.collection ≡ old.council.collection
-  pub greatest : new.greatest ≡ old.greatest
+  pub last_proposer : new.last_proposer ≡ old.last_proposer
   pub exchange : (now : ExchangeView) → new.council.exchange ≡ Some now → is_of_collection now.question ≡ true → HadExchange old.council now
   pub order : (order : OrderView) (key : List ℕ) → old.council.order ≡ Some order → order.asked ≡ asked.Collect key → old.council.plan ≡ None → IsStillAsked old new order
 
@@ -82,10 +82,10 @@ left_alone old new alone was = record {
         is_for = still.asked ∙ of.is_for;
         none_planned = still.none_planned;
         same_era = of.same_era ∙ sym still.era;
-        proposers = of.proposers ∙ sym alone.greatest;
-        is_step = subst (λ (n : ℕ). IsStepOf n collection.course.step) (sym alone.greatest) of.is_step;
+        proposers = of.proposers ∙ sym alone.last_proposer;
+        is_step = subst (λ (n : ℕ). IsStepOf n collection.course.step) (sym alone.last_proposer) of.is_step;
         calling = of.calling;
-        ages = of.ages ∙ ap (λ (n : ℕ). renewals_before n collection.course.step) (sym alone.greatest);
+        ages = of.ages ∙ ap (λ (n : ℕ). renewals_before n collection.course.step) (sym alone.last_proposer);
         tomb = of.tomb;
         acknowledged = λ past. subst (λ (e : Era). IsAcknowledgedByAll e collection.tombstone) (sym still.era) (of.acknowledged past);
         reserved = of.reserved;
@@ -112,7 +112,7 @@ same_exchange council now is = record { before = now; is_open = is; question = r
 told_alone : (frame : Frame) (answer : OpAnswer) → LeavesAlone frame (record frame { council = telling frame.council answer })
 told_alone frame answer = record {
   collection = refl;
-  greatest = refl;
+  last_proposer = refl;
   exchange = λ now is asks. same_exchange frame.council now is;
   order = λ order key is_open is_for none. record { order_now = told_so answer order; is_open = ap (option_map (told_so answer)) is_open; asked = refl; none_planned = none; era = refl };
 }
@@ -124,7 +124,7 @@ told_collecting old answer was = left_alone (frame_of old) (frame_of (told_view 
 pub gathered_collecting : {S V : Type 0} (old : View S V) (answer : OpAnswer) → IsCollectingSafe old → IsCollectingSafe (council.gathered old answer)
 gathered_collecting old answer was = left_alone (frame_of old) (frame_of (council.gathered old answer)) (record {
   collection = refl;
-  greatest = refl;
+  last_proposer = refl;
   exchange = λ now is asks. absurd (cc is);
   order = λ order key is_open is_for none. record { order_now = told_so answer order; is_open = ap (option_map (told_so answer)) is_open; asked = refl; none_planned = none; era = refl };
 }) was
@@ -149,14 +149,14 @@ begin_frame {S} {V} m old new id key program by = in_round by.begins ∙ opens b
 rescan_alone : (frame : Frame) (id : ℕ) (key : List ℕ) (told : Answer) (next : Council) → Rescans frame.council id key told next → LeavesAlone frame (record frame { council = next })
 rescan_alone frame id key told next (calls.is_none none same) = subst (λ (c : Council). LeavesAlone frame (record frame { council = c })) (sym same) (record {
   collection = refl;
-  greatest = refl;
+  last_proposer = refl;
   exchange = λ now is asks. same_exchange frame.council now is;
   order = λ order asked_key is_open is_for none. record { order_now = order; is_open = is_open; asked = refl; none_planned = none; era = refl };
 })
 rescan_alone frame id key told next (calls.stops of undone same) = subst (λ (c : Council). LeavesAlone frame (record frame { council = c })) (sym same) (told_alone frame _)
 rescan_alone frame id key told next (calls.rescans of done same) = subst (λ (c : Council). LeavesAlone frame (record frame { council = c })) (sym same) (record {
   collection = refl;
-  greatest = refl;
+  last_proposer = refl;
   exchange = λ now is asks. same_exchange frame.council now is;
   order = λ order asked_key is_open is_for none. absurd (cc (none, of.is_plan));
 })
@@ -238,7 +238,7 @@ broken_exchange old now is = by_exchange old.exchange refl is
 pub broken_collecting : {S V : Type 0} (old : View S V) → IsCollectingSafe old → IsCollectingSafe (broken_off_view old)
 broken_collecting old was = left_alone (frame_of old) (frame_of (broken_off_view old)) (record {
   collection = refl;
-  greatest = refl;
+  last_proposer = refl;
   exchange = λ now is asks. broken_exchange old.council now is;
   order = λ order key is_open is_for none. record { order_now = order; is_open = is_open; asked = refl; none_planned = none; era = refl };
 }) was
@@ -268,7 +268,7 @@ restart_collecting {S} {V} m old new id (step.restarts desk now caller at at_c d
     by_down true = was
     by_down false = left_alone (frame_of old) (frame_of (now_is (slice_set old.eras id era_now))) (record {
       collection = refl;
-      greatest = refl;
+      last_proposer = refl;
       exchange = λ open_now at_it asks. same_exchange old.council open_now at_it;
       order = λ order key is_open is_for none. record {
         order_now = order;
@@ -286,26 +286,26 @@ order_collecting {S} {V} old new of by was = subst (λ (v : View S V). IsCollect
     alone : LeavesAlone (frame_of old) (record (frame_of old) { council = record old.council { order = Some (record { asked = of; told = None }) } })
     alone = record {
       collection = refl;
-      greatest = refl;
+      last_proposer = refl;
       exchange = λ now is asks. same_exchange old.council now is;
       order = λ order key is_open is_for none. absurd (cc (is_open, by.none_open));
     }
 
 -- nothing is under way once it is told its answer
-rested_collecting : (council : Council) (era : Era) (greatest : ℕ) → IsCollectingIn (at_rest council) era greatest
-rested_collecting council era greatest = record { each = λ collection is. absurd (cc is); exchange = λ now is asks. absurd (cc is) }
+rested_collecting : (council : Council) (era : Era) (last_proposer : ℕ) → IsCollectingIn (at_rest council) era last_proposer
+rested_collecting council era last_proposer = record { each = λ collection is. absurd (cc is); exchange = λ now is asks. absurd (cc is) }
 
 pub tell_collecting : {S V : Type 0} (old new : View S V) (answer : OpAnswer) → StepTell old answer new → IsCollectingSafe new
-tell_collecting {S} {V} old new answer (council.tells order said is_open told same view) = subst (λ (v : View S V). IsCollectingSafe v) (sym view) (rested_collecting old.council (era_at old 0) old.greatest)
-tell_collecting {S} {V} old new answer (council.finishes order is_open by view) = subst (λ (v : View S V). IsCollectingSafe v) (sym view) (rested_collecting (record old.council { plan = None }) (era_at old 0) old.greatest)
-tell_collecting {S} {V} old new answer (council.collects order is_open by view) = subst (λ (v : View S V). IsCollectingSafe v) (sym view) (rested_collecting old.council (era_at old 0) old.greatest)
+tell_collecting {S} {V} old new answer (council.tells order said is_open told same view) = subst (λ (v : View S V). IsCollectingSafe v) (sym view) (rested_collecting old.council (era_at old 0) old.last_proposer)
+tell_collecting {S} {V} old new answer (council.finishes order is_open by view) = subst (λ (v : View S V). IsCollectingSafe v) (sym view) (rested_collecting (record old.council { plan = None }) (era_at old 0) old.last_proposer)
+tell_collecting {S} {V} old new answer (council.collects order is_open by view) = subst (λ (v : View S V). IsCollectingSafe v) (sym view) (rested_collecting old.council (era_at old 0) old.last_proposer)
 
 -- all members are asked, and not for a collection
 asked_collecting : {S V : Type 0} (old : View S V) (question : Question) (tag : Ballot) (tos : List ℕ) → is_of_collection question ≡ false → (old.council.plan ≡ None → plan_asked question tag old.council.plan ≡ None)
-    → IsCollectingSafe old → IsCollectingIn (record old.council { exchange = Some (new_exchange question tag tos (length old.marks)); plan = plan_asked question tag old.council.plan }) (era_at old 0) old.greatest
+    → IsCollectingSafe old → IsCollectingIn (record old.council { exchange = Some (new_exchange question tag tos (length old.marks)); plan = plan_asked question tag old.council.plan }) (era_at old 0) old.last_proposer
 asked_collecting old question tag tos apart unplanned was = left_alone (frame_of old) (record (frame_of old) { council = record old.council { exchange = Some (new_exchange question tag tos (length old.marks)); plan = plan_asked question tag old.council.plan } }) (record {
   collection = refl;
-  greatest = refl;
+  last_proposer = refl;
   exchange = λ now is asks. absurd (cc (apart, asks, ap (λ (e : ExchangeView). is_of_collection e.question) (some_is is)));
   order = λ order key is_open is_for none. record { order_now = order; is_open = is_open; asked = refl; none_planned = unplanned none; era = refl };
 }) was
@@ -340,7 +340,7 @@ exchanged_collecting : {S V : Type 0} (old new : View S V) (exchange now : Excha
     → frame_of new ≡ record (frame_of old) { council = record old.council { exchange = Some now } } → IsCollectingSafe old → IsCollectingSafe new
 exchanged_collecting old new exchange now is_open question tag members same was = subst IsCollectingBy (sym same) (left_alone (frame_of old) (record (frame_of old) { council = record old.council { exchange = Some now } }) (record {
   collection = refl;
-  greatest = refl;
+  last_proposer = refl;
   exchange = λ other is asks. let one = some_is is in record {
     before = exchange;
     is_open = is_open;
@@ -367,11 +367,11 @@ turn_collecting {S} {V} m old new v by was = in_turn by.turn
         exchanged_collecting old new by.at.exchange (record by.at.exchange { told = council.hears reply by.at.exchange.told }) by.at.is_open refl refl refl (ap frame_of is) was
 
 -- a change of membership goes on, so no collection is under way
-planned_alone : (old new : Frame) (plan : PlanView) → old.council.plan ≡ Some plan → new.council.collection ≡ old.council.collection → new.greatest ≡ old.greatest
+planned_alone : (old new : Frame) (plan : PlanView) → old.council.plan ≡ Some plan → new.council.collection ≡ old.council.collection → new.last_proposer ≡ old.last_proposer
     → ((now : ExchangeView) → new.council.exchange ≡ Some now → HadExchange old.council now) → LeavesAlone old new
-planned_alone old new plan is_plan collection greatest exchange = record {
+planned_alone old new plan is_plan collection last_proposer exchange = record {
   collection = collection;
-  greatest = greatest;
+  last_proposer = last_proposer;
   exchange = λ now is asks. exchange now is;
   order = λ order key is_open is_for none. absurd (cc (is_plan, none));
 }
@@ -415,7 +415,7 @@ open_collecting {S} {V} m old new by was = in_case by.opens
     in_case (plans.opens progress middle up none planned welcomes is) = same_collecting (plans.opened_plan middle by.order.asked progress) new (ap frame_of is)
         (left_alone (frame_of middle) (frame_of (plans.opened_plan middle by.order.asked progress)) (record {
           collection = refl;
-          greatest = refl;
+          last_proposer = refl;
           exchange = λ now at_it asks. same_exchange middle.council now at_it;
           order = λ order key is_open is_for unplanned.
               let same : by.order ≡ order = some_is (sym by.is_open ∙ ap (λ (f : Frame). f.council.order) (sym (welcome_frame m old middle by.order.asked welcomes)) ∙ is_open) in

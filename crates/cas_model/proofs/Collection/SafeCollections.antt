@@ -48,56 +48,56 @@ asked_at : (collection : CollectionView) (question : Question) → IsQuestionOf 
 asked_at collection question (collect.tells_ages is asks) = ap asks_at is
 asked_at collection question (collect.removes is asks) = ap asks_at is
 
-step_stays : (greatest : ℕ) (step : CollectStep) → IsStepOf greatest step → IsStepOf greatest (step_after greatest step)
-step_stays greatest Round is = omega arith
-step_stays greatest (Renew proposer) is = by_test (nat_lt proposer greatest) refl
+step_stays : (last_proposer : ℕ) (step : CollectStep) → IsStepOf last_proposer step → IsStepOf last_proposer (step_after last_proposer step)
+step_stays last_proposer Round is = omega arith
+step_stays last_proposer (Renew proposer) is = by_test (nat_lt proposer last_proposer) refl
   where
-    by_test : (b : Bool) → nat_lt proposer greatest ≡ b → IsStepOf greatest (if b then Renew (proposer + 1) else Ages)
+    by_test : (b : Bool) → nat_lt proposer last_proposer ≡ b → IsStepOf last_proposer (if b then Renew (proposer + 1) else Ages)
     by_test true e = grind (arith, e)
     by_test false e = tt
-step_stays greatest Ages is = tt
-step_stays greatest FloorStep is = tt
-step_stays greatest Remove is = tt
-step_stays greatest End is = tt
+step_stays last_proposer Ages is = tt
+step_stays last_proposer FloorStep is = tt
+step_stays last_proposer Remove is = tt
+step_stays last_proposer End is = tt
 
 -- one more proposer is renewed
-renewed_after : (greatest proposer : ℕ) → proposer ≤ greatest → renewals_before greatest (step_after greatest (Renew proposer)) ≡ proposer + 1
-renewed_after greatest proposer low = by_test (nat_lt proposer greatest) refl
+renewed_after : (last_proposer proposer : ℕ) → proposer ≤ last_proposer → renewals_before last_proposer (step_after last_proposer (Renew proposer)) ≡ proposer + 1
+renewed_after last_proposer proposer low = by_test (nat_lt proposer last_proposer) refl
   where
-    by_test : (b : Bool) → nat_lt proposer greatest ≡ b → renewals_before greatest (if b then Renew (proposer + 1) else Ages) ≡ proposer + 1
+    by_test : (b : Bool) → nat_lt proposer last_proposer ≡ b → renewals_before last_proposer (if b then Renew (proposer + 1) else Ages) ≡ proposer + 1
     by_test true e = refl
     by_test false e = grind (arith, e, low)
 
 -- or as many were
-renewed_still : (greatest : ℕ) (step : CollectStep) → asks_at step ≡ true → renewals_before greatest (step_after greatest step) ≡ renewals_before greatest step
-renewed_still greatest Ages is = refl
-renewed_still greatest Remove is = refl
-renewed_still greatest Round is = absurd (cc is)
-renewed_still greatest (Renew proposer) is = absurd (cc is)
-renewed_still greatest FloorStep is = absurd (cc is)
-renewed_still greatest End is = absurd (cc is)
+renewed_still : (last_proposer : ℕ) (step : CollectStep) → asks_at step ≡ true → renewals_before last_proposer (step_after last_proposer step) ≡ renewals_before last_proposer step
+renewed_still last_proposer Ages is = refl
+renewed_still last_proposer Remove is = refl
+renewed_still last_proposer Round is = absurd (cc is)
+renewed_still last_proposer (Renew proposer) is = absurd (cc is)
+renewed_still last_proposer FloorStep is = absurd (cc is)
+renewed_still last_proposer End is = absurd (cc is)
 
-pub before_floor : (greatest : ℕ) (step : CollectStep) → is_after_floor (step_after greatest step) ≡ false → is_after_floor step ≡ false
-before_floor greatest Round is = refl
-before_floor greatest (Renew proposer) is = refl
-before_floor greatest Ages is = refl
-before_floor greatest FloorStep is = refl
-before_floor greatest Remove is = absurd (cc is)
-before_floor greatest End is = absurd (cc is)
+pub before_floor : (last_proposer : ℕ) (step : CollectStep) → is_after_floor (step_after last_proposer step) ≡ false → is_after_floor step ≡ false
+before_floor last_proposer Round is = refl
+before_floor last_proposer (Renew proposer) is = refl
+before_floor last_proposer Ages is = refl
+before_floor last_proposer FloorStep is = refl
+before_floor last_proposer Remove is = absurd (cc is)
+before_floor last_proposer End is = absurd (cc is)
 
 -- ---- the collection that is under way
-one_collecting : (council : Council) (era : Era) (greatest : ℕ) (collection : CollectionView) → council.collection ≡ Some collection → IsCollectionSafe council era greatest collection
+one_collecting : (council : Council) (era : Era) (last_proposer : ℕ) (collection : CollectionView) → council.collection ≡ Some collection → IsCollectionSafe council era last_proposer collection
     → ((exchange : ExchangeView) → council.exchange ≡ Some exchange → is_of_collection exchange.question ≡ true → IsQuestionOf collection exchange.question × (exchange.tag ≡ tomb_of collection.tombstone) × (exchange.members ≡ union_of era.prep era.acc))
-    → IsCollectingIn council era greatest
-one_collecting council era greatest collection is safe asks = record {
-  each = λ other at_it. subst (IsCollectionSafe council era greatest) (some_is (sym is ∙ at_it)) safe;
+    → IsCollectingIn council era last_proposer
+one_collecting council era last_proposer collection is safe asks = record {
+  each = λ other at_it. subst (IsCollectionSafe council era last_proposer) (some_is (sym is ∙ at_it)) safe;
   exchange = λ exchange is_open of. let all = asks exchange is_open of in record { collection = collection; is_collection = is; asks = all.0; tag = all.1; members = all.2 };
 }
 
 -- no exchange asks for it at a step at which members are not asked
-none_asks_at : (council : Council) (era : Era) (greatest : ℕ) (collection : CollectionView) → IsCollectingIn council era greatest → council.collection ≡ Some collection → asks_at collection.course.step ≡ false
+none_asks_at : (council : Council) (era : Era) (last_proposer : ℕ) (collection : CollectionView) → IsCollectingIn council era last_proposer → council.collection ≡ Some collection → asks_at collection.course.step ≡ false
     → (exchange : ExchangeView) → council.exchange ≡ Some exchange → is_of_collection exchange.question ≡ true → ⊥
-none_asks_at council era greatest collection was is quiet exchange is_open asks =
+none_asks_at council era last_proposer collection was is quiet exchange is_open asks =
     let of = was.exchange exchange is_open asks in
     let same : of.collection ≡ collection = some_is (sym of.is_collection ∙ is) in
     cc (quiet, asked_at of.collection exchange.question of.asks, ap (λ (c : CollectionView). asks_at c.course.step) same)
@@ -106,38 +106,38 @@ none_asks_at council era greatest collection was is quiet exchange is_open asks 
 abbrev confirmed : CollectionView → List ℕ → ℕ → ℕ → ℕ → CollectionView
 confirmed collection ages removed kept reserved = record collection { course = course_stepped collection.course; ages = ages; removed = removed; kept = kept; reserved = reserved }
 
-confirmed_safe : (old next : Council) (era : Era) (greatest : ℕ) (collection : CollectionView) (order : OrderView) (ages : List ℕ) (removed kept reserved : ℕ) → IsCollectionSafe old era greatest collection
-    → next.order ≡ Some order → order.asked ≡ asked.Collect collection.course.key → next.plan ≡ None → (collection.calling ≡ true → ⊥) → length ages ≡ renewals_before greatest (step_after greatest collection.course.step)
-    → (is_after_floor (step_after greatest collection.course.step) ≡ false → collection.reserved ≤ reserved) → reserved ≤ 1 → IsAcknowledgedByAll era collection.tombstone → IsCollectionSafe next era greatest (confirmed collection ages removed kept reserved)
-confirmed_safe old next era greatest collection order ages removed kept reserved was is_open is_for unplanned over counted more few by_all = record {
+confirmed_safe : (old next : Council) (era : Era) (last_proposer : ℕ) (collection : CollectionView) (order : OrderView) (ages : List ℕ) (removed kept reserved : ℕ) → IsCollectionSafe old era last_proposer collection
+    → next.order ≡ Some order → order.asked ≡ asked.Collect collection.course.key → next.plan ≡ None → (collection.calling ≡ true → ⊥) → length ages ≡ renewals_before last_proposer (step_after last_proposer collection.course.step)
+    → (is_after_floor (step_after last_proposer collection.course.step) ≡ false → collection.reserved ≤ reserved) → reserved ≤ 1 → IsAcknowledgedByAll era collection.tombstone → IsCollectionSafe next era last_proposer (confirmed collection ages removed kept reserved)
+confirmed_safe old next era last_proposer collection order ages removed kept reserved was is_open is_for unplanned over counted more few by_all = record {
   order = order;
   is_open = is_open;
   is_for = is_for;
   none_planned = unplanned;
   same_era = was.same_era;
   proposers = was.proposers;
-  is_step = subst (IsStepOf greatest) (sym same) (step_stays greatest collection.course.step was.is_step);
+  is_step = subst (IsStepOf last_proposer) (sym same) (step_stays last_proposer collection.course.step was.is_step);
   calling = λ is. absurd (over is);
-  ages = counted ∙ ap (renewals_before greatest) (sym same);
+  ages = counted ∙ ap (renewals_before last_proposer) (sym same);
   tomb = was.tomb;
   acknowledged = λ past. by_all;
   reserved = λ ballot by is before.
       let here = sym (ap is_after_floor same) ∙ before in
-      omega (arith, more here, was.reserved ballot by is (before_floor greatest collection.course.step here));
+      omega (arith, more here, was.reserved ballot by is (before_floor last_proposer collection.course.step here));
   few = few;
 }
   where
-    same : step_after collection.course.proposers collection.course.step ≡ step_after greatest collection.course.step
+    same : step_after collection.course.proposers collection.course.step ≡ step_after last_proposer collection.course.step
     same = ap (λ (n : ℕ). step_after n collection.course.step) was.proposers
 
 -- its call is open, or was until now, and it is in its round
 abbrev in_round : CollectionView → Bool → Tombstone → ℕ → CollectionView
 in_round collection calling tombstone reserved = record collection { calling = calling; tombstone = tombstone; reserved = reserved }
 
-in_round_safe : (old next : Council) (era : Era) (greatest : ℕ) (collection : CollectionView) (order : OrderView) (calling : Bool) (tombstone : Tombstone) (reserved : ℕ) → IsCollectionSafe old era greatest collection → collection.calling ≡ true
+in_round_safe : (old next : Council) (era : Era) (last_proposer : ℕ) (collection : CollectionView) (order : OrderView) (calling : Bool) (tombstone : Tombstone) (reserved : ℕ) → IsCollectionSafe old era last_proposer collection → collection.calling ≡ true
     → next.order ≡ Some order → order.asked ≡ asked.Collect collection.course.key → next.plan ≡ None → FitsBallot (tomb_of tombstone) → ((ballot : Ballot) (by : List ℕ) → tombstone ≡ Acknowledged ballot by → 0 < reserved) → reserved ≤ 1
-    → IsCollectionSafe next era greatest (in_round collection calling tombstone reserved)
-in_round_safe old next era greatest collection order calling tombstone reserved was in_call is_open is_for unplanned fits some few = record {
+    → IsCollectionSafe next era last_proposer (in_round collection calling tombstone reserved)
+in_round_safe old next era last_proposer collection order calling tombstone reserved was in_call is_open is_for unplanned fits some few = record {
   order = order;
   is_open = is_open;
   is_for = is_for;
@@ -157,15 +157,15 @@ zero_fits : FitsBallot zero_ballot
 zero_fits = record { counter = omega arith; proposer = omega arith }
 
 -- in its round its tombstone changes, or its call is over
-round_collecting : (council : Council) (era : Era) (greatest : ℕ) (at : CollectingAt council) (told : Option OpAnswer) (calling : Bool) (tombstone : Tombstone) (reserved : ℕ) → at.collection.calling ≡ true → FitsBallot (tomb_of tombstone)
-    → ((ballot : Ballot) (by : List ℕ) → tombstone ≡ Acknowledged ballot by → 0 < reserved) → reserved ≤ 1 → IsCollectingIn council era greatest
-    → IsCollectingIn (record council { order = Some (record at.order { told = told }); collection = Some (in_round at.collection calling tombstone reserved) }) era greatest
-round_collecting council era greatest at told calling tombstone reserved in_call fits some few was =
+round_collecting : (council : Council) (era : Era) (last_proposer : ℕ) (at : CollectingAt council) (told : Option OpAnswer) (calling : Bool) (tombstone : Tombstone) (reserved : ℕ) → at.collection.calling ≡ true → FitsBallot (tomb_of tombstone)
+    → ((ballot : Ballot) (by : List ℕ) → tombstone ≡ Acknowledged ballot by → 0 < reserved) → reserved ≤ 1 → IsCollectingIn council era last_proposer
+    → IsCollectingIn (record council { order = Some (record at.order { told = told }); collection = Some (in_round at.collection calling tombstone reserved) }) era last_proposer
+round_collecting council era last_proposer at told calling tombstone reserved in_call fits some few was =
     let of = was.each at.collection at.is_collection in
     let next : Council = record council { order = Some (record at.order { told = told }); collection = Some (in_round at.collection calling tombstone reserved) } in
-    one_collecting next era greatest (in_round at.collection calling tombstone reserved) refl
-    (in_round_safe council next era greatest at.collection (record at.order { told = told }) calling tombstone reserved of in_call refl at.is_for of.none_planned fits some few)
-    (λ exchange is_open asks. absurd (none_asks_at council era greatest at.collection was at.is_collection (ap asks_at (of.calling in_call)) exchange is_open asks))
+    one_collecting next era last_proposer (in_round at.collection calling tombstone reserved) refl
+    (in_round_safe council next era last_proposer at.collection (record at.order { told = told }) calling tombstone reserved of in_call refl at.is_for of.none_planned fits some few)
+    (λ exchange is_open asks. absurd (none_asks_at council era last_proposer at.collection was at.is_collection (ap asks_at (of.calling in_call)) exchange is_open asks))
 
 -- ---- its call
 pub begin_collecting : {S V : Type 0} (m : Meaning S V) (old new : View S V) (key : List ℕ) → StepBeginCollect m (λ before after. StepBegin m before 0 key keep_always after) old key new → IsCollectingSafe old → IsCollectingSafe new
@@ -175,24 +175,24 @@ begin_collecting {S} {V} m old new key by was = in_case by.begins
     told answer is = same_collecting (told_view old answer) new (ap frame_of is) (told_collecting old answer was)
 
     begun : CollectionView
-    begun = new_collection key (era_at old 0) old.greatest
+    begun = new_collection key (era_at old 0) old.last_proposer
 
     order : OrderView
     order = record by.may.order { told = None }
 
     AfterIn : CollectionView → Frame → Type 0
-    AfterIn collection f = IsCollectingIn (record f.council { order = Some order; collection = Some collection }) f.era f.greatest
+    AfterIn collection f = IsCollectingIn (record f.council { order = Some order; collection = Some collection }) f.era f.last_proposer
 
     -- another round of the collection that is under way
     again : (of : collect.IsCollecting old.council key) → AfterIn of.at.collection (frame_of old)
     again of =
         let safe = was.each of.at.collection of.at.is_collection in
-        subst (λ (o : OrderView). IsCollectingIn (record old.council { order = Some (record o { told = None }); collection = Some of.at.collection }) (era_at old 0) old.greatest) (some_is (sym of.at.is_open ∙ by.may.is_open))
-        (round_collecting old.council (era_at old 0) old.greatest of.at None of.at.collection.calling of.at.collection.tombstone of.at.collection.reserved of.calling safe.tomb
+        subst (λ (o : OrderView). IsCollectingIn (record old.council { order = Some (record o { told = None }); collection = Some of.at.collection }) (era_at old 0) old.last_proposer) (some_is (sym of.at.is_open ∙ by.may.is_open))
+        (round_collecting old.council (era_at old 0) old.last_proposer of.at None of.at.collection.calling of.at.collection.tombstone of.at.collection.reserved of.calling safe.tomb
         (λ ballot by_whom is. safe.reserved ballot by_whom is (ap is_after_floor of.is_due)) safe.few was)
 
     after : old.council.plan ≡ None → AfterIn begun (frame_of old)
-    after unplanned = one_collecting (record old.council { order = Some order; collection = Some begun }) (era_at old 0) old.greatest begun refl (record {
+    after unplanned = one_collecting (record old.council { order = Some order; collection = Some begun }) (era_at old 0) old.last_proposer begun refl (record {
       order = order;
       is_open = refl;
       is_for = by.may.is_for;
@@ -218,7 +218,7 @@ begin_collecting {S} {V} m old new key by was = in_case by.begins
 
 pub held_collecting : {S V : Type 0} (m : Meaning S V) (old new : View S V) → StepReadHeld m old new → IsCollectingSafe old → IsCollectingSafe new
 held_collecting {S} {V} m old new by was =
-    subst IsCollectingBy (sym (ap frame_of by.view)) (round_collecting old.council (era_at old 0) old.greatest by.is.at None false (FoundHeld by.version) by.is.at.collection.reserved by.is.calling zero_fits (λ ballot by_whom is. absurd (cc is)) (was.each by.is.at.collection by.is.at.is_collection).few was)
+    subst IsCollectingBy (sym (ap frame_of by.view)) (round_collecting old.council (era_at old 0) old.last_proposer by.is.at None false (FoundHeld by.version) by.is.at.collection.reserved by.is.calling zero_fits (λ ballot by_whom is. absurd (cc is)) (was.each by.is.at.collection by.is.at.is_collection).few was)
 
 -- ---- what is counted
 -- a round of proposer 0 is counted: of the marks that were reserved for its call one is left over, and the ballot that its caller is told is
@@ -281,17 +281,17 @@ count_collecting {S} {V} m old new sound by was = in_case by.counted
     at = by.is.at
 
     AfterIn : CollectionView → Frame → Type 0
-    AfterIn now f = IsCollectingIn (record f.council { order = Some (record at.order { told = None }); collection = Some now }) f.era f.greatest
+    AfterIn now f = IsCollectingIn (record f.council { order = Some (record at.order { told = None }); collection = Some now }) f.era f.last_proposer
 
     so : (now : CollectionView) → by.now ≡ now → AfterIn now (frame_of old) → IsCollectingSafe new
     so now is safe = subst IsCollectingBy (sym (ap frame_of (by.view ∙ ap (λ (c : CollectionView). collecting by.middle at.order None c) is))) (subst (AfterIn now) (sym (count_frame m old by.middle 0 by.counts)) safe)
 
     in_case : collect.CountedAs old by.middle by.of_call.call at.collection by.now → IsCollectingSafe new
     in_case (collect.acknowledges took acknowledgment done acked same_key same_era now) = so _ now
-        (round_collecting old.council (era_at old 0) old.greatest at None at.collection.calling (Acknowledged acknowledgment.ballot acknowledgment.by) 1 by.is.calling
+        (round_collecting old.council (era_at old 0) old.last_proposer at None at.collection.calling (Acknowledged acknowledgment.ballot acknowledgment.by) 1 by.is.calling
         ((is_counted m old by.middle sound by.counts (counted_more old by.middle _ acked)).fits by.of_call Empty took acknowledgment.ballot done) (λ ballot by_whom is. omega arith) (omega arith) was)
     in_case (collect.finds_held version body took ballot done now) = so _ now
-        (round_collecting old.council (era_at old 0) old.greatest at None at.collection.calling (FoundHeld version) at.collection.reserved by.is.calling zero_fits (λ acked by_whom is. absurd (cc is)) (was.each at.collection at.is_collection).few was)
+        (round_collecting old.council (era_at old 0) old.last_proposer at None at.collection.calling (FoundHeld version) at.collection.reserved by.is.calling zero_fits (λ acked by_whom is. absurd (cc is)) (was.each at.collection at.is_collection).few was)
 
 -- its call ends
 pub still_collecting : {S V : Type 0} (m : Meaning S V) (old middle : View S V) (told : Answer) → StepEnd m old 0 told middle → middle.council.collection ≡ old.council.collection
@@ -303,32 +303,32 @@ end_collect_collecting {S} {V} m old new told by was =
     let is_collection : by.middle.council.collection ≡ Some by.is.at.collection = still_collecting m old by.middle told by.ends ∙ by.is.at.is_collection in
     let of = safe.each by.is.at.collection is_collection in
     let next : Council = record by.middle.council { order = Some (record by.is.at.order { told = stopped_by told }); collection = Some (called by.is.at.collection) } in
-    subst IsCollectingBy (sym (ap frame_of by.view)) (one_collecting next (era_at by.middle 0) by.middle.greatest (called by.is.at.collection) refl
-    (in_round_safe by.middle.council next (era_at by.middle 0) by.middle.greatest by.is.at.collection (record by.is.at.order { told = stopped_by told }) false by.is.at.collection.tombstone by.is.at.collection.reserved of by.is.calling refl by.is.at.is_for
+    subst IsCollectingBy (sym (ap frame_of by.view)) (one_collecting next (era_at by.middle 0) by.middle.last_proposer (called by.is.at.collection) refl
+    (in_round_safe by.middle.council next (era_at by.middle 0) by.middle.last_proposer by.is.at.collection (record by.is.at.order { told = stopped_by told }) false by.is.at.collection.tombstone by.is.at.collection.reserved of by.is.calling refl by.is.at.is_for
     of.none_planned of.tomb (λ ballot by_whom is. of.reserved ballot by_whom is (ap is_after_floor (of.calling by.is.calling))) of.few)
-    (λ exchange is_open asks. absurd (none_asks_at by.middle.council (era_at by.middle 0) by.middle.greatest by.is.at.collection safe is_collection (ap asks_at (of.calling by.is.calling)) exchange is_open asks)))
+    (λ exchange is_open asks. absurd (none_asks_at by.middle.council (era_at by.middle 0) by.middle.last_proposer by.is.at.collection safe is_collection (ap asks_at (of.calling by.is.calling)) exchange is_open asks)))
 
 -- ---- its steps
 -- one that is not of its round
-not_in_round : (council : Council) (era : Era) (greatest : ℕ) (collection : CollectionView) (step : CollectStep) → IsCollectionSafe council era greatest collection → collection.course.step ≡ step → (step ≡ Round → ⊥) → collection.calling ≡ true → ⊥
-not_in_round council era greatest collection step safe is other in_call = other (sym is ∙ safe.calling in_call)
+not_in_round : (council : Council) (era : Era) (last_proposer : ℕ) (collection : CollectionView) (step : CollectStep) → IsCollectionSafe council era last_proposer collection → collection.course.step ≡ step → (step ≡ Round → ⊥) → collection.calling ≡ true → ⊥
+not_in_round council era last_proposer collection step safe is other in_call = other (sym is ∙ safe.calling in_call)
 
 -- a step is confirmed at which no members are asked
-quiet_collecting : (council : Council) (era : Era) (greatest : ℕ) (at : CollectingAt council) (told : Option OpAnswer) (ages : List ℕ) (reserved : ℕ) → IsCollectingIn council era greatest → asks_at at.collection.course.step ≡ false
-    → (at.collection.calling ≡ true → ⊥) → length ages ≡ renewals_before greatest (step_after greatest at.collection.course.step)
-    → (is_after_floor (step_after greatest at.collection.course.step) ≡ false → at.collection.reserved ≤ reserved) → reserved ≤ 1 → IsAcknowledgedByAll era at.collection.tombstone
-    → IsCollectingIn (record council { order = Some (record at.order { told = told }); collection = Some (confirmed at.collection ages at.collection.removed at.collection.kept reserved) }) era greatest
-quiet_collecting council era greatest at told ages reserved was quiet over counted more few by_all =
+quiet_collecting : (council : Council) (era : Era) (last_proposer : ℕ) (at : CollectingAt council) (told : Option OpAnswer) (ages : List ℕ) (reserved : ℕ) → IsCollectingIn council era last_proposer → asks_at at.collection.course.step ≡ false
+    → (at.collection.calling ≡ true → ⊥) → length ages ≡ renewals_before last_proposer (step_after last_proposer at.collection.course.step)
+    → (is_after_floor (step_after last_proposer at.collection.course.step) ≡ false → at.collection.reserved ≤ reserved) → reserved ≤ 1 → IsAcknowledgedByAll era at.collection.tombstone
+    → IsCollectingIn (record council { order = Some (record at.order { told = told }); collection = Some (confirmed at.collection ages at.collection.removed at.collection.kept reserved) }) era last_proposer
+quiet_collecting council era last_proposer at told ages reserved was quiet over counted more few by_all =
     let of = was.each at.collection at.is_collection in
     let next : Council = record council { order = Some (record at.order { told = told }); collection = Some (confirmed at.collection ages at.collection.removed at.collection.kept reserved) } in
-    one_collecting next era greatest (confirmed at.collection ages at.collection.removed at.collection.kept reserved) refl
-    (confirmed_safe council next era greatest at.collection (record at.order { told = told }) ages at.collection.removed at.collection.kept reserved of refl at.is_for of.none_planned over counted more few by_all)
-    (λ exchange is_open asks. absurd (none_asks_at council era greatest at.collection was at.is_collection quiet exchange is_open asks))
+    one_collecting next era last_proposer (confirmed at.collection ages at.collection.removed at.collection.kept reserved) refl
+    (confirmed_safe council next era last_proposer at.collection (record at.order { told = told }) ages at.collection.removed at.collection.kept reserved of refl at.is_for of.none_planned over counted more few by_all)
+    (λ exchange is_open asks. absurd (none_asks_at council era last_proposer at.collection was at.is_collection quiet exchange is_open asks))
 
 pub round_gathered_collecting : {S V : Type 0} (old new : View S V) → StepGatherRound old new → IsCollectingSafe old → IsCollectingSafe new
 round_gathered_collecting {S} {V} old new by was = in_case by.gathers
   where
-    of : IsCollectionSafe old.council (era_at old 0) old.greatest by.at.collection
+    of : IsCollectionSafe old.council (era_at old 0) old.last_proposer by.at.collection
     of = was.each by.at.collection by.at.is_collection
 
     told : (answer : OpAnswer) → new ≡ told_view old answer → IsCollectingSafe new
@@ -336,8 +336,8 @@ round_gathered_collecting {S} {V} old new by was = in_case by.gathers
 
     in_case : collect.GathersRound old by.at new → IsCollectingSafe new
     in_case (collect.all ballot by_whom is all view) = subst IsCollectingBy (sym (ap frame_of view))
-        (quiet_collecting old.council (era_at old 0) old.greatest by.at None by.at.collection.ages by.at.collection.reserved was (ap asks_at by.is_due) (λ in_call. cc (in_call, by.over))
-        (of.ages ∙ ap (renewals_before old.greatest) by.is_due ∙ sym (ap (λ (s : CollectStep). renewals_before old.greatest (step_after old.greatest s)) by.is_due)) (λ before. omega arith) of.few
+        (quiet_collecting old.council (era_at old 0) old.last_proposer by.at None by.at.collection.ages by.at.collection.reserved was (ap asks_at by.is_due) (λ in_call. cc (in_call, by.over))
+        (of.ages ∙ ap (renewals_before old.last_proposer) by.is_due ∙ sym (ap (λ (s : CollectStep). renewals_before old.last_proposer (step_after old.last_proposer s)) by.is_due)) (λ before. omega arith) of.few
         (record { ballot = ballot; by = by_whom; is = is; all = all }))
     in_case (collect.is_absent ballot by_whom acceptor is least view) = told _ view
     in_case (collect.is_held version is view) = told _ view
@@ -345,7 +345,7 @@ round_gathered_collecting {S} {V} old new by was = in_case by.gathers
 pub renew_collecting : {S V : Type 0} (m : Meaning S V) (old new : View S V) (id : ℕ) → StepRenew m old id new → IsCollectingSafe old → IsCollectingSafe new
 renew_collecting {S} {V} m old new id by was = in_case by.renews
   where
-    of : IsCollectionSafe old.council (era_at old 0) old.greatest by.at.collection
+    of : IsCollectionSafe old.council (era_at old 0) old.last_proposer by.at.collection
     of = was.each by.at.collection by.at.is_collection
 
     told : (answer : OpAnswer) → frame_of new ≡ frame_of (told_view old answer) → IsCollectingSafe new
@@ -354,20 +354,20 @@ renew_collecting {S} {V} m old new id by was = in_case by.renews
     apart : Renew id ≡ Round → ⊥
     apart is = cc is
 
-    known : id ≤ old.greatest
-    known = subst (IsStepOf old.greatest) by.is_due of.is_step
+    known : id ≤ old.last_proposer
+    known = subst (IsStepOf old.last_proposer) by.is_due of.is_step
 
-    renewed : (age : ℕ) → length (by.at.collection.ages ++ age ∷ []) ≡ renewals_before old.greatest (step_after old.greatest by.at.collection.course.step)
-    renewed age = omega (arith, length-append by.at.collection.ages (age ∷ []), of.ages, ap (renewals_before old.greatest) by.is_due)
-        ∙ sym (ap (λ (s : CollectStep). renewals_before old.greatest (step_after old.greatest s)) by.is_due ∙ renewed_after old.greatest id known)
+    renewed : (age : ℕ) → length (by.at.collection.ages ++ age ∷ []) ≡ renewals_before old.last_proposer (step_after old.last_proposer by.at.collection.course.step)
+    renewed age = omega (arith, length-append by.at.collection.ages (age ∷ []), of.ages, ap (renewals_before old.last_proposer) by.is_due)
+        ∙ sym (ap (λ (s : CollectStep). renewals_before old.last_proposer (step_after old.last_proposer s)) by.is_due ∙ renewed_after old.last_proposer id known)
 
     AfterIn : ℕ → Frame → Type 0
-    AfterIn age f = IsCollectingIn (record f.council { order = Some (record by.at.order { told = None }); collection = Some (record (confirmed_step by.at.collection) { ages = by.at.collection.ages ++ age ∷ [] }) }) f.era f.greatest
+    AfterIn age f = IsCollectingIn (record f.council { order = Some (record by.at.order { told = None }); collection = Some (record (confirmed_step by.at.collection) { ages = by.at.collection.ages ++ age ∷ [] }) }) f.era f.last_proposer
 
     in_case : collect.RenewsNext m old by.at id by.desk new → IsCollectingSafe new
     in_case (collect.renews age middle leaves view) = subst IsCollectingBy (sym (ap frame_of view)) (subst (AfterIn age) (sym (left_frame _ _ old middle id leaves))
-        (quiet_collecting old.council (era_at old 0) old.greatest by.at None (by.at.collection.ages ++ age ∷ []) by.at.collection.reserved was (ap asks_at by.is_due)
-        (not_in_round old.council (era_at old 0) old.greatest by.at.collection (Renew id) of by.is_due apart) (renewed age) (λ before. omega arith) of.few (of.acknowledged (λ is. apart (sym by.is_due ∙ is)))))
+        (quiet_collecting old.council (era_at old 0) old.last_proposer by.at None (by.at.collection.ages ++ age ∷ []) by.at.collection.reserved was (ap asks_at by.is_due)
+        (not_in_round old.council (era_at old 0) old.last_proposer by.at.collection (Renew id) of by.is_due apart) (renewed age) (λ before. omega arith) of.few (of.acknowledged (λ is. apart (sym by.is_due ∙ is)))))
     in_case (collect.is_down down view) = told _ (ap frame_of view)
     in_case (collect.fails middle down view) = same_collecting (told_view middle _) new (ap frame_of view) (told_collecting middle _ (down_collecting _ old middle id down was))
     in_case (collect.is_spent up spent view) = told _ (ap frame_of view)
@@ -380,16 +380,16 @@ ask_collect_collecting {S} {V} m old new by was = in_case by.asks
     at : CollectingAt old.council
     at = by.may.at
 
-    of : IsCollectionSafe old.council (era_at old 0) old.greatest at.collection
+    of : IsCollectionSafe old.council (era_at old 0) old.last_proposer at.collection
     of = was.each at.collection at.is_collection
 
     told : (answer : OpAnswer) → new ≡ told_view old answer → IsCollectingSafe new
     told answer is = same_collecting (told_view old answer) new (ap frame_of is) (told_collecting old answer was)
 
-    asked_for : (question : Question) → IsQuestionOf at.collection question → IsCollectingIn (record old.council { exchange = Some (new_exchange question (tomb_of at.collection.tombstone) (everyone old) (length old.marks)) }) (era_at old 0) old.greatest
+    asked_for : (question : Question) → IsQuestionOf at.collection question → IsCollectingIn (record old.council { exchange = Some (new_exchange question (tomb_of at.collection.tombstone) (everyone old) (length old.marks)) }) (era_at old 0) old.last_proposer
     asked_for question asks =
         let exchange : ExchangeView = new_exchange question (tomb_of at.collection.tombstone) (everyone old) (length old.marks) in
-        one_collecting (record old.council { exchange = Some exchange }) (era_at old 0) old.greatest at.collection at.is_collection (record {
+        one_collecting (record old.council { exchange = Some exchange }) (era_at old 0) old.last_proposer at.collection at.is_collection (record {
           order = of.order;
           is_open = of.is_open;
           is_for = of.is_for;
@@ -414,7 +414,7 @@ ask_collect_collecting {S} {V} m old new by was = in_case by.asks
 pub gather_collect_collecting : {S V : Type 0} (old new : View S V) → StepGatherCollect old new → IsCollectingSafe old → IsCollectingSafe new
 gather_collect_collecting {S} {V} old new by was = in_case by.gathers
   where
-    of : IsCollectionSafe old.council (era_at old 0) old.greatest by.at.collection
+    of : IsCollectionSafe old.council (era_at old 0) old.last_proposer by.at.collection
     of = was.each by.at.collection by.at.is_collection
 
     asks : asks_at by.at.collection.course.step ≡ true
@@ -426,12 +426,12 @@ gather_collect_collecting {S} {V} old new by was = in_case by.gathers
     over : (answer : OpAnswer) → new ≡ gathered old answer → IsCollectingSafe new
     over answer is = same_collecting (gathered old answer) new (ap frame_of is) (gathered_collecting old answer was)
 
-    confirmed_in : (removed kept : ℕ) → IsCollectingIn (record old.council { order = Some (record by.at.order { told = None }); exchange = None; collection = Some (confirmed by.at.collection by.at.collection.ages removed kept by.at.collection.reserved) }) (era_at old 0) old.greatest
+    confirmed_in : (removed kept : ℕ) → IsCollectingIn (record old.council { order = Some (record by.at.order { told = None }); exchange = None; collection = Some (confirmed by.at.collection by.at.collection.ages removed kept by.at.collection.reserved) }) (era_at old 0) old.last_proposer
     confirmed_in removed kept =
         let next : Council = record old.council { order = Some (record by.at.order { told = None }); exchange = None; collection = Some (confirmed by.at.collection by.at.collection.ages removed kept by.at.collection.reserved) } in
-        one_collecting next (era_at old 0) old.greatest (confirmed by.at.collection by.at.collection.ages removed kept by.at.collection.reserved) refl
-        (confirmed_safe old.council next (era_at old 0) old.greatest by.at.collection (record by.at.order { told = None }) by.at.collection.ages removed kept by.at.collection.reserved of refl by.at.is_for of.none_planned
-        (λ in_call. past (of.calling in_call)) (of.ages ∙ sym (renewed_still old.greatest by.at.collection.course.step asks)) (λ before. omega arith) of.few (of.acknowledged past))
+        one_collecting next (era_at old 0) old.last_proposer (confirmed by.at.collection by.at.collection.ages removed kept by.at.collection.reserved) refl
+        (confirmed_safe old.council next (era_at old 0) old.last_proposer by.at.collection (record by.at.order { told = None }) by.at.collection.ages removed kept by.at.collection.reserved of refl by.at.is_for of.none_planned
+        (λ in_call. past (of.calling in_call)) (of.ages ∙ sym (renewed_still old.last_proposer by.at.collection.course.step asks)) (λ before. omega arith) of.few (of.acknowledged past))
         (λ exchange none kind. absurd (cc none))
 
     in_case : collect.GathersCollect old by.at by.of_exchange.exchange new → IsCollectingSafe new
@@ -442,7 +442,7 @@ gather_collect_collecting {S} {V} old new by was = in_case by.gathers
 pub floor_collecting : {S V : Type 0} (old new : View S V) → StepMakeFloor old new → IsCollectingSafe old → IsCollectingSafe new
 floor_collecting {S} {V} old new by was =
     let of = was.each by.at.collection by.at.is_collection in
-    subst IsCollectingBy (sym (ap frame_of by.view)) (quiet_collecting old.council (era_at old 0) old.greatest by.at None by.at.collection.ages 0 was (ap asks_at by.is_due)
-    (not_in_round old.council (era_at old 0) old.greatest by.at.collection FloorStep of by.is_due (λ is. cc is))
-    (of.ages ∙ ap (renewals_before old.greatest) by.is_due ∙ sym (ap (λ (s : CollectStep). renewals_before old.greatest (step_after old.greatest s)) by.is_due))
-    (λ before. absurd (cc (before, ap (λ (s : CollectStep). is_after_floor (step_after old.greatest s)) by.is_due))) (omega arith) (of.acknowledged (λ is. cc (is, by.is_due))))
+    subst IsCollectingBy (sym (ap frame_of by.view)) (quiet_collecting old.council (era_at old 0) old.last_proposer by.at None by.at.collection.ages 0 was (ap asks_at by.is_due)
+    (not_in_round old.council (era_at old 0) old.last_proposer by.at.collection FloorStep of by.is_due (λ is. cc is))
+    (of.ages ∙ ap (renewals_before old.last_proposer) by.is_due ∙ sym (ap (λ (s : CollectStep). renewals_before old.last_proposer (step_after old.last_proposer s)) by.is_due))
+    (λ before. absurd (cc (before, ap (λ (s : CollectStep). is_after_floor (step_after old.last_proposer s)) by.is_due))) (omega arith) (of.acknowledged (λ is. cc (is, by.is_due))))

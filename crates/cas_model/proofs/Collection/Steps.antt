@@ -141,13 +141,13 @@ fresh_known cluster log c due none sought entered untold = record {
 entered_by_all : {S V : Type 0} (m : Meaning S V) (view : View S V) (is : IsFollowed m view) → view.council.plan ≡ None → ((era_at view 0).number ≡ 0) ⊎ AllEntered is.cluster (era_at view 0).number (marks_of is.logged.global.log)
 entered_by_all {S} {V} m view is none = by_number (era_at view 0).number refl
   where
-    entries : AreEntries (course view.greatest view.eras None (entries_in view.marks))
-    entries = subst (λ (p : Option PlanView). AreEntries (course view.greatest view.eras p (entries_in view.marks))) none is.course.is_course.entries
+    entries : AreEntries (course view.last_proposer view.eras None (entries_in view.marks))
+    entries = subst (λ (p : Option PlanView). AreEntries (course view.last_proposer view.eras p (entries_in view.marks))) none is.course.is_course.entries
 
     by_number : (n : ℕ) → (era_at view 0).number ≡ n → ((era_at view 0).number ≡ 0) ⊎ AllEntered is.cluster (era_at view 0).number (marks_of is.logged.global.log)
     by_number zero same = inl same
     by_number (suc n) same = inr (λ proposer known. subst (Stands (EraEntered proposer (era_at view 0).number)) (sym is.logged.agrees.marks)
-        (entry_stands view.marks proposer (era_at view 0).number (entries.all (omega (arith, same)) proposer (omega (arith, known, is.logged.agrees.greatest)))))
+        (entry_stands view.marks proposer (era_at view 0).number (entries.all (omega (arith, same)) proposer (omega (arith, known, is.logged.agrees.last_proposer)))))
 
 -- none is renewed of one whose round is due
 none_of : {S V : Type 0} (m : Meaning S V) (old : View S V) (is : IsFollowed m old) (at : CollectingAt old.council) → at.collection.course.step ≡ Round → at.collection.ages ≡ []
@@ -381,8 +381,8 @@ accepts_all {S} {V} m view is none acceptor member = elim ((is.logged.agrees.era
   | inr accepts ↦ accepts
 ]
   where
-    settled : IsSettled (course view.greatest view.eras None (entries_in view.marks))
-    settled = subst (λ (p : Option PlanView). IsUnderWay (course view.greatest view.eras p (entries_in view.marks)) p) none is.course.is_course.under_way
+    settled : IsSettled (course view.last_proposer view.eras None (entries_in view.marks))
+    settled = subst (λ (p : Option PlanView). IsUnderWay (course view.last_proposer view.eras p (entries_in view.marks)) p) none is.course.is_course.under_way
 
 -- once all who accept in the era acknowledged it, the first proposer is to be renewed
 gathers_round : {S V : Type 0} (m : Meaning S V) (old : View S V) (new : View S V) → IsRemembered m old → StepGatherRound old new → IsRemembered m new
@@ -627,7 +627,7 @@ renews {S} {V} m old proposer new disks is by = by_case by.renews
 
 -- ---- once all are renewed
 -- a proposer that is known was renewed
-age_of : {S V : Type 0} (view : View S V) (c : CollectionView) → IsRenewedBy view c → (id : ℕ) → id ≤ view.greatest → (age : ℕ) × IsAt c.ages id age
+age_of : {S V : Type 0} (view : View S V) (c : CollectionView) → IsRenewedBy view c → (id : ℕ) → id ≤ view.last_proposer → (age : ℕ) × IsAt c.ages id age
 age_of view c of id low = at_low c.ages id (omega (arith, low, of.all_renewed))
 
 -- the members of the collection's era are all of its era's cluster
@@ -637,26 +637,26 @@ era_of m view is c of = subst (IsEraOf is.cluster) (sym of.same_era) (is.logged.
 -- no era is beyond it
 none_later : {S V : Type 0} (m : Meaning S V) (view : View S V) (is : IsFollowed m view) (c : CollectionView) → IsRenewedBy view c → (number acceptor : ℕ) → suc c.course.era.number ≤ number → has_member (is.cluster.members number) acceptor ≡ true → ⊥
 none_later {S} {V} m view is c of number acceptor far member =
-    let on : IsCourseOf is.cluster (course view.greatest view.eras None (entries_in view.marks)) =
-    subst (λ (p : Option PlanView). IsCourseOf is.cluster (course view.greatest view.eras p (entries_in view.marks))) of.none_planned is.course in
+    let on : IsCourseOf is.cluster (course view.last_proposer view.eras None (entries_in view.marks)) =
+    subst (λ (p : Option PlanView). IsCourseOf is.cluster (course view.last_proposer view.eras p (entries_in view.marks))) of.none_planned is.course in
     let none = on.none_beyond number (omega (arith, far, ap (λ (e : Era). e.number) of.same_era)) in
     cc (sym (ap (λ (l : List ℕ). has_member l acceptor) none.members) ∙ member)
 
 -- who asks in a round is known
-asker_known : (cluster : Cluster) (log : List Happening) (request : Request) → Orderly cluster log → Stands (Asked request) log → IsRoundAsk request.ask → request.from ≤ cluster.greatest
+asker_known : (cluster : Cluster) (log : List Happening) (request : Request) → Orderly cluster log → Stands (Asked request) log → IsRoundAsk request.ask → request.from ≤ cluster.last_proposer
 asker_known cluster log request orderly stands round =
     let may : MayAsk cluster stands.older request request.ask = reason cluster orderly stands.at in
     let ask_for = round_asked cluster stands.older request request.ask round may in
     let drawn = ask_for.drawn in
     let draw : MayDraw cluster drawn.older _ _ _ = reason cluster (orderly_older cluster orderly stands.at) drawn.at in
-    subst (λ (n : ℕ). n ≤ cluster.greatest) ask_for.own draw.known
+    subst (λ (n : ℕ). n ≤ cluster.last_proposer) ask_for.own draw.known
 
 -- what was asked of a member for the key at or below the tombstone is too old for it, once all were told the new ages
 aged_by_ages : {S V : Type 0} (m : Meaning S V) (view : View S V) (is : IsFollowed m view) (c : CollectionView) → IsRenewedBy view c → is_after_ages c.course.step ≡ true → IsCollectionTrue is.cluster is.logged.global.log c
     → (acceptor : ℕ) → has_member (is.cluster.members c.course.era.number) acceptor ≡ true → IsAgedOut is.logged.global.log acceptor c.course.key (tomb_of c.tombstone)
 aged_by_ages m view is c of past known acceptor member = record {
   aged = λ request stands to round same low.
-      let age = age_of view c of request.from (omega (arith, asker_known is.cluster is.logged.global.log request is.logged.history.orderly stands round, is.logged.agrees.greatest)) in
+      let age = age_of view c of request.from (omega (arith, asker_known is.cluster is.logged.global.log request is.logged.history.orderly stands round, is.logged.agrees.last_proposer)) in
       omega (arith, known.older request.from age.0 request age.1 stands refl round same low, known.told past acceptor request.from age.0 member age.1);
 }
 
@@ -687,8 +687,8 @@ makes_floor {S} {V} m old new is by = subst (IsRemembered m) (sym (by.view ∙ a
     cluster = is.followed.cluster;
     logged = marked m is.followed.cluster (with_mark global h) (collecting old by.at.order None next) (Floor key tomb Empty ∷ []) (marks_of global.log)
         (counsels m is.followed.cluster (with_mark global h) old _ (floored.parties.council.0, floored.parties.council.1, floored.parties.council.2, next_known) floored) is.followed.logged.agrees.marks refl;
-    course = subst (λ (l : List Entry). IsCourseOf is.followed.cluster (course old.greatest old.eras old.council.plan l)) (sym no_entry) is.followed.course;
-    in_eras = λ id desk at. subst (λ (l : List Entry). (id ≤ old.greatest) × IsInEra m (course old.greatest old.eras old.council.plan l) id desk) (sym no_entry) (is.followed.in_eras id desk at);
+    course = subst (λ (l : List Entry). IsCourseOf is.followed.cluster (course old.last_proposer old.eras old.council.plan l)) (sym no_entry) is.followed.course;
+    in_eras = λ id desk at. subst (λ (l : List Entry). (id ≤ old.last_proposer) × IsInEra m (course old.last_proposer old.eras old.council.plan l) id desk) (sym no_entry) (is.followed.in_eras id desk at);
   };
   renewed = renewed_same m old by.at.order None c next by.at.is_collection refl refl refl is.renewed;
 })

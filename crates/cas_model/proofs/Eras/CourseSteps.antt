@@ -33,18 +33,18 @@ restart_on {S} {V} m old new id (step.restarts desk now caller at at_c down by v
   where
     by_down : (b : Bool) → IsCourse (course_of (record (with_desk old id now) { eras = if b then old.eras else slice_set old.eras id (era_shown old.council.plan (era_at old id) (kept_of now.vault).era) }))
     by_down true = was
-    by_down false = course_shown old.greatest old.eras old.council.plan (entries_in old.marks) id (kept_of now.vault).era was
+    by_down false = course_shown old.last_proposer old.eras old.council.plan (entries_in old.marks) id (kept_of now.vault).era was
 
 finish_on : {S V : Type 0} (old : View S V) (plan : PlanView) → old.council.plan ≡ Some plan → plan.progress.left ≡ [] → IsCourse (course_of old) → IsCourse (course_of (with_council old (record old.council { plan = None })))
-finish_on old plan is_plan none was = course_finished old.greatest old.eras (entries_in old.marks) plan none (subst (λ (p : Option PlanView). IsCourse (course old.greatest old.eras p (entries_in old.marks))) is_plan was)
+finish_on old plan is_plan none was = course_finished old.last_proposer old.eras (entries_in old.marks) plan none (subst (λ (p : Option PlanView). IsCourse (course old.last_proposer old.eras p (entries_in old.marks))) is_plan was)
 
 -- a listing that is not complete is dropped
 over_on : {S V : Type 0} (old : View S V) (asked : Asked) (answer : OpAnswer) → IsCourse (course_of old) → IsCourse (course_of (told_over old asked answer))
 over_on {S} {V} old asked answer was = subst IsCourse (sym (told_course old asked answer)) (by_plan old.council.plan was)
   where
-    by_plan : (plan : Option PlanView) → IsCourse (course old.greatest old.eras plan (entries_in old.marks)) → IsCourse (course old.greatest old.eras (option_map without_partial plan) (entries_in old.marks))
+    by_plan : (plan : Option PlanView) → IsCourse (course old.last_proposer old.eras plan (entries_in old.marks)) → IsCourse (course old.last_proposer old.eras (option_map without_partial plan) (entries_in old.marks))
     by_plan None was = was
-    by_plan (Some plan) was = course_relisted old.greatest old.eras plan (entries_in old.marks) plan.rescanned (complete_only plan.listing) was
+    by_plan (Some plan) was = course_relisted old.last_proposer old.eras plan (entries_in old.marks) plan.rescanned (complete_only plan.listing) was
 
 tell_on : {S V : Type 0} (old new : View S V) (answer : OpAnswer) → StepTell old answer new → IsCourse (course_of old) → IsCourse (course_of new)
 tell_on {S} {V} old new answer (told_by.tells order said is_open told same view) was = subst IsCourse (sym (ap course_of view)) (over_on old order.asked answer was)
@@ -54,8 +54,8 @@ tell_on {S} {V} old new answer (told_by.finishes order is_open by view) was =
 
 -- ---- listings
 -- with another plan
-planned_on : {S V : Type 0} (old : View S V) (plan : PlanView) → old.council.plan ≡ Some plan → IsCourse (course_of old) → IsCourse (course old.greatest old.eras (Some plan) (entries_in old.marks))
-planned_on old plan is was = subst (λ (p : Option PlanView). IsCourse (course old.greatest old.eras p (entries_in old.marks))) is was
+planned_on : {S V : Type 0} (old : View S V) (plan : PlanView) → old.council.plan ≡ Some plan → IsCourse (course_of old) → IsCourse (course old.last_proposer old.eras (Some plan) (entries_in old.marks))
+planned_on old plan is was = subst (λ (p : Option PlanView). IsCourse (course old.last_proposer old.eras p (entries_in old.marks))) is was
 
 -- all are asked for their next keys
 ask_on : {S V : Type 0} (m : Meaning S V) (old new : View S V) (places : List MemberPlace) → StepAskAll m old (NextKeys places) new → IsCourse (course_of old) → IsCourse (course_of new)
@@ -66,8 +66,8 @@ ask_on {S} {V} m old new places by was = in_case by.asks
 
     in_case : told_by.AsksAll m old (NextKeys places) by.desk new → IsCourse (course_of new)
     in_case (told_by.asks now tag flow up room tagged now_is sends view) =
-        subst IsCourse (sym (ap course_of view ∙ ap (λ (p : Option PlanView). course old.greatest old.eras (option_map (told_by.listing_begun places tag) p) (entries_in old.marks)) due.is_plan))
-        (course_relisted old.greatest old.eras due.plan (entries_in old.marks) due.plan.rescanned (Some (told_by.begun_listing places tag due.plan.listing)) (planned_on old due.plan due.is_plan was))
+        subst IsCourse (sym (ap course_of view ∙ ap (λ (p : Option PlanView). course old.last_proposer old.eras (option_map (told_by.listing_begun places tag) p) (entries_in old.marks)) due.is_plan))
+        (course_relisted old.last_proposer old.eras due.plan (entries_in old.marks) due.plan.rescanned (Some (told_by.begun_listing places tag due.plan.listing)) (planned_on old due.plan due.is_plan was))
     in_case (told_by.is_down down view) = subst IsCourse (sym (ap course_of view)) was
     in_case (told_by.is_full up full view) = subst IsCourse (sym (ap course_of view)) was
     in_case (told_by.is_spent now up spent kept now_is view) = subst IsCourse (sym (ap course_of view)) was
@@ -81,7 +81,7 @@ gather_on {S} {V} old new by was = in_case by.gathers
     in_case (told_by.crashed down view) = subst IsCourse (sym (ap course_of view)) was
     in_case (told_by.probed key found up question keeps view) = subst IsCourse (sym (ap course_of view)) was
     in_case (told_by.lists of listing up enough on view) =
-        subst IsCourse (sym (ap course_of view)) (course_listed old.greatest old.eras of.plan (entries_in old.marks) listing of.settles (planned_on old of.plan of.is_plan was))
+        subst IsCourse (sym (ap course_of view)) (course_listed old.last_proposer old.eras of.plan (entries_in old.marks) listing of.settles (planned_on old of.plan of.is_plan was))
     in_case (told_by.is_short of short up missing view) = subst IsCourse (sym (ap course_of view)) was
     in_case (told_by.no_memory up view) = subst IsCourse (sym (ap course_of view)) was
 
@@ -89,14 +89,14 @@ gather_on {S} {V} old new by was = in_case by.gathers
 end_on : {S V : Type 0} (m : Meaning S V) (old new : View S V) (id : ℕ) (told : Answer) → StepEnd m old id told new → IsCourse (course_of old) → IsCourse (course_of new)
 end_on {S} {V} m old new id told by was = subst IsCourse (sym (end_course m old new id told by)) (in_case by.ends.rescans)
   where
-    in_case : calls.Rescans old.council id by.of_call.call.key told by.ends.council → IsCourse (course old.greatest old.eras by.ends.council.plan (entries_in old.marks))
-    in_case (calls.is_none none same) = subst (λ (c : Council). IsCourse (course old.greatest old.eras c.plan (entries_in old.marks))) (sym same) was
-    in_case (calls.stops of undone same) = subst (λ (c : Council). IsCourse (course old.greatest old.eras c.plan (entries_in old.marks))) (sym same) was
+    in_case : calls.Rescans old.council id by.of_call.call.key told by.ends.council → IsCourse (course old.last_proposer old.eras by.ends.council.plan (entries_in old.marks))
+    in_case (calls.is_none none same) = subst (λ (c : Council). IsCourse (course old.last_proposer old.eras c.plan (entries_in old.marks))) (sym same) was
+    in_case (calls.stops of undone same) = subst (λ (c : Council). IsCourse (course old.last_proposer old.eras c.plan (entries_in old.marks))) (sym same) was
     in_case (calls.rescans of done same) =
         let counted : PlanView = record of.plan { rescanned = one_more of.plan.rescanned } in
-        subst (λ (c : Council). IsCourse (course old.greatest old.eras c.plan (entries_in old.marks))) (sym same)
-        (course_listed old.greatest old.eras counted (entries_in old.marks) (record of.listing { keys = drop 1 of.listing.keys }) of.settles
-        (course_relisted old.greatest old.eras of.plan (entries_in old.marks) (one_more of.plan.rescanned) of.plan.listing (planned_on old of.plan of.is_plan was)))
+        subst (λ (c : Council). IsCourse (course old.last_proposer old.eras c.plan (entries_in old.marks))) (sym same)
+        (course_listed old.last_proposer old.eras counted (entries_in old.marks) (record of.listing { keys = drop 1 of.listing.keys }) of.settles
+        (course_relisted old.last_proposer old.eras of.plan (entries_in old.marks) (one_more of.plan.rescanned) of.plan.listing (planned_on old of.plan of.is_plan was)))
 
 -- an acceptor that joins changes no era
 pub welcome_course : {S V : Type 0} (m : Meaning S V) (old middle : View S V) (asked : Asked) → Welcomes m old asked middle → course_of middle ≡ course_of old
@@ -113,29 +113,29 @@ open_on {S} {V} m old new by was = by_case by.opens
     by_case (plans.is_busy plan up busy view) = subst IsCourse (sym (ap course_of view)) was
     by_case (plans.refuses fault up none planned view) = subst IsCourse (sym (ap course_of view)) was
     by_case (plans.opens progress middle up none planned welcomes view) =
-        let settled = subst (λ (p : Option PlanView). IsCourse (course old.greatest old.eras p (entries_in old.marks))) none was in
+        let settled = subst (λ (p : Option PlanView). IsCourse (course old.last_proposer old.eras p (entries_in old.marks))) none was in
         let begins = planned_starts (era_at old 0) old.council.used by.order.asked progress settled.under_way.whole planned in
-        subst IsCourse (sym (ap course_of view ∙ ap (λ (c : Course). course c.greatest c.eras (Some (plans.new_plan by.order.asked progress)) c.entries) (welcome_course m old middle by.order.asked welcomes)))
-        (course_opened old.greatest old.eras (entries_in old.marks) by.order.asked progress begins.era begins.start settled)
+        subst IsCourse (sym (ap course_of view ∙ ap (λ (c : Course). course c.last_proposer c.eras (Some (plans.new_plan by.order.asked progress)) c.entries) (welcome_course m old middle by.order.asked welcomes)))
+        (course_opened old.last_proposer old.eras (entries_in old.marks) by.order.asked progress begins.era begins.start settled)
     by_case (plans.no_memory middle up none welcomes view) = subst IsCourse (sym (ap course_of view ∙ welcome_course m old middle by.order.asked welcomes)) was
 
 -- a proposer enters the next era
 pub enters_course : {S V : Type 0} (m : Meaning S V) (old middle : View S V) (plan : PlanView) (next : Era) → LeavesRound (EntersEra m.disks next) (closed_by (answer.Moved next.number) (cause.Moved next.number)) old plan.entered middle
-    → course_of (entered_view middle plan next) ≡ course old.greatest (slice_set old.eras plan.entered next) (Some (plan_after old.greatest plan next)) (entries_in old.marks ++ record { proposer = plan.entered; era = next.number } ∷ [])
+    → course_of (entered_view middle plan next) ≡ course old.last_proposer (slice_set old.eras plan.entered next) (Some (plan_after old.last_proposer plan next)) (entries_in old.marks ++ record { proposer = plan.entered; era = next.number } ∷ [])
 enters_course {S} {V} m old middle plan next leaves =
     let same = left_course (EntersEra m.disks next) (closed_by (answer.Moved next.number) (cause.Moved next.number)) old middle plan.entered leaves in
-    ap (λ (l : List Entry). course middle.greatest (slice_set middle.eras plan.entered next) (Some (plan_after middle.greatest plan next)) l) (entries_joined middle.marks (EraEntered plan.entered next.number ∷ []))
-    ∙ ap (λ (c : Course). course c.greatest (slice_set c.eras plan.entered next) (Some (plan_after c.greatest plan next)) (c.entries ++ record { proposer = plan.entered; era = next.number } ∷ [])) same
+    ap (λ (l : List Entry). course middle.last_proposer (slice_set middle.eras plan.entered next) (Some (plan_after middle.last_proposer plan next)) l) (entries_joined middle.marks (EraEntered plan.entered next.number ∷ []))
+    ∙ ap (λ (c : Course). course c.last_proposer (slice_set c.eras plan.entered next) (Some (plan_after c.last_proposer plan next)) (c.entries ++ record { proposer = plan.entered; era = next.number } ∷ [])) same
 
 enter_on : {S V : Type 0} (m : Meaning S V) (old new : View S V) (id : ℕ) → StepEnterEra m old id new → IsCourse (course_of old) → IsCourse (course_of new)
 enter_on {S} {V} m old new id by was = by_case by.enters
   where
-    planned : IsCourse (course old.greatest old.eras (Some by.plan) (entries_in old.marks))
-    planned = subst (λ (p : Option PlanView). IsCourse (course old.greatest old.eras p (entries_in old.marks))) by.may.is_plan was
+    planned : IsCourse (course old.last_proposer old.eras (Some by.plan) (entries_in old.marks))
+    planned = subst (λ (p : Option PlanView). IsCourse (course old.last_proposer old.eras p (entries_in old.marks))) by.may.is_plan was
 
     by_case : EntersNext m old by.plan by.next by.desk new → IsCourse (course_of new)
     by_case (plans.enters middle room leaves view) = subst IsCourse (sym (ap course_of view ∙ enters_course m old middle by.plan by.next leaves))
-        (course_entered old.greatest old.eras by.plan (entries_in old.marks) by.next (ap next_era (sym by.may.is_plan) ∙ by.may.is_next) planned)
+        (course_entered old.last_proposer old.eras by.plan (entries_in old.marks) by.next (ap next_era (sym by.may.is_plan) ∙ by.may.is_next) planned)
     by_case (plans.is_full full view) = subst IsCourse (sym (ap course_of view)) was
     by_case (plans.is_down room down view) = subst IsCourse (sym (ap course_of view)) was
     by_case (plans.fails middle room down view) = subst IsCourse (sym (ap course_of view ∙ down_course (FailsToEnter m.disks by.next) old middle by.plan.entered down)) was

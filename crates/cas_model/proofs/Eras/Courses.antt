@@ -20,7 +20,7 @@ use Rattle.cas_model.specs.View.{era_in}
 use Rattle.cas_model.proofs.Places.{same_or_not, some_is, contains_none, contains_append, contains_front, contains_back}
 
 abbrev pub course : ℕ → List Era → Option PlanView → List Entry → Course
-course greatest eras plan entries = record { greatest = greatest; eras = eras; plan = plan; entries = entries }
+course last_proposer eras plan entries = record { last_proposer = last_proposer; eras = eras; plan = plan; entries = entries }
 
 -- ---- eras by their places
 pub era_set : (eras : List Era) (id : ℕ) (era : Era) → id < length eras → era_in (slice_set eras id era) id ≡ era
@@ -69,16 +69,16 @@ pub follows_sized : {era next : Era} → Follows era next → IsSized next
 follows_sized {next = next} follows = majorities_sized next follows.majorities follows.some_prep follows.some_acc
 
 -- all eras are sized, also where one is put in a place
-sized_with : (greatest : ℕ) (eras : List Era) (id : ℕ) (era : Era) → length eras ≡ 17 → greatest ≤ 16 → (id ≤ greatest → IsSized era) → ((p : ℕ) → p ≤ greatest → IsSized (era_in eras p)) → (p : ℕ) → p ≤ greatest → IsSized (era_in (slice_set eras id era) p)
-sized_with greatest eras id era places few is were p low = by_place (same_or_not p id)
+sized_with : (last_proposer : ℕ) (eras : List Era) (id : ℕ) (era : Era) → length eras ≡ 17 → last_proposer ≤ 16 → (id ≤ last_proposer → IsSized era) → ((p : ℕ) → p ≤ last_proposer → IsSized (era_in eras p)) → (p : ℕ) → p ≤ last_proposer → IsSized (era_in (slice_set eras id era) p)
+sized_with last_proposer eras id era places few is were p low = by_place (same_or_not p id)
   where
     by_place : (p ≡ id) ⊎ (p ≡ id → ⊥) → IsSized (era_in (slice_set eras id era) p)
     by_place (inl same) = subst (λ (q : ℕ). IsSized (era_in (slice_set eras id era) q)) (sym same) (subst IsSized (sym (era_set eras id era (omega (arith, same, low, few, places)))) (is (omega (arith, same, low))))
     by_place (inr other) = subst IsSized (sym (era_kept eras id p era other)) (were p low)
 
 -- ---- the opening
-pub course_opens : (greatest : ℕ) (members : List ℕ) → greatest ≤ 16 → IsWhole (majority_era 0 members) → IsCourse (course greatest (replicate 17 (majority_era 0 members)) None [])
-course_opens greatest members few whole = record {
+pub course_opens : (last_proposer : ℕ) (members : List ℕ) → last_proposer ≤ 16 → IsWhole (majority_era 0 members) → IsCourse (course last_proposer (replicate 17 (majority_era 0 members)) None [])
+course_opens last_proposer members few whole = record {
   few = few;
   places = refl;
   sized = λ id low. subst IsSized (sym (first id (omega (arith, low, few)))) (majorities_sized (majority_era 0 members) (record { prep = refl; acc = refl }) whole.some whole.some);
@@ -96,12 +96,12 @@ course_opens greatest members few whole = record {
 
 -- ---- a proposer is up again
 -- one works where it worked, or in the next era
-pub stays_on : (greatest : ℕ) (eras : List Era) (plan : PlanView) (entries : List Entry) (id : ℕ) (era : Era) → (id ≤ greatest → WorksIn plan id era) → (id ≤ greatest → IsSized era)
-    → IsCourse (course greatest eras (Some plan) entries) → IsCourse (course greatest (slice_set eras id era) (Some plan) entries)
-stays_on greatest eras plan entries id era works sized was = record {
+pub stays_on : (last_proposer : ℕ) (eras : List Era) (plan : PlanView) (entries : List Entry) (id : ℕ) (era : Era) → (id ≤ last_proposer → WorksIn plan id era) → (id ≤ last_proposer → IsSized era)
+    → IsCourse (course last_proposer eras (Some plan) entries) → IsCourse (course last_proposer (slice_set eras id era) (Some plan) entries)
+stays_on last_proposer eras plan entries id era works sized was = record {
   few = was.few;
   places = length-set eras id era ∙ was.places;
-  sized = sized_with greatest eras id era was.places was.few sized was.sized;
+  sized = sized_with last_proposer eras id era was.places was.few sized was.sized;
   under_way = record {
     start = was.under_way.start;
     some_left = was.under_way.some_left;
@@ -111,17 +111,17 @@ stays_on greatest eras plan entries id era works sized was = record {
   entries = record { all = was.entries.all; led = was.entries.led; none_beyond = was.entries.none_beyond; counted = was.entries.counted };
 }
   where
-    by_place : (p : ℕ) → p ≤ greatest → (p ≡ id) ⊎ (p ≡ id → ⊥) → WorksIn plan p (era_in (slice_set eras id era) p)
+    by_place : (p : ℕ) → p ≤ last_proposer → (p ≡ id) ⊎ (p ≡ id → ⊥) → WorksIn plan p (era_in (slice_set eras id era) p)
     by_place p low (inl same) = subst (λ (q : ℕ). WorksIn plan q (era_in (slice_set eras id era) q)) (sym same)
         (subst (WorksIn plan id) (sym (era_set eras id era (omega (arith, same, low, was.few, was.places)))) (works (omega (arith, same, low))))
     by_place p low (inr other) = subst (WorksIn plan p) (sym (era_kept eras id p era other)) (was.under_way.each p low)
 
-pub course_shown : (greatest : ℕ) (eras : List Era) (plan : Option PlanView) (entries : List Entry) (id number : ℕ)
-    → IsCourse (course greatest eras plan entries) → IsCourse (course greatest (slice_set eras id (era_shown plan (era_in eras id) number)) plan entries)
-course_shown greatest eras None entries id number was = subst (λ (l : List Era). IsCourse (course greatest l None entries)) (sym (set-get_or eras id (majority_era 0 []))) was
-course_shown greatest eras (Some plan) entries id number was = stays_on greatest eras plan entries id (era_shown (Some plan) (era_in eras id) number) (λ low. by_next low (entering plan.progress.left) refl) (λ low. sized_next low (entering plan.progress.left) refl) was
+pub course_shown : (last_proposer : ℕ) (eras : List Era) (plan : Option PlanView) (entries : List Entry) (id number : ℕ)
+    → IsCourse (course last_proposer eras plan entries) → IsCourse (course last_proposer (slice_set eras id (era_shown plan (era_in eras id) number)) plan entries)
+course_shown last_proposer eras None entries id number was = subst (λ (l : List Era). IsCourse (course last_proposer l None entries)) (sym (set-get_or eras id (majority_era 0 []))) was
+course_shown last_proposer eras (Some plan) entries id number was = stays_on last_proposer eras plan entries id (era_shown (Some plan) (era_in eras id) number) (λ low. by_next low (entering plan.progress.left) refl) (λ low. sized_next low (entering plan.progress.left) refl) was
   where
-    by_next : id ≤ greatest → (next : Option Era) → entering plan.progress.left ≡ next → WorksIn plan id (shown_era next (era_in eras id) number)
+    by_next : id ≤ last_proposer → (next : Option Era) → entering plan.progress.left ≡ next → WorksIn plan id (shown_era next (era_in eras id) number)
     by_next low None is = was.under_way.each id low
     by_next low (Some next) is = by_number (next.number == number)
       where
@@ -129,7 +129,7 @@ course_shown greatest eras (Some plan) entries id number was = stays_on greatest
         by_number true = entered is
         by_number false = was.under_way.each id low
 
-    sized_next : id ≤ greatest → (next : Option Era) → entering plan.progress.left ≡ next → IsSized (shown_era next (era_in eras id) number)
+    sized_next : id ≤ last_proposer → (next : Option Era) → entering plan.progress.left ≡ next → IsSized (shown_era next (era_in eras id) number)
     sized_next low None is = was.sized id low
     sized_next low (Some next) is = by_number (next.number == number)
       where
@@ -138,9 +138,9 @@ course_shown greatest eras (Some plan) entries id number was = stays_on greatest
         by_number false = was.sized id low
 
 -- ---- a change of membership
-pub course_opened : (greatest : ℕ) (eras : List Era) (entries : List Entry) (asked : Asked) (progress : Progress) → progress.era ≡ era_in eras 0 → IsStart progress.era progress.left
-    → IsCourse (course greatest eras None entries) → IsCourse (course greatest eras (Some (new_plan asked progress)) entries)
-course_opened greatest eras entries asked progress from start was = record {
+pub course_opened : (last_proposer : ℕ) (eras : List Era) (entries : List Entry) (asked : Asked) (progress : Progress) → progress.era ≡ era_in eras 0 → IsStart progress.era progress.left
+    → IsCourse (course last_proposer eras None entries) → IsCourse (course last_proposer eras (Some (new_plan asked progress)) entries)
+course_opened last_proposer eras entries asked progress from start was = record {
   few = was.few;
   places = was.places;
   sized = was.sized;
@@ -158,8 +158,8 @@ course_opened greatest eras entries asked progress from start was = record {
   };
 }
 
-pub course_finished : (greatest : ℕ) (eras : List Era) (entries : List Entry) (plan : PlanView) → plan.progress.left ≡ [] → IsCourse (course greatest eras (Some plan) entries) → IsCourse (course greatest eras None entries)
-course_finished greatest eras entries plan none was = record {
+pub course_finished : (last_proposer : ℕ) (eras : List Era) (entries : List Entry) (plan : PlanView) → plan.progress.left ≡ [] → IsCourse (course last_proposer eras (Some plan) entries) → IsCourse (course last_proposer eras None entries)
+course_finished last_proposer eras entries plan none was = record {
   few = was.few;
   places = was.places;
   sized = was.sized;
@@ -186,7 +186,7 @@ course_finished greatest eras entries plan none was = record {
     in_base id era (not_yet few is) = is
     in_base id era (entered is) = absurd (cc (is, not_entering))
 
-    works : (id : ℕ) → id ≤ greatest → era_in eras id ≡ plan.progress.era
+    works : (id : ℕ) → id ≤ last_proposer → era_in eras id ≡ plan.progress.era
     works id low = in_base id (era_in eras id) (was.under_way.each id low)
 
     base : era_in eras 0 ≡ plan.progress.era
@@ -203,13 +203,13 @@ the_entry : {entry other : Entry} → entry ≡ other → Contains (other ∷ []
 the_entry {entry} {other} same = contains entry (other ∷ []) (inl (sym same))
 
 -- where it is not the last one, others are still to enter it
-one_entered : (greatest : ℕ) (eras : List Era) (plan : PlanView) (entries : List Entry) (next : Era) → entering plan.progress.left ≡ Some next → (plan.entered ≡ greatest → ⊥)
-    → IsCourse (course greatest eras (Some plan) entries)
-    → IsCourse (course greatest (slice_set eras plan.entered next) (Some (record plan { entered = suc plan.entered })) (entries ++ record { proposer = plan.entered; era = next.number } ∷ []))
-one_entered greatest eras plan entries next is_next more was = record {
+one_entered : (last_proposer : ℕ) (eras : List Era) (plan : PlanView) (entries : List Entry) (next : Era) → entering plan.progress.left ≡ Some next → (plan.entered ≡ last_proposer → ⊥)
+    → IsCourse (course last_proposer eras (Some plan) entries)
+    → IsCourse (course last_proposer (slice_set eras plan.entered next) (Some (record plan { entered = suc plan.entered })) (entries ++ record { proposer = plan.entered; era = next.number } ∷ []))
+one_entered last_proposer eras plan entries next is_next more was = record {
   few = was.few;
   places = length-set eras plan.entered next ∙ was.places;
-  sized = sized_with greatest eras plan.entered next was.places was.few (λ low. follows_sized leading.follows) was.sized;
+  sized = sized_with last_proposer eras plan.entered next was.places was.few (λ low. follows_sized leading.follows) was.sized;
   under_way = record {
     start = was.under_way.start;
     some_left = low;
@@ -233,7 +233,7 @@ one_entered greatest eras plan entries next is_next more was = record {
     leading : Leads plan.progress.era next plan.progress.left
     leading = leads plan.progress.era next plan.progress.left is_next was.under_way.start
 
-    low : suc plan.entered ≤ greatest
+    low : suc plan.entered ≤ last_proposer
     low = omega (arith, was.under_way.some_left, more)
 
     by_place : (p : ℕ) → (p ≡ plan.entered) ⊎ (p ≡ plan.entered → ⊥) → ((p ≡ plan.entered → ⊥) → WorksIn plan p (era_in eras p)) → WorksIn (record plan { entered = suc plan.entered }) p (era_in (slice_set eras plan.entered next) p)
@@ -249,13 +249,13 @@ one_entered greatest eras plan entries next is_next more was = record {
     by_number id (inr other) under = contains_front entries _ (was.entries.led id (omega (arith, under, other)))
 
 -- where it is the last one, the era is the one that all entered last
-last_entered : (greatest : ℕ) (eras : List Era) (plan : PlanView) (entries : List Entry) (next : Era) → entering plan.progress.left ≡ Some next → plan.entered ≡ greatest
-    → IsCourse (course greatest eras (Some plan) entries)
-    → IsCourse (course greatest (slice_set eras plan.entered next) (Some (record plan { progress = record { era = next; left = rest_of plan.progress.left }; entered = 0; listing = None })) (entries ++ record { proposer = plan.entered; era = next.number } ∷ []))
-last_entered greatest eras plan entries next is_next last was = record {
+last_entered : (last_proposer : ℕ) (eras : List Era) (plan : PlanView) (entries : List Entry) (next : Era) → entering plan.progress.left ≡ Some next → plan.entered ≡ last_proposer
+    → IsCourse (course last_proposer eras (Some plan) entries)
+    → IsCourse (course last_proposer (slice_set eras plan.entered next) (Some (record plan { progress = record { era = next; left = rest_of plan.progress.left }; entered = 0; listing = None })) (entries ++ record { proposer = plan.entered; era = next.number } ∷ []))
+last_entered last_proposer eras plan entries next is_next last was = record {
   few = was.few;
   places = length-set eras plan.entered next ∙ was.places;
-  sized = sized_with greatest eras plan.entered next was.places was.few (λ low. follows_sized leading.follows) was.sized;
+  sized = sized_with last_proposer eras plan.entered next was.places was.few (λ low. follows_sized leading.follows) was.sized;
   under_way = record {
     start = path_starts next (rest_of plan.progress.left) (omega (arith, leading.follows.number)) leading.path;
     some_left = omega arith;
@@ -283,32 +283,32 @@ last_entered greatest eras plan entries next is_next last was = record {
     in_next p era under (not_yet few is) = absurd (omega (arith, under, few))
     in_next p era under (entered is) = some_is (sym is ∙ is_next)
 
-    by_place : (p : ℕ) → p ≤ greatest → (p ≡ plan.entered) ⊎ (p ≡ plan.entered → ⊥) → era_in (slice_set eras plan.entered next) p ≡ next
+    by_place : (p : ℕ) → p ≤ last_proposer → (p ≡ plan.entered) ⊎ (p ≡ plan.entered → ⊥) → era_in (slice_set eras plan.entered next) p ≡ next
     by_place p at (inl same) = ap (λ (q : ℕ). era_in (slice_set eras plan.entered next) q) same ∙ era_set eras plan.entered next (omega (arith, was.few, was.places, was.under_way.some_left))
     by_place p at (inr other) = era_kept eras plan.entered p next other ∙ in_next p (era_in eras p) (omega (arith, at, other, last)) (was.under_way.each p at)
 
-    by_number : (id : ℕ) → id ≤ greatest → (id ≡ plan.entered) ⊎ (id ≡ plan.entered → ⊥) → Contains (entries ++ record { proposer = plan.entered; era = next.number } ∷ []) (record { proposer = id; era = next.number })
+    by_number : (id : ℕ) → id ≤ last_proposer → (id ≡ plan.entered) ⊎ (id ≡ plan.entered → ⊥) → Contains (entries ++ record { proposer = plan.entered; era = next.number } ∷ []) (record { proposer = id; era = next.number })
     by_number id at (inl same) = contains_back entries _ (the_entry (ap (λ (n : ℕ). record { proposer = n; era = next.number }) same))
     by_number id at (inr other) = contains_front entries _ (subst (λ (n : ℕ). Contains entries (record { proposer = id; era = n })) (sym leading.follows.number) (was.entries.led id (omega (arith, at, other, last))))
 
-pub course_entered : (greatest : ℕ) (eras : List Era) (plan : PlanView) (entries : List Entry) (next : Era) → entering plan.progress.left ≡ Some next → IsCourse (course greatest eras (Some plan) entries)
-    → IsCourse (course greatest (slice_set eras plan.entered next) (Some (plan_after greatest plan next)) (entries ++ record { proposer = plan.entered; era = next.number } ∷ []))
-course_entered greatest eras plan entries next is_next was = by_number (plan.entered == greatest) refl
+pub course_entered : (last_proposer : ℕ) (eras : List Era) (plan : PlanView) (entries : List Entry) (next : Era) → entering plan.progress.left ≡ Some next → IsCourse (course last_proposer eras (Some plan) entries)
+    → IsCourse (course last_proposer (slice_set eras plan.entered next) (Some (plan_after last_proposer plan next)) (entries ++ record { proposer = plan.entered; era = next.number } ∷ []))
+course_entered last_proposer eras plan entries next is_next was = by_number (plan.entered == last_proposer) refl
   where
-    by_number : (b : Bool) → (plan.entered == greatest) ≡ b
-        → IsCourse (course greatest (slice_set eras plan.entered next)
+    by_number : (b : Bool) → (plan.entered == last_proposer) ≡ b
+        → IsCourse (course last_proposer (slice_set eras plan.entered next)
         (Some (if b then record plan { progress = record { era = next; left = rest_of plan.progress.left }; entered = 0; listing = None } else record plan { entered = suc plan.entered }))
         (entries ++ record { proposer = plan.entered; era = next.number } ∷ []))
-    by_number true is = last_entered greatest eras plan entries next is_next (nat_same is) was
-    by_number false is = one_entered greatest eras plan entries next is_next (λ same. not_both (plan.entered == greatest) (nat_is same) is) was
+    by_number true is = last_entered last_proposer eras plan entries next is_next (nat_same is) was
+    by_number false is = one_entered last_proposer eras plan entries next is_next (λ same. not_both (plan.entered == last_proposer) (nat_is same) is) was
 
 -- ---- an era is settled
 -- what is so where the first step is to settle the era
-pub record AtSettle (greatest : ℕ) (eras : List Era) (plan : PlanView) (entries : List Entry) : Type 0 where
+pub record AtSettle (last_proposer : ℕ) (eras : List Era) (plan : PlanView) (entries : List Entry) : Type 0 where
   pub positive : 0 < plan.progress.era.number
   pub none_entered : plan.entered ≡ 0
-  pub in_base : (id : ℕ) → id ≤ greatest → era_in eras id ≡ plan.progress.era
-  pub all : (id : ℕ) → id ≤ greatest → Contains entries (record { proposer = id; era = plan.progress.era.number })
+  pub in_base : (id : ℕ) → id ≤ last_proposer → era_in eras id ≡ plan.progress.era
+  pub all : (id : ℕ) → id ≤ last_proposer → Contains entries (record { proposer = id; era = plan.progress.era.number })
   pub start : IsStart plan.progress.era (drop 1 plan.progress.left)
 
 -- nothing is entered then
@@ -327,8 +327,8 @@ settled_start era (Settle ∷ Enter next ∷ left) is start = (start.0, (start.1
 settled_start era (Enter next ∷ left) is start = absurd (cc is)
 settled_start era (Finished ∷ left) is start = absurd (cc is)
 
-pub at_settle : (greatest : ℕ) (eras : List Era) (plan : PlanView) (entries : List Entry) → next_of plan.progress.left ≡ Settle → IsCourse (course greatest eras (Some plan) entries) → AtSettle greatest eras plan entries
-at_settle greatest eras plan entries is was = record {
+pub at_settle : (last_proposer : ℕ) (eras : List Era) (plan : PlanView) (entries : List Entry) → next_of plan.progress.left ≡ Settle → IsCourse (course last_proposer eras (Some plan) entries) → AtSettle last_proposer eras plan entries
+at_settle last_proposer eras plan entries is was = record {
   positive = begins.0;
   none_entered = was.under_way.none_entered none;
   in_base = λ id low. elim (was.under_way.each id low) [
@@ -347,9 +347,9 @@ at_settle greatest eras plan entries is was = record {
 
 -- ---- the plan goes on, and all else stays
 -- other keys are listed or proposed anew
-pub course_relisted : (greatest : ℕ) (eras : List Era) (plan : PlanView) (entries : List Entry) (count : ℕ) (listing : Option ListingView) → IsCourse (course greatest eras (Some plan) entries)
-    → IsCourse (course greatest eras (Some (record plan { rescanned = count; listing = listing })) entries)
-course_relisted greatest eras plan entries count listing was = record {
+pub course_relisted : (last_proposer : ℕ) (eras : List Era) (plan : PlanView) (entries : List Entry) (count : ℕ) (listing : Option ListingView) → IsCourse (course last_proposer eras (Some plan) entries)
+    → IsCourse (course last_proposer eras (Some (record plan { rescanned = count; listing = listing })) entries)
+course_relisted last_proposer eras plan entries count listing was = record {
   few = was.few;
   places = was.places;
   sized = was.sized;
@@ -366,10 +366,10 @@ course_relisted greatest eras plan entries count listing was = record {
 }
 
 -- the era is settled
-pub course_stepped : (greatest : ℕ) (eras : List Era) (plan : PlanView) (entries : List Entry) → next_of plan.progress.left ≡ Settle → IsCourse (course greatest eras (Some plan) entries)
-    → IsCourse (course greatest eras (Some (stepped plan)) entries)
-course_stepped greatest eras plan entries is was =
-    let at = at_settle greatest eras plan entries is was in
+pub course_stepped : (last_proposer : ℕ) (eras : List Era) (plan : PlanView) (entries : List Entry) → next_of plan.progress.left ≡ Settle → IsCourse (course last_proposer eras (Some plan) entries)
+    → IsCourse (course last_proposer eras (Some (stepped plan)) entries)
+course_stepped last_proposer eras plan entries is was =
+    let at = at_settle last_proposer eras plan entries is was in
     record {
       few = was.few;
       places = was.places;
@@ -383,10 +383,10 @@ course_stepped greatest eras plan entries is was =
       entries = record { all = was.entries.all; led = was.entries.led; none_beyond = was.entries.none_beyond; counted = was.entries.counted };
     }
 
-pub course_listed : (greatest : ℕ) (eras : List Era) (plan : PlanView) (entries : List Entry) (listing : ListingView) → next_of plan.progress.left ≡ Settle → IsCourse (course greatest eras (Some plan) entries)
-    → IsCourse (course greatest eras (Some (with_listing plan listing)) entries)
-course_listed greatest eras plan entries listing is was = by_test (listing.complete && (length listing.keys == 0))
+pub course_listed : (last_proposer : ℕ) (eras : List Era) (plan : PlanView) (entries : List Entry) (listing : ListingView) → next_of plan.progress.left ≡ Settle → IsCourse (course last_proposer eras (Some plan) entries)
+    → IsCourse (course last_proposer eras (Some (with_listing plan listing)) entries)
+course_listed last_proposer eras plan entries listing is was = by_test (listing.complete && (length listing.keys == 0))
   where
-    by_test : (b : Bool) → IsCourse (course greatest eras (Some (if b then stepped plan else record plan { listing = Some listing })) entries)
-    by_test true = course_stepped greatest eras plan entries is was
-    by_test false = course_relisted greatest eras plan entries plan.rescanned (Some listing) was
+    by_test : (b : Bool) → IsCourse (course last_proposer eras (Some (if b then stepped plan else record plan { listing = Some listing })) entries)
+    by_test true = course_stepped last_proposer eras plan entries is was
+    by_test false = course_relisted last_proposer eras plan entries plan.rescanned (Some listing) was

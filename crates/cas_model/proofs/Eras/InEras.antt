@@ -71,7 +71,7 @@ then_on first next = record {
 
 -- ---- all desks
 abbrev pub AreIn : {S V : Type 0} → Meaning S V → Course → List (DeskView V) → Type 0
-AreIn {S} {V} m of desks = (id : ℕ) (desk : DeskView V) → IsAt desks id desk → (id ≤ of.greatest) × IsInEra m of id desk
+AreIn {S} {V} m of desks = (id : ℕ) (desk : DeskView V) → IsAt desks id desk → (id ≤ of.last_proposer) × IsInEra m of id desk
 
 none_changed : {S V : Type 0} (m : Meaning S V) (of : Course) {old new : List (DeskView V)} → new ≡ old → AreIn m of old → AreIn m of new
 none_changed {S} {V} m of same was = subst (AreIn m of) (sym same) was
@@ -83,8 +83,8 @@ one_put {S} {V} m of old new id desk now same at is was p d at_d = by_place (sam
     there : IsAt (slice_set old id now) p d
     there = subst (λ (l : List (DeskView V)). IsAt l p d) same at_d
 
-    by_place : (p ≡ id) ⊎ (p ≡ id → ⊥) → (p ≤ of.greatest) × IsInEra m of p d
-    by_place (inl own) = subst (λ (q : ℕ). (q ≤ of.greatest) × IsInEra m of q d) (sym own)
+    by_place : (p ≡ id) ⊎ (p ≡ id → ⊥) → (p ≤ of.last_proposer) × IsInEra m of p d
+    by_place (inl own) = subst (λ (q : ℕ). (q ≤ of.last_proposer) × IsInEra m of q d) (sym own)
         ((was id desk at).0, subst (IsInEra m of id) (sym (own_set old id now d (subst (λ (q : ℕ). IsAt (slice_set old id now) q d) own there))) is)
     by_place (inr other) = was p d (other_set old id now p d other there)
 

@@ -60,7 +60,7 @@ no_more [] = refl
 no_more (entry ∷ entries) = ap (λ (l : List Entry). entry ∷ l) (no_more entries)
 
 pub quiet : {S V : Type 0} (old : View S V) (more : List Mark) → entries_in more ≡ [] → course_of (with_marks old more) ≡ course_of old
-quiet old more none = ap (λ (l : List Entry). record { greatest = old.greatest; eras = old.eras; plan = old.council.plan; entries = l })
+quiet old more none = ap (λ (l : List Entry). record { last_proposer = old.last_proposer; eras = old.eras; plan = old.council.plan; entries = l })
     (entries_joined old.marks more ∙ ap (λ (l : List Entry). entries_in old.marks ++ l) none ∙ no_more (entries_in old.marks))
 
 no_harms : (harmed : Bool) (caller call : ℕ) (down : Bool) → entries_in (if harmed then [] else Harmed caller call down ∷ []) ≡ []

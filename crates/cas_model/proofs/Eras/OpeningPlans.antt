@@ -31,8 +31,8 @@ use Rattle.cas_model.proofs.Eras.Wider.{IsAhead, wider_logged}
 use Rattle.cas_model.proofs.Eras.Widening.{IsWidening, widens}
 
 -- with no change under way all proposers work in the last era of the cluster
-settled_on : {S V : Type 0} (m : Meaning S V) (old : View S V) (is : IsFollowed m old) → old.council.plan ≡ None → IsCourseOf is.cluster (course old.greatest old.eras None (entries_in old.marks))
-settled_on m old is none = subst (λ (plan : Option PlanView). IsCourseOf is.cluster (course old.greatest old.eras plan (entries_in old.marks))) none is.course
+settled_on : {S V : Type 0} (m : Meaning S V) (old : View S V) (is : IsFollowed m old) → old.council.plan ≡ None → IsCourseOf is.cluster (course old.last_proposer old.eras None (entries_in old.marks))
+settled_on m old is none = subst (λ (plan : Option PlanView). IsCourseOf is.cluster (course old.last_proposer old.eras plan (entries_in old.marks))) none is.course
 
 -- who was used stays so, and who joins is
 used_set : (asked : Asked) (used : List ℕ) → IsMemberSet used → IsMemberSet (used_with asked used)
@@ -58,8 +58,8 @@ plan_opened {S} {V} m old asked progress next same_exchange is_plan is_used none
     subst (AreUsed wider) (sym is_used) used_then,
     subst (IsCollectingTrue wider is.logged.global.log) (sym none_collected) tt,
   );
-  course = subst (λ (plan : Option PlanView). IsCourseOf wider (course old.greatest old.eras plan (entries_in old.marks))) (sym is_plan) (record {
-    is_course = course_opened old.greatest old.eras (entries_in old.marks) asked progress begins.era begins.start on.is_course;
+  course = subst (λ (plan : Option PlanView). IsCourseOf wider (course old.last_proposer old.eras plan (entries_in old.marks))) (sym is_plan) (record {
+    is_course = course_opened old.last_proposer old.eras (entries_in old.marks) asked progress begins.era begins.start on.is_course;
     later = more.has;
     none_beyond = more.none_beyond;
   });
@@ -69,10 +69,10 @@ plan_opened {S} {V} m old asked progress next same_exchange is_plan is_used none
     used : List ℕ
     used = old.council.used
 
-    on : IsCourseOf is.cluster (course old.greatest old.eras None (entries_in old.marks))
+    on : IsCourseOf is.cluster (course old.last_proposer old.eras None (entries_in old.marks))
     on = settled_on m old is none
 
-    settled : IsSettled (course old.greatest old.eras None (entries_in old.marks))
+    settled : IsSettled (course old.last_proposer old.eras None (entries_in old.marks))
     settled = on.is_course.under_way
 
     begins : Begins (era_at old 0) progress
@@ -96,7 +96,7 @@ plan_opened {S} {V} m old asked progress next same_exchange is_plan is_used none
     more : IsWidening is.cluster wider progress.era later
     more = widening.1
 
-    low : (id : ℕ) → id ≤ old.greatest → (era_at old id).number ≤ progress.era.number
+    low : (id : ℕ) → id ≤ old.last_proposer → (era_at old id).number ≤ progress.era.number
     low id known = omega (arith, ap (λ (e : Era). e.number) (settled.same id known), ap (λ (e : Era). e.number) begins.era)
 
     member_then : (acceptor : ℕ) → IsMemberOfOne later acceptor → IsMemberThen (era_at old 0) used asked acceptor

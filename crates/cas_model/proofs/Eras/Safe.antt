@@ -62,9 +62,9 @@ entered_idle {S} {V} m next closed old middle id (stops.closes desk now round of
 enters_next : {S V : Type 0} (m : Meaning S V) (old middle : View S V) (plan : PlanView) (next : Era) → IsSound old → IsMemberSet next.prep → IsMemberSet next.acc → HasFewMembers next → length old.marks + reserved_in_all old < most_marks → entering plan.progress.left ≡ Some next → old.council.plan ≡ Some plan
     → LeavesRound (EntersEra m.disks next) (closed_by (answer.Moved next.number) (cause.Moved next.number)) old plan.entered middle → IsSound (entered_view middle plan next)
 enters_next {S} {V} m old middle plan next was prep acc few room is_next is_plan leaves =
-    council_safe (record middle { eras = slice_set middle.eras plan.entered next }) middle.flow (record (hushed middle.council) { plan = Some (plan_after middle.greatest plan next) }) (middle.marks ++ EraEntered plan.entered next.number ∷ [])
+    council_safe (record middle { eras = slice_set middle.eras plan.entered next }) middle.flow (record (hushed middle.council) { plan = Some (plan_after middle.last_proposer plan next) }) (middle.marks ++ EraEntered plan.entered next.number ∷ [])
     (era_safe middle plan.entered next left prep acc few (entered_idle m next (closed_by (answer.Moved next.number) (cause.Moved next.number)) old middle plan.entered leaves)) refl (λ p other. refl) (more_by middle.marks _) left.asking
-    (enters_safe middle.council.plan middle.council.exchange middle.greatest plan next
+    (enters_safe middle.council.plan middle.council.exchange middle.last_proposer plan next
     (ap (λ (c : Course). c.plan) (left_course (EntersEra m.disks next) (closed_by (answer.Moved next.number) (cause.Moved next.number)) old middle plan.entered leaves) ∙ is_plan) is_next left.council.0 left.council.1)
     (omega (
       arith,

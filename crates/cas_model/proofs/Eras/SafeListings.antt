@@ -126,9 +126,9 @@ ended_safe under_way open_ plan is_plan none listings was = (
 )
 
 -- a proposer enters the next era, of which nothing is listed
-pub enters_safe : (under_way : Option PlanView) (open_ : Option ExchangeView) (greatest : ℕ) (plan : PlanView) (next : Era) → under_way ≡ Some plan → entering plan.progress.left ≡ Some next → AreListingsSafe under_way → IsAskingOf under_way open_
-    → AreListingsSafe (Some (plan_after greatest plan next)) × IsAskingOf (Some (plan_after greatest plan next)) open_
-enters_safe under_way open_ greatest plan next is_plan is_next listings was = (by_test (plan.entered == greatest), λ exchange places is asks. absurd (asks_none exchange places is asks))
+pub enters_safe : (under_way : Option PlanView) (open_ : Option ExchangeView) (last_proposer : ℕ) (plan : PlanView) (next : Era) → under_way ≡ Some plan → entering plan.progress.left ≡ Some next → AreListingsSafe under_way → IsAskingOf under_way open_
+    → AreListingsSafe (Some (plan_after last_proposer plan next)) × IsAskingOf (Some (plan_after last_proposer plan next)) open_
+enters_safe under_way open_ last_proposer plan next is_plan is_next listings was = (by_test (plan.entered == last_proposer), λ exchange places is asks. absurd (asks_none exchange places is asks))
   where
     none : (listing : ListingView) → plan.listing ≡ Some listing → ⊥
     none listing is = cc (is_next, settle_enters plan.progress.left (listings plan listing is_plan is).settles)

@@ -92,7 +92,7 @@ entry_stands marks proposer era among =
 
 -- ---- nobody is beyond
 -- Where a proposer is not marked as in an era, nobody entered the one after it.
-pub none_after : (cluster : Cluster) (log : List Happening) (id other era : ℕ) → Lawful cluster log → 0 < era → other ≤ cluster.greatest → (Stands (EraEntered other era) (marks_of log) → ⊥) → Stands (Entered id (suc era)) log → ⊥
+pub none_after : (cluster : Cluster) (log : List Happening) (id other era : ℕ) → Lawful cluster log → 0 < era → other ≤ cluster.last_proposer → (Stands (EraEntered other era) (marks_of log) → ⊥) → Stands (Entered id (suc era)) log → ⊥
 none_after cluster log id other era lawful some known unmarked stands =
     let may = enter_law cluster lawful stands.at in
     let marked = may.may_leave.all_in (omega (arith, may.next, some)) other known in
@@ -124,7 +124,7 @@ entered_vault m log id era still none was = record {
 
 -- one without promise and round works on in the next era
 pub quiet_entered : {S V : Type 0} (m : Meaning S V) (cluster : Cluster) (log : List Happening) (all : List Made) (id era : ℕ) (old now : DeskView V) → now.id ≡ old.id → now.cache ≡ [] → now.round ≡ None
-    → Lasts m.disks old.vault now.vault → (Stands (Entered id (suc (suc era))) log → ⊥) → old.id ≡ id → id ≤ cluster.greatest → IsVaultTrue m log id era old.vault
+    → Lasts m.disks old.vault now.vault → (Stands (Entered id (suc (suc era))) log → ⊥) → old.id ≡ id → id ≤ cluster.last_proposer → IsVaultTrue m log id era old.vault
     → IsQuiet m cluster (Entered id (suc era) ∷ log) all id (suc era) now
 quiet_entered m cluster log all id era old now same_id no_promise none still beyond own known vault = record {
   same_id = same_id ∙ own;

@@ -31,7 +31,7 @@ elsewhere number new old n other = if_false (number == n) new (old n) (false_of_
 -- ---- one era more
 abbrev with_era : Cluster → Era → Cluster
 with_era cluster next = record {
-  greatest = cluster.greatest;
+  last_proposer = cluster.last_proposer;
   members = at_number next.number (union_of next.prep next.acc) cluster.members;
   prepares = λ n by. at_number next.number (holds_prep next by) (λ k. cluster.prepares k by) n;
   accepts = λ n by. at_number next.number (holds_acc next by) (λ k. cluster.accepts k by) n;
@@ -156,7 +156,7 @@ new_last cluster base next follows neighbours same last = record {
 
 new_widened : (cluster : Cluster) (next : Era) → IsNoEra cluster next.number → IsWidened cluster (with_era cluster next)
 new_widened cluster next none = record {
-  greatest = refl;
+  last_proposer = refl;
   members = λ era acceptor member. elim (same_or_not era next.number) [
     | inl new ↦ absurd (nobody (cluster.members era) acceptor (ap cluster.members new ∙ none.members) member)
     | inr other ↦ subst (λ (l : List ℕ). has_member l acceptor ≡ true) (sym (other_members cluster next era other)) member
@@ -185,11 +185,11 @@ pub record IsWidening (cluster wider : Cluster) (base : Era) (later : List Era) 
   pub none_beyond : (number : ℕ) → base.number + length later < number → IsNoEra wider number
 
 widened_same : (cluster : Cluster) → IsWidened cluster cluster
-widened_same cluster = record { greatest = refl; members = λ era acceptor member. member; prepares = λ era by quorum. quorum; accepts = λ era by quorum. quorum }
+widened_same cluster = record { last_proposer = refl; members = λ era acceptor member. member; prepares = λ era by quorum. quorum; accepts = λ era by quorum. quorum }
 
 widened_on : {old middle new : Cluster} → IsWidened old middle → IsWidened middle new → IsWidened old new
 widened_on first second = record {
-  greatest = second.greatest ∙ first.greatest;
+  last_proposer = second.last_proposer ∙ first.last_proposer;
   members = λ era acceptor member. second.members era acceptor (first.members era acceptor member);
   prepares = λ era by quorum. second.prepares era by (first.prepares era by quorum);
   accepts = λ era by quorum. second.accepts era by (first.accepts era by quorum);

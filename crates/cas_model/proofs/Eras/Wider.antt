@@ -64,7 +64,7 @@ wider_clear cluster wider base later log used key floor more ahead are orderly w
   era = was.era;
   all_in = elim was.all_in [
     | inl first ↦ inl first
-    | inr all ↦ inr (λ proposer known. all proposer (subst (λ (n : ℕ). proposer ≤ n) more.widened.greatest known))
+    | inr all ↦ inr (λ proposer known. all proposer (subst (λ (n : ℕ). proposer ≤ n) more.widened.last_proposer known))
   ];
   clear = λ number acceptor late member. elim (more.members number acceptor member) [
     | inl before ↦ was.clear number acceptor late before
@@ -150,7 +150,7 @@ wider_desk : {S V : Type 0} (m : Meaning S V) (cluster wider : Cluster) (base : 
     → IsWidening cluster wider base later → era ≤ base.number → IsDeskTrue m cluster log all era id caller waiting desk → IsDeskTrue m wider log all era id caller waiting desk
 wider_desk m cluster wider base later log all era id caller waiting desk more low was = record {
   same_id = was.same_id;
-  known = subst (λ (n : ℕ). id ≤ n) (sym more.widened.greatest) was.known;
+  known = subst (λ (n : ℕ). id ≤ n) (sym more.widened.last_proposer) was.known;
   vault = was.vault;
   cached = λ key ready has. wider_ready cluster wider base later log all id era key ready more (was.cached key ready has);
   one_each = was.one_each;
@@ -161,16 +161,16 @@ wider_desk m cluster wider base later log all era id caller waiting desk more lo
 -- ---- the whole
 -- with what the operator has under way then
 wider_agrees : {S V : Type 0} (m : Meaning S V) (cluster wider : Cluster) (base : Era) (later : List Era) (global : GlobalState) (view : View S V) (next : Council) → IsWidening cluster wider base later
-    → ((id : ℕ) → id ≤ view.greatest → (era_at view id).number ≤ base.number) → IsCouncilTrue wider global.log next → AgreesWith m cluster global view → AgreesWith m wider global (with_council view next)
+    → ((id : ℕ) → id ≤ view.last_proposer → (era_at view id).number ≤ base.number) → IsCouncilTrue wider global.log next → AgreesWith m cluster global view → AgreesWith m wider global (with_council view next)
 wider_agrees m cluster wider base later global view next more low council was = record {
   marks = was.marks;
-  greatest = more.widened.greatest ∙ was.greatest;
+  last_proposer = more.widened.last_proposer ∙ was.last_proposer;
   few = was.few;
   eras = λ id known. more.keeps (era_at view id) (low id known) (was.eras id known);
   acceptors = was.acceptors;
   desks = λ id desk caller at_desk at_caller.
       let of = was.desks id desk caller at_desk at_caller in
-      wider_desk m cluster wider base later global.log global.made (era_at view id).number id caller (queue_at view.flow id).messages desk more (low id (omega (arith, of.known, was.greatest))) of;
+      wider_desk m cluster wider base later global.log global.made (era_at view id).number id caller (queue_at view.flow id).messages desk more (low id (omega (arith, of.known, was.last_proposer))) of;
   callers = was.callers;
   council = council;
   own = was.own;
@@ -178,7 +178,7 @@ wider_agrees m cluster wider base later global view next more low council was = 
 }
 
 pub wider_logged : {S V : Type 0} (m : Meaning S V) (cluster wider : Cluster) (base : Era) (later : List Era) (view : View S V) (next : Council) → IsWidening cluster wider base later
-    → ((id : ℕ) → id ≤ view.greatest → (era_at view id).number ≤ base.number) → (is : IsLogged m cluster view) → IsAhead cluster is.global.log base later view.council.used → IsCouncilTrue wider is.global.log next → IsLogged m wider (with_council view next)
+    → ((id : ℕ) → id ≤ view.last_proposer → (era_at view id).number ≤ base.number) → (is : IsLogged m cluster view) → IsAhead cluster is.global.log base later view.council.used → IsCouncilTrue wider is.global.log next → IsLogged m wider (with_council view next)
 wider_logged m cluster wider base later view next more low is ahead council = record {
   meets = more.meets;
   global = is.global;

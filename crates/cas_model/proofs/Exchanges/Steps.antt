@@ -73,7 +73,7 @@ counsels m cluster global view next is whole = record {
   history = whole.history;
   acceptors = whole.acceptors;
   parties = record {
-    greatest = whole.parties.greatest;
+    last_proposer = whole.parties.last_proposer;
     few = whole.parties.few;
     eras = whole.parties.eras;
     desks = whole.parties.desks;
@@ -96,12 +96,12 @@ reflows {S} {V} m cluster global old flow flows whole = record {
   history = whole.history;
   acceptors = whole.acceptors;
   parties = record {
-    greatest = whole.parties.greatest;
+    last_proposer = whole.parties.last_proposer;
     few = whole.parties.few;
     eras = whole.parties.eras;
     desks = λ p these desk caller at_desk at_caller.
         let of = whole.parties.desks p these desk caller at_desk at_caller in
-        subst (λ (l : List Message). IsDeskTrue m cluster global.log global.made (era_at old p).number p caller l desk) (sym (flows.others p (λ same. omega (arith, same, of.known, whole.parties.greatest, whole.parties.few)))) of;
+        subst (λ (l : List Message). IsDeskTrue m cluster global.log global.made (era_at old p).number p caller l desk) (sym (flows.others p (λ same. omega (arith, same, of.known, whole.parties.last_proposer, whole.parties.few)))) of;
     callers = whole.parties.callers;
     council = whole.parties.council;
     own = λ p. own p (same_or_not p exchange_place);
@@ -283,7 +283,7 @@ pub asks_each : {S V : Type 0} (m : Meaning S V) (cluster : Cluster) (global : G
 asks_each {S} {V} m cluster global view age tag question tos desk caller at_desk at_caller idle aged askable above whole =
     settles m cluster (asked_global global f tos) view view 0
     (asked_around m cluster global view 0 f tos (λ to. refl) askable above (around m cluster global view 0 whole))
-    (record { greatest = refl; eras = refl; acceptors = refl; desks = λ p d other at. at; callers = λ p c other at. at; council = refl; own = λ p other. refl })
+    (record { last_proposer = refl; eras = refl; acceptors = refl; desks = λ p d other at. at; callers = λ p c other at. at; council = refl; own = λ p other. refl })
     (record {
       desk = λ d c at_d at_c. still d c at_d at_c (whole.parties.desks 0 tt d c at_d at_c) (ap (λ (x : DeskView V). x.round) (at_one view.desks 0 at_d at_desk) ∙ idle);
       caller = λ c at_c. asked_caller f tos global.log global.made 0 c (whole.parties.callers 0 tt c at_c);

@@ -56,15 +56,15 @@ use Rattle.cas_model.proofs.Places.{contains_none}
 -- ---- one era
 -- the members prepare and accept by majorities in era 0, and nobody in another
 abbrev pub first_cluster : ℕ → List ℕ → Cluster
-first_cluster greatest members = record {
-  greatest = greatest;
+first_cluster last_proposer members = record {
+  last_proposer = last_proposer;
   members = λ era. if era == 0 then members else [];
   prepares = λ era by. if era == 0 then holds_prep (majority_era 0 members) by else false;
   accepts = λ era by. if era == 0 then holds_acc (majority_era 0 members) by else false;
 }
 
-first_meets : (greatest : ℕ) (members : List ℕ) → IsMemberSet members → ClusterMeets (first_cluster greatest members)
-first_meets greatest members set p n low high prepared accepted prepares accepts =
+first_meets : (last_proposer : ℕ) (members : List ℕ) → IsMemberSet members → ClusterMeets (first_cluster last_proposer members)
+first_meets last_proposer members set p n low high prepared accepted prepares accepts =
     let meets = majorities_meet members members (IsNear-same members set) in
     quorums_share (majority_era 0 members) (majority_era 0 members) (record { forth = meets; back = meets }) prepared accepted (in_zero (p == 0) prepares) (in_zero (n == 0) accepts)
   where
@@ -72,8 +72,8 @@ first_meets greatest members set p n low high prepared accepted prepares accepts
     in_zero true e = e
     in_zero false e = absurd (cc e)
 
-first_has : (greatest : ℕ) (members : List ℕ) → IsMemberSet members → 0 < length members → IsEraOf (first_cluster greatest members) (majority_era 0 members)
-first_has greatest members set some = record {
+first_has : (last_proposer : ℕ) (members : List ℕ) → IsMemberSet members → 0 < length members → IsEraOf (first_cluster last_proposer members) (majority_era 0 members)
+first_has last_proposer members set some = record {
   prep_members = λ acceptor member. member;
   acc_members = λ acceptor member. member;
   only_members = λ acceptor member. inl member;
@@ -88,9 +88,9 @@ first_has greatest members set some = record {
     low = omega (arith, some)
 
 -- it has no other
-first_alone : (greatest : ℕ) (members : List ℕ) (era : ℕ) → 0 < era → IsNoEra (first_cluster greatest members) era
-first_alone greatest members zero some = absurd (omega (arith, some))
-first_alone greatest members (suc era) some = record {
+first_alone : (last_proposer : ℕ) (members : List ℕ) (era : ℕ) → 0 < era → IsNoEra (first_cluster last_proposer members) era
+first_alone last_proposer members zero some = absurd (omega (arith, some))
+first_alone last_proposer members (suc era) some = record {
   members = if_false (suc era == 0) members [] (later era);
   prepares = λ by. if_false (suc era == 0) (holds_prep (majority_era 0 members) by) false (later era);
   accepts = λ by. if_false (suc era == 0) (holds_acc (majority_era 0 members) by) false (later era);
@@ -193,9 +193,9 @@ some_same e = cc e
 
 -- ---- a cluster opens
 opening_on_logged : {S V : Type 0} (m : Meaning S V) → m.shelves.tells → m.disks.tells → (members used : List ℕ) (floors : List Opening) (view : View S V) → IsOpeningOn m members used floors view
-    → IsLogged m (first_cluster view.greatest members) view
+    → IsLogged m (first_cluster view.last_proposer members) view
 opening_on_logged {S} {V} m shelves disks members used floors view is = logged m cluster (record { log = log; kept = kept; made = [] }) view (record {
-  meets = first_meets view.greatest members is.member_set;
+  meets = first_meets view.last_proposer members is.member_set;
   history = record {
     lawful = lawful;
     orderly = orderly_first cluster members known differ (λ a member. member);
@@ -231,9 +231,9 @@ opening_on_logged {S} {V} m shelves disks members used floors view is = logged m
     not_started = λ none. kept_down m view a acceptor at (is_down acceptor.down fresh.started none);
   };
   parties = record {
-    greatest = refl;
+    last_proposer = refl;
     few = is.few;
-    eras = λ p low. subst (IsEraOf cluster) (sym (era_is p low)) (first_has view.greatest members is.member_set is.some);
+    eras = λ p low. subst (IsEraOf cluster) (sym (era_is p low)) (first_has view.last_proposer members is.member_set is.some);
     desks = λ p these desk caller at_desk at_caller. let fresh = is.desks p desk at_desk in record {
       same_id = fresh.1.same_id;
       known = fresh.0;
@@ -269,7 +269,7 @@ opening_on_logged {S} {V} m shelves disks members used floors view is = logged m
     known = reverse_aux floors []
 
     cluster : Cluster
-    cluster = first_cluster view.greatest members
+    cluster = first_cluster view.last_proposer members
 
     log : List Happening
     log = first_log members known
@@ -292,7 +292,7 @@ opening_on_logged {S} {V} m shelves disks members used floors view is = logged m
     in_floors : (o : Opening) → Has o known → Contains floors o
     in_floors o h = elim (reverse_has floors [] o h) [ inl there ↦ contains o floors there | inr none ↦ absurd none ]
 
-    era_is : (p : ℕ) → p ≤ view.greatest → era_at view p ≡ majority_era 0 members
+    era_is : (p : ℕ) → p ≤ view.last_proposer → era_at view p ≡ majority_era 0 members
     era_is p low = ap (λ (l : List Era). era_in l p) is.eras ∙ get_or-replicate 17 p (majority_era 0 members) (majority_era 0 []) (omega (arith, low, is.few))
 
     is_down : (down : Bool) → {started : Bool} → (down ≡ false → started ≡ true) → started ≡ false → down ≡ true
@@ -379,23 +379,23 @@ no_entries (o ∷ floors) = no_entries floors
 
 -- its course begins in era 0
 opening_on_course : {S V : Type 0} (m : Meaning S V) (members used : List ℕ) (floors : List Opening) (view : View S V) → IsOpeningOn m members used floors view
-    → course_of view ≡ course view.greatest (replicate 17 (majority_era 0 members)) None []
-opening_on_course m members used floors view is = ap (λ (l : List Era). course view.greatest l view.council.plan (entries_in view.marks)) is.eras
-    ∙ ap (λ (c : Council). course view.greatest (replicate 17 (majority_era 0 members)) c.plan (entries_in view.marks)) is.council
-    ∙ ap (λ (l : List Mark). course view.greatest (replicate 17 (majority_era 0 members)) None (entries_in l)) is.marks
-    ∙ ap (course view.greatest (replicate 17 (majority_era 0 members)) None) (no_entries floors)
+    → course_of view ≡ course view.last_proposer (replicate 17 (majority_era 0 members)) None []
+opening_on_course m members used floors view is = ap (λ (l : List Era). course view.last_proposer l view.council.plan (entries_in view.marks)) is.eras
+    ∙ ap (λ (c : Council). course view.last_proposer (replicate 17 (majority_era 0 members)) c.plan (entries_in view.marks)) is.council
+    ∙ ap (λ (l : List Mark). course view.last_proposer (replicate 17 (majority_era 0 members)) None (entries_in l)) is.marks
+    ∙ ap (course view.last_proposer (replicate 17 (majority_era 0 members)) None) (no_entries floors)
 
 pub is_on_course : {S V : Type 0} (m : Meaning S V) (members used : List ℕ) (floors : List Opening) (view : View S V) → IsOpeningOn m members used floors view → IsCourse (course_of view)
-is_on_course m members used floors view is = subst IsCourse (sym (opening_on_course m members used floors view is)) (course_opens view.greatest members is.few (record { majorities = refl; member_set = is.member_set; some = is.some; few = omega (arith, is.few_members, ap (λ (l : List ℕ). length l) (union_within members members is.member_set (IsWithin-same members))) }))
+is_on_course m members used floors view is = subst IsCourse (sym (opening_on_course m members used floors view is)) (course_opens view.last_proposer members is.few (record { majorities = refl; member_set = is.member_set; some = is.some; few = omega (arith, is.few_members, ap (λ (l : List ℕ). length l) (union_within members members is.member_set (IsWithin-same members))) }))
 
 followed_on : {S V : Type 0} (m : Meaning S V) → m.shelves.tells → m.disks.tells → (members used : List ℕ) (floors : List Opening) (view : View S V) → IsOpeningOn m members used floors view → IsFollowed m view
 followed_on m shelves disks members used floors view is = record {
-  cluster = first_cluster view.greatest members;
+  cluster = first_cluster view.last_proposer members;
   logged = opening_on_logged m shelves disks members used floors view is;
-  course = subst (IsCourseOf (first_cluster view.greatest members)) (sym (opening_on_course m members used floors view is)) (record {
-    is_course = course_opens view.greatest members is.few (record { majorities = refl; member_set = is.member_set; some = is.some; few = omega (arith, is.few_members, ap (λ (l : List ℕ). length l) (union_within members members is.member_set (IsWithin-same members))) });
+  course = subst (IsCourseOf (first_cluster view.last_proposer members)) (sym (opening_on_course m members used floors view is)) (record {
+    is_course = course_opens view.last_proposer members is.few (record { majorities = refl; member_set = is.member_set; some = is.some; few = omega (arith, is.few_members, ap (λ (l : List ℕ). length l) (union_within members members is.member_set (IsWithin-same members))) });
     later = λ era none. absurd (contains_none none);
-    none_beyond = λ number beyond. first_alone view.greatest members number (omega (arith, beyond));
+    none_beyond = λ number beyond. first_alone view.last_proposer members number (omega (arith, beyond));
   });
   in_eras = λ id desk at. let fresh = is.desks id desk at in
       (fresh.0, inside (subst (λ (e : Era). IsWithin m.disks e.number e.number desk.vault) (sym (ap (λ (l : List Era). era_in l id) is.eras ∙ get_or-replicate 17 id (majority_era 0 members) (majority_era 0 []) (omega (arith, fresh.0, is.few)))) (fresh.1.in_era disks)));

@@ -46,7 +46,7 @@ pub opens_on_are_safe : {S V : Type 0} (m : Meaning S V) → OpeningsOnAreSafe m
 opens_on_are_safe {S} {V} m members used floors view is places = record {
   sound = sound;
   course = is_on_course m members used floors view is;
-  collection = subst (λ (c : Council). IsCollectingIn c (era_at view 0) view.greatest) (sym is.council) (record { each = λ collection none. absurd (cc none); exchange = λ exchange none asks. absurd (cc none) });
+  collection = subst (λ (c : Council). IsCollectingIn c (era_at view 0) view.last_proposer) (sym is.council) (record { each = λ collection none. absurd (cc none); exchange = λ exchange none asks. absurd (cc none) });
 }
   where
     sound : IsSound view

@@ -95,7 +95,7 @@ at_low (y ∷ xs) (suc place) low = at_low xs place (omega (arith, low))
 -- ---- a cluster but for one party
 -- what changes of it: acceptors that keep their identities, one proposer and its caller and frames, and more marks
 pub record Changes {S V : Type 0} (old new : View S V) (id : ℕ) : Type 0 where
-  pub greatest : new.greatest ≡ old.greatest
+  pub last_proposer : new.last_proposer ≡ old.last_proposer
   pub eras : new.eras ≡ old.eras
   pub council : new.council ≡ old.council
   pub acceptors : length new.acceptors ≡ length old.acceptors
@@ -131,15 +131,15 @@ pub safe_but : {S V : Type 0} (old new : View S V) (id : ℕ) → IsSound old �
     → ((desk : DeskView V) (caller : CallerView) → IsAt new.desks id desk → IsAt new.callers id caller → IsPartySafe (era_at old id) (length new.marks) id desk caller (queue_at new.flow id))
     → length new.marks + reserved_in_all new ≤ most_marks → IsSound new
 safe_but {S} {V} old new id was low changes party room = record {
-  few = subst (λ (n : ℕ). n ≤ 16) (sym changes.greatest) was.few;
+  few = subst (λ (n : ℕ). n ≤ 16) (sym changes.last_proposer) was.few;
   prep_sets = λ p. subst (λ (l : List Era). IsMemberSet (era_in l p).prep) (sym changes.eras) (was.prep_sets p);
   acc_sets = λ p. subst (λ (l : List Era). IsMemberSet (era_in l p).acc) (sym changes.eras) (was.acc_sets p);
   few_members = λ p. subst (λ (l : List Era). HasFewMembers (era_in l p)) (sym changes.eras) (was.few_members p);
   eras = ap (λ (l : List Era). length l) changes.eras ∙ was.eras;
   acceptors = changes.acceptors ∙ was.acceptors;
   acceptor_ids = changes.acceptor_ids;
-  desks = changes.desks_length ∙ was.desks ∙ ap suc (sym changes.greatest);
-  callers = changes.callers_length ∙ was.callers ∙ ap suc (sym changes.greatest);
+  desks = changes.desks_length ∙ was.desks ∙ ap suc (sym changes.last_proposer);
+  callers = changes.callers_length ∙ was.callers ∙ ap suc (sym changes.last_proposer);
   own = changes.own_length ∙ was.own;
   parties = λ p desk caller at_desk at_caller. subst (λ (l : List Era). IsPartySafe (era_in l p) (length new.marks) p desk caller (queue_at new.flow p)) (sym changes.eras) (by_place p desk caller at_desk at_caller (same_or_not p id));
   asking = subst (λ (c : Council). IsAskingSafe c.exchange (queue_at new.flow exchange_place)) (sym changes.council)
@@ -188,7 +188,7 @@ pub changes_both : {S V : Type 0} (old : View S V) (id : ℕ) (desk : DeskView V
     → ((p : ℕ) → (p ≡ id → ⊥) → queue_at flow p ≡ queue_at old.flow p) → length old.marks ≤ length marks
     → Changes old (record old { desks = slice_set old.desks id desk; callers = slice_set old.callers id caller; flow = flow; marks = marks }) id
 changes_both old id desk caller flow marks was own others more = record {
-  greatest = refl;
+  last_proposer = refl;
   eras = refl;
   council = refl;
   acceptors = refl;
@@ -206,7 +206,7 @@ pub changes_caller : {S V : Type 0} (old : View S V) (id : ℕ) (caller : Caller
     → ((p : ℕ) → (p ≡ id → ⊥) → queue_at flow p ≡ queue_at old.flow p) → length old.marks ≤ length marks
     → Changes old (record old { callers = slice_set old.callers id caller; flow = flow; marks = marks }) id
 changes_caller old id caller flow marks was own others more = record {
-  greatest = refl;
+  last_proposer = refl;
   eras = refl;
   council = refl;
   acceptors = refl;
@@ -223,7 +223,7 @@ changes_caller old id caller flow marks was own others more = record {
 pub changes_desk : {S V : Type 0} (old : View S V) (id : ℕ) (desk : DeskView V) (flow : FlowView) → IsSound old → length flow.own ≡ length old.flow.own
     → ((p : ℕ) → (p ≡ id → ⊥) → queue_at flow p ≡ queue_at old.flow p) → Changes old (record old { desks = slice_set old.desks id desk; flow = flow }) id
 changes_desk old id desk flow was own others = record {
-  greatest = refl;
+  last_proposer = refl;
   eras = refl;
   council = refl;
   acceptors = refl;
@@ -244,7 +244,7 @@ pub changes_all : {S V : Type 0} (old : View S V) (id : ℕ) (acceptors : List (
     → length flow.own ≡ length old.flow.own → ((p : ℕ) → (p ≡ id → ⊥) → queue_at flow p ≡ queue_at old.flow p) → length old.marks ≤ length marks
     → Changes old (record old { acceptors = acceptors; desks = desks; callers = slice_set old.callers id caller; flow = flow; marks = marks }) id
 changes_all old id acceptors desks caller flow marks acceptors_length ids desks_length other_desks own others more = record {
-  greatest = refl;
+  last_proposer = refl;
   eras = refl;
   council = refl;
   acceptors = acceptors_length;

@@ -42,7 +42,7 @@ pub data IsUnderWay {S V : Type 0} (view : View S V) (each : Message) : Type 0 w
 -- the acceptor is up, and a member of an era in which a proposer works
 pub record IsMemberUp {S V : Type 0} (view : View S V) (id : ℕ) (acceptor : AcceptorView S) : Type 0 where
   pub proposer : ℕ
-  pub known : proposer ≤ view.greatest
+  pub known : proposer ≤ view.last_proposer
   pub member : (has_member (era_at view proposer).prep id ≡ true) ⊎ (has_member (era_at view proposer).acc id ≡ true)
   pub at : IsAt view.acceptors id acceptor
   pub up : acceptor.down ≡ false

@@ -1,12 +1,10 @@
 -- What the steps of a collection do to a cluster: proposer 0 has a tombstone accepted by all, each proposer is renewed, all members are
 -- told the new ages, the tombstone becomes the floor of its key, and all members remove their slots.
+pub use Rattle.cas_record.specs.Histories.Chain.{keep_always}
 use Rattle.std.specs.Prelude.{◌≡◌, ℕ, suc, ◌^◌, ◌<◌, ◌++◌, Bool, true, false, List, [], ◌∷◌, length, Option, None, Some}
 use Rattle.cas_ballot.specs.declared.ballot.Ballot.{Ballot}
 use Rattle.cas_ballot.specs.Members.{members_where, has_member}
 use Rattle.cas_change.specs.declared.outcome.Took.{Took}
-use Rattle.cas_change.specs.declared.program.Act.TheVariants.{Keep}
-use Rattle.cas_change.specs.declared.program.Clause.{Clause}
-use Rattle.cas_change.specs.declared.program.Guard.TheVariants.{Always}
 use Rattle.cas_change.specs.declared.state.Body.{Body}
 use Rattle.cas_change.specs.declared.state.State.TheVariants.{Empty, Held}
 use Rattle.cas_collect.specs.declared.collect.CollectStep.TheVariants.{Round, Renew, Ages, Floor as FloorStep, Remove}
@@ -39,10 +37,6 @@ use Rattle.cas_model.specs.Stops.Step.{OpenCallAt, closed_by, LeavesRound, GoesD
 use Rattle.cas_model.specs.View.{Meaning, View, CallView, CallerView, IsAt, era_at, with_desk, with_caller, with_marks}
 
 -- ---- parts
--- the program of a collection's call
-abbrev pub keep_always : List Clause
-keep_always = record { guard = Always; act = Keep } ∷ []
-
 -- the collection that the open call asked for
 pub record CollectingAt (council : Council) : Type 0 where
   pub order : OrderView
@@ -84,7 +78,7 @@ pub data BeginsCollection {S V : Type 0} (m : Meaning S V) (Begins : View S V �
   is_full : caller.call ≡ None → desk.down ≡ false → old.council.plan ≡ None → IsFull old 0 → new ≡ told_view old (told.Stopped answer.RecordFull) → BeginsCollection m Begins old key order desk caller new
   no_memory : (middle : View S V) → caller.call ≡ None → desk.down ≡ false → old.council.plan ≡ None → RefusesCall m old 0 key middle
       → new ≡ told_view middle (told.Stopped (answer.NoMemory false)) → BeginsCollection m Begins old key order desk caller new
-  begins : (middle : View S V) → caller.call ≡ None → old.council.plan ≡ None → Begins old middle → new ≡ collecting middle order None (new_collection key (era_at old 0) old.greatest) → BeginsCollection m Begins old key order desk caller new
+  begins : (middle : View S V) → caller.call ≡ None → old.council.plan ≡ None → Begins old middle → new ≡ collecting middle order None (new_collection key (era_at old 0) old.last_proposer) → BeginsCollection m Begins old key order desk caller new
   goes_on : (middle : View S V) (call : CallView) (is : IsCollecting old.council key) → caller.call ≡ Some call → Begins old middle → new ≡ collecting middle order None is.at.collection → BeginsCollection m Begins old key order desk caller new
 
 pub record StepBeginCollect {S V : Type 0} (m : Meaning S V) (Begins : View S V → View S V → Type 0) (old : View S V) (key : List ℕ) (new : View S V) : Type 0 where
@@ -195,7 +189,7 @@ pub data IsQuestionOf (collection : CollectionView) (question : Question) : Type
 pub record IsRenewedBy {S V : Type 0} (view : View S V) (collection : CollectionView) : Type 0 where
   pub none_planned : view.council.plan ≡ None
   pub same_era : collection.course.era ≡ era_at view 0
-  pub all_renewed : length collection.ages ≡ suc view.greatest
+  pub all_renewed : length collection.ages ≡ suc view.last_proposer
   pub ballot : Ballot
   pub by : List ℕ
   pub acknowledged : collection.tombstone ≡ Acknowledged ballot by

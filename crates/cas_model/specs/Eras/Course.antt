@@ -27,14 +27,14 @@ entries_in (EraEntered proposer era ∷ marks) = record { proposer = proposer; e
 entries_in (other ∷ marks) = entries_in marks
 
 pub record Course : Type 0 where
-  pub greatest : ℕ
+  pub last_proposer : ℕ
   -- the era of each proposer, at the place of its number
   pub eras : List Era
   pub plan : Option PlanView
   pub entries : List Entry
 
 abbrev pub course_of : {S V : Type 0} → View S V → Course
-course_of view = record { greatest = view.greatest; eras = view.eras; plan = view.council.plan; entries = entries_in view.marks }
+course_of view = record { last_proposer = view.last_proposer; eras = view.eras; plan = view.council.plan; entries = entries_in view.marks }
 
 -- ---- its parts
 -- the era that is to be entered next, where the first step that is left is to enter one
@@ -109,7 +109,7 @@ IsStart era left = IsPath era left
 -- ---- what is true of it
 -- with no change under way all proposers work in one era, which is whole
 pub record IsSettled (course : Course) : Type 0 where
-  pub same : (id : ℕ) → id ≤ course.greatest → era_in course.eras id ≡ era_in course.eras 0
+  pub same : (id : ℕ) → id ≤ course.last_proposer → era_in course.eras id ≡ era_in course.eras 0
   pub whole : IsWhole (era_in course.eras 0)
 
 -- the proposer works in the era that all entered last, or in the next one; who is marked as in that works there
@@ -120,9 +120,9 @@ pub data WorksIn (plan : PlanView) (id : ℕ) (era : Era) : Type 0 where
 -- With one, its steps are a path from the era that all entered last. Some proposers may work in the next one, but not all are marked so.
 pub record IsMoving (course : Course) (plan : PlanView) : Type 0 where
   pub start : IsStart plan.progress.era plan.progress.left
-  pub some_left : plan.entered ≤ course.greatest
+  pub some_left : plan.entered ≤ course.last_proposer
   pub none_entered : entering plan.progress.left ≡ None → plan.entered ≡ 0
-  pub each : (id : ℕ) → id ≤ course.greatest → WorksIn plan id (era_in course.eras id)
+  pub each : (id : ℕ) → id ≤ course.last_proposer → WorksIn plan id (era_in course.eras id)
 
 abbrev pub IsUnderWay : Course → Option PlanView → Type 0
 IsUnderWay course None = IsSettled course
@@ -130,16 +130,16 @@ IsUnderWay course (Some plan) = IsMoving course plan
 
 -- All are marked as in the last era that all entered, unless it is the first; and in the next one just those that the change has led there.
 pub record AreEntries (course : Course) : Type 0 where
-  pub all : 0 < (base_era course).number → (id : ℕ) → id ≤ course.greatest → Contains course.entries (record { proposer = id; era = (base_era course).number })
+  pub all : 0 < (base_era course).number → (id : ℕ) → id ≤ course.last_proposer → Contains course.entries (record { proposer = id; era = (base_era course).number })
   pub led : (id : ℕ) → id < entered_by course.plan → Contains course.entries (record { proposer = id; era = suc (base_era course).number })
   pub none_beyond : (entry : Entry) → Contains course.entries entry → (entry.era ≤ (base_era course).number) ⊎ ((entry.era ≡ suc (base_era course).number) × (entry.proposer < entered_by course.plan))
   pub counted : (base_era course).number ≤ length course.entries
 
 pub record IsCourse (course : Course) : Type 0 where
-  pub few : course.greatest ≤ 16
+  pub few : course.last_proposer ≤ 16
   pub places : length course.eras ≡ 17
   pub under_way : IsUnderWay course course.plan
-  pub sized : (id : ℕ) → id ≤ course.greatest → IsSized (era_in course.eras id)
+  pub sized : (id : ℕ) → id ≤ course.last_proposer → IsSized (era_in course.eras id)
   pub entries : AreEntries course
 
 -- ---- in the cluster

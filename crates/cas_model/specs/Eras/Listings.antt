@@ -95,8 +95,8 @@ missing era by =
 
 -- the greatest age that was told
 abbrev pub greater_age : Option Tell → Option ℕ → Option ℕ
-greater_age (Some (tell.Aged least)) greatest = Some (max least (unwrap_or greatest 0))
-greater_age other greatest = greatest
+greater_age (Some (tell.Aged least)) last_proposer = Some (max least (unwrap_or last_proposer 0))
+greater_age other last_proposer = last_proposer
 
 abbrev pub greatest_age : List Answered → Option ℕ
 greatest_age [] = None

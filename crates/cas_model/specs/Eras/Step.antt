@@ -83,13 +83,13 @@ rest_of (step ∷ later) = later
 
 -- with the last proposer the era is the one that all entered last, and nothing is listed of it yet
 abbrev pub plan_after : ℕ → PlanView → Era → PlanView
-plan_after greatest plan next =
-    if plan.entered == greatest then record plan { progress = record { era = next; left = rest_of plan.progress.left }; entered = 0; listing = None } else record plan { entered = suc plan.entered }
+plan_after last_proposer plan next =
+    if plan.entered == last_proposer then record plan { progress = record { era = next; left = rest_of plan.progress.left }; entered = 0; listing = None } else record plan { entered = suc plan.entered }
 
 -- it is marked as in the era
 abbrev pub entered_view : {S V : Type 0} → View S V → PlanView → Era → View S V
 entered_view view plan next =
-    with_marks (record (with_plan view (Some (plan_after view.greatest plan next))) { eras = slice_set view.eras plan.entered next }) (EraEntered plan.entered next.number ∷ [])
+    with_marks (record (with_plan view (Some (plan_after view.last_proposer plan next))) { eras = slice_set view.eras plan.entered next }) (EraEntered plan.entered next.number ∷ [])
 
 -- The open call asks for the change, the next era is to be entered, and it is this proposer that has to.
 pub record MayEnterEra {S V : Type 0} (old : View S V) (proposer : ℕ) (plan : PlanView) (next : Era) (desk : DeskView V) : Type 0 where

@@ -101,19 +101,19 @@ told_more marks asks (told.Stopped why) = inr refl
 
 module _ {S V : Type 0} (m : Meaning S V) (old new : View S V) (were : TellsTruly old) where
   abbrev P : ℕ
-  P = suc old.greatest
+  P = suc old.last_proposer
 
-  as_many : new.greatest ≡ old.greatest → AreTellingsSo P (reverse new.marks) → AreTellingsSo (suc new.greatest) (reverse new.marks)
-  as_many greatest so = subst (λ (g : ℕ). AreTellingsSo (suc g) (reverse new.marks)) (sym greatest) so
+  as_many : new.last_proposer ≡ old.last_proposer → AreTellingsSo P (reverse new.marks) → AreTellingsSo (suc new.last_proposer) (reverse new.marks)
+  as_many last_proposer so = subst (λ (g : ℕ). AreTellingsSo (suc g) (reverse new.marks)) (sym last_proposer) so
 
-  tells_so : (asks : Asked) (answer : OpAnswer) → IsSo P answer (reverse old.marks) → new.greatest ≡ old.greatest → new.council.order ≡ None → new.marks ≡ old.marks ++ told_marks asks answer → TellsTruly new
-  tells_so asks answer so greatest none marks = elim (told_more old.marks asks answer) [
+  tells_so : (asks : Asked) (answer : OpAnswer) → IsSo P answer (reverse old.marks) → new.last_proposer ≡ old.last_proposer → new.council.order ≡ None → new.marks ≡ old.marks ++ told_marks asks answer → TellsTruly new
+  tells_so asks answer so last_proposer none marks = elim (told_more old.marks asks answer) [
     | inl unmarked ↦ let same : new.marks ≡ old.marks = marks ∙ ap (λ (l : List Mark). old.marks ++ l) unmarked ∙ append-nil old.marks in record {
-      tellings = as_many greatest (subst (λ (l : List Mark). AreTellingsSo P (reverse l)) (sym same) were.tellings);
+      tellings = as_many last_proposer (subst (λ (l : List Mark). AreTellingsSo P (reverse l)) (sym same) were.tellings);
       passing = subst IsPassingBy (sym none) tt;
     }
     | inr marked ↦ let more : reverse new.marks ≡ Told asks answer ∷ reverse old.marks = ap (λ (l : List Mark). reverse l) (marks ∙ ap (λ (l : List Mark). old.marks ++ l) marked) ∙ pushed old.marks (Told asks answer) in record {
-      tellings = as_many greatest
+      tellings = as_many last_proposer
           (subst (AreTellingsSo P) (sym more) (so_pushed P (reverse old.marks) (Told asks answer) (λ asked_ answer_ is. subst (λ (a : OpAnswer). IsSo P a (reverse old.marks)) (answer_of is) so) were.tellings));
       passing = subst IsPassingBy (sym none) tt;
     }
@@ -126,31 +126,31 @@ module _ {S V : Type 0} (m : Meaning S V) (old new : View S V) (were : TellsTrul
       answer_of : {asked_ : Asked} {answer_ : OpAnswer} → Told asks answer ≡ Told asked_ answer_ → answer ≡ answer_
       answer_of is = ap answer_in is
 
-  all_moved : (era : ℕ) → HaveAllEntered old.greatest era (reverse old.marks) → HaveAllMoved P era (reverse old.marks)
+  all_moved : (era : ℕ) → HaveAllEntered old.last_proposer era (reverse old.marks) → HaveAllMoved P era (reverse old.marks)
   all_moved era entered proposer few = entered proposer (omega (arith, few))
 
-  finished_so : (asks : Asked) (answer : OpAnswer) (era rescanned : ℕ) → council.finished asks era rescanned answer → HaveEnteredIts old.greatest answer (reverse old.marks) → IsSo P answer (reverse old.marks)
+  finished_so : (asks : Asked) (answer : OpAnswer) (era rescanned : ℕ) → council.finished asks era rescanned answer → HaveEnteredIts old.last_proposer answer (reverse old.marks) → IsSo P answer (reverse old.marks)
   finished_so (asked.Join id) answer era rescanned is entered =
-      subst (λ (a : OpAnswer). IsSo P a (reverse old.marks)) (sym is) (all_moved era (subst (λ (a : OpAnswer). HaveEnteredIts old.greatest a (reverse old.marks)) is entered))
+      subst (λ (a : OpAnswer). IsSo P a (reverse old.marks)) (sym is) (all_moved era (subst (λ (a : OpAnswer). HaveEnteredIts old.last_proposer a (reverse old.marks)) is entered))
   finished_so (asked.Leave id) answer era rescanned is entered =
-      subst (λ (a : OpAnswer). IsSo P a (reverse old.marks)) (sym is) (all_moved era (subst (λ (a : OpAnswer). HaveEnteredIts old.greatest a (reverse old.marks)) is entered))
+      subst (λ (a : OpAnswer). IsSo P a (reverse old.marks)) (sym is) (all_moved era (subst (λ (a : OpAnswer). HaveEnteredIts old.last_proposer a (reverse old.marks)) is entered))
   finished_so (asked.Collect key) answer era rescanned is entered = absurd is
   finished_so (asked.Probe key) answer era rescanned is entered = absurd is
 
   told_then : (answer : OpAnswer) → IsSafe old → IsRemembered m old → StepTell old answer new → TellsTruly new
   told_then answer safe remembered (council.tells order said is_open was says is) =
       tells_so order.asked answer (passing_so P answer (reverse old.marks) (same_passing said answer says (subst (λ (o : Option OpAnswer). IfSome o IsPassing) was (subst IsPassingBy is_open were.passing))))
-      (ap (λ (v : View S V). v.greatest) is) (ap (λ (v : View S V). v.council.order) is) (ap (λ (v : View S V). v.marks) is)
+      (ap (λ (v : View S V). v.last_proposer) is) (ap (λ (v : View S V). v.council.order) is) (ap (λ (v : View S V). v.marks) is)
   told_then answer safe remembered (council.finishes order is_open by is) =
       tells_so order.asked answer (finished_so order.asked answer by.plan.progress.era.number by.plan.rescanned by.tells (finished_have_entered old order answer safe by))
-      (ap (λ (v : View S V). v.greatest) is) (ap (λ (v : View S V). v.council.order) is) (ap (λ (v : View S V). v.marks) is)
+      (ap (λ (v : View S V). v.last_proposer) is) (ap (λ (v : View S V). v.council.order) is) (ap (λ (v : View S V). v.marks) is)
   told_then answer safe remembered (council.collects order is_open by is) =
       tells_so order.asked answer (subst (λ (a : OpAnswer). IsSo P a (reverse old.marks)) (sym by.tells) (subst (λ (a : OpAnswer). HasItsFloor a (reverse old.marks)) by.tells (collected_floors m old order answer remembered by)))
-      (ap (λ (v : View S V). v.greatest) is) (ap (λ (v : View S V). v.council.order) is) (ap (λ (v : View S V). v.marks) is)
+      (ap (λ (v : View S V). v.last_proposer) is) (ap (λ (v : View S V). v.council.order) is) (ap (λ (v : View S V). v.marks) is)
 
   added_then : Adds old new → TellsTruly new
   added_then adds = record {
-    tellings = as_many adds.greatest (subst (λ (l : List Mark). AreTellingsSo P (reverse l)) (sym adds.marks) (plain_so P old.marks adds.more adds.plain were.tellings));
+    tellings = as_many adds.last_proposer (subst (λ (l : List Mark). AreTellingsSo P (reverse l)) (sym adds.marks) (plain_so P old.marks adds.more adds.plain were.tellings));
     passing = adds.passing were.passing;
   }
 

@@ -319,12 +319,12 @@ enter_asked {S} {V} m old new id by was = by_case by.enters
     by_case (plans.enters middle room leaves view) =
         let frame = left_frame (EntersEra m.disks by.next) (closed_by (answer.Moved by.next.number) (cause.Moved by.next.number)) old middle by.plan.entered leaves in
         record {
-          changes = λ plan is. ap (λ (p : PlanView). is_change p.asked) (sym (some_is (sym (ap (λ (w : View S V). w.council.plan) view) ∙ is))) ∙ ap is_change (after_asked middle.greatest) ∙ was.changes by.plan by.may.is_plan;
+          changes = λ plan is. ap (λ (p : PlanView). is_change p.asked) (sym (some_is (sym (ap (λ (w : View S V). w.council.plan) view) ∙ is))) ∙ ap is_change (after_asked middle.last_proposer) ∙ was.changes by.plan by.may.is_plan;
           asks = λ exchange key is_open asks. absurd (none_probes exchange key (sym (ap (λ (f : Frame). f.council.exchange) frame) ∙ sym (ap (λ (w : View S V). w.council.exchange) view) ∙ is_open) asks);
         }
       where
-        after_asked : (greatest : ℕ) → (plans.plan_after greatest by.plan by.next).asked ≡ by.plan.asked
-        after_asked greatest = by_test (by.plan.entered == greatest)
+        after_asked : (last_proposer : ℕ) → (plans.plan_after last_proposer by.plan by.next).asked ≡ by.plan.asked
+        after_asked last_proposer = by_test (by.plan.entered == last_proposer)
           where
             by_test : (b : Bool) → (if b then record by.plan { progress = record { era = by.next; left = plans.rest_of by.plan.progress.left }; entered = 0; listing = None } else record by.plan { entered = suc by.plan.entered }).asked ≡ by.plan.asked
             by_test true = refl
@@ -501,7 +501,7 @@ open_led {S} {V} m old new safe by unled = by_case by.opens
     by_case (plans.is_busy plan up busy view) = led old _ new view refl refl unled
     by_case (plans.refuses fault up none planned view) = led old _ new view refl refl unled
     by_case (plans.opens progress middle up none planned welcomes view) =
-        let settled = subst (λ (p : Option PlanView). IsCourse (course old.greatest old.eras p (entries_in old.marks))) none safe.course in
+        let settled = subst (λ (p : Option PlanView). IsCourse (course old.last_proposer old.eras p (entries_in old.marks))) none safe.course in
         let begins = planned_starts (era_at old 0) old.council.used by.order.asked progress settled.under_way.whole planned in
         let same : new.eras ≡ old.eras = ap (λ (w : View S V). w.eras) view ∙ welcomed middle welcomes in
         record {
@@ -531,8 +531,8 @@ enter_unled {S} {V} m old new id safe by unled = by_case by.enters
       | inr other ↦ era_kept old.eras by.plan.entered 0 by.next other ∙ worked (omega (arith, other))
     ]
 
-    after_unled : (greatest : ℕ) (plan : PlanView) → plans.plan_after greatest by.plan by.next ≡ plan → plan.entered ≡ 0 → by.next ≡ plan.progress.era
-    after_unled greatest plan is none = by_test (by.plan.entered == greatest) is
+    after_unled : (last_proposer : ℕ) (plan : PlanView) → plans.plan_after last_proposer by.plan by.next ≡ plan → plan.entered ≡ 0 → by.next ≡ plan.progress.era
+    after_unled last_proposer plan is none = by_test (by.plan.entered == last_proposer) is
       where
         by_test : (b : Bool) → (if b then record by.plan { progress = record { era = by.next; left = plans.rest_of by.plan.progress.left }; entered = 0; listing = None } else record by.plan { entered = suc by.plan.entered }) ≡ plan → by.next ≡ plan.progress.era
         by_test true same = ap (λ (p : PlanView). p.progress.era) same
@@ -541,7 +541,7 @@ enter_unled {S} {V} m old new id safe by unled = by_case by.enters
     by_case : plans.EntersNext m old by.plan by.next by.desk new → IsUnled (course_of new)
     by_case (plans.enters middle room leaves view) = λ plan is none.
         let courses = ap course_of view ∙ enters_course m old middle by.plan by.next leaves in
-        ap (λ (c : Course). era_in c.eras 0) courses ∙ works ∙ after_unled old.greatest plan (some_is (sym (ap (λ (c : Course). c.plan) courses) ∙ is)) none
+        ap (λ (c : Course). era_in c.eras 0) courses ∙ works ∙ after_unled old.last_proposer plan (some_is (sym (ap (λ (c : Course). c.plan) courses) ∙ is)) none
     by_case (plans.is_full full view) = (led old _ new view refl refl unled).unled
     by_case (plans.is_down room down view) = (led old _ new view refl refl unled).unled
     by_case (plans.fails middle room down view) = subst IsUnled (sym (ap course_of view ∙ down_course (FailsToEnter m.disks by.next) old middle by.plan.entered down)) unled

@@ -44,7 +44,7 @@ IsPassingBy (Some order) = IfSome order.told IsPassing
 
 -- all tellings are so of its proposers, and no open call was told of an end yet
 pub record TellsTruly {S V : Type 0} (view : View S V) : Type 0 where
-  pub tellings : AreTellingsSo (suc view.greatest) (reverse view.marks)
+  pub tellings : AreTellingsSo (suc view.last_proposer) (reverse view.marks)
   pub passing : IsPassingBy view.council.order
 
 -- Where shelves and disks tell what they keep, each step leaves it so.

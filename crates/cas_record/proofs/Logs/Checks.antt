@@ -253,11 +253,11 @@ up_to_at (suc n) test i e low = elim (le_or_last i n low) [
 ]
 
 abbrev pub check_all_in : Cluster → ℕ → List Mark → Bool
-check_all_in cluster era marks = up_to cluster.greatest (λ proposer. some_place (is_marked_in proposer era) marks)
+check_all_in cluster era marks = up_to cluster.last_proposer (λ proposer. some_place (is_marked_in proposer era) marks)
 
 all_in_checked : (cluster : Cluster) (era : ℕ) (marks : List Mark) → check_all_in cluster era marks ≡ true → AllEntered cluster era marks
 all_in_checked cluster era marks e proposer low =
-    let f = found (is_marked_in proposer era) marks (up_to_at cluster.greatest (λ n. some_place (is_marked_in n era) marks) proposer e low) in
+    let f = found (is_marked_in proposer era) marks (up_to_at cluster.last_proposer (λ n. some_place (is_marked_in n era) marks) proposer e low) in
     marked_by f.x f.older f.at f.passes
 
 abbrev pub is_acked_at : List ℕ → Ballot → Mark → List Mark → Bool
@@ -347,17 +347,17 @@ none_opens e o = not_both (are_first o.older) (are_first_is o.older o.first) (no
 
 abbrev pub check_leave : Cluster → List Happening → ℕ → ℕ → Bool
 check_leave cluster log proposer left =
-    nat_le proposer cluster.greatest && (not (some_place (entered_now proposer (suc left)) log)
+    nat_le proposer cluster.last_proposer && (not (some_place (entered_now proposer (suc left)) log)
     && (((left == 0) || check_all_in cluster left (marks_of log)) && (each_place (has_stone cluster left (marks_of log)) (marks_of log) && each_place is_no_opening log)))
 
 leave_checked : (cluster : Cluster) (log : List Happening) (proposer left : ℕ) → check_leave cluster log proposer left ≡ true → MayLeave cluster log proposer left
 leave_checked cluster log proposer left e =
     let marks = marks_of log in
-    let rest = and_right (nat_le proposer cluster.greatest) _ e in
+    let rest = and_right (nat_le proposer cluster.last_proposer) _ e in
     let last = and_right (not (some_place (entered_now proposer (suc left)) log)) _ rest in
     let each = and_right ((left == 0) || check_all_in cluster left marks) _ last in
     record {
-      known = le_tells (and_left (nat_le proposer cluster.greatest) _ e);
+      known = le_tells (and_left (nat_le proposer cluster.last_proposer) _ e);
       once = not_entered log proposer (suc left) (not_tells _ (and_left (not (some_place (entered_now proposer (suc left)) log)) _ rest));
       all_in = λ some. elim (or_cases (left == 0) (check_all_in cluster left marks) (and_left ((left == 0) || check_all_in cluster left marks) _ last)) [
         | inl none ↦ let is_zero : left ≡ 0 = nat_same {a = left} {b = 0} none in absurd (omega arith)
@@ -516,7 +516,7 @@ abbrev pub check_propose : Cluster → List Happening → Proposal → Bool
 check_propose cluster log p =
     check_first p (marks_of log) && (less p.read p.ballot && ((is_ballot p.read zero_ballot || check_made p.key p.read (marks_of log))
     && (each_place (is_above_floor p.key p.ballot) (marks_of log) && (cluster.prepares p.era p.prepared_by && (check_granted log p
-    && (nat_le p.ballot.proposer cluster.greatest && (check_in log p.ballot.proposer p.era && not (some_place (entered_now p.ballot.proposer (suc p.era)) log))))))))
+    && (nat_le p.ballot.proposer cluster.last_proposer && (check_in log p.ballot.proposer p.era && not (some_place (entered_now p.ballot.proposer (suc p.era)) log))))))))
 
 propose_checked : (cluster : Cluster) (log : List Happening) (p : Proposal) → check_propose cluster log p ≡ true → MayPropose cluster log p
 propose_checked cluster log p e =
@@ -528,7 +528,7 @@ propose_checked cluster log p e =
     let e4 = and_right (each_place (is_above_floor p.key p.ballot) marks) _ e3 in
     let e5 = and_right (cluster.prepares p.era p.prepared_by) _ e4 in
     let e6 = and_right (check_granted log p) _ e5 in
-    let e7 = and_right (nat_le p.ballot.proposer cluster.greatest) _ e6 in
+    let e7 = and_right (nat_le p.ballot.proposer cluster.last_proposer) _ e6 in
     record {
       first = first_checked p marks (and_left (check_first p marks) _ e);
       above_read = less_of (and_left (less p.read p.ballot) _ e1);
@@ -540,7 +540,7 @@ propose_checked cluster log p e =
           (each_at (is_above_floor p.key p.ballot) (and_left (each_place (is_above_floor p.key p.ballot) marks) _ e3) s.at) (key_refl p.key));
       quorum = and_left (cluster.prepares p.era p.prepared_by) _ e4;
       granted = granted_checked log p (and_left (check_granted log p) _ e5);
-      known = le_tells (and_left (nat_le p.ballot.proposer cluster.greatest) _ e6);
+      known = le_tells (and_left (nat_le p.ballot.proposer cluster.last_proposer) _ e6);
       is_in = in_checked log p.ballot.proposer p.era (and_left (check_in log p.ballot.proposer p.era) _ e7);
       not_beyond = not_entered log p.ballot.proposer (suc p.era) (not_tells _ (and_right (check_in log p.ballot.proposer p.era) _ e7));
     }

@@ -16,7 +16,7 @@ use Rattle.cas_record.specs.Logs.Orderly.{MayDraw, MayAskFor, MayAsk, HasReason,
 
 -- ---- lawful
 all_more : {old new : Cluster} → IsWidened old new → {era : ℕ} {marks : List Mark} → AllEntered old era marks → AllEntered new era marks
-all_more w entered proposer known = entered proposer (subst (λ (n : ℕ). proposer ≤ n) w.greatest known)
+all_more w entered proposer known = entered proposer (subst (λ (n : ℕ). proposer ≤ n) w.last_proposer known)
 
 rescanned_more : {old new : Cluster} → IsWidened old new → {era : ℕ} {key : List ℕ} {marks : List Mark} → IsRescanned old era key marks → IsRescanned new era key marks
 rescanned_more w r = record {
@@ -31,7 +31,7 @@ rescanned_more w r = record {
 
 pub leave_more : {old new : Cluster} → IsWidened old new → {log : List Happening} {proposer left : ℕ} → MayLeave old log proposer left → MayLeave new log proposer left
 leave_more w {proposer = proposer} may = record {
-  known = subst (λ (n : ℕ). proposer ≤ n) (sym w.greatest) may.known;
+  known = subst (λ (n : ℕ). proposer ≤ n) (sym w.last_proposer) may.known;
   once = may.once;
   all_in = λ some. all_more w (may.all_in some);
   stones = λ {p} stands early. elim (may.stones stands early) [ inl rescanned ↦ inl (rescanned_more w rescanned) | inr collected ↦ inr collected ];
@@ -46,7 +46,7 @@ propose_more w p may = record {
   above_floors = may.above_floors;
   quorum = w.prepares p.era p.prepared_by may.quorum;
   granted = may.granted;
-  known = subst (λ (n : ℕ). p.ballot.proposer ≤ n) (sym w.greatest) may.known;
+  known = subst (λ (n : ℕ). p.ballot.proposer ≤ n) (sym w.last_proposer) may.known;
   is_in = may.is_in;
   not_beyond = may.not_beyond;
 }
@@ -71,7 +71,7 @@ lawful_more w (happening ∷ older) lawful = (lawful_more w older lawful.0, next
 -- ---- orderly
 draw_more : {old new : Cluster} → IsWidened old new → {log : List Happening} (ballot : Ballot) {key : List ℕ} {era : ℕ} → MayDraw old log ballot key era → MayDraw new log ballot key era
 draw_more w ballot may = record {
-  known = subst (λ (n : ℕ). ballot.proposer ≤ n) (sym w.greatest) may.known;
+  known = subst (λ (n : ℕ). ballot.proposer ≤ n) (sym w.last_proposer) may.known;
   some = may.some;
   fresh = may.fresh;
   is_in = may.is_in;

@@ -54,16 +54,16 @@ is_draw ballot other older = false
 
 abbrev pub check_draw : Cluster → List Happening → Ballot → List ℕ → ℕ → Bool
 check_draw cluster log ballot key era =
-    nat_le ballot.proposer cluster.greatest && (less zero_ballot ballot && (not (some_place (is_draw ballot) log)
+    nat_le ballot.proposer cluster.last_proposer && (less zero_ballot ballot && (not (some_place (is_draw ballot) log)
     && (check_in log ballot.proposer era && check_above key ballot (marks_of log))))
 
 draw_checked : (cluster : Cluster) (log : List Happening) (ballot : Ballot) (key : List ℕ) (era : ℕ) → check_draw cluster log ballot key era ≡ true → MayDraw cluster log ballot key era
 draw_checked cluster log ballot key era e =
-    let e1 = and_right (nat_le ballot.proposer cluster.greatest) _ e in
+    let e1 = and_right (nat_le ballot.proposer cluster.last_proposer) _ e in
     let e2 = and_right (less zero_ballot ballot) _ e1 in
     let e3 = and_right (not (some_place (is_draw ballot) log)) _ e2 in
     record {
-      known = le_tells (and_left (nat_le ballot.proposer cluster.greatest) _ e);
+      known = le_tells (and_left (nat_le ballot.proposer cluster.last_proposer) _ e);
       some = less_of (and_left (less zero_ballot ballot) _ e1);
       fresh = λ k n s. not_both _ (some_is (is_draw ballot) s.at (ballot_is {a = ballot} refl)) (not_tells _ (and_left (not (some_place (is_draw ballot) log)) _ e2));
       is_in = in_checked log ballot.proposer era (and_left (check_in log ballot.proposer era) _ e3);

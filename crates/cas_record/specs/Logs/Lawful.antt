@@ -23,7 +23,7 @@ use Rattle.cas_record.specs.Logs.Happening.{Happening, Marked, Promised, Took, D
 -- ---- the cluster
 -- the proposers, numbered from 0 up to the greatest, and the members and the quorums of each era
 pub record Cluster : Type 0 where
-  pub greatest : ℕ
+  pub last_proposer : ℕ
   pub members : ℕ → List ℕ
   pub prepares : ℕ → List ℕ → Bool
   pub accepts : ℕ → List ℕ → Bool
@@ -35,7 +35,7 @@ ClusterMeets cluster = (m n : ℕ) → m ≤ suc n → n ≤ suc m → (prepared
 
 -- the second cluster has the same proposers, and in each era all members and quorums of the first, and maybe more
 pub record IsWidened (old new : Cluster) : Type 0 where
-  pub greatest : new.greatest ≡ old.greatest
+  pub last_proposer : new.last_proposer ≡ old.last_proposer
   pub members : (era acceptor : ℕ) → has_member (old.members era) acceptor ≡ true → has_member (new.members era) acceptor ≡ true
   pub prepares : (era : ℕ) (by : List ℕ) → old.prepares era by ≡ true → new.prepares era by ≡ true
   pub accepts : (era : ℕ) (by : List ℕ) → old.accepts era by ≡ true → new.accepts era by ≡ true
@@ -131,7 +131,7 @@ IsIn log proposer era = (era ≡ 0) ⊎ Stands (Entered proposer era) log
 
 -- all proposers are marked as in the era
 abbrev pub AllEntered : Cluster → ℕ → List Mark → Type 0
-AllEntered cluster era marks = (proposer : ℕ) → proposer ≤ cluster.greatest → Stands (EraEntered proposer era) marks
+AllEntered cluster era marks = (proposer : ℕ) → proposer ≤ cluster.last_proposer → Stands (EraEntered proposer era) marks
 
 -- the key was proposed anew in the era, after all proposers had entered it, and that was acknowledged
 pub record IsRescanned (cluster : Cluster) (era : ℕ) (key : List ℕ) (marks : List Mark) : Type 0 where
@@ -153,7 +153,7 @@ pub record IsCollected (era : ℕ) (key : List ℕ) (marks : List Mark) : Type 0
 -- the era after `left` may be entered once, by a proposer that is known, when all are in `left` and each key that was
 -- proposed in an earlier era is rescanned in `left` or collected; and so is, from era 1 on, each key with an opening floor
 pub record MayLeave (cluster : Cluster) (log : List Happening) (proposer left : ℕ) : Type 0 where
-  pub known : proposer ≤ cluster.greatest
+  pub known : proposer ≤ cluster.last_proposer
   pub once : Stands (Entered proposer (suc left)) log → ⊥
   pub all_in : 0 < left → AllEntered cluster left (marks_of log)
   pub stones : {p : Proposal} → Stands (Proposed p) (marks_of log) → p.era < left
@@ -182,7 +182,7 @@ pub record MayPropose (cluster : Cluster) (log : List Happening) (p : Proposal) 
   pub above_floors : {floor : Ballot} {state : State} → Stands (Floor p.key floor state) (marks_of log) → BallotLess floor p.ballot
   pub quorum : cluster.prepares p.era p.prepared_by ≡ true
   pub granted : (acceptor : ℕ) → has_member p.prepared_by acceptor ≡ true → Granted log acceptor p
-  pub known : p.ballot.proposer ≤ cluster.greatest
+  pub known : p.ballot.proposer ≤ cluster.last_proposer
   pub is_in : IsIn log p.ballot.proposer p.era
   pub not_beyond : Stands (Entered p.ballot.proposer (suc p.era)) log → ⊥
 

@@ -43,7 +43,7 @@ pub record IsAboveFloors (marks : List Mark) (key : List ℕ) (ballot : Ballot) 
 
 -- a proposer may draw a ballot once, in the era in which it is, above the floors of its key
 pub record MayDraw (cluster : Cluster) (log : List Happening) (ballot : Ballot) (key : List ℕ) (era : ℕ) : Type 0 where
-  pub known : ballot.proposer ≤ cluster.greatest
+  pub known : ballot.proposer ≤ cluster.last_proposer
   pub some : BallotLess zero_ballot ballot
   pub fresh : (k : List ℕ) (e : ℕ) → Stands (Drew ballot k e) log → ⊥
   pub is_in : IsIn log ballot.proposer era

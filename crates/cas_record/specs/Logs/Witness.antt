@@ -52,7 +52,7 @@ accepts_of zero = has_quorum 2 three
 accepts_of (suc era) = has_quorum 3 four
 
 abbrev pub small_cluster : Cluster
-small_cluster = record { greatest = 2; members = members_in; prepares = prepares_of; accepts = accepts_of }
+small_cluster = record { last_proposer = 2; members = members_in; prepares = prepares_of; accepts = accepts_of }
 
 -- ---- the log, the oldest first
 abbrev pub key_a : List ℕ

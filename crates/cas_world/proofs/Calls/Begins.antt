@@ -92,10 +92,10 @@ none_round : (era : Era) (caller : CallerView) (queue : _) (round : Option Round
 none_round era caller queue None none safe = refl
 none_round era caller queue (Some round) none safe = absurd (cc (sym none ∙ safe.is_open))
 
-pub may_in : {S V : Type 0} (greatest : ℕ) (council : Council) (acceptors : List (AcceptorView S)) (desks : List (DeskView V)) (callers : List Caller) (flow : FlowView) (book : Book) (id number : ℕ) (key : List ℕ) (program : List Clause) (desk : DeskView V) (caller : Caller)
-    → IsSafe (view_of greatest council acceptors desks callers flow book) → IsAt desks id desk → IsAt callers id caller → MayBegin (view_of greatest council acceptors desks callers flow book) id number key program
+pub may_in : {S V : Type 0} (last_proposer : ℕ) (council : Council) (acceptors : List (AcceptorView S)) (desks : List (DeskView V)) (callers : List Caller) (flow : FlowView) (book : Book) (id number : ℕ) (key : List ℕ) (program : List Clause) (desk : DeskView V) (caller : Caller)
+    → IsSafe (view_of last_proposer council acceptors desks callers flow book) → IsAt desks id desk → IsAt callers id caller → MayBegin (view_of last_proposer council acceptors desks callers flow book) id number key program
     → IsFirst desk caller number ⊎ IsAnother desk caller number key program
-may_in {S} {V} greatest council acceptors desks callers flow book id number key program desk caller safe at_desk at_caller (MayBegin.first was at none next) =
+may_in {S} {V} last_proposer council acceptors desks callers flow book id number key program desk caller safe at_desk at_caller (MayBegin.first was at none next) =
     let same : caller_view caller ≡ was = at_one (map caller_view callers) id (at_map caller_view callers id caller at_caller) at in
     let none_here : option_map call_view caller.call ≡ None = ap (λ (c : CallerView). c.call) same ∙ none in
     inl (record {
@@ -103,7 +103,7 @@ may_in {S} {V} greatest council acceptors desks callers flow book id number key 
       next_number = next ∙ ap (λ (c : CallerView). c.number + 1) (sym same);
       idle = none_round (era_in council.eras.0 id) (caller_view caller) (queue_at flow id) desk.round none_here (safe.sound.parties id desk (caller_view caller) at_desk (at_map caller_view callers id caller at_caller)).round;
     })
-may_in {S} {V} greatest council acceptors desks callers flow book id number key program desk caller safe at_desk at_caller (MayBegin.another was call at is same_number same_key same_program unproposed met idle) =
+may_in {S} {V} last_proposer council acceptors desks callers flow book id number key program desk caller safe at_desk at_caller (MayBegin.another was call at is same_number same_key same_program unproposed met idle) =
     let same : caller_view caller ≡ was = at_one (map caller_view callers) id (at_map caller_view callers id caller at_caller) at in
     let there : option_map call_view caller.call ≡ Some call = ap (λ (c : CallerView). c.call) same ∙ is in
     let found = seen_open caller.call call there in
@@ -159,13 +159,13 @@ sent_about before after id age key era ballot round ride state about sends =
     (subst (λ (b : Ballot). Sends before id (accepts_to id age round.key b era.number ride state era.acc) after) (sym about.at)
     (subst (λ (k : List ℕ). Sends before id (accepts_to id age k ballot era.number ride state era.acc) after) (sym about.of_key) sends))
 
-module _ {S V : Type 0} (greatest : ℕ) (council : Council) (acceptors : List (AcceptorView S)) (desks : List (DeskView V)) (callers : List Caller) (flow : FlowView) (book : Book) (id number : ℕ) (key : List ℕ) (program : List Clause) where
+module _ {S V : Type 0} (last_proposer : ℕ) (council : Council) (acceptors : List (AcceptorView S)) (desks : List (DeskView V)) (callers : List Caller) (flow : FlowView) (book : Book) (id number : ℕ) (key : List ℕ) (program : List Clause) where
   abbrev old : View S V
-  old = view_of greatest council acceptors desks callers flow book
+  old = view_of last_proposer council acceptors desks callers flow book
 
   pub opens_first : (marks : ℕ) (desk : DeskView V) (caller : Caller) → IsAt callers id caller → id < length callers → IsFirst desk caller number → marks ≡ round_marks (era_in council.eras.0 id) → length book.marks + reserved_beside callers id + reserved_by (council_view council) + marks ≤ most_marks
-      → IsEntered (view_of greatest council acceptors desks callers flow book) id number key program
-      (view_of greatest council acceptors desks (slice_set callers id (entered caller (Some (opening_of (record { caller = id; call = number }) key program)) marks)) flow (opened_book book (Some (opening_of (record { caller = id; call = number }) key program))))
+      → IsEntered (view_of last_proposer council acceptors desks callers flow book) id number key program
+      (view_of last_proposer council acceptors desks (slice_set callers id (entered caller (Some (opening_of (record { caller = id; call = number }) key program)) marks)) flow (opened_book book (Some (opening_of (record { caller = id; call = number }) key program))))
       (entered caller (Some (opening_of (record { caller = id; call = number }) key program)) marks) marks 1
   opens_first marks desk caller at low is same few =
       let author : Author = record { caller = id; call = number } in
@@ -188,7 +188,7 @@ module _ {S V : Type 0} (greatest : ℕ) (council : Council) (acceptors : List (
       }
 
   pub opens_again : (marks : ℕ) (desk : DeskView V) (caller : Caller) → IsAt callers id caller → IsAt desks id desk → id < length callers → IsAnother desk caller number key program → 0 < marks → marks ≤ round_marks (era_in council.eras.0 id) → length book.marks + reserved_beside callers id + reserved_by (council_view council) + marks ≤ most_marks
-      → IsEntered (view_of greatest council acceptors desks callers flow book) id number key program (view_of greatest council acceptors desks (slice_set callers id (entered caller None marks)) flow (opened_book book None)) (entered caller None marks) marks 0
+      → IsEntered (view_of last_proposer council acceptors desks callers flow book) id number key program (view_of last_proposer council acceptors desks (slice_set callers id (entered caller None marks)) flow (opened_book book None)) (entered caller None marks) marks 0
   opens_again marks desk caller at at_desk low is some enough few =
       let open_now : (entered caller None marks).call ≡ Some (again is.call marks) = ap (λ (o : Option OpenCall). option_map (λ call. again call marks) o) is.is_call in
       record {
@@ -208,10 +208,10 @@ module _ {S V : Type 0} (greatest : ℕ) (council : Council) (acceptors : List (
 
   -- ---- its round
   module _ (m : Meaning S V) (entry : Caller) (middle : Book) (caller : Caller) (at_caller : IsAt callers id caller) (marks spent : ℕ)
-      (is : IsEntered (view_of greatest council acceptors desks callers flow book) id number key program (view_of greatest council acceptors desks (slice_set callers id entry) flow middle) entry marks spent) where
-    begun_by : (new : View S V) → BeginsRound m (view_of greatest council acceptors desks (slice_set callers id entry) flow middle) id (caller_view entry) (call_view is.call) new → StepBegin m (view_of greatest council acceptors desks callers flow book) id key program new
+      (is : IsEntered (view_of last_proposer council acceptors desks callers flow book) id number key program (view_of last_proposer council acceptors desks (slice_set callers id entry) flow middle) entry marks spent) where
+    begun_by : (new : View S V) → BeginsRound m (view_of last_proposer council acceptors desks (slice_set callers id entry) flow middle) id (caller_view entry) (call_view is.call) new → StepBegin m (view_of last_proposer council acceptors desks callers flow book) id key program new
     begun_by new by = record {
-      middle = view_of greatest council acceptors desks (slice_set callers id entry) flow middle;
+      middle = view_of last_proposer council acceptors desks (slice_set callers id entry) flow middle;
       opens = is.opens;
       caller = caller_view entry;
       at_caller = at_map caller_view (slice_set callers id entry) id entry (at_set callers id caller entry at_caller);
@@ -222,10 +222,10 @@ module _ {S V : Type 0} (greatest : ℕ) (council : Council) (acceptors : List (
 
     -- the caller with another call of that place
     next_seen : (desks_now : List (DeskView V)) (flow_now : FlowView) (after : Book) (next : Caller) (call : CallView) → caller_view next ≡ record (caller_view entry) { call = Some call }
-        → view_of greatest council acceptors desks_now (slice_set callers id next) flow_now after
-        ≡ calls.with_call (view_of greatest council acceptors desks_now (slice_set callers id entry) flow_now after) id (caller_view entry) call
+        → view_of last_proposer council acceptors desks_now (slice_set callers id next) flow_now after
+        ≡ calls.with_call (view_of last_proposer council acceptors desks_now (slice_set callers id entry) flow_now after) id (caller_view entry) call
     next_seen desks_now flow_now after next call same =
-        let v : View S V = view_of greatest council acceptors desks_now callers flow_now after in
+        let v : View S V = view_of last_proposer council acceptors desks_now callers flow_now after in
         ap (λ (l : List CallerView). record v { callers = l }) (map_set caller_view callers id next ∙ ap (λ (c : CallerView). slice_set (map caller_view callers) id c) same
         ∙ sym (set_set (map caller_view callers) id (caller_view entry) (record (caller_view entry) { call = Some call })) ∙ ap (λ (l : List CallerView). slice_set l id (record (caller_view entry) { call = Some call })) (sym (map_set caller_view callers id entry)))
 
@@ -233,33 +233,33 @@ module _ {S V : Type 0} (greatest : ℕ) (council : Council) (acceptors : List (
     told_view told = ap (λ (o : Option OpenCall). record { number = entry.number; call = option_map call_view (option_map (λ call. over call told) o) }) is.is_open
 
     pub step_prepares : marks ≡ round_marks (era_in council.eras.0 id) → (desk now : DeskView V) (flow_now : FlowView) → IsAt desks id desk → Prepares m.disks (era_in council.eras.0 id) key id desk now flow flow_now
-        → StepBegin m (view_of greatest council acceptors desks callers flow book) id key program (view_of greatest council acceptors (slice_set desks id now) (slice_set callers id entry) flow_now middle)
+        → StepBegin m (view_of last_proposer council acceptors desks callers flow book) id key program (view_of last_proposer council acceptors (slice_set desks id now) (slice_set callers id entry) flow_now middle)
     step_prepares same_marks desk now flow_now at_desk was =
         let by : Prepares m.disks (era_in council.eras.0 id) is.call.key id desk now flow flow_now = subst (λ (k : List ℕ). Prepares m.disks (era_in council.eras.0 id) k id desk now flow flow_now) (sym is.same_key) was in
         begun_by _ (calls.prepares desk now by.ballot by.round flow_now at_desk by.up (omega (arith, same_marks, is.reserved)) by.begins by.sends refl)
 
     pub step_proposes : marks ≡ round_marks (era_in council.eras.0 id) → (desk now : DeskView V) (flow_now : FlowView) (after : Book) (proposing : Proposing) → IsAt desks id desk → ProposesBy m.disks (era_in council.eras.0 id) key program (record { caller = id; call = number }) desk now flow flow_now proposing
         → after.marks ≡ middle.marks ++ proposing.mark ∷ []
-        → StepBegin m (view_of greatest council acceptors desks callers flow book) id key program (view_of greatest council acceptors (slice_set desks id now) (slice_set callers id (proposes_now entry proposing)) flow_now after)
+        → StepBegin m (view_of last_proposer council acceptors desks callers flow book) id key program (view_of last_proposer council acceptors (slice_set desks id now) (slice_set callers id (proposes_now entry proposing)) flow_now after)
     step_proposes same_marks desk now flow_now after proposing at_desk was made =
         let author : Author = record { caller = id; call = number } in
         let by : ProposesBy m.disks (era_in council.eras.0 id) is.call.key is.call.program author desk now flow flow_now proposing =
         subst (λ (k : List ℕ). ProposesBy m.disks (era_in council.eras.0 id) k is.call.program author desk now flow flow_now proposing) (sym is.same_key)
         (subst (λ (p : List Clause). ProposesBy m.disks (era_in council.eras.0 id) key p author desk now flow flow_now proposing) (sym is.same_program) was) in
-        begun_by (view_of greatest council acceptors (slice_set desks id now) (slice_set callers id (proposes_now entry proposing)) flow_now after)
+        begun_by (view_of last_proposer council acceptors (slice_set desks id now) (slice_set callers id (proposes_now entry proposing)) flow_now after)
         (calls.proposes desk now by.ready by.ride by.round (outcome_of is.call.program by.ready.state) flow_now at_desk by.up (omega (arith, same_marks, is.reserved)) by.begins refl
         (sent_about flow flow_now id (kept_of desk.vault).age is.call.key (era_in council.eras.0 id) by.ready.ballot by.round by.ride (outcome_of is.call.program by.ready.state).state by.begins.opened.0 by.sends)
         (next_seen (slice_set desks id now) flow_now after (proposes_now entry proposing) (calls.proposing (call_view is.call) (outcome_of is.call.program by.ready.state))
         (proposing_seen entry is.call proposing (outcome_of is.call.program by.ready.state) is.is_open (ap (λ (p : Proposing). p.outcome) by.made))
-        ∙ ap (λ (l : List Mark). record (calls.with_call (view_of greatest council acceptors (slice_set desks id now) (slice_set callers id entry) flow_now middle) id (caller_view entry) (calls.proposing (call_view is.call) (outcome_of is.call.program by.ready.state))) { marks = l })
+        ∙ ap (λ (l : List Mark). record (calls.with_call (view_of last_proposer council acceptors (slice_set desks id now) (slice_set callers id entry) flow_now middle) id (caller_view entry) (calls.proposing (call_view is.call) (outcome_of is.call.program by.ready.state))) { marks = l })
         (made ∙ ap (λ (k : Mark). middle.marks ++ k ∷ []) (mark_about id number entry.number is.call.key is.call.program (era_in council.eras.0 id) by.ready by.round proposing by.made is.same_number by.begins.opened.0))))
 
     -- and it did not begin
     pub step_fails : (desk now : DeskView V) (told : Answer) → IsAt desks id desk → desk.round ≡ None → FailsToOpen m.disks key desk now told
-        → StepBegin m (view_of greatest council acceptors desks callers flow book) id key program (view_of greatest council acceptors (slice_set desks id now) (slice_set callers id (told_now entry told)) flow middle)
+        → StepBegin m (view_of last_proposer council acceptors desks callers flow book) id key program (view_of last_proposer council acceptors (slice_set desks id now) (slice_set callers id (told_now entry told)) flow middle)
     step_fails desk now answer.Down at_desk idle by =
         begun_by _ (calls.stays answer.Down tt (λ d at_d. (ap (λ (x : DeskView V). x.round) (at_one desks id at_d at_desk) ∙ idle, λ e. ap (λ (x : DeskView V). x.down) (at_one desks id at_d at_desk) ∙ by.0)) (λ e. absurd (cc e))
-        (ap (λ (l : List (DeskView V)). view_of greatest council acceptors l (slice_set callers id (told_now entry answer.Down)) flow middle) (ap (λ (d : DeskView V). slice_set desks id d) by.1 ∙ set_same desks id desk at_desk)
+        (ap (λ (l : List (DeskView V)). view_of last_proposer council acceptors l (slice_set callers id (told_now entry answer.Down)) flow middle) (ap (λ (d : DeskView V). slice_set desks id d) by.1 ∙ set_same desks id desk at_desk)
         ∙ next_seen desks flow middle (told_now entry answer.Down) (calls.over (call_view is.call) answer.Down) (told_view answer.Down)))
     step_fails desk now answer.Spent at_desk idle by =
         begun_by _ (calls.spent desk now at_desk idle by.0 (subst (λ (k : List ℕ). promise_at k desk.cache ≡ None) (sym is.same_key) by.1) by.2 by.3 by.4 (next_seen (slice_set desks id now) flow middle (told_now entry answer.Spent) (calls.over (call_view is.call) answer.Spent) (told_view answer.Spent)))
@@ -268,7 +268,7 @@ module _ {S V : Type 0} (greatest : ℕ) (council : Council) (acceptors : List (
         (next_seen (slice_set desks id now) flow middle (told_now entry answer.VaultFault) (calls.over (call_view is.call) answer.VaultFault) (told_view answer.VaultFault)))
     step_fails desk now (answer.NoMemory proposed) at_desk idle by =
         begun_by _ (calls.loses desk now by.2 at_desk idle by.1 (subst (λ (k : List ℕ). LosesMemory m.disks k desk now by.2) (sym is.same_key) by.3)
-        (ap (λ (b : Bool). view_of greatest council acceptors (slice_set desks id now) (slice_set callers id (told_now entry (answer.NoMemory b))) flow middle) by.0
+        (ap (λ (b : Bool). view_of last_proposer council acceptors (slice_set desks id now) (slice_set callers id (told_now entry (answer.NoMemory b))) flow middle) by.0
         ∙ next_seen (slice_set desks id now) flow middle (told_now entry (answer.NoMemory false)) (calls.over (call_view is.call) (answer.NoMemory false)) (told_view (answer.NoMemory false))))
     step_fails desk now (answer.Done _ _ _) at_desk idle by = elim by [ ]
     step_fails desk now (answer.Conflict _) at_desk idle by = elim by [ ]
@@ -282,8 +282,8 @@ module _ {S V : Type 0} (greatest : ℕ) (council : Council) (acceptors : List (
 
     -- no room was made for its marks
     pub step_stays : (told : Answer) → calls.IsNoBeginning told → (told ≡ answer.Down → ⊥)
-        → (told ≡ answer.RecordFull → calls.IsFull (view_of greatest council acceptors desks (slice_set callers id entry) flow middle) id × (suc is.call.reserved < round_marks (era_in council.eras.0 id))) → (desk : DeskView V) → IsAt desks id desk → desk.round ≡ None
-        → StepBegin m (view_of greatest council acceptors desks callers flow book) id key program (view_of greatest council acceptors desks (slice_set callers id (told_now entry told)) flow middle)
+        → (told ≡ answer.RecordFull → calls.IsFull (view_of last_proposer council acceptors desks (slice_set callers id entry) flow middle) id × (suc is.call.reserved < round_marks (era_in council.eras.0 id))) → (desk : DeskView V) → IsAt desks id desk → desk.round ≡ None
+        → StepBegin m (view_of last_proposer council acceptors desks callers flow book) id key program (view_of last_proposer council acceptors desks (slice_set callers id (told_now entry told)) flow middle)
     step_stays told none_begun up full desk at_desk idle =
         begun_by _ (calls.stays told none_begun (λ d at_d. (ap (λ (x : DeskView V). x.round) (at_one desks id at_d at_desk) ∙ idle, λ e. absurd (up e))) full
         (next_seen desks flow middle (told_now entry told) (calls.over (call_view is.call) told) (told_view told)))

@@ -41,9 +41,9 @@ seen_open None view is = cc is
 seen_open (Some one) view is = (one, refl)
 
 -- where a round is open its caller has an open call
-pub call_at : {S V : Type 0} (greatest : ℕ) (council : Council) (acceptors : List (AcceptorView S)) (desks : List (DeskView V)) (callers : List Caller) (flow : FlowView) (book : Book) (id : ℕ) (desk : DeskView V) (round : Round) (caller : Caller)
-    → IsSafe (view_of greatest council acceptors desks callers flow book) → IsAt desks id desk → IsAt callers id caller → desk.round ≡ Some round → (open_one : OpenCall) × (caller.call ≡ Some open_one)
-call_at greatest council acceptors desks callers flow book id desk round caller safe at_desk at_caller is_round =
+pub call_at : {S V : Type 0} (last_proposer : ℕ) (council : Council) (acceptors : List (AcceptorView S)) (desks : List (DeskView V)) (callers : List Caller) (flow : FlowView) (book : Book) (id : ℕ) (desk : DeskView V) (round : Round) (caller : Caller)
+    → IsSafe (view_of last_proposer council acceptors desks callers flow book) → IsAt desks id desk → IsAt callers id caller → desk.round ≡ Some round → (open_one : OpenCall) × (caller.call ≡ Some open_one)
+call_at last_proposer council acceptors desks callers flow book id desk round caller safe at_desk at_caller is_round =
     let is : IsOpenSafe (era_in council.eras.0 id) (caller_view caller) (queue_at flow id) round =
     subst (IsRoundSafe (era_in council.eras.0 id) (caller_view caller) (queue_at flow id)) is_round (safe.sound.parties id desk (caller_view caller) at_desk (at_map caller_view callers id caller at_caller)).round in
     seen_open caller.call is.call is.is_open
@@ -58,15 +58,15 @@ pub record IsOpenIn {V : Type 0} (desks : List (DeskView V)) (callers : List Cal
   pub is_open : caller.call ≡ Some call
 
 -- what an index reads of a world whose round is lent
-pub open_in : {S V : Type 0} {A : Type 0} (now_of : A → Round) (greatest : ℕ) (council : Council) (acceptors : List (AcceptorView S)) (desks : List (DeskView V)) (callers : List Caller) (flow : FlowView) (book : Book) (place id : ℕ)
-    (desk read : DeskView V) (lent_one : Option A) (caller : Caller) → place ≡ id → id ≤ greatest → IsSafe (view_of greatest council acceptors desks callers flow book)
+pub open_in : {S V : Type 0} {A : Type 0} (now_of : A → Round) (last_proposer : ℕ) (council : Council) (acceptors : List (AcceptorView S)) (desks : List (DeskView V)) (callers : List Caller) (flow : FlowView) (book : Book) (place id : ℕ)
+    (desk read : DeskView V) (lent_one : Option A) (caller : Caller) → place ≡ id → id ≤ last_proposer → IsSafe (view_of last_proposer council acceptors desks callers flow book)
     → desk ≡ slice_index_or desks place desk → read ≡ slice_index_or desks place read → MatchOption lent_one (read.round ≡ None) (λ one. read.round ≡ Some (now_of one)) → is_some lent_one ≡ true
     → caller ≡ slice_index_or callers place caller → IsOpenIn desks callers id desk caller
-open_in {S} {V} now_of greatest council acceptors desks callers flow book place id desk read lent_one caller same low safe desk_is read_is match some caller_is =
+open_in {S} {V} now_of last_proposer council acceptors desks callers flow book place id desk read lent_one caller same low safe desk_is read_is match some caller_is =
     let at_desk = at_place desks place id desk same (omega (arith, safe.sound.desks, low)) desk_is in
     let at_read = at_place desks place id read same (omega (arith, safe.sound.desks, low)) read_is in
     let at_caller = at_place callers place id caller same (omega (arith, safe.sound.callers, low, length-map callers caller_view)) caller_is in
     let found = lent now_of lent_one read.round match some in
     let is_round : desk.round ≡ Some found.0 = ap (λ (d : DeskView V). d.round) (at_one desks id at_desk at_read) ∙ found.1 in
-    let call = call_at greatest council acceptors desks callers flow book id desk found.0 caller safe at_desk at_caller is_round in
+    let call = call_at last_proposer council acceptors desks callers flow book id desk found.0 caller safe at_desk at_caller is_round in
     record { at_desk = at_desk; at_caller = at_caller; round = found.0; is_round = is_round; call = call.0; is_open = call.1 }

@@ -50,13 +50,13 @@ pub record IsCounting {V : Type 0} (desks : List (DeskView V)) (callers : List C
   pub three : 3 ≤ may.call.reserved
   pub up : desk.down ≡ true → desk.round ≡ None
 
-pub counting : {S V : Type 0} {m : Meaning S V} (greatest : ℕ) (council : Council) (acceptors : List (AcceptorView S)) (desks : List (DeskView V)) (callers : List Caller) (flow : FlowView) (book : Book) (now : View S V) (place id : ℕ) (desk : DeskView V) (caller : Caller)
-    → place ≡ id → view_of greatest council acceptors desks callers flow book ≡ now → id ≤ now.greatest → IsWorld m (view_of greatest council acceptors desks callers flow book) callers book.room → desk ≡ slice_index_or desks place desk → caller ≡ slice_index_or callers place caller
+pub counting : {S V : Type 0} {m : Meaning S V} (last_proposer : ℕ) (council : Council) (acceptors : List (AcceptorView S)) (desks : List (DeskView V)) (callers : List Caller) (flow : FlowView) (book : Book) (now : View S V) (place id : ℕ) (desk : DeskView V) (caller : Caller)
+    → place ≡ id → view_of last_proposer council acceptors desks callers flow book ≡ now → id ≤ now.last_proposer → IsWorld m (view_of last_proposer council acceptors desks callers flow book) callers book.room → desk ≡ slice_index_or desks place desk → caller ≡ slice_index_or callers place caller
     → IsInPhase now id false → IsCounting desks callers id desk caller book.room
-counting {S} {V} {m} greatest council acceptors desks callers flow book now place id desk caller same view low world desk_is caller_is seen =
+counting {S} {V} {m} last_proposer council acceptors desks callers flow book now place id desk caller same view low world desk_is caller_is seen =
     let phase = subst (λ (v : View S V). IsInPhase v id false) (sym view) seen in
     let safe = world.safe in
-    let known : id ≤ greatest = omega (arith, low, ap (λ (v : View S V). v.greatest) view) in
+    let known : id ≤ last_proposer = omega (arith, low, ap (λ (v : View S V). v.last_proposer) view) in
     let at_desk = at_place desks place id desk same (omega (arith, safe.sound.desks, known)) desk_is in
     let at_caller = at_place callers place id caller same (omega (arith, safe.sound.callers, known, length-map callers caller_view)) caller_is in
     let at_seen = at_map caller_view callers id caller at_caller in
@@ -101,9 +101,9 @@ up_with true round one idle is = absurd (cc (idle refl, is))
 up_with false round one idle is = refl
 
 -- the round that is counted
-abbrev at_round : {S V : Type 0} (greatest : ℕ) (council : Council) (acceptors : List (AcceptorView S)) (desks : List (DeskView V)) (callers : List Caller) (flow : FlowView) (book : Book) (id : ℕ) (desk : DeskView V) (caller : Caller)
-    → (queue_at flow id).messages ≡ [] → IsCounting desks callers id desk caller book.room → OpenRoundAt (view_of greatest council acceptors desks callers flow book) id
-at_round greatest council acceptors desks callers flow book id desk caller none is = record {
+abbrev at_round : {S V : Type 0} (last_proposer : ℕ) (council : Council) (acceptors : List (AcceptorView S)) (desks : List (DeskView V)) (callers : List Caller) (flow : FlowView) (book : Book) (id : ℕ) (desk : DeskView V) (caller : Caller)
+    → (queue_at flow id).messages ≡ [] → IsCounting desks callers id desk caller book.room → OpenRoundAt (view_of last_proposer council acceptors desks callers flow book) id
+at_round last_proposer council acceptors desks callers flow book id desk caller none is = record {
   of_call = record { caller = caller_view caller; at_caller = at_map caller_view callers id caller is.at_caller; call = call_view is.may.call; is_open = ap (λ (o : Option OpenCall). option_map call_view o) is.may.is_open };
   desk = desk;
   at_desk = is.at_desk;
@@ -113,34 +113,34 @@ at_round greatest council acceptors desks callers flow book id desk caller none 
   none_waits = none;
 }
 
-pub counted : {S V : Type 0} (m : Meaning S V) (greatest : ℕ) (council : Council) (acceptors : List (AcceptorView S)) (desks : List (DeskView V)) (callers : List Caller) (flow : FlowView) (book after : Book) (id : ℕ) (desk now : DeskView V) (caller next : Caller) (told : Answer)
+pub counted : {S V : Type 0} (m : Meaning S V) (last_proposer : ℕ) (council : Council) (acceptors : List (AcceptorView S)) (desks : List (DeskView V)) (callers : List Caller) (flow : FlowView) (book after : Book) (id : ℕ) (desk now : DeskView V) (caller next : Caller) (told : Answer)
     → (queue_at flow id).messages ≡ [] → (is : IsCounting desks callers id desk caller book.room) → has_quorum is.may.round.phase ≡ true → Counts m.disks desk now is.may.round caller next is.may.call is.may.outcome book after told
-    → StepCount m (view_of greatest council acceptors desks callers flow book) id (view_of greatest council acceptors (slice_set desks id now) (slice_set callers id next) flow after)
-counted {S} {V} m greatest council acceptors desks callers flow book after id desk now caller next told none is quorum by = record {
-  at_round = at_round greatest council acceptors desks callers flow book id desk caller none is;
+    → StepCount m (view_of last_proposer council acceptors desks callers flow book) id (view_of last_proposer council acceptors (slice_set desks id now) (slice_set callers id next) flow after)
+counted {S} {V} m last_proposer council acceptors desks callers flow book after id desk now caller next told none is quorum by = record {
+  at_round = at_round last_proposer council acceptors desks callers flow book id desk caller none is;
   accepting = is.accepting;
   counts = calls.counts now by.by is.may.outcome quorum by.confirmers is.may.proposed by.ends
-      (ap (λ (l : List CallerView). record (view_of greatest council acceptors (slice_set desks id now) callers flow after) { callers = l }) (map_set caller_view callers id next)
-      ∙ ap (λ (c : CallerView). record (view_of greatest council acceptors (slice_set desks id now) callers flow after) { callers = slice_set (map caller_view callers) id c }) (ap caller_view by.caller_is)
-      ∙ ap (λ (a : Answer). record (view_of greatest council acceptors (slice_set desks id now) callers flow after) { callers = slice_set (map caller_view callers) id (record (caller_view caller) { call = Some (calls.over (call_view is.may.call) a) }) }) by.told_is
-      ∙ ap (λ (l : List Mark). record (view_of greatest council acceptors (slice_set desks id now) callers flow book)
+      (ap (λ (l : List CallerView). record (view_of last_proposer council acceptors (slice_set desks id now) callers flow after) { callers = l }) (map_set caller_view callers id next)
+      ∙ ap (λ (c : CallerView). record (view_of last_proposer council acceptors (slice_set desks id now) callers flow after) { callers = slice_set (map caller_view callers) id c }) (ap caller_view by.caller_is)
+      ∙ ap (λ (a : Answer). record (view_of last_proposer council acceptors (slice_set desks id now) callers flow after) { callers = slice_set (map caller_view callers) id (record (caller_view caller) { call = Some (calls.over (call_view is.may.call) a) }) }) by.told_is
+      ∙ ap (λ (l : List Mark). record (view_of last_proposer council acceptors (slice_set desks id now) callers flow book)
       { callers = slice_set (map caller_view callers) id (record (caller_view caller) { call = Some (calls.over (call_view is.may.call) (answer.Done is.may.outcome.state is.may.outcome.took is.may.round.ballot)) }); marks = l }) by.marks);
 }
 
 -- no quorum accepted
-pub fell_short : {S V : Type 0} (m : Meaning S V) (greatest : ℕ) (council : Council) (acceptors : List (AcceptorView S)) (desks : List (DeskView V)) (callers : List Caller) (flow : FlowView) (book : Book) (id : ℕ) (desk now : DeskView V) (caller next : Caller) (verdict : RoundVerdict) (why : Cause)
+pub fell_short : {S V : Type 0} (m : Meaning S V) (last_proposer : ℕ) (council : Council) (acceptors : List (AcceptorView S)) (desks : List (DeskView V)) (callers : List Caller) (flow : FlowView) (book : Book) (id : ℕ) (desk now : DeskView V) (caller next : Caller) (verdict : RoundVerdict) (why : Cause)
     → (queue_at flow id).messages ≡ [] → (is : IsCounting desks callers id desk caller book.room) → IsVerdictOf is.may.round verdict → calls.cause_by verdict ≡ Some why → EndsRound m.disks desk now is.may.round None
     → IfSome caller.call (λ call. next ≡ record caller { call = Some (over call (answer.Unsettled why)) })
-    → StepCount m (view_of greatest council acceptors desks callers flow book) id (view_of greatest council acceptors (slice_set desks id now) (slice_set callers id next) flow book)
-fell_short {S} {V} m greatest council acceptors desks callers flow book id desk now caller next verdict why none is is_verdict cause ends by =
+    → StepCount m (view_of last_proposer council acceptors desks callers flow book) id (view_of last_proposer council acceptors (slice_set desks id now) (slice_set callers id next) flow book)
+fell_short {S} {V} m last_proposer council acceptors desks callers flow book id desk now caller next verdict why none is is_verdict cause ends by =
     let caller_is : next ≡ record caller { call = Some (over is.may.call (answer.Unsettled why)) } =
     subst (λ (o : Option OpenCall). IfSome o (λ call. next ≡ record caller { call = Some (over call (answer.Unsettled why)) })) is.may.is_open by in
     record {
-      at_round = at_round greatest council acceptors desks callers flow book id desk caller none is;
+      at_round = at_round last_proposer council acceptors desks callers flow book id desk caller none is;
       accepting = is.accepting;
       counts = calls.ends now verdict why is_verdict cause ends
-          (ap (λ (l : List CallerView). record (view_of greatest council acceptors (slice_set desks id now) callers flow book) { callers = l }) (map_set caller_view callers id next)
-          ∙ ap (λ (c : CallerView). record (view_of greatest council acceptors (slice_set desks id now) callers flow book) { callers = slice_set (map caller_view callers) id c }) (ap caller_view caller_is));
+          (ap (λ (l : List CallerView). record (view_of last_proposer council acceptors (slice_set desks id now) callers flow book) { callers = l }) (map_set caller_view callers id next)
+          ∙ ap (λ (c : CallerView). record (view_of last_proposer council acceptors (slice_set desks id now) callers flow book) { callers = slice_set (map caller_view callers) id c }) (ap caller_view caller_is));
     }
 
 -- of what was reserved one is left

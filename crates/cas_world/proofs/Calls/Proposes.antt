@@ -189,13 +189,13 @@ pub record IsProposing {V : Type 0} (desks : List (DeskView V)) (callers : List 
   pub reserved : 0 < may.call.reserved
   pub room : 0 < left
 
-pub proposing_in : {S V : Type 0} {m : Meaning S V} (greatest : ℕ) (council : Council) (acceptors : List (AcceptorView S)) (desks : List (DeskView V)) (callers : List Caller) (flow : FlowView) (book : Book) (now : View S V) (place id : ℕ) (desk : DeskView V) (caller : Caller)
-    → place ≡ id → view_of greatest council acceptors desks callers flow book ≡ now → id ≤ now.greatest → IsWorld m (view_of greatest council acceptors desks callers flow book) callers book.room → desk ≡ slice_index_or desks place desk → caller ≡ slice_index_or callers place caller
+pub proposing_in : {S V : Type 0} {m : Meaning S V} (last_proposer : ℕ) (council : Council) (acceptors : List (AcceptorView S)) (desks : List (DeskView V)) (callers : List Caller) (flow : FlowView) (book : Book) (now : View S V) (place id : ℕ) (desk : DeskView V) (caller : Caller)
+    → place ≡ id → view_of last_proposer council acceptors desks callers flow book ≡ now → id ≤ now.last_proposer → IsWorld m (view_of last_proposer council acceptors desks callers flow book) callers book.room → desk ≡ slice_index_or desks place desk → caller ≡ slice_index_or callers place caller
     → IsInPhase now id true → IsProposing desks callers flow id desk caller book.room
-proposing_in {S} {V} {m} greatest council acceptors desks callers flow book now place id desk caller same view low world desk_is caller_is seen =
+proposing_in {S} {V} {m} last_proposer council acceptors desks callers flow book now place id desk caller same view low world desk_is caller_is seen =
     let phase = subst (λ (v : View S V). IsInPhase v id true) (sym view) seen in
     let safe = world.safe in
-    let known : id ≤ greatest = omega (arith, low, ap (λ (v : View S V). v.greatest) view) in
+    let known : id ≤ last_proposer = omega (arith, low, ap (λ (v : View S V). v.last_proposer) view) in
     let at_desk = at_place desks place id desk same (omega (arith, safe.sound.desks, known)) desk_is in
     let at_caller = at_place callers place id caller same (omega (arith, safe.sound.callers, known, length-map callers caller_view)) caller_is in
     let at_seen = at_map caller_view callers id caller at_caller in
@@ -226,9 +226,9 @@ proposing_in {S} {V} {m} greatest council acceptors desks callers flow book now 
     }
 
 -- the round whose prepare phase ends
-abbrev at_round : {S V : Type 0} (greatest : ℕ) (council : Council) (acceptors : List (AcceptorView S)) (desks : List (DeskView V)) (callers : List Caller) (flow : FlowView) (book : Book) (id : ℕ) (desk : DeskView V) (caller : Caller)
-    → (queue_at flow id).messages ≡ [] → IsProposing desks callers flow id desk caller book.room → OpenRoundAt (view_of greatest council acceptors desks callers flow book) id
-at_round greatest council acceptors desks callers flow book id desk caller none is = record {
+abbrev at_round : {S V : Type 0} (last_proposer : ℕ) (council : Council) (acceptors : List (AcceptorView S)) (desks : List (DeskView V)) (callers : List Caller) (flow : FlowView) (book : Book) (id : ℕ) (desk : DeskView V) (caller : Caller)
+    → (queue_at flow id).messages ≡ [] → IsProposing desks callers flow id desk caller book.room → OpenRoundAt (view_of last_proposer council acceptors desks callers flow book) id
+at_round last_proposer council acceptors desks callers flow book id desk caller none is = record {
   of_call = record { caller = caller_view caller; at_caller = at_map caller_view callers id caller is.at_caller; call = call_view is.may.call; is_open = ap (λ (o : Option OpenCall). option_map call_view o) is.may.is_open };
   desk = desk;
   at_desk = is.at_desk;
@@ -239,25 +239,25 @@ at_round greatest council acceptors desks callers flow book id desk caller none 
 }
 
 -- what is seen of a caller's other call
-seen_next : {S V : Type 0} (greatest : ℕ) (council : Council) (acceptors : List (AcceptorView S)) (desks : List (DeskView V)) (callers : List Caller) (flow : FlowView) (book : Book) (id : ℕ) (caller next : Caller) (call : OpenCall) → next ≡ record caller { call = Some call }
-    → view_of greatest council acceptors desks (slice_set callers id next) flow book ≡ record (view_of greatest council acceptors desks callers flow book) { callers = slice_set (map caller_view callers) id (record (caller_view caller) { call = Some (call_view call) }) }
-seen_next {S} {V} greatest council acceptors desks callers flow book id caller next call is =
-    ap (λ (l : List CallerView). record (view_of greatest council acceptors desks callers flow book) { callers = l }) (map_set caller_view callers id next ∙ ap (λ (c : Caller). slice_set (map caller_view callers) id (caller_view c)) is)
+seen_next : {S V : Type 0} (last_proposer : ℕ) (council : Council) (acceptors : List (AcceptorView S)) (desks : List (DeskView V)) (callers : List Caller) (flow : FlowView) (book : Book) (id : ℕ) (caller next : Caller) (call : OpenCall) → next ≡ record caller { call = Some call }
+    → view_of last_proposer council acceptors desks (slice_set callers id next) flow book ≡ record (view_of last_proposer council acceptors desks callers flow book) { callers = slice_set (map caller_view callers) id (record (caller_view caller) { call = Some (call_view call) }) }
+seen_next {S} {V} last_proposer council acceptors desks callers flow book id caller next call is =
+    ap (λ (l : List CallerView). record (view_of last_proposer council acceptors desks callers flow book) { callers = l }) (map_set caller_view callers id next ∙ ap (λ (c : Caller). slice_set (map caller_view callers) id (caller_view c)) is)
 
 -- ---- it proposes
-pub proposes : {S V : Type 0} (m : Meaning S V) (greatest : ℕ) (council : Council) (acceptors : List (AcceptorView S)) (desks : List (DeskView V)) (callers : List Caller) (flow flow_now : FlowView) (book after : Book) (id : ℕ) (desk now : DeskView V) (caller next : Caller) (made : Proposing)
+pub proposes : {S V : Type 0} (m : Meaning S V) (last_proposer : ℕ) (council : Council) (acceptors : List (AcceptorView S)) (desks : List (DeskView V)) (callers : List Caller) (flow flow_now : FlowView) (book after : Book) (id : ℕ) (desk now : DeskView V) (caller next : Caller) (made : Proposing)
     → (queue_at flow id).messages ≡ [] → (is : IsProposing desks callers flow id desk caller book.room) → Proposes m.disks id caller.number is.may.round is.may.call desk now flow flow_now made
     → next ≡ record caller { call = Some (with_proposal is.may.call made) } → after.marks ≡ book.marks ++ made.mark ∷ []
-    → StepPropose m (view_of greatest council acceptors desks callers flow book) id (view_of greatest council acceptors (slice_set desks id now) (slice_set callers id next) flow_now after)
-proposes {S} {V} m greatest council acceptors desks callers flow flow_now book after id desk now caller next made none is by next_is marks =
+    → StepPropose m (view_of last_proposer council acceptors desks callers flow book) id (view_of last_proposer council acceptors (slice_set desks id now) (slice_set callers id next) flow_now after)
+proposes {S} {V} m last_proposer council acceptors desks callers flow flow_now book after id desk now caller next made none is by next_is marks =
     let author : Author = record { caller = id; call = caller.number } in
     let whole : Proposing = proposing_of author is.may.round.key is.may.round.era.number is.may.call.program (ready_of is.may.round by.read by.by) in
     record {
-      at_round = at_round greatest council acceptors desks callers flow book id desk caller none is;
+      at_round = at_round last_proposer council acceptors desks callers flow book id desk caller none is;
       preparing = is.may.preparing;
       proposes = calls.proposes now by.turned by.read by.by by.ride (outcome_of is.may.call.program (state_read by.read)) flow_now by.quorum by.confirmers by.is_read by.turns refl by.sends
-          (seen_next greatest council acceptors (slice_set desks id now) callers flow_now after id caller next (with_proposal is.may.call whole) (next_is ∙ ap (λ (p : Proposing). record caller { call = Some (with_proposal is.may.call p) }) by.made)
-          ∙ ap (λ (l : List Mark). record (view_of greatest council acceptors (slice_set desks id now) callers flow_now book)
+          (seen_next last_proposer council acceptors (slice_set desks id now) callers flow_now after id caller next (with_proposal is.may.call whole) (next_is ∙ ap (λ (p : Proposing). record caller { call = Some (with_proposal is.may.call p) }) by.made)
+          ∙ ap (λ (l : List Mark). record (view_of last_proposer council acceptors (slice_set desks id now) callers flow_now book)
           { callers = slice_set (map caller_view callers) id (record (caller_view caller) { call = Some (call_view (with_proposal is.may.call whole)) }); marks = l }) (marks ∙ ap (λ (p : Proposing). book.marks ++ p.mark ∷ []) by.made));
     }
 
@@ -288,10 +288,10 @@ copies_made {V} m desks callers id proposer number round call desk now caller ne
     (subst (λ (o : Option Round). HasCopies o (Some (with_proposal call whole))) (sym (ap (λ (d : DeskView V). d.round) by.turns.desk)) has))
     were
 
-pub has_proposed : {S V : Type 0} (m : DiskMeaning V) (greatest : ℕ) (council : Council) (acceptors : List (AcceptorView S)) (desks : List (DeskView V)) (callers : List Caller) (flow flow_now : FlowView) (after : Book) (id proposer number : ℕ) (round : Round) (call : OpenCall) (desk now : DeskView V) (caller next : Caller) (made : Proposing)
+pub has_proposed : {S V : Type 0} (m : DiskMeaning V) (last_proposer : ℕ) (council : Council) (acceptors : List (AcceptorView S)) (desks : List (DeskView V)) (callers : List Caller) (flow flow_now : FlowView) (after : Book) (id proposer number : ℕ) (round : Round) (call : OpenCall) (desk now : DeskView V) (caller next : Caller) (made : Proposing)
     → IsAt desks id desk → IsAt callers id caller → Proposes m proposer number round call desk now flow flow_now made → next ≡ record caller { call = Some (with_proposal call made) }
-    → HasProposed (view_of greatest council acceptors (slice_set desks id now) (slice_set callers id next) flow_now after) id
-has_proposed {S} {V} m greatest council acceptors desks callers flow flow_now after id proposer number round call desk now caller next made at_desk at_caller by next_is = record {
+    → HasProposed (view_of last_proposer council acceptors (slice_set desks id now) (slice_set callers id next) flow_now after) id
+has_proposed {S} {V} m last_proposer council acceptors desks callers flow flow_now after id proposer number round call desk now caller next made at_desk at_caller by next_is = record {
   desk = now;
   at_desk = at_set desks id desk now at_desk;
   round = record by.turned { ride = by.ride };
@@ -326,14 +326,14 @@ ends_short : {S V : Type 0} (m : Meaning S V) (old : View S V) (id : ℕ) (desk 
 ends_short m old id desk now round caller call told new (reading.by_verdict verdict is refuses ends) view = calls.ends now verdict told is refuses ends view
 ends_short m old id desk now round caller call told new (reading.by_failure fails) view = fails_short m old id desk now round caller call told new fails view
 
-pub ends : {S V : Type 0} (m : Meaning S V) (greatest : ℕ) (council : Council) (acceptors : List (AcceptorView S)) (desks : List (DeskView V)) (callers : List Caller) (flow flow_now : FlowView) (book : Book) (id : ℕ) (desk now : DeskView V) (caller next : Caller) (told : Answer)
+pub ends : {S V : Type 0} (m : Meaning S V) (last_proposer : ℕ) (council : Council) (acceptors : List (AcceptorView S)) (desks : List (DeskView V)) (callers : List Caller) (flow flow_now : FlowView) (book : Book) (id : ℕ) (desk now : DeskView V) (caller next : Caller) (told : Answer)
     → (queue_at flow id).messages ≡ [] → (is : IsProposing desks callers flow id desk caller book.room) → EndsShort m.disks is.may.round desk now told → flow_now ≡ flow → next ≡ record caller { call = Some (over is.may.call told) }
-    → StepPropose m (view_of greatest council acceptors desks callers flow book) id (view_of greatest council acceptors (slice_set desks id now) (slice_set callers id next) flow_now book)
-ends {S} {V} m greatest council acceptors desks callers flow flow_now book id desk now caller next told none is by same_flow next_is = record {
-  at_round = at_round greatest council acceptors desks callers flow book id desk caller none is;
+    → StepPropose m (view_of last_proposer council acceptors desks callers flow book) id (view_of last_proposer council acceptors (slice_set desks id now) (slice_set callers id next) flow_now book)
+ends {S} {V} m last_proposer council acceptors desks callers flow flow_now book id desk now caller next told none is by same_flow next_is = record {
+  at_round = at_round last_proposer council acceptors desks callers flow book id desk caller none is;
   preparing = is.may.preparing;
-  proposes = ends_short m (view_of greatest council acceptors desks callers flow book) id desk now is.may.round (caller_view caller) (call_view is.may.call) told (view_of greatest council acceptors (slice_set desks id now) (slice_set callers id next) flow_now book) by
-      (ap (λ (f : FlowView). view_of greatest council acceptors (slice_set desks id now) (slice_set callers id next) f book) same_flow ∙ seen_next greatest council acceptors (slice_set desks id now) callers flow book id caller next (over is.may.call told) next_is);
+  proposes = ends_short m (view_of last_proposer council acceptors desks callers flow book) id desk now is.may.round (caller_view caller) (call_view is.may.call) told (view_of last_proposer council acceptors (slice_set desks id now) (slice_set callers id next) flow_now book) by
+      (ap (λ (f : FlowView). view_of last_proposer council acceptors (slice_set desks id now) (slice_set callers id next) f book) same_flow ∙ seen_next last_proposer council acceptors (slice_set desks id now) callers flow book id caller next (over is.may.call told) next_is);
 }
 
 -- its caller, as it was told
@@ -343,10 +343,10 @@ told_next caller next call told is_open by = subst (λ (o : Option OpenCall). If
 pub made_next : (caller next : Caller) (call : OpenCall) (made : Proposing) → caller.call ≡ Some call → IfSome caller.call (λ c. next ≡ record caller { call = Some (with_proposal c made) }) → next ≡ record caller { call = Some (with_proposal call made) }
 made_next caller next call made is_open by = subst (λ (o : Option OpenCall). IfSome o (λ c. next ≡ record caller { call = Some (with_proposal c made) })) is_open by
 
-pub was_told : {S V : Type 0} (greatest : ℕ) (council : Council) (acceptors : List (AcceptorView S)) (desks : List (DeskView V)) (callers : List Caller) (flow : FlowView) (book : Book) (now : View S V) (desks_now : List (DeskView V)) (flow_now : FlowView) (book_now : Book) (id : ℕ) (seen : CallerView)
-    (caller next : Caller) (call : OpenCall) (told : Answer) → view_of greatest council acceptors desks callers flow book ≡ now → IsAt now.callers id seen → IsAt callers id caller → next ≡ record caller { call = Some (over call told) }
-    → WasTold (view_of greatest council acceptors desks_now (slice_set callers id next) flow_now book_now) id seen.number told
-was_told {S} {V} greatest council acceptors desks callers flow book now desks_now flow_now book_now id seen caller next call told view at_seen at_caller next_is =
+pub was_told : {S V : Type 0} (last_proposer : ℕ) (council : Council) (acceptors : List (AcceptorView S)) (desks : List (DeskView V)) (callers : List Caller) (flow : FlowView) (book : Book) (now : View S V) (desks_now : List (DeskView V)) (flow_now : FlowView) (book_now : Book) (id : ℕ) (seen : CallerView)
+    (caller next : Caller) (call : OpenCall) (told : Answer) → view_of last_proposer council acceptors desks callers flow book ≡ now → IsAt now.callers id seen → IsAt callers id caller → next ≡ record caller { call = Some (over call told) }
+    → WasTold (view_of last_proposer council acceptors desks_now (slice_set callers id next) flow_now book_now) id seen.number told
+was_told {S} {V} last_proposer council acceptors desks callers flow book now desks_now flow_now book_now id seen caller next call told view at_seen at_caller next_is =
     let same : caller_view caller ≡ seen = at_one (map caller_view callers) id (at_map caller_view callers id caller at_caller) (subst (λ (v : View S V). IsAt v.callers id seen) (sym view) at_seen) in
     record {
       caller = caller_view next;

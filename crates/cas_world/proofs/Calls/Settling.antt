@@ -79,16 +79,16 @@ pub record IsFound {V : Type 0} (desks : List (DeskView V)) (callers : List Call
   pub same_id : desk.id ≡ id
   pub fits : (ready : Ready) → promise_at key desk.cache ≡ Some ready → FitsBallot ready.ballot
 
-module _ {S V : Type 0} (greatest : ℕ) (council : Council) (acceptors : List (AcceptorView S)) (desks : List (DeskView V)) (callers : List Caller) (flow : FlowView) (book : Book) (now : View S V) (place id number : ℕ) (key : List ℕ) (program : List Clause)
-    (same : place ≡ id) (view : view_of greatest council acceptors desks callers flow book ≡ now) (known : id ≤ now.greatest) (safe : IsSafe (view_of greatest council acceptors desks callers flow book)) (may : MayBegin now id number key program) where
-  low_id : id ≤ greatest
-  low_id = omega (arith, known, ap (λ (v : View S V). v.greatest) view)
+module _ {S V : Type 0} (last_proposer : ℕ) (council : Council) (acceptors : List (AcceptorView S)) (desks : List (DeskView V)) (callers : List Caller) (flow : FlowView) (book : Book) (now : View S V) (place id number : ℕ) (key : List ℕ) (program : List Clause)
+    (same : place ≡ id) (view : view_of last_proposer council acceptors desks callers flow book ≡ now) (known : id ≤ now.last_proposer) (safe : IsSafe (view_of last_proposer council acceptors desks callers flow book)) (may : MayBegin now id number key program) where
+  low_id : id ≤ last_proposer
+  low_id = omega (arith, known, ap (λ (v : View S V). v.last_proposer) view)
 
   found_by : (desk : DeskView V) (caller : Caller) → IsAt desks id desk → IsAt callers id caller → IsFound desks callers id number key program desk caller
   found_by desk caller at_desk at_caller =
       let party = safe.sound.parties id desk (caller_view caller) at_desk (at_map caller_view callers id caller at_caller) in
       let may_here : IsFirst desk caller number ⊎ IsAnother desk caller number key program =
-      may_in greatest council acceptors desks callers flow book id number key program desk caller safe at_desk at_caller (subst (λ (v : View S V). MayBegin v id number key program) (sym view) may) in
+      may_in last_proposer council acceptors desks callers flow book id number key program desk caller safe at_desk at_caller (subst (λ (v : View S V). MayBegin v id number key program) (sym view) may) in
       record {
         at_desk = at_desk;
         at_caller = at_caller;
@@ -140,11 +140,11 @@ never_full m key old new (Err (answer.Unsettled _)) result fails err ok full = e
 
 -- ---- what was proposed
 -- an open round is in its accept phase where its call has proposed something
-pub phase_tells : {S V : Type 0} (greatest : ℕ) (council : Council) (acceptors : List (AcceptorView S)) (desks : List (DeskView V)) (callers : List Caller) (flow : FlowView) (book : Book) (id : ℕ) (desk : DeskView V) (caller : Caller) (proposed : Bool)
-    → IsSafe (view_of greatest council acceptors desks callers flow book) → IsAt desks id desk → IsAt callers id caller → IfSome caller.call (λ call. proposed ≡ is_some call.proposed)
+pub phase_tells : {S V : Type 0} (last_proposer : ℕ) (council : Council) (acceptors : List (AcceptorView S)) (desks : List (DeskView V)) (callers : List Caller) (flow : FlowView) (book : Book) (id : ℕ) (desk : DeskView V) (caller : Caller) (proposed : Bool)
+    → IsSafe (view_of last_proposer council acceptors desks callers flow book) → IsAt desks id desk → IsAt callers id caller → IfSome caller.call (λ call. proposed ≡ is_some call.proposed)
     → (round : Option Round) → desk.round ≡ round → IfSome round (λ r. is_preparing r.phase ≡ not proposed)
-phase_tells greatest council acceptors desks callers flow book id desk caller proposed safe at_desk at_caller told None is_round = tt
-phase_tells greatest council acceptors desks callers flow book id desk caller proposed safe at_desk at_caller told (Some round) is_round =
+phase_tells last_proposer council acceptors desks callers flow book id desk caller proposed safe at_desk at_caller told None is_round = tt
+phase_tells last_proposer council acceptors desks callers flow book id desk caller proposed safe at_desk at_caller told (Some round) is_round =
     let is : IsOpenSafe (era_in council.eras.0 id) (caller_view caller) (queue_at flow id) round =
     subst (IsRoundSafe (era_in council.eras.0 id) (caller_view caller) (queue_at flow id)) is_round (safe.sound.parties id desk (caller_view caller) at_desk (at_map caller_view callers id caller at_caller)).round in
     let found = seen_open caller.call is.call is.is_open in
@@ -168,9 +168,9 @@ pub record Settles {S V A : Type 0} (m : Meaning S V) (old : View S V) (id numbe
 abbrev pub IsRefusal : Answer → Type 0
 IsRefusal told = (told ≡ answer.RecordFull) ⊎ (told ≡ answer.NoMemory false)
 
-was_told : {S V : Type 0} (greatest : ℕ) (council : Council) (acceptors : List (AcceptorView S)) (desks : List (DeskView V)) (callers : List Caller) (flow : FlowView) (book : Book) (id number : ℕ) (caller next : Caller) (call : OpenCall) (told : Answer)
-    → IsAt callers id caller → next.number ≡ number → next.call ≡ Some call → call.told ≡ Some told → WasTold (view_of greatest council acceptors desks (slice_set callers id next) flow book) id number told
-was_told greatest council acceptors desks callers flow book id number caller next call told at same is said = record {
+was_told : {S V : Type 0} (last_proposer : ℕ) (council : Council) (acceptors : List (AcceptorView S)) (desks : List (DeskView V)) (callers : List Caller) (flow : FlowView) (book : Book) (id number : ℕ) (caller next : Caller) (call : OpenCall) (told : Answer)
+    → IsAt callers id caller → next.number ≡ number → next.call ≡ Some call → call.told ≡ Some told → WasTold (view_of last_proposer council acceptors desks (slice_set callers id next) flow book) id number told
+was_told last_proposer council acceptors desks callers flow book id number caller next call told at same is said = record {
   caller = caller_view next;
   at_caller = at_map caller_view (slice_set callers id next) id next (at_set callers id caller next at);
   same_number = same;
@@ -179,10 +179,10 @@ was_told greatest council acceptors desks callers flow book id number caller nex
   told = said;
 }
 
-module _ {S V : Type 0} (A : Type 0) (m : Meaning S V) (greatest : ℕ) (council : Council) (acceptors : List (AcceptorView S)) (desks : List (DeskView V)) (callers : List Caller) (flow : FlowView) (book : Book) (id number : ℕ) (key : List ℕ) (program : List Clause)
-    (desk : DeskView V) (caller : Caller) (inv : IsWorld m (view_of greatest council acceptors desks callers flow book) callers book.room) (at_desk : IsAt desks id desk) (at_caller : IsAt callers id caller) where
+module _ {S V : Type 0} (A : Type 0) (m : Meaning S V) (last_proposer : ℕ) (council : Council) (acceptors : List (AcceptorView S)) (desks : List (DeskView V)) (callers : List Caller) (flow : FlowView) (book : Book) (id number : ℕ) (key : List ℕ) (program : List Clause)
+    (desk : DeskView V) (caller : Caller) (inv : IsWorld m (view_of last_proposer council acceptors desks callers flow book) callers book.room) (at_desk : IsAt desks id desk) (at_caller : IsAt callers id caller) where
   abbrev old : View S V
-  old = view_of greatest council acceptors desks callers flow book
+  old = view_of last_proposer council acceptors desks callers flow book
 
   low : id < length callers
   low = low_at callers id at_caller
@@ -201,11 +201,11 @@ module _ {S V : Type 0} (A : Type 0) (m : Meaning S V) (greatest : ℕ) (council
   callers_same : (told : Answer) → caller.call ≡ None → slice_set callers id (refused caller told) ≡ callers
   callers_same told none = ap (λ (c : Caller). slice_set callers id c) (same_caller told none) ∙ set_same callers id caller at_caller
 
-  no_call : caller.call ≡ None → HasNoCall (view_of greatest council acceptors desks callers flow book) id
+  no_call : caller.call ≡ None → HasNoCall (view_of last_proposer council acceptors desks callers flow book) id
   no_call none = record { caller = caller_view caller; at_caller = at_map caller_view callers id caller at_caller; none_open = ap (λ (o : Option OpenCall). option_map call_view o) none }
 
   -- one that is open is not none
-  is_no_first : IsAnother desk caller number key program → HasNoCall (view_of greatest council acceptors desks callers flow book) id → ⊥
+  is_no_first : IsAnother desk caller number key program → HasNoCall (view_of last_proposer council acceptors desks callers flow book) id → ⊥
   is_no_first another none =
       let same : caller_view caller ≡ none.caller = at_one (map caller_view callers) id (at_map caller_view callers id caller at_caller) none.at_caller in
       let open_one : (caller_view caller).call ≡ Some (call_view another.call) = ap (λ (o : Option OpenCall). option_map call_view o) another.is_call in
@@ -227,19 +227,19 @@ module _ {S V : Type 0} (A : Type 0) (m : Meaning S V) (greatest : ℕ) (council
       omega (arith, beside_seen callers id (refused caller told) low, all_reserved, one, had, some_reserved another.call another.is_call another.idle, inv.room, grows)
 
   -- another round of the open call, for which one mark is reserved
-  entered_one : (another : IsAnother desk caller number key program) → IsEntered (view_of greatest council acceptors desks callers flow book) id number key program (view_of greatest council acceptors desks (slice_set callers id (entered caller None 1)) flow (opened_book book None)) (entered caller None 1) 1 0
+  entered_one : (another : IsAnother desk caller number key program) → IsEntered (view_of last_proposer council acceptors desks callers flow book) id number key program (view_of last_proposer council acceptors desks (slice_set callers id (entered caller None 1)) flow (opened_book book None)) (entered caller None 1) 1 0
   entered_one another =
       let had : reserved_of caller ≡ another.call.reserved = ap (λ (o : Option OpenCall). reserved_in o) another.is_call in
-      opens_again greatest council acceptors desks callers flow book id number key program 1 desk caller at_caller at_desk low another (omega arith) (omega arith)
+      opens_again last_proposer council acceptors desks callers flow book id number key program 1 desk caller at_caller at_desk low another (omega arith) (omega arith)
       (omega (arith, all_reserved, had, some_reserved another.call another.is_call another.idle, inv.safe.sound.room))
 
-  told_one : (told : Answer) (another : IsAnother desk caller number key program) (desks_now : List (DeskView V)) (flow_now : FlowView) (after : Book) → WasTold (view_of greatest council acceptors desks_now (slice_set callers id (refused caller told)) flow_now after) id number told
-  told_one told another desks_now flow_now after = was_told greatest council acceptors desks_now callers flow_now after id number caller (refused caller told) (over (again another.call 1) told) told at_caller (sym another.same_number)
+  told_one : (told : Answer) (another : IsAnother desk caller number key program) (desks_now : List (DeskView V)) (flow_now : FlowView) (after : Book) → WasTold (view_of last_proposer council acceptors desks_now (slice_set callers id (refused caller told)) flow_now after) id number told
+  told_one told another desks_now flow_now after = was_told last_proposer council acceptors desks_now callers flow_now after id number caller (refused caller told) (over (again another.call 1) told) told at_caller (sym another.same_number)
       (ap (λ (o : Option OpenCall). option_map (λ call. over (again call 1) told) o) another.is_call) refl
 
   -- its marks do not fit beside the others
   entered_full : (another : IsAnother desk caller number key program) → calls.most_marks < length book.marks + reserved_beside callers id + reserved_by (council_view council) + calls.round_marks (era_in council.eras.0 id)
-      → calls.IsFull (view_of greatest council acceptors desks (slice_set callers id (entered caller None 1)) flow (opened_book book None)) id × (suc (entered_one another).call.reserved < calls.round_marks (era_in council.eras.0 id))
+      → calls.IsFull (view_of last_proposer council acceptors desks (slice_set callers id (entered caller None 1)) flow (opened_book book None)) id × (suc (entered_one another).call.reserved < calls.round_marks (era_in council.eras.0 id))
   entered_full another over_full =
       let entry : Caller = entered caller None 1 in
       let no_caller : seen.reserved_of (slice_set (map caller_view (slice_set callers id entry)) id new_caller) ≡ reserved_beside callers id =
@@ -250,11 +250,11 @@ module _ {S V : Type 0} (A : Type 0) (m : Meaning S V) (greatest : ℕ) (council
 
   -- where what the operator has under way is seen as before
   seen_as_before : (council_now : Council) → council_now.eras ≡ council.eras → council_view council_now ≡ council_view council → (desks_now : List (DeskView V)) (callers_now : List Caller) (flow_now : FlowView) (after : Book) (result : Result A Answer)
-      → Settles {A = A} m (view_of greatest council acceptors desks callers flow book) id number key program (view_of greatest council acceptors desks_now callers_now flow_now after) callers_now after.room result
-      → Settles {A = A} m (view_of greatest council acceptors desks callers flow book) id number key program (view_of greatest council_now acceptors desks_now callers_now flow_now after) callers_now after.room result
+      → Settles {A = A} m (view_of last_proposer council acceptors desks callers flow book) id number key program (view_of last_proposer council acceptors desks_now callers_now flow_now after) callers_now after.room result
+      → Settles {A = A} m (view_of last_proposer council acceptors desks callers flow book) id number key program (view_of last_proposer council_now acceptors desks_now callers_now flow_now after) callers_now after.room result
   seen_as_before council_now eras same desks_now callers_now flow_now after result =
-      subst (λ (v : View S V). Settles {A = A} m (view_of greatest council acceptors desks callers flow book) id number key program v callers_now after.room result)
-      (sym (council_next greatest council council_now acceptors desks_now callers_now flow_now after (council_view council) eras same))
+      subst (λ (v : View S V). Settles {A = A} m (view_of last_proposer council acceptors desks callers flow book) id number key program v callers_now after.room result)
+      (sym (council_next last_proposer council council_now acceptors desks_now callers_now flow_now after (council_view council) eras same))
 
   -- what the operator's call is told of a refusal
   heeded_first : (council_now : Council) (told : Answer) → caller.call ≡ None → Heeds caller.call (council_view council) id key told (council_view council_now) → calls.Rescans (council_view council) id key told (council_view council_now)
@@ -270,13 +270,13 @@ module _ {S V : Type 0} (A : Type 0) (m : Meaning S V) (greatest : ℕ) (council
   -- no room was made
   pub not_made : (council_now : Council) → council_now.eras ≡ council.eras → (told : Answer) (after : Book) → IsFirst desk caller number ⊎ IsAnother desk caller number key program → IsRefusal told → Heeds caller.call (council_view council) id key told (council_view council_now)
       → (told ≡ answer.RecordFull → calls.most_marks < length book.marks + reserved_beside callers id + reserved_by (council_view council) + calls.round_marks (era_in council.eras.0 id)) → after.marks ≡ book.marks → book.room ≤ after.room
-      → Settles {A = A} m (view_of greatest council acceptors desks callers flow book) id number key program (view_of greatest council_now acceptors desks (slice_set callers id (refused caller told)) flow after) (slice_set callers id (refused caller told)) after.room (Err told)
+      → Settles {A = A} m (view_of last_proposer council acceptors desks callers flow book) id number key program (view_of last_proposer council_now acceptors desks (slice_set callers id (refused caller told)) flow after) (slice_set callers id (refused caller told)) after.room (Err told)
   not_made council_now eras told after (inl first) why heeds full marks grows =
-      let same : view_of greatest council_now acceptors desks (slice_set callers id (refused caller told)) flow after ≡ record old { council = council_view council_now } =
-      ap (λ (l : List Caller). view_of greatest council_now acceptors desks l flow after) (callers_same told first.none_open)
-      ∙ council_next greatest council council_now acceptors desks callers flow after (council_view council_now) eras refl ∙ ap (λ (l : List Mark). record old { council = council_view council_now; marks = l }) marks in
+      let same : view_of last_proposer council_now acceptors desks (slice_set callers id (refused caller told)) flow after ≡ record old { council = council_view council_now } =
+      ap (λ (l : List Caller). view_of last_proposer council_now acceptors desks l flow after) (callers_same told first.none_open)
+      ∙ council_next last_proposer council council_now acceptors desks callers flow after (council_view council_now) eras refl ∙ ap (λ (l : List Mark). record old { council = council_view council_now; marks = l }) marks in
       let anew = heeded_first council_now told first.none_open heeds in
-      let by : Step m old (step.RefuseBegin id key) (view_of greatest council_now acceptors desks (slice_set callers id (refused caller told)) flow after) = calls.stays told (council_view council_now) (refused_full told why full) anew same in
+      let by : Step m old (step.RefuseBegin id key) (view_of last_proposer council_now acceptors desks (slice_set callers id (refused caller told)) flow after) = calls.stays told (council_view council_now) (refused_full told why full) anew same in
       record {
         event = step.RefuseBegin id key;
         by = by;
@@ -290,12 +290,12 @@ module _ {S V : Type 0} (A : Type 0) (m : Meaning S V) (greatest : ℕ) (council
       }
   not_made council_now eras told after (inr another) why heeds full marks grows =
       let is = entered_one another in
-      let same : view_of greatest council acceptors desks (slice_set callers id (refused caller told)) flow after ≡ view_of greatest council acceptors desks (slice_set callers id (told_now (entered caller None 1) told)) flow (opened_book book None) =
-      ap (λ (c : Caller). view_of greatest council acceptors desks (slice_set callers id c) flow after) (refused_open told another.call another.is_call)
-      ∙ ap (λ (l : List Mark). record (view_of greatest council acceptors desks (slice_set callers id (told_now (entered caller None 1) told)) flow after) { marks = l }) (marks ∙ sym (append-nil book.marks)) in
-      let by : Step m old (step.Begin id key program) (view_of greatest council acceptors desks (slice_set callers id (refused caller told)) flow after) =
+      let same : view_of last_proposer council acceptors desks (slice_set callers id (refused caller told)) flow after ≡ view_of last_proposer council acceptors desks (slice_set callers id (told_now (entered caller None 1) told)) flow (opened_book book None) =
+      ap (λ (c : Caller). view_of last_proposer council acceptors desks (slice_set callers id c) flow after) (refused_open told another.call another.is_call)
+      ∙ ap (λ (l : List Mark). record (view_of last_proposer council acceptors desks (slice_set callers id (told_now (entered caller None 1) told)) flow after) { marks = l }) (marks ∙ sym (append-nil book.marks)) in
+      let by : Step m old (step.Begin id key program) (view_of last_proposer council acceptors desks (slice_set callers id (refused caller told)) flow after) =
       subst (λ (v : View S V). Step m old (step.Begin id key program) v) (sym same)
-      (step_stays greatest council acceptors desks callers flow book id number key program m (entered caller None 1) (opened_book book None) caller at_caller 1 0 is told (elim why [ inl full ↦ subst calls.IsNoBeginning (sym full) tt | inr none ↦ subst calls.IsNoBeginning (sym none) refl ])
+      (step_stays last_proposer council acceptors desks callers flow book id number key program m (entered caller None 1) (opened_book book None) caller at_caller 1 0 is told (elim why [ inl full ↦ subst calls.IsNoBeginning (sym full) tt | inr none ↦ subst calls.IsNoBeginning (sym none) refl ])
       (λ down. elim why [ inl full ↦ absurd (cc (full, down)) | inr none ↦ absurd (cc (none, down)) ]) (λ is_full. entered_full another (full is_full)) desk at_desk another.idle) in
       seen_as_before council_now eras (heeded_again council_now told another heeds) desks (slice_set callers id (refused caller told)) flow after (Err told) (record {
         event = step.Begin id key program;
@@ -314,18 +314,18 @@ module _ {S V : Type 0} (A : Type 0) (m : Meaning S V) (greatest : ℕ) (council
   module _ (marks : ℕ) (same_marks : marks ≡ round_marks (era_in council.eras.0 id)) (few : length book.marks + reserved_beside callers id + reserved_by (council_view council) + marks ≤ most_marks) (opening : Option Opening)
       (first_is : caller.call ≡ None → opening ≡ Some (opening_of (record { caller = id; call = number }) key program)) (again_is : IsSome caller.call → opening ≡ None) where
     pub entering : IsFirst desk caller number ⊎ IsAnother desk caller number key program
-        → IsEntered (view_of greatest council acceptors desks callers flow book) id number key program (view_of greatest council acceptors desks (slice_set callers id (entered caller opening marks)) flow (opened_book book opening)) (entered caller opening marks) marks (length (entry_marks opening))
-    entering (inl first) = subst (λ (o : Option Opening). IsEntered (view_of greatest council acceptors desks callers flow book) id number key program (view_of greatest council acceptors desks (slice_set callers id (entered caller o marks)) flow (opened_book book o)) (entered caller o marks) marks (length (entry_marks o)))
-        (sym (first_is first.none_open)) (opens_first greatest council acceptors desks callers flow book id number key program marks desk caller at_caller low first same_marks few)
-    entering (inr another) = subst (λ (o : Option Opening). IsEntered (view_of greatest council acceptors desks callers flow book) id number key program (view_of greatest council acceptors desks (slice_set callers id (entered caller o marks)) flow (opened_book book o)) (entered caller o marks) marks (length (entry_marks o)))
-        (sym (again_is (subst (λ (o : Option OpenCall). IsSome o) (sym another.is_call) refl))) (opens_again greatest council acceptors desks callers flow book id number key program marks desk caller at_caller at_desk low another (omega (arith, same_marks)) (omega (arith, same_marks)) few)
+        → IsEntered (view_of last_proposer council acceptors desks callers flow book) id number key program (view_of last_proposer council acceptors desks (slice_set callers id (entered caller opening marks)) flow (opened_book book opening)) (entered caller opening marks) marks (length (entry_marks opening))
+    entering (inl first) = subst (λ (o : Option Opening). IsEntered (view_of last_proposer council acceptors desks callers flow book) id number key program (view_of last_proposer council acceptors desks (slice_set callers id (entered caller o marks)) flow (opened_book book o)) (entered caller o marks) marks (length (entry_marks o)))
+        (sym (first_is first.none_open)) (opens_first last_proposer council acceptors desks callers flow book id number key program marks desk caller at_caller low first same_marks few)
+    entering (inr another) = subst (λ (o : Option Opening). IsEntered (view_of last_proposer council acceptors desks callers flow book) id number key program (view_of last_proposer council acceptors desks (slice_set callers id (entered caller o marks)) flow (opened_book book o)) (entered caller o marks) marks (length (entry_marks o)))
+        (sym (again_is (subst (λ (o : Option OpenCall). IsSome o) (sym another.is_call) refl))) (opens_again last_proposer council acceptors desks callers flow book id number key program marks desk caller at_caller at_desk low another (omega (arith, same_marks)) (omega (arith, same_marks)) few)
 
     module _ (may : IsFirst desk caller number ⊎ IsAnother desk caller number key program) (now : DeskView V) (flow_now : FlowView) (after : Book) (left : ℕ) (held : reserved_beside callers id + reserved_by (council_view council) + marks ≤ left) (grows : book.room ≤ left)
         (council_now : Council) (eras : council_now.eras ≡ council.eras) where
       idle : desk.round ≡ None
       idle = elim may [ inl first ↦ first.idle | inr another ↦ another.idle ]
 
-      is_entered : IsEntered (view_of greatest council acceptors desks callers flow book) id number key program (view_of greatest council acceptors desks (slice_set callers id (entered caller opening marks)) flow (opened_book book opening)) (entered caller opening marks) marks (length (entry_marks opening))
+      is_entered : IsEntered (view_of last_proposer council acceptors desks callers flow book) id number key program (view_of last_proposer council acceptors desks (slice_set callers id (entered caller opening marks)) flow (opened_book book opening)) (entered caller opening marks) marks (length (entry_marks opening))
       is_entered = entering may
 
       -- the marks that are reserved have their room
@@ -333,7 +333,7 @@ module _ {S V : Type 0} (A : Type 0) (m : Meaning S V) (greatest : ℕ) (council
       next_room next spent within made = omega (arith, beside_seen callers id next low, within, made, held)
 
       -- ---- it began
-      has_round : (next : Caller) (call : OpenCall) → next.number ≡ number → next.call ≡ Some call → IsSome now.round → HasRound (view_of greatest council acceptors (slice_set desks id now) (slice_set callers id next) flow_now after) id number
+      has_round : (next : Caller) (call : OpenCall) → next.number ≡ number → next.call ≡ Some call → IsSome now.round → HasRound (view_of last_proposer council acceptors (slice_set desks id now) (slice_set callers id next) flow_now after) id number
       has_round next call same is some = record {
         caller = caller_view next;
         at_caller = at_map caller_view (slice_set callers id next) id next (at_set callers id caller next at_caller);
@@ -346,14 +346,14 @@ module _ {S V : Type 0} (A : Type 0) (m : Meaning S V) (greatest : ℕ) (council
       }
 
       pub prepares : Prepares m.disks (era_in council.eras.0 id) key id desk now flow flow_now → after.marks ≡ book.marks ++ entry_marks opening → after.room + length (entry_marks opening) ≡ left → (done : A)
-          → Settles {A = A} m (view_of greatest council acceptors desks callers flow book) id number key program (view_of greatest council acceptors (slice_set desks id now) (slice_set callers id (entered caller opening marks)) flow_now after)
+          → Settles {A = A} m (view_of last_proposer council acceptors desks callers flow book) id number key program (view_of last_proposer council acceptors (slice_set desks id now) (slice_set callers id (entered caller opening marks)) flow_now after)
           (slice_set callers id (entered caller opening marks)) after.room (Ok done)
       prepares was made spent done =
           let next : Caller = entered caller opening marks in
           let is_round : now.round ≡ Some was.round = ap (λ (d : DeskView V). d.round) was.begins.desk in
-          let by : Step m old (step.Begin id key program) (view_of greatest council acceptors (slice_set desks id now) (slice_set callers id next) flow_now after) =
-          subst (λ (l : List Mark). Step m old (step.Begin id key program) (record (view_of greatest council acceptors (slice_set desks id now) (slice_set callers id next) flow_now after) { marks = l })) (sym made)
-          (step_prepares greatest council acceptors desks callers flow book id number key program m next (opened_book book opening) caller at_caller marks (length (entry_marks opening)) is_entered same_marks desk now flow_now at_desk was) in
+          let by : Step m old (step.Begin id key program) (view_of last_proposer council acceptors (slice_set desks id now) (slice_set callers id next) flow_now after) =
+          subst (λ (l : List Mark). Step m old (step.Begin id key program) (record (view_of last_proposer council acceptors (slice_set desks id now) (slice_set callers id next) flow_now after) { marks = l })) (sym made)
+          (step_prepares last_proposer council acceptors desks callers flow book id number key program m next (opened_book book opening) caller at_caller marks (length (entry_marks opening)) is_entered same_marks desk now flow_now at_desk was) in
           record {
             event = step.Begin id key program;
             by = by;
@@ -369,7 +369,7 @@ module _ {S V : Type 0} (A : Type 0) (m : Meaning S V) (greatest : ℕ) (council
 
       pub proposes : (proposing : Proposing) → ProposesBy m.disks (era_in council.eras.0 id) key program (record { caller = id; call = number }) desk now flow flow_now proposing → after.marks ≡ book.marks ++ (entry_marks opening ++ proposing.mark ∷ [])
           → after.room + length (entry_marks opening ++ proposing.mark ∷ []) ≡ left → (done : A)
-          → Settles {A = A} m (view_of greatest council acceptors desks callers flow book) id number key program (view_of greatest council acceptors (slice_set desks id now) (slice_set callers id (proposes_now (entered caller opening marks) proposing)) flow_now after)
+          → Settles {A = A} m (view_of last_proposer council acceptors desks callers flow book) id number key program (view_of last_proposer council acceptors (slice_set desks id now) (slice_set callers id (proposes_now (entered caller opening marks) proposing)) flow_now after)
           (slice_set callers id (proposes_now (entered caller opening marks) proposing)) after.room (Ok done)
       proposes proposing was made spent done =
           let entry : Caller = entered caller opening marks in
@@ -378,8 +378,8 @@ module _ {S V : Type 0} (A : Type 0) (m : Meaning S V) (greatest : ℕ) (council
           let is_round : now.round ≡ Some riding = ap (λ (d : DeskView V). d.round) was.begins.desk in
           let next_call : next.call ≡ Some (with_proposal is_entered.call proposing) = ap (λ (o : Option OpenCall). option_map (λ call. with_proposal call proposing) o) is_entered.is_open in
           let one_more : length (entry_marks opening ++ proposing.mark ∷ []) ≡ length (entry_marks opening) + 1 = length-append (entry_marks opening) (proposing.mark ∷ []) in
-          let by : Step m old (step.Begin id key program) (view_of greatest council acceptors (slice_set desks id now) (slice_set callers id next) flow_now after) =
-          step_proposes greatest council acceptors desks callers flow book id number key program m entry (opened_book book opening) caller at_caller marks (length (entry_marks opening)) is_entered same_marks desk now flow_now after proposing at_desk was
+          let by : Step m old (step.Begin id key program) (view_of last_proposer council acceptors (slice_set desks id now) (slice_set callers id next) flow_now after) =
+          step_proposes last_proposer council acceptors desks callers flow book id number key program m entry (opened_book book opening) caller at_caller marks (length (entry_marks opening)) is_entered same_marks desk now flow_now after proposing at_desk was
           (made ∙ sym (append_assoc book.marks (entry_marks opening) (proposing.mark ∷ []))) in
           let held_copies : HasCopies (Some riding) (Some (with_proposal is_entered.call proposing)) =
           λ accepting. (
@@ -419,15 +419,15 @@ module _ {S V : Type 0} (A : Type 0) (m : Meaning S V) (greatest : ℕ) (council
       none_left answer.RecordFull by = elim by [ ]
 
       pub fails : (told : Answer) → is_refusal told ≡ false → FailsToOpen m.disks key desk now told → after.marks ≡ book.marks ++ entry_marks opening → after.room + length (entry_marks opening) ≡ left
-          → Settles {A = A} m (view_of greatest council acceptors desks callers flow book) id number key program (view_of greatest council acceptors (slice_set desks id now) (slice_set callers id (told_now (entered caller opening marks) told)) flow after)
+          → Settles {A = A} m (view_of last_proposer council acceptors desks callers flow book) id number key program (view_of last_proposer council acceptors (slice_set desks id now) (slice_set callers id (told_now (entered caller opening marks) told)) flow after)
           (slice_set callers id (told_now (entered caller opening marks) told)) after.room (Err told)
       fails told begun was made spent =
           let entry : Caller = entered caller opening marks in
           let next : Caller = told_now entry told in
           let next_call : next.call ≡ Some (over is_entered.call told) = ap (λ (o : Option OpenCall). option_map (λ call. over call told) o) is_entered.is_open in
-          let by : Step m old (step.Begin id key program) (view_of greatest council acceptors (slice_set desks id now) (slice_set callers id next) flow after) =
-          subst (λ (l : List Mark). Step m old (step.Begin id key program) (record (view_of greatest council acceptors (slice_set desks id now) (slice_set callers id next) flow after) { marks = l })) (sym made)
-          (step_fails greatest council acceptors desks callers flow book id number key program m entry (opened_book book opening) caller at_caller marks (length (entry_marks opening)) is_entered desk now told at_desk idle was) in
+          let by : Step m old (step.Begin id key program) (view_of last_proposer council acceptors (slice_set desks id now) (slice_set callers id next) flow after) =
+          subst (λ (l : List Mark). Step m old (step.Begin id key program) (record (view_of last_proposer council acceptors (slice_set desks id now) (slice_set callers id next) flow after) { marks = l })) (sym made)
+          (step_fails last_proposer council acceptors desks callers flow book id number key program m entry (opened_book book opening) caller at_caller marks (length (entry_marks opening)) is_entered desk now told at_desk idle was) in
           record {
             event = step.Begin id key program;
             by = by;
@@ -437,12 +437,12 @@ module _ {S V : Type 0} (A : Type 0) (m : Meaning S V) (greatest : ℕ) (council
               room = next_room next (length (entry_marks opening)) (omega (arith, is_entered.within, is_entered.reserved, same_marks, ap (λ (o : Option OpenCall). reserved_in o) next_call)) spent;
               copies = copies_next desks callers id now next (idle_copies now.round next.call (none_left told was)) inv.copies;
             };
-            answers = inl (by, was_told greatest council acceptors (slice_set desks id now) callers flow after id number caller next (over is_entered.call told) told at_caller is_entered.same_number next_call refl, λ none. begun);
+            answers = inl (by, was_told last_proposer council acceptors (slice_set desks id now) callers flow after id number caller next (over is_entered.call told) told at_caller is_entered.same_number next_call refl, λ none. begun);
           }
 
       -- ---- no memory was found
       pub loses : (proposed : Bool) → FailsToOpen m.disks key desk now (answer.NoMemory proposed) → Heeds caller.call (council_view council) id key (answer.NoMemory proposed) (council_view council_now) → after.marks ≡ book.marks → after.room ≡ left
-          → Settles {A = A} m (view_of greatest council acceptors desks callers flow book) id number key program (view_of greatest council_now acceptors (slice_set desks id now) (slice_set callers id (refused caller (answer.NoMemory proposed))) flow after)
+          → Settles {A = A} m (view_of last_proposer council acceptors desks callers flow book) id number key program (view_of last_proposer council_now acceptors (slice_set desks id now) (slice_set callers id (refused caller (answer.NoMemory proposed))) flow after)
           (slice_set callers id (refused caller (answer.NoMemory proposed))) after.room (Err (answer.NoMemory proposed))
       loses proposed was heeds made spent = loses_in may
         where
@@ -450,15 +450,15 @@ module _ {S V : Type 0} (A : Type 0) (m : Meaning S V) (greatest : ℕ) (council
           told = answer.NoMemory proposed
 
           loses_in : IsFirst desk caller number ⊎ IsAnother desk caller number key program
-              → Settles {A = A} m (view_of greatest council acceptors desks callers flow book) id number key program (view_of greatest council_now acceptors (slice_set desks id now) (slice_set callers id (refused caller (answer.NoMemory proposed))) flow after)
+              → Settles {A = A} m (view_of last_proposer council acceptors desks callers flow book) id number key program (view_of last_proposer council_now acceptors (slice_set desks id now) (slice_set callers id (refused caller (answer.NoMemory proposed))) flow after)
               (slice_set callers id (refused caller (answer.NoMemory proposed))) after.room (Err (answer.NoMemory proposed))
           loses_in (inl first) =
               let anew = subst (λ (b : Bool). calls.Rescans (council_view council) id key (answer.NoMemory b) (council_view council_now)) was.0 (heeded_first council_now told first.none_open heeds) in
-              let by : Step m old (step.RefuseBegin id key) (view_of greatest council_now acceptors (slice_set desks id now) (slice_set callers id (refused caller told)) flow after) =
+              let by : Step m old (step.RefuseBegin id key) (view_of last_proposer council_now acceptors (slice_set desks id now) (slice_set callers id (refused caller told)) flow after) =
               calls.loses (caller_view caller) desk now was.2 (council_view council_now) (at_map caller_view callers id caller at_caller) at_desk first.idle was.1 was.3 anew
-              (ap (λ (l : List Caller). view_of greatest council_now acceptors (slice_set desks id now) l flow after) (callers_same told first.none_open)
-              ∙ council_next greatest council council_now acceptors (slice_set desks id now) callers flow after (council_view council_now) eras refl
-              ∙ ap (λ (l : List Mark). record (view_of greatest council acceptors (slice_set desks id now) callers flow book) { council = council_view council_now; marks = l }) made) in
+              (ap (λ (l : List Caller). view_of last_proposer council_now acceptors (slice_set desks id now) l flow after) (callers_same told first.none_open)
+              ∙ council_next last_proposer council council_now acceptors (slice_set desks id now) callers flow after (council_view council_now) eras refl
+              ∙ ap (λ (l : List Mark). record (view_of last_proposer council acceptors (slice_set desks id now) callers flow book) { council = council_view council_now; marks = l }) made) in
               record {
                 event = step.RefuseBegin id key;
                 by = by;
@@ -472,10 +472,10 @@ module _ {S V : Type 0} (A : Type 0) (m : Meaning S V) (greatest : ℕ) (council
               }
           loses_in (inr another) =
               let is = entered_one another in
-              let by : Step m old (step.Begin id key program) (view_of greatest council acceptors (slice_set desks id now) (slice_set callers id (refused caller told)) flow after) =
-              subst (λ (c : Caller). Step m old (step.Begin id key program) (view_of greatest council acceptors (slice_set desks id now) (slice_set callers id c) flow after)) (sym (refused_open told another.call another.is_call))
-              (subst (λ (l : List Mark). Step m old (step.Begin id key program) (record (view_of greatest council acceptors (slice_set desks id now) (slice_set callers id (told_now (entered caller None 1) told)) flow after) { marks = l })) (append-nil book.marks ∙ sym made)
-              (step_fails greatest council acceptors desks callers flow book id number key program m (entered caller None 1) (opened_book book None) caller at_caller 1 0 is desk now told at_desk another.idle was)) in
+              let by : Step m old (step.Begin id key program) (view_of last_proposer council acceptors (slice_set desks id now) (slice_set callers id (refused caller told)) flow after) =
+              subst (λ (c : Caller). Step m old (step.Begin id key program) (view_of last_proposer council acceptors (slice_set desks id now) (slice_set callers id c) flow after)) (sym (refused_open told another.call another.is_call))
+              (subst (λ (l : List Mark). Step m old (step.Begin id key program) (record (view_of last_proposer council acceptors (slice_set desks id now) (slice_set callers id (told_now (entered caller None 1) told)) flow after) { marks = l })) (append-nil book.marks ∙ sym made)
+              (step_fails last_proposer council acceptors desks callers flow book id number key program m (entered caller None 1) (opened_book book None) caller at_caller 1 0 is desk now told at_desk another.idle was)) in
               seen_as_before council_now eras (heeded_again council_now told another heeds) (slice_set desks id now) (slice_set callers id (refused caller told)) flow after (Err told) (record {
                 event = step.Begin id key program;
                 by = by;
@@ -491,28 +491,28 @@ module _ {S V : Type 0} (A : Type 0) (m : Meaning S V) (greatest : ℕ) (council
       -- ---- all of it
       pub settles : (begun : Result (Option Proposing) Answer) → IfOk begun (OpensRound m.disks (era_in council.eras.0 id) key program (record { caller = id; call = number }) desk now flow flow_now) → IfErr begun (FailsToOpen m.disks key desk now) → OnErr begun (flow_now ≡ flow)
           → HeedsLoss caller.call (council_view council) id key begun (council_view council_now) → after.marks ≡ book.marks ++ settled_marks opening begun → after.room + length (settled_marks opening begun) ≡ left → (result : Result A Answer) → IfErr begun (λ told. result ≡ Err told) → OnOk begun (IsOk result)
-          → Settles {A = A} m (view_of greatest council acceptors desks callers flow book) id number key program (view_of greatest council_now acceptors (slice_set desks id now) (slice_set callers id (settled caller opening marks begun)) flow_now after)
+          → Settles {A = A} m (view_of last_proposer council acceptors desks callers flow book) id number key program (view_of last_proposer council_now acceptors (slice_set desks id now) (slice_set callers id (settled caller opening marks begun)) flow_now after)
           (slice_set callers id (settled caller opening marks begun)) after.room result
       settles (Ok None) opens refuses stays heeds made spent result err ok = seen_as_before council_now eras heeds (slice_set desks id now) (slice_set callers id (entered caller opening marks)) flow_now after result
-          (subst (λ (r : Result A Answer). Settles {A = A} m (view_of greatest council acceptors desks callers flow book) id number key program
-          (view_of greatest council acceptors (slice_set desks id now) (slice_set callers id (entered caller opening marks)) flow_now after) (slice_set callers id (entered caller opening marks)) after.room r) (sym (is_ok result ok).1) (prepares opens made spent (is_ok result ok).0))
+          (subst (λ (r : Result A Answer). Settles {A = A} m (view_of last_proposer council acceptors desks callers flow book) id number key program
+          (view_of last_proposer council acceptors (slice_set desks id now) (slice_set callers id (entered caller opening marks)) flow_now after) (slice_set callers id (entered caller opening marks)) after.room r) (sym (is_ok result ok).1) (prepares opens made spent (is_ok result ok).0))
       settles (Ok (Some proposing)) opens refuses stays heeds made spent result err ok = seen_as_before council_now eras heeds (slice_set desks id now) (slice_set callers id (proposes_now (entered caller opening marks) proposing)) flow_now after result
-          (subst (λ (r : Result A Answer). Settles {A = A} m (view_of greatest council acceptors desks callers flow book) id number key program
-          (view_of greatest council acceptors (slice_set desks id now) (slice_set callers id (proposes_now (entered caller opening marks) proposing)) flow_now after) (slice_set callers id (proposes_now (entered caller opening marks) proposing)) after.room r) (sym (is_ok result ok).1)
+          (subst (λ (r : Result A Answer). Settles {A = A} m (view_of last_proposer council acceptors desks callers flow book) id number key program
+          (view_of last_proposer council acceptors (slice_set desks id now) (slice_set callers id (proposes_now (entered caller opening marks) proposing)) flow_now after) (slice_set callers id (proposes_now (entered caller opening marks) proposing)) after.room r) (sym (is_ok result ok).1)
           (proposes proposing opens made spent (is_ok result ok).0))
       settles (Err told) opens refuses stays heeds made spent result err ok =
-          subst (λ (f : FlowView). Settles {A = A} m (view_of greatest council acceptors desks callers flow book) id number key program (view_of greatest council_now acceptors (slice_set desks id now) (slice_set callers id (settled caller opening marks (Err told))) f after)
+          subst (λ (f : FlowView). Settles {A = A} m (view_of last_proposer council acceptors desks callers flow book) id number key program (view_of last_proposer council_now acceptors (slice_set desks id now) (slice_set callers id (settled caller opening marks (Err told))) f after)
           (slice_set callers id (settled caller opening marks (Err told))) after.room result) (sym stays)
-          (subst (λ (r : Result A Answer). Settles {A = A} m (view_of greatest council acceptors desks callers flow book) id number key program (view_of greatest council_now acceptors (slice_set desks id now) (slice_set callers id (settled caller opening marks (Err told))) flow after)
+          (subst (λ (r : Result A Answer). Settles {A = A} m (view_of last_proposer council acceptors desks callers flow book) id number key program (view_of last_proposer council_now acceptors (slice_set desks id now) (slice_set callers id (settled caller opening marks (Err told))) flow after)
           (slice_set callers id (settled caller opening marks (Err told))) after.room r) (sym err) (by_told told refuses heeds made spent))
         where
           fails_so : (told : Answer) → is_refusal told ≡ false → FailsToOpen m.disks key desk now told → council_view council_now ≡ council_view council → after.marks ≡ book.marks ++ entry_marks opening → after.room + length (entry_marks opening) ≡ left
-              → Settles {A = A} m (view_of greatest council acceptors desks callers flow book) id number key program (view_of greatest council_now acceptors (slice_set desks id now) (slice_set callers id (told_now (entered caller opening marks) told)) flow after)
+              → Settles {A = A} m (view_of last_proposer council acceptors desks callers flow book) id number key program (view_of last_proposer council_now acceptors (slice_set desks id now) (slice_set callers id (told_now (entered caller opening marks) told)) flow after)
               (slice_set callers id (told_now (entered caller opening marks) told)) after.room (Err told)
           fails_so told begun was same made spent = seen_as_before council_now eras same (slice_set desks id now) (slice_set callers id (told_now (entered caller opening marks) told)) flow after (Err told) (fails told begun was made spent)
 
           by_told : (told : Answer) → FailsToOpen m.disks key desk now told → HeedsLoss caller.call (council_view council) id key (Err told) (council_view council_now) → after.marks ≡ book.marks ++ settled_marks opening (Err told) → after.room + length (settled_marks opening (Err told)) ≡ left
-              → Settles {A = A} m (view_of greatest council acceptors desks callers flow book) id number key program (view_of greatest council_now acceptors (slice_set desks id now) (slice_set callers id (settled caller opening marks (Err told))) flow after)
+              → Settles {A = A} m (view_of last_proposer council acceptors desks callers flow book) id number key program (view_of last_proposer council_now acceptors (slice_set desks id now) (slice_set callers id (settled caller opening marks (Err told))) flow after)
               (slice_set callers id (settled caller opening marks (Err told))) after.room (Err told)
           by_told answer.Down was heeds made spent = fails_so answer.Down refl was heeds made spent
           by_told answer.Spent was heeds made spent = fails_so answer.Spent refl was heeds made spent

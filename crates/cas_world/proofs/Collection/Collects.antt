@@ -91,13 +91,13 @@ module _ {S V : Type 0} (m : Meaning S V) (old : View S V) (key : List ℕ) (des
   finds_no_memory new none up unplanned view = loses_memory old new none up unplanned (calls.stays (answer.NoMemory false) old.council (inr refl) (calls.is_none (λ is. cc (unplanned, is.is_plan)) refl) refl) view
 
   -- its call begins, and it is under way
-  pub begins_collection : (middle new : View S V) → caller.call ≡ None → old.council.plan ≡ None → StepBegin m old 0 key keep_always middle → new ≡ with_council middle (record (hushed middle.council) { collection = Some (new_collection key (era_at middle 0) old.greatest) })
+  pub begins_collection : (middle new : View S V) → caller.call ≡ None → old.council.plan ≡ None → StepBegin m old 0 key keep_always middle → new ≡ with_council middle (record (hushed middle.council) { collection = Some (new_collection key (era_at middle 0) old.last_proposer) })
       → Step m old (step.BeginCollect key) new
   begins_collection middle new none unplanned by view =
       let same : frame_of middle ≡ frame_of old = begin_frame m old middle 0 key keep_always by in
       begins_so new (collect.begins middle none unplanned by
-      (view ∙ ap (λ (e : Era). with_council middle (record (hushed middle.council) { collection = Some (new_collection key e old.greatest) })) (ap (λ (f : Frame). f.era) same)
-      ∙ hushed_so middle may.order (new_collection key (era_at old 0) old.greatest) (ap (λ (f : Frame). f.council.order) same ∙ may.is_open)))
+      (view ∙ ap (λ (e : Era). with_council middle (record (hushed middle.council) { collection = Some (new_collection key e old.last_proposer) })) (ap (λ (f : Frame). f.era) same)
+      ∙ hushed_so middle may.order (new_collection key (era_at old 0) old.last_proposer) (ap (λ (f : Frame). f.council.order) same ∙ may.is_open)))
 
   -- or another round of it does
   pub collects_again : (middle new : View S V) (call : CallView) → caller.call ≡ Some call → StepBegin m old 0 key keep_always middle → new ≡ with_council middle (hushed middle.council) → Step m old (step.BeginCollect key) new
@@ -208,8 +208,8 @@ lost_call {S} {V} old middle new number key said result none none_now order is_o
 pub hushed_stays : (council : cluster.Council) → reserved_by (hushed council) ≡ reserved_by council
 hushed_stays council = omega (arith, hushed_reserves council.order)
 
-pub begun_reserves : (council : cluster.Council) (key : List ℕ) (era : Era) (greatest : ℕ) → reserved_by (record (hushed council) { collection = Some (new_collection key era greatest) }) ≤ reserved_by council
-begun_reserves council key era greatest = omega (arith, hushed_reserves council.order)
+pub begun_reserves : (council : cluster.Council) (key : List ℕ) (era : Era) (last_proposer : ℕ) → reserved_by (record (hushed council) { collection = Some (new_collection key era last_proposer) }) ≤ reserved_by council
+begun_reserves council key era last_proposer = omega (arith, hushed_reserves council.order)
 
 -- ---- what is told of it
 module _ {S V : Type 0} (m : Meaning S V) (old middle new : View S V) (number : ℕ) (key : List ℕ) (desks : new.desks ≡ middle.desks) (callers : new.callers ≡ middle.callers) (is : IsCollecting new.council key) where
@@ -255,13 +255,13 @@ begun_again m old middle number key (Err said) (inl by) again = by.0
 begun_again m old middle number key (Err said) (inr by) again = absurd (again by.1)
 
 -- the collection of the key is under way then
-pub is_begun : {S V : Type 0} (middle : View S V) (key : List ℕ) (era : Era) (greatest : ℕ) (order : OrderView) (next : cluster.Council) → middle.council.order ≡ Some order → order.asked ≡ Collect key
-    → next ≡ record (hushed middle.council) { collection = Some (new_collection key era greatest) } → IsCollecting next key
-is_begun middle key era greatest order next is_open is_for is = record {
+pub is_begun : {S V : Type 0} (middle : View S V) (key : List ℕ) (era : Era) (last_proposer : ℕ) (order : OrderView) (next : cluster.Council) → middle.council.order ≡ Some order → order.asked ≡ Collect key
+    → next ≡ record (hushed middle.council) { collection = Some (new_collection key era last_proposer) } → IsCollecting next key
+is_begun middle key era last_proposer order next is_open is_for is = record {
   at = record {
     order = record order { told = None };
     is_open = ap (λ (c : cluster.Council). c.order) is ∙ ap (option_map silent_order) is_open;
-    collection = new_collection key era greatest;
+    collection = new_collection key era last_proposer;
     is_collection = ap (λ (c : cluster.Council). c.collection) is;
     is_for = is_for;
   };
@@ -349,18 +349,18 @@ pub counted_reserves : (council : cluster.Council) (state : State) (took : Took)
 counted_reserves council Empty took ballot whom = omega (arith, hushed_reserves council.order, one_more council.collection ballot whom)
 counted_reserves council (Held version body) took ballot whom = omega (arith, hushed_reserves council.order, still_reserves council.collection (found_held version) (λ c. refl))
 
-module _ {S V : Type 0} (m : Meaning S V) (greatest : ℕ) (council council_now : Council) (acceptors : List (AcceptorView S)) (desks : List (DeskView V)) (callers : List Caller) (flow : FlowView) (book after : Book) (desk now : DeskView V) (caller next : Caller) (said : Answer)
+module _ {S V : Type 0} (m : Meaning S V) (last_proposer : ℕ) (council council_now : Council) (acceptors : List (AcceptorView S)) (desks : List (DeskView V)) (callers : List Caller) (flow : FlowView) (book after : Book) (desk now : DeskView V) (caller next : Caller) (said : Answer)
     (found : IsCounting desks callers 0 desk caller book.room) (by : Counts m.disks desk now found.may.round caller next found.may.call found.may.outcome book after said)
-    (safe : IsSafe (view_of greatest council acceptors desks callers flow book)) (of : IsCollectingCall (view_of greatest council acceptors desks callers flow book))
-    (counts : StepCount m (view_of greatest council acceptors desks callers flow book) 0 (view_of greatest council acceptors (slice_set desks 0 now) (slice_set callers 0 next) flow after)) (eras : council_now.eras ≡ council.eras) where
+    (safe : IsSafe (view_of last_proposer council acceptors desks callers flow book)) (of : IsCollectingCall (view_of last_proposer council acceptors desks callers flow book))
+    (counts : StepCount m (view_of last_proposer council acceptors desks callers flow book) 0 (view_of last_proposer council acceptors (slice_set desks 0 now) (slice_set callers 0 next) flow after)) (eras : council_now.eras ≡ council.eras) where
   abbrev old_view : View S V
-  old_view = view_of greatest council acceptors desks callers flow book
+  old_view = view_of last_proposer council acceptors desks callers flow book
 
   abbrev middle_view : View S V
-  middle_view = view_of greatest council acceptors (slice_set desks 0 now) (slice_set callers 0 next) flow after
+  middle_view = view_of last_proposer council acceptors (slice_set desks 0 now) (slice_set callers 0 next) flow after
 
   abbrev new_view : View S V
-  new_view = view_of greatest council_now acceptors (slice_set desks 0 now) (slice_set callers 0 next) flow after
+  new_view = view_of last_proposer council_now acceptors (slice_set desks 0 now) (slice_set callers 0 next) flow after
 
   -- the call, as it is told
   abbrev call_now : CallView
@@ -439,11 +439,11 @@ module _ {S V : Type 0} (m : Meaning S V) (greatest : ℕ) (council council_now 
   )
 
 -- ---- a held state was read
-module _ {S V : Type 0} (m : Meaning S V) (greatest : ℕ) (council council_now : Council) (acceptors : List (AcceptorView S)) (desks : List (DeskView V)) (callers : List Caller) (flow : FlowView) (book : Book) (desk now : DeskView V) (caller : Caller) (version : ℕ)
-    (at_desk : IsAt desks 0 desk) (at_caller : IsAt callers 0 caller) (safe : IsSafe (view_of greatest council acceptors desks callers flow book)) (phase : IsInPhase (view_of greatest council acceptors desks callers flow book) 0 true)
-    (of : IsCollectingCall (view_of greatest council acceptors desks callers flow book)) (finds : FindsHeld desk version) (ends : (round : Round) → desk.round ≡ Some round → EndsRound m.disks desk now round None) (eras : council_now.eras ≡ council.eras) where
+module _ {S V : Type 0} (m : Meaning S V) (last_proposer : ℕ) (council council_now : Council) (acceptors : List (AcceptorView S)) (desks : List (DeskView V)) (callers : List Caller) (flow : FlowView) (book : Book) (desk now : DeskView V) (caller : Caller) (version : ℕ)
+    (at_desk : IsAt desks 0 desk) (at_caller : IsAt callers 0 caller) (safe : IsSafe (view_of last_proposer council acceptors desks callers flow book)) (phase : IsInPhase (view_of last_proposer council acceptors desks callers flow book) 0 true)
+    (of : IsCollectingCall (view_of last_proposer council acceptors desks callers flow book)) (finds : FindsHeld desk version) (ends : (round : Round) → desk.round ≡ Some round → EndsRound m.disks desk now round None) (eras : council_now.eras ≡ council.eras) where
   pub reads_held : council_view council_now ≡ with_collection (hushed (council_view council)) (λ c. record (found_held version c) { calling = false })
-      → Step m (view_of greatest council acceptors desks callers flow book) step.ReadHeld (view_of greatest council_now acceptors (slice_set desks 0 now) (slice_set callers 0 (record caller { call = None })) flow book)
+      → Step m (view_of last_proposer council acceptors desks callers flow book) step.ReadHeld (view_of last_proposer council_now acceptors (slice_set desks 0 now) (slice_set callers 0 (record caller { call = None })) flow book)
   reads_held is =
       let same : phase.desk ≡ desk = at_one desks 0 phase.at_desk at_desk in
       let one : phase.round ≡ finds.round = some_is (sym phase.is_round ∙ ap (λ (d : DeskView V). d.round) same ∙ finds.is_round) in
@@ -466,12 +466,12 @@ module _ {S V : Type 0} (m : Meaning S V) (greatest : ℕ) (council council_now 
         held = finds.held;
         now = now;
         ends = ends finds.round finds.is_round;
-        view = (λ i. record (view_of greatest council_now acceptors (slice_set desks 0 now) (slice_set callers 0 (record caller { call = None })) flow book) {
+        view = (λ i. record (view_of last_proposer council_now acceptors (slice_set desks 0 now) (slice_set callers 0 (record caller { call = None })) flow book) {
           eras = (eras i).0;
           council = is i;
           callers = (map_set caller_view callers 0 (record caller { call = None }) ∙ ap (λ (c : CallerView). slice_set (map caller_view callers) 0 (record c { call = None })) same_caller) i;
         })
-            ∙ hushed_on (with_caller (with_desk (view_of greatest council acceptors desks callers flow book) 0 now) 0 (record of.of_call.caller { call = None })) of.is.at.order of.is.at.collection (λ c. record (found_held version c) { calling = false }) of.is.at.is_open of.is.at.is_collection;
+            ∙ hushed_on (with_caller (with_desk (view_of last_proposer council acceptors desks callers flow book) 0 now) 0 (record of.of_call.caller { call = None })) of.is.at.order of.is.at.collection (λ c. record (found_held version c) { calling = false }) of.is.at.is_open of.is.at.is_collection;
       }
 
   -- what was reserved for its call is free

@@ -56,7 +56,7 @@ collecting_at view collection safe is = record {
 }
 
 -- once all proposers are renewed for it
-pub renewed_by : {S V : Type 0} (view : View S V) (collection : CollectionView) → IsSafe view → view.council.collection ≡ Some collection → renewals_before view.greatest collection.course.step ≡ view.greatest + 1 → (collection.course.step ≡ Round → ⊥) → IsRenewedBy view collection
+pub renewed_by : {S V : Type 0} (view : View S V) (collection : CollectionView) → IsSafe view → view.council.collection ≡ Some collection → renewals_before view.last_proposer collection.course.step ≡ view.last_proposer + 1 → (collection.course.step ≡ Round → ⊥) → IsRenewedBy view collection
 renewed_by view collection safe is all past =
     let of = safe.collection.each collection is in
     let acked = of.acknowledged past in record {
@@ -123,16 +123,16 @@ gathers_round {S} {V} old result next safe may by = in_case by
 
 -- ---- its exchanges
 -- members are asked once all proposers are renewed
-pub asks_late : (greatest : ℕ) (step : CollectStep) (collection : CollectionView) → collection.course.step ≡ step → gathers.asks_at step ≡ true → (renewals_before greatest collection.course.step ≡ greatest + 1) × (collection.course.step ≡ Round → ⊥)
-asks_late greatest Ages collection is asks = (ap (renewals_before greatest) is, λ other. cc (is, other))
-asks_late greatest Remove collection is asks = (ap (renewals_before greatest) is, λ other. cc (is, other))
-asks_late greatest Round collection is asks = absurd (cc asks)
-asks_late greatest Floor collection is asks = absurd (cc asks)
-asks_late greatest other collection is asks = absurd (cc asks)
+pub asks_late : (last_proposer : ℕ) (step : CollectStep) (collection : CollectionView) → collection.course.step ≡ step → gathers.asks_at step ≡ true → (renewals_before last_proposer collection.course.step ≡ last_proposer + 1) × (collection.course.step ≡ Round → ⊥)
+asks_late last_proposer Ages collection is asks = (ap (renewals_before last_proposer) is, λ other. cc (is, other))
+asks_late last_proposer Remove collection is asks = (ap (renewals_before last_proposer) is, λ other. cc (is, other))
+asks_late last_proposer Round collection is asks = absurd (cc asks)
+asks_late last_proposer Floor collection is asks = absurd (cc asks)
+asks_late last_proposer other collection is asks = absurd (cc asks)
 
-question_late : (greatest : ℕ) (collection : CollectionView) (question : cluster.Question) → IsQuestionOf collection question → (renewals_before greatest collection.course.step ≡ greatest + 1) × (collection.course.step ≡ Round → ⊥)
-question_late greatest collection question (collect.tells_ages is asks) = asks_late greatest Ages collection is refl
-question_late greatest collection question (collect.removes is asks) = asks_late greatest Remove collection is refl
+question_late : (last_proposer : ℕ) (collection : CollectionView) (question : cluster.Question) → IsQuestionOf collection question → (renewals_before last_proposer collection.course.step ≡ last_proposer + 1) × (collection.course.step ≡ Round → ⊥)
+question_late last_proposer collection question (collect.tells_ages is asks) = asks_late last_proposer Ages collection is refl
+question_late last_proposer collection question (collect.removes is asks) = asks_late last_proposer Remove collection is refl
 
 pub gathers_collect : {S V : Type 0} (old : View S V) (result : Result Gathered OpAnswer) (next : cluster.Council) → IsSafe old → (may : MayGatherCollected old) → GathersCollectAs may.exchange old.council result next → Gathers (StepGatherCollect old) old result (with_council old next)
 gathers_collect {S} {V} old result next safe may by = in_case by
@@ -148,7 +148,7 @@ gathers_collect {S} {V} old result next safe may by = in_case by
 
     step_of : collect.GathersCollect old (collecting_at old c safe is_c) may.exchange (with_council old next) → StepGatherCollect old (with_council old next)
     step_of gathers_ =
-        let late = question_late old.greatest c may.exchange.question of_it.asks in record {
+        let late = question_late old.last_proposer c may.exchange.question of_it.asks in record {
           at = collecting_at old c safe is_c;
           of_exchange = record { exchange = may.exchange; is_open = may.is_open };
           is_renewed = renewed_by old c safe is_c late.0 late.1;
@@ -185,7 +185,7 @@ gathers_collect {S} {V} old result next safe may by = in_case by
 -- what it asks
 abbrev pub may_ask_collect : {S V : Type 0} (view : View S V) (step : CollectStep) (desk : DeskView V) → IsSafe view → (may : MayAskCollected view step) → gathers.asks_at step ≡ true → IsAt view.desks 0 desk → MayAskCollect view desk
 may_ask_collect view step desk safe may asks at =
-    let late = asks_late view.greatest step may.collection may.is_due asks in record {
+    let late = asks_late view.last_proposer step may.collection may.is_due asks in record {
       at = collecting_at view may.collection safe may.is_collection;
       is_renewed = renewed_by view may.collection safe may.is_collection late.0 late.1;
       none_asked = may.none_open;
@@ -253,7 +253,7 @@ makes_floor {S} {V} old new next safe due next_is is =
     let of = safe.collection.each c due.is_collection in record {
       at = collecting_at old c safe due.is_collection;
       is_due = due.is_due;
-      is_renewed = renewed_by old c safe due.is_collection (ap (renewals_before old.greatest) due.is_due) (λ other. cc (due.is_due, other));
+      is_renewed = renewed_by old c safe due.is_collection (ap (renewals_before old.last_proposer) due.is_due) (λ other. cc (due.is_due, other));
       view = is ∙ ap (λ (v : View S V). with_marks v (mark.Floor c.course.key (tomb_of c.tombstone) Empty ∷ []))
           (ap (with_council old) (next_is ∙ ap (λ (o : Option CollectionView). record (hushed old.council) { collection = option_map (λ x. record (confirmed_step x) { reserved = 0 }) o }) due.is_collection)
           ∙ hushed_so old of.order (record (confirmed_step c) { reserved = 0 }) of.is_open);

@@ -151,17 +151,17 @@ pub next_ages : {V E : Type 0} (desks : List (DeskView V)) (id : ℕ) (desk : De
 next_ages {V} {E} desks id desk (Ok age) at is = λ other at_other. is ∙ ap (λ (d : DeskView V). (kept_of d.vault).age + 1) (at_one desks id at at_other)
 next_ages desks id desk (Err refusal) at is = tt
 
-module _ {S V : Type 0} (m : Meaning S V) (greatest : ℕ) (council council_now : Council) (acceptors : List (AcceptorView S)) (desks : List (DeskView V)) (callers : List Caller) (flow then_ flow_now : FlowView) (book : Book) (id : ℕ) (desk now : DeskView V) (caller caller_now : Caller)
+module _ {S V : Type 0} (m : Meaning S V) (last_proposer : ℕ) (council council_now : Council) (acceptors : List (AcceptorView S)) (desks : List (DeskView V)) (callers : List Caller) (flow then_ flow_now : FlowView) (book : Book) (id : ℕ) (desk now : DeskView V) (caller caller_now : Caller)
     (at : CollectingAt (council_view council)) (at_desk : IsAt desks id desk) (at_caller : IsAt callers id caller) (up : desk.down ≡ false) (eras : council_now.eras ≡ council.eras) (were : HaveCopies desks callers)
-    (some : (call : OpenCall) → caller.call ≡ Some call → 0 < call.reserved) (fits : reserved_in_all (view_of greatest council acceptors desks callers flow book) ≤ book.room) where
+    (some : (call : OpenCall) → caller.call ≡ Some call → 0 < call.reserved) (fits : reserved_in_all (view_of last_proposer council acceptors desks callers flow book) ≤ book.room) where
   abbrev old : View S V
-  old = view_of greatest council acceptors desks callers flow book
+  old = view_of last_proposer council acceptors desks callers flow book
 
   abbrev left : View S V
-  left = view_of greatest council acceptors (slice_set desks id now) (slice_set callers id caller_now) then_ book
+  left = view_of last_proposer council acceptors (slice_set desks id now) (slice_set callers id caller_now) then_ book
 
   abbrev new : View S V
-  new = view_of greatest council_now acceptors (slice_set desks id now) (slice_set callers id caller_now) flow_now book
+  new = view_of last_proposer council_now acceptors (slice_set desks id now) (slice_set callers id caller_now) flow_now book
 
   abbrev Outcome : Result ℕ OpAnswer → Type 0
   Outcome result = IsRenewal m old at id desk (slice_set desks id now) (slice_set callers id caller_now) book.room result new
@@ -180,7 +180,7 @@ module _ {S V : Type 0} (m : Meaning S V) (greatest : ℕ) (council council_now 
       → council_view council_now ≡ with_collection (hushed (council_view council)) (λ c. record (confirmed_step c) { ages = c.ages ++ age ∷ [] }) → flow_now ≡ then_ → result ≡ Ok age → Outcome result
   grows age result leaves_ is flows answer_is = record {
     renews = collect.renews age left
-        (left_round (Renews m.disks at.collection.course.key (tomb_of at.collection.tombstone) age) (closed_with (λ proposed. aged_answer proposed age)) (closed_by (answer.Aged age) (cause.Aged age)) greatest council acceptors desks callers flow then_ book id desk now caller caller_now (aged_same age) at_desk at_caller leaves_)
+        (left_round (Renews m.disks at.collection.course.key (tomb_of at.collection.tombstone) age) (closed_with (λ proposed. aged_answer proposed age)) (closed_by (answer.Aged age) (cause.Aged age)) last_proposer council acceptors desks callers flow then_ book id desk now caller caller_now (aged_same age) at_desk at_caller leaves_)
         ((λ i. record new { eras = (eras i).0; council = is i; flow = flows i })
         ∙ hushed_on left at.order at.collection (λ c. record (confirmed_step c) { ages = c.ages ++ age ∷ [] }) at.is_open at.is_collection);
     room = omega (
@@ -223,7 +223,7 @@ module _ {S V : Type 0} (m : Meaning S V) (greatest : ℕ) (council council_now 
   }
     where
       left_so : LeavesRound (FailsToRenew m.disks) closed_by_crash old id left
-      left_so = left_round (FailsToRenew m.disks) (closed_with crash_answer) closed_by_crash greatest council acceptors desks callers flow then_ book id desk now caller caller_now crashed_same at_desk at_caller leaves_
+      left_so = left_round (FailsToRenew m.disks) (closed_with crash_answer) closed_by_crash last_proposer council acceptors desks callers flow then_ book id desk now caller caller_now crashed_same at_desk at_caller leaves_
 
       by_id : (n : ℕ) → id ≡ n → RenewsNext m old at id desk new
       by_id zero none =
@@ -278,7 +278,7 @@ pub renews_next : {S V : Type 0} (m : Meaning S V) (old new : View S V) (id : �
 renews_next m old new id desk caller safe due at_desk at_caller by = record {
   at = collecting_at old due.collection safe due.is_collection;
   is_due = due.is_due;
-  in_order = (safe.collection.each due.collection due.is_collection).ages ∙ ap (renewals_before old.greatest) due.is_due;
+  in_order = (safe.collection.each due.collection due.is_collection).ages ∙ ap (renewals_before old.last_proposer) due.is_due;
   desk = desk;
   at_desk = at_desk;
   caller = caller;

@@ -114,15 +114,15 @@ leaves {V} DeskTurns told id desk now caller caller_now flow flow_now closes pro
         moving.closes round call is is_open turns (by ∙ ap (λ (a : Answer). record caller { call = Some (record (over call a) { is_closed = true }) }) (says ∙ ap told at)) flows
 
 -- so it is seen
-pub left_round : {S V : Type 0} (DeskTurns : DeskView V → DeskView V → Type 0) (closed : OpenCall → OpenCall) (seen : CallView → CallView) (greatest : ℕ) (council : Council) (acceptors : List (AcceptorView S)) (desks : List (DeskView V)) (callers : List Caller) (flow flow_now : FlowView) (book : Book)
+pub left_round : {S V : Type 0} (DeskTurns : DeskView V → DeskView V → Type 0) (closed : OpenCall → OpenCall) (seen : CallView → CallView) (last_proposer : ℕ) (council : Council) (acceptors : List (AcceptorView S)) (desks : List (DeskView V)) (callers : List Caller) (flow flow_now : FlowView) (book : Book)
     (id : ℕ) (desk now : DeskView V) (caller caller_now : Caller) → ((call : OpenCall) → call_view (closed call) ≡ seen (call_view call)) → IsAt desks id desk → IsAt callers id caller → Leaves DeskTurns closed id desk now caller caller_now flow flow_now
-    → LeavesRound DeskTurns seen (view_of greatest council acceptors desks callers flow book) id (view_of greatest council acceptors (slice_set desks id now) (slice_set callers id caller_now) flow_now book)
-left_round {S} {V} DeskTurns closed seen greatest council acceptors desks callers flow flow_now book id desk now caller caller_now same at_desk at_caller (moving.idle none turns stays flows) =
+    → LeavesRound DeskTurns seen (view_of last_proposer council acceptors desks callers flow book) id (view_of last_proposer council acceptors (slice_set desks id now) (slice_set callers id caller_now) flow_now book)
+left_round {S} {V} DeskTurns closed seen last_proposer council acceptors desks callers flow flow_now book id desk now caller caller_now same at_desk at_caller (moving.idle none turns stays flows) =
     stops.idle desk now at_desk none turns
-    (λ i. view_of greatest council acceptors (slice_set desks id now) ((ap (slice_set callers id) stays ∙ set_same callers id caller at_caller) i) (flows i) book)
-left_round {S} {V} DeskTurns closed seen greatest council acceptors desks callers flow flow_now book id desk now caller caller_now same at_desk at_caller (moving.closes round call is is_open turns by flows) =
+    (λ i. view_of last_proposer council acceptors (slice_set desks id now) ((ap (slice_set callers id) stays ∙ set_same callers id caller at_caller) i) (flows i) book)
+left_round {S} {V} DeskTurns closed seen last_proposer council acceptors desks callers flow flow_now book id desk now caller caller_now same at_desk at_caller (moving.closes round call is is_open turns by flows) =
     stops.closes desk now round (record { caller = caller_view caller; at_caller = at_map caller_view callers id caller at_caller; call = call_view call; is_open = ap (option_map call_view) is_open }) at_desk is turns
-    (λ i. record (view_of greatest council acceptors (slice_set desks id now) callers (flows i) book) {
+    (λ i. record (view_of last_proposer council acceptors (slice_set desks id now) callers (flows i) book) {
       callers = (map_set caller_view callers id caller_now
           ∙ ap (λ (c : Caller). slice_set (map caller_view callers) id (caller_view c)) by
           ∙ ap (λ (c : CallView). slice_set (map caller_view callers) id (record (caller_view caller) { call = Some c })) (same call)) i;
@@ -158,8 +158,8 @@ pub crash_order : (id : ℕ) (council : cluster.Council) → (crash_at id counci
 crash_order zero council = refl
 crash_order (suc id) council = refl
 
-asked_after : (greatest : ℕ) (plan : PlanView) (next : Era) → (plan_after greatest plan next).asked ≡ plan.asked
-asked_after greatest plan next = by_test (plan.entered == greatest)
+asked_after : (last_proposer : ℕ) (plan : PlanView) (next : Era) → (plan_after last_proposer plan next).asked ≡ plan.asked
+asked_after last_proposer plan next = by_test (plan.entered == last_proposer)
   where
     by_test : (b : Bool) → (if b then record plan { progress = record { era = next; left = rest_of plan.progress.left }; entered = 0; listing = None } else record plan { entered = suc plan.entered }).asked ≡ plan.asked
     by_test true = refl
@@ -172,29 +172,29 @@ moved_same number call = refl
 pub crashed_same : (call : OpenCall) → call_view (closed_with crash_answer call) ≡ closed_by_crash (call_view call)
 crashed_same call = refl
 
-module _ {S V : Type 0} (m : Meaning S V) (greatest : ℕ) (council council_now : Council) (acceptors : List (AcceptorView S)) (desks : List (DeskView V)) (callers : List Caller) (flow then_ flow_now : FlowView) (before middle after : Book) (id : ℕ) (desk now : DeskView V) (caller caller_now : Caller) (plan : PlanView) (next : Era)
+module _ {S V : Type 0} (m : Meaning S V) (last_proposer : ℕ) (council council_now : Council) (acceptors : List (AcceptorView S)) (desks : List (DeskView V)) (callers : List Caller) (flow then_ flow_now : FlowView) (before middle after : Book) (id : ℕ) (desk now : DeskView V) (caller caller_now : Caller) (plan : PlanView) (next : Era)
     (at_desk : IsAt desks id desk) (at_caller : IsAt callers id caller) (is_due : plan.entered ≡ id) (is_plan : (council_view council).plan ≡ Some plan) (same : middle.marks ≡ before.marks) (up : desk.down ≡ false)
-    (fits : length before.marks + reserved_in_all (view_of greatest council acceptors desks callers flow before) < most_marks) where
+    (fits : length before.marks + reserved_in_all (view_of last_proposer council acceptors desks callers flow before) < most_marks) where
   abbrev old : View S V
-  old = view_of greatest council acceptors desks callers flow before
+  old = view_of last_proposer council acceptors desks callers flow before
 
   abbrev left : View S V
-  left = view_of greatest council acceptors (slice_set desks id now) (slice_set callers id caller_now) then_ before
+  left = view_of last_proposer council acceptors (slice_set desks id now) (slice_set callers id caller_now) then_ before
 
   abbrev new : View S V
-  new = view_of greatest council_now acceptors (slice_set desks id now) (slice_set callers id caller_now) flow_now after
+  new = view_of last_proposer council_now acceptors (slice_set desks id now) (slice_set callers id caller_now) flow_now after
 
   moves_on : (p : PlanView) → Leaves (EntersEra m.disks next) (closed_with (λ proposed. moved_answer proposed next.number)) id desk now caller caller_now flow then_ → (council_view council).plan ≡ Some p
-      → council_view council_now ≡ record (hushed (council_view council)) { plan = Some (plan_after greatest p next) } → council_now.eras.0 ≡ slice_set council.eras.0 id next → flow_now ≡ then_ → after.marks ≡ middle.marks ++ EraEntered id next.number ∷ []
+      → council_view council_now ≡ record (hushed (council_view council)) { plan = Some (plan_after last_proposer p next) } → council_now.eras.0 ≡ slice_set council.eras.0 id next → flow_now ≡ then_ → after.marks ≡ middle.marks ++ EraEntered id next.number ∷ []
       → EntersNext m old plan next desk new
   moves_on p leaves_ is_p council_is eras flows marks =
       let one : p ≡ plan = some_is (sym is_p ∙ is_plan) in
       plans.enters left fits
       (subst (λ (i : ℕ). LeavesRound (EntersEra m.disks next) (closed_by (answer.Moved next.number) (cause.Moved next.number)) old i left) (sym is_due)
-      (left_round (EntersEra m.disks next) (closed_with (λ proposed. moved_answer proposed next.number)) (closed_by (answer.Moved next.number) (cause.Moved next.number)) greatest council acceptors desks callers flow then_ before id desk now caller caller_now (moved_same next.number) at_desk at_caller leaves_))
+      (left_round (EntersEra m.disks next) (closed_with (λ proposed. moved_answer proposed next.number)) (closed_by (answer.Moved next.number) (cause.Moved next.number)) last_proposer council acceptors desks callers flow then_ before id desk now caller caller_now (moved_same next.number) at_desk at_caller leaves_))
       ((λ i. record new {
         eras = (eras ∙ ap (λ (n : ℕ). slice_set council.eras.0 n next) (sym is_due)) i;
-        council = (council_is ∙ ap (λ (q : PlanView). record (hushed (council_view council)) { plan = Some (plan_after greatest q next) }) one) i;
+        council = (council_is ∙ ap (λ (q : PlanView). record (hushed (council_view council)) { plan = Some (plan_after last_proposer q next) }) one) i;
         flow = flows i;
         marks = (marks ∙ ap (λ (ms : List Mark). ms ++ EraEntered id next.number ∷ []) same ∙ ap (λ (n : ℕ). before.marks ++ EraEntered n next.number ∷ []) (sym is_due)) i;
       }))
@@ -204,7 +204,7 @@ module _ {S V : Type 0} (m : Meaning S V) (greatest : ℕ) (council council_now 
   goes_down leaves_ council_is eras flows books = by_id id refl
     where
       left_so : LeavesRound (FailsToEnter m.disks next) closed_by_crash old id left
-      left_so = left_round (FailsToEnter m.disks next) (closed_with crash_answer) closed_by_crash greatest council acceptors desks callers flow then_ before id desk now caller caller_now crashed_same at_desk at_caller leaves_
+      left_so = left_round (FailsToEnter m.disks next) (closed_with crash_answer) closed_by_crash last_proposer council acceptors desks callers flow then_ before id desk now caller caller_now crashed_same at_desk at_caller leaves_
 
       marks : after.marks ≡ before.marks
       marks = ap (λ (b : Book). b.marks) books ∙ same
@@ -236,7 +236,7 @@ module _ {S V : Type 0} (m : Meaning S V) (greatest : ℕ) (council council_now 
   -- whichever became of it
   pub entered_so : (moved : Result ⊤ VaultError) (result : Result ⊤ OpAnswer) → OnOk moved (Leaves (EntersEra m.disks next) (closed_with (λ proposed. moved_answer proposed next.number)) id desk now caller caller_now flow then_)
       → (IsErrOf moved error.VaultFault → Leaves (FailsToEnter m.disks next) (closed_with crash_answer) id desk now caller caller_now flow then_) → (IsErrOf moved error.NoMemory → Stays m.disks desk now caller caller_now flow then_)
-      → MarksMove greatest id next moved (council_view council) (council_view council_now) council.eras.0 council_now.eras.0 then_ flow_now middle after result → EntersNext m old plan next desk new
+      → MarksMove last_proposer id next moved (council_view council) (council_view council_now) council.eras.0 council_now.eras.0 then_ flow_now middle after result → EntersNext m old plan next desk new
   entered_so moved result ok fault none (moving.moves p is is_p council_is eras flows marks room answer_is) =
       moves_on p (subst (λ (r : Result ⊤ VaultError). OnOk r (Leaves (EntersEra m.disks next) (closed_with (λ proposed. moved_answer proposed next.number)) id desk now caller caller_now flow then_)) is ok) is_p council_is eras flows marks
   entered_so moved result ok fault none (moving.fails is council_is eras flows books answer_is) = goes_down (fault is) council_is eras flows books
@@ -245,7 +245,7 @@ module _ {S V : Type 0} (m : Meaning S V) (greatest : ℕ) (council council_now 
   -- no more is reserved than there is room for
   pub entered_room : (moved : Result ⊤ VaultError) (result : Result ⊤ OpAnswer) → OnOk moved (Leaves (EntersEra m.disks next) (closed_with (λ proposed. moved_answer proposed next.number)) id desk now caller caller_now flow then_)
       → (IsErrOf moved error.VaultFault → Leaves (FailsToEnter m.disks next) (closed_with crash_answer) id desk now caller caller_now flow then_) → (IsErrOf moved error.NoMemory → Stays m.disks desk now caller caller_now flow then_)
-      → MarksMove greatest id next moved (council_view council) (council_view council_now) council.eras.0 council_now.eras.0 then_ flow_now middle after result
+      → MarksMove last_proposer id next moved (council_view council) (council_view council_now) council.eras.0 council_now.eras.0 then_ flow_now middle after result
       → ((call : OpenCall) → caller.call ≡ Some call → 0 < call.reserved) → reserved_in_all old < middle.room → reserved_in_all new ≤ after.room
   entered_room moved result ok fault none (moving.moves p is is_p council_is eras flows marks room answer_is) some has =
       omega (
@@ -280,7 +280,7 @@ module _ {S V : Type 0} (m : Meaning S V) (greatest : ℕ) (council council_now 
   -- an accept phase that stays has its copies
   pub entered_copies : (moved : Result ⊤ VaultError) (result : Result ⊤ OpAnswer) → OnOk moved (Leaves (EntersEra m.disks next) (closed_with (λ proposed. moved_answer proposed next.number)) id desk now caller caller_now flow then_)
       → (IsErrOf moved error.VaultFault → Leaves (FailsToEnter m.disks next) (closed_with crash_answer) id desk now caller caller_now flow then_) → (IsErrOf moved error.NoMemory → Stays m.disks desk now caller caller_now flow then_)
-      → MarksMove greatest id next moved (council_view council) (council_view council_now) council.eras.0 council_now.eras.0 then_ flow_now middle after result
+      → MarksMove last_proposer id next moved (council_view council) (council_view council_now) council.eras.0 council_now.eras.0 then_ flow_now middle after result
       → HaveCopies desks callers → HaveCopies (slice_set desks id now) (slice_set callers id caller_now)
   entered_copies moved result ok fault none (moving.moves p is is_p council_is eras flows marks room answer_is) were =
       let by = turned (EntersEra m.disks next) (closed_with (λ proposed. moved_answer proposed next.number)) id desk now caller caller_now flow then_
@@ -292,7 +292,7 @@ module _ {S V : Type 0} (m : Meaning S V) (greatest : ℕ) (council council_now 
       subst (HaveCopies (slice_set desks id now)) (sym (ap (slice_set callers id) (none is).caller_ ∙ set_same callers id caller at_caller)) (copies_still desks callers id desk now at_desk (ap (λ (d : DeskView V). d.round) (none is).desk_) were)
 
   -- what is told
-  pub entered_ok : (moved : Result ⊤ VaultError) (result : Result ⊤ OpAnswer) (order : OrderView) → MarksMove greatest id next moved (council_view council) (council_view council_now) council.eras.0 council_now.eras.0 then_ flow_now middle after result
+  pub entered_ok : (moved : Result ⊤ VaultError) (result : Result ⊤ OpAnswer) (order : OrderView) → MarksMove last_proposer id next moved (council_view council) (council_view council_now) council.eras.0 council_now.eras.0 then_ flow_now middle after result
       → (council_view council).order ≡ Some order → plan.asked ≡ order.asked → OnOk result (IsUnderWay new order.asked)
   entered_ok moved result order (moving.moves p is is_p council_is eras flows marks room answer_is) is_open is_for =
       subst (λ (r : Result ⊤ OpAnswer). OnOk r (IsUnderWay new order.asked)) (sym answer_is) (record {
@@ -301,15 +301,15 @@ module _ {S V : Type 0} (m : Meaning S V) (greatest : ℕ) (council council_now 
         is_for = refl;
         untold = refl;
         plan = record {
-          open_plan = plan_after greatest p next;
+          open_plan = plan_after last_proposer p next;
           is_open = ap (λ (k : cluster.Council). k.plan) council_is;
-          same = asked_after greatest p next ∙ ap (λ (q : PlanView). q.asked) (some_is (sym is_p ∙ is_plan)) ∙ is_for;
+          same = asked_after last_proposer p next ∙ ap (λ (q : PlanView). q.asked) (some_is (sym is_p ∙ is_plan)) ∙ is_for;
         };
       })
   entered_ok moved result order (moving.fails is council_is eras flows books answer_is) is_open is_for = subst (λ (r : Result ⊤ OpAnswer). OnOk r (IsUnderWay new order.asked)) (sym answer_is) tt
   entered_ok moved result order (moving.no_memory is council_is eras flows books answer_is) is_open is_for = subst (λ (r : Result ⊤ OpAnswer). OnOk r (IsUnderWay new order.asked)) (sym answer_is) tt
 
-  pub entered_err : (moved : Result ⊤ VaultError) (result : Result ⊤ OpAnswer) (order : OrderView) → MarksMove greatest id next moved (council_view council) (council_view council_now) council.eras.0 council_now.eras.0 then_ flow_now middle after result
+  pub entered_err : (moved : Result ⊤ VaultError) (result : Result ⊤ OpAnswer) (order : OrderView) → MarksMove last_proposer id next moved (council_view council) (council_view council_now) council.eras.0 council_now.eras.0 then_ flow_now middle after result
       → (council_view council).order ≡ Some order → IfErr result (WasToldOrder new)
   entered_err moved result order (moving.moves p is is_p council_is eras flows marks room answer_is) is_open = subst (λ (r : Result ⊤ OpAnswer). IfErr r (WasToldOrder new)) (sym answer_is) tt
   entered_err moved result order (moving.fails is council_is eras flows books answer_is) is_open =

@@ -193,7 +193,7 @@ is_under_way {S} {V} middle new asked progress order is is_open is_for = record 
 
 -- ---- a proposer that has to enter the next era
 -- it is one of the proposers
-pub entrant_known : {S V : Type 0} (view : View S V) (proposer : ℕ) → IsSafe view → MayEnter view proposer → proposer ≤ view.greatest
+pub entrant_known : {S V : Type 0} (view : View S V) (proposer : ℕ) → IsSafe view → MayEnter view proposer → proposer ≤ view.last_proposer
 entrant_known {S} {V} view proposer safe may =
     let moves : IsMoving (course_of view) may.plan = subst (λ (o : Option PlanView). IsOnCourse (course_of view) o) may.is_plan safe.course.under_way in omega (arith, moves.some_left, may.is_due)
 

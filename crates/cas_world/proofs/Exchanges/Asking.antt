@@ -122,14 +122,14 @@ tag_fits {S} {V} view what.List safe = by_plan view.council.plan refl
     by_plan (Some plan) is = by_listing plan plan.listing is refl
 
 -- ---- it opens
-pub asks : {S V : Type 0} (m : Meaning S V) (greatest : ℕ) (council council_now : Council) (acceptors : List (AcceptorView S)) (desks : List (DeskView V)) (desk now : DeskView V) (callers : List Caller) (flow flow_now : FlowView) (before after : Book) (asking : Query) (opened : Opened)
-    → Opens m.disks desk now flow flow_now (everyone (view_of greatest council acceptors desks callers flow before)) (goes_on_in (council_view council) asking) asking (length before.marks) opened
-    → length before.marks + reserved_in_all (view_of greatest council acceptors desks callers flow before) + length (asked_from (everyone (view_of greatest council acceptors desks callers flow before)) (goes_on_in (council_view council) asking)) ≤ 1000000
+pub asks : {S V : Type 0} (m : Meaning S V) (last_proposer : ℕ) (council council_now : Council) (acceptors : List (AcceptorView S)) (desks : List (DeskView V)) (desk now : DeskView V) (callers : List Caller) (flow flow_now : FlowView) (before after : Book) (asking : Query) (opened : Opened)
+    → Opens m.disks desk now flow flow_now (everyone (view_of last_proposer council acceptors desks callers flow before)) (goes_on_in (council_view council) asking) asking (length before.marks) opened
+    → length before.marks + reserved_in_all (view_of last_proposer council acceptors desks callers flow before) + length (asked_from (everyone (view_of last_proposer council acceptors desks callers flow before)) (goes_on_in (council_view council) asking)) ≤ 1000000
     → after.marks ≡ before.marks → council_now.eras ≡ council.eras
     → council_view council_now ≡ record (council_view council) { exchange = Some (exchange_view opened.exchange); plan = option_map (with_begun opened.begun) (council_view council).plan }
-    → AsksAll m (view_of greatest council acceptors desks callers flow before) (question_in (view_of greatest council acceptors desks callers flow before) asking) desk (view_of greatest council_now acceptors (slice_set desks 0 now) callers flow_now after)
-asks {S} {V} m greatest council council_now acceptors desks desk now callers flow flow_now before after asking opened opens room marks eras is =
-    let old : View S V = view_of greatest council acceptors desks callers flow before in
+    → AsksAll m (view_of last_proposer council acceptors desks callers flow before) (question_in (view_of last_proposer council acceptors desks callers flow before) asking) desk (view_of last_proposer council_now acceptors (slice_set desks 0 now) callers flow_now after)
+asks {S} {V} m last_proposer council council_now acceptors desks desk now callers flow flow_now before after asking opened opens room marks eras is =
+    let old : View S V = view_of last_proposer council acceptors desks callers flow before in
     let members = asked_is old asking in
     steps.asks now opens.tag flow_now opens.up
     (omega (arith, room, ap (λ (l : List ℕ). length l) members))
@@ -196,11 +196,11 @@ full_to_ask m old asking desk now marks refusal safe count fails is =
     full_for_exchanges old (question_in old asking) safe (λ room. omega (arith, room, count, so.2, ap (λ (l : List ℕ). length l) (asked_is old asking)))
 
 -- what is seen where the desk changes, and the call is told
-pub refused_seen : {S V : Type 0} (greatest : ℕ) (council now_council : Council) (acceptors : List (AcceptorView S)) (desks : List (DeskView V)) (now : DeskView V) (callers : List Caller) (flow flow_now : FlowView) (before after : Book) (answer : OpAnswer)
+pub refused_seen : {S V : Type 0} (last_proposer : ℕ) (council now_council : Council) (acceptors : List (AcceptorView S)) (desks : List (DeskView V)) (now : DeskView V) (callers : List Caller) (flow flow_now : FlowView) (before after : Book) (answer : OpAnswer)
     → now_council.eras ≡ council.eras → council_view now_council ≡ telling (council_view council) answer → flow_now ≡ flow → after.marks ≡ before.marks
-    → view_of greatest now_council acceptors (slice_set desks 0 now) callers flow_now after ≡ told_view (with_desk (view_of greatest council acceptors desks callers flow before) 0 now) answer
-refused_seen greatest council now_council acceptors desks now callers flow flow_now before after answer eras is flows marks =
-    λ i. record (view_of greatest council acceptors (slice_set desks 0 now) callers flow before) { eras = (eras i).0; council = is i; flow = flows i; marks = marks i }
+    → view_of last_proposer now_council acceptors (slice_set desks 0 now) callers flow_now after ≡ told_view (with_desk (view_of last_proposer council acceptors desks callers flow before) 0 now) answer
+refused_seen last_proposer council now_council acceptors desks now callers flow flow_now before after answer eras is flows marks =
+    λ i. record (view_of last_proposer council acceptors (slice_set desks 0 now) callers flow before) { eras = (eras i).0; council = is i; flow = flows i; marks = marks i }
 
 -- the first desk is that of proposer 0
 pub first_id : {S V : Type 0} (old : View S V) (desk : DeskView V) → IsSafe old → IsAt old.desks 0 desk → desk.id ≡ 0

@@ -65,9 +65,9 @@ use Rattle.cas_world.specs.declared.serve.Served.TheVariants as served
 
 -- ---- what is seen
 -- where the council changes, and not the eras
-pub council_next : {S V : Type 0} (greatest : ℕ) (council now : Council) (acceptors : List (AcceptorView S)) (desks : List (DeskView V)) (callers : List Caller) (flow : FlowView) (book : Book) (next : cluster.Council) → now.eras ≡ council.eras → council_view now ≡ next
-    → view_of greatest now acceptors desks callers flow book ≡ record (view_of greatest council acceptors desks callers flow book) { council = next }
-council_next greatest council now acceptors desks callers flow book next eras is = λ i. record (view_of greatest council acceptors desks callers flow book) { eras = (eras i).0; council = is i }
+pub council_next : {S V : Type 0} (last_proposer : ℕ) (council now : Council) (acceptors : List (AcceptorView S)) (desks : List (DeskView V)) (callers : List Caller) (flow : FlowView) (book : Book) (next : cluster.Council) → now.eras ≡ council.eras → council_view now ≡ next
+    → view_of last_proposer now acceptors desks callers flow book ≡ record (view_of last_proposer council acceptors desks callers flow book) { council = next }
+council_next last_proposer council now acceptors desks callers flow book next eras is = λ i. record (view_of last_proposer council acceptors desks callers flow book) { eras = (eras i).0; council = is i }
 
 -- ---- what is kept true
 -- where no desk and no caller changes
@@ -80,10 +80,10 @@ council_world {S} {V} old new callers left now was desks safe remembered room = 
 }
 
 -- where the record has more room
-pub grown_world : {S V : Type 0} {m : Meaning S V} (greatest : ℕ) (council : Council) (acceptors : List (AcceptorView S)) (desks : List (DeskView V)) (callers : List Caller) (flow : FlowView) (before after : Book) → IsWorld m (view_of greatest council acceptors desks callers flow before) callers before.room
-    → after.marks ≡ before.marks → before.room ≤ after.room → IsWorld m (view_of greatest council acceptors desks callers flow after) callers after.room
-grown_world {S} {V} {m} greatest council acceptors desks callers flow before after was marks grows =
-    let same : view_of greatest council acceptors desks callers flow before ≡ view_of greatest council acceptors desks callers flow after = ap (λ (ms : List Mark). record (view_of greatest council acceptors desks callers flow before) { marks = ms }) (sym marks) in
+pub grown_world : {S V : Type 0} {m : Meaning S V} (last_proposer : ℕ) (council : Council) (acceptors : List (AcceptorView S)) (desks : List (DeskView V)) (callers : List Caller) (flow : FlowView) (before after : Book) → IsWorld m (view_of last_proposer council acceptors desks callers flow before) callers before.room
+    → after.marks ≡ before.marks → before.room ≤ after.room → IsWorld m (view_of last_proposer council acceptors desks callers flow after) callers after.room
+grown_world {S} {V} {m} last_proposer council acceptors desks callers flow before after was marks grows =
+    let same : view_of last_proposer council acceptors desks callers flow before ≡ view_of last_proposer council acceptors desks callers flow after = ap (λ (ms : List Mark). record (view_of last_proposer council acceptors desks callers flow before) { marks = ms }) (sym marks) in
     record {
       safe = subst IsSafe same was.safe;
       room = omega (arith, was.room, grows);
@@ -97,11 +97,11 @@ broken_reserved None = refl
 broken_reserved (Some exchange) = refl
 
 -- an exchange is broken off
-pub broken_seen : {S V : Type 0} (greatest : ℕ) (council now : Council) (acceptors : List (AcceptorView S)) (desks : List (DeskView V)) (callers : List Caller) (flow flow_now : FlowView) (book : Book) → flow_now ≡ abandoned flow exchange_place
-    → now.eras ≡ council.eras → council_view now ≡ crashed_in (council_view council) → view_of greatest now acceptors desks callers flow_now book ≡ broken_off_view (view_of greatest council acceptors desks callers flow book)
-broken_seen greatest council now acceptors desks callers flow flow_now book flows eras is =
-    ap (λ (f : FlowView). view_of greatest now acceptors desks callers f book) flows
-    ∙ council_next greatest council now acceptors desks callers (abandoned flow exchange_place) book (crashed_in (council_view council)) eras is
+pub broken_seen : {S V : Type 0} (last_proposer : ℕ) (council now : Council) (acceptors : List (AcceptorView S)) (desks : List (DeskView V)) (callers : List Caller) (flow flow_now : FlowView) (book : Book) → flow_now ≡ abandoned flow exchange_place
+    → now.eras ≡ council.eras → council_view now ≡ crashed_in (council_view council) → view_of last_proposer now acceptors desks callers flow_now book ≡ broken_off_view (view_of last_proposer council acceptors desks callers flow book)
+broken_seen last_proposer council now acceptors desks callers flow flow_now book flows eras is =
+    ap (λ (f : FlowView). view_of last_proposer now acceptors desks callers f book) flows
+    ∙ council_next last_proposer council now acceptors desks callers (abandoned flow exchange_place) book (crashed_in (council_view council)) eras is
 
 pub broken_world : {S V : Type 0} {m : Meaning S V} (old : View S V) (callers : List Caller) (left : ℕ) → IsWorld m old callers left → IsWorld m (broken_off_view old) callers left
 broken_world {S} {V} {m} old callers left was =
@@ -109,17 +109,17 @@ broken_world {S} {V} {m} old callers left was =
 
 -- ---- the operator's call
 -- what is reserved fits
-pub reserved_fits : {S V : Type 0} (greatest : ℕ) (council : Council) (acceptors : List (AcceptorView S)) (desks : List (DeskView V)) (callers : List Caller) (flow : FlowView) (book : Book) → IsSafe (view_of greatest council acceptors desks callers flow book)
+pub reserved_fits : {S V : Type 0} (last_proposer : ℕ) (council : Council) (acceptors : List (AcceptorView S)) (desks : List (DeskView V)) (callers : List Caller) (flow : FlowView) (book : Book) → IsSafe (view_of last_proposer council acceptors desks callers flow book)
     → length book.marks + (sum_by reserved_of callers + reserved_by (council_view council)) ≤ 1000000
-reserved_fits greatest council acceptors desks callers flow book safe = omega (arith, safe.sound.room, sum_seen callers)
+reserved_fits last_proposer council acceptors desks callers flow book safe = omega (arith, safe.sound.room, sum_seen callers)
 
 -- it opens
-pub ordered : {S V : Type 0} (greatest : ℕ) (council : Council) (acceptors : List (AcceptorView S)) (desks : List (DeskView V)) (callers : List Caller) (flow : FlowView) (before after : Book) (order : Order) (asked : Asked) → option_map order_view council.order ≡ None → order ≡ record { asked = asked; told = None } → after.marks ≡ before.marks → length before.marks + (sum_by reserved_of callers + reserved_by (council_view council)) < 1000000
-    → StepOrder (view_of greatest council acceptors desks callers flow before) asked (view_of greatest (record council { order = Some order }) acceptors desks callers flow after)
-ordered greatest council acceptors desks callers flow before after order asked none is marks room = record {
+pub ordered : {S V : Type 0} (last_proposer : ℕ) (council : Council) (acceptors : List (AcceptorView S)) (desks : List (DeskView V)) (callers : List Caller) (flow : FlowView) (before after : Book) (order : Order) (asked : Asked) → option_map order_view council.order ≡ None → order ≡ record { asked = asked; told = None } → after.marks ≡ before.marks → length before.marks + (sum_by reserved_of callers + reserved_by (council_view council)) < 1000000
+    → StepOrder (view_of last_proposer council acceptors desks callers flow before) asked (view_of last_proposer (record council { order = Some order }) acceptors desks callers flow after)
+ordered last_proposer council acceptors desks callers flow before after order asked none is marks room = record {
   none_open = none;
   room = omega (arith, room, sum_seen callers);
-  view = λ i. record (view_of greatest council acceptors desks callers flow before) {
+  view = λ i. record (view_of last_proposer council acceptors desks callers flow before) {
     council = record (council_view council) { order = Some (order_view (is i)) };
     marks = marks i;
   };
@@ -254,14 +254,14 @@ same_marks asked (op.Absent acceptor) answer same = ap (told_marks asked) same
 same_marks asked (op.ProposerDown proposer) answer same = ap (told_marks asked) same
 same_marks asked (op.Stopped told) answer same = ap (told_marks asked) same
 
-pub tells : {S V : Type 0} (greatest : ℕ) (council now : Council) (acceptors : List (AcceptorView S)) (desks : List (DeskView V)) (callers : List Caller) (flow flow_now : FlowView) (before after : Book) (answer : OpAnswer) (was : IsToldIn council answer) (order : Order) (said : OpAnswer)
+pub tells : {S V : Type 0} (last_proposer : ℕ) (council now : Council) (acceptors : List (AcceptorView S)) (desks : List (DeskView V)) (callers : List Caller) (flow flow_now : FlowView) (before after : Book) (answer : OpAnswer) (was : IsToldIn council answer) (order : Order) (said : OpAnswer)
     → council.order ≡ Some order → order.told ≡ Some said → flow_now ≡ abandoned flow exchange_place → council_view now ≡ at_rest (council_view council) → now.eras ≡ council.eras → after.marks ≡ before.marks ++ told_marks order.asked said
-    → StepTell (view_of greatest council acceptors desks callers flow before) answer (view_of greatest now acceptors desks callers flow_now after)
-tells greatest council now acceptors desks callers flow flow_now before after answer was order said is is_said flows closed eras marks =
+    → StepTell (view_of last_proposer council acceptors desks callers flow before) answer (view_of last_proposer now acceptors desks callers flow_now after)
+tells last_proposer council now acceptors desks callers flow flow_now before after answer was order said is is_said flows closed eras marks =
     let one : was.order ≡ order = some_is (sym was.is_open ∙ is) in
     let same : said ≡ was.said = some_is (sym is_said ∙ sym (ap (λ (o : Order). o.told) one) ∙ was.was_said) in
     steps.tells (order_view order) was.said (ap (option_map order_view) is) (is_said ∙ ap (λ (a : OpAnswer). Some a) same) was.same
-    (λ i. record (view_of greatest council acceptors desks callers flow before) {
+    (λ i. record (view_of last_proposer council acceptors desks callers flow before) {
       eras = (eras i).0;
       council = closed i;
       flow = flows i;
@@ -269,13 +269,13 @@ tells greatest council now acceptors desks callers flow flow_now before after an
     })
 
 -- or its change is no longer under way
-pub finishes : {S V : Type 0} (greatest : ℕ) (council now : Council) (acceptors : List (AcceptorView S)) (desks : List (DeskView V)) (callers : List Caller) (flow flow_now : FlowView) (before after : Book) (answer : OpAnswer) (was : IsOverIn council answer) (order : Order)
+pub finishes : {S V : Type 0} (last_proposer : ℕ) (council now : Council) (acceptors : List (AcceptorView S)) (desks : List (DeskView V)) (callers : List Caller) (flow flow_now : FlowView) (before after : Book) (answer : OpAnswer) (was : IsOverIn council answer) (order : Order)
     → council.order ≡ Some order → flow_now ≡ abandoned flow exchange_place → council_view now ≡ record (at_rest (council_view council)) { plan = None } → now.eras ≡ council.eras → after.marks ≡ before.marks ++ told_marks order.asked answer
-    → StepTell (view_of greatest council acceptors desks callers flow before) answer (view_of greatest now acceptors desks callers flow_now after)
-finishes greatest council now acceptors desks callers flow flow_now before after answer was order is flows closed eras marks =
+    → StepTell (view_of last_proposer council acceptors desks callers flow before) answer (view_of last_proposer now acceptors desks callers flow_now after)
+finishes last_proposer council now acceptors desks callers flow flow_now before after answer was order is flows closed eras marks =
     let one : order ≡ was.order = some_is (sym is ∙ was.is_open) in
     steps.finishes (order_view was.order) (ap (option_map order_view) was.is_open) was.finished
-    (λ i. record (view_of greatest council acceptors desks callers flow before) {
+    (λ i. record (view_of last_proposer council acceptors desks callers flow before) {
       eras = (eras i).0;
       council = closed i;
       flow = flows i;
@@ -283,14 +283,14 @@ finishes greatest council now acceptors desks callers flow flow_now before after
     })
 
 -- or its collection is over, beside which no change of membership is under way
-collects : {S V : Type 0} (greatest : ℕ) (council now : Council) (acceptors : List (AcceptorView S)) (desks : List (DeskView V)) (callers : List Caller) (flow flow_now : FlowView) (before after : Book) (answer : OpAnswer) (was : IsCollectedIn council answer) (order : Order)
-    → IsSafe (view_of greatest council acceptors desks callers flow before) → council.order ≡ Some order → flow_now ≡ abandoned flow exchange_place → council_view now ≡ record (at_rest (council_view council)) { plan = None } → now.eras ≡ council.eras
-    → after.marks ≡ before.marks ++ told_marks order.asked answer → StepTell (view_of greatest council acceptors desks callers flow before) answer (view_of greatest now acceptors desks callers flow_now after)
-collects greatest council now acceptors desks callers flow flow_now before after answer was order safe is flows closed eras marks =
+collects : {S V : Type 0} (last_proposer : ℕ) (council now : Council) (acceptors : List (AcceptorView S)) (desks : List (DeskView V)) (callers : List Caller) (flow flow_now : FlowView) (before after : Book) (answer : OpAnswer) (was : IsCollectedIn council answer) (order : Order)
+    → IsSafe (view_of last_proposer council acceptors desks callers flow before) → council.order ≡ Some order → flow_now ≡ abandoned flow exchange_place → council_view now ≡ record (at_rest (council_view council)) { plan = None } → now.eras ≡ council.eras
+    → after.marks ≡ before.marks ++ told_marks order.asked answer → StepTell (view_of last_proposer council acceptors desks callers flow before) answer (view_of last_proposer now acceptors desks callers flow_now after)
+collects last_proposer council now acceptors desks callers flow flow_now before after answer was order safe is flows closed eras marks =
     let one : order ≡ was.order = some_is (sym is ∙ was.is_open) in
     let none : (council_view council).plan ≡ None = (safe.collection.each was.collected.collection was.collected.is_collection).none_planned in
     steps.collects (order_view was.order) (ap (option_map order_view) was.is_open) was.collected
-    (λ i. record (view_of greatest council acceptors desks callers flow before) {
+    (λ i. record (view_of last_proposer council acceptors desks callers flow before) {
       eras = (eras i).0;
       council = (closed ∙ ap (λ (o : Option PlanView). record (at_rest (council_view council)) { plan = option_map without_partial o }) (sym none)) i;
       flow = flows i;
@@ -298,18 +298,18 @@ collects greatest council now acceptors desks callers flow flow_now before after
     })
 
 -- it ends, either way
-pub told_step : {S V : Type 0} (greatest : ℕ) (council now : Council) (acceptors : List (AcceptorView S)) (desks : List (DeskView V)) (callers : List Caller) (flow flow_now : FlowView) (before after : Book) (answer : OpAnswer) (may : MayTellIn council answer) (order : Order)
-    → IsSafe (view_of greatest council acceptors desks callers flow before) → council.order ≡ Some order → flow_now ≡ abandoned flow exchange_place → council_view now ≡ concluded order.told (at_rest (council_view council)) → now.eras ≡ council.eras → after.marks ≡ before.marks ++ told_marks order.asked (unwrap_or order.told answer)
-    → StepTell (view_of greatest council acceptors desks callers flow before) answer (view_of greatest now acceptors desks callers flow_now after)
-told_step {S} {V} greatest council now acceptors desks callers flow flow_now before after answer may order safe is flows closed eras marks = by_told order.told refl closed marks
+pub told_step : {S V : Type 0} (last_proposer : ℕ) (council now : Council) (acceptors : List (AcceptorView S)) (desks : List (DeskView V)) (callers : List Caller) (flow flow_now : FlowView) (before after : Book) (answer : OpAnswer) (may : MayTellIn council answer) (order : Order)
+    → IsSafe (view_of last_proposer council acceptors desks callers flow before) → council.order ≡ Some order → flow_now ≡ abandoned flow exchange_place → council_view now ≡ concluded order.told (at_rest (council_view council)) → now.eras ≡ council.eras → after.marks ≡ before.marks ++ told_marks order.asked (unwrap_or order.told answer)
+    → StepTell (view_of last_proposer council acceptors desks callers flow before) answer (view_of last_proposer now acceptors desks callers flow_now after)
+told_step {S} {V} last_proposer council now acceptors desks callers flow flow_now before after answer may order safe is flows closed eras marks = by_told order.told refl closed marks
   where
     by_told : (o : Option OpAnswer) → order.told ≡ o → council_view now ≡ concluded o (at_rest (council_view council)) → after.marks ≡ before.marks ++ told_marks order.asked (unwrap_or o answer)
-        → StepTell (view_of greatest council acceptors desks callers flow before) answer (view_of greatest now acceptors desks callers flow_now after)
+        → StepTell (view_of last_proposer council acceptors desks callers flow before) answer (view_of last_proposer now acceptors desks callers flow_now after)
     by_told None none seen made = elim (over_there council answer order may is none) [
-      | inl was ↦ finishes greatest council now acceptors desks callers flow flow_now before after answer was order is flows seen eras made
-      | inr was ↦ collects greatest council now acceptors desks callers flow flow_now before after answer was order safe is flows seen eras made
+      | inl was ↦ finishes last_proposer council now acceptors desks callers flow flow_now before after answer was order is flows seen eras made
+      | inr was ↦ collects last_proposer council now acceptors desks callers flow flow_now before after answer was order safe is flows seen eras made
     ]
-    by_told (Some said) some seen made = tells greatest council now acceptors desks callers flow flow_now before after answer (told_there council answer order said may is some) order said is some flows seen eras made
+    by_told (Some said) some seen made = tells last_proposer council now acceptors desks callers flow flow_now before after answer (told_there council answer order said may is some) order said is some flows seen eras made
 
 -- nothing is reserved for it any more
 pub concluded_reserves : (told : Option OpAnswer) (council : cluster.Council) → reserved_by (concluded told (at_rest council)) ≡ 0
@@ -351,22 +351,22 @@ may_list view exchange (cluster.NextKeys places) safe beside is_open is =
     let lists = safe.sound.council.1 exchange places is_open is in
     record { plan = lists.plan; is_plan = lists.is_plan; settles = (safe.sound.council.0 lists.plan lists.listing lists.is_plan lists.is_listing).settles; listing = lists.listing; is_listing = lists.is_listing }
 
-pub gathers_so : {S V : Type 0} (greatest : ℕ) (council now : Council) (acceptors : List (AcceptorView S)) (desks : List (DeskView V)) (callers : List Caller) (flow : FlowView) (book : Book) (exchange : ExchangeView) (result : Result Gathered OpAnswer)
-    → IsSafe (view_of greatest council acceptors desks callers flow book) → (council_view council).exchange ≡ Some exchange → GathersAs (era_in council.eras.0 0) exchange (council_view council) result (council_view now) → now.eras ≡ council.eras
-    → Gathers (view_of greatest council acceptors desks callers flow book) exchange (view_of greatest now acceptors desks callers flow book)
-gathers_so greatest council now acceptors desks callers flow book exchange result safe is_open (crashed down told next) eras =
-    steps.crashed down (council_next greatest council now acceptors desks callers flow book _ eras next)
-gathers_so greatest council now acceptors desks callers flow book exchange result safe is_open (probed key found kept up question has keeps told next) eras =
-    steps.probed key kept up question keeps (council_next greatest council now acceptors desks callers flow book _ eras next)
-gathers_so {S} {V} greatest council now acceptors desks callers flow book exchange result safe is_open (lists of listing up is_keys enough on less told next) eras =
-    let old : View S V = view_of greatest council acceptors desks callers flow book in
-    steps.lists (lists_at old exchange of (lists_for old exchange safe is_open is_keys of)) listing up enough on (council_next greatest council now acceptors desks callers flow book _ eras next)
-gathers_so {S} {V} greatest council now acceptors desks callers flow book exchange result safe is_open (is_short of short up is_keys missing told next) eras =
-    let old : View S V = view_of greatest council acceptors desks callers flow book in
-    steps.is_short (lists_at old exchange of (lists_for old exchange safe is_open is_keys of)) short up missing (council_next greatest council now acceptors desks callers flow book _ eras next)
-gathers_so greatest council now acceptors desks callers flow book exchange result safe is_open (no_memory up told next) eras =
+pub gathers_so : {S V : Type 0} (last_proposer : ℕ) (council now : Council) (acceptors : List (AcceptorView S)) (desks : List (DeskView V)) (callers : List Caller) (flow : FlowView) (book : Book) (exchange : ExchangeView) (result : Result Gathered OpAnswer)
+    → IsSafe (view_of last_proposer council acceptors desks callers flow book) → (council_view council).exchange ≡ Some exchange → GathersAs (era_in council.eras.0 0) exchange (council_view council) result (council_view now) → now.eras ≡ council.eras
+    → Gathers (view_of last_proposer council acceptors desks callers flow book) exchange (view_of last_proposer now acceptors desks callers flow book)
+gathers_so last_proposer council now acceptors desks callers flow book exchange result safe is_open (crashed down told next) eras =
+    steps.crashed down (council_next last_proposer council now acceptors desks callers flow book _ eras next)
+gathers_so last_proposer council now acceptors desks callers flow book exchange result safe is_open (probed key found kept up question has keeps told next) eras =
+    steps.probed key kept up question keeps (council_next last_proposer council now acceptors desks callers flow book _ eras next)
+gathers_so {S} {V} last_proposer council now acceptors desks callers flow book exchange result safe is_open (lists of listing up is_keys enough on less told next) eras =
+    let old : View S V = view_of last_proposer council acceptors desks callers flow book in
+    steps.lists (lists_at old exchange of (lists_for old exchange safe is_open is_keys of)) listing up enough on (council_next last_proposer council now acceptors desks callers flow book _ eras next)
+gathers_so {S} {V} last_proposer council now acceptors desks callers flow book exchange result safe is_open (is_short of short up is_keys missing told next) eras =
+    let old : View S V = view_of last_proposer council acceptors desks callers flow book in
+    steps.is_short (lists_at old exchange of (lists_for old exchange safe is_open is_keys of)) short up missing (council_next last_proposer council now acceptors desks callers flow book _ eras next)
+gathers_so last_proposer council now acceptors desks callers flow book exchange result safe is_open (no_memory up told next) eras =
     steps.no_memory up
-    (council_next greatest council now acceptors desks callers flow book _ eras
+    (council_next last_proposer council now acceptors desks callers flow book _ eras
     (next ∙ ap (λ (o : Option ExchangeView). record (telling (council_view council) (op.Stopped (answer.NoMemory false))) { exchange = o }) (sym is_open)))
 
 -- no more is reserved then
@@ -485,12 +485,12 @@ pub harm_room : {S V : Type 0} {m : Meaning S V} (view : View S V) (callers : Li
 harm_room view callers left exchange inv is_open some = omega (arith, inv.room, some, ap reserved_for_exchange is_open)
 
 -- it is seen as harmed
-pub harmed_seen : {S V : Type 0} (greatest : ℕ) (council now : Council) (acceptors acceptors_now : List (AcceptorView S)) (desks : List (DeskView V)) (callers : List Caller) (flow flow_now : FlowView) (before after : Book) (exchange : ExchangeView) (member : ℕ) (down : Bool)
+pub harmed_seen : {S V : Type 0} (last_proposer : ℕ) (council now : Council) (acceptors acceptors_now : List (AcceptorView S)) (desks : List (DeskView V)) (callers : List Caller) (flow flow_now : FlowView) (before after : Book) (exchange : ExchangeView) (member : ℕ) (down : Bool)
     → (council_view council).exchange ≡ Some exchange → now.eras ≡ council.eras → council_view now ≡ harmed_in (council_view council) member → after.marks ≡ before.marks ++ harms_in (council_view council) member down
-    → view_of greatest now acceptors_now desks callers flow_now after ≡ harms (record (view_of greatest council acceptors desks callers flow before) { acceptors = acceptors_now; flow = flow_now }) exchange member down
-harmed_seen greatest council now acceptors acceptors_now desks callers flow flow_now before after exchange member down is_open eras is marks =
-    (λ i. record (view_of greatest council acceptors_now desks callers flow_now before) { eras = (eras i).0; council = is i; marks = marks i })
-    ∙ ap (λ (o : Option ExchangeView). record (view_of greatest council acceptors_now desks callers flow_now before) {
+    → view_of last_proposer now acceptors_now desks callers flow_now after ≡ harms (record (view_of last_proposer council acceptors desks callers flow before) { acceptors = acceptors_now; flow = flow_now }) exchange member down
+harmed_seen last_proposer council now acceptors acceptors_now desks callers flow flow_now before after exchange member down is_open eras is marks =
+    (λ i. record (view_of last_proposer council acceptors_now desks callers flow_now before) { eras = (eras i).0; council = is i; marks = marks i })
+    ∙ ap (λ (o : Option ExchangeView). record (view_of last_proposer council acceptors_now desks callers flow_now before) {
       council = record (council_view council) { exchange = option_map (λ e. harmed_exchange e member) o };
       marks = before.marks ++ harms_of o member down;
     }) is_open
@@ -518,12 +518,12 @@ pub is_member : {S V : Type 0} (old : View S V) (at : IsAsking old) → has_memb
 is_member old at = at.safe.about at.front (contains_at (queue_at old.flow exchange_place).messages 0 at.front at.waits)
 
 -- a reply arrives
-pub heard_seen : {S V : Type 0} (greatest : ℕ) (council now : Council) (acceptors : List (AcceptorView S)) (desks : List (DeskView V)) (callers : List Caller) (flow : FlowView) (book : Book) (exchange : ExchangeView) (reply : Reply)
+pub heard_seen : {S V : Type 0} (last_proposer : ℕ) (council now : Council) (acceptors : List (AcceptorView S)) (desks : List (DeskView V)) (callers : List Caller) (flow : FlowView) (book : Book) (exchange : ExchangeView) (reply : Reply)
     → (council_view council).exchange ≡ Some exchange → now.eras ≡ council.eras → council_view now ≡ heard_in (council_view council) reply
-    → view_of greatest now acceptors desks callers flow book ≡ with_exchange (view_of greatest council acceptors desks callers flow book) (record exchange { told = hears reply exchange.told })
-heard_seen greatest council now acceptors desks callers flow book exchange reply is_open eras is =
-    council_next greatest council now acceptors desks callers flow book _ eras is
-    ∙ ap (λ (o : Option ExchangeView). record (view_of greatest council acceptors desks callers flow book) { council = record (council_view council) { exchange = option_map (heard_by reply) o } }) is_open
+    → view_of last_proposer now acceptors desks callers flow book ≡ with_exchange (view_of last_proposer council acceptors desks callers flow book) (record exchange { told = hears reply exchange.told })
+heard_seen last_proposer council now acceptors desks callers flow book exchange reply is_open eras is =
+    council_next last_proposer council now acceptors desks callers flow book _ eras is
+    ∙ ap (λ (o : Option ExchangeView). record (view_of last_proposer council acceptors desks callers flow book) { council = record (council_view council) { exchange = option_map (heard_by reply) o } }) is_open
 
 pub heard : {S V : Type 0} (m : Meaning S V) (old new : View S V) (verdict : Verdict) (at : IsAsking old) (reply : Reply) → fall_of (queue_at old.flow exchange_place).again verdict ≡ Handle → at.front ≡ message.Reply reply
     → new ≡ with_exchange (record old { flow = taken old.flow exchange_place verdict }) (record at.exchange { told = hears reply at.exchange.told }) → StepTurnExchange m old verdict new
@@ -556,12 +556,12 @@ no_votes : {S V : Type 0} (old : View S V) (at : IsAsking old) (request : Reques
 no_votes old at request reply waits =
     none_of (votes_marked request reply) (no_vote at.exchange.tag at.exchange.question request reply (at.safe.asks request (contains_at (queue_at old.flow exchange_place).messages 0 (message.Request request) waits)))
 
-pub answers : {S V : Type 0} (m : Meaning S V) (greatest : ℕ) (council : Council) (acceptors acceptors_now : List (AcceptorView S)) (desks : List (DeskView V)) (callers : List Caller) (flow middle flow_now : FlowView) (book : Book) (verdict : Verdict) (request : Request) (frame : Option Message) (vote : Option Mark)
-    (at : IsAsking (view_of greatest council acceptors desks callers flow book)) → fall_of (queue_at flow exchange_place).again verdict ≡ Handle → slice_get (queue_at flow exchange_place).messages 0 ≡ Some (message.Request request)
+pub answers : {S V : Type 0} (m : Meaning S V) (last_proposer : ℕ) (council : Council) (acceptors acceptors_now : List (AcceptorView S)) (desks : List (DeskView V)) (callers : List Caller) (flow middle flow_now : FlowView) (book : Book) (verdict : Verdict) (request : Request) (frame : Option Message) (vote : Option Mark)
+    (at : IsAsking (view_of last_proposer council acceptors desks callers flow book)) → fall_of (queue_at flow exchange_place).again verdict ≡ Handle → slice_get (queue_at flow exchange_place).messages 0 ≡ Some (message.Request request)
     → Serves m.shelves acceptors request (served.Replied frame vote) acceptors_now → middle ≡ taken flow exchange_place verdict → IfSome frame (λ message. flow_now ≡ with_queue middle exchange_place (pushed (queue_at middle exchange_place) message))
-    → StepTurnExchange m (view_of greatest council acceptors desks callers flow book) verdict (view_of greatest council acceptors_now desks callers flow_now book)
-answers {S} {V} m greatest council acceptors acceptors_now desks callers flow middle flow_now book verdict request frame vote at fall waits by takes pushes =
-    let old : View S V = view_of greatest council acceptors desks callers flow book in
+    → StepTurnExchange m (view_of last_proposer council acceptors desks callers flow book) verdict (view_of last_proposer council acceptors_now desks callers flow_now book)
+answers {S} {V} m last_proposer council acceptors acceptors_now desks callers flow middle flow_now book verdict request frame vote at fall waits by takes pushes =
+    let old : View S V = view_of last_proposer council acceptors desks callers flow book in
     let there : flow_now ≡ with_queue middle exchange_place (pushed (queue_at middle exchange_place) (message.Reply by.reply)) =
     subst (λ (o : Option Message). IfSome o (λ message. flow_now ≡ with_queue middle exchange_place (pushed (queue_at middle exchange_place) message))) by.bears pushes in
     let flows : flow_now ≡ replied_flow flow exchange_place verdict by.reply = there ∙ ap (λ (f : FlowView). with_queue f exchange_place (pushed (queue_at f exchange_place) (message.Reply by.reply))) takes in
@@ -575,10 +575,10 @@ answers {S} {V} m greatest council acceptors acceptors_now desks callers flow mi
     }
 
 -- it keeps all that the world keeps true: what is reserved stays
-pub answered_world : {S V : Type 0} {m : Meaning S V} (greatest : ℕ) (council : Council) (acceptors acceptors_now : List (AcceptorView S)) (desks : List (DeskView V)) (callers : List Caller) (flow flow_now : FlowView) (book : Book) (event : step.Event) → IsWorld m (view_of greatest council acceptors desks callers flow book) callers book.room
-    → Step m (view_of greatest council acceptors desks callers flow book) event (view_of greatest council acceptors_now desks callers flow_now book) → IsWorld m (view_of greatest council acceptors_now desks callers flow_now book) callers book.room
-answered_world {S} {V} {m} greatest council acceptors acceptors_now desks callers flow flow_now book event was by =
-    council_world (view_of greatest council acceptors desks callers flow book) (view_of greatest council acceptors_now desks callers flow_now book) callers book.room book.room was refl (steps_are_safe m _ event _ was.safe by) (remembered_then m event by was.remembered) was.room
+pub answered_world : {S V : Type 0} {m : Meaning S V} (last_proposer : ℕ) (council : Council) (acceptors acceptors_now : List (AcceptorView S)) (desks : List (DeskView V)) (callers : List Caller) (flow flow_now : FlowView) (book : Book) (event : step.Event) → IsWorld m (view_of last_proposer council acceptors desks callers flow book) callers book.room
+    → Step m (view_of last_proposer council acceptors desks callers flow book) event (view_of last_proposer council acceptors_now desks callers flow_now book) → IsWorld m (view_of last_proposer council acceptors_now desks callers flow_now book) callers book.room
+answered_world {S} {V} {m} last_proposer council acceptors acceptors_now desks callers flow flow_now book event was by =
+    council_world (view_of last_proposer council acceptors desks callers flow book) (view_of last_proposer council acceptors_now desks callers flow_now book) callers book.room book.room was refl (steps_are_safe m _ event _ was.safe by) (remembered_then m event by was.remembered) was.room
 
 -- it is down, or goes down
 pub falls : {S V : Type 0} (m : Meaning S V) (old new : View S V) (acceptors : List (AcceptorView S)) (verdict : Verdict) (request : Request) (at : IsAsking old) → fall_of (queue_at old.flow exchange_place).again verdict ≡ Handle → slice_get (queue_at old.flow exchange_place).messages 0 ≡ Some (message.Request request)
@@ -599,14 +599,14 @@ falls {S} {V} m old new acceptors verdict request at fall waits (goes_down accep
 }
 
 -- ---- the open call is told something
-pub told_seen : {S V : Type 0} (greatest : ℕ) (council : Council) (acceptors : List (AcceptorView S)) (desks : List (DeskView V)) (callers : List Caller) (flow : FlowView) (book : Book) (now : Council) (answer : OpAnswer) → now.eras ≡ council.eras → council_view now ≡ telling (council_view council) answer
-    → view_of greatest now acceptors desks callers flow book ≡ told_view (view_of greatest council acceptors desks callers flow book) answer
-told_seen greatest council acceptors desks callers flow book now answer eras is = council_next greatest council now acceptors desks callers flow book (telling (council_view council) answer) eras is
+pub told_seen : {S V : Type 0} (last_proposer : ℕ) (council : Council) (acceptors : List (AcceptorView S)) (desks : List (DeskView V)) (callers : List Caller) (flow : FlowView) (book : Book) (now : Council) (answer : OpAnswer) → now.eras ≡ council.eras → council_view now ≡ telling (council_view council) answer
+    → view_of last_proposer now acceptors desks callers flow book ≡ told_view (view_of last_proposer council acceptors desks callers flow book) answer
+told_seen last_proposer council acceptors desks callers flow book now answer eras is = council_next last_proposer council now acceptors desks callers flow book (telling (council_view council) answer) eras is
 
-pub told_world : {S V : Type 0} {m : Meaning S V} (greatest : ℕ) (council : Council) (acceptors : List (AcceptorView S)) (desks : List (DeskView V)) (callers : List Caller) (flow : FlowView) (book : Book) (now : Council) (answer : OpAnswer)
-    → IsWorld m (view_of greatest council acceptors desks callers flow book) callers book.room → now.eras ≡ council.eras → council_view now ≡ telling (council_view council) answer → IsWorld m (view_of greatest now acceptors desks callers flow book) callers book.room
-told_world {S} {V} {m} greatest council acceptors desks callers flow book now answer was eras is =
-    let old : View S V = view_of greatest council acceptors desks callers flow book in
-    subst (λ (v : View S V). IsWorld m v callers book.room) (sym (told_seen greatest council acceptors desks callers flow book now answer eras is))
+pub told_world : {S V : Type 0} {m : Meaning S V} (last_proposer : ℕ) (council : Council) (acceptors : List (AcceptorView S)) (desks : List (DeskView V)) (callers : List Caller) (flow : FlowView) (book : Book) (now : Council) (answer : OpAnswer)
+    → IsWorld m (view_of last_proposer council acceptors desks callers flow book) callers book.room → now.eras ≡ council.eras → council_view now ≡ telling (council_view council) answer → IsWorld m (view_of last_proposer now acceptors desks callers flow book) callers book.room
+told_world {S} {V} {m} last_proposer council acceptors desks callers flow book now answer was eras is =
+    let old : View S V = view_of last_proposer council acceptors desks callers flow book in
+    subst (λ (v : View S V). IsWorld m v callers book.room) (sym (told_seen last_proposer council acceptors desks callers flow book now answer eras is))
     (council_world old (told_view old answer) callers book.room book.room was refl (told_view_safe old answer was.safe) (λ shelves disks. told_remembered m old answer (was.remembered shelves disks))
     (omega (arith, was.room, told_reserves (option_map order_view council.order) answer)))

@@ -59,59 +59,59 @@ none_stays {V} desk desk_now reply none comes still =
 
 -- ---- the step
 -- the view of these parts, with these marks
-parts_are : {S V : Type 0} (greatest : ℕ) (council : Council) {acceptors a : List (AcceptorView S)} {desks d : List (DeskView V)} (callers : List Caller) {flow f : FlowView} (before after : Book) {marks : List Mark}
-    → acceptors ≡ a → desks ≡ d → flow ≡ f → after.marks ≡ marks → view_of greatest council acceptors desks callers flow after ≡ record (view_of greatest council a d callers f before) { marks = marks }
-parts_are {S} {V} greatest council {acceptors} {a} {desks} {d} callers {flow} {f} before after {marks} same_a same_d same_f made =
-    parts_same greatest council callers after same_a same_d same_f ∙ ap (λ (ms : List Mark). record (view_of greatest council a d callers f before) { marks = ms }) made
+parts_are : {S V : Type 0} (last_proposer : ℕ) (council : Council) {acceptors a : List (AcceptorView S)} {desks d : List (DeskView V)} (callers : List Caller) {flow f : FlowView} (before after : Book) {marks : List Mark}
+    → acceptors ≡ a → desks ≡ d → flow ≡ f → after.marks ≡ marks → view_of last_proposer council acceptors desks callers flow after ≡ record (view_of last_proposer council a d callers f before) { marks = marks }
+parts_are {S} {V} last_proposer council {acceptors} {a} {desks} {d} callers {flow} {f} before after {marks} same_a same_d same_f made =
+    parts_same last_proposer council callers after same_a same_d same_f ∙ ap (λ (ms : List Mark). record (view_of last_proposer council a d callers f before) { marks = ms }) made
 
-heard_or_dropped : {S V : Type 0} (m : Meaning S V) (greatest : ℕ) (council : Council) (acceptors acceptors_now : List (AcceptorView S)) (desks desks_now : List (DeskView V)) (callers : List Caller) (flow flow_now : FlowView) (before after : Book) (index : ℕ) (reply : Reply)
+heard_or_dropped : {S V : Type 0} (m : Meaning S V) (last_proposer : ℕ) (council : Council) (acceptors acceptors_now : List (AcceptorView S)) (desks desks_now : List (DeskView V)) (callers : List Caller) (flow flow_now : FlowView) (before after : Book) (index : ℕ) (reply : Reply)
     (desk desk_now : DeskView V) (round : Option Round) → desk.round ≡ round → IsAt desks reply.to desk → Arrives desk desk_now reply → is_some desk_now.round ≡ is_some desk.round
     → acceptors_now ≡ acceptors → desks_now ≡ slice_set desks reply.to desk_now → flow_now ≡ frames.without_late flow index → after.marks ≡ before.marks
-    → frames.Strays m (view_of greatest council acceptors desks callers flow before) index (message.Reply reply) (view_of greatest council acceptors_now desks_now callers flow_now after)
-heard_or_dropped {S} {V} m greatest council acceptors acceptors_now desks desks_now callers flow flow_now before after index reply desk desk_now None is there comes still same_acceptors same_desks flows made =
+    → frames.Strays m (view_of last_proposer council acceptors desks callers flow before) index (message.Reply reply) (view_of last_proposer council acceptors_now desks_now callers flow_now after)
+heard_or_dropped {S} {V} m last_proposer council acceptors acceptors_now desks desks_now callers flow flow_now before after index reply desk desk_now None is there comes still same_acceptors same_desks flows made =
     frames.drops (λ other at. ap (λ (d : DeskView V). d.round) (at_one desks reply.to at there) ∙ is)
-    (parts_are greatest council callers before after same_acceptors
+    (parts_are last_proposer council callers before after same_acceptors
     (same_desks ∙ ap (λ (d : DeskView V). slice_set desks reply.to d) (none_stays desk desk_now reply is comes still) ∙ set_same desks reply.to desk there) flows made)
-heard_or_dropped {S} {V} m greatest council acceptors acceptors_now desks desks_now callers flow flow_now before after index reply desk desk_now (Some round) is there comes still same_acceptors same_desks flows made =
+heard_or_dropped {S} {V} m last_proposer council acceptors acceptors_now desks desks_now callers flow flow_now before after index reply desk desk_now (Some round) is there comes still same_acceptors same_desks flows made =
     let heard = some_and desk_now.round _ (comes.heard round is) in
     frames.arrives reply desk desk_now round heard.0 refl there is (record { hears = heard.2; desk = comes.desk ∙ ap (λ (r : Option Round). record desk { round = r }) heard.1 })
-    (parts_are greatest council callers before after same_acceptors same_desks flows made)
+    (parts_are last_proposer council callers before after same_acceptors same_desks flows made)
 
-pub stray_step : {S V : Type 0} (m : Meaning S V) (greatest : ℕ) (council : Council) (acceptors acceptors_now : List (AcceptorView S)) (desks desks_now : List (DeskView V)) (callers : List Caller) (flow flow_now : FlowView) (before after : Book) (index marks peer : ℕ)
+pub stray_step : {S V : Type 0} (m : Meaning S V) (last_proposer : ℕ) (council : Council) (acceptors acceptors_now : List (AcceptorView S)) (desks desks_now : List (DeskView V)) (callers : List Caller) (flow flow_now : FlowView) (before after : Book) (index marks peer : ℕ)
     → length before.marks + (reserved_of (map caller_view callers) + reserved_by (council_view council)) < most_marks → LetsIn m.shelves index marks peer acceptors acceptors_now desks desks_now flow flow_now before after
-    → StepStray m (view_of greatest council acceptors desks callers flow before) index (view_of greatest council acceptors_now desks_now callers flow_now after)
-stray_step {S} {V} m greatest council acceptors acceptors_now desks desks_now callers flow flow_now before after index marks peer room (asks request middle waits same_peer has (is_answered acceptor acceptor_now reply there table changed flows made left) same_desks) = record {
+    → StepStray m (view_of last_proposer council acceptors desks callers flow before) index (view_of last_proposer council acceptors_now desks_now callers flow_now after)
+stray_step {S} {V} m last_proposer council acceptors acceptors_now desks desks_now callers flow flow_now before after index marks peer room (asks request middle waits same_peer has (is_answered acceptor acceptor_now reply there table changed flows made left) same_desks) = record {
   late = message.Request request;
   waits = waits;
   room = room;
   strays = frames.answers request acceptor acceptor_now reply refl there table
-      (parts_are greatest council callers before after changed same_desks flows (made ∙ ap (λ (ms : List Mark). ms ++ frames.votes_marked request reply) has.same));
+      (parts_are last_proposer council callers before after changed same_desks flows (made ∙ ap (λ (ms : List Mark). ms ++ frames.votes_marked request reply) has.same));
 }
-stray_step {S} {V} m greatest council acceptors acceptors_now desks desks_now callers flow flow_now before after index marks peer room (asks request middle waits same_peer has (is_down (was_down acceptor there down still) flows same_book) same_desks) = record {
+stray_step {S} {V} m last_proposer council acceptors acceptors_now desks desks_now callers flow flow_now before after index marks peer room (asks request middle waits same_peer has (is_down (was_down acceptor there down still) flows same_book) same_desks) = record {
   late = message.Request request;
   waits = waits;
   room = room;
   strays = frames.drops (λ other at. ap (λ (a : AcceptorView S). a.down) (at_one acceptors request.to at there) ∙ down)
-      (parts_are greatest council callers before after still same_desks flows (ap (λ (b : Book). b.marks) same_book ∙ has.same));
+      (parts_are last_proposer council callers before after still same_desks flows (ap (λ (b : Book). b.marks) same_book ∙ has.same));
 }
-stray_step {S} {V} m greatest council acceptors acceptors_now desks desks_now callers flow flow_now before after index marks peer room (asks request middle waits same_peer has (is_down (goes_down acceptor acceptor_now there stops changed) flows same_book) same_desks) = record {
+stray_step {S} {V} m last_proposer council acceptors acceptors_now desks desks_now callers flow flow_now before after index marks peer room (asks request middle waits same_peer has (is_down (goes_down acceptor acceptor_now there stops changed) flows same_book) same_desks) = record {
   late = message.Request request;
   waits = waits;
   room = room;
   strays = frames.brings_down request acceptor acceptor_now refl there stops
-      (parts_are greatest council callers before after changed same_desks flows (ap (λ (b : Book). b.marks) same_book ∙ has.same));
+      (parts_are last_proposer council callers before after changed same_desks flows (ap (λ (b : Book). b.marks) same_book ∙ has.same));
 }
-stray_step {S} {V} m greatest council acceptors acceptors_now desks desks_now callers flow flow_now before after index marks peer room (arrives reply waits same_peer has (at_desk desk desk_now there comes still changed) same_acceptors flows) = record {
+stray_step {S} {V} m last_proposer council acceptors acceptors_now desks desks_now callers flow flow_now before after index marks peer room (arrives reply waits same_peer has (at_desk desk desk_now there comes still changed) same_acceptors flows) = record {
   late = message.Reply reply;
   waits = waits;
   room = room;
-  strays = heard_or_dropped m greatest council acceptors acceptors_now desks desks_now callers flow flow_now before after index reply desk desk_now desk.round refl there comes still same_acceptors changed flows has.same;
+  strays = heard_or_dropped m last_proposer council acceptors acceptors_now desks desks_now callers flow flow_now before after index reply desk desk_now desk.round refl there comes still same_acceptors changed flows has.same;
 }
-stray_step {S} {V} m greatest council acceptors acceptors_now desks desks_now callers flow flow_now before after index marks peer room (arrives reply waits same_peer has (nowhere high same_desks) same_acceptors flows) = record {
+stray_step {S} {V} m last_proposer council acceptors acceptors_now desks desks_now callers flow flow_now before after index marks peer room (arrives reply waits same_peer has (nowhere high same_desks) same_acceptors flows) = record {
   late = message.Reply reply;
   waits = waits;
   room = room;
-  strays = frames.drops (λ desk at. let no : ⊥ = omega (arith, high, low_at desks reply.to at) in absurd no) (parts_are greatest council callers before after same_acceptors same_desks flows has.same);
+  strays = frames.drops (λ desk at. let no : ⊥ = omega (arith, high, low_at desks reply.to at) in absurd no) (parts_are last_proposer council callers before after same_acceptors same_desks flows has.same);
 }
 
 -- ---- what is kept true
@@ -142,12 +142,12 @@ desks_keep {S} {V} m acceptors acceptors_now desks desks_now flow flow_now befor
 desks_keep {S} {V} m acceptors acceptors_now desks desks_now flow flow_now before after index marks peer (arrives reply waits same_peer has (nowhere high same_desks) same_acceptors flows) =
     subst (λ (ds : List (DeskView V)). KeepsDesks desks ds) (sym same_desks) (desks_stay desks)
 
-pub strayed_kept : {S V : Type 0} {w : Meaning S V} (m : ShelfMeaning S) (greatest : ℕ) (council : Council) (acceptors acceptors_now : List (AcceptorView S)) (desks desks_now : List (DeskView V)) (callers : List Caller) (flow flow_now : FlowView) (before after : Book) (index marks peer : ℕ)
-    → IsWorld w (view_of greatest council acceptors desks callers flow before) callers before.room → marks ≡ reserved_of (map caller_view callers) + reserved_by (council_view council) + 1
+pub strayed_kept : {S V : Type 0} {w : Meaning S V} (m : ShelfMeaning S) (last_proposer : ℕ) (council : Council) (acceptors acceptors_now : List (AcceptorView S)) (desks desks_now : List (DeskView V)) (callers : List Caller) (flow flow_now : FlowView) (before after : Book) (index marks peer : ℕ)
+    → IsWorld w (view_of last_proposer council acceptors desks callers flow before) callers before.room → marks ≡ reserved_of (map caller_view callers) + reserved_by (council_view council) + 1
     → LetsIn m index marks peer acceptors acceptors_now desks desks_now flow flow_now before after
-    → IsSafe (view_of greatest council acceptors_now desks_now callers flow_now after)
-    → Remembers w (view_of greatest council acceptors_now desks_now callers flow_now after) → IsWorld w (view_of greatest council acceptors_now desks_now callers flow_now after) callers after.room
-strayed_kept {S} {V} {w} m greatest council acceptors acceptors_now desks desks_now callers flow flow_now before after index marks peer inv reserves by safe remembered = record {
+    → IsSafe (view_of last_proposer council acceptors_now desks_now callers flow_now after)
+    → Remembers w (view_of last_proposer council acceptors_now desks_now callers flow_now after) → IsWorld w (view_of last_proposer council acceptors_now desks_now callers flow_now after) callers after.room
+strayed_kept {S} {V} {w} m last_proposer council acceptors acceptors_now desks desks_now callers flow flow_now before after index marks peer inv reserves by safe remembered = record {
   safe = safe;
   room = omega (arith, reserves, room_left m acceptors acceptors_now desks desks_now flow flow_now before after index marks peer by);
   copies = λ p d c at_d at_c.
@@ -157,18 +157,18 @@ strayed_kept {S} {V} {w} m greatest council acceptors acceptors_now desks desks_
 }
 
 -- ---- no memory
-pub no_room : {S V : Type 0} (m : Meaning S V) (greatest : ℕ) (council : Council) (acceptors acceptors_now : List (AcceptorView S)) (desks desks_now : List (DeskView V)) (callers : List Caller) (flow flow_now : FlowView) (before after : Book)
+pub no_room : {S V : Type 0} (m : Meaning S V) (last_proposer : ℕ) (council : Council) (acceptors acceptors_now : List (AcceptorView S)) (desks desks_now : List (DeskView V)) (callers : List Caller) (flow flow_now : FlowView) (before after : Book)
     → KeepsAll m.shelves acceptors acceptors_now → desks_now ≡ desks → flow_now ≡ flow → after.marks ≡ before.marks
-    → frames.FindsNoRoom m (view_of greatest council acceptors desks callers flow before) (view_of greatest council acceptors_now desks_now callers flow_now after)
-no_room {S} {V} m greatest council acceptors acceptors_now desks desks_now callers flow flow_now before after keeps same_desks same_flow made =
-    subst (λ (v : View S V). frames.FindsNoRoom m (view_of greatest council acceptors desks callers flow before) v) (sym (parts_are greatest council callers before after refl same_desks same_flow made))
-    (find_no_room m greatest council acceptors acceptors_now desks callers flow before keeps)
+    → frames.FindsNoRoom m (view_of last_proposer council acceptors desks callers flow before) (view_of last_proposer council acceptors_now desks_now callers flow_now after)
+no_room {S} {V} m last_proposer council acceptors acceptors_now desks desks_now callers flow flow_now before after keeps same_desks same_flow made =
+    subst (λ (v : View S V). frames.FindsNoRoom m (view_of last_proposer council acceptors desks callers flow before) v) (sym (parts_are last_proposer council callers before after refl same_desks same_flow made))
+    (find_no_room m last_proposer council acceptors acceptors_now desks callers flow before keeps)
 
-pub no_room_kept : {S V : Type 0} {m : Meaning S V} (greatest : ℕ) (council : Council) (acceptors acceptors_now : List (AcceptorView S)) (desks desks_now : List (DeskView V)) (callers : List Caller) (flow flow_now : FlowView) (before after : Book)
-    → IsWorld m (view_of greatest council acceptors desks callers flow before) callers before.room → desks_now ≡ desks → before.room ≤ after.room
-    → IsSafe (view_of greatest council acceptors_now desks_now callers flow_now after)
-    → Remembers m (view_of greatest council acceptors_now desks_now callers flow_now after) → IsWorld m (view_of greatest council acceptors_now desks_now callers flow_now after) callers after.room
-no_room_kept {S} {V} {m} greatest council acceptors acceptors_now desks desks_now callers flow flow_now before after inv same_desks grows safe remembered = record {
+pub no_room_kept : {S V : Type 0} {m : Meaning S V} (last_proposer : ℕ) (council : Council) (acceptors acceptors_now : List (AcceptorView S)) (desks desks_now : List (DeskView V)) (callers : List Caller) (flow flow_now : FlowView) (before after : Book)
+    → IsWorld m (view_of last_proposer council acceptors desks callers flow before) callers before.room → desks_now ≡ desks → before.room ≤ after.room
+    → IsSafe (view_of last_proposer council acceptors_now desks_now callers flow_now after)
+    → Remembers m (view_of last_proposer council acceptors_now desks_now callers flow_now after) → IsWorld m (view_of last_proposer council acceptors_now desks_now callers flow_now after) callers after.room
+no_room_kept {S} {V} {m} last_proposer council acceptors acceptors_now desks desks_now callers flow flow_now before after inv same_desks grows safe remembered = record {
   safe = safe;
   room = omega (arith, inv.room, grows);
   copies = λ p d c at_d at_c. inv.copies p d c (subst (λ (ds : List (DeskView V)). IsAt ds p d) same_desks at_d) at_c;

@@ -71,14 +71,14 @@ pub record IsOpenAt {V : Type 0} (desks : List (DeskView V)) (flow : FlowView) (
   pub waits : slice_get (queue_at flow id).messages 0 ≡ Some front
   pub replies : requests_in (queue_at flow id).messages ≤ (queue_at flow id).room + handled_once (queue_at flow id)
 
-by_round : {S V : Type 0} {m : Meaning S V} (greatest : ℕ) (council : Council) (acceptors : List (AcceptorView S)) (desks : List (DeskView V)) (callers : List Caller) (flow : FlowView) (book : Book) (id : ℕ) (caller : Caller)
-    → IsWorld m (view_of greatest council acceptors desks callers flow book) callers book.room → (queue_at flow id).messages ≢ [] → IsAt callers id caller
+by_round : {S V : Type 0} {m : Meaning S V} (last_proposer : ℕ) (council : Council) (acceptors : List (AcceptorView S)) (desks : List (DeskView V)) (callers : List Caller) (flow : FlowView) (book : Book) (id : ℕ) (caller : Caller)
+    → IsWorld m (view_of last_proposer council acceptors desks callers flow book) callers book.room → (queue_at flow id).messages ≢ [] → IsAt callers id caller
     → (desk : DeskView V) → IsAt desks id desk → (round : Option Round) → desk.round ≡ round → IsOpenAt desks flow id caller book.room
-by_round greatest council acceptors desks callers flow book id caller inv some at desk at_desk None none =
+by_round last_proposer council acceptors desks callers flow book id caller inv some at desk at_desk None none =
     let party = inv.safe.sound.parties id desk (caller_view caller) at_desk (seen_at callers id caller at) in
     let idle = subst (λ (r : Option Round). IsRoundSafe (era_in council.eras.0 id) (caller_view caller) (queue_at flow id) r) none party.round in
     absurd (some idle.none_waits)
-by_round greatest council acceptors desks callers flow book id caller inv some at desk at_desk (Some round) is =
+by_round last_proposer council acceptors desks callers flow book id caller inv some at desk at_desk (Some round) is =
     let party = inv.safe.sound.parties id desk (caller_view caller) at_desk (seen_at callers id caller at) in
     let safe : IsOpenSafe (era_in council.eras.0 id) (caller_view caller) (queue_at flow id) round = subst (λ (r : Option Round). IsRoundSafe (era_in council.eras.0 id) (caller_view caller) (queue_at flow id) r) is party.round in
     let call = call_of caller.call safe.call safe.is_open in
@@ -99,12 +99,12 @@ by_round greatest council acceptors desks callers flow book id caller inv some a
       replies = party.room;
     }
 
-pub open_at : {S V : Type 0} {m : Meaning S V} (greatest : ℕ) (council : Council) (acceptors : List (AcceptorView S)) (desks : List (DeskView V)) (callers : List Caller) (flow : FlowView) (book : Book) (id : ℕ) (caller : Caller)
-    → IsWorld m (view_of greatest council acceptors desks callers flow book) callers book.room → id ≤ greatest → (queue_at flow id).messages ≢ [] → IsAt callers id caller
+pub open_at : {S V : Type 0} {m : Meaning S V} (last_proposer : ℕ) (council : Council) (acceptors : List (AcceptorView S)) (desks : List (DeskView V)) (callers : List Caller) (flow : FlowView) (book : Book) (id : ℕ) (caller : Caller)
+    → IsWorld m (view_of last_proposer council acceptors desks callers flow book) callers book.room → id ≤ last_proposer → (queue_at flow id).messages ≢ [] → IsAt callers id caller
     → IsOpenAt desks flow id caller book.room
-open_at greatest council acceptors desks callers flow book id caller inv low some at =
+open_at last_proposer council acceptors desks callers flow book id caller inv low some at =
     let desk = at_low desks id (omega (arith, low, inv.safe.sound.desks)) in
-    by_round greatest council acceptors desks callers flow book id caller inv some at desk.0 desk.1 desk.0.round refl
+    by_round last_proposer council acceptors desks callers flow book id caller inv some at desk.0 desk.1 desk.0.round refl
 
 -- so a mark may be made
 pub may_mark : {V : Type 0} (desks : List (DeskView V)) (flow : FlowView) (id : ℕ) (caller : Caller) (left : ℕ) → IsOpenAt desks flow id caller left → MayMark caller left
@@ -132,38 +132,38 @@ has_room desks flow id caller left v at handle request waits =
     subst (λ (q : QueueView). 0 < q.room) (sym (taken_own flow id v waits)) (room_after (queue_at flow id).messages (queue_at flow id).again (queue_at flow id).room v request waits handle at.replies)
 
 -- ---- a world from inside
-pub record IsTurning {S V : Type 0} (now : View S V) (greatest : ℕ) (council : Council) (acceptors : List (AcceptorView S)) (desks : List (DeskView V)) (callers : List Caller) (flow : FlowView) (book : Book) (id : ℕ) : Type 0 where
+pub record IsTurning {S V : Type 0} (now : View S V) (last_proposer : ℕ) (council : Council) (acceptors : List (AcceptorView S)) (desks : List (DeskView V)) (callers : List Caller) (flow : FlowView) (book : Book) (id : ℕ) : Type 0 where
   pub caller : Caller
   pub at_caller : IsAt callers id caller
   pub is_open : IsOpenAt desks flow id caller book.room
 
-pub turning : {S V : Type 0} {m : Meaning S V} (now : View S V) (greatest : ℕ) (council : Council) (acceptors : List (AcceptorView S)) (desks : List (DeskView V)) (callers : List Caller) (flow : FlowView) (book : Book) (id : ℕ)
-    → view_of greatest council acceptors desks callers flow book ≡ now → IsWorld m (view_of greatest council acceptors desks callers flow book) callers book.room → id ≤ now.greatest → (queue_at now.flow id).messages ≢ []
-    → IsTurning now greatest council acceptors desks callers flow book id
-turning {S} {V} {m} now greatest council acceptors desks callers flow book id same inv low some =
-    let within : id ≤ greatest = omega (arith, low, ap (λ (v : View S V). v.greatest) same) in
+pub turning : {S V : Type 0} {m : Meaning S V} (now : View S V) (last_proposer : ℕ) (council : Council) (acceptors : List (AcceptorView S)) (desks : List (DeskView V)) (callers : List Caller) (flow : FlowView) (book : Book) (id : ℕ)
+    → view_of last_proposer council acceptors desks callers flow book ≡ now → IsWorld m (view_of last_proposer council acceptors desks callers flow book) callers book.room → id ≤ now.last_proposer → (queue_at now.flow id).messages ≢ []
+    → IsTurning now last_proposer council acceptors desks callers flow book id
+turning {S} {V} {m} now last_proposer council acceptors desks callers flow book id same inv low some =
+    let within : id ≤ last_proposer = omega (arith, low, ap (λ (v : View S V). v.last_proposer) same) in
     let waits : (queue_at flow id).messages ≢ [] = λ none. some (ap (λ (v : View S V). (queue_at v.flow id).messages) (sym same) ∙ none) in
     let there = at_low callers id (omega (arith, within, inv.safe.sound.callers, length-map callers caller_view)) in
     record {
       caller = there.0;
       at_caller = there.1;
-      is_open = open_at greatest council acceptors desks callers flow book id there.0 inv within waits there.1;
+      is_open = open_at last_proposer council acceptors desks callers flow book id there.0 inv within waits there.1;
     }
 
 -- what was read at its place is its caller
-pub open_in : {S V : Type 0} (now : View S V) (greatest : ℕ) (council : Council) (acceptors : List (AcceptorView S)) (desks : List (DeskView V)) (callers : List Caller) (flow : FlowView) (book : Book) (id n : ℕ) (caller : Caller)
-    → IsTurning now greatest council acceptors desks callers flow book id → n ≡ id → caller ≡ slice_index_or callers n caller → IsOpenAt desks flow id caller book.room
-open_in now greatest council acceptors desks callers flow book id n caller at same read =
+pub open_in : {S V : Type 0} (now : View S V) (last_proposer : ℕ) (council : Council) (acceptors : List (AcceptorView S)) (desks : List (DeskView V)) (callers : List Caller) (flow : FlowView) (book : Book) (id n : ℕ) (caller : Caller)
+    → IsTurning now last_proposer council acceptors desks callers flow book id → n ≡ id → caller ≡ slice_index_or callers n caller → IsOpenAt desks flow id caller book.room
+open_in now last_proposer council acceptors desks callers flow book id n caller at same read =
     let there : IsAt callers id caller = at_place callers n id caller same (low_at callers id at.at_caller) read in
     subst (λ (c : Caller). IsOpenAt desks flow id c book.room) (at_one callers id at.at_caller there) at.is_open
 
-pub place_in : {S V : Type 0} (now : View S V) (greatest : ℕ) (council : Council) (acceptors : List (AcceptorView S)) (desks : List (DeskView V)) (callers : List Caller) (flow : FlowView) (book : Book) (id n : ℕ) (caller : Caller)
-    → IsTurning now greatest council acceptors desks callers flow book id → n ≡ id → caller ≡ slice_index_or callers n caller → IsAt callers id caller
-place_in now greatest council acceptors desks callers flow book id n caller at same read = at_place callers n id caller same (low_at callers id at.at_caller) read
+pub place_in : {S V : Type 0} (now : View S V) (last_proposer : ℕ) (council : Council) (acceptors : List (AcceptorView S)) (desks : List (DeskView V)) (callers : List Caller) (flow : FlowView) (book : Book) (id n : ℕ) (caller : Caller)
+    → IsTurning now last_proposer council acceptors desks callers flow book id → n ≡ id → caller ≡ slice_index_or callers n caller → IsAt callers id caller
+place_in now last_proposer council acceptors desks callers flow book id n caller at same read = at_place callers n id caller same (low_at callers id at.at_caller) read
 
-pub desk_in : {S V : Type 0} (now : View S V) (greatest : ℕ) (council : Council) (acceptors : List (AcceptorView S)) (desks : List (DeskView V)) (callers : List Caller) (flow : FlowView) (book : Book) (id n : ℕ) (desk : DeskView V)
-    → IsTurning now greatest council acceptors desks callers flow book id → n ≡ id → desk ≡ slice_index_or desks n desk → IsAt desks id desk
-desk_in now greatest council acceptors desks callers flow book id n desk at same read = at_place desks n id desk same (low_at desks id at.is_open.at_desk) read
+pub desk_in : {S V : Type 0} (now : View S V) (last_proposer : ℕ) (council : Council) (acceptors : List (AcceptorView S)) (desks : List (DeskView V)) (callers : List Caller) (flow : FlowView) (book : Book) (id n : ℕ) (desk : DeskView V)
+    → IsTurning now last_proposer council acceptors desks callers flow book id → n ≡ id → desk ≡ slice_index_or desks n desk → IsAt desks id desk
+desk_in now last_proposer council acceptors desks callers flow book id n desk at same read = at_place desks n id desk same (low_at desks id at.is_open.at_desk) read
 
 -- ---- the view of what a caller does
 harm_by : (b : Bool) (call : OpenCall) (acceptor : ℕ)
@@ -175,20 +175,20 @@ harm_by false call acceptor = refl
 harm_seen : (call : OpenCall) (acceptor : ℕ) → call_view (harmed_by call acceptor) ≡ frames.harmed_by (call_view call) acceptor
 harm_seen call acceptor = harm_by (has_member call.harmed acceptor) call acceptor
 
-view_next : {S V : Type 0} (greatest : ℕ) (council : Council) (acceptors : List (AcceptorView S)) (desks : List (DeskView V)) (callers : List Caller) (flow : FlowView) (before after : Book) (id : ℕ) (caller caller_now : Caller) (next : OpenCall) (seen : CallView) (marks : List Mark)
+view_next : {S V : Type 0} (last_proposer : ℕ) (council : Council) (acceptors : List (AcceptorView S)) (desks : List (DeskView V)) (callers : List Caller) (flow : FlowView) (before after : Book) (id : ℕ) (caller caller_now : Caller) (next : OpenCall) (seen : CallView) (marks : List Mark)
     → caller_now ≡ record caller { call = Some next } → call_view next ≡ seen → after.marks ≡ before.marks ++ marks
-    → view_of greatest council acceptors desks (slice_set callers id caller_now) flow after ≡ with_marks (with_call (view_of greatest council acceptors desks callers flow before) id (caller_view caller) seen) marks
-view_next {S} {V} greatest council acceptors desks callers flow before after id caller caller_now next seen marks same is made =
-    let v : View S V = view_of greatest council acceptors desks callers flow before in
+    → view_of last_proposer council acceptors desks (slice_set callers id caller_now) flow after ≡ with_marks (with_call (view_of last_proposer council acceptors desks callers flow before) id (caller_view caller) seen) marks
+view_next {S} {V} last_proposer council acceptors desks callers flow before after id caller caller_now next seen marks same is made =
+    let v : View S V = view_of last_proposer council acceptors desks callers flow before in
     let callers_seen : map caller_view (slice_set callers id caller_now) ≡ slice_set (map caller_view callers) id (record (caller_view caller) { call = Some seen }) =
     map-set caller_view callers id caller_now ∙ ap (λ (c : CallerView). slice_set (map caller_view callers) id c) (ap caller_view same ∙ ap (λ (s : CallView). record (caller_view caller) { call = Some s }) is) in
     ap (λ (cs : List CallerView). record v { callers = cs; marks = after.marks }) callers_seen
     ∙ ap (λ (ms : List Mark). record v { callers = slice_set (map caller_view callers) id (record (caller_view caller) { call = Some seen }); marks = ms }) made
 
 -- ---- steps
-abbrev pub call_at : {S V : Type 0} (greatest : ℕ) (council : Council) (acceptors : List (AcceptorView S)) (desks : List (DeskView V)) (callers : List Caller) (flow : FlowView) (book : Book) (id : ℕ) (caller : Caller) (call : OpenCall)
-    → IsAt callers id caller → caller.call ≡ Some call → OpenCallAt (view_of greatest council acceptors desks callers flow book) id
-call_at greatest council acceptors desks callers flow book id caller call at is_call = record {
+abbrev pub call_at : {S V : Type 0} (last_proposer : ℕ) (council : Council) (acceptors : List (AcceptorView S)) (desks : List (DeskView V)) (callers : List Caller) (flow : FlowView) (book : Book) (id : ℕ) (caller : Caller) (call : OpenCall)
+    → IsAt callers id caller → caller.call ≡ Some call → OpenCallAt (view_of last_proposer council acceptors desks callers flow book) id
+call_at last_proposer council acceptors desks callers flow book id caller call at is_call = record {
   caller = caller_view caller;
   at_caller = seen_at callers id caller at;
   call = call_view call;
@@ -196,29 +196,29 @@ call_at greatest council acceptors desks callers flow book id caller call at is_
 }
 
 -- the frame stays
-pub holds : {S V : Type 0} (m : Meaning S V) (now : View S V) (greatest : ℕ) (council : Council) (acceptors : List (AcceptorView S)) (desks : List (DeskView V)) (callers : List Caller) (flow : FlowView) (book : Book) (id : ℕ) (v : Verdict)
-    → IsTurning now greatest council acceptors desks callers flow book id → fall_of (queue_at flow id).again v ≡ Held
-    → StepTurn m (view_of greatest council acceptors desks callers flow book) id v (view_of greatest council acceptors desks callers flow book)
-holds m now greatest council acceptors desks callers flow book id v at fall = record {
-  of_call = call_at greatest council acceptors desks callers flow book id at.caller at.is_open.call at.at_caller at.is_open.is_call;
+pub holds : {S V : Type 0} (m : Meaning S V) (now : View S V) (last_proposer : ℕ) (council : Council) (acceptors : List (AcceptorView S)) (desks : List (DeskView V)) (callers : List Caller) (flow : FlowView) (book : Book) (id : ℕ) (v : Verdict)
+    → IsTurning now last_proposer council acceptors desks callers flow book id → fall_of (queue_at flow id).again v ≡ Held
+    → StepTurn m (view_of last_proposer council acceptors desks callers flow book) id v (view_of last_proposer council acceptors desks callers flow book)
+holds m now last_proposer council acceptors desks callers flow book id v at fall = record {
+  of_call = call_at last_proposer council acceptors desks callers flow book id at.caller at.is_open.call at.at_caller at.is_open.is_call;
   front = at.is_open.front;
   waits = at.is_open.waits;
   turn = frames.held fall refl;
 }
 
 -- it is lost or late
-pub loses : {S V : Type 0} (m : Meaning S V) (now : View S V) (greatest : ℕ) (council : Council) (acceptors : List (AcceptorView S)) (desks : List (DeskView V)) (callers : List Caller) (flow flow_now : FlowView) (before after : Book) (id : ℕ) (v : Verdict) (caller caller_now : Caller)
+pub loses : {S V : Type 0} (m : Meaning S V) (now : View S V) (last_proposer : ℕ) (council : Council) (acceptors : List (AcceptorView S)) (desks : List (DeskView V)) (callers : List Caller) (flow flow_now : FlowView) (before after : Book) (id : ℕ) (v : Verdict) (caller caller_now : Caller)
     → IsAt callers id caller → IsOpenAt desks flow id caller before.room → fall_of (queue_at flow id).again v ≡ Gone → flow_now ≡ taken flow id v
     → ((front : Message) → slice_get (queue_at flow id).messages 0 ≡ Some front → Harms id caller caller_now before after (head_of front).1 false)
-    → StepTurn m (view_of greatest council acceptors desks callers flow before) id v (view_of greatest council acceptors desks (slice_set callers id caller_now) flow_now after)
-loses {S} {V} m now greatest council acceptors desks callers flow flow_now before after id v caller caller_now at is_open fall takes harms =
+    → StepTurn m (view_of last_proposer council acceptors desks callers flow before) id v (view_of last_proposer council acceptors desks (slice_set callers id caller_now) flow_now after)
+loses {S} {V} m now last_proposer council acceptors desks callers flow flow_now before after id v caller caller_now at is_open fall takes harms =
     let by = harms is_open.front is_open.waits in
     record {
-      of_call = call_at greatest council acceptors desks callers flow before id caller by.call at by.was_open;
+      of_call = call_at last_proposer council acceptors desks callers flow before id caller by.call at by.was_open;
       front = is_open.front;
       waits = is_open.waits;
-      turn = frames.gone fall (ap (λ (f : FlowView). view_of greatest council acceptors desks (slice_set callers id caller_now) f after) takes
-          ∙ view_next greatest council acceptors desks callers (taken flow id v) before after id caller caller_now (harmed_by by.call (head_of is_open.front).1) (frames.harmed_by (call_view by.call) (head_of is_open.front).1)
+      turn = frames.gone fall (ap (λ (f : FlowView). view_of last_proposer council acceptors desks (slice_set callers id caller_now) f after) takes
+          ∙ view_next last_proposer council acceptors desks callers (taken flow id v) before after id caller caller_now (harmed_by by.call (head_of is_open.front).1) (frames.harmed_by (call_view by.call) (head_of is_open.front).1)
           (harms_marked id caller.number by.call (head_of is_open.front).1 false) by.caller (harm_seen by.call (head_of is_open.front).1) by.made);
     }
 
@@ -266,13 +266,13 @@ next_copies {V} desks desks_now callers id caller caller_now call next copies ke
     ]
 
 -- a world whose caller went on, with the marks that it made, is kept true where it is safe
-pub next_world : {S V : Type 0} {m : Meaning S V} (greatest : ℕ) (council : Council) (acceptors acceptors_now : List (AcceptorView S)) (desks desks_now : List (DeskView V)) (callers : List Caller) (flow flow_now : FlowView) (before after : Book) (id : ℕ) (caller caller_now : Caller)
-    (next : OpenCall → OpenCall) (marks : OpenCall → List Mark) → IsWorld m (view_of greatest council acceptors desks callers flow before) callers before.room → IsAt callers id caller → (by : Makes caller caller_now before after next marks)
+pub next_world : {S V : Type 0} {m : Meaning S V} (last_proposer : ℕ) (council : Council) (acceptors acceptors_now : List (AcceptorView S)) (desks desks_now : List (DeskView V)) (callers : List Caller) (flow flow_now : FlowView) (before after : Book) (id : ℕ) (caller caller_now : Caller)
+    (next : OpenCall → OpenCall) (marks : OpenCall → List Mark) → IsWorld m (view_of last_proposer council acceptors desks callers flow before) callers before.room → IsAt callers id caller → (by : Makes caller caller_now before after next marks)
     → (next by.call).reserved + length (marks by.call) ≡ by.call.reserved → (next by.call).proposed ≡ by.call.proposed → (next by.call).copies ≡ by.call.copies → KeepsDesks desks desks_now
-    → IsSafe (view_of greatest council acceptors_now desks_now (slice_set callers id caller_now) flow_now after)
-    → Remembers m (view_of greatest council acceptors_now desks_now (slice_set callers id caller_now) flow_now after)
-    → IsWorld m (view_of greatest council acceptors_now desks_now (slice_set callers id caller_now) flow_now after) (slice_set callers id caller_now) after.room
-next_world greatest council acceptors acceptors_now desks desks_now callers flow flow_now before after id caller caller_now next marks inv at by reserves proposed copies keeps safe remembered =
+    → IsSafe (view_of last_proposer council acceptors_now desks_now (slice_set callers id caller_now) flow_now after)
+    → Remembers m (view_of last_proposer council acceptors_now desks_now (slice_set callers id caller_now) flow_now after)
+    → IsWorld m (view_of last_proposer council acceptors_now desks_now (slice_set callers id caller_now) flow_now after) (slice_set callers id caller_now) after.room
+next_world last_proposer council acceptors acceptors_now desks desks_now callers flow flow_now before after id caller caller_now next marks inv at by reserves proposed copies keeps safe remembered =
     let moved = ap reserved_of (map-set caller_view callers id caller_now) in
     let had : reserved_in (caller_view caller).call ≡ by.call.reserved = ap (λ (o : Option OpenCall). reserved_in (option_map call_view o)) by.was_open in
     let has : reserved_in (caller_view caller_now).call ≡ (next by.call).reserved = ap (λ (c : Caller). reserved_in (option_map call_view c.call)) by.caller in
@@ -292,70 +292,70 @@ harm_so : (b : Bool) (call : OpenCall) (acceptor : ℕ) (mark : Mark) → 2 ≤ 
 harm_so true call acceptor mark some = (omega arith, refl, refl)
 harm_so false call acceptor mark some = (omega (arith, some), refl, refl)
 
-pub harm_kept : {S V : Type 0} {m : Meaning S V} (greatest : ℕ) (council : Council) (acceptors acceptors_now : List (AcceptorView S)) (desks : List (DeskView V)) (callers : List Caller) (flow flow_now : FlowView) (before after : Book) (id : ℕ) (caller caller_now : Caller) (acceptor : ℕ) (down : Bool)
-    → IsWorld m (view_of greatest council acceptors desks callers flow before) callers before.room → IsAt callers id caller → IsOpenAt desks flow id caller before.room → Harms id caller caller_now before after acceptor down
-    → IsSafe (view_of greatest council acceptors_now desks (slice_set callers id caller_now) flow_now after)
-    → Remembers m (view_of greatest council acceptors_now desks (slice_set callers id caller_now) flow_now after)
-    → IsWorld m (view_of greatest council acceptors_now desks (slice_set callers id caller_now) flow_now after) (slice_set callers id caller_now) after.room
-harm_kept greatest council acceptors acceptors_now desks callers flow flow_now before after id caller caller_now acceptor down inv at is_open by safe remembered =
+pub harm_kept : {S V : Type 0} {m : Meaning S V} (last_proposer : ℕ) (council : Council) (acceptors acceptors_now : List (AcceptorView S)) (desks : List (DeskView V)) (callers : List Caller) (flow flow_now : FlowView) (before after : Book) (id : ℕ) (caller caller_now : Caller) (acceptor : ℕ) (down : Bool)
+    → IsWorld m (view_of last_proposer council acceptors desks callers flow before) callers before.room → IsAt callers id caller → IsOpenAt desks flow id caller before.room → Harms id caller caller_now before after acceptor down
+    → IsSafe (view_of last_proposer council acceptors_now desks (slice_set callers id caller_now) flow_now after)
+    → Remembers m (view_of last_proposer council acceptors_now desks (slice_set callers id caller_now) flow_now after)
+    → IsWorld m (view_of last_proposer council acceptors_now desks (slice_set callers id caller_now) flow_now after) (slice_set callers id caller_now) after.room
+harm_kept last_proposer council acceptors acceptors_now desks callers flow flow_now before after id caller caller_now acceptor down inv at is_open by safe remembered =
     let same : is_open.call.reserved ≡ by.call.reserved = ap (λ (c : OpenCall). c.reserved) (some_is (sym is_open.is_call ∙ by.was_open)) in
     let so = harm_so (has_member by.call.harmed acceptor) by.call acceptor (Harmed id caller.number down) (omega (arith, same, is_open.reserved)) in
-    next_world greatest council acceptors acceptors_now desks desks callers flow flow_now before after id caller caller_now (λ call. harmed_by call acceptor) (λ call. harms_marked id caller.number call acceptor down) inv at by so.0 so.1 so.2 (desks_stay desks) safe remembered
+    next_world last_proposer council acceptors acceptors_now desks desks callers flow flow_now before after id caller caller_now (λ call. harmed_by call acceptor) (λ call. harms_marked id caller.number call acceptor down) inv at by so.0 so.1 so.2 (desks_stay desks) safe remembered
 
 -- ---- what is handled
-pub parts_same : {S V : Type 0} (greatest : ℕ) (council : Council) {acceptors a : List (AcceptorView S)} {desks d : List (DeskView V)} (callers : List Caller) {flow f : FlowView} (book : Book)
-    → acceptors ≡ a → desks ≡ d → flow ≡ f → view_of greatest council acceptors desks callers flow book ≡ view_of greatest council a d callers f book
-parts_same {S} {V} greatest council {acceptors} {a} {desks} {d} callers {flow} {f} book same_a same_d same_f =
-    ap (λ (x : List (AcceptorView S)). view_of greatest council x desks callers flow book) same_a
-    ∙ ap (λ (x : List (DeskView V)). view_of greatest council a x callers flow book) same_d
-    ∙ ap (λ (x : FlowView). view_of greatest council a d callers x book) same_f
+pub parts_same : {S V : Type 0} (last_proposer : ℕ) (council : Council) {acceptors a : List (AcceptorView S)} {desks d : List (DeskView V)} (callers : List Caller) {flow f : FlowView} (book : Book)
+    → acceptors ≡ a → desks ≡ d → flow ≡ f → view_of last_proposer council acceptors desks callers flow book ≡ view_of last_proposer council a d callers f book
+parts_same {S} {V} last_proposer council {acceptors} {a} {desks} {d} callers {flow} {f} book same_a same_d same_f =
+    ap (λ (x : List (AcceptorView S)). view_of last_proposer council x desks callers flow book) same_a
+    ∙ ap (λ (x : List (DeskView V)). view_of last_proposer council a x callers flow book) same_d
+    ∙ ap (λ (x : FlowView). view_of last_proposer council a d callers x book) same_f
 
 -- the desk's open round
 round_at : {V : Type 0} (desks : List (DeskView V)) (flow : FlowView) (id : ℕ) (caller : Caller) (left : ℕ) (desk : DeskView V) (at : IsOpenAt desks flow id caller left) → IsAt desks id desk → desk.round ≡ Some at.round
 round_at {V} desks flow id caller left desk at there = ap (λ (d : DeskView V). d.round) (at_one desks id there at.at_desk) ∙ at.is_round
 
-pub handles : {S V : Type 0} (m : Meaning S V) (greatest : ℕ) (council : Council) (acceptors acceptors_now : List (AcceptorView S)) (desks : List (DeskView V)) (desk desk_now : DeskView V) (callers : List Caller) (flow flow_now : FlowView) (before after : Book) (id : ℕ) (v : Verdict) (caller caller_now : Caller)
+pub handles : {S V : Type 0} (m : Meaning S V) (last_proposer : ℕ) (council : Council) (acceptors acceptors_now : List (AcceptorView S)) (desks : List (DeskView V)) (desk desk_now : DeskView V) (callers : List Caller) (flow flow_now : FlowView) (before after : Book) (id : ℕ) (v : Verdict) (caller caller_now : Caller)
     → IsAt desks id desk → IsAt callers id caller → IsOpenAt desks flow id caller before.room → fall_of (queue_at flow id).again v ≡ Handle
     → Handles m.shelves id v acceptors acceptors_now desk desk_now caller caller_now flow flow_now before after
-    → StepTurn m (view_of greatest council acceptors desks callers flow before) id v (view_of greatest council acceptors_now (slice_set desks id desk_now) (slice_set callers id caller_now) flow_now after)
-handles {S} {V} m greatest council acceptors acceptors_now desks desk desk_now callers flow flow_now before after id v caller caller_now at_desk at is_open fall (asks request waits (is_answered acceptor acceptor_now reply there table changed flows makes) same_desk) = record {
-  of_call = call_at greatest council acceptors desks callers flow before id caller makes.call at makes.was_open;
+    → StepTurn m (view_of last_proposer council acceptors desks callers flow before) id v (view_of last_proposer council acceptors_now (slice_set desks id desk_now) (slice_set callers id caller_now) flow_now after)
+handles {S} {V} m last_proposer council acceptors acceptors_now desks desk desk_now callers flow flow_now before after id v caller caller_now at_desk at is_open fall (asks request waits (is_answered acceptor acceptor_now reply there table changed flows makes) same_desk) = record {
+  of_call = call_at last_proposer council acceptors desks callers flow before id caller makes.call at makes.was_open;
   front = message.Request request;
   waits = waits;
   turn = frames.answers request acceptor acceptor_now reply fall refl there table
-      (parts_same greatest council (slice_set callers id caller_now) after changed (ap (λ (d : DeskView V). slice_set desks id d) same_desk ∙ set_same desks id desk at_desk) flows
-      ∙ view_next greatest council (slice_set acceptors request.to acceptor_now) desks callers (frames.replied_flow flow id v reply) before after id caller caller_now (marking (frames.votes_marked request reply) makes.call)
+      (parts_same last_proposer council (slice_set callers id caller_now) after changed (ap (λ (d : DeskView V). slice_set desks id d) same_desk ∙ set_same desks id desk at_desk) flows
+      ∙ view_next last_proposer council (slice_set acceptors request.to acceptor_now) desks callers (frames.replied_flow flow id v reply) before after id caller caller_now (marking (frames.votes_marked request reply) makes.call)
       (frames.marking (call_view makes.call) (length (frames.votes_marked request reply))) (frames.votes_marked request reply) makes.caller refl makes.made);
 }
-handles {S} {V} m greatest council acceptors acceptors_now desks desk desk_now callers flow flow_now before after id v caller caller_now at_desk at is_open fall (asks request waits (is_down (was_down acceptor there down still) flows makes) same_desk) = record {
-  of_call = call_at greatest council acceptors desks callers flow before id caller makes.call at makes.was_open;
+handles {S} {V} m last_proposer council acceptors acceptors_now desks desk desk_now callers flow flow_now before after id v caller caller_now at_desk at is_open fall (asks request waits (is_down (was_down acceptor there down still) flows makes) same_desk) = record {
+  of_call = call_at last_proposer council acceptors desks callers flow before id caller makes.call at makes.was_open;
   front = message.Request request;
   waits = waits;
   turn = frames.finds_down request acceptor fall refl there down
-      (parts_same greatest council (slice_set callers id caller_now) after still (ap (λ (d : DeskView V). slice_set desks id d) same_desk ∙ set_same desks id desk at_desk) flows
-      ∙ view_next greatest council acceptors desks callers (taken flow id v) before after id caller caller_now (harmed_by makes.call request.to) (frames.harmed_by (call_view makes.call) request.to)
+      (parts_same last_proposer council (slice_set callers id caller_now) after still (ap (λ (d : DeskView V). slice_set desks id d) same_desk ∙ set_same desks id desk at_desk) flows
+      ∙ view_next last_proposer council acceptors desks callers (taken flow id v) before after id caller caller_now (harmed_by makes.call request.to) (frames.harmed_by (call_view makes.call) request.to)
       (harms_marked id caller.number makes.call request.to true) makes.caller (harm_seen makes.call request.to) makes.made);
 }
-handles {S} {V} m greatest council acceptors acceptors_now desks desk desk_now callers flow flow_now before after id v caller caller_now at_desk at is_open fall (asks request waits (is_down (goes_down acceptor acceptor_now there stops changed) flows makes) same_desk) = record {
-  of_call = call_at greatest council acceptors desks callers flow before id caller makes.call at makes.was_open;
+handles {S} {V} m last_proposer council acceptors acceptors_now desks desk desk_now callers flow flow_now before after id v caller caller_now at_desk at is_open fall (asks request waits (is_down (goes_down acceptor acceptor_now there stops changed) flows makes) same_desk) = record {
+  of_call = call_at last_proposer council acceptors desks callers flow before id caller makes.call at makes.was_open;
   front = message.Request request;
   waits = waits;
   turn = frames.brings_down request acceptor acceptor_now fall refl there stops
-      (parts_same greatest council (slice_set callers id caller_now) after changed (ap (λ (d : DeskView V). slice_set desks id d) same_desk ∙ set_same desks id desk at_desk) flows
-      ∙ view_next greatest council (slice_set acceptors request.to acceptor_now) desks callers (taken flow id v) before after id caller caller_now (harmed_by makes.call request.to) (frames.harmed_by (call_view makes.call) request.to)
+      (parts_same last_proposer council (slice_set callers id caller_now) after changed (ap (λ (d : DeskView V). slice_set desks id d) same_desk ∙ set_same desks id desk at_desk) flows
+      ∙ view_next last_proposer council (slice_set acceptors request.to acceptor_now) desks callers (taken flow id v) before after id caller caller_now (harmed_by makes.call request.to) (frames.harmed_by (call_view makes.call) request.to)
       (harms_marked id caller.number makes.call request.to true) makes.caller (harm_seen makes.call request.to) makes.made);
 }
-handles {S} {V} m greatest council acceptors acceptors_now desks desk desk_now callers flow flow_now before after id v caller caller_now at_desk at is_open fall (arrives reply waits comes makes still flows) =
+handles {S} {V} m last_proposer council acceptors acceptors_now desks desk desk_now callers flow flow_now before after id v caller caller_now at_desk at is_open fall (arrives reply waits comes makes still flows) =
     let is_round = round_at desks flow id caller before.room desk is_open at_desk in
     let heard = some_and desk_now.round _ (comes.heard is_open.round is_round) in
     record {
-      of_call = call_at greatest council acceptors desks callers flow before id caller makes.call at makes.was_open;
+      of_call = call_at last_proposer council acceptors desks callers flow before id caller makes.call at makes.was_open;
       front = message.Reply reply;
       waits = waits;
       turn = frames.arrives reply desk desk_now is_open.round heard.0 fall refl at_desk is_round (record { hears = heard.2; desk = comes.desk ∙ ap (λ (r : Option Round). record desk { round = r }) heard.1 })
-          (parts_same greatest council (slice_set callers id caller_now) after still refl flows
-          ∙ view_next greatest council acceptors (slice_set desks id desk_now) callers (taken flow id v) before after id caller caller_now (silent makes.call) (frames.silent (call_view makes.call)) [] makes.caller refl makes.made
-          ∙ ap (λ (ms : List Mark). record (with_call (view_of greatest council acceptors (slice_set desks id desk_now) callers (taken flow id v) before) id (caller_view caller) (frames.silent (call_view makes.call))) { marks = ms }) (append-nil before.marks));
+          (parts_same last_proposer council (slice_set callers id caller_now) after still refl flows
+          ∙ view_next last_proposer council acceptors (slice_set desks id desk_now) callers (taken flow id v) before after id caller caller_now (silent makes.call) (frames.silent (call_view makes.call)) [] makes.caller refl makes.made
+          ∙ ap (λ (ms : List Mark). record (with_call (view_of last_proposer council acceptors (slice_set desks id desk_now) callers (taken flow id v) before) id (caller_view caller) (frames.silent (call_view makes.call))) { marks = ms }) (append-nil before.marks));
     }
 
 -- ---- what is kept true as a frame is handled
@@ -371,48 +371,48 @@ hears_keep round heard reply by call has = λ accepting.
     subst (λ (key : List ℕ). IfSome call.proposed (λ outcome. (copies : Copies) × (call.copies ≡ Some copies) × (copies.key ≡ key) × (copies.told ≡ outcome.state) × (copies.answer ≡ outcome.state) × (copies.kept ≡ outcome.state)))
     (sym (ap (λ (r : Round). r.key) by.same)) (has (sym by.same_phase ∙ accepting))
 
-pub handled_kept : {S V : Type 0} {w : Meaning S V} (m : ShelfMeaning S) (greatest : ℕ) (council : Council) (acceptors acceptors_now : List (AcceptorView S)) (desks : List (DeskView V)) (desk desk_now : DeskView V) (callers : List Caller) (flow flow_now : FlowView) (before after : Book) (id : ℕ) (v : Verdict) (caller caller_now : Caller)
-    → IsWorld w (view_of greatest council acceptors desks callers flow before) callers before.room → IsAt desks id desk → IsAt callers id caller → IsOpenAt desks flow id caller before.room
+pub handled_kept : {S V : Type 0} {w : Meaning S V} (m : ShelfMeaning S) (last_proposer : ℕ) (council : Council) (acceptors acceptors_now : List (AcceptorView S)) (desks : List (DeskView V)) (desk desk_now : DeskView V) (callers : List Caller) (flow flow_now : FlowView) (before after : Book) (id : ℕ) (v : Verdict) (caller caller_now : Caller)
+    → IsWorld w (view_of last_proposer council acceptors desks callers flow before) callers before.room → IsAt desks id desk → IsAt callers id caller → IsOpenAt desks flow id caller before.room
     → Handles m id v acceptors acceptors_now desk desk_now caller caller_now flow flow_now before after
-    → IsSafe (view_of greatest council acceptors_now (slice_set desks id desk_now) (slice_set callers id caller_now) flow_now after)
-    → Remembers w (view_of greatest council acceptors_now (slice_set desks id desk_now) (slice_set callers id caller_now) flow_now after)
-    → IsWorld w (view_of greatest council acceptors_now (slice_set desks id desk_now) (slice_set callers id caller_now) flow_now after) (slice_set callers id caller_now) after.room
-handled_kept {S} {V} {w} m greatest council acceptors acceptors_now desks desk desk_now callers flow flow_now before after id v caller caller_now inv at_desk at is_open (asks request waits (is_answered acceptor acceptor_now reply there table changed flows makes) same_desk) safe remembered =
+    → IsSafe (view_of last_proposer council acceptors_now (slice_set desks id desk_now) (slice_set callers id caller_now) flow_now after)
+    → Remembers w (view_of last_proposer council acceptors_now (slice_set desks id desk_now) (slice_set callers id caller_now) flow_now after)
+    → IsWorld w (view_of last_proposer council acceptors_now (slice_set desks id desk_now) (slice_set callers id caller_now) flow_now after) (slice_set callers id caller_now) after.room
+handled_kept {S} {V} {w} m last_proposer council acceptors acceptors_now desks desk desk_now callers flow flow_now before after id v caller caller_now inv at_desk at is_open (asks request waits (is_answered acceptor acceptor_now reply there table changed flows makes) same_desk) safe remembered =
     let same : is_open.call.reserved ≡ makes.call.reserved = ap (λ (c : OpenCall). c.reserved) (some_is (sym is_open.is_call ∙ makes.was_open)) in
-    next_world greatest council acceptors acceptors_now desks (slice_set desks id desk_now) callers flow flow_now before after id caller caller_now (marking (frames.votes_marked request reply)) (λ call. frames.votes_marked request reply) inv at makes
+    next_world last_proposer council acceptors acceptors_now desks (slice_set desks id desk_now) callers flow flow_now before after id caller caller_now (marking (frames.votes_marked request reply)) (λ call. frames.votes_marked request reply) inv at makes
     (omega (arith, same, is_open.reserved, votes_few request reply)) refl refl
     (desks_set desks id desk desk_now at_desk (subst (λ (x : DeskView V). KeepsCopies desk.round x.round) (sym same_desk) (λ call has. has))) safe remembered
-handled_kept {S} {V} {w} m greatest council acceptors acceptors_now desks desk desk_now callers flow flow_now before after id v caller caller_now inv at_desk at is_open (asks request waits (is_down fell flows makes) same_desk) safe remembered =
+handled_kept {S} {V} {w} m last_proposer council acceptors acceptors_now desks desk desk_now callers flow flow_now before after id v caller caller_now inv at_desk at is_open (asks request waits (is_down fell flows makes) same_desk) safe remembered =
     let same : is_open.call.reserved ≡ makes.call.reserved = ap (λ (c : OpenCall). c.reserved) (some_is (sym is_open.is_call ∙ makes.was_open)) in
     let so = harm_so (has_member makes.call.harmed request.to) makes.call request.to (Harmed id caller.number true) (omega (arith, same, is_open.reserved)) in
-    next_world greatest council acceptors acceptors_now desks (slice_set desks id desk_now) callers flow flow_now before after id caller caller_now (λ call. harmed_by call request.to) (λ call. harms_marked id caller.number call request.to true) inv at makes so.0 so.1 so.2
+    next_world last_proposer council acceptors acceptors_now desks (slice_set desks id desk_now) callers flow flow_now before after id caller caller_now (λ call. harmed_by call request.to) (λ call. harms_marked id caller.number call request.to true) inv at makes so.0 so.1 so.2
     (desks_set desks id desk desk_now at_desk (subst (λ (x : DeskView V). KeepsCopies desk.round x.round) (sym same_desk) (λ call has. has))) safe remembered
-handled_kept {S} {V} {w} m greatest council acceptors acceptors_now desks desk desk_now callers flow flow_now before after id v caller caller_now inv at_desk at is_open (arrives reply waits comes makes still flows) safe remembered =
+handled_kept {S} {V} {w} m last_proposer council acceptors acceptors_now desks desk desk_now callers flow flow_now before after id v caller caller_now inv at_desk at is_open (arrives reply waits comes makes still flows) safe remembered =
     let is_round = round_at desks flow id caller before.room desk is_open at_desk in
     let heard = some_and desk_now.round _ (comes.heard is_open.round is_round) in
     let keeps : KeepsCopies desk.round desk_now.round = subst (λ (r : Option Round). KeepsCopies r desk_now.round) (sym is_round) (subst (λ (r : Option Round). KeepsCopies (Some is_open.round) r) (sym heard.1) (hears_keep is_open.round heard.0 reply heard.2)) in
-    next_world greatest council acceptors acceptors_now desks (slice_set desks id desk_now) callers flow flow_now before after id caller caller_now silent (λ call. []) inv at makes (omega arith) refl refl
+    next_world last_proposer council acceptors acceptors_now desks (slice_set desks id desk_now) callers flow flow_now before after id caller caller_now silent (λ call. []) inv at makes (omega arith) refl refl
     (desks_set desks id desk desk_now at_desk keeps) safe remembered
 
 -- ---- no memory
 abbrev pub told_full : OpenCall → OpenCall
 told_full call = record call { told = Some (answer.NoMemory (is_some call.proposed)) }
 
-pub find_no_room : {S V : Type 0} (m : Meaning S V) (greatest : ℕ) (council : Council) (acceptors acceptors_now : List (AcceptorView S)) (desks : List (DeskView V)) (callers : List Caller) (flow : FlowView) (book : Book)
-    → KeepsAll m.shelves acceptors acceptors_now → frames.FindsNoRoom m (view_of greatest council acceptors desks callers flow book) (view_of greatest council acceptors_now desks callers flow book)
-find_no_room {S} m greatest council acceptors acceptors_now desks callers flow book (nothing_asked same) = frames.stays (ap (λ (x : List (AcceptorView S)). view_of greatest council x desks callers flow book) same)
-find_no_room {S} m greatest council acceptors acceptors_now desks callers flow book (was_kept id acceptor after at finds same) =
-    frames.kept id acceptor after at finds (ap (λ (x : List (AcceptorView S)). view_of greatest council x desks callers flow book) same)
+pub find_no_room : {S V : Type 0} (m : Meaning S V) (last_proposer : ℕ) (council : Council) (acceptors acceptors_now : List (AcceptorView S)) (desks : List (DeskView V)) (callers : List Caller) (flow : FlowView) (book : Book)
+    → KeepsAll m.shelves acceptors acceptors_now → frames.FindsNoRoom m (view_of last_proposer council acceptors desks callers flow book) (view_of last_proposer council acceptors_now desks callers flow book)
+find_no_room {S} m last_proposer council acceptors acceptors_now desks callers flow book (nothing_asked same) = frames.stays (ap (λ (x : List (AcceptorView S)). view_of last_proposer council x desks callers flow book) same)
+find_no_room {S} m last_proposer council acceptors acceptors_now desks callers flow book (was_kept id acceptor after at finds same) =
+    frames.kept id acceptor after at finds (ap (λ (x : List (AcceptorView S)). view_of last_proposer council x desks callers flow book) same)
 
-pub refuses : {S V : Type 0} (m : Meaning S V) (greatest : ℕ) (council : Council) (acceptors acceptors_now : List (AcceptorView S)) (desks : List (DeskView V)) (callers : List Caller) (flow : FlowView) (book : Book) (id : ℕ) (caller caller_now : Caller) (call : OpenCall)
+pub refuses : {S V : Type 0} (m : Meaning S V) (last_proposer : ℕ) (council : Council) (acceptors acceptors_now : List (AcceptorView S)) (desks : List (DeskView V)) (callers : List Caller) (flow : FlowView) (book : Book) (id : ℕ) (caller caller_now : Caller) (call : OpenCall)
     → IsAt callers id caller → caller.call ≡ Some call → caller_now ≡ record caller { call = Some (told_full call) } → KeepsAll m.shelves acceptors acceptors_now
-    → StepRefuseTurn m (view_of greatest council acceptors desks callers flow book) id (view_of greatest council acceptors_now desks (slice_set callers id caller_now) flow book)
-refuses {S} {V} m greatest council acceptors acceptors_now desks callers flow book id caller caller_now call at is_call told keeps = record {
-  of_call = call_at greatest council acceptors desks callers flow book id caller call at is_call;
-  middle = view_of greatest council acceptors_now desks callers flow book;
-  refuses = find_no_room m greatest council acceptors acceptors_now desks callers flow book keeps;
-  view = view_next greatest council acceptors_now desks callers flow book book id caller caller_now (told_full call) (telling (call_view call) (answer.NoMemory (is_some call.proposed))) [] told refl (sym (append-nil book.marks))
-      ∙ ap (λ (ms : List Mark). record (with_call (view_of greatest council acceptors_now desks callers flow book) id (caller_view caller) (telling (call_view call) (answer.NoMemory (is_some call.proposed)))) { marks = ms }) (append-nil book.marks);
+    → StepRefuseTurn m (view_of last_proposer council acceptors desks callers flow book) id (view_of last_proposer council acceptors_now desks (slice_set callers id caller_now) flow book)
+refuses {S} {V} m last_proposer council acceptors acceptors_now desks callers flow book id caller caller_now call at is_call told keeps = record {
+  of_call = call_at last_proposer council acceptors desks callers flow book id caller call at is_call;
+  middle = view_of last_proposer council acceptors_now desks callers flow book;
+  refuses = find_no_room m last_proposer council acceptors acceptors_now desks callers flow book keeps;
+  view = view_next last_proposer council acceptors_now desks callers flow book book id caller caller_now (told_full call) (telling (call_view call) (answer.NoMemory (is_some call.proposed))) [] told refl (sym (append-nil book.marks))
+      ∙ ap (λ (ms : List Mark). record (with_call (view_of last_proposer council acceptors_now desks callers flow book) id (caller_view caller) (telling (call_view call) (answer.NoMemory (is_some call.proposed)))) { marks = ms }) (append-nil book.marks);
 }
 
 -- the caller that is told is the one that was there
@@ -459,19 +459,19 @@ refused {V} P desks desk desk_now callers flow flow_now before after id n caller
     (subst (λ (f : FlowView). P desks (slice_set callers id told) f after) (sym by.same_flow)
     (subst (λ (b : Book). P desks (slice_set callers id told) flow b) (sym by.same_book) has)))
 
-pub refused_step : {S V : Type 0} (m : Meaning S V) (greatest : ℕ) (council : Council) (acceptors acceptors_now : List (AcceptorView S)) (desks : List (DeskView V)) (desk desk_now : DeskView V) (callers : List Caller) (flow flow_now : FlowView) (before after : Book) (id n : ℕ) (caller caller_now who told : Caller)
+pub refused_step : {S V : Type 0} (m : Meaning S V) (last_proposer : ℕ) (council : Council) (acceptors acceptors_now : List (AcceptorView S)) (desks : List (DeskView V)) (desk desk_now : DeskView V) (callers : List Caller) (flow flow_now : FlowView) (before after : Book) (id n : ℕ) (caller caller_now who told : Caller)
     → IsRefused desks desk desk_now callers flow flow_now before after id n caller caller_now who told → KeepsAll m.shelves acceptors acceptors_now
-    → StepRefuseTurn m (view_of greatest council acceptors desks callers flow before) id (view_of greatest council acceptors_now desks (slice_set callers id told) flow before)
-refused_step m greatest council acceptors acceptors_now desks desk desk_now callers flow flow_now before after id n caller caller_now who told by keeps =
-    refuses m greatest council acceptors acceptors_now desks callers flow before id caller told by.is_open.call by.at_caller by.is_open.is_call
+    → StepRefuseTurn m (view_of last_proposer council acceptors desks callers flow before) id (view_of last_proposer council acceptors_now desks (slice_set callers id told) flow before)
+refused_step m last_proposer council acceptors acceptors_now desks desk desk_now callers flow flow_now before after id n caller caller_now who told by keeps =
+    refuses m last_proposer council acceptors acceptors_now desks callers flow before id caller told by.is_open.call by.at_caller by.is_open.is_call
     (is_told desks desk desk_now callers flow flow_now before after id n caller caller_now who told by) keeps
 
-pub refused_kept : {S V : Type 0} (m : Meaning S V) (greatest : ℕ) (council : Council) (acceptors acceptors_now : List (AcceptorView S)) (desks : List (DeskView V)) (desk desk_now : DeskView V) (callers : List Caller) (flow flow_now : FlowView) (before after : Book) (id n : ℕ) (caller caller_now who told : Caller)
-    → IsWorld m (view_of greatest council acceptors desks callers flow before) callers before.room → IsRefused desks desk desk_now callers flow flow_now before after id n caller caller_now who told
-    → IsSafe (view_of greatest council acceptors_now desks (slice_set callers id told) flow before)
-    → Remembers m (view_of greatest council acceptors_now desks (slice_set callers id told) flow before)
-    → IsWorld m (view_of greatest council acceptors_now desks (slice_set callers id told) flow before) (slice_set callers id told) before.room
-refused_kept m greatest council acceptors acceptors_now desks desk desk_now callers flow flow_now before after id n caller caller_now who told inv by safe remembered =
-    next_world greatest council acceptors acceptors_now desks desks callers flow flow before before id caller told told_full (λ call. []) inv by.at_caller
+pub refused_kept : {S V : Type 0} (m : Meaning S V) (last_proposer : ℕ) (council : Council) (acceptors acceptors_now : List (AcceptorView S)) (desks : List (DeskView V)) (desk desk_now : DeskView V) (callers : List Caller) (flow flow_now : FlowView) (before after : Book) (id n : ℕ) (caller caller_now who told : Caller)
+    → IsWorld m (view_of last_proposer council acceptors desks callers flow before) callers before.room → IsRefused desks desk desk_now callers flow flow_now before after id n caller caller_now who told
+    → IsSafe (view_of last_proposer council acceptors_now desks (slice_set callers id told) flow before)
+    → Remembers m (view_of last_proposer council acceptors_now desks (slice_set callers id told) flow before)
+    → IsWorld m (view_of last_proposer council acceptors_now desks (slice_set callers id told) flow before) (slice_set callers id told) before.room
+refused_kept m last_proposer council acceptors acceptors_now desks desk desk_now callers flow flow_now before after id n caller caller_now who told inv by safe remembered =
+    next_world last_proposer council acceptors acceptors_now desks desks callers flow flow before before id caller told told_full (λ call. []) inv by.at_caller
     (record { call = by.is_open.call; was_open = by.is_open.is_call; caller = is_told desks desk desk_now callers flow flow_now before after id n caller caller_now who told by; made = sym (append-nil before.marks); room = omega arith })
     (omega arith) refl refl (desks_stay desks) safe remembered

@@ -95,10 +95,10 @@ none_reserved [] fresh = refl
 none_reserved (caller ∷ callers) fresh = omega (arith, ap (λ (c : CallerView). reserved_in c.call) (fresh 0 caller refl), none_reserved callers (λ id c at. fresh (suc id) c at))
 
 -- ---- the whole
-module _ {S V : Type 0} (m : Meaning S V) (shelf_faults : S → ℕ) (disk_faults : V → ℕ) (count greatest : ℕ) (shelves : List S) (disks : List V) (council : Council) (acceptors : List (AcceptorView S)) (desks : List (DeskView V)) (callers : List Caller) (flow : FlowView) (book : Book) (left : List V)
-    (some : 0 < count) (few : count ≤ 9) (few_proposers : greatest ≤ 16) (all_shelves : length shelves ≡ 64)
-    (starts : AllStart m shelf_faults disk_faults count greatest (unstarted 0 shelves) disks acceptors desks left) (eras_are : council ≡ opening_council (majority_era 0 (members_to count)) (members_to count)) (callers_are : callers ≡ replicate (greatest + 1) unbegun) (flow_is : flow ≡ empty_flow) (marks : book.marks ≡ []) where
-  pub is_opening : IsOpening m (members_to count) (view_of greatest council acceptors desks callers flow book)
+module _ {S V : Type 0} (m : Meaning S V) (shelf_faults : S → ℕ) (disk_faults : V → ℕ) (count last_proposer : ℕ) (shelves : List S) (disks : List V) (council : Council) (acceptors : List (AcceptorView S)) (desks : List (DeskView V)) (callers : List Caller) (flow : FlowView) (book : Book) (left : List V)
+    (some : 0 < count) (few : count ≤ 9) (few_proposers : last_proposer ≤ 16) (all_shelves : length shelves ≡ 64)
+    (starts : AllStart m shelf_faults disk_faults count last_proposer (unstarted 0 shelves) disks acceptors desks left) (eras_are : council ≡ opening_council (majority_era 0 (members_to count)) (members_to count)) (callers_are : callers ≡ replicate (last_proposer + 1) unbegun) (flow_is : flow ≡ empty_flow) (marks : book.marks ≡ []) where
+  pub is_opening : IsOpening m (members_to count) (view_of last_proposer council acceptors desks callers flow book)
   is_opening = record {
     eras = ap (λ (c : Council). c.eras.0) eras_are;
     council = ap council_view eras_are;
@@ -111,23 +111,23 @@ module _ {S V : Type 0} (m : Meaning S V) (shelf_faults : S → ℕ) (disk_fault
         (let low : id < length desks = slice_get_within desks id desk at in
         let found = starts.made.each id desk at in
         (omega (arith, low, starts.made.places), fresh_desk m disk_faults id found.0 desk found.2));
-    callers = fresh_callers (greatest + 1) callers callers_are;
+    callers = fresh_callers (last_proposer + 1) callers callers_are;
     flow = flow_is;
     marks = marks;
   }
 
-  pub has_places : HasPlaces (view_of greatest council acceptors desks callers flow book)
+  pub has_places : HasPlaces (view_of last_proposer council acceptors desks callers flow book)
   has_places = record {
     acceptors = starts.members.places ∙ (unstarted_places 0 shelves ∙ all_shelves);
     desks = omega (arith, starts.made.places);
-    callers = omega (arith, length-map callers caller_view, ap (λ (l : List Caller). length l) callers_are, length-replicate (greatest + 1) unbegun);
+    callers = omega (arith, length-map callers caller_view, ap (λ (l : List Caller). length l) callers_are, length-replicate (last_proposer + 1) unbegun);
   }
 
-  pub is_world : IsWorld m (view_of greatest council acceptors desks callers flow book) callers book.room
+  pub is_world : IsWorld m (view_of last_proposer council acceptors desks callers flow book) callers book.room
   is_world = record {
-    safe = opens_are_safe m (members_to count) (view_of greatest council acceptors desks callers flow book) is_opening has_places;
-    remembered = λ shelves_tell disks_tell. opening_remembered m shelves_tell disks_tell (members_to count) (view_of greatest council acceptors desks callers flow book) is_opening;
-    room = omega (arith, none_reserved (map caller_view callers) (fresh_callers (greatest + 1) callers callers_are), ap (λ (c : Council). reserved_by (council_view c)) eras_are);
+    safe = opens_are_safe m (members_to count) (view_of last_proposer council acceptors desks callers flow book) is_opening has_places;
+    remembered = λ shelves_tell disks_tell. opening_remembered m shelves_tell disks_tell (members_to count) (view_of last_proposer council acceptors desks callers flow book) is_opening;
+    room = omega (arith, none_reserved (map caller_view callers) (fresh_callers (last_proposer + 1) callers callers_are), ap (λ (c : Council). reserved_by (council_view c)) eras_are);
     copies = λ id desk caller at_desk at_caller.
         (let found = starts.made.each id desk at_desk in
         subst (λ (r : Option Round). HasCopies r caller.call) (sym (ap (λ (d : DeskView V). d.round) found.2.is)) tt);

@@ -112,12 +112,12 @@ dropped_all (suc n) [] low = refl
 dropped_all (suc n) (x ∷ xs) low = dropped_all n xs (omega (arith, low))
 
 -- one more that is looked at
-pub one_more_counter : (floors : List OpeningFloor) (place : ℕ) (floor : OpeningFloor) (greatest : ℕ) → IsAt floors place floor
-    → max (max floor.ballot.counter greatest) (greatest_counter (drop (place + 1) floors)) ≡ max greatest (greatest_counter (drop place floors))
-one_more_counter [] place floor greatest at = absurd (cc at)
-one_more_counter (first ∷ floors) zero floor greatest at = subst (λ (x : OpeningFloor). max (max floor.ballot.counter greatest) (greatest_counter floors) ≡ max greatest (max x.ballot.counter (greatest_counter floors))) (sym (some_is at)) (omega arith)
-one_more_counter (first ∷ floors) (suc place) floor greatest at =
-    ap (λ (n : ℕ). max (max floor.ballot.counter greatest) (greatest_counter (drop n (first ∷ floors)))) (let e : suc place + 1 ≡ suc (place + 1) = omega arith in e) ∙ one_more_counter floors place floor greatest at
+pub one_more_counter : (floors : List OpeningFloor) (place : ℕ) (floor : OpeningFloor) (last_proposer : ℕ) → IsAt floors place floor
+    → max (max floor.ballot.counter last_proposer) (greatest_counter (drop (place + 1) floors)) ≡ max last_proposer (greatest_counter (drop place floors))
+one_more_counter [] place floor last_proposer at = absurd (cc at)
+one_more_counter (first ∷ floors) zero floor last_proposer at = subst (λ (x : OpeningFloor). max (max floor.ballot.counter last_proposer) (greatest_counter floors) ≡ max last_proposer (max x.ballot.counter (greatest_counter floors))) (sym (some_is at)) (omega arith)
+one_more_counter (first ∷ floors) (suc place) floor last_proposer at =
+    ap (λ (n : ℕ). max (max floor.ballot.counter last_proposer) (greatest_counter (drop n (first ∷ floors)))) (let e : suc place + 1 ≡ suc (place + 1) = omega arith in e) ∙ one_more_counter floors place floor last_proposer at
 
 open_desk : {S V : Type 0} (m : Meaning S V) (faults : V → ℕ) (floors : List OpeningFloor) (id : ℕ) (disk : V) (desk : DeskView V) → IsTakenUpOver m.disks faults (greatest_counter floors) id disk desk → IsOpenDesk m (openings_of floors) id desk
 open_desk {S} {V} m faults floors id disk desk over = record {
@@ -149,12 +149,12 @@ marks_are [] = refl
 marks_are (floor ∷ floors) = ap (λ (l : List Mark). mark_of (opening_of floor) ∷ l) (marks_are floors)
 
 -- ---- the whole
-module _ {S V : Type 0} (m : Meaning S V) (is_up : S → Type 0) (disk_faults : V → ℕ) (members used : List ℕ) (floors : List OpeningFloor) (greatest : ℕ) (shelves : List S) (disks : List V) (council : Council) (desks : List (DeskView V)) (callers : List Caller) (flow : FlowView) (book : Book)
-    (member_set : IsMemberSet members) (some : 0 < length members) (few_members : length members ≤ 9) (few_proposers : greatest ≤ 16) (all_shelves : length shelves ≡ 64) (openings : AreOpenings (openings_of floors)) (few_marks : length floors ≤ most_marks)
+module _ {S V : Type 0} (m : Meaning S V) (is_up : S → Type 0) (disk_faults : V → ℕ) (members used : List ℕ) (floors : List OpeningFloor) (last_proposer : ℕ) (shelves : List S) (disks : List V) (council : Council) (desks : List (DeskView V)) (callers : List Caller) (flow : FlowView) (book : Book)
+    (member_set : IsMemberSet members) (some : 0 < length members) (few_members : length members ≤ 9) (few_proposers : last_proposer ≤ 16) (all_shelves : length shelves ≡ 64) (openings : AreOpenings (openings_of floors)) (few_marks : length floors ≤ most_marks)
     (lasts : (shelf : S) → m.shelves.tells → is_up shelf → OnlyLeaves (m.shelves.contents shelf) (m.shelves.may_leave shelf)) (held : MembersHold is_up m.shelves.contents members (openings_of floors) shelves)
-    (taken : AreTakenUpBelow m.disks disk_faults (greatest_counter floors) disks (greatest + 1) desks) (eras_are : council ≡ opening_council (majority_era 0 members) (union_of used members)) (callers_are : callers ≡ replicate (greatest + 1) unbegun) (flow_is : flow ≡ empty_flow)
+    (taken : AreTakenUpBelow m.disks disk_faults (greatest_counter floors) disks (last_proposer + 1) desks) (eras_are : council ≡ opening_council (majority_era 0 members) (union_of used members)) (callers_are : callers ≡ replicate (last_proposer + 1) unbegun) (flow_is : flow ≡ empty_flow)
     (marks : book.marks ≡ map (λ (floor : OpeningFloor). mark_of (opening_of floor)) floors) where
-  pub is_opening_on : IsOpeningOn m members (union_of used members) (openings_of floors) (view_of greatest council (placed members 0 shelves) desks callers flow book)
+  pub is_opening_on : IsOpeningOn m members (union_of used members) (openings_of floors) (view_of last_proposer council (placed members 0 shelves) desks callers flow book)
   is_opening_on = record {
     eras = ap (λ (c : Council). c.eras.0) eras_are;
     council = ap council_view eras_are;
@@ -180,24 +180,24 @@ module _ {S V : Type 0} (m : Meaning S V) (is_up : S → Type 0) (disk_faults : 
         (let low : id < length desks = slice_get_within desks id desk at in
         let found = taken.each id desk at in
         (omega (arith, low, taken.places), open_desk m disk_faults floors id found.0 desk found.2));
-    callers = fresh_callers (greatest + 1) callers callers_are;
+    callers = fresh_callers (last_proposer + 1) callers callers_are;
     flow = flow_is;
     marks = marks ∙ marks_are floors;
     room = omega (arith, ap (λ (l : List Mark). length l) marks, length-map floors (λ (floor : OpeningFloor). mark_of (opening_of floor)), few_marks);
   }
 
-  pub has_places_on : HasPlaces (view_of greatest council (placed members 0 shelves) desks callers flow book)
+  pub has_places_on : HasPlaces (view_of last_proposer council (placed members 0 shelves) desks callers flow book)
   has_places_on = record {
     acceptors = placed_places members 0 shelves ∙ all_shelves;
     desks = omega (arith, taken.places);
-    callers = omega (arith, length-map callers caller_view, ap (λ (l : List Caller). length l) callers_are, length-replicate (greatest + 1) unbegun);
+    callers = omega (arith, length-map callers caller_view, ap (λ (l : List Caller). length l) callers_are, length-replicate (last_proposer + 1) unbegun);
   }
 
-  pub is_world_on : IsWorld m (view_of greatest council (placed members 0 shelves) desks callers flow book) callers book.room
+  pub is_world_on : IsWorld m (view_of last_proposer council (placed members 0 shelves) desks callers flow book) callers book.room
   is_world_on = record {
-    safe = opens_on_are_safe m members (union_of used members) (openings_of floors) (view_of greatest council (placed members 0 shelves) desks callers flow book) is_opening_on has_places_on;
-    remembered = λ shelves_tell disks_tell. remembered_on m shelves_tell disks_tell members (union_of used members) (openings_of floors) (view_of greatest council (placed members 0 shelves) desks callers flow book) is_opening_on;
-    room = omega (arith, none_reserved (map caller_view callers) (fresh_callers (greatest + 1) callers callers_are), ap (λ (c : Council). reserved_by (council_view c)) eras_are);
+    safe = opens_on_are_safe m members (union_of used members) (openings_of floors) (view_of last_proposer council (placed members 0 shelves) desks callers flow book) is_opening_on has_places_on;
+    remembered = λ shelves_tell disks_tell. remembered_on m shelves_tell disks_tell members (union_of used members) (openings_of floors) (view_of last_proposer council (placed members 0 shelves) desks callers flow book) is_opening_on;
+    room = omega (arith, none_reserved (map caller_view callers) (fresh_callers (last_proposer + 1) callers callers_are), ap (λ (c : Council). reserved_by (council_view c)) eras_are);
     copies = λ id desk caller at_desk at_caller.
         (let found = taken.each id desk at_desk in
         subst (λ (r : Option Round). HasCopies r caller.call) (sym (ap (λ (d : DeskView V). d.round) found.2.is)) tt);
@@ -213,7 +213,7 @@ placed_shelves members number [] = refl
 placed_shelves {S} members number (shelf ∷ shelves) = shelf_placed (has_member members number) number shelf (placed members (suc number) shelves) ∙ ap (λ (l : List S). shelf ∷ l) (placed_shelves members (suc number) shelves)
 
 -- as many disks are there as came in
-pub none_lost_on : {V : Type 0} (m : DiskMeaning V) (seen : V → List ℕ) (faults : V → ℕ) (past : ℕ) (disks : List V) (greatest : ℕ) (fault : OpenFault) (desks : List (DeskView V)) (left : List V) → greatest < length disks
-    → AVaultIsNotTakenUp m seen faults past disks greatest fault desks left → length desks + length left ≡ length disks
-none_lost_on {V} m seen faults past disks greatest fault desks left low fails =
+pub none_lost_on : {V : Type 0} (m : DiskMeaning V) (seen : V → List ℕ) (faults : V → ℕ) (past : ℕ) (disks : List V) (last_proposer : ℕ) (fault : OpenFault) (desks : List (DeskView V)) (left : List V) → last_proposer < length disks
+    → AVaultIsNotTakenUp m seen faults past disks last_proposer fault desks left → length desks + length left ≡ length disks
+none_lost_on {V} m seen faults past disks last_proposer fault desks left low fails =
     omega (arith, low, fails.to, fails.made.places, ap (λ (l : List V). length l) fails.rest, length-drop (fails.number + 1) disks)

@@ -138,15 +138,15 @@ module _ {V : Type 0} (m : DiskMeaning V) (faults : V → ℕ) (disks : List V) 
   }
 
 -- as many disks are there as came in
-pub none_lost : {S V : Type 0} (m : Meaning S V) (shelf_faults : S → ℕ) (disk_faults : V → ℕ) (count greatest : ℕ) (old : List (AcceptorView S)) (disks : List V) (fault : OpenFault) (acceptors : List (AcceptorView S)) (desks : List (DeskView V)) (left : List V)
-    → greatest < length disks → SomeDiskFails m shelf_faults disk_faults count greatest old disks fault acceptors desks left → length desks + length left ≡ length disks
-none_lost {S} {V} m shelf_faults disk_faults count greatest old disks fault acceptors desks left low (opening.a_shelf fails none same) =
+pub none_lost : {S V : Type 0} (m : Meaning S V) (shelf_faults : S → ℕ) (disk_faults : V → ℕ) (count last_proposer : ℕ) (old : List (AcceptorView S)) (disks : List V) (fault : OpenFault) (acceptors : List (AcceptorView S)) (desks : List (DeskView V)) (left : List V)
+    → last_proposer < length disks → SomeDiskFails m shelf_faults disk_faults count last_proposer old disks fault acceptors desks left → length desks + length left ≡ length disks
+none_lost {S} {V} m shelf_faults disk_faults count last_proposer old disks fault acceptors desks left low (opening.a_shelf fails none same) =
     omega (arith, ap (λ (l : List (DeskView V)). length l) none, ap (λ (l : List V). length l) same)
-none_lost {S} {V} m shelf_faults disk_faults count greatest old disks fault acceptors desks left low (opening.a_disk starts fails) =
+none_lost {S} {V} m shelf_faults disk_faults count last_proposer old disks fault acceptors desks left low (opening.a_disk starts fails) =
     omega (arith, low, fails.to, fails.made.places, ap (λ (l : List V). length l) fails.rest, length-drop (fails.number + 1) disks)
 
 -- and as many acceptors
-pub none_lost_either : {S V : Type 0} (m : Meaning S V) (shelf_faults : S → ℕ) (disk_faults : V → ℕ) (count greatest : ℕ) (old : List (AcceptorView S)) (disks : List V) (fault : OpenFault) (acceptors : List (AcceptorView S)) (desks : List (DeskView V)) (left : List V)
-    → SomeDiskFails m shelf_faults disk_faults count greatest old disks fault acceptors desks left → length acceptors ≡ length old
-none_lost_either m shelf_faults disk_faults count greatest old disks fault acceptors desks left (opening.a_shelf fails none same) = fails.places
-none_lost_either m shelf_faults disk_faults count greatest old disks fault acceptors desks left (opening.a_disk starts fails) = starts.places
+pub none_lost_either : {S V : Type 0} (m : Meaning S V) (shelf_faults : S → ℕ) (disk_faults : V → ℕ) (count last_proposer : ℕ) (old : List (AcceptorView S)) (disks : List V) (fault : OpenFault) (acceptors : List (AcceptorView S)) (desks : List (DeskView V)) (left : List V)
+    → SomeDiskFails m shelf_faults disk_faults count last_proposer old disks fault acceptors desks left → length acceptors ≡ length old
+none_lost_either m shelf_faults disk_faults count last_proposer old disks fault acceptors desks left (opening.a_shelf fails none same) = fails.places
+none_lost_either m shelf_faults disk_faults count last_proposer old disks fault acceptors desks left (opening.a_disk starts fails) = starts.places

@@ -279,13 +279,13 @@ copies_closed {V} desks callers id now none were p d caller at_d at_caller = eli
 abbrev pub crashed_caller : Caller → OpenCall → Caller
 crashed_caller caller call = record caller { call = Some (record (over call (crash_answer (is_some call.proposed))) { is_closed = true }) }
 
-pub crash_closes : {S V : Type 0} (m : Meaning S V) (greatest : ℕ) (council : Council) (acceptors : List (AcceptorView S)) (desks : List (DeskView V)) (callers : List Caller) (flow : FlowView) (book : Book) (id : ℕ) (desk now : DeskView V) (round : Round) (caller : Caller) (call : OpenCall)
+pub crash_closes : {S V : Type 0} (m : Meaning S V) (last_proposer : ℕ) (council : Council) (acceptors : List (AcceptorView S)) (desks : List (DeskView V)) (callers : List Caller) (flow : FlowView) (book : Book) (id : ℕ) (desk now : DeskView V) (round : Round) (caller : Caller) (call : OpenCall)
     → IsAt desks id desk → IsAt callers id caller → caller.call ≡ Some call → desk.round ≡ Some round → Crashes m.disks desk now
-    → CrashesDesk m (view_of greatest council acceptors desks callers flow book) id (view_of greatest council acceptors (slice_set desks id now) (slice_set callers id (crashed_caller caller call)) (abandoned flow id) book)
-crash_closes {S} {V} m greatest council acceptors desks callers flow book id desk now round caller call at_desk at_caller is_open is_round by =
+    → CrashesDesk m (view_of last_proposer council acceptors desks callers flow book) id (view_of last_proposer council acceptors (slice_set desks id now) (slice_set callers id (crashed_caller caller call)) (abandoned flow id) book)
+crash_closes {S} {V} m last_proposer council acceptors desks callers flow book id desk now round caller call at_desk at_caller is_open is_round by =
     stops.closes desk now round (record { caller = caller_view caller; at_caller = at_map caller_view callers id caller at_caller; call = call_view call; is_open = ap (λ (o : Option OpenCall). option_map call_view o) is_open })
     at_desk is_round by
-    (ap (λ (l : List CallerView). record (view_of greatest council acceptors (slice_set desks id now) callers (abandoned flow id) book) { callers = l }) (map_set caller_view callers id (crashed_caller caller call)))
+    (ap (λ (l : List CallerView). record (view_of last_proposer council acceptors (slice_set desks id now) callers (abandoned flow id) book) { callers = l }) (map_set caller_view callers id (crashed_caller caller call)))
 
 pub crash_idle : {S V : Type 0} (m : Meaning S V) (old : View S V) (id : ℕ) (desk now : DeskView V) → IsAt old.desks id desk → desk.round ≡ None → Crashes m.disks desk now
     → CrashesDesk m old id (record (with_desk old id now) { flow = abandoned old.flow id })

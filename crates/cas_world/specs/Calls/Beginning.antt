@@ -1,5 +1,6 @@
 -- A call, or another round of it, begins.
-use Rattle.std.specs.Prelude.{◌≡◌, ◌⊎◌, ℕ, ◌+◌, ◌-◌, ◌^◌, Bool, true, false, List, [], ◌∷◌, ◌++◌, take, drop, sum_by, Option, Some, None, IsSome, option_map, Result, Ok, Err}
+pub use Rattle.cas_record.specs.Answers.{is_refusal}
+use Rattle.std.specs.Prelude.{◌≡◌, ◌⊎◌, ℕ, ◌+◌, ◌-◌, ◌^◌, true, false, List, [], ◌∷◌, ◌++◌, take, drop, sum_by, Option, Some, None, IsSome, option_map, Result, Ok, Err}
 use Rattle.cas_ballot.specs.declared.ballot.Ballot.{Ballot}
 use Rattle.cas_cache.specs.declared.ready.Ready.{Ready}
 use Rattle.cas_change.specs.declared.program.Clause.{Clause}
@@ -139,12 +140,6 @@ pub record HasNoCall {S V : Type 0} (view : View S V) (id : ℕ) : Type 0 where
   pub caller : CallerView
   pub at_caller : IsAt view.callers id caller
   pub none_open : caller.call ≡ None
-
--- the answers with which a new call is not begun
-abbrev pub is_refusal : Answer → Bool
-is_refusal answer.RecordFull = true
-is_refusal (answer.NoMemory proposed) = true
-is_refusal other = false
 
 -- the call begins or goes on, and its round is open or its caller is told why not; or a new call is not begun, and where it would have
 -- proposed anew the key that is due the operator's call is told the same

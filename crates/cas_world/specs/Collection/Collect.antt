@@ -140,7 +140,7 @@ pub record GoesOnCollecting {S V : Type 0} (old new : View S V) : Type 0 where
 -- member for the key, at or below the floor, is too old for it.
 pub record AreFloorsPassed {S V : Type 0} (m : Meaning S V) (view : View S V) : Type 0 where
   pub proposers : (key : List ℕ) (floor : Ballot) (id : ℕ) (desk : DeskView V) → HasFloor key floor (reverse view.marks) → IsAt view.desks id desk → IsPastFloor m desk key floor
-  pub members : (key : List ℕ) (floor : Ballot) (proposer id : ℕ) (acceptor : AcceptorView S) → HasFloor key floor (reverse view.marks) → proposer ≤ view.greatest
+  pub members : (key : List ℕ) (floor : Ballot) (proposer id : ℕ) (acceptor : AcceptorView S) → HasFloor key floor (reverse view.marks) → proposer ≤ view.last_proposer
       → (has_member (era_at view proposer).prep id ≡ true) ⊎ (has_member (era_at view proposer).acc id ≡ true) → IsAt view.acceptors id acceptor → acceptor.down ≡ false
       → (left : Contents) → m.shelves.may_leave acceptor.shelf (Ok left) → IsNoneOrAbove floor (accepted_ballot (accepted_at left key))
   pub requests : (key : List ℕ) (floor : Ballot) (id : ℕ) (acceptor : AcceptorView S) (request : Request) (left : Contents) → HasFloor key floor (reverse view.marks) → IsMemberUp view id acceptor → IsUnderWay view (message.Request request)

@@ -48,10 +48,10 @@ abbrev pub abandoned_at : ℕ → FlowView → FlowView
 abandoned_at zero flow = abandoned flow exchange_place
 abandoned_at (suc id) flow = flow
 
-pub data MarksMove (greatest id : ℕ) (next : Era) (moved : Result ⊤ VaultError) (old new : cluster.Council) (eras eras_now : List Era) (flow flow_now : FlowView) (before after : Book) (result : Result ⊤ OpAnswer) : Type 0 where
-  moves : (plan : PlanView) → moved ≡ Ok tt → old.plan ≡ Some plan → new ≡ record (hushed old) { plan = Some (plan_after greatest plan next) } → eras_now ≡ slice_set eras id next → flow_now ≡ flow
-      → after.marks ≡ before.marks ++ EraEntered id next.number ∷ [] → after.room + 1 ≡ before.room → result ≡ Ok tt → MarksMove greatest id next moved old new eras eras_now flow flow_now before after result
+pub data MarksMove (last_proposer id : ℕ) (next : Era) (moved : Result ⊤ VaultError) (old new : cluster.Council) (eras eras_now : List Era) (flow flow_now : FlowView) (before after : Book) (result : Result ⊤ OpAnswer) : Type 0 where
+  moves : (plan : PlanView) → moved ≡ Ok tt → old.plan ≡ Some plan → new ≡ record (hushed old) { plan = Some (plan_after last_proposer plan next) } → eras_now ≡ slice_set eras id next → flow_now ≡ flow
+      → after.marks ≡ before.marks ++ EraEntered id next.number ∷ [] → after.room + 1 ≡ before.room → result ≡ Ok tt → MarksMove last_proposer id next moved old new eras eras_now flow flow_now before after result
   fails : moved ≡ Err error.VaultFault → new ≡ telling (crash_at id old) (op.ProposerDown id) → eras_now ≡ eras → flow_now ≡ abandoned_at id flow → after ≡ before → result ≡ Err (op.ProposerDown id)
-      → MarksMove greatest id next moved old new eras eras_now flow flow_now before after result
+      → MarksMove last_proposer id next moved old new eras eras_now flow flow_now before after result
   no_memory : moved ≡ Err error.NoMemory → new ≡ telling old (op.Stopped (answer.NoMemory false)) → eras_now ≡ eras → flow_now ≡ flow → after ≡ before → result ≡ Err (op.Stopped (answer.NoMemory false))
-      → MarksMove greatest id next moved old new eras eras_now flow flow_now before after result
+      → MarksMove last_proposer id next moved old new eras eras_now flow flow_now before after result

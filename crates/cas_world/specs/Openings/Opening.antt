@@ -97,9 +97,9 @@ pub record AreDesksBelow {V : Type 0} (m : DiskMeaning V) (faults : V → ℕ) (
   pub each : (id : ℕ) (desk : DeskView V) → IsAt desks id desk → (disk : V) × IsAt disks id disk × IsDeskOver m faults id disk desk
 
 -- those of the proposers below one up to this; the disk of that one did not start, and stands before those that are left
-pub record AVaultFails {V : Type 0} (m : DiskMeaning V) (faults : V → ℕ) (disks : List V) (greatest : ℕ) (fault : OpenFault) (desks : List (DeskView V)) (left : List V) : Type 0 where
+pub record AVaultFails {V : Type 0} (m : DiskMeaning V) (faults : V → ℕ) (disks : List V) (last_proposer : ℕ) (fault : OpenFault) (desks : List (DeskView V)) (left : List V) : Type 0 where
   pub number : ℕ
-  pub to : number ≤ greatest
+  pub to : number ≤ last_proposer
   pub made : AreDesksBelow m faults disks number desks
   pub disk : V
   pub at_disk : IsAt disks number disk
@@ -110,18 +110,18 @@ pub record AVaultFails {V : Type 0} (m : DiskMeaning V) (faults : V → ℕ) (di
 
 -- ---- all of them
 -- the members have started, and so have the vaults of the proposers, and the disks that no proposer uses are left
-pub record AllStart {S V : Type 0} (m : Meaning S V) (shelf_faults : S → ℕ) (disk_faults : V → ℕ) (count greatest : ℕ) (old : List (AcceptorView S)) (disks : List V) (acceptors : List (AcceptorView S)) (desks : List (DeskView V)) (left : List V) : Type 0 where
+pub record AllStart {S V : Type 0} (m : Meaning S V) (shelf_faults : S → ℕ) (disk_faults : V → ℕ) (count last_proposer : ℕ) (old : List (AcceptorView S)) (disks : List V) (acceptors : List (AcceptorView S)) (desks : List (DeskView V)) (left : List V) : Type 0 where
   pub members : AreStartedBelow m.shelves shelf_faults old (count + 1) acceptors
-  pub made : AreDesksBelow m.disks disk_faults disks (greatest + 1) desks
-  pub rest : left ≡ drop (greatest + 1) disks
+  pub made : AreDesksBelow m.disks disk_faults disks (last_proposer + 1) desks
+  pub rest : left ≡ drop (last_proposer + 1) disks
 
 -- a member did not start, and no vault was touched; or the members have started, and a vault did not
-pub data SomeDiskFails {S V : Type 0} (m : Meaning S V) (shelf_faults : S → ℕ) (disk_faults : V → ℕ) (count greatest : ℕ) (old : List (AcceptorView S)) (disks : List V) (fault : OpenFault) (acceptors : List (AcceptorView S)) (desks : List (DeskView V)) (left : List V) : Type 0 where
-  a_shelf : AMemberFails m.shelves shelf_faults old count fault acceptors → desks ≡ [] → left ≡ disks → SomeDiskFails m shelf_faults disk_faults count greatest old disks fault acceptors desks left
-  a_disk : AreStartedBelow m.shelves shelf_faults old (count + 1) acceptors → AVaultFails m.disks disk_faults disks greatest fault desks left → SomeDiskFails m shelf_faults disk_faults count greatest old disks fault acceptors desks left
+pub data SomeDiskFails {S V : Type 0} (m : Meaning S V) (shelf_faults : S → ℕ) (disk_faults : V → ℕ) (count last_proposer : ℕ) (old : List (AcceptorView S)) (disks : List V) (fault : OpenFault) (acceptors : List (AcceptorView S)) (desks : List (DeskView V)) (left : List V) : Type 0 where
+  a_shelf : AMemberFails m.shelves shelf_faults old count fault acceptors → desks ≡ [] → left ≡ disks → SomeDiskFails m shelf_faults disk_faults count last_proposer old disks fault acceptors desks left
+  a_disk : AreStartedBelow m.shelves shelf_faults old (count + 1) acceptors → AVaultFails m.disks disk_faults disks last_proposer fault desks left → SomeDiskFails m shelf_faults disk_faults count last_proposer old disks fault acceptors desks left
 
 -- Why a world is not opened, and what comes back: each shelf and each disk in its place, those that were not reached as they were.
-pub data DoesNotOpen {S V : Type 0} (m : Meaning S V) (shelf_faults : S → ℕ) (disk_faults : V → ℕ) (count greatest : ℕ) (shelves : List S) (disks : List V) (fault : OpenFault) (shelves_back : List S) (disks_back : List V) : Type 0 where
-  nothing_touched : fault ≡ NoMemory → shelves_back ≡ shelves → disks_back ≡ disks → DoesNotOpen m shelf_faults disk_faults count greatest shelves disks fault shelves_back disks_back
-  some_fails : (acceptors : List (AcceptorView S)) (desks : List (DeskView V)) (left : List V) → SomeDiskFails m shelf_faults disk_faults count greatest (unstarted 0 shelves) disks fault acceptors desks left
-      → shelves_back ≡ shelves_of acceptors → disks_back ≡ disks_of desks ++ left → DoesNotOpen m shelf_faults disk_faults count greatest shelves disks fault shelves_back disks_back
+pub data DoesNotOpen {S V : Type 0} (m : Meaning S V) (shelf_faults : S → ℕ) (disk_faults : V → ℕ) (count last_proposer : ℕ) (shelves : List S) (disks : List V) (fault : OpenFault) (shelves_back : List S) (disks_back : List V) : Type 0 where
+  nothing_touched : fault ≡ NoMemory → shelves_back ≡ shelves → disks_back ≡ disks → DoesNotOpen m shelf_faults disk_faults count last_proposer shelves disks fault shelves_back disks_back
+  some_fails : (acceptors : List (AcceptorView S)) (desks : List (DeskView V)) (left : List V) → SomeDiskFails m shelf_faults disk_faults count last_proposer (unstarted 0 shelves) disks fault acceptors desks left
+      → shelves_back ≡ shelves_of acceptors → disks_back ≡ disks_of desks ++ left → DoesNotOpen m shelf_faults disk_faults count last_proposer shelves disks fault shelves_back disks_back

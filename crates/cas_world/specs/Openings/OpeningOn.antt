@@ -84,9 +84,9 @@ pub record AreTakenUpBelow {V : Type 0} (m : DiskMeaning V) (faults : V → ℕ)
   pub each : (id : ℕ) (desk : DeskView V) → IsAt desks id desk → (disk : V) × IsAt disks id disk × IsTakenUpOver m faults past id disk desk
 
 -- those of the proposers below one up to this; the disk of that one was not taken up, and stands before those that are left
-pub record AVaultIsNotTakenUp {V : Type 0} (m : DiskMeaning V) (seen : V → List ℕ) (faults : V → ℕ) (past : ℕ) (disks : List V) (greatest : ℕ) (fault : OpenFault) (desks : List (DeskView V)) (left : List V) : Type 0 where
+pub record AVaultIsNotTakenUp {V : Type 0} (m : DiskMeaning V) (seen : V → List ℕ) (faults : V → ℕ) (past : ℕ) (disks : List V) (last_proposer : ℕ) (fault : OpenFault) (desks : List (DeskView V)) (left : List V) : Type 0 where
   pub number : ℕ
-  pub to : number ≤ greatest
+  pub to : number ≤ last_proposer
   pub made : AreTakenUpBelow m faults past disks number desks
   pub disk : V
   pub at_disk : IsAt disks number disk
@@ -96,7 +96,7 @@ pub record AVaultIsNotTakenUp {V : Type 0} (m : DiskMeaning V) (seen : V → Lis
   pub rest : left ≡ now ∷ drop (number + 1) disks
 
 -- Why a world is not opened, and what comes back: each shelf as it was, and each disk in its place, those that were not reached as they were.
-pub data DoesNotGoOn {S V : Type 0} (m : DiskMeaning V) (seen : V → List ℕ) (faults : V → ℕ) (past greatest : ℕ) (shelves : List S) (disks : List V) (fault : OpenFault) (shelves_back : List S) (disks_back : List V) : Type 0 where
-  none_touched : fault ≡ NoMemory → shelves_back ≡ shelves → disks_back ≡ disks → DoesNotGoOn m seen faults past greatest shelves disks fault shelves_back disks_back
-  one_refused : (desks : List (DeskView V)) (left : List V) → AVaultIsNotTakenUp m seen faults past disks greatest fault desks left → shelves_back ≡ shelves → disks_back ≡ disks_of desks ++ left
-      → DoesNotGoOn m seen faults past greatest shelves disks fault shelves_back disks_back
+pub data DoesNotGoOn {S V : Type 0} (m : DiskMeaning V) (seen : V → List ℕ) (faults : V → ℕ) (past last_proposer : ℕ) (shelves : List S) (disks : List V) (fault : OpenFault) (shelves_back : List S) (disks_back : List V) : Type 0 where
+  none_touched : fault ≡ NoMemory → shelves_back ≡ shelves → disks_back ≡ disks → DoesNotGoOn m seen faults past last_proposer shelves disks fault shelves_back disks_back
+  one_refused : (desks : List (DeskView V)) (left : List V) → AVaultIsNotTakenUp m seen faults past disks last_proposer fault desks left → shelves_back ≡ shelves → disks_back ≡ disks_of desks ++ left
+      → DoesNotGoOn m seen faults past last_proposer shelves disks fault shelves_back disks_back

@@ -34,14 +34,14 @@ use Rattle.casreg_script.proofs.Frames.Straying.{lets_under_way}
 
 -- ---- the others
 pub record KeepsOthers {S V : Type 0} (old new : View S V) (id : ℕ) : Type 0 where
-  pub greatest : new.greatest ≡ old.greatest
+  pub last_proposer : new.last_proposer ≡ old.last_proposer
   pub others : (p : ℕ) → p ≢ id → slice_get new.callers p ≡ slice_get old.callers p
   -- all that the operator has under way stays, where no exchange is open
   pub council : old.council.exchange ≡ None → new.council ≡ old.council
 
 -- a call that begins or ends leaves it where the operator has no open call
 pub record LeavesOthers {S V : Type 0} (old new : View S V) (id : ℕ) : Type 0 where
-  pub greatest : new.greatest ≡ old.greatest
+  pub last_proposer : new.last_proposer ≡ old.last_proposer
   pub others : (p : ℕ) → p ≢ id → slice_get new.callers p ≡ slice_get old.callers p
   pub council : IsAtRest old.council → new.council ≡ old.council
 
@@ -50,12 +50,12 @@ pub stays_quiet : {old new : Council} → new ≡ old → IsAtRest old → IsAtR
 stays_quiet same was = subst IsAtRest (sym same) was
 
 -- one caller changes
-sets : {S V : Type 0} (old new : View S V) (id : ℕ) (next : CallerView) → new.greatest ≡ old.greatest → new.callers ≡ slice_set old.callers id next → new.council ≡ old.council → KeepsOthers old new id
-sets old new id next greatest callers council = record { greatest = greatest; council = λ quiet. council; others = λ p other. ap (λ (l : List CallerView). slice_get l p) callers ∙ get_other old.callers id next p other }
+sets : {S V : Type 0} (old new : View S V) (id : ℕ) (next : CallerView) → new.last_proposer ≡ old.last_proposer → new.callers ≡ slice_set old.callers id next → new.council ≡ old.council → KeepsOthers old new id
+sets old new id next last_proposer callers council = record { last_proposer = last_proposer; council = λ quiet. council; others = λ p other. ap (λ (l : List CallerView). slice_get l p) callers ∙ get_other old.callers id next p other }
 
 -- none does
-stays : {S V : Type 0} (old new : View S V) (id : ℕ) → new.greatest ≡ old.greatest → new.callers ≡ old.callers → new.council ≡ old.council → KeepsOthers old new id
-stays old new id greatest callers council = record { greatest = greatest; council = λ quiet. council; others = λ p other. ap (λ (l : List CallerView). slice_get l p) callers }
+stays : {S V : Type 0} (old new : View S V) (id : ℕ) → new.last_proposer ≡ old.last_proposer → new.callers ≡ old.callers → new.council ≡ old.council → KeepsOthers old new id
+stays old new id last_proposer callers council = record { last_proposer = last_proposer; council = λ quiet. council; others = λ p other. ap (λ (l : List CallerView). slice_get l p) callers }
 
 -- so none is open then
 pub quiet_then : {S V : Type 0} (old new : View S V) (id : ℕ) → KeepsOthers old new id → old.council.exchange ≡ None → new.council.exchange ≡ None
@@ -63,36 +63,36 @@ quiet_then old new id keeps quiet = ap (λ (c : Council). c.exchange) (keeps.cou
 
 pub both : {S V : Type 0} (old mid new : View S V) (id : ℕ) → KeepsOthers old mid id → KeepsOthers mid new id → KeepsOthers old new id
 both old mid new id before after = record {
-  greatest = after.greatest ∙ before.greatest;
+  last_proposer = after.last_proposer ∙ before.last_proposer;
   others = λ p other. after.others p other ∙ before.others p other;
   council = λ quiet. after.council (quiet_then old mid id before quiet) ∙ before.council quiet;
 }
 
 then_leaves : {S V : Type 0} (old mid new : View S V) (id : ℕ) → KeepsOthers old mid id → LeavesOthers mid new id → LeavesOthers old new id
 then_leaves old mid new id before after = record {
-  greatest = after.greatest ∙ before.greatest;
+  last_proposer = after.last_proposer ∙ before.last_proposer;
   others = λ p other. after.others p other ∙ before.others p other;
   council = λ rest. after.council (stays_quiet (before.council rest.exchange) rest) ∙ before.council rest.exchange;
 }
 
 same : {S V : Type 0} (old : View S V) (id : ℕ) → KeepsOthers old old id
-same old id = record { greatest = refl; others = λ p other. refl; council = λ quiet. refl }
+same old id = record { last_proposer = refl; others = λ p other. refl; council = λ quiet. refl }
 
 -- ---- the calls of a caller
 pub begin_keeps : {S V : Type 0} (m : Meaning S V) (old new : View S V) (id : ℕ) (key : List ℕ) (program : List Clause) → StepBegin m old id key program new → KeepsOthers old new id
 begin_keeps {S} {V} m old new id key program by = both old by.middle new id (opens by.opens) (in_round by.begins)
   where
     opens : calls.Opens old id key program by.middle → KeepsOthers old by.middle id
-    opens (calls.first was at none room is) = sets old by.middle id _ (ap (λ (w : View S V). w.greatest) is) (ap (λ (w : View S V). w.callers) is) (ap (λ (w : View S V). w.council) is)
-    opens (calls.again was open_call reserved at open_is key_is program_is none met no_round room some is) = sets old by.middle id _ (ap (λ (w : View S V). w.greatest) is) (ap (λ (w : View S V). w.callers) is) (ap (λ (w : View S V). w.council) is)
+    opens (calls.first was at none room is) = sets old by.middle id _ (ap (λ (w : View S V). w.last_proposer) is) (ap (λ (w : View S V). w.callers) is) (ap (λ (w : View S V). w.council) is)
+    opens (calls.again was open_call reserved at open_is key_is program_is none met no_round room some is) = sets old by.middle id _ (ap (λ (w : View S V). w.last_proposer) is) (ap (λ (w : View S V). w.callers) is) (ap (λ (w : View S V). w.council) is)
 
     in_round : calls.BeginsRound m by.middle id by.caller by.call new → KeepsOthers by.middle new id
-    in_round (calls.prepares desk now ballot round flow at up few begins sends is) = stays by.middle new id (ap (λ (w : View S V). w.greatest) is) (ap (λ (w : View S V). w.callers) is) (ap (λ (w : View S V). w.council) is)
-    in_round (calls.proposes desk now ready ride round outcome flow at up few begins made sends is) = sets by.middle new id _ (ap (λ (w : View S V). w.greatest) is) (ap (λ (w : View S V). w.callers) is) (ap (λ (w : View S V). w.council) is)
-    in_round (calls.stays told no_beginning no_round full is) = sets by.middle new id _ (ap (λ (w : View S V). w.greatest) is) (ap (λ (w : View S V). w.callers) is) (ap (λ (w : View S V). w.council) is)
-    in_round (calls.spent desk now at none up no_promise spent kept now_is is) = sets by.middle new id _ (ap (λ (w : View S V). w.greatest) is) (ap (λ (w : View S V). w.callers) is) (ap (λ (w : View S V). w.council) is)
-    in_round (calls.fails desk now at none up fails is) = sets by.middle new id _ (ap (λ (w : View S V). w.greatest) is) (ap (λ (w : View S V). w.callers) is) (ap (λ (w : View S V). w.council) is)
-    in_round (calls.loses desk now ballot at none up loses is) = sets by.middle new id _ (ap (λ (w : View S V). w.greatest) is) (ap (λ (w : View S V). w.callers) is) (ap (λ (w : View S V). w.council) is)
+    in_round (calls.prepares desk now ballot round flow at up few begins sends is) = stays by.middle new id (ap (λ (w : View S V). w.last_proposer) is) (ap (λ (w : View S V). w.callers) is) (ap (λ (w : View S V). w.council) is)
+    in_round (calls.proposes desk now ready ride round outcome flow at up few begins made sends is) = sets by.middle new id _ (ap (λ (w : View S V). w.last_proposer) is) (ap (λ (w : View S V). w.callers) is) (ap (λ (w : View S V). w.council) is)
+    in_round (calls.stays told no_beginning no_round full is) = sets by.middle new id _ (ap (λ (w : View S V). w.last_proposer) is) (ap (λ (w : View S V). w.callers) is) (ap (λ (w : View S V). w.council) is)
+    in_round (calls.spent desk now at none up no_promise spent kept now_is is) = sets by.middle new id _ (ap (λ (w : View S V). w.last_proposer) is) (ap (λ (w : View S V). w.callers) is) (ap (λ (w : View S V). w.council) is)
+    in_round (calls.fails desk now at none up fails is) = sets by.middle new id _ (ap (λ (w : View S V). w.last_proposer) is) (ap (λ (w : View S V). w.callers) is) (ap (λ (w : View S V). w.council) is)
+    in_round (calls.loses desk now ballot at none up loses is) = sets by.middle new id _ (ap (λ (w : View S V). w.last_proposer) is) (ap (λ (w : View S V). w.callers) is) (ap (λ (w : View S V). w.council) is)
 
 -- a key is proposed anew within a call of the operator
 at_rest_stays : {old new : Council} {id : ℕ} {key : List ℕ} {answer : Answer} → calls.Rescans old id key answer new → IsAtRest old → new ≡ old
@@ -102,12 +102,12 @@ at_rest_stays (calls.is_none other is) rest = is
 
 no_begin_leaves : {S V : Type 0} (m : Meaning S V) (old new : View S V) (id : ℕ) (key : List ℕ) → calls.RefusesCall m old id key new → LeavesOthers old new id
 no_begin_leaves {S} {V} m old new id key (calls.stays told council refusal anew is) = record {
-  greatest = ap (λ (w : View S V). w.greatest) is;
+  last_proposer = ap (λ (w : View S V). w.last_proposer) is;
   others = λ p other. ap (λ (w : View S V). slice_get w.callers p) is;
   council = λ rest. ap (λ (w : View S V). w.council) is ∙ at_rest_stays anew rest;
 }
 no_begin_leaves {S} {V} m old new id key (calls.loses caller desk now ballot council at_caller at_desk none up loses anew is) = record {
-  greatest = ap (λ (w : View S V). w.greatest) is;
+  last_proposer = ap (λ (w : View S V). w.last_proposer) is;
   others = λ p other. ap (λ (w : View S V). slice_get w.callers p) is;
   council = λ rest. ap (λ (w : View S V). w.council) is ∙ at_rest_stays anew rest;
 }
@@ -116,46 +116,46 @@ pub turn_keeps : {S V : Type 0} (m : Meaning S V) (old new : View S V) (id : ℕ
 turn_keeps {S} {V} m old new id v by = in_turn by.of_call by.front by.turn
   where
     in_turn : (of_call : OpenCallAt old id) (front : Message) → frames.TakesTurn m old id v front of_call.caller of_call.call new → KeepsOthers old new id
-    in_turn at front (frames.held fall is) = stays old new id (ap (λ (w : View S V). w.greatest) is) (ap (λ (w : View S V). w.callers) is) (ap (λ (w : View S V). w.council) is)
-    in_turn at front (frames.gone fall is) = sets old new id _ (ap (λ (w : View S V). w.greatest) is) (ap (λ (w : View S V). w.callers) is) (ap (λ (w : View S V). w.council) is)
-    in_turn at front (frames.answers request acceptor now reply fall front_is there table is) = sets old new id _ (ap (λ (w : View S V). w.greatest) is) (ap (λ (w : View S V). w.callers) is) (ap (λ (w : View S V). w.council) is)
-    in_turn at front (frames.finds_down request acceptor fall front_is there down is) = sets old new id _ (ap (λ (w : View S V). w.greatest) is) (ap (λ (w : View S V). w.callers) is) (ap (λ (w : View S V). w.council) is)
-    in_turn at front (frames.brings_down request acceptor now fall front_is there stops is) = sets old new id _ (ap (λ (w : View S V). w.greatest) is) (ap (λ (w : View S V). w.callers) is) (ap (λ (w : View S V). w.council) is)
-    in_turn at front (frames.arrives reply desk now round heard fall front_is there is_round hears is) = sets old new id _ (ap (λ (w : View S V). w.greatest) is) (ap (λ (w : View S V). w.callers) is) (ap (λ (w : View S V). w.council) is)
+    in_turn at front (frames.held fall is) = stays old new id (ap (λ (w : View S V). w.last_proposer) is) (ap (λ (w : View S V). w.callers) is) (ap (λ (w : View S V). w.council) is)
+    in_turn at front (frames.gone fall is) = sets old new id _ (ap (λ (w : View S V). w.last_proposer) is) (ap (λ (w : View S V). w.callers) is) (ap (λ (w : View S V). w.council) is)
+    in_turn at front (frames.answers request acceptor now reply fall front_is there table is) = sets old new id _ (ap (λ (w : View S V). w.last_proposer) is) (ap (λ (w : View S V). w.callers) is) (ap (λ (w : View S V). w.council) is)
+    in_turn at front (frames.finds_down request acceptor fall front_is there down is) = sets old new id _ (ap (λ (w : View S V). w.last_proposer) is) (ap (λ (w : View S V). w.callers) is) (ap (λ (w : View S V). w.council) is)
+    in_turn at front (frames.brings_down request acceptor now fall front_is there stops is) = sets old new id _ (ap (λ (w : View S V). w.last_proposer) is) (ap (λ (w : View S V). w.callers) is) (ap (λ (w : View S V). w.council) is)
+    in_turn at front (frames.arrives reply desk now round heard fall front_is there is_round hears is) = sets old new id _ (ap (λ (w : View S V). w.last_proposer) is) (ap (λ (w : View S V). w.callers) is) (ap (λ (w : View S V). w.council) is)
 
 no_room_keeps : {S V : Type 0} (m : Meaning S V) (old new : View S V) (id : ℕ) → frames.FindsNoRoom m old new → KeepsOthers old new id
-no_room_keeps {S} {V} m old new id (frames.stays is) = stays old new id (ap (λ (w : View S V). w.greatest) is) (ap (λ (w : View S V). w.callers) is) (ap (λ (w : View S V). w.council) is)
-no_room_keeps {S} {V} m old new id (frames.kept at acceptor now there finds is) = stays old new id (ap (λ (w : View S V). w.greatest) is) (ap (λ (w : View S V). w.callers) is) (ap (λ (w : View S V). w.council) is)
+no_room_keeps {S} {V} m old new id (frames.stays is) = stays old new id (ap (λ (w : View S V). w.last_proposer) is) (ap (λ (w : View S V). w.callers) is) (ap (λ (w : View S V). w.council) is)
+no_room_keeps {S} {V} m old new id (frames.kept at acceptor now there finds is) = stays old new id (ap (λ (w : View S V). w.last_proposer) is) (ap (λ (w : View S V). w.callers) is) (ap (λ (w : View S V). w.council) is)
 
 pub refuse_keeps : {S V : Type 0} (m : Meaning S V) (old new : View S V) (id : ℕ) → StepRefuseTurn m old id new → KeepsOthers old new id
-refuse_keeps {S} {V} m old new id by = both old by.middle new id (no_room_keeps m old by.middle id by.refuses) (sets by.middle new id _ (ap (λ (w : View S V). w.greatest) by.view) (ap (λ (w : View S V). w.callers) by.view) (ap (λ (w : View S V). w.council) by.view))
+refuse_keeps {S} {V} m old new id by = both old by.middle new id (no_room_keeps m old by.middle id by.refuses) (sets by.middle new id _ (ap (λ (w : View S V). w.last_proposer) by.view) (ap (λ (w : View S V). w.callers) by.view) (ap (λ (w : View S V). w.council) by.view))
 
 pub propose_keeps : {S V : Type 0} (m : Meaning S V) (old new : View S V) (id : ℕ) → StepPropose m old id new → KeepsOthers old new id
 propose_keeps {S} {V} m old new id by = in_phase by.at_round.of_call by.at_round.desk by.at_round.round by.proposes
   where
     in_phase : (of_call : OpenCallAt old id) (desk : DeskView V) (round : Round) → calls.ProposesOrEnds m old id desk round of_call.caller of_call.call new → KeepsOthers old new id
-    in_phase at desk round (calls.proposes now turned read by ride outcome flow quorum confirmers reads turns made sends is) = sets old new id _ (ap (λ (w : View S V). w.greatest) is) (ap (λ (w : View S V). w.callers) is) (ap (λ (w : View S V). w.council) is)
-    in_phase at desk round (calls.ends now verdict told verdict_is refuses ends is) = sets old new id _ (ap (λ (w : View S V). w.greatest) is) (ap (λ (w : View S V). w.callers) is) (ap (λ (w : View S V). w.council) is)
-    in_phase at desk round (calls.fails now fails is) = sets old new id _ (ap (λ (w : View S V). w.greatest) is) (ap (λ (w : View S V). w.callers) is) (ap (λ (w : View S V). w.council) is)
-    in_phase at desk round (calls.loses now ballot loses is) = sets old new id _ (ap (λ (w : View S V). w.greatest) is) (ap (λ (w : View S V). w.callers) is) (ap (λ (w : View S V). w.council) is)
+    in_phase at desk round (calls.proposes now turned read by ride outcome flow quorum confirmers reads turns made sends is) = sets old new id _ (ap (λ (w : View S V). w.last_proposer) is) (ap (λ (w : View S V). w.callers) is) (ap (λ (w : View S V). w.council) is)
+    in_phase at desk round (calls.ends now verdict told verdict_is refuses ends is) = sets old new id _ (ap (λ (w : View S V). w.last_proposer) is) (ap (λ (w : View S V). w.callers) is) (ap (λ (w : View S V). w.council) is)
+    in_phase at desk round (calls.fails now fails is) = sets old new id _ (ap (λ (w : View S V). w.last_proposer) is) (ap (λ (w : View S V). w.callers) is) (ap (λ (w : View S V). w.council) is)
+    in_phase at desk round (calls.loses now ballot loses is) = sets old new id _ (ap (λ (w : View S V). w.last_proposer) is) (ap (λ (w : View S V). w.callers) is) (ap (λ (w : View S V). w.council) is)
 
 pub count_keeps : {S V : Type 0} (m : Meaning S V) (old new : View S V) (id : ℕ) → StepCount m old id new → KeepsOthers old new id
 count_keeps {S} {V} m old new id by = in_phase by.at_round.of_call by.at_round.desk by.at_round.round by.counts
   where
     in_phase : (of_call : OpenCallAt old id) (desk : DeskView V) (round : Round) → calls.CountsOrEnds m old id desk round of_call.caller of_call.call new → KeepsOthers old new id
-    in_phase at desk round (calls.counts now by outcome quorum confirmers proposed ends is) = sets old new id _ (ap (λ (w : View S V). w.greatest) is) (ap (λ (w : View S V). w.callers) is) (ap (λ (w : View S V). w.council) is)
-    in_phase at desk round (calls.ends now verdict why verdict_is cause ends is) = sets old new id _ (ap (λ (w : View S V). w.greatest) is) (ap (λ (w : View S V). w.callers) is) (ap (λ (w : View S V). w.council) is)
+    in_phase at desk round (calls.counts now by outcome quorum confirmers proposed ends is) = sets old new id _ (ap (λ (w : View S V). w.last_proposer) is) (ap (λ (w : View S V). w.callers) is) (ap (λ (w : View S V). w.council) is)
+    in_phase at desk round (calls.ends now verdict why verdict_is cause ends is) = sets old new id _ (ap (λ (w : View S V). w.last_proposer) is) (ap (λ (w : View S V). w.callers) is) (ap (λ (w : View S V). w.council) is)
 
 pub end_leaves : {S V : Type 0} (m : Meaning S V) (old new : View S V) (id : ℕ) (told : Answer) → StepEnd m old id told new → LeavesOthers old new id
 end_leaves {S} {V} m old new id told by = record {
-  greatest = ap (λ (w : View S V). w.greatest) by.ends.view;
+  last_proposer = ap (λ (w : View S V). w.last_proposer) by.ends.view;
   others = λ p other. ap (λ (w : View S V). slice_get w.callers p) by.ends.view ∙ get_other old.callers id _ p other;
   council = λ rest. ap (λ (w : View S V). w.council) by.ends.view ∙ at_rest_stays by.ends.rescans rest;
 }
 
 desk_crash_keeps : {S V : Type 0} (m : Meaning S V) (old new : View S V) (id : ℕ) → CrashesDesk m old id new → KeepsOthers old new id
-desk_crash_keeps {S} {V} m old new id (stops.idle desk now at none crashes is) = stays old new id (ap (λ (w : View S V). w.greatest) is) (ap (λ (w : View S V). w.callers) is) (ap (λ (w : View S V). w.council) is)
-desk_crash_keeps {S} {V} m old new id (stops.closes desk now round at there is_round crashes is) = sets old new id _ (ap (λ (w : View S V). w.greatest) is) (ap (λ (w : View S V). w.callers) is) (ap (λ (w : View S V). w.council) is)
+desk_crash_keeps {S} {V} m old new id (stops.idle desk now at none crashes is) = stays old new id (ap (λ (w : View S V). w.last_proposer) is) (ap (λ (w : View S V). w.callers) is) (ap (λ (w : View S V). w.council) is)
+desk_crash_keeps {S} {V} m old new id (stops.closes desk now round at there is_round crashes is) = sets old new id _ (ap (λ (w : View S V). w.last_proposer) is) (ap (λ (w : View S V). w.callers) is) (ap (λ (w : View S V). w.council) is)
 
 -- no exchange is broken off where none is open
 none_broken : (council : Council) → council.exchange ≡ None → crashed_in council ≡ council
@@ -163,7 +163,7 @@ none_broken council quiet = λ i. record council { exchange = (ap (option_map br
 
 breaks_off : {S V : Type 0} (old new : View S V) (id : ℕ) → new ≡ broken_off_view old → KeepsOthers old new id
 breaks_off {S} {V} old new id is = record {
-  greatest = ap (λ (w : View S V). w.greatest) is;
+  last_proposer = ap (λ (w : View S V). w.last_proposer) is;
   others = λ p other. ap (λ (w : View S V). slice_get w.callers p) is;
   council = λ quiet. ap (λ (w : View S V). w.council) is ∙ none_broken old.council quiet;
 }
@@ -232,7 +232,7 @@ pub others_through : {S V : Type 0} (m : Meaning S V) (id : ℕ) → HoldsThroug
 others_through m id = record {
   stays = λ old. same old id;
   joins = λ old mid new. both old mid new id;
-  lets = λ old new keeps. stays old new id keeps.greatest keeps.callers keeps.council;
+  lets = λ old new keeps. stays old new id keeps.last_proposer keeps.callers keeps.council;
   turn = λ old new verdict. turn_keeps m old new id verdict;
   refuse = λ old new. refuse_keeps m old new id;
   crash = λ old new. crash_keeps m old new id;
@@ -260,25 +260,25 @@ still_none old new id leaves own p was = elim (true_or_false (nat_eq p id)) [
 ]
 
 pub idle_then : {S V : Type 0} (old new : View S V) (id : ℕ) → LeavesOthers old new id → AllIdle old → HasNoCall new id → AllIdle new
-idle_then old new id leaves idle own p low = still_none old new id leaves own p (idle p (subst (λ (g : ℕ). p ≤ g) leaves.greatest low))
+idle_then old new id leaves idle own p low = still_none old new id leaves own p (idle p (subst (λ (g : ℕ). p ≤ g) leaves.last_proposer low))
 
 pub all_idle : {S V : Type 0} (old new : View S V) → KeepsIdle old new → AllIdle old → AllIdle new
-all_idle old new keeps idle p low = keeps.idle p (idle p (subst (λ (g : ℕ). p ≤ g) keeps.greatest low))
+all_idle old new keeps idle p low = keeps.idle p (idle p (subst (λ (g : ℕ). p ≤ g) keeps.last_proposer low))
 
 -- no caller changes
 pub record KeepsCallers {S V : Type 0} (old new : View S V) : Type 0 where
-  pub greatest : new.greatest ≡ old.greatest
+  pub last_proposer : new.last_proposer ≡ old.last_proposer
   pub callers : new.callers ≡ old.callers
   pub council : IsAtRest old.council → new.council ≡ old.council
 
-pub still_idle : {S V : Type 0} (old new : View S V) → new.greatest ≡ old.greatest → new.callers ≡ old.callers → AllIdle old → AllIdle new
-still_idle old new greatest callers idle p low =
-    let was = idle p (subst (λ (g : ℕ). p ≤ g) greatest low) in
+pub still_idle : {S V : Type 0} (old new : View S V) → new.last_proposer ≡ old.last_proposer → new.callers ≡ old.callers → AllIdle old → AllIdle new
+still_idle old new last_proposer callers idle p low =
+    let was = idle p (subst (λ (g : ℕ). p ≤ g) last_proposer low) in
     record { caller = was.caller; at_caller = ap (λ (l : List CallerView). slice_get l p) callers ∙ was.at_caller; none_open = was.none_open }
 
-by_view : {S V : Type 0} (old changed new : View S V) → new ≡ changed → changed.greatest ≡ old.greatest → changed.callers ≡ old.callers → changed.council ≡ old.council → KeepsCallers old new
-by_view {S} {V} old changed new is greatest callers council = record {
-  greatest = ap (λ (w : View S V). w.greatest) is ∙ greatest;
+by_view : {S V : Type 0} (old changed new : View S V) → new ≡ changed → changed.last_proposer ≡ old.last_proposer → changed.callers ≡ old.callers → changed.council ≡ old.council → KeepsCallers old new
+by_view {S} {V} old changed new is last_proposer callers council = record {
+  last_proposer = ap (λ (w : View S V). w.last_proposer) is ∙ last_proposer;
   callers = ap (λ (w : View S V). w.callers) is ∙ callers;
   council = λ rest. ap (λ (w : View S V). w.council) is ∙ council;
 }
@@ -304,19 +304,19 @@ pub proposer_keeps : {S V : Type 0} (m : Meaning S V) (old new : View S V) (id :
 proposer_keeps m old new id answer (events.restarts result by tells) = desk_step m old new id by
 
 -- a proposer that crashes between two calls
-desk_between : {S V : Type 0} (m : Meaning S V) (old new : View S V) (id : ℕ) → id ≤ old.greatest → AllIdle old → CrashesDesk m old id new → KeepsCallers old new
+desk_between : {S V : Type 0} (m : Meaning S V) (old new : View S V) (id : ℕ) → id ≤ old.last_proposer → AllIdle old → CrashesDesk m old id new → KeepsCallers old new
 desk_between m old new id low idle (stops.idle desk now at none crashes is) = by_view old _ new is refl refl refl
 desk_between m old new id low idle (stops.closes desk now round at there is_round crashes is) =
     let was = idle id low in
     absurd (cc (sym was.none_open ∙ ap (λ (c : CallerView). c.call) (at_one old.callers id was.at_caller at.at_caller) ∙ at.is_open))
 
-pub crash_between : {S V : Type 0} (m : Meaning S V) (old new : View S V) (id : ℕ) → id ≤ old.greatest → AllIdle old → StepCrashProposer m old id new → KeepsCallers old new
+pub crash_between : {S V : Type 0} (m : Meaning S V) (old new : View S V) (id : ℕ) → id ≤ old.last_proposer → AllIdle old → StepCrashProposer m old id new → KeepsCallers old new
 crash_between m old new id low idle (stops.of_client client crashes) = desk_between m old new id low idle crashes
 crash_between {S} {V} m old new id low idle (stops.of_operator middle operator crashes is) =
     let before = desk_between m old middle id low idle crashes in
     let after = breaks_off middle new id is in
     record {
-      greatest = after.greatest ∙ before.greatest;
+      last_proposer = after.last_proposer ∙ before.last_proposer;
       callers = ap (λ (w : View S V). w.callers) is ∙ before.callers;
       council = λ rest. after.council (stays_quiet (before.council rest) rest).exchange ∙ before.council rest;
     }

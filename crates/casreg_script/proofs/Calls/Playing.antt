@@ -234,16 +234,16 @@ end_closes {S} {V} m old new id told by = record {
 }
 
 -- ---- none of them makes a proposer more
-pub turn_greatest : {S V : Type 0} (m : Meaning S V) (old new : View S V) (id : ℕ) (v : Verdict) → StepTurn m old id v new → new.greatest ≡ old.greatest
+pub turn_greatest : {S V : Type 0} (m : Meaning S V) (old new : View S V) (id : ℕ) (v : Verdict) → StepTurn m old id v new → new.last_proposer ≡ old.last_proposer
 turn_greatest {S} {V} m old new id v by = in_turn by.of_call by.front by.turn
   where
-    in_turn : (of_call : OpenCallAt old id) (front : Message) → frames.TakesTurn m old id v front of_call.caller of_call.call new → new.greatest ≡ old.greatest
-    in_turn at front (frames.held fall same) = ap (λ (w : View S V). w.greatest) same
-    in_turn at front (frames.gone fall same) = ap (λ (w : View S V). w.greatest) same
-    in_turn at front (frames.answers request acceptor now reply fall is there table same) = ap (λ (w : View S V). w.greatest) same
-    in_turn at front (frames.finds_down request acceptor fall is there down same) = ap (λ (w : View S V). w.greatest) same
-    in_turn at front (frames.brings_down request acceptor now fall is there stops same) = ap (λ (w : View S V). w.greatest) same
-    in_turn at front (frames.arrives reply desk now round heard fall is there is_round hears same) = ap (λ (w : View S V). w.greatest) same
+    in_turn : (of_call : OpenCallAt old id) (front : Message) → frames.TakesTurn m old id v front of_call.caller of_call.call new → new.last_proposer ≡ old.last_proposer
+    in_turn at front (frames.held fall same) = ap (λ (w : View S V). w.last_proposer) same
+    in_turn at front (frames.gone fall same) = ap (λ (w : View S V). w.last_proposer) same
+    in_turn at front (frames.answers request acceptor now reply fall is there table same) = ap (λ (w : View S V). w.last_proposer) same
+    in_turn at front (frames.finds_down request acceptor fall is there down same) = ap (λ (w : View S V). w.last_proposer) same
+    in_turn at front (frames.brings_down request acceptor now fall is there stops same) = ap (λ (w : View S V). w.last_proposer) same
+    in_turn at front (frames.arrives reply desk now round heard fall is there is_round hears same) = ap (λ (w : View S V). w.last_proposer) same
 
 pub no_begin_idle : {S V : Type 0} (m : Meaning S V) (old new : View S V) (id : ℕ) (key : List ℕ) → calls.RefusesCall m old id key new → HasNoCall old id → HasNoCall new id
 no_begin_idle {S} {V} m old new id key (calls.stays told council refusal anew same) none =

@@ -36,32 +36,32 @@ use Rattle.casreg_script.proofs.Eras.Rescanning.{told_stays}
 -- ---- what its call leaves to the others
 -- all but caller 0 keep their calls
 pub record KeepsClients {S V : Type 0} (old new : View S V) : Type 0 where
-  pub greatest : new.greatest ≡ old.greatest
+  pub last_proposer : new.last_proposer ≡ old.last_proposer
   pub others : (p : ℕ) → p ≢ 0 → slice_get new.callers p ≡ slice_get old.callers p
 
 clients_join : {S V : Type 0} (old mid new : View S V) → KeepsClients old mid → KeepsClients mid new → KeepsClients old new
-clients_join old mid new before after = record { greatest = after.greatest ∙ before.greatest; others = λ p other. after.others p other ∙ before.others p other }
+clients_join old mid new before after = record { last_proposer = after.last_proposer ∙ before.last_proposer; others = λ p other. after.others p other ∙ before.others p other }
 
 of_others : {S V : Type 0} (old new : View S V) → KeepsOthers old new 0 → KeepsClients old new
-of_others old new keeps = record { greatest = keeps.greatest; others = keeps.others }
+of_others old new keeps = record { last_proposer = keeps.last_proposer; others = keeps.others }
 
-same_callers : {S V : Type 0} (old new : View S V) → new.greatest ≡ old.greatest → new.callers ≡ old.callers → KeepsClients old new
-same_callers old new greatest callers = record { greatest = greatest; others = λ p other. ap (λ (l : List CallerView). slice_get l p) callers }
+same_callers : {S V : Type 0} (old new : View S V) → new.last_proposer ≡ old.last_proposer → new.callers ≡ old.callers → KeepsClients old new
+same_callers old new last_proposer callers = record { last_proposer = last_proposer; others = λ p other. ap (λ (l : List CallerView). slice_get l p) callers }
 
 refused_clients : {S V : Type 0} (m : Meaning S V) (old new : View S V) (key : List ℕ) → calls.RefusesCall m old 0 key new → KeepsClients old new
-refused_clients {S} {V} m old new key (calls.stays told council refusal anew is) = same_callers old new (ap (λ (w : View S V). w.greatest) is) (ap (λ (w : View S V). w.callers) is)
-refused_clients {S} {V} m old new key (calls.loses caller desk now ballot council at_caller at_desk none up loses anew is) = same_callers old new (ap (λ (w : View S V). w.greatest) is) (ap (λ (w : View S V). w.callers) is)
+refused_clients {S} {V} m old new key (calls.stays told council refusal anew is) = same_callers old new (ap (λ (w : View S V). w.last_proposer) is) (ap (λ (w : View S V). w.callers) is)
+refused_clients {S} {V} m old new key (calls.loses caller desk now ballot council at_caller at_desk none up loses anew is) = same_callers old new (ap (λ (w : View S V). w.last_proposer) is) (ap (λ (w : View S V). w.callers) is)
 
 begin_clients : {S V : Type 0} (m : Meaning S V) (old new : View S V) (key : List ℕ) → Step m old (BeginCollect key) new → KeepsClients old new
 begin_clients {S} {V} m old new key by = by_case by.begins
   where
-    after : (middle changed : View S V) → KeepsClients old middle → new ≡ changed → changed.greatest ≡ middle.greatest → changed.callers ≡ middle.callers → KeepsClients old new
-    after middle changed before is greatest callers = clients_join old middle new before (same_callers middle new (ap (λ (w : View S V). w.greatest) is ∙ greatest) (ap (λ (w : View S V). w.callers) is ∙ callers))
+    after : (middle changed : View S V) → KeepsClients old middle → new ≡ changed → changed.last_proposer ≡ middle.last_proposer → changed.callers ≡ middle.callers → KeepsClients old new
+    after middle changed before is last_proposer callers = clients_join old middle new before (same_callers middle new (ap (λ (w : View S V). w.last_proposer) is ∙ last_proposer) (ap (λ (w : View S V). w.callers) is ∙ callers))
 
     by_case : BeginsCollection m (λ before next. StepBegin m before 0 key keep_always next) old key by.may.order by.desk by.caller new → KeepsClients old new
-    by_case (collects.is_down none down is) = same_callers old new (ap (λ (w : View S V). w.greatest) is) (ap (λ (w : View S V). w.callers) is)
-    by_case (collects.is_busy plan none up is_plan is) = same_callers old new (ap (λ (w : View S V). w.greatest) is) (ap (λ (w : View S V). w.callers) is)
-    by_case (collects.is_full none up no_plan full is) = same_callers old new (ap (λ (w : View S V). w.greatest) is) (ap (λ (w : View S V). w.callers) is)
+    by_case (collects.is_down none down is) = same_callers old new (ap (λ (w : View S V). w.last_proposer) is) (ap (λ (w : View S V). w.callers) is)
+    by_case (collects.is_busy plan none up is_plan is) = same_callers old new (ap (λ (w : View S V). w.last_proposer) is) (ap (λ (w : View S V). w.callers) is)
+    by_case (collects.is_full none up no_plan full is) = same_callers old new (ap (λ (w : View S V). w.last_proposer) is) (ap (λ (w : View S V). w.callers) is)
     by_case (collects.no_memory middle none up no_plan refuses is) = after middle _ (refused_clients m old middle key refuses) is refl refl
     by_case (collects.begins middle none no_plan begins is) = after middle _ (of_others old middle (begin_keeps m old middle 0 key keep_always begins)) is refl refl
     by_case (collects.goes_on middle call is_c is_call begins is) = after middle _ (of_others old middle (begin_keeps m old middle 0 key keep_always begins)) is refl refl
@@ -69,27 +69,27 @@ begin_clients {S} {V} m old new key by = by_case by.begins
 reading_clients : {S V : Type 0} (m : Meaning S V) (old new : View S V) → EndsReading m old new → KeepsClients old new
 reading_clients m old new (collections.proposes none by) = of_others old new (propose_keeps m old new 0 by)
 reading_clients {S} {V} m old new (collections.reads_held version found by) = record {
-  greatest = ap (λ (w : View S V). w.greatest) by.view;
+  last_proposer = ap (λ (w : View S V). w.last_proposer) by.view;
   others = λ p other. ap (λ (w : View S V). slice_get w.callers p) by.view ∙ get_other old.callers 0 (record by.of_call.caller { call = None }) p other;
 }
 
 voting_clients : {S V : Type 0} (m : Meaning S V) (old new : View S V) → EndsVoting m old new → KeepsClients old new
 voting_clients m old new (collections.leaves_open by told) = of_others old new (count_keeps m old new 0 by)
 voting_clients {S} {V} m old new (collections.acknowledges by) =
-    clients_join old by.middle new (of_others old by.middle (count_keeps m old by.middle 0 by.counts)) (same_callers by.middle new (ap (λ (w : View S V). w.greatest) by.view) (ap (λ (w : View S V). w.callers) by.view))
+    clients_join old by.middle new (of_others old by.middle (count_keeps m old by.middle 0 by.counts)) (same_callers by.middle new (ap (λ (w : View S V). w.last_proposer) by.view) (ap (λ (w : View S V). w.callers) by.view))
 
 end_clients : {S V : Type 0} (m : Meaning S V) (old new : View S V) (told : _) → Step m old (EndCollect told) new → KeepsClients old new
 end_clients {S} {V} m old new told by =
     let leaves = end_leaves m old by.middle 0 told by.ends in
-    clients_join old by.middle new (record { greatest = leaves.greatest; others = leaves.others }) (same_callers by.middle new (ap (λ (w : View S V). w.greatest) by.view) (ap (λ (w : View S V). w.callers) by.view))
+    clients_join old by.middle new (record { last_proposer = leaves.last_proposer; others = leaves.others }) (same_callers by.middle new (ap (λ (w : View S V). w.last_proposer) by.view) (ap (λ (w : View S V). w.callers) by.view))
 
 rounds_clients : {S V : Type 0} (m : Meaning S V) {net next : NetworkView} (key : List ℕ) (tries : ℕ) (halt after : Halt) (old new : View S V) → AreTombstoneRounds m key tries net halt old next after new → KeepsClients old new
 rounds_clients {S} {V} m key tries halt after old new by =
     rounds_hold {Holds = λ before next. KeepsClients before next} (record {
       through = record {
-        stays = λ view. record { greatest = refl; others = λ p other. refl };
+        stays = λ view. record { last_proposer = refl; others = λ p other. refl };
         joins = clients_join;
-        lets = λ before next keeps. same_callers before next keeps.greatest keeps.callers;
+        lets = λ before next keeps. same_callers before next keeps.last_proposer keeps.callers;
         turn = λ before next verdict turns. of_others before next (turn_keeps m before next 0 verdict turns);
         refuse = λ before next fails. of_others before next (refuse_keeps m before next 0 fails);
         crash = λ before next crashes. of_others before next (crash_keeps m before next 0 crashes);
@@ -100,7 +100,7 @@ rounds_clients {S} {V} m key tries halt after old new by =
     }) tries halt after old new by
 
 idle_by : {S V : Type 0} (old new : View S V) → KeepsClients old new → HasNoCall new 0 → KeepsIdle old new
-idle_by {S} {V} old new keeps own = record { greatest = keeps.greatest; idle = idle }
+idle_by {S} {V} old new keeps own = record { last_proposer = keeps.last_proposer; idle = idle }
   where
     idle : (p : ℕ) → HasNoCall old p → HasNoCall new p
     idle p was = elim (true_or_false (nat_eq p 0)) [
@@ -168,9 +168,9 @@ as_gather_round m old new key was by = subst (λ (o : Option ExchangeView). Step
 pub gather_round_idle : {S V : Type 0} (old new : View S V) → StepGatherRound old new → KeepsIdle old new
 gather_round_idle {S} {V} old new by = by_case by.gathers
   where
-    idle_of : (changed : View S V) → new ≡ changed → changed.greatest ≡ old.greatest → changed.callers ≡ old.callers → KeepsIdle old new
-    idle_of changed is greatest callers = record {
-      greatest = ap (λ (w : View S V). w.greatest) is ∙ greatest;
+    idle_of : (changed : View S V) → new ≡ changed → changed.last_proposer ≡ old.last_proposer → changed.callers ≡ old.callers → KeepsIdle old new
+    idle_of changed is last_proposer callers = record {
+      last_proposer = ap (λ (w : View S V). w.last_proposer) is ∙ last_proposer;
       idle = λ p was. record { caller = was.caller; at_caller = ap (λ (w : View S V). slice_get w.callers p) is ∙ ap (λ (l : List CallerView). slice_get l p) callers ∙ was.at_caller; none_open = was.none_open };
     }
 
@@ -190,7 +190,7 @@ round_due old new key result was (world.confirmed exchange collection removed ke
 -- ---- the floor
 pub floor_idle : {S V : Type 0} (old new : View S V) → StepMakeFloor old new → KeepsIdle old new
 floor_idle {S} {V} old new by = record {
-  greatest = ap (λ (w : View S V). w.greatest) by.view;
+  last_proposer = ap (λ (w : View S V). w.last_proposer) by.view;
   idle = λ p was. record { caller = was.caller; at_caller = ap (λ (w : View S V). slice_get w.callers p) by.view ∙ was.at_caller; none_open = was.none_open };
 }
 
@@ -199,30 +199,30 @@ pub renew_idle : {S V : Type 0} (m : Meaning S V) (old new : View S V) (proposer
 renew_idle {S} {V} m old new proposer by = by_case by.renews
   where
     none_changes : KeepsIdle old old
-    none_changes = record { greatest = refl; idle = λ p was. was }
+    none_changes = record { last_proposer = refl; idle = λ p was. was }
 
     by_case : RenewsNext m old by.at proposer by.desk new → KeepsIdle old new
     by_case (collects.renews age middle leaves is) =
         let before = (leaves_idle old middle proposer leaves).keeps in
         record {
-          greatest = ap (λ (w : View S V). w.greatest) is ∙ before.greatest;
+          last_proposer = ap (λ (w : View S V). w.last_proposer) is ∙ before.last_proposer;
           idle = λ p was. let mid = before.idle p was in record { caller = mid.caller; at_caller = ap (λ (w : View S V). slice_get w.callers p) is ∙ mid.at_caller; none_open = mid.none_open };
         }
     by_case (collects.is_down down is) = told_idle old old new _ none_changes is
     by_case (collects.fails middle down is) = told_idle old middle new _ (down_idle old middle proposer down) is
     by_case (collects.is_spent up spent is) = told_idle old old new _ none_changes is
     by_case (collects.no_memory now up finds is) = record {
-      greatest = ap (λ (w : View S V). w.greatest) is;
+      last_proposer = ap (λ (w : View S V). w.last_proposer) is;
       idle = λ p was. record { caller = was.caller; at_caller = ap (λ (w : View S V). slice_get w.callers p) is ∙ was.at_caller; none_open = was.none_open };
     }
 
 -- how many renewals are left at most
 abbrev pub renewals_from : ℕ → Option ℕ → ℕ
-renewals_from greatest None = 0
-renewals_from greatest (Some proposer) = greatest + 1 - proposer
+renewals_from last_proposer None = 0
+renewals_from last_proposer (Some proposer) = last_proposer + 1 - proposer
 
 abbrev pub renewals_left : {S V : Type 0} → View S V → ℕ
-renewals_left view = renewals_from view.greatest (renewal_in view.council.collection)
+renewals_left view = renewals_from view.last_proposer (renewal_in view.council.collection)
 
 -- a renewal is due, or the members are to be told the new ages
 pub data IsRenewing {S V : Type 0} (view : View S V) (key : List ℕ) : Type 0 where
@@ -244,15 +244,15 @@ pub record RenewedSo {S V : Type 0} (old new : View S V) (key : List ℕ) : Type
   pub still : IsRenewing new key
   pub fewer : renewals_left new < renewals_left old
 
-pub renewed_so : {S V : Type 0} (old new : View S V) (key : List ℕ) (proposer : ℕ) → proposer ≤ old.greatest → IsDue old key (due.Renew proposer) → GoesOnCollecting old new → KeepsIdle old new → RenewedSo old new key
+pub renewed_so : {S V : Type 0} (old new : View S V) (key : List ℕ) (proposer : ℕ) → proposer ≤ old.last_proposer → IsDue old key (due.Renew proposer) → GoesOnCollecting old new → KeepsIdle old new → RenewedSo old new key
 renewed_so {S} {V} old new key proposer few was by idle = by_last (nat_lt proposer was.collection.course.proposers) (goes_due old new key (due.Renew proposer) was by (idle.idle 0 was.idle))
   where
-    before : renewals_left old ≡ old.greatest + 1 - proposer
-    before = ap (renewals_from old.greatest) (renewal_due old key (due.Renew proposer) was)
+    before : renewals_left old ≡ old.last_proposer + 1 - proposer
+    before = ap (renewals_from old.last_proposer) (renewal_due old key (due.Renew proposer) was)
 
     by_last : (more : Bool) → IsDue new key (if more then due.Renew (proposer + 1) else due.Ages) → RenewedSo old new key
-    by_last true now = record { still = renews (proposer + 1) now; fewer = omega (arith, few, before, idle.greatest, ap (renewals_from new.greatest) (renewal_due new key (due.Renew (proposer + 1)) now)) }
-    by_last false now = record { still = renewed now; fewer = omega (arith, few, before, ap (renewals_from new.greatest) (renewal_due new key due.Ages now)) }
+    by_last true now = record { still = renews (proposer + 1) now; fewer = omega (arith, few, before, idle.last_proposer, ap (renewals_from new.last_proposer) (renewal_due new key (due.Renew (proposer + 1)) now)) }
+    by_last false now = record { still = renewed now; fewer = omega (arith, few, before, ap (renewals_from new.last_proposer) (renewal_due new key due.Ages now)) }
 
 -- ---- all of them
 -- the steps up to one that is due
@@ -266,7 +266,7 @@ pub taken_then : {S V : Type 0} {m : Meaning S V} {net between next : NetworkVie
 taken_then key step led by = collections.one_more led.taken (goes_on_due _ key step led.now_due) by
 
 idle_join : {S V : Type 0} (old mid new : View S V) → KeepsIdle old mid → KeepsIdle mid new → KeepsIdle old new
-idle_join old mid new before after = record { greatest = after.greatest ∙ before.greatest; idle = λ id was. after.idle id (before.idle id was) }
+idle_join old mid new before after = record { last_proposer = after.last_proposer ∙ before.last_proposer; idle = λ id was. after.idle id (before.idle id was) }
 
 module _ {S V : Type 0} (m : Meaning S V) {net : NetworkView} (old new : View S V) (key : List ℕ) where
   pub led_round : (result : Gathered) → IsBuried old key → Step m old (gathering_of old) new → HasGathered old result new → HasLed m net old net new key (due.Renew 0)

@@ -45,7 +45,7 @@ takes_from old mid new goes takes = elim takes [ inl less ↦ inl (omega (arith,
 
 -- ---- a change
 pub change_idle : {S V : Type 0} (old new : View S V) (id : ℕ) → LeavesOthers old new id → HasNoCall new id → KeepsIdle old new
-change_idle old new id leaves own = record { greatest = leaves.greatest; idle = still_none old new id leaves own }
+change_idle old new id leaves own = record { last_proposer = leaves.last_proposer; idle = still_none old new id leaves own }
 
 pub rescanned_from : {S V : Type 0} (old new : View S V) (asked : Asked) (key : _) (answer : Answer) → IsUnderWay old asked → due_in old.council.plan ≡ Some key → is_done answer ≡ true → Rescans old.council 0 key answer new.council → Rescanned old new
 rescanned_from old new asked key answer was due done anew = is_rescanned old new key answer (is_rescan old asked key was due) done anew

@@ -46,9 +46,9 @@ pub record Opens {S V : Type 0} (old new : View S V) : Type 0 where
   pub calls : KeepsCalls old new
   pub exchange : new.council.exchange ≡ old.council.exchange
 
-opens_by : {S V : Type 0} (old changed new : View S V) → new ≡ changed → changed.greatest ≡ old.greatest → changed.callers ≡ old.callers → changed.council.exchange ≡ old.council.exchange → Opens old new
-opens_by {S} {V} old changed new is greatest callers exchange = record {
-  calls = record { greatest = ap (λ (w : View S V). w.greatest) is ∙ greatest; callers = ap (λ (w : View S V). w.callers) is ∙ callers };
+opens_by : {S V : Type 0} (old changed new : View S V) → new ≡ changed → changed.last_proposer ≡ old.last_proposer → changed.callers ≡ old.callers → changed.council.exchange ≡ old.council.exchange → Opens old new
+opens_by {S} {V} old changed new is last_proposer callers exchange = record {
+  calls = record { last_proposer = ap (λ (w : View S V). w.last_proposer) is ∙ last_proposer; callers = ap (λ (w : View S V). w.callers) is ∙ callers };
   exchange = ap (λ (w : View S V). w.council.exchange) is ∙ exchange;
 }
 
@@ -60,7 +60,7 @@ welcomes_keep m old new what (plans.stays id leaves is) = opens_by old old new i
 
 then_opens : {S V : Type 0} (old mid new : View S V) → Opens old mid → Opens mid new → Opens old new
 then_opens old mid new before after = record {
-  calls = record { greatest = after.calls.greatest ∙ before.calls.greatest; callers = after.calls.callers ∙ before.calls.callers };
+  calls = record { last_proposer = after.calls.last_proposer ∙ before.calls.last_proposer; callers = after.calls.callers ∙ before.calls.callers };
   exchange = after.exchange ∙ before.exchange;
 }
 
@@ -76,7 +76,7 @@ open_keeps {S} {V} m old new by = by_case by.opens
 
 -- ---- no memory for a key
 pub key_keeps : {S V : Type 0} (old new : View S V) → StepRefuseKey old new → KeepsCalls old new
-key_keeps {S} {V} old new by = record { greatest = ap (λ (w : View S V). w.greatest) by.view; callers = ap (λ (w : View S V). w.callers) by.view }
+key_keeps {S} {V} old new by = record { last_proposer = ap (λ (w : View S V). w.last_proposer) by.view; callers = ap (λ (w : View S V). w.callers) by.view }
 
 -- ---- an era is entered
 -- the proposer that is due is that of the plan
@@ -129,13 +129,13 @@ pub record LeavesIdle {S V : Type 0} (old new : View S V) : Type 0 where
 pub leaves_idle : {S V : Type 0} {D : DeskView V → DeskView V → Type 0} {closed : CallView → CallView} (old new : View S V) (id : ℕ) → LeavesRound D closed old id new → LeavesIdle old new
 leaves_idle {S} {V} old new id (stops.idle desk now at none_open turns is) = record {
   keeps = record {
-    greatest = ap (λ (w : View S V). w.greatest) is;
+    last_proposer = ap (λ (w : View S V). w.last_proposer) is;
     idle = λ p was. record { caller = was.caller; at_caller = ap (λ (w : View S V). slice_get w.callers p) is ∙ was.at_caller; none_open = was.none_open };
   };
   council = ap (λ (w : View S V). w.council) is;
 }
 leaves_idle {S} {V} {D} {closed} old new id (stops.closes desk now round of_call at is_round turns is) = record {
-  keeps = record { greatest = ap (λ (w : View S V). w.greatest) is; idle = idle };
+  keeps = record { last_proposer = ap (λ (w : View S V). w.last_proposer) is; idle = idle };
   council = ap (λ (w : View S V). w.council) is;
 }
   where
@@ -147,7 +147,7 @@ leaves_idle {S} {V} {D} {closed} old new id (stops.closes desk now round of_call
 
 pub told_idle : {S V : Type 0} (old middle new : View S V) (told : OpAnswer) → KeepsIdle old middle → new ≡ told_view middle told → KeepsIdle old new
 told_idle {S} {V} old middle new told before is = record {
-  greatest = ap (λ (w : View S V). w.greatest) is ∙ before.greatest;
+  last_proposer = ap (λ (w : View S V). w.last_proposer) is ∙ before.last_proposer;
   idle = λ p was. let mid = before.idle p was in record { caller = mid.caller; at_caller = ap (λ (w : View S V). slice_get w.callers p) is ∙ mid.at_caller; none_open = mid.none_open };
 }
 
@@ -156,7 +156,7 @@ down_idle old new id (stops.of_client client leaves) = (leaves_idle old new id l
 down_idle {S} {V} old new id (stops.of_operator middle operator leaves is) =
     let before = (leaves_idle old middle id leaves).keeps in
     record {
-      greatest = ap (λ (w : View S V). w.greatest) is ∙ before.greatest;
+      last_proposer = ap (λ (w : View S V). w.last_proposer) is ∙ before.last_proposer;
       idle = λ p was. let mid = before.idle p was in record { caller = mid.caller; at_caller = ap (λ (w : View S V). slice_get w.callers p) is ∙ mid.at_caller; none_open = mid.none_open };
     }
 
@@ -164,51 +164,51 @@ pub enter_idle : {S V : Type 0} (m : Meaning S V) (old new : View S V) (proposer
 enter_idle {S} {V} m old new proposer by = by_case by.enters
   where
     none_changes : KeepsIdle old old
-    none_changes = record { greatest = refl; idle = λ p was. was }
+    none_changes = record { last_proposer = refl; idle = λ p was. was }
 
     by_case : EntersNext m old by.plan by.next by.desk new → KeepsIdle old new
     by_case (plans.enters middle room leaves is) =
         let before = (leaves_idle old middle by.plan.entered leaves).keeps in
         record {
-          greatest = ap (λ (w : View S V). w.greatest) is ∙ before.greatest;
+          last_proposer = ap (λ (w : View S V). w.last_proposer) is ∙ before.last_proposer;
           idle = λ p was. let mid = before.idle p was in record { caller = mid.caller; at_caller = ap (λ (w : View S V). slice_get w.callers p) is ∙ mid.at_caller; none_open = mid.none_open };
         }
     by_case (plans.is_full full is) = told_idle old old new _ none_changes is
     by_case (plans.is_down room down is) = told_idle old old new _ none_changes is
     by_case (plans.fails middle room down is) = told_idle old middle new _ (down_idle old middle by.plan.entered down) is
     by_case (plans.no_memory now room up kept is_now is) = record {
-      greatest = ap (λ (w : View S V). w.greatest) is;
+      last_proposer = ap (λ (w : View S V). w.last_proposer) is;
       idle = λ p was. record { caller = was.caller; at_caller = ap (λ (w : View S V). slice_get w.callers p) is ∙ was.at_caller; none_open = was.none_open };
     }
 
 -- ---- the change goes on
 -- what is left: the proposers that have not entered the era, and the steps
 abbrev pub entries_of : ℕ → Option PlanView → ℕ
-entries_of greatest plan = (greatest + 2) * left_of plan + (greatest + 1 - entered_by plan)
+entries_of last_proposer plan = (last_proposer + 2) * left_of plan + (last_proposer + 1 - entered_by plan)
 
 abbrev pub entries_left : {S V : Type 0} → View S V → ℕ
-entries_left view = entries_of view.greatest view.council.plan
+entries_left view = entries_of view.last_proposer view.council.plan
 
 -- the next proposer is due, or the step is taken
-record After (greatest : ℕ) (plan next : PlanView) : Type 0 where
+record After (last_proposer : ℕ) (plan next : PlanView) : Type 0 where
   no_more : left_of (Some next) ≤ left_of (Some plan)
   takes : (left_of (Some next) < left_of (Some plan)) ⊎ IsSome (entrant_of (Some next))
-  fewer : entries_of greatest (Some next) < entries_of greatest (Some plan)
+  fewer : entries_of last_proposer (Some next) < entries_of last_proposer (Some plan)
 
-after_so : (greatest : ℕ) (plan : PlanView) (next : Era) → plan.entered ≤ greatest → entering plan.progress.left ≡ Some next → After greatest plan (plan_after greatest plan next)
-after_so greatest plan next few next_is = by_last (plan.entered == greatest)
+after_so : (last_proposer : ℕ) (plan : PlanView) (next : Era) → plan.entered ≤ last_proposer → entering plan.progress.left ≡ Some next → After last_proposer plan (plan_after last_proposer plan next)
+after_so last_proposer plan next few next_is = by_last (plan.entered == last_proposer)
   where
     fewer_left : (left : List PlanStep) → entering left ≡ Some next → suc (length (rest_of left)) ≤ length left
     fewer_left [] is = absurd (cc is)
     fewer_left (step ∷ later) is = omega arith
 
-    by_last : (b : Bool) → After greatest plan (if b then record plan { progress = record { era = next; left = rest_of plan.progress.left }; entered = 0; listing = None } else record plan { entered = suc plan.entered })
+    by_last : (b : Bool) → After last_proposer plan (if b then record plan { progress = record { era = next; left = rest_of plan.progress.left }; entered = 0; listing = None } else record plan { entered = suc plan.entered })
     by_last true =
         let less : suc (length (rest_of plan.progress.left)) ≤ length plan.progress.left = fewer_left plan.progress.left next_is in
         record {
           no_more = omega (arith, less);
           takes = inl (omega (arith, less));
-          fewer = omega (arith, less, mul-le-mul_left (greatest + 2) less);
+          fewer = omega (arith, less, mul-le-mul_left (last_proposer + 2) less);
         }
     by_last false = record {
       no_more = omega arith;
@@ -226,7 +226,7 @@ down_order : {S V : Type 0} {D : DeskView V → DeskView V → Type 0} (old new 
 down_order old new id (stops.of_client client leaves) = ap (λ (c : Council). c.order) (leaves_idle old new id leaves).council
 down_order {S} {V} old new id (stops.of_operator middle operator leaves is) = ap (λ (w : View S V). w.council.order) is ∙ ap (λ (c : Council). c.order) (leaves_idle old middle id leaves).council
 
-pub enters_so : {S V : Type 0} (m : Meaning S V) (old new : View S V) (proposer : ℕ) (what : Asked) → proposer ≤ old.greatest → IsUnderWay new what → StepEnterEra m old proposer new → Enters old new
+pub enters_so : {S V : Type 0} (m : Meaning S V) (old new : View S V) (proposer : ℕ) (what : Asked) → proposer ≤ old.last_proposer → IsUnderWay new what → StepEnterEra m old proposer new → Enters old new
 enters_so {S} {V} m old new proposer what few now by = by_case by.enters
   where
     -- nothing was told
@@ -235,25 +235,25 @@ enters_so {S} {V} m old new proposer what few now by = by_case by.enters
         let order : new.council.order ≡ Some (told_so told by.may.order) = ap (λ (w : View S V). w.council.order) is ∙ ap (option_map (told_so told)) (same ∙ by.may.is_open) in
         absurd (cc (ap (λ (o : OrderView). o.told) (some_is (sym order ∙ now.is_open)) ∙ now.untold))
 
-    so : After old.greatest by.plan (plan_after old.greatest by.plan by.next)
-    so = after_so old.greatest by.plan by.next (omega (arith, few, by.may.is_due)) (sym (ap next_era by.may.is_plan) ∙ by.may.is_next)
+    so : After old.last_proposer by.plan (plan_after old.last_proposer by.plan by.next)
+    so = after_so old.last_proposer by.plan by.next (omega (arith, few, by.may.is_due)) (sym (ap next_era by.may.is_plan) ∙ by.may.is_next)
 
-    goes_on : new.council.plan ≡ Some (plan_after old.greatest by.plan by.next) → new.greatest ≡ old.greatest → new.council.exchange ≡ old.council.exchange → Enters old new
-    goes_on plan greatest exchange = record {
+    goes_on : new.council.plan ≡ Some (plan_after old.last_proposer by.plan by.next) → new.last_proposer ≡ old.last_proposer → new.council.exchange ≡ old.council.exchange → Enters old new
+    goes_on plan last_proposer exchange = record {
       exchange = exchange;
       no_more = omega (arith, so.no_more, ap left_of plan, ap left_of by.may.is_plan);
       takes = elim so.takes [
         | inl less ↦ inl (omega (arith, less, ap left_of plan, ap left_of by.may.is_plan))
         | inr due ↦ inr (subst (λ (p : Option PlanView). IsSome (entrant_of p)) (sym plan) due)
       ];
-      fewer = subst (λ (n : ℕ). n < entries_left old) (sym (ap (λ (g : ℕ). entries_of g new.council.plan) greatest ∙ ap (entries_of old.greatest) plan))
-          (subst (λ (n : ℕ). entries_of old.greatest (Some (plan_after old.greatest by.plan by.next)) < n) (sym (ap (entries_of old.greatest) by.may.is_plan)) so.fewer);
+      fewer = subst (λ (n : ℕ). n < entries_left old) (sym (ap (λ (g : ℕ). entries_of g new.council.plan) last_proposer ∙ ap (entries_of old.last_proposer) plan))
+          (subst (λ (n : ℕ). entries_of old.last_proposer (Some (plan_after old.last_proposer by.plan by.next)) < n) (sym (ap (entries_of old.last_proposer) by.may.is_plan)) so.fewer);
     }
 
     by_case : EntersNext m old by.plan by.next by.desk new → Enters old new
     by_case (plans.enters middle room leaves is) =
         let before = leaves_idle old middle by.plan.entered leaves in
-        goes_on (ap (λ (w : View S V). w.council.plan) is ∙ ap (λ (n : ℕ). Some (plan_after n by.plan by.next)) before.keeps.greatest) (ap (λ (w : View S V). w.greatest) is ∙ before.keeps.greatest)
+        goes_on (ap (λ (w : View S V). w.council.plan) is ∙ ap (λ (n : ℕ). Some (plan_after n by.plan by.next)) before.keeps.last_proposer) (ap (λ (w : View S V). w.last_proposer) is ∙ before.keeps.last_proposer)
         (ap (λ (w : View S V). w.council.exchange) is ∙ ap (λ (c : Council). c.exchange) before.council)
     by_case (plans.is_full full is) = untold old _ refl is
     by_case (plans.is_down room down is) = untold old _ refl is

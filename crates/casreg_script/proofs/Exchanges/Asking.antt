@@ -51,26 +51,26 @@ use Rattle.casreg_script.proofs.Eras.Rescanning.{with_asked, settles_by, Settles
 use Rattle.casreg_script.proofs.Calls.Turns.{front_of, not_held, fewer_taken, fewer_answered, waits_near}
 
 -- ---- the calls of callers
-by_view : {S V : Type 0} (old changed new : View S V) → new ≡ changed → changed.greatest ≡ old.greatest → changed.callers ≡ old.callers → KeepsCalls old new
-by_view {S} {V} old changed new is greatest callers = record { greatest = ap (λ (w : View S V). w.greatest) is ∙ greatest; callers = ap (λ (w : View S V). w.callers) is ∙ callers }
+by_view : {S V : Type 0} (old changed new : View S V) → new ≡ changed → changed.last_proposer ≡ old.last_proposer → changed.callers ≡ old.callers → KeepsCalls old new
+by_view {S} {V} old changed new is last_proposer callers = record { last_proposer = ap (λ (w : View S V). w.last_proposer) is ∙ last_proposer; callers = ap (λ (w : View S V). w.callers) is ∙ callers }
 
 pub same_calls : {S V : Type 0} (old : View S V) → KeepsCalls old old
-same_calls old = record { greatest = refl; callers = refl }
+same_calls old = record { last_proposer = refl; callers = refl }
 
 pub both_calls : {S V : Type 0} (old mid new : View S V) → KeepsCalls old mid → KeepsCalls mid new → KeepsCalls old new
-both_calls old mid new before after = record { greatest = after.greatest ∙ before.greatest; callers = after.callers ∙ before.callers }
+both_calls old mid new before after = record { last_proposer = after.last_proposer ∙ before.last_proposer; callers = after.callers ∙ before.callers }
 
 pub keeps_idle : {S V : Type 0} (old new : View S V) → KeepsCalls old new → KeepsIdle old new
 keeps_idle old new keeps = record {
-  greatest = keeps.greatest;
+  last_proposer = keeps.last_proposer;
   idle = λ id was. record { caller = was.caller; at_caller = ap (λ (l : List CallerView). slice_get l id) keeps.callers ∙ was.at_caller; none_open = was.none_open };
 }
 
 pub same_idle : {S V : Type 0} (old : View S V) → KeepsIdle old old
-same_idle old = record { greatest = refl; idle = λ id was. was }
+same_idle old = record { last_proposer = refl; idle = λ id was. was }
 
 pub both_idle : {S V : Type 0} (old mid new : View S V) → KeepsIdle old mid → KeepsIdle mid new → KeepsIdle old new
-both_idle old mid new before after = record { greatest = after.greatest ∙ before.greatest; idle = λ id was. after.idle id (before.idle id was) }
+both_idle old mid new before after = record { last_proposer = after.last_proposer ∙ before.last_proposer; idle = λ id was. after.idle id (before.idle id was) }
 
 pub order_keeps : {S V : Type 0} (old new : View S V) (what : Asked) → StepOrder old what new → KeepsCalls old new
 order_keeps old new what by = by_view old _ new by.view refl refl
@@ -470,7 +470,7 @@ ask_turn_fewer {S} {V} m old new verdict free by = in_turn by.turn
 -- a late frame that strays in leaves all that the operator has under way
 module _ {S V : Type 0} (mid near : View S V) (keeps : KeepsUnderWay mid near) where
   pub near_calls : KeepsCalls mid near
-  near_calls = record { greatest = keeps.greatest; callers = keeps.callers }
+  near_calls = record { last_proposer = keeps.last_proposer; callers = keeps.callers }
 
   pub near_order : KeepsOrder mid near
   near_order = record { order = ap (λ (c : Council). c.order) keeps.council; plan = ap (λ (c : Council). c.plan) keeps.council; collection = ap (λ (c : Council). c.collection) keeps.council }

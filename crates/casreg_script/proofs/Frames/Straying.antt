@@ -19,7 +19,7 @@ use Rattle.casreg_script.specs.Frames.Strays.{LetsIn, KeepsUnderWay}
 use Rattle.casreg_script.proofs.Others.{get_other}
 
 pub same_under_way : {S V : Type 0} (old : View S V) → KeepsUnderWay old old
-same_under_way old = record { own = refl; greatest = refl; callers = refl; council = refl; plays = λ id asked proposed was. was }
+same_under_way old = record { own = refl; last_proposer = refl; callers = refl; council = refl; plays = λ id asked proposed was. was }
 
 -- callers play on where the round of each desk stays in its phase
 record KeepsRounds {S V : Type 0} (old new : View S V) : Type 0 where
@@ -51,10 +51,10 @@ by_view : {S V : Type 0} (old changed new : View S V) → new ≡ changed → Ke
 by_view {S} {V} old changed new is keeps = subst (KeepsUnderWay old) (sym is) keeps
 
 -- no desk changes
-same_desks : {S V : Type 0} (old new : View S V) → new.flow.own ≡ old.flow.own → new.greatest ≡ old.greatest → new.callers ≡ old.callers → new.council ≡ old.council → new.desks ≡ old.desks → KeepsUnderWay old new
-same_desks {S} {V} old new own greatest callers council desks = record {
+same_desks : {S V : Type 0} (old new : View S V) → new.flow.own ≡ old.flow.own → new.last_proposer ≡ old.last_proposer → new.callers ≡ old.callers → new.council ≡ old.council → new.desks ≡ old.desks → KeepsUnderWay old new
+same_desks {S} {V} old new own last_proposer callers council desks = record {
   own = own;
-  greatest = greatest;
+  last_proposer = last_proposer;
   callers = callers;
   council = council;
   plays = plays_on old new callers council (record { desks = λ id desk round at is. (desk, round, subst (λ (l : List (DeskView V)). IsAt l id desk) (sym desks) at, is, refl) });
@@ -84,7 +84,7 @@ stray_keeps m old new index late (frames.drops ignored is) = by_view old _ new i
 stray_keeps {S} {V} m old new index late (frames.arrives reply desk now round heard late_is at is_round hears is) =
     by_view old _ new is (record {
       own = refl;
-      greatest = refl;
+      last_proposer = refl;
       callers = refl;
       council = refl;
       plays = plays_on old _ refl refl (hears_on old _ desk now round heard at is_round (ap (λ (d : DeskView V). d.round) hears.desk) hears.hears.same_phase _ refl refl);

@@ -1,5 +1,6 @@
 -- How far a caller's call has come in its round.
-use Rattle.std.specs.Prelude.{◌≡◌, ◌+◌, ◌-◌, ℕ, Bool, not, List, [], ◌∷◌, if◌then◌else◌, None, Some, IsSome, is_some, true, false}
+pub use Rattle.cas_record.specs.Answers.{is_conflict}
+use Rattle.std.specs.Prelude.{◌≡◌, ◌+◌, ◌-◌, ℕ, Bool, not, List, [], ◌∷◌, if◌then◌else◌, None, Some, IsSome, is_some}
 use Rattle.cas_change.specs.declared.program.Clause.{Clause}
 use Rattle.cas_flow.specs.Flow.{queue_at}
 use Rattle.cas_flow.specs.Queue.{QueueView}
@@ -50,11 +51,6 @@ pub record IsPlaying {S V : Type 0} (view : View S V) (id : ℕ) (asked : Asked)
   pub is_round : desk.round ≡ Some round
   pub phase : is_preparing round.phase ≡ not proposed
   pub quiet : view.council.exchange ≡ None
-
--- what tells of a conflict
-abbrev pub is_conflict : Answer → Bool
-is_conflict (answer.Conflict met) = true
-is_conflict other = false
 
 -- it was told this, and where that is a conflict it may begin another round
 pub record IsOver {S V : Type 0} (view : View S V) (id : ℕ) (asked : Asked) (told : Answer) : Type 0 where

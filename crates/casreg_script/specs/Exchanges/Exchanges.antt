@@ -118,5 +118,5 @@ pub record KeepsOrder {S V : Type 0} (old new : View S V) : Type 0 where
 
 -- the calls of the callers stay
 pub record KeepsCalls {S V : Type 0} (old new : View S V) : Type 0 where
-  pub greatest : new.greatest ≡ old.greatest
+  pub last_proposer : new.last_proposer ≡ old.last_proposer
   pub callers : new.callers ≡ old.callers

@@ -34,5 +34,5 @@ pub record IsFree {S V : Type 0} (view : View S V) : Type 0 where
 
 -- a caller that has no open call has none after it
 pub record KeepsIdle {S V : Type 0} (old new : View S V) : Type 0 where
-  pub greatest : new.greatest ≡ old.greatest
+  pub last_proposer : new.last_proposer ≡ old.last_proposer
   pub idle : (id : ℕ) → HasNoCall old id → HasNoCall new id

@@ -15,7 +15,7 @@ pub data LetsIn {S V : Type 0} (m : Meaning S V) (by : NetworkView) (old : View 
 -- what callers and the operator have under way stays
 pub record KeepsUnderWay {S V : Type 0} (old new : View S V) : Type 0 where
   pub own : new.flow.own ≡ old.flow.own
-  pub greatest : new.greatest ≡ old.greatest
+  pub last_proposer : new.last_proposer ≡ old.last_proposer
   pub callers : new.callers ≡ old.callers
   pub council : new.council ≡ old.council
   pub plays : (id : ℕ) (asked : Asked) (proposed : Bool) → IsPlaying old id asked proposed → IsPlaying new id asked proposed

@@ -91,7 +91,7 @@ fn mark_of(alloc: Global, step: Step) -> Result<Mark, Fail> {
 fn make(alloc: Global, record: &mut Record, steps: &[Step]) -> Result<(), Fail> {
     for step in steps {
         let mark = mark_of(alloc, *step)?;
-        record.reserve(None, 1)?;
+        record.reserve(1)?;
         record.push(mark);
     }
     Ok(())

@@ -17,8 +17,8 @@ refuse_burial-requires g c = record { refused = refused_burial _ c.args.key.now 
 pub returns-in-Ok-clause-kept : goal.returns-in-Ok-clause-kept
 returns-in-Ok-clause-kept g c = (begun_held _ c.args.key.now c.next_call-call.result 0 c.args.world.now c.begin_collect.new.self c.next_call-call.ensures c.requires.at c.requires.kept c.begin_collect.ensures.step c.in-Ok.ensures.ok).kept
 
-pub returns-in-Ok-clause-greatest : goal.returns-in-Ok-clause-greatest
-returns-in-Ok-clause-greatest g c = (begun_held _ c.args.key.now c.next_call-call.result 0 c.args.world.now c.begin_collect.new.self c.next_call-call.ensures c.requires.at c.requires.kept c.begin_collect.ensures.step c.in-Ok.ensures.ok).greatest
+pub returns-in-Ok-clause-last_proposer : goal.returns-in-Ok-clause-last_proposer
+returns-in-Ok-clause-last_proposer g c = (begun_held _ c.args.key.now c.next_call-call.result 0 c.args.world.now c.begin_collect.new.self c.next_call-call.ensures c.requires.at c.requires.kept c.begin_collect.ensures.step c.in-Ok.ensures.ok).last_proposer
 
 pub returns-in-Ok-clause-collects : goal.returns-in-Ok-clause-collects
 returns-in-Ok-clause-collects g c tries most some =
@@ -28,8 +28,8 @@ returns-in-Ok-clause-collects g c tries most some =
 pub returns-in-Err-clause-kept : goal.returns-in-Err-clause-kept
 returns-in-Err-clause-kept g c = (refusal_held _ c.args.key.now c.next_call-call.result 0 c.args.world.now c.begin_collect.new.self c.refuse_burial.new.world c.in-Err.refusal c.next_call-call.ensures c.requires.at c.requires.kept c.begin_collect.ensures.step c.in-Err.ensures.err c.refuse_burial.ensures.stops).kept
 
-pub returns-in-Err-clause-greatest : goal.returns-in-Err-clause-greatest
-returns-in-Err-clause-greatest g c = (refusal_held _ c.args.key.now c.next_call-call.result 0 c.args.world.now c.begin_collect.new.self c.refuse_burial.new.world c.in-Err.refusal c.next_call-call.ensures c.requires.at c.requires.kept c.begin_collect.ensures.step c.in-Err.ensures.err c.refuse_burial.ensures.stops).greatest
+pub returns-in-Err-clause-last_proposer : goal.returns-in-Err-clause-last_proposer
+returns-in-Err-clause-last_proposer g c = (refusal_held _ c.args.key.now c.next_call-call.result 0 c.args.world.now c.begin_collect.new.self c.refuse_burial.new.world c.in-Err.refusal c.next_call-call.ensures c.requires.at c.requires.kept c.begin_collect.ensures.step c.in-Err.ensures.err c.refuse_burial.ensures.stops).last_proposer
 
 pub returns-in-Err-clause-collects : goal.returns-in-Err-clause-collects
 returns-in-Err-clause-collects g c tries most some = subst (λ a. CollectsIn c.args.key.now tries most c.args.world.now c.refuse_burial.new.world (Err a)) (sym c.refuse_burial.ensures.same) (told_within c.args.key.now tries (refusal_held _ c.args.key.now c.next_call-call.result most c.args.world.now c.begin_collect.new.self c.refuse_burial.new.world c.in-Err.refusal c.next_call-call.ensures c.requires.at c.requires.kept c.begin_collect.ensures.step c.in-Err.ensures.err c.refuse_burial.ensures.stops).does)

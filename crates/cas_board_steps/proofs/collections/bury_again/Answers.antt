@@ -14,8 +14,8 @@ begin_collect-requires-clause-may g c = again_may c.args.world.now c.args.key.no
 pub returns-in-Ok-clause-kept : goal.returns-in-Ok-clause-kept
 returns-in-Ok-clause-kept g c = (again_held _ c.args.key.now c.args.call 0 c.args.world.now c.begin_collect.new.self c.requires.at c.requires.kept c.begin_collect.ensures.step c.in-Ok.ensures.ok).kept
 
-pub returns-in-Ok-clause-greatest : goal.returns-in-Ok-clause-greatest
-returns-in-Ok-clause-greatest g c = (again_held _ c.args.key.now c.args.call 0 c.args.world.now c.begin_collect.new.self c.requires.at c.requires.kept c.begin_collect.ensures.step c.in-Ok.ensures.ok).greatest
+pub returns-in-Ok-clause-last_proposer : goal.returns-in-Ok-clause-last_proposer
+returns-in-Ok-clause-last_proposer g c = (again_held _ c.args.key.now c.args.call 0 c.args.world.now c.begin_collect.new.self c.requires.at c.requires.kept c.begin_collect.ensures.step c.in-Ok.ensures.ok).last_proposer
 
 pub returns-in-Ok-clause-collects : goal.returns-in-Ok-clause-collects
 returns-in-Ok-clause-collects g c tries most within =
@@ -34,8 +34,8 @@ stop-requires-clause-calling g c = again_calling _ c.args.world.now c.begin_coll
 pub returns-in-Err-Stopped-clause-kept : goal.returns-in-Err-Stopped-clause-kept
 returns-in-Err-Stopped-clause-kept g c = (again_stops _ c.args.key.now c.args.call 0 c.args.world.now c.begin_collect.new.self c.stop.new.world c.in-Err-Stopped.told c.requires.at c.requires.kept c.begin_collect.ensures.step (again_told c.args.world.now c.begin_collect.new.self c.args.key.now c.args.call c.in-Err-Stopped.field-0 c.in-Err-Stopped.told c.requires.at c.in-Err-Stopped.ensures.err c.in-Err-Stopped.field-0-is).was (again_told c.args.world.now c.begin_collect.new.self c.args.key.now c.args.call c.in-Err-Stopped.field-0 c.in-Err-Stopped.told c.requires.at c.in-Err-Stopped.ensures.err c.in-Err-Stopped.field-0-is).undone c.stop.ensures.stops).kept
 
-pub returns-in-Err-Stopped-clause-greatest : goal.returns-in-Err-Stopped-clause-greatest
-returns-in-Err-Stopped-clause-greatest g c = (again_stops _ c.args.key.now c.args.call 0 c.args.world.now c.begin_collect.new.self c.stop.new.world c.in-Err-Stopped.told c.requires.at c.requires.kept c.begin_collect.ensures.step (again_told c.args.world.now c.begin_collect.new.self c.args.key.now c.args.call c.in-Err-Stopped.field-0 c.in-Err-Stopped.told c.requires.at c.in-Err-Stopped.ensures.err c.in-Err-Stopped.field-0-is).was (again_told c.args.world.now c.begin_collect.new.self c.args.key.now c.args.call c.in-Err-Stopped.field-0 c.in-Err-Stopped.told c.requires.at c.in-Err-Stopped.ensures.err c.in-Err-Stopped.field-0-is).undone c.stop.ensures.stops).greatest
+pub returns-in-Err-Stopped-clause-last_proposer : goal.returns-in-Err-Stopped-clause-last_proposer
+returns-in-Err-Stopped-clause-last_proposer g c = (again_stops _ c.args.key.now c.args.call 0 c.args.world.now c.begin_collect.new.self c.stop.new.world c.in-Err-Stopped.told c.requires.at c.requires.kept c.begin_collect.ensures.step (again_told c.args.world.now c.begin_collect.new.self c.args.key.now c.args.call c.in-Err-Stopped.field-0 c.in-Err-Stopped.told c.requires.at c.in-Err-Stopped.ensures.err c.in-Err-Stopped.field-0-is).was (again_told c.args.world.now c.begin_collect.new.self c.args.key.now c.args.call c.in-Err-Stopped.field-0 c.in-Err-Stopped.told c.requires.at c.in-Err-Stopped.ensures.err c.in-Err-Stopped.field-0-is).undone c.stop.ensures.stops).last_proposer
 
 pub returns-in-Err-Stopped-clause-collects : goal.returns-in-Err-Stopped-clause-collects
 returns-in-Err-Stopped-clause-collects g c tries most within = subst (λ a. CollectsIn c.args.key.now tries most c.args.world.now c.stop.new.world (Err a)) (sym c.stop.ensures.same) (told_within c.args.key.now tries (again_stops _ c.args.key.now c.args.call most c.args.world.now c.begin_collect.new.self c.stop.new.world c.in-Err-Stopped.told c.requires.at c.requires.kept c.begin_collect.ensures.step (again_told c.args.world.now c.begin_collect.new.self c.args.key.now c.args.call c.in-Err-Stopped.field-0 c.in-Err-Stopped.told c.requires.at c.in-Err-Stopped.ensures.err c.in-Err-Stopped.field-0-is).was (again_told c.args.world.now c.begin_collect.new.self c.args.key.now c.args.call c.in-Err-Stopped.field-0 c.in-Err-Stopped.told c.requires.at c.in-Err-Stopped.ensures.err c.in-Err-Stopped.field-0-is).undone c.stop.ensures.stops).does)

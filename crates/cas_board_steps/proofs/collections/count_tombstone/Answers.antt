@@ -20,8 +20,8 @@ end_collect-answer-requires-clause-calling g c = done_calling _ c.args.world.now
 pub returns-then-is_done-clause-kept : goal.returns-then-is_done-clause-kept
 returns-then-is_done-clause-kept g c = (done_held _ c.args.key.now c.args.call 0 c.args.world.now c.count_tombstone-told.new.self c.end_collect-answer.new.self c.count_tombstone-told.result c.requires.at c.requires.kept (sym c.is_done.ensures ∙ c.if-is_done.true) c.count_tombstone-told.ensures.step c.end_collect-answer.ensures.step).kept
 
-pub returns-then-is_done-clause-greatest : goal.returns-then-is_done-clause-greatest
-returns-then-is_done-clause-greatest g c = (done_held _ c.args.key.now c.args.call 0 c.args.world.now c.count_tombstone-told.new.self c.end_collect-answer.new.self c.count_tombstone-told.result c.requires.at c.requires.kept (sym c.is_done.ensures ∙ c.if-is_done.true) c.count_tombstone-told.ensures.step c.end_collect-answer.ensures.step).greatest
+pub returns-then-is_done-clause-last_proposer : goal.returns-then-is_done-clause-last_proposer
+returns-then-is_done-clause-last_proposer g c = (done_held _ c.args.key.now c.args.call 0 c.args.world.now c.count_tombstone-told.new.self c.end_collect-answer.new.self c.count_tombstone-told.result c.requires.at c.requires.kept (sym c.is_done.ensures ∙ c.if-is_done.true) c.count_tombstone-told.ensures.step c.end_collect-answer.ensures.step).last_proposer
 
 pub returns-then-is_done-clause-collects : goal.returns-then-is_done-clause-collects
 returns-then-is_done-clause-collects g c tries most = (done_held _ c.args.key.now c.args.call most c.args.world.now c.count_tombstone-told.new.self c.end_collect-answer.new.self c.count_tombstone-told.result c.requires.at c.requires.kept (sym c.is_done.ensures ∙ c.if-is_done.true) c.count_tombstone-told.ensures.step c.end_collect-answer.ensures.step).does
@@ -37,8 +37,8 @@ stop-requires-clause-calling g c = count_calling _ c.args.world.now c.count_tomb
 pub returns-clause-kept : goal.returns-clause-kept
 returns-clause-kept g c = (count_stops _ c.args.key.now c.args.call 0 c.args.world.now c.count_tombstone-told.new.self c.stop.new.world c.count_tombstone-told.result c.requires.at c.requires.kept (counted_not _ c.args.world.now c.count_tombstone-told.new.self c.count_tombstone-told.result (sym c.is_done.ensures ∙ c.if-is_done.false) c.count_tombstone-told.ensures.step) (propose_told c.args.world.now c.count_tombstone-told.new.self c.args.key.now c.args.call c.count_tombstone-told.result c.requires.at c.count_tombstone-told.ensures.told) (sym c.is_done.ensures ∙ c.if-is_done.false) c.stop.ensures.stops).kept
 
-pub returns-clause-greatest : goal.returns-clause-greatest
-returns-clause-greatest g c = (count_stops _ c.args.key.now c.args.call 0 c.args.world.now c.count_tombstone-told.new.self c.stop.new.world c.count_tombstone-told.result c.requires.at c.requires.kept (counted_not _ c.args.world.now c.count_tombstone-told.new.self c.count_tombstone-told.result (sym c.is_done.ensures ∙ c.if-is_done.false) c.count_tombstone-told.ensures.step) (propose_told c.args.world.now c.count_tombstone-told.new.self c.args.key.now c.args.call c.count_tombstone-told.result c.requires.at c.count_tombstone-told.ensures.told) (sym c.is_done.ensures ∙ c.if-is_done.false) c.stop.ensures.stops).greatest
+pub returns-clause-last_proposer : goal.returns-clause-last_proposer
+returns-clause-last_proposer g c = (count_stops _ c.args.key.now c.args.call 0 c.args.world.now c.count_tombstone-told.new.self c.stop.new.world c.count_tombstone-told.result c.requires.at c.requires.kept (counted_not _ c.args.world.now c.count_tombstone-told.new.self c.count_tombstone-told.result (sym c.is_done.ensures ∙ c.if-is_done.false) c.count_tombstone-told.ensures.step) (propose_told c.args.world.now c.count_tombstone-told.new.self c.args.key.now c.args.call c.count_tombstone-told.result c.requires.at c.count_tombstone-told.ensures.told) (sym c.is_done.ensures ∙ c.if-is_done.false) c.stop.ensures.stops).last_proposer
 
 pub returns-clause-collects : goal.returns-clause-collects
 returns-clause-collects g c tries most = subst (λ a. CollectsIn c.args.key.now tries most c.args.world.now c.stop.new.world (Err a)) (sym c.stop.ensures.same) (told_within c.args.key.now tries (count_stops _ c.args.key.now c.args.call most c.args.world.now c.count_tombstone-told.new.self c.stop.new.world c.count_tombstone-told.result c.requires.at c.requires.kept (counted_not _ c.args.world.now c.count_tombstone-told.new.self c.count_tombstone-told.result (sym c.is_done.ensures ∙ c.if-is_done.false) c.count_tombstone-told.ensures.step) (propose_told c.args.world.now c.count_tombstone-told.new.self c.args.key.now c.args.call c.count_tombstone-told.result c.requires.at c.count_tombstone-told.ensures.told) (sym c.is_done.ensures ∙ c.if-is_done.false) c.stop.ensures.stops).does)

@@ -16,8 +16,8 @@ tell-requires g c = was_told c.in-Err.ensures.err
 pub returns-in-Ok-clause-kept : goal.returns-in-Ok-clause-kept
 returns-in-Ok-clause-kept g c = (gather_held _ c.args.key.now step.Ages step.Floor 0 c.args.world.now c.gather.new.self _ (λ p. refl) c.requires.at c.requires.kept c.in-Ok.ensures.step c.in-Ok.ensures.ok).kept
 
-pub returns-in-Ok-clause-greatest : goal.returns-in-Ok-clause-greatest
-returns-in-Ok-clause-greatest g c = (gather_held _ c.args.key.now step.Ages step.Floor 0 c.args.world.now c.gather.new.self _ (λ p. refl) c.requires.at c.requires.kept c.in-Ok.ensures.step c.in-Ok.ensures.ok).greatest
+pub returns-in-Ok-clause-last_proposer : goal.returns-in-Ok-clause-last_proposer
+returns-in-Ok-clause-last_proposer g c = (gather_held _ c.args.key.now step.Ages step.Floor 0 c.args.world.now c.gather.new.self _ (λ p. refl) c.requires.at c.requires.kept c.in-Ok.ensures.step c.in-Ok.ensures.ok).last_proposer
 
 pub returns-in-Ok-clause-collects : goal.returns-in-Ok-clause-collects
 returns-in-Ok-clause-collects g c tries most = (gather_held _ c.args.key.now step.Ages step.Floor most c.args.world.now c.gather.new.self _ (λ p. refl) c.requires.at c.requires.kept c.in-Ok.ensures.step c.in-Ok.ensures.ok).does
@@ -25,8 +25,8 @@ returns-in-Ok-clause-collects g c tries most = (gather_held _ c.args.key.now ste
 pub returns-clause-kept : goal.returns-clause-kept
 returns-clause-kept g c = (gather_told _ c.args.key.now step.Ages step.Floor 0 c.args.world.now c.gather.new.self c.tell.new.self c.in-Err.told (λ p. refl) c.requires.at c.requires.kept c.in-Err.ensures.step c.in-Err.ensures.err c.tell.ensures.step).kept
 
-pub returns-clause-greatest : goal.returns-clause-greatest
-returns-clause-greatest g c = (gather_told _ c.args.key.now step.Ages step.Floor 0 c.args.world.now c.gather.new.self c.tell.new.self c.in-Err.told (λ p. refl) c.requires.at c.requires.kept c.in-Err.ensures.step c.in-Err.ensures.err c.tell.ensures.step).greatest
+pub returns-clause-last_proposer : goal.returns-clause-last_proposer
+returns-clause-last_proposer g c = (gather_told _ c.args.key.now step.Ages step.Floor 0 c.args.world.now c.gather.new.self c.tell.new.self c.in-Err.told (λ p. refl) c.requires.at c.requires.kept c.in-Err.ensures.step c.in-Err.ensures.err c.tell.ensures.step).last_proposer
 
 pub returns-clause-collects : goal.returns-clause-collects
 returns-clause-collects g c tries most = subst (λ a. CollectsIn c.args.key.now tries most c.args.world.now c.tell.new.self (Err a)) (sym c.tell.ensures.same) (told_within c.args.key.now tries (gather_told _ c.args.key.now step.Ages step.Floor most c.args.world.now c.gather.new.self c.tell.new.self c.in-Err.told (λ p. refl) c.requires.at c.requires.kept c.in-Err.ensures.step c.in-Err.ensures.err c.tell.ensures.step).does)

@@ -23,8 +23,8 @@ stop-requires-clause-undone g c = closed_undone c.args.world.now c.args.key.now 
 pub returns-in-Some-clause-kept : goal.returns-in-Some-clause-kept
 returns-in-Some-clause-kept g c = (closed_stops _ c.args.key.now c.args.call (harm_by c.args.verdict) c.args.world.now c.stop.new.world c.in-Some.told c.requires.at c.requires.kept (closed_undone c.args.world.now c.args.key.now c.args.call c.in-Some.told c.closed.result c.requires.at c.closed.ensures c.in-Some.is) (closed_no_conflict c.args.world.now 0 c.args.call c.in-Some.told c.closed.result (burial_open c.args.key.now c.args.call _ _ c.requires.at) c.requires.kept c.closed.ensures c.in-Some.is) c.stop.ensures.stops).kept
 
-pub returns-in-Some-clause-greatest : goal.returns-in-Some-clause-greatest
-returns-in-Some-clause-greatest g c = (closed_stops _ c.args.key.now c.args.call (harm_by c.args.verdict) c.args.world.now c.stop.new.world c.in-Some.told c.requires.at c.requires.kept (closed_undone c.args.world.now c.args.key.now c.args.call c.in-Some.told c.closed.result c.requires.at c.closed.ensures c.in-Some.is) (closed_no_conflict c.args.world.now 0 c.args.call c.in-Some.told c.closed.result (burial_open c.args.key.now c.args.call _ _ c.requires.at) c.requires.kept c.closed.ensures c.in-Some.is) c.stop.ensures.stops).greatest
+pub returns-in-Some-clause-last_proposer : goal.returns-in-Some-clause-last_proposer
+returns-in-Some-clause-last_proposer g c = (closed_stops _ c.args.key.now c.args.call (harm_by c.args.verdict) c.args.world.now c.stop.new.world c.in-Some.told c.requires.at c.requires.kept (closed_undone c.args.world.now c.args.key.now c.args.call c.in-Some.told c.closed.result c.requires.at c.closed.ensures c.in-Some.is) (closed_no_conflict c.args.world.now 0 c.args.call c.in-Some.told c.closed.result (burial_open c.args.key.now c.args.call _ _ c.requires.at) c.requires.kept c.closed.ensures c.in-Some.is) c.stop.ensures.stops).last_proposer
 
 pub returns-in-Some-clause-collects : goal.returns-in-Some-clause-collects
 returns-in-Some-clause-collects g c = subst (λ a. CollectsIn c.args.key.now (most_rounds c.args.tries) (harm_by c.args.verdict) c.args.world.now c.stop.new.world (Err a)) (sym c.stop.ensures.same) (told_within c.args.key.now (most_rounds c.args.tries) (closed_stops _ c.args.key.now c.args.call (harm_by c.args.verdict) c.args.world.now c.stop.new.world c.in-Some.told c.requires.at c.requires.kept (closed_undone c.args.world.now c.args.key.now c.args.call c.in-Some.told c.closed.result c.requires.at c.closed.ensures c.in-Some.is) (closed_no_conflict c.args.world.now 0 c.args.call c.in-Some.told c.closed.result (burial_open c.args.key.now c.args.call _ _ c.requires.at) c.requires.kept c.closed.ensures c.in-Some.is) c.stop.ensures.stops).does)

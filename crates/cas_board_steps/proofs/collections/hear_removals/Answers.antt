@@ -20,11 +20,11 @@ returns-in-Ok-clause-kept g c = (turn_held _ c.args.key.now step.Remove c.args.v
 pub returns-in-Err-clause-kept : goal.returns-in-Err-clause-kept
 returns-in-Err-clause-kept g c = (turn_told _ c.args.key.now step.Remove (harm_by c.args.verdict) c.args.world.now c.turn.new.self c.tell.new.self c.no_memory.result c.no_memory.ensures c.requires.at c.requires.kept c.in-Err.ensures.err c.tell.ensures.step).kept
 
-pub returns-in-Ok-clause-greatest : goal.returns-in-Ok-clause-greatest
-returns-in-Ok-clause-greatest g c = (turn_held _ c.args.key.now step.Remove c.args.verdict c.args.world.now c.turn.new.self c.requires.at c.requires.kept c.in-Ok.ensures.ok).greatest
+pub returns-in-Ok-clause-last_proposer : goal.returns-in-Ok-clause-last_proposer
+returns-in-Ok-clause-last_proposer g c = (turn_held _ c.args.key.now step.Remove c.args.verdict c.args.world.now c.turn.new.self c.requires.at c.requires.kept c.in-Ok.ensures.ok).last_proposer
 
-pub returns-in-Err-clause-greatest : goal.returns-in-Err-clause-greatest
-returns-in-Err-clause-greatest g c = (turn_told _ c.args.key.now step.Remove (harm_by c.args.verdict) c.args.world.now c.turn.new.self c.tell.new.self c.no_memory.result c.no_memory.ensures c.requires.at c.requires.kept c.in-Err.ensures.err c.tell.ensures.step).greatest
+pub returns-in-Err-clause-last_proposer : goal.returns-in-Err-clause-last_proposer
+returns-in-Err-clause-last_proposer g c = (turn_told _ c.args.key.now step.Remove (harm_by c.args.verdict) c.args.world.now c.turn.new.self c.tell.new.self c.no_memory.result c.no_memory.ensures c.requires.at c.requires.kept c.in-Err.ensures.err c.tell.ensures.step).last_proposer
 
 pub returns-in-Ok-clause-collects : goal.returns-in-Ok-clause-collects
 returns-in-Ok-clause-collects g c tries = (turn_held _ c.args.key.now step.Remove c.args.verdict c.args.world.now c.turn.new.self c.requires.at c.requires.kept c.in-Ok.ensures.ok).does

@@ -24,8 +24,8 @@ stop-requires-clause-calling g c = propose_calling _ c.args.world.now c.propose_
 pub returns-in-Ok-Empty-clause-kept : goal.returns-in-Ok-Empty-clause-kept
 returns-in-Ok-Empty-clause-kept g c = (proposed_held _ c.args.key.now c.args.call 0 c.args.world.now c.propose_tombstone.new.self c.requires.at c.requires.kept (c.in-Ok-Empty.ensures.empty (ap Ok c.in-Ok-Empty.field-0-is)).1 (c.in-Ok-Empty.ensures.empty (ap Ok c.in-Ok-Empty.field-0-is)).0).kept
 
-pub returns-in-Ok-Empty-clause-greatest : goal.returns-in-Ok-Empty-clause-greatest
-returns-in-Ok-Empty-clause-greatest g c = (proposed_held _ c.args.key.now c.args.call 0 c.args.world.now c.propose_tombstone.new.self c.requires.at c.requires.kept (c.in-Ok-Empty.ensures.empty (ap Ok c.in-Ok-Empty.field-0-is)).1 (c.in-Ok-Empty.ensures.empty (ap Ok c.in-Ok-Empty.field-0-is)).0).greatest
+pub returns-in-Ok-Empty-clause-last_proposer : goal.returns-in-Ok-Empty-clause-last_proposer
+returns-in-Ok-Empty-clause-last_proposer g c = (proposed_held _ c.args.key.now c.args.call 0 c.args.world.now c.propose_tombstone.new.self c.requires.at c.requires.kept (c.in-Ok-Empty.ensures.empty (ap Ok c.in-Ok-Empty.field-0-is)).1 (c.in-Ok-Empty.ensures.empty (ap Ok c.in-Ok-Empty.field-0-is)).0).last_proposer
 
 pub returns-in-Ok-Empty-clause-collects : goal.returns-in-Ok-Empty-clause-collects
 returns-in-Ok-Empty-clause-collects g c most =
@@ -36,8 +36,8 @@ returns-in-Ok-Empty-clause-collects g c most =
 pub returns-in-Ok-Held-clause-kept : goal.returns-in-Ok-Held-clause-kept
 returns-in-Ok-Held-clause-kept g c = (read_held _ c.args.key.now c.args.call 0 c.args.world.now c.propose_tombstone.new.self c.requires.at c.requires.kept (c.in-Ok-Held.ensures.held _ (ap Ok c.in-Ok-Held.field-0-is))).kept
 
-pub returns-in-Ok-Held-clause-greatest : goal.returns-in-Ok-Held-clause-greatest
-returns-in-Ok-Held-clause-greatest g c = (read_held _ c.args.key.now c.args.call 0 c.args.world.now c.propose_tombstone.new.self c.requires.at c.requires.kept (c.in-Ok-Held.ensures.held _ (ap Ok c.in-Ok-Held.field-0-is))).greatest
+pub returns-in-Ok-Held-clause-last_proposer : goal.returns-in-Ok-Held-clause-last_proposer
+returns-in-Ok-Held-clause-last_proposer g c = (read_held _ c.args.key.now c.args.call 0 c.args.world.now c.propose_tombstone.new.self c.requires.at c.requires.kept (c.in-Ok-Held.ensures.held _ (ap Ok c.in-Ok-Held.field-0-is))).last_proposer
 
 pub returns-in-Ok-Held-clause-collects : goal.returns-in-Ok-Held-clause-collects
 returns-in-Ok-Held-clause-collects g c most = (read_held _ c.args.key.now c.args.call most c.args.world.now c.propose_tombstone.new.self c.requires.at c.requires.kept (c.in-Ok-Held.ensures.held _ (ap Ok c.in-Ok-Held.field-0-is))).does
@@ -45,8 +45,8 @@ returns-in-Ok-Held-clause-collects g c most = (read_held _ c.args.key.now c.args
 pub returns-then-is_conflict-clause-kept : goal.returns-then-is_conflict-clause-kept
 returns-then-is_conflict-clause-kept g c = (met_held _ c.args.key.now c.args.call 0 c.args.world.now c.propose_tombstone.new.self c.in-Err.told c.requires.at c.requires.kept c.requires.unproposed (propose_told c.args.world.now c.propose_tombstone.new.self c.args.key.now c.args.call c.in-Err.told c.requires.at c.in-Err.ensures.told) (sym c.is_conflict.ensures ∙ c.if-is_conflict.true) c.in-Err.ensures.err).kept
 
-pub returns-then-is_conflict-clause-greatest : goal.returns-then-is_conflict-clause-greatest
-returns-then-is_conflict-clause-greatest g c = (met_held _ c.args.key.now c.args.call 0 c.args.world.now c.propose_tombstone.new.self c.in-Err.told c.requires.at c.requires.kept c.requires.unproposed (propose_told c.args.world.now c.propose_tombstone.new.self c.args.key.now c.args.call c.in-Err.told c.requires.at c.in-Err.ensures.told) (sym c.is_conflict.ensures ∙ c.if-is_conflict.true) c.in-Err.ensures.err).greatest
+pub returns-then-is_conflict-clause-last_proposer : goal.returns-then-is_conflict-clause-last_proposer
+returns-then-is_conflict-clause-last_proposer g c = (met_held _ c.args.key.now c.args.call 0 c.args.world.now c.propose_tombstone.new.self c.in-Err.told c.requires.at c.requires.kept c.requires.unproposed (propose_told c.args.world.now c.propose_tombstone.new.self c.args.key.now c.args.call c.in-Err.told c.requires.at c.in-Err.ensures.told) (sym c.is_conflict.ensures ∙ c.if-is_conflict.true) c.in-Err.ensures.err).last_proposer
 
 pub returns-then-is_conflict-clause-collects : goal.returns-then-is_conflict-clause-collects
 returns-then-is_conflict-clause-collects g c most =
@@ -56,8 +56,8 @@ returns-then-is_conflict-clause-collects g c most =
 pub returns-else-rounds-tries-clause-kept : goal.returns-else-rounds-tries-clause-kept
 returns-else-rounds-tries-clause-kept g c = (propose_stops (rounds_in (own_part c.args.world.now 0)) _ c.args.key.now c.args.call 0 c.args.world.now c.propose_tombstone.new.self c.stop.new.world c.in-Err.told (λ conflict. refl) c.requires.at c.requires.kept c.in-Err.ensures.err (propose_told c.args.world.now c.propose_tombstone.new.self c.args.key.now c.args.call c.in-Err.told c.requires.at c.in-Err.ensures.told) (propose_undone _ c.args.call c.args.world.now c.propose_tombstone.new.self c.in-Err.told c.in-Err.ensures.err (propose_told c.args.world.now c.propose_tombstone.new.self c.args.key.now c.args.call c.in-Err.told c.requires.at c.in-Err.ensures.told)) c.stop.ensures.stops).kept
 
-pub returns-else-rounds-tries-clause-greatest : goal.returns-else-rounds-tries-clause-greatest
-returns-else-rounds-tries-clause-greatest g c = (propose_stops (rounds_in (own_part c.args.world.now 0)) _ c.args.key.now c.args.call 0 c.args.world.now c.propose_tombstone.new.self c.stop.new.world c.in-Err.told (λ conflict. refl) c.requires.at c.requires.kept c.in-Err.ensures.err (propose_told c.args.world.now c.propose_tombstone.new.self c.args.key.now c.args.call c.in-Err.told c.requires.at c.in-Err.ensures.told) (propose_undone _ c.args.call c.args.world.now c.propose_tombstone.new.self c.in-Err.told c.in-Err.ensures.err (propose_told c.args.world.now c.propose_tombstone.new.self c.args.key.now c.args.call c.in-Err.told c.requires.at c.in-Err.ensures.told)) c.stop.ensures.stops).greatest
+pub returns-else-rounds-tries-clause-last_proposer : goal.returns-else-rounds-tries-clause-last_proposer
+returns-else-rounds-tries-clause-last_proposer g c = (propose_stops (rounds_in (own_part c.args.world.now 0)) _ c.args.key.now c.args.call 0 c.args.world.now c.propose_tombstone.new.self c.stop.new.world c.in-Err.told (λ conflict. refl) c.requires.at c.requires.kept c.in-Err.ensures.err (propose_told c.args.world.now c.propose_tombstone.new.self c.args.key.now c.args.call c.in-Err.told c.requires.at c.in-Err.ensures.told) (propose_undone _ c.args.call c.args.world.now c.propose_tombstone.new.self c.in-Err.told c.in-Err.ensures.err (propose_told c.args.world.now c.propose_tombstone.new.self c.args.key.now c.args.call c.in-Err.told c.requires.at c.in-Err.ensures.told)) c.stop.ensures.stops).last_proposer
 
 pub returns-else-rounds-tries-clause-collects : goal.returns-else-rounds-tries-clause-collects
 returns-else-rounds-tries-clause-collects g c most = subst (λ a. CollectsIn c.args.key.now (most_rounds c.args.tries) most c.args.world.now c.stop.new.world (Err a)) (sym c.stop.ensures.same) (propose_stops (most_rounds c.args.tries) _ c.args.key.now c.args.call most c.args.world.now c.propose_tombstone.new.self c.stop.new.world c.in-Err.told (λ conflict. c.requires.within.counted ∙ most_spent c.args.tries c.args.rounds c.requires.within.some c.requires.within.within (elim c.else-rounds-tries.branch [

@@ -13,8 +13,8 @@ turn-requires-clause-waits g c = burial_waits c.args.world.now c.args.key.now c.
 pub returns-in-Ok-clause-kept : goal.returns-in-Ok-clause-kept
 returns-in-Ok-clause-kept g c = (turn_held _ c.args.key.now c.args.call c.args.verdict c.args.world.now c.turn.new.self c.requires.at c.requires.kept c.requires.running (burial_turn _ c.args.world.now c.turn.new.self c.args.key.now c.args.call c.args.verdict c.requires.at c.in-Ok.ensures.ok)).kept
 
-pub returns-in-Ok-clause-greatest : goal.returns-in-Ok-clause-greatest
-returns-in-Ok-clause-greatest g c = (turn_held _ c.args.key.now c.args.call c.args.verdict c.args.world.now c.turn.new.self c.requires.at c.requires.kept c.requires.running (burial_turn _ c.args.world.now c.turn.new.self c.args.key.now c.args.call c.args.verdict c.requires.at c.in-Ok.ensures.ok)).greatest
+pub returns-in-Ok-clause-last_proposer : goal.returns-in-Ok-clause-last_proposer
+returns-in-Ok-clause-last_proposer g c = (turn_held _ c.args.key.now c.args.call c.args.verdict c.args.world.now c.turn.new.self c.requires.at c.requires.kept c.requires.running (burial_turn _ c.args.world.now c.turn.new.self c.args.key.now c.args.call c.args.verdict c.requires.at c.in-Ok.ensures.ok)).last_proposer
 
 pub returns-in-Ok-clause-collects : goal.returns-in-Ok-clause-collects
 returns-in-Ok-clause-collects g c tries within =
@@ -31,8 +31,8 @@ stop-requires-clause-calling g c = turn_calling _ c.args.world.now c.turn.new.se
 pub returns-in-Err-clause-kept : goal.returns-in-Err-clause-kept
 returns-in-Err-clause-kept g c = (turn_stops _ c.args.key.now c.args.call (harm_by c.args.verdict) c.args.world.now c.turn.new.self c.stop.new.world (answer.NoMemory c.has_proposed-proposed.result) c.requires.at c.requires.kept (burial_refusal _ c.args.world.now c.turn.new.self c.args.key.now c.args.call c.requires.at c.in-Err.ensures.err) (turn_said _ c.args.world.now c.turn.new.self c.args.key.now c.args.call c.has_proposed-proposed.result c.requires.at (burial_refusal _ c.args.world.now c.turn.new.self c.args.key.now c.args.call c.requires.at c.in-Err.ensures.err) c.has_proposed-proposed.ensures.proposed) refl refl c.stop.ensures.stops).kept
 
-pub returns-in-Err-clause-greatest : goal.returns-in-Err-clause-greatest
-returns-in-Err-clause-greatest g c = (turn_stops _ c.args.key.now c.args.call (harm_by c.args.verdict) c.args.world.now c.turn.new.self c.stop.new.world (answer.NoMemory c.has_proposed-proposed.result) c.requires.at c.requires.kept (burial_refusal _ c.args.world.now c.turn.new.self c.args.key.now c.args.call c.requires.at c.in-Err.ensures.err) (turn_said _ c.args.world.now c.turn.new.self c.args.key.now c.args.call c.has_proposed-proposed.result c.requires.at (burial_refusal _ c.args.world.now c.turn.new.self c.args.key.now c.args.call c.requires.at c.in-Err.ensures.err) c.has_proposed-proposed.ensures.proposed) refl refl c.stop.ensures.stops).greatest
+pub returns-in-Err-clause-last_proposer : goal.returns-in-Err-clause-last_proposer
+returns-in-Err-clause-last_proposer g c = (turn_stops _ c.args.key.now c.args.call (harm_by c.args.verdict) c.args.world.now c.turn.new.self c.stop.new.world (answer.NoMemory c.has_proposed-proposed.result) c.requires.at c.requires.kept (burial_refusal _ c.args.world.now c.turn.new.self c.args.key.now c.args.call c.requires.at c.in-Err.ensures.err) (turn_said _ c.args.world.now c.turn.new.self c.args.key.now c.args.call c.has_proposed-proposed.result c.requires.at (burial_refusal _ c.args.world.now c.turn.new.self c.args.key.now c.args.call c.requires.at c.in-Err.ensures.err) c.has_proposed-proposed.ensures.proposed) refl refl c.stop.ensures.stops).last_proposer
 
 pub returns-in-Err-clause-collects : goal.returns-in-Err-clause-collects
 returns-in-Err-clause-collects g c tries within = subst (λ a. CollectsIn c.args.key.now tries (harm_by c.args.verdict) c.args.world.now c.stop.new.world (Err a)) (sym c.stop.ensures.same) (told_within c.args.key.now tries (turn_stops _ c.args.key.now c.args.call (harm_by c.args.verdict) c.args.world.now c.turn.new.self c.stop.new.world (answer.NoMemory c.has_proposed-proposed.result) c.requires.at c.requires.kept (burial_refusal _ c.args.world.now c.turn.new.self c.args.key.now c.args.call c.requires.at c.in-Err.ensures.err) (turn_said _ c.args.world.now c.turn.new.self c.args.key.now c.args.call c.has_proposed-proposed.result c.requires.at (burial_refusal _ c.args.world.now c.turn.new.self c.args.key.now c.args.call c.requires.at c.in-Err.ensures.err) c.has_proposed-proposed.ensures.proposed) refl refl c.stop.ensures.stops).does)

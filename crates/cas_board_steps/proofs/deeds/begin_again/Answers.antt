@@ -14,7 +14,7 @@ pub begin-requires-clause-may : goal.begin-requires-clause-may
 begin-requires-clause-may g c = may_again c.args.world.now c.args.caller c.args.call c.args.key.now c.args.program.now c.requires.known c.requires.kept c.requires.called c.requires.wanted c.requires.idle c.requires.unclosed
 
 pub stage_of-requires : goal.stage_of-requires
-stage_of-requires g c = let same = (again_ok _ c.args.caller c.args.call 0 c.args.key.now c.args.program.now c.args.world.now c.begin.new.self c.requires.called c.requires.kept c.in-Ok.ensures.step.0 c.in-Ok.ensures.step.1).greatest in omega (arith, same, c.requires.known)
+stage_of-requires g c = let same = (again_ok _ c.args.caller c.args.call 0 c.args.key.now c.args.program.now c.args.world.now c.begin.new.self c.requires.called c.requires.kept c.in-Ok.ensures.step.0 c.in-Ok.ensures.step.1).last_proposer in omega (arith, same, c.requires.known)
 
 pub end-requires-clause-told : goal.end-requires-clause-told
 end-requires-clause-told g c = (again_told ⊤ _ c.args.caller c.args.call c.args.key.now c.args.program.now c.in-Err.told c.args.world.now c.begin.new.self c.requires.called c.in-Err.ensures.step).1
@@ -22,8 +22,8 @@ end-requires-clause-told g c = (again_told ⊤ _ c.args.caller c.args.call c.arg
 pub returns-in-Ok-clause-kept : goal.returns-in-Ok-clause-kept
 returns-in-Ok-clause-kept g c = (again_ok _ c.args.caller c.args.call 0 c.args.key.now c.args.program.now c.args.world.now c.begin.new.self c.requires.called c.requires.kept c.in-Ok.ensures.step.0 c.in-Ok.ensures.step.1).kept
 
-pub returns-in-Ok-clause-greatest : goal.returns-in-Ok-clause-greatest
-returns-in-Ok-clause-greatest g c = (again_ok _ c.args.caller c.args.call 0 c.args.key.now c.args.program.now c.args.world.now c.begin.new.self c.requires.called c.requires.kept c.in-Ok.ensures.step.0 c.in-Ok.ensures.step.1).greatest
+pub returns-in-Ok-clause-last_proposer : goal.returns-in-Ok-clause-last_proposer
+returns-in-Ok-clause-last_proposer g c = (again_ok _ c.args.caller c.args.call 0 c.args.key.now c.args.program.now c.args.world.now c.begin.new.self c.requires.called c.requires.kept c.in-Ok.ensures.step.0 c.in-Ok.ensures.step.1).last_proposer
 
 pub returns-in-Ok-clause-goes_on : goal.returns-in-Ok-clause-goes_on
 returns-in-Ok-clause-goes_on g c most = (again_ok _ c.args.caller c.args.call most c.args.key.now c.args.program.now c.args.world.now c.begin.new.self c.requires.called c.requires.kept c.in-Ok.ensures.step.0 c.in-Ok.ensures.step.1).does
@@ -31,8 +31,8 @@ returns-in-Ok-clause-goes_on g c most = (again_ok _ c.args.caller c.args.call mo
 pub returns-in-Err-clause-kept : goal.returns-in-Err-clause-kept
 returns-in-Err-clause-kept g c = (again_ends ⊤ _ c.args.caller c.args.call 0 c.args.key.now c.args.program.now c.in-Err.told c.args.world.now c.begin.new.self c.end.new.self c.requires.called c.requires.kept c.in-Err.ensures.step c.end.ensures.step).kept
 
-pub returns-in-Err-clause-greatest : goal.returns-in-Err-clause-greatest
-returns-in-Err-clause-greatest g c = (again_ends ⊤ _ c.args.caller c.args.call 0 c.args.key.now c.args.program.now c.in-Err.told c.args.world.now c.begin.new.self c.end.new.self c.requires.called c.requires.kept c.in-Err.ensures.step c.end.ensures.step).greatest
+pub returns-in-Err-clause-last_proposer : goal.returns-in-Err-clause-last_proposer
+returns-in-Err-clause-last_proposer g c = (again_ends ⊤ _ c.args.caller c.args.call 0 c.args.key.now c.args.program.now c.in-Err.told c.args.world.now c.begin.new.self c.end.new.self c.requires.called c.requires.kept c.in-Err.ensures.step c.end.ensures.step).last_proposer
 
 pub returns-in-Err-clause-ends : goal.returns-in-Err-clause-ends
 returns-in-Err-clause-ends g c most = subst (EndsIn c.args.caller c.args.call most c.args.world.now c.end.new.self) (sym c.end.ensures.same) (again_ends ⊤ _ c.args.caller c.args.call most c.args.key.now c.args.program.now c.in-Err.told c.args.world.now c.begin.new.self c.end.new.self c.requires.called c.requires.kept c.in-Err.ensures.step c.end.ensures.step).does

@@ -17,8 +17,8 @@ end-requires-clause-told g c = (propose_told c.args.caller c.args.call c.in-Err.
 pub returns-in-Ok-clause-kept : goal.returns-in-Ok-clause-kept
 returns-in-Ok-clause-kept g c = (propose_ok _ c.args.caller c.args.call 0 c.args.world.now c.propose.new.self c.requires.called c.requires.kept c.in-Ok.ensures.proposed c.in-Ok.ensures.step).kept
 
-pub returns-in-Ok-clause-greatest : goal.returns-in-Ok-clause-greatest
-returns-in-Ok-clause-greatest g c = (propose_ok _ c.args.caller c.args.call 0 c.args.world.now c.propose.new.self c.requires.called c.requires.kept c.in-Ok.ensures.proposed c.in-Ok.ensures.step).greatest
+pub returns-in-Ok-clause-last_proposer : goal.returns-in-Ok-clause-last_proposer
+returns-in-Ok-clause-last_proposer g c = (propose_ok _ c.args.caller c.args.call 0 c.args.world.now c.propose.new.self c.requires.called c.requires.kept c.in-Ok.ensures.proposed c.in-Ok.ensures.step).last_proposer
 
 pub returns-in-Ok-clause-goes_on : goal.returns-in-Ok-clause-goes_on
 returns-in-Ok-clause-goes_on g c most = (propose_ok _ c.args.caller c.args.call most c.args.world.now c.propose.new.self c.requires.called c.requires.kept c.in-Ok.ensures.proposed c.in-Ok.ensures.step).does
@@ -26,8 +26,8 @@ returns-in-Ok-clause-goes_on g c most = (propose_ok _ c.args.caller c.args.call 
 pub returns-then-is_conflict-clause-kept : goal.returns-then-is_conflict-clause-kept
 returns-then-is_conflict-clause-kept g c = (propose_is_met _ c.args.caller c.args.call 0 c.in-Err.told c.args.world.now c.propose.new.self c.requires.called c.requires.kept c.requires.unproposed (propose_told c.args.caller c.args.call c.in-Err.told c.args.world.now c.propose.new.self c.requires.called c.in-Err.ensures.told) (sym c.is_conflict.ensures ∙ c.if-is_conflict.true) c.in-Err.ensures.step).kept
 
-pub returns-then-is_conflict-clause-greatest : goal.returns-then-is_conflict-clause-greatest
-returns-then-is_conflict-clause-greatest g c = (propose_is_met _ c.args.caller c.args.call 0 c.in-Err.told c.args.world.now c.propose.new.self c.requires.called c.requires.kept c.requires.unproposed (propose_told c.args.caller c.args.call c.in-Err.told c.args.world.now c.propose.new.self c.requires.called c.in-Err.ensures.told) (sym c.is_conflict.ensures ∙ c.if-is_conflict.true) c.in-Err.ensures.step).greatest
+pub returns-then-is_conflict-clause-last_proposer : goal.returns-then-is_conflict-clause-last_proposer
+returns-then-is_conflict-clause-last_proposer g c = (propose_is_met _ c.args.caller c.args.call 0 c.in-Err.told c.args.world.now c.propose.new.self c.requires.called c.requires.kept c.requires.unproposed (propose_told c.args.caller c.args.call c.in-Err.told c.args.world.now c.propose.new.self c.requires.called c.in-Err.ensures.told) (sym c.is_conflict.ensures ∙ c.if-is_conflict.true) c.in-Err.ensures.step).last_proposer
 
 pub returns-then-is_conflict-clause-goes_on : goal.returns-then-is_conflict-clause-goes_on
 returns-then-is_conflict-clause-goes_on g c most = (propose_is_met _ c.args.caller c.args.call most c.in-Err.told c.args.world.now c.propose.new.self c.requires.called c.requires.kept c.requires.unproposed (propose_told c.args.caller c.args.call c.in-Err.told c.args.world.now c.propose.new.self c.requires.called c.in-Err.ensures.told) (sym c.is_conflict.ensures ∙ c.if-is_conflict.true) c.in-Err.ensures.step).does
@@ -35,8 +35,8 @@ returns-then-is_conflict-clause-goes_on g c most = (propose_is_met _ c.args.call
 pub returns-else-may_repeat-clause-kept : goal.returns-else-may_repeat-clause-kept
 returns-else-may_repeat-clause-kept g c = (propose_ends _ c.args.caller c.args.call 0 c.in-Err.told c.args.world.now c.propose.new.self c.end.new.self c.requires.called c.requires.kept (propose_told c.args.caller c.args.call c.in-Err.told c.args.world.now c.propose.new.self c.requires.called c.in-Err.ensures.told) c.in-Err.ensures.step c.end.ensures.step).kept
 
-pub returns-else-may_repeat-clause-greatest : goal.returns-else-may_repeat-clause-greatest
-returns-else-may_repeat-clause-greatest g c = (propose_ends _ c.args.caller c.args.call 0 c.in-Err.told c.args.world.now c.propose.new.self c.end.new.self c.requires.called c.requires.kept (propose_told c.args.caller c.args.call c.in-Err.told c.args.world.now c.propose.new.self c.requires.called c.in-Err.ensures.told) c.in-Err.ensures.step c.end.ensures.step).greatest
+pub returns-else-may_repeat-clause-last_proposer : goal.returns-else-may_repeat-clause-last_proposer
+returns-else-may_repeat-clause-last_proposer g c = (propose_ends _ c.args.caller c.args.call 0 c.in-Err.told c.args.world.now c.propose.new.self c.end.new.self c.requires.called c.requires.kept (propose_told c.args.caller c.args.call c.in-Err.told c.args.world.now c.propose.new.self c.requires.called c.in-Err.ensures.told) c.in-Err.ensures.step c.end.ensures.step).last_proposer
 
 pub returns-else-may_repeat-clause-ends : goal.returns-else-may_repeat-clause-ends
 returns-else-may_repeat-clause-ends g c most = subst (EndsIn c.args.caller c.args.call most c.args.world.now c.end.new.self) (sym c.end.ensures.same) (propose_ends _ c.args.caller c.args.call most c.in-Err.told c.args.world.now c.propose.new.self c.end.new.self c.requires.called c.requires.kept (propose_told c.args.caller c.args.call c.in-Err.told c.args.world.now c.propose.new.self c.requires.called c.in-Err.ensures.told) c.in-Err.ensures.step c.end.ensures.step).does

@@ -10,7 +10,7 @@ pub turn-requires-clause-waits : goal.turn-requires-clause-waits
 turn-requires-clause-waits g c = waits_there c.args.world.now c.args.caller (λ is_first. (open_quiet c.args.world.now c.args.caller c.args.call c.requires.called is_first).exchange) c.requires.waits
 
 pub stage_of-requires : goal.stage_of-requires
-stage_of-requires g c = let same = (turn_ok _ c.args.caller c.args.call c.args.verdict c.args.world.now c.turn.new.self c.requires.called c.requires.kept c.requires.running (as_turn _ c.args.world.now c.turn.new.self c.args.caller c.args.verdict (λ is_first. (open_quiet c.args.world.now c.args.caller c.args.call c.requires.called is_first).exchange) c.in-Ok.ensures.ok)).greatest in omega (arith, same, c.requires.known)
+stage_of-requires g c = let same = (turn_ok _ c.args.caller c.args.call c.args.verdict c.args.world.now c.turn.new.self c.requires.called c.requires.kept c.requires.running (as_turn _ c.args.world.now c.turn.new.self c.args.caller c.args.verdict (λ is_first. (open_quiet c.args.world.now c.args.caller c.args.call c.requires.called is_first).exchange) c.in-Ok.ensures.ok)).last_proposer in omega (arith, same, c.requires.known)
 
 pub has_proposed-proposed-requires : goal.has_proposed-proposed-requires
 has_proposed-proposed-requires g c = let same = greatest_refused _ c.args.caller c.args.world.now c.turn.new.self (as_refusal _ c.args.world.now c.turn.new.self c.args.caller (λ is_first. (open_quiet c.args.world.now c.args.caller c.args.call c.requires.called is_first).exchange) c.in-Err.ensures.err) in omega (arith, same, c.requires.known)
@@ -24,8 +24,8 @@ end-requires-clause-told g c = (turn_told _ c.args.caller c.args.call c.has_prop
 pub returns-in-Ok-clause-kept : goal.returns-in-Ok-clause-kept
 returns-in-Ok-clause-kept g c = (turn_ok _ c.args.caller c.args.call c.args.verdict c.args.world.now c.turn.new.self c.requires.called c.requires.kept c.requires.running (as_turn _ c.args.world.now c.turn.new.self c.args.caller c.args.verdict (λ is_first. (open_quiet c.args.world.now c.args.caller c.args.call c.requires.called is_first).exchange) c.in-Ok.ensures.ok)).kept
 
-pub returns-in-Ok-clause-greatest : goal.returns-in-Ok-clause-greatest
-returns-in-Ok-clause-greatest g c = (turn_ok _ c.args.caller c.args.call c.args.verdict c.args.world.now c.turn.new.self c.requires.called c.requires.kept c.requires.running (as_turn _ c.args.world.now c.turn.new.self c.args.caller c.args.verdict (λ is_first. (open_quiet c.args.world.now c.args.caller c.args.call c.requires.called is_first).exchange) c.in-Ok.ensures.ok)).greatest
+pub returns-in-Ok-clause-last_proposer : goal.returns-in-Ok-clause-last_proposer
+returns-in-Ok-clause-last_proposer g c = (turn_ok _ c.args.caller c.args.call c.args.verdict c.args.world.now c.turn.new.self c.requires.called c.requires.kept c.requires.running (as_turn _ c.args.world.now c.turn.new.self c.args.caller c.args.verdict (λ is_first. (open_quiet c.args.world.now c.args.caller c.args.call c.requires.called is_first).exchange) c.in-Ok.ensures.ok)).last_proposer
 
 pub returns-in-Ok-clause-goes_on : goal.returns-in-Ok-clause-goes_on
 returns-in-Ok-clause-goes_on g c = (turn_ok _ c.args.caller c.args.call c.args.verdict c.args.world.now c.turn.new.self c.requires.called c.requires.kept c.requires.running (as_turn _ c.args.world.now c.turn.new.self c.args.caller c.args.verdict (λ is_first. (open_quiet c.args.world.now c.args.caller c.args.call c.requires.called is_first).exchange) c.in-Ok.ensures.ok)).does
@@ -33,8 +33,8 @@ returns-in-Ok-clause-goes_on g c = (turn_ok _ c.args.caller c.args.call c.args.v
 pub returns-in-Err-clause-kept : goal.returns-in-Err-clause-kept
 returns-in-Err-clause-kept g c = (turn_ends _ c.args.caller c.args.call (harm_by c.args.verdict) _ c.args.world.now c.turn.new.self c.end.new.self c.requires.called c.requires.kept c.requires.running (as_refusal _ c.args.world.now c.turn.new.self c.args.caller (λ is_first. (open_quiet c.args.world.now c.args.caller c.args.call c.requires.called is_first).exchange) c.in-Err.ensures.err) (turn_told _ c.args.caller c.args.call c.has_proposed-proposed.result c.args.world.now c.turn.new.self c.requires.called (as_refusal _ c.args.world.now c.turn.new.self c.args.caller (λ is_first. (open_quiet c.args.world.now c.args.caller c.args.call c.requires.called is_first).exchange) c.in-Err.ensures.err) c.has_proposed-proposed.ensures.proposed) c.end.ensures.step).kept
 
-pub returns-in-Err-clause-greatest : goal.returns-in-Err-clause-greatest
-returns-in-Err-clause-greatest g c = (turn_ends _ c.args.caller c.args.call (harm_by c.args.verdict) _ c.args.world.now c.turn.new.self c.end.new.self c.requires.called c.requires.kept c.requires.running (as_refusal _ c.args.world.now c.turn.new.self c.args.caller (λ is_first. (open_quiet c.args.world.now c.args.caller c.args.call c.requires.called is_first).exchange) c.in-Err.ensures.err) (turn_told _ c.args.caller c.args.call c.has_proposed-proposed.result c.args.world.now c.turn.new.self c.requires.called (as_refusal _ c.args.world.now c.turn.new.self c.args.caller (λ is_first. (open_quiet c.args.world.now c.args.caller c.args.call c.requires.called is_first).exchange) c.in-Err.ensures.err) c.has_proposed-proposed.ensures.proposed) c.end.ensures.step).greatest
+pub returns-in-Err-clause-last_proposer : goal.returns-in-Err-clause-last_proposer
+returns-in-Err-clause-last_proposer g c = (turn_ends _ c.args.caller c.args.call (harm_by c.args.verdict) _ c.args.world.now c.turn.new.self c.end.new.self c.requires.called c.requires.kept c.requires.running (as_refusal _ c.args.world.now c.turn.new.self c.args.caller (λ is_first. (open_quiet c.args.world.now c.args.caller c.args.call c.requires.called is_first).exchange) c.in-Err.ensures.err) (turn_told _ c.args.caller c.args.call c.has_proposed-proposed.result c.args.world.now c.turn.new.self c.requires.called (as_refusal _ c.args.world.now c.turn.new.self c.args.caller (λ is_first. (open_quiet c.args.world.now c.args.caller c.args.call c.requires.called is_first).exchange) c.in-Err.ensures.err) c.has_proposed-proposed.ensures.proposed) c.end.ensures.step).last_proposer
 
 pub returns-in-Err-clause-ends : goal.returns-in-Err-clause-ends
 returns-in-Err-clause-ends g c = subst (EndsIn c.args.caller c.args.call (harm_by c.args.verdict) c.args.world.now c.end.new.self) (sym c.end.ensures.same) (turn_ends _ c.args.caller c.args.call (harm_by c.args.verdict) _ c.args.world.now c.turn.new.self c.end.new.self c.requires.called c.requires.kept c.requires.running (as_refusal _ c.args.world.now c.turn.new.self c.args.caller (λ is_first. (open_quiet c.args.world.now c.args.caller c.args.call c.requires.called is_first).exchange) c.in-Err.ensures.err) (turn_told _ c.args.caller c.args.call c.has_proposed-proposed.result c.args.world.now c.turn.new.self c.requires.called (as_refusal _ c.args.world.now c.turn.new.self c.args.caller (λ is_first. (open_quiet c.args.world.now c.args.caller c.args.call c.requires.called is_first).exchange) c.in-Err.ensures.err) c.has_proposed-proposed.ensures.proposed) c.end.ensures.step).does

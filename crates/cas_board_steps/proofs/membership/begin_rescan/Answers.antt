@@ -27,13 +27,13 @@ pub tell-requires : goal.tell-requires
 tell-requires g c = was_told (not_begun_may_stop c.args.world.now c.begin.new.world (asked_to c.args.aim.now.kind c.args.aim.now.id) c.args.key c.in-Err.told c.requires.planned c.requires.due (subst (λ (p : List Clause). BeginsNot 0 c.args.key p c.args.world.now c.begin.new.world c.in-Err.told) c.requires.program c.in-Err.ensures.not_begun) (sym c.is_done.ensures ∙ c.if-is_done.false))
 
 pub returns-else-is_done-clause-kept : goal.returns-else-is_done-clause-kept
-returns-else-is_done-clause-kept g c = (not_begun_stops c.args.world.now c.begin.new.world (asked_to c.args.aim.now.kind c.args.aim.now.id) c.args.key c.in-Err.told c.requires.planned c.requires.due (subst (λ (p : List Clause). BeginsNot 0 c.args.key p c.args.world.now c.begin.new.world c.in-Err.told) c.requires.program c.in-Err.ensures.not_begun) c.tell.new.self c.in-Err.ensures.kept c.in-Err.ensures.greatest (sym c.is_done.ensures ∙ c.if-is_done.false) c.tell.ensures.step).kept
+returns-else-is_done-clause-kept g c = (not_begun_stops c.args.world.now c.begin.new.world (asked_to c.args.aim.now.kind c.args.aim.now.id) c.args.key c.in-Err.told c.requires.planned c.requires.due (subst (λ (p : List Clause). BeginsNot 0 c.args.key p c.args.world.now c.begin.new.world c.in-Err.told) c.requires.program c.in-Err.ensures.not_begun) c.tell.new.self c.in-Err.ensures.kept c.in-Err.ensures.last_proposer (sym c.is_done.ensures ∙ c.if-is_done.false) c.tell.ensures.step).kept
 
-pub returns-else-is_done-clause-greatest : goal.returns-else-is_done-clause-greatest
-returns-else-is_done-clause-greatest g c = (not_begun_stops c.args.world.now c.begin.new.world (asked_to c.args.aim.now.kind c.args.aim.now.id) c.args.key c.in-Err.told c.requires.planned c.requires.due (subst (λ (p : List Clause). BeginsNot 0 c.args.key p c.args.world.now c.begin.new.world c.in-Err.told) c.requires.program c.in-Err.ensures.not_begun) c.tell.new.self c.in-Err.ensures.kept c.in-Err.ensures.greatest (sym c.is_done.ensures ∙ c.if-is_done.false) c.tell.ensures.step).greatest
+pub returns-else-is_done-clause-last_proposer : goal.returns-else-is_done-clause-last_proposer
+returns-else-is_done-clause-last_proposer g c = (not_begun_stops c.args.world.now c.begin.new.world (asked_to c.args.aim.now.kind c.args.aim.now.id) c.args.key c.in-Err.told c.requires.planned c.requires.due (subst (λ (p : List Clause). BeginsNot 0 c.args.key p c.args.world.now c.begin.new.world c.in-Err.told) c.requires.program c.in-Err.ensures.not_begun) c.tell.new.self c.in-Err.ensures.kept c.in-Err.ensures.last_proposer (sym c.is_done.ensures ∙ c.if-is_done.false) c.tell.ensures.step).last_proposer
 
 pub returns-else-is_done-clause-told : goal.returns-else-is_done-clause-told
-returns-else-is_done-clause-told g c = subst (IsToldIn (asked_to c.args.aim.now.kind c.args.aim.now.id) IsPlanMark 0 c.args.world.now c.tell.new.self) (sym c.tell.ensures.same) (not_begun_stops c.args.world.now c.begin.new.world (asked_to c.args.aim.now.kind c.args.aim.now.id) c.args.key c.in-Err.told c.requires.planned c.requires.due (subst (λ (p : List Clause). BeginsNot 0 c.args.key p c.args.world.now c.begin.new.world c.in-Err.told) c.requires.program c.in-Err.ensures.not_begun) c.tell.new.self c.in-Err.ensures.kept c.in-Err.ensures.greatest (sym c.is_done.ensures ∙ c.if-is_done.false) c.tell.ensures.step).does
+returns-else-is_done-clause-told g c = subst (IsToldIn (asked_to c.args.aim.now.kind c.args.aim.now.id) IsPlanMark 0 c.args.world.now c.tell.new.self) (sym c.tell.ensures.same) (not_begun_stops c.args.world.now c.begin.new.world (asked_to c.args.aim.now.kind c.args.aim.now.id) c.args.key c.in-Err.told c.requires.planned c.requires.due (subst (λ (p : List Clause). BeginsNot 0 c.args.key p c.args.world.now c.begin.new.world c.in-Err.told) c.requires.program c.in-Err.ensures.not_begun) c.tell.new.self c.in-Err.ensures.kept c.in-Err.ensures.last_proposer (sym c.is_done.ensures ∙ c.if-is_done.false) c.tell.ensures.step).does
 
 pub returns-else-is_done-clause-answer : goal.returns-else-is_done-clause-answer
 returns-else-is_done-clause-answer g c = subst (IsMembersAnswer (asked_to c.args.aim.now.kind c.args.aim.now.id)) (sym c.tell.ensures.same) tt

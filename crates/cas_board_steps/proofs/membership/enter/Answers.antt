@@ -11,8 +11,8 @@ enter_era-requires g c = may_enter c.args.world.now (asked_to c.args.aim.now.kin
 pub returns-in-Ok-clause-kept : goal.returns-in-Ok-clause-kept
 returns-in-Ok-clause-kept g c = (enter_held _ c.args.world.now c.enter_era.new.self (asked_to c.args.aim.now.kind c.args.aim.now.id) c.in-Some.proposer c.requires.planned c.requires.kept c.in-Ok.ensures.step (enter_under_way c.args.world.now c.enter_era.new.self (asked_to c.args.aim.now.kind c.args.aim.now.id) c.requires.planned c.in-Ok.ensures.ok)).kept
 
-pub returns-in-Ok-clause-greatest : goal.returns-in-Ok-clause-greatest
-returns-in-Ok-clause-greatest g c = (enter_held _ c.args.world.now c.enter_era.new.self (asked_to c.args.aim.now.kind c.args.aim.now.id) c.in-Some.proposer c.requires.planned c.requires.kept c.in-Ok.ensures.step (enter_under_way c.args.world.now c.enter_era.new.self (asked_to c.args.aim.now.kind c.args.aim.now.id) c.requires.planned c.in-Ok.ensures.ok)).greatest
+pub returns-in-Ok-clause-last_proposer : goal.returns-in-Ok-clause-last_proposer
+returns-in-Ok-clause-last_proposer g c = (enter_held _ c.args.world.now c.enter_era.new.self (asked_to c.args.aim.now.kind c.args.aim.now.id) c.in-Some.proposer c.requires.planned c.requires.kept c.in-Ok.ensures.step (enter_under_way c.args.world.now c.enter_era.new.self (asked_to c.args.aim.now.kind c.args.aim.now.id) c.requires.planned c.in-Ok.ensures.ok)).last_proposer
 
 pub returns-in-Ok-clause-goes_on : goal.returns-in-Ok-clause-goes_on
 returns-in-Ok-clause-goes_on g c = (enter_held _ c.args.world.now c.enter_era.new.self (asked_to c.args.aim.now.kind c.args.aim.now.id) c.in-Some.proposer c.requires.planned c.requires.kept c.in-Ok.ensures.step (enter_under_way c.args.world.now c.enter_era.new.self (asked_to c.args.aim.now.kind c.args.aim.now.id) c.requires.planned c.in-Ok.ensures.ok)).does.0
@@ -23,8 +23,8 @@ returns-in-Ok-clause-planned g c = (enter_held _ c.args.world.now c.enter_era.ne
 pub returns-in-Err-clause-kept : goal.returns-in-Err-clause-kept
 returns-in-Err-clause-kept g c = (enter_told _ c.args.world.now c.enter_era.new.self c.tell.new.self (asked_to c.args.aim.now.kind c.args.aim.now.id) c.in-Some.proposer c.in-Err.told c.requires.planned c.requires.kept c.in-Err.ensures.step c.in-Err.ensures.err c.tell.ensures.step).kept
 
-pub returns-in-Err-clause-greatest : goal.returns-in-Err-clause-greatest
-returns-in-Err-clause-greatest g c = (enter_told _ c.args.world.now c.enter_era.new.self c.tell.new.self (asked_to c.args.aim.now.kind c.args.aim.now.id) c.in-Some.proposer c.in-Err.told c.requires.planned c.requires.kept c.in-Err.ensures.step c.in-Err.ensures.err c.tell.ensures.step).greatest
+pub returns-in-Err-clause-last_proposer : goal.returns-in-Err-clause-last_proposer
+returns-in-Err-clause-last_proposer g c = (enter_told _ c.args.world.now c.enter_era.new.self c.tell.new.self (asked_to c.args.aim.now.kind c.args.aim.now.id) c.in-Some.proposer c.in-Err.told c.requires.planned c.requires.kept c.in-Err.ensures.step c.in-Err.ensures.err c.tell.ensures.step).last_proposer
 
 pub returns-in-Err-clause-told : goal.returns-in-Err-clause-told
 returns-in-Err-clause-told g c = subst (IsToldIn (asked_to c.args.aim.now.kind c.args.aim.now.id) IsPlanMark 0 c.args.world.now c.tell.new.self) (sym c.tell.ensures.same) (enter_told _ c.args.world.now c.enter_era.new.self c.tell.new.self (asked_to c.args.aim.now.kind c.args.aim.now.id) c.in-Some.proposer c.in-Err.told c.requires.planned c.requires.kept c.in-Err.ensures.step c.in-Err.ensures.err c.tell.ensures.step).does.0

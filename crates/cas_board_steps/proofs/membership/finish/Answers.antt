@@ -14,8 +14,8 @@ tell-requires g c = has_finished c.finished-answer.ensures.finished
 pub returns-clause-kept : goal.returns-clause-kept
 returns-clause-kept g c = (finishes c.args.world.now c.tell.new.self (asked_to c.args.aim.now.kind c.args.aim.now.id) c.finished-answer.result c.requires.planned c.requires.kept c.tell.ensures.step c.finished-answer.ensures.finished).kept
 
-pub returns-clause-greatest : goal.returns-clause-greatest
-returns-clause-greatest g c = (finishes c.args.world.now c.tell.new.self (asked_to c.args.aim.now.kind c.args.aim.now.id) c.finished-answer.result c.requires.planned c.requires.kept c.tell.ensures.step c.finished-answer.ensures.finished).greatest
+pub returns-clause-last_proposer : goal.returns-clause-last_proposer
+returns-clause-last_proposer g c = (finishes c.args.world.now c.tell.new.self (asked_to c.args.aim.now.kind c.args.aim.now.id) c.finished-answer.result c.requires.planned c.requires.kept c.tell.ensures.step c.finished-answer.ensures.finished).last_proposer
 
 pub returns-clause-told : goal.returns-clause-told
 returns-clause-told g c = subst (IsToldIn (asked_to c.args.aim.now.kind c.args.aim.now.id) IsPlanMark 0 c.args.world.now c.tell.new.self) (sym c.tell.ensures.same) (finishes c.args.world.now c.tell.new.self (asked_to c.args.aim.now.kind c.args.aim.now.id) c.finished-answer.result c.requires.planned c.requires.kept c.tell.ensures.step c.finished-answer.ensures.finished).does

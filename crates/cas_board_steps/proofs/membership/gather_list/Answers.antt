@@ -11,8 +11,8 @@ gather-requires g c = may_gather_list c.args.world.now (asked_to c.args.aim.now.
 pub returns-in-Ok-clause-kept : goal.returns-in-Ok-clause-kept
 returns-in-Ok-clause-kept g c = (gather_list_held _ c.args.world.now c.gather.new.self (asked_to c.args.aim.now.kind c.args.aim.now.id) c.in-Ok.field-0 c.requires.lists c.requires.kept c.in-Ok.ensures.step c.in-Ok.ensures.ok).kept
 
-pub returns-in-Ok-clause-greatest : goal.returns-in-Ok-clause-greatest
-returns-in-Ok-clause-greatest g c = (gather_list_held _ c.args.world.now c.gather.new.self (asked_to c.args.aim.now.kind c.args.aim.now.id) c.in-Ok.field-0 c.requires.lists c.requires.kept c.in-Ok.ensures.step c.in-Ok.ensures.ok).greatest
+pub returns-in-Ok-clause-last_proposer : goal.returns-in-Ok-clause-last_proposer
+returns-in-Ok-clause-last_proposer g c = (gather_list_held _ c.args.world.now c.gather.new.self (asked_to c.args.aim.now.kind c.args.aim.now.id) c.in-Ok.field-0 c.requires.lists c.requires.kept c.in-Ok.ensures.step c.in-Ok.ensures.ok).last_proposer
 
 pub returns-in-Ok-clause-goes_on : goal.returns-in-Ok-clause-goes_on
 returns-in-Ok-clause-goes_on g c most = made_none most c.args.world.now c.gather.new.self ((gather_list_held _ c.args.world.now c.gather.new.self (asked_to c.args.aim.now.kind c.args.aim.now.id) c.in-Ok.field-0 c.requires.lists c.requires.kept c.in-Ok.ensures.step c.in-Ok.ensures.ok).does.0) ((gather_list_held _ c.args.world.now c.gather.new.self (asked_to c.args.aim.now.kind c.args.aim.now.id) c.in-Ok.field-0 c.requires.lists c.requires.kept c.in-Ok.ensures.step c.in-Ok.ensures.ok).does.2)
@@ -23,8 +23,8 @@ returns-in-Ok-clause-planned g c = (gather_list_held _ c.args.world.now c.gather
 pub returns-clause-kept : goal.returns-clause-kept
 returns-clause-kept g c = (gather_list_told _ 0 c.args.world.now c.gather.new.self c.tell.new.self (asked_to c.args.aim.now.kind c.args.aim.now.id) c.in-Err.told c.requires.lists c.requires.kept c.in-Err.ensures.step c.in-Err.ensures.err c.tell.ensures.step).kept
 
-pub returns-clause-greatest : goal.returns-clause-greatest
-returns-clause-greatest g c = (gather_list_told _ 0 c.args.world.now c.gather.new.self c.tell.new.self (asked_to c.args.aim.now.kind c.args.aim.now.id) c.in-Err.told c.requires.lists c.requires.kept c.in-Err.ensures.step c.in-Err.ensures.err c.tell.ensures.step).greatest
+pub returns-clause-last_proposer : goal.returns-clause-last_proposer
+returns-clause-last_proposer g c = (gather_list_told _ 0 c.args.world.now c.gather.new.self c.tell.new.self (asked_to c.args.aim.now.kind c.args.aim.now.id) c.in-Err.told c.requires.lists c.requires.kept c.in-Err.ensures.step c.in-Err.ensures.err c.tell.ensures.step).last_proposer
 
 pub returns-clause-told : goal.returns-clause-told
 returns-clause-told g c most = subst (IsToldIn (asked_to c.args.aim.now.kind c.args.aim.now.id) IsPlanMark most c.args.world.now c.tell.new.self) (sym c.tell.ensures.same) (gather_list_told _ most c.args.world.now c.gather.new.self c.tell.new.self (asked_to c.args.aim.now.kind c.args.aim.now.id) c.in-Err.told c.requires.lists c.requires.kept c.in-Err.ensures.step c.in-Err.ensures.err c.tell.ensures.step).does.0

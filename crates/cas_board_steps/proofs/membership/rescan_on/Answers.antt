@@ -33,13 +33,13 @@ pub tell-requires : goal.tell-requires
 tell-requires g c = was_told (ended_may_stop c.args.call (harm_by c.args.verdict) c.args.world.now c.go_on.new.world (asked_to c.args.aim.now.kind c.args.aim.now.id) c.args.key.now c.args.program.now c.in-Err.told c.requires.rescans c.requires.kept c.requires.wanted c.in-Err.ensures.ends (sym c.is_done.ensures ∙ c.if-is_done.false))
 
 pub returns-else-is_done-clause-kept : goal.returns-else-is_done-clause-kept
-returns-else-is_done-clause-kept g c = (ended_stops c.args.call (harm_by c.args.verdict) c.args.world.now c.go_on.new.world (asked_to c.args.aim.now.kind c.args.aim.now.id) c.args.key.now c.args.program.now c.in-Err.told c.requires.rescans c.requires.kept c.requires.wanted c.in-Err.ensures.ends (rounds_after (own_part c.args.world.now 0)) (λ conflict. refl) c.tell.new.self c.in-Err.ensures.kept c.in-Err.ensures.greatest (sym c.is_done.ensures ∙ c.if-is_done.false) c.tell.ensures.step).kept
+returns-else-is_done-clause-kept g c = (ended_stops c.args.call (harm_by c.args.verdict) c.args.world.now c.go_on.new.world (asked_to c.args.aim.now.kind c.args.aim.now.id) c.args.key.now c.args.program.now c.in-Err.told c.requires.rescans c.requires.kept c.requires.wanted c.in-Err.ensures.ends (rounds_after (own_part c.args.world.now 0)) (λ conflict. refl) c.tell.new.self c.in-Err.ensures.kept c.in-Err.ensures.last_proposer (sym c.is_done.ensures ∙ c.if-is_done.false) c.tell.ensures.step).kept
 
-pub returns-else-is_done-clause-greatest : goal.returns-else-is_done-clause-greatest
-returns-else-is_done-clause-greatest g c = (ended_stops c.args.call (harm_by c.args.verdict) c.args.world.now c.go_on.new.world (asked_to c.args.aim.now.kind c.args.aim.now.id) c.args.key.now c.args.program.now c.in-Err.told c.requires.rescans c.requires.kept c.requires.wanted c.in-Err.ensures.ends (rounds_after (own_part c.args.world.now 0)) (λ conflict. refl) c.tell.new.self c.in-Err.ensures.kept c.in-Err.ensures.greatest (sym c.is_done.ensures ∙ c.if-is_done.false) c.tell.ensures.step).greatest
+pub returns-else-is_done-clause-last_proposer : goal.returns-else-is_done-clause-last_proposer
+returns-else-is_done-clause-last_proposer g c = (ended_stops c.args.call (harm_by c.args.verdict) c.args.world.now c.go_on.new.world (asked_to c.args.aim.now.kind c.args.aim.now.id) c.args.key.now c.args.program.now c.in-Err.told c.requires.rescans c.requires.kept c.requires.wanted c.in-Err.ensures.ends (rounds_after (own_part c.args.world.now 0)) (λ conflict. refl) c.tell.new.self c.in-Err.ensures.kept c.in-Err.ensures.last_proposer (sym c.is_done.ensures ∙ c.if-is_done.false) c.tell.ensures.step).last_proposer
 
 pub returns-else-is_done-clause-told : goal.returns-else-is_done-clause-told
-returns-else-is_done-clause-told g c tries spent = subst (IsToldIn (asked_to c.args.aim.now.kind c.args.aim.now.id) (IsRescanMark tries) (harm_by c.args.verdict) c.args.world.now c.tell.new.self) (sym c.tell.ensures.same) (ended_stops c.args.call (harm_by c.args.verdict) c.args.world.now c.go_on.new.world (asked_to c.args.aim.now.kind c.args.aim.now.id) c.args.key.now c.args.program.now c.in-Err.told c.requires.rescans c.requires.kept c.requires.wanted c.in-Err.ensures.ends tries (λ conflict. spent (c.in-Err.ensures.last conflict)) c.tell.new.self c.in-Err.ensures.kept c.in-Err.ensures.greatest (sym c.is_done.ensures ∙ c.if-is_done.false) c.tell.ensures.step).does
+returns-else-is_done-clause-told g c tries spent = subst (IsToldIn (asked_to c.args.aim.now.kind c.args.aim.now.id) (IsRescanMark tries) (harm_by c.args.verdict) c.args.world.now c.tell.new.self) (sym c.tell.ensures.same) (ended_stops c.args.call (harm_by c.args.verdict) c.args.world.now c.go_on.new.world (asked_to c.args.aim.now.kind c.args.aim.now.id) c.args.key.now c.args.program.now c.in-Err.told c.requires.rescans c.requires.kept c.requires.wanted c.in-Err.ensures.ends tries (λ conflict. spent (c.in-Err.ensures.last conflict)) c.tell.new.self c.in-Err.ensures.kept c.in-Err.ensures.last_proposer (sym c.is_done.ensures ∙ c.if-is_done.false) c.tell.ensures.step).does
 
 pub returns-else-is_done-clause-answer : goal.returns-else-is_done-clause-answer
 returns-else-is_done-clause-answer g c = subst (IsMembersAnswer (asked_to c.args.aim.now.kind c.args.aim.now.id)) (sym c.tell.ensures.same) tt

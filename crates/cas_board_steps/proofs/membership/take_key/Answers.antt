@@ -21,8 +21,8 @@ begin_due-requires-clause-planned g c = subst (λ v. HasPlan (asked_to c.args.ai
 pub begin_due-requires-clause-due : goal.begin_due-requires-clause-due
 begin_due-requires-clause-due g c = c.in-Ok.ensures.key ∙ ap (λ v. due_in v.council.plan) (sym c.in-Ok.ensures.unchanged)
 
-pub returns-in-Ok-clause-greatest : goal.returns-in-Ok-clause-greatest
-returns-in-Ok-clause-greatest g c = c.begin_due.ensures.greatest ∙ ap (λ v. v.greatest) c.in-Ok.ensures.unchanged
+pub returns-in-Ok-clause-last_proposer : goal.returns-in-Ok-clause-last_proposer
+returns-in-Ok-clause-last_proposer g c = c.begin_due.ensures.last_proposer ∙ ap (λ v. v.last_proposer) c.in-Ok.ensures.unchanged
 
 pub returns-in-Ok-clause-goes_on : goal.returns-in-Ok-clause-goes_on
 returns-in-Ok-clause-goes_on g c = subst (λ v. OnOk c.begin_due.result (OperatesIn IsPlanMark 0 v c.begin_due.new.world)) c.in-Ok.ensures.unchanged c.begin_due.ensures.goes_on
@@ -33,8 +33,8 @@ returns-in-Ok-clause-told g c = subst (λ v. IfErr c.begin_due.result (IsToldIn 
 pub returns-in-Err-clause-kept : goal.returns-in-Err-clause-kept
 returns-in-Err-clause-kept g c = (key_may_tell c.args.world.now c.due_key.new.self c.tell.new.self (asked_to c.args.aim.now.kind c.args.aim.now.id) c.in-Err.told c.requires.planned c.requires.kept c.in-Err.ensures.step c.in-Err.ensures.told c.tell.ensures.step).kept
 
-pub returns-in-Err-clause-greatest : goal.returns-in-Err-clause-greatest
-returns-in-Err-clause-greatest g c = (key_may_tell c.args.world.now c.due_key.new.self c.tell.new.self (asked_to c.args.aim.now.kind c.args.aim.now.id) c.in-Err.told c.requires.planned c.requires.kept c.in-Err.ensures.step c.in-Err.ensures.told c.tell.ensures.step).greatest
+pub returns-in-Err-clause-last_proposer : goal.returns-in-Err-clause-last_proposer
+returns-in-Err-clause-last_proposer g c = (key_may_tell c.args.world.now c.due_key.new.self c.tell.new.self (asked_to c.args.aim.now.kind c.args.aim.now.id) c.in-Err.told c.requires.planned c.requires.kept c.in-Err.ensures.step c.in-Err.ensures.told c.tell.ensures.step).last_proposer
 
 pub returns-in-Err-clause-told : goal.returns-in-Err-clause-told
 returns-in-Err-clause-told g c = subst (IsToldIn (asked_to c.args.aim.now.kind c.args.aim.now.id) IsPlanMark 0 c.args.world.now c.tell.new.self) (sym c.tell.ensures.same) (key_may_tell c.args.world.now c.due_key.new.self c.tell.new.self (asked_to c.args.aim.now.kind c.args.aim.now.id) c.in-Err.told c.requires.planned c.requires.kept c.in-Err.ensures.step c.in-Err.ensures.told c.tell.ensures.step).does.0

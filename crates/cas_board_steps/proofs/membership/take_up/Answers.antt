@@ -17,8 +17,8 @@ open_plan-requires g c = may_open c.args.world.now (asked_to c.args.aim.now.kind
 pub returns-in-Ok-clause-kept : goal.returns-in-Ok-clause-kept
 returns-in-Ok-clause-kept g c = (open_held _ c.args.world.now c.open_plan.new.self (asked_to c.args.aim.now.kind c.args.aim.now.id) c.requires.ordered c.requires.kept c.in-Ok.ensures.step c.in-Ok.ensures.ok).kept
 
-pub returns-in-Ok-clause-greatest : goal.returns-in-Ok-clause-greatest
-returns-in-Ok-clause-greatest g c = (open_held _ c.args.world.now c.open_plan.new.self (asked_to c.args.aim.now.kind c.args.aim.now.id) c.requires.ordered c.requires.kept c.in-Ok.ensures.step c.in-Ok.ensures.ok).greatest
+pub returns-in-Ok-clause-last_proposer : goal.returns-in-Ok-clause-last_proposer
+returns-in-Ok-clause-last_proposer g c = (open_held _ c.args.world.now c.open_plan.new.self (asked_to c.args.aim.now.kind c.args.aim.now.id) c.requires.ordered c.requires.kept c.in-Ok.ensures.step c.in-Ok.ensures.ok).last_proposer
 
 pub returns-in-Ok-clause-makes : goal.returns-in-Ok-clause-makes
 returns-in-Ok-clause-makes g c = (open_held _ c.args.world.now c.open_plan.new.self (asked_to c.args.aim.now.kind c.args.aim.now.id) c.requires.ordered c.requires.kept c.in-Ok.ensures.step c.in-Ok.ensures.ok).does.0
@@ -29,8 +29,8 @@ returns-in-Ok-clause-planned g c = (open_held _ c.args.world.now c.open_plan.new
 pub returns-in-Err-clause-kept : goal.returns-in-Err-clause-kept
 returns-in-Err-clause-kept g c = (open_told _ c.args.world.now c.open_plan.new.self c.tell.new.self (asked_to c.args.aim.now.kind c.args.aim.now.id) c.in-Err.told c.requires.ordered c.requires.kept c.in-Err.ensures.step c.in-Err.ensures.err c.tell.ensures.step).kept
 
-pub returns-in-Err-clause-greatest : goal.returns-in-Err-clause-greatest
-returns-in-Err-clause-greatest g c = (open_told _ c.args.world.now c.open_plan.new.self c.tell.new.self (asked_to c.args.aim.now.kind c.args.aim.now.id) c.in-Err.told c.requires.ordered c.requires.kept c.in-Err.ensures.step c.in-Err.ensures.err c.tell.ensures.step).greatest
+pub returns-in-Err-clause-last_proposer : goal.returns-in-Err-clause-last_proposer
+returns-in-Err-clause-last_proposer g c = (open_told _ c.args.world.now c.open_plan.new.self c.tell.new.self (asked_to c.args.aim.now.kind c.args.aim.now.id) c.in-Err.told c.requires.ordered c.requires.kept c.in-Err.ensures.step c.in-Err.ensures.err c.tell.ensures.step).last_proposer
 
 pub returns-in-Err-clause-told : goal.returns-in-Err-clause-told
 returns-in-Err-clause-told g c = subst (IsToldIn (asked_to c.args.aim.now.kind c.args.aim.now.id) IsPlanMark 0 c.args.world.now c.tell.new.self) (sym c.tell.ensures.same) (open_told _ c.args.world.now c.open_plan.new.self c.tell.new.self (asked_to c.args.aim.now.kind c.args.aim.now.id) c.in-Err.told c.requires.ordered c.requires.kept c.in-Err.ensures.step c.in-Err.ensures.err c.tell.ensures.step).does.0

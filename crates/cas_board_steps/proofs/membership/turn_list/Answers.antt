@@ -16,8 +16,8 @@ tell-requires g c = subst (MayTell c.turn.new.self) (sym c.no_memory.ensures) (w
 pub returns-in-Ok-clause-kept : goal.returns-in-Ok-clause-kept
 returns-in-Ok-clause-kept g c = (list_turn_held _ c.args.world.now c.turn.new.self (asked_to c.args.aim.now.kind c.args.aim.now.id) c.args.verdict c.requires.lists c.requires.kept c.in-Ok.ensures.ok).kept
 
-pub returns-in-Ok-clause-greatest : goal.returns-in-Ok-clause-greatest
-returns-in-Ok-clause-greatest g c = (list_turn_held _ c.args.world.now c.turn.new.self (asked_to c.args.aim.now.kind c.args.aim.now.id) c.args.verdict c.requires.lists c.requires.kept c.in-Ok.ensures.ok).greatest
+pub returns-in-Ok-clause-last_proposer : goal.returns-in-Ok-clause-last_proposer
+returns-in-Ok-clause-last_proposer g c = (list_turn_held _ c.args.world.now c.turn.new.self (asked_to c.args.aim.now.kind c.args.aim.now.id) c.args.verdict c.requires.lists c.requires.kept c.in-Ok.ensures.ok).last_proposer
 
 pub returns-in-Ok-clause-goes_on : goal.returns-in-Ok-clause-goes_on
 returns-in-Ok-clause-goes_on g c = (list_turn_held _ c.args.world.now c.turn.new.self (asked_to c.args.aim.now.kind c.args.aim.now.id) c.args.verdict c.requires.lists c.requires.kept c.in-Ok.ensures.ok).does.0
@@ -28,8 +28,8 @@ returns-in-Ok-clause-lists g c = still_listing c.args.world.now c.turn.new.self 
 pub returns-in-Err-clause-kept : goal.returns-in-Err-clause-kept
 returns-in-Err-clause-kept g c = (list_turn_told _ (harm_by c.args.verdict) c.args.world.now c.turn.new.self c.tell.new.self (asked_to c.args.aim.now.kind c.args.aim.now.id) c.no_memory.result c.requires.lists c.requires.kept c.in-Err.ensures.err c.tell.ensures.step (subst IsPassing (sym c.no_memory.ensures) tt)).kept
 
-pub returns-in-Err-clause-greatest : goal.returns-in-Err-clause-greatest
-returns-in-Err-clause-greatest g c = (list_turn_told _ (harm_by c.args.verdict) c.args.world.now c.turn.new.self c.tell.new.self (asked_to c.args.aim.now.kind c.args.aim.now.id) c.no_memory.result c.requires.lists c.requires.kept c.in-Err.ensures.err c.tell.ensures.step (subst IsPassing (sym c.no_memory.ensures) tt)).greatest
+pub returns-in-Err-clause-last_proposer : goal.returns-in-Err-clause-last_proposer
+returns-in-Err-clause-last_proposer g c = (list_turn_told _ (harm_by c.args.verdict) c.args.world.now c.turn.new.self c.tell.new.self (asked_to c.args.aim.now.kind c.args.aim.now.id) c.no_memory.result c.requires.lists c.requires.kept c.in-Err.ensures.err c.tell.ensures.step (subst IsPassing (sym c.no_memory.ensures) tt)).last_proposer
 
 pub returns-in-Err-clause-told : goal.returns-in-Err-clause-told
 returns-in-Err-clause-told g c = subst (IsToldIn (asked_to c.args.aim.now.kind c.args.aim.now.id) IsPlanMark (harm_by c.args.verdict) c.args.world.now c.tell.new.self) (sym c.tell.ensures.same) (list_turn_told _ (harm_by c.args.verdict) c.args.world.now c.turn.new.self c.tell.new.self (asked_to c.args.aim.now.kind c.args.aim.now.id) c.no_memory.result c.requires.lists c.requires.kept c.in-Err.ensures.err c.tell.ensures.step (subst IsPassing (sym c.no_memory.ensures) tt)).does

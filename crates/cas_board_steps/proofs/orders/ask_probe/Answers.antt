@@ -10,8 +10,8 @@ ask_all-requires g c = may_ask c.args.world.now c.args.order.question c.args.ord
 pub returns-in-Ok-clause-kept : goal.returns-in-Ok-clause-kept
 returns-in-Ok-clause-kept g c = (ask_held _ c.args.world.now c.ask_all.new.self c.args.order.question c.args.order.key c.requires.question c.requires.ordered c.requires.kept c.in-Ok.ensures.step c.in-Ok.ensures.ok).kept
 
-pub returns-in-Ok-clause-greatest : goal.returns-in-Ok-clause-greatest
-returns-in-Ok-clause-greatest g c = (ask_held _ c.args.world.now c.ask_all.new.self c.args.order.question c.args.order.key c.requires.question c.requires.ordered c.requires.kept c.in-Ok.ensures.step c.in-Ok.ensures.ok).greatest
+pub returns-in-Ok-clause-last_proposer : goal.returns-in-Ok-clause-last_proposer
+returns-in-Ok-clause-last_proposer g c = (ask_held _ c.args.world.now c.ask_all.new.self c.args.order.question c.args.order.key c.requires.question c.requires.ordered c.requires.kept c.in-Ok.ensures.step c.in-Ok.ensures.ok).last_proposer
 
 pub returns-in-Ok-clause-makes : goal.returns-in-Ok-clause-makes
 returns-in-Ok-clause-makes g c = (ask_held _ c.args.world.now c.ask_all.new.self c.args.order.question c.args.order.key c.requires.question c.requires.ordered c.requires.kept c.in-Ok.ensures.step c.in-Ok.ensures.ok).does.0
@@ -28,8 +28,8 @@ returns-in-Ok-clause-behind g c = (ask_held _ c.args.world.now c.ask_all.new.sel
 pub returns-in-Err-clause-kept : goal.returns-in-Err-clause-kept
 returns-in-Err-clause-kept g c = (ask_told _ c.args.world.now c.ask_all.new.self c.tell.new.self c.args.order.question c.args.order.key c.in-Err.told c.requires.question c.requires.ordered c.requires.kept c.in-Err.ensures.step c.in-Err.ensures.none c.in-Err.ensures.err c.tell.ensures.step).kept
 
-pub returns-in-Err-clause-greatest : goal.returns-in-Err-clause-greatest
-returns-in-Err-clause-greatest g c = (ask_told _ c.args.world.now c.ask_all.new.self c.tell.new.self c.args.order.question c.args.order.key c.in-Err.told c.requires.question c.requires.ordered c.requires.kept c.in-Err.ensures.step c.in-Err.ensures.none c.in-Err.ensures.err c.tell.ensures.step).greatest
+pub returns-in-Err-clause-last_proposer : goal.returns-in-Err-clause-last_proposer
+returns-in-Err-clause-last_proposer g c = (ask_told _ c.args.world.now c.ask_all.new.self c.tell.new.self c.args.order.question c.args.order.key c.in-Err.told c.requires.question c.requires.ordered c.requires.kept c.in-Err.ensures.step c.in-Err.ensures.none c.in-Err.ensures.err c.tell.ensures.step).last_proposer
 
 pub returns-in-Err-clause-told : goal.returns-in-Err-clause-told
 returns-in-Err-clause-told g c = subst (IsToldIn (asked.Probe c.args.order.key) IsAskingHarm 0 c.args.world.now c.tell.new.self) (sym c.tell.ensures.same) (ask_told _ c.args.world.now c.ask_all.new.self c.tell.new.self c.args.order.question c.args.order.key c.in-Err.told c.requires.question c.requires.ordered c.requires.kept c.in-Err.ensures.step c.in-Err.ensures.none c.in-Err.ensures.err c.tell.ensures.step).does.0

@@ -19,8 +19,8 @@ tell-requires g c = was_told (found_told c.args.world.now c.gather.new.self c.ar
 pub returns-in-Ok-clause-kept : goal.returns-in-Ok-clause-kept
 returns-in-Ok-clause-kept g c = (gather_told _ 0 c.args.world.now c.gather.new.self c.tell.new.self c.args.key c.requires.asks.0 (op.Probed c.args.key c.into_probes-found.result) c.requires.asks.1 c.requires.kept c.in-Ok.ensures.step (found_told c.args.world.now c.gather.new.self c.args.key c.requires.asks.0 c.in-Ok.gathered c.into_probes-found.result c.requires.asks.1 c.in-Ok.ensures.ok c.into_probes-found.ensures) c.tell.ensures.step).kept
 
-pub returns-in-Ok-clause-greatest : goal.returns-in-Ok-clause-greatest
-returns-in-Ok-clause-greatest g c = (gather_told _ 0 c.args.world.now c.gather.new.self c.tell.new.self c.args.key c.requires.asks.0 (op.Probed c.args.key c.into_probes-found.result) c.requires.asks.1 c.requires.kept c.in-Ok.ensures.step (found_told c.args.world.now c.gather.new.self c.args.key c.requires.asks.0 c.in-Ok.gathered c.into_probes-found.result c.requires.asks.1 c.in-Ok.ensures.ok c.into_probes-found.ensures) c.tell.ensures.step).greatest
+pub returns-in-Ok-clause-last_proposer : goal.returns-in-Ok-clause-last_proposer
+returns-in-Ok-clause-last_proposer g c = (gather_told _ 0 c.args.world.now c.gather.new.self c.tell.new.self c.args.key c.requires.asks.0 (op.Probed c.args.key c.into_probes-found.result) c.requires.asks.1 c.requires.kept c.in-Ok.ensures.step (found_told c.args.world.now c.gather.new.self c.args.key c.requires.asks.0 c.in-Ok.gathered c.into_probes-found.result c.requires.asks.1 c.in-Ok.ensures.ok c.into_probes-found.ensures) c.tell.ensures.step).last_proposer
 
 pub returns-in-Ok-clause-told : goal.returns-in-Ok-clause-told
 returns-in-Ok-clause-told g c most = subst (IsToldIn (asked.Probe c.args.key) IsAskingHarm most c.args.world.now c.tell.new.self) (sym c.tell.ensures.same) (gather_told _ most c.args.world.now c.gather.new.self c.tell.new.self c.args.key c.requires.asks.0 (op.Probed c.args.key c.into_probes-found.result) c.requires.asks.1 c.requires.kept c.in-Ok.ensures.step (found_told c.args.world.now c.gather.new.self c.args.key c.requires.asks.0 c.in-Ok.gathered c.into_probes-found.result c.requires.asks.1 c.in-Ok.ensures.ok c.into_probes-found.ensures) c.tell.ensures.step).does.0
@@ -31,8 +31,8 @@ returns-in-Ok-clause-answer g c members has = subst (IsProbeAnswer c.args.key me
 pub returns-in-Err-clause-kept : goal.returns-in-Err-clause-kept
 returns-in-Err-clause-kept g c = (gather_told _ 0 c.args.world.now c.gather.new.self c.tell-in-Err.new.self c.args.key c.requires.asks.0 c.in-Err.told c.requires.asks.1 c.requires.kept c.in-Err.ensures.step c.in-Err.ensures.err c.tell-in-Err.ensures.step).kept
 
-pub returns-in-Err-clause-greatest : goal.returns-in-Err-clause-greatest
-returns-in-Err-clause-greatest g c = (gather_told _ 0 c.args.world.now c.gather.new.self c.tell-in-Err.new.self c.args.key c.requires.asks.0 c.in-Err.told c.requires.asks.1 c.requires.kept c.in-Err.ensures.step c.in-Err.ensures.err c.tell-in-Err.ensures.step).greatest
+pub returns-in-Err-clause-last_proposer : goal.returns-in-Err-clause-last_proposer
+returns-in-Err-clause-last_proposer g c = (gather_told _ 0 c.args.world.now c.gather.new.self c.tell-in-Err.new.self c.args.key c.requires.asks.0 c.in-Err.told c.requires.asks.1 c.requires.kept c.in-Err.ensures.step c.in-Err.ensures.err c.tell-in-Err.ensures.step).last_proposer
 
 pub returns-in-Err-clause-told : goal.returns-in-Err-clause-told
 returns-in-Err-clause-told g c most = subst (IsToldIn (asked.Probe c.args.key) IsAskingHarm most c.args.world.now c.tell-in-Err.new.self) (sym c.tell-in-Err.ensures.same) (gather_told _ most c.args.world.now c.gather.new.self c.tell-in-Err.new.self c.args.key c.requires.asks.0 c.in-Err.told c.requires.asks.1 c.requires.kept c.in-Err.ensures.step c.in-Err.ensures.err c.tell-in-Err.ensures.step).does.0

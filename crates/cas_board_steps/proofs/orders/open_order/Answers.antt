@@ -12,8 +12,8 @@ order-requires g c = (free_idle c.args.world.now c.requires.free).order
 pub returns-in-Ok-clause-kept : goal.returns-in-Ok-clause-kept
 returns-in-Ok-clause-kept g c = (order_held c.args.world.now c.order.new.self c.args.asked.now c.requires.free c.requires.kept c.in-Ok.ensures.ok).kept
 
-pub returns-in-Ok-clause-greatest : goal.returns-in-Ok-clause-greatest
-returns-in-Ok-clause-greatest g c = (order_held c.args.world.now c.order.new.self c.args.asked.now c.requires.free c.requires.kept c.in-Ok.ensures.ok).greatest
+pub returns-in-Ok-clause-last_proposer : goal.returns-in-Ok-clause-last_proposer
+returns-in-Ok-clause-last_proposer g c = (order_held c.args.world.now c.order.new.self c.args.asked.now c.requires.free c.requires.kept c.in-Ok.ensures.ok).last_proposer
 
 pub returns-in-Ok-clause-makes : goal.returns-in-Ok-clause-makes
 returns-in-Ok-clause-makes g c = (order_held c.args.world.now c.order.new.self c.args.asked.now c.requires.free c.requires.kept c.in-Ok.ensures.ok).does.0
@@ -24,8 +24,8 @@ returns-in-Ok-clause-ordered g c = (order_held c.args.world.now c.order.new.self
 pub returns-in-Err-clause-kept : goal.returns-in-Err-clause-kept
 returns-in-Err-clause-kept g c = (unordered c.args.world.now c.order.new.self c.in-Err.ensures.err c.requires.free c.requires.kept).kept
 
-pub returns-in-Err-clause-greatest : goal.returns-in-Err-clause-greatest
-returns-in-Err-clause-greatest g c = (unordered c.args.world.now c.order.new.self c.in-Err.ensures.err c.requires.free c.requires.kept).greatest
+pub returns-in-Err-clause-last_proposer : goal.returns-in-Err-clause-last_proposer
+returns-in-Err-clause-last_proposer g c = (unordered c.args.world.now c.order.new.self c.in-Err.ensures.err c.requires.free c.requires.kept).last_proposer
 
 pub returns-in-Err-clause-makes : goal.returns-in-Err-clause-makes
 returns-in-Err-clause-makes g c = (unordered c.args.world.now c.order.new.self c.in-Err.ensures.err c.requires.free c.requires.kept).does

@@ -15,8 +15,8 @@ tell-requires g c = subst (MayTell c.turn.new.self) (sym c.no_memory.ensures) (w
 pub returns-in-Ok-clause-kept : goal.returns-in-Ok-clause-kept
 returns-in-Ok-clause-kept g c = (turn_held _ c.args.world.now c.turn.new.self c.args.key.now c.requires.asks.0 c.args.verdict c.requires.asks.1 c.requires.kept c.in-Ok.ensures.ok).kept
 
-pub returns-in-Ok-clause-greatest : goal.returns-in-Ok-clause-greatest
-returns-in-Ok-clause-greatest g c = (turn_held _ c.args.world.now c.turn.new.self c.args.key.now c.requires.asks.0 c.args.verdict c.requires.asks.1 c.requires.kept c.in-Ok.ensures.ok).greatest
+pub returns-in-Ok-clause-last_proposer : goal.returns-in-Ok-clause-last_proposer
+returns-in-Ok-clause-last_proposer g c = (turn_held _ c.args.world.now c.turn.new.self c.args.key.now c.requires.asks.0 c.args.verdict c.requires.asks.1 c.requires.kept c.in-Ok.ensures.ok).last_proposer
 
 pub returns-in-Ok-clause-goes_on : goal.returns-in-Ok-clause-goes_on
 returns-in-Ok-clause-goes_on g c = (turn_held _ c.args.world.now c.turn.new.self c.args.key.now c.requires.asks.0 c.args.verdict c.requires.asks.1 c.requires.kept c.in-Ok.ensures.ok).does.0
@@ -36,8 +36,8 @@ returns-in-Err-clause-silent g c harms = subst (IsSilentAtMost harms) (sym (c.te
 pub returns-in-Err-clause-kept : goal.returns-in-Err-clause-kept
 returns-in-Err-clause-kept g c = (turn_told _ (harm_by c.args.verdict) c.args.world.now c.turn.new.self c.tell.new.self c.args.key.now c.requires.asks.0 c.no_memory.result c.requires.asks.1 c.requires.kept c.in-Err.ensures.err c.tell.ensures.step).kept
 
-pub returns-in-Err-clause-greatest : goal.returns-in-Err-clause-greatest
-returns-in-Err-clause-greatest g c = (turn_told _ (harm_by c.args.verdict) c.args.world.now c.turn.new.self c.tell.new.self c.args.key.now c.requires.asks.0 c.no_memory.result c.requires.asks.1 c.requires.kept c.in-Err.ensures.err c.tell.ensures.step).greatest
+pub returns-in-Err-clause-last_proposer : goal.returns-in-Err-clause-last_proposer
+returns-in-Err-clause-last_proposer g c = (turn_told _ (harm_by c.args.verdict) c.args.world.now c.turn.new.self c.tell.new.self c.args.key.now c.requires.asks.0 c.no_memory.result c.requires.asks.1 c.requires.kept c.in-Err.ensures.err c.tell.ensures.step).last_proposer
 
 pub returns-in-Err-clause-told : goal.returns-in-Err-clause-told
 returns-in-Err-clause-told g c = subst (IsToldIn (asked.Probe c.args.key.now) IsAskingHarm (harm_by c.args.verdict) c.args.world.now c.tell.new.self) (sym c.tell.ensures.same) (turn_told _ (harm_by c.args.verdict) c.args.world.now c.turn.new.self c.tell.new.self c.args.key.now c.requires.asks.0 c.no_memory.result c.requires.asks.1 c.requires.kept c.in-Err.ensures.err c.tell.ensures.step).does

@@ -14,7 +14,7 @@ returns-in-Ok c =
     let of = some_and c.args.council.now.plan (λ (plan : OpenPlan). (entering plan.plan.left ≡ Some c.args.next) × (plan.entered ≡ c.args.proposer)) c.requires.plan in
     let is_plan = ap (option_map plan_view) of.1 in record {
       moves = moving.moves (plan_view of.0) c.in-Ok.is is_plan
-          (subst (λ (o : Option PlanView). IfSome o (λ plan. council_view c.enter.new.self ≡ record (hushed (council_view c.args.council.now)) { plan = Some (plan_after c.args.greatest plan c.args.next) })) is_plan c.enter.ensures.entered)
+          (subst (λ (o : Option PlanView). IfSome o (λ plan. council_view c.enter.new.self ≡ record (hushed (council_view c.args.council.now)) { plan = Some (plan_after c.args.last_proposer plan c.args.next) })) is_plan c.enter.ensures.entered)
           (subst (λ (o : Option PlanView). IfSome o (λ plan. c.enter.new.self.eras.0 ≡ slice_set c.args.council.now.eras.0 plan.entered c.args.next)) is_plan c.enter.ensures.eras ∙ ap (λ (n : ℕ). slice_set c.args.council.now.eras.0 n c.args.next) of.2.1)
           refl c.push.ensures.marks c.push.ensures.room refl;
     }

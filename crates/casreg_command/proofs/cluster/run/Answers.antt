@@ -33,13 +33,13 @@ load_store-requires-clause-quiet g c = new_quiet _ _ c.in-Ok-open-2.store.world 
 pub returns-in-Ok-clause-wrote : goal.returns-in-Ok-clause-wrote
 returns-in-Ok-clause-wrote g c words are = ran_over c.in-Script.options c.in-Ok.store.world (subst (AreWords words) c.in-Script.is are) c.in_default.ensures.ok
     (new_of c.config_of-config.result.acceptors c.config_of-config.result.proposers c.args.request (request.Script c.in-Script.options) c.config_of-config.ensures.acceptors c.config_of-config.ensures.proposers c.in-Script.is
-    (record { opening = c.in-Ok.ensures.opening; places = c.in-Ok.ensures.places; greatest = c.in-Ok.ensures.greatest; shelves = c.in-Ok.ensures.acceptors; vaults = c.in-Ok.ensures.vaults }))
+    (record { opening = c.in-Ok.ensures.opening; places = c.in-Ok.ensures.places; last_proposer = c.in-Ok.ensures.last_proposer; shelves = c.in-Ok.ensures.acceptors; vaults = c.in-Ok.ensures.vaults }))
     c.run_script.ensures.ran
 
 pub returns-in-Ok-open-2-clause-wrote : goal.returns-in-Ok-open-2-clause-wrote
 returns-in-Ok-open-2-clause-wrote g c words are = loaded c.in-Load.load c.in-Ok-open-2.store.world (subst (AreWords words) c.in-Load.is are) c.in_default.ensures.ok
     (new_of c.config_of-config.result.acceptors c.config_of-config.result.proposers c.args.request (request.Load c.in-Load.load) c.config_of-config.ensures.acceptors c.config_of-config.ensures.proposers c.in-Load.is
-    (record { opening = c.in-Ok-open-2.ensures.opening; places = c.in-Ok-open-2.ensures.places; greatest = c.in-Ok-open-2.ensures.greatest; shelves = c.in-Ok-open-2.ensures.acceptors; vaults = c.in-Ok-open-2.ensures.vaults }))
+    (record { opening = c.in-Ok-open-2.ensures.opening; places = c.in-Ok-open-2.ensures.places; last_proposer = c.in-Ok-open-2.ensures.last_proposer; shelves = c.in-Ok-open-2.ensures.acceptors; vaults = c.in-Ok-open-2.ensures.vaults }))
     c.load_store.ensures.loaded
 
 pub returns-in-Ok-open-2-clause-loads : goal.returns-in-Ok-open-2-clause-loads

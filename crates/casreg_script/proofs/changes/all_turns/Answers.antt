@@ -15,7 +15,7 @@ loop-front-init g c = record {
   turned = λ by is. record { view = by; is = is; has = none };
   plays = λ asked proposed was. was;
   network = λ by is. (by, is);
-  greatest = refl;
+  last_proposer = refl;
   quiet = c.requires.quiet;
 }
 
@@ -52,7 +52,7 @@ loop-front-preserved g c =
           let before = c.loop-front.invariant.network by is in
           let between = c.let_in.ensures.network before.0 before.1 in
           c.verdict-verdict.ensures.network between.0 between.1;
-      greatest = turn_greatest _ c.let_in.new.world c.turn.new.self c.args.proposer _ by_turn ∙ c.let_in.ensures.under_way.greatest ∙ c.loop-front.invariant.greatest;
+      last_proposer = turn_greatest _ c.let_in.new.world c.turn.new.self c.args.proposer _ by_turn ∙ c.let_in.ensures.under_way.last_proposer ∙ c.loop-front.invariant.last_proposer;
       quiet = quiet_then c.let_in.new.world c.turn.new.self c.args.proposer (turn_keeps _ c.let_in.new.world c.turn.new.self c.args.proposer _ by_turn) quiet;
     }
 

@@ -11,7 +11,7 @@ invariant-loop-front g l = record {
   turned : Through l.initial.network l.network (λ by next. Turned (meaning g.S.Shelf.contents g.S.Shelf.tells g.S.Shelf.may_leave g.S.Shelf.fault_count g.V.Disk.tells g.V.Disk.may_leave g.V.Disk.fault_count) by l.proposer l.initial.world next l.again l.world);
   plays : (asked : Asked) (proposed : Bool) → IsPlaying l.initial.world l.proposer asked proposed → IsPlaying l.world l.proposer asked proposed;
   network : (by : NetworkView) → IsNetwork l.initial.network by → (next : NetworkView) × IsNetwork l.network next;
-  greatest : l.world.greatest ≡ l.initial.world.greatest;
+  last_proposer : l.world.last_proposer ≡ l.initial.world.last_proposer;
   quiet : l.world.council.exchange ≡ None;
 }
 

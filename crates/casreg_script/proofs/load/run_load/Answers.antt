@@ -9,12 +9,12 @@ loop-line-init g c = record {
   so_far = none_yet _ c.args.load c.args.world.now c.seeded-network.result c.new-generator.result c.new-summary.result c.seeded-network.ensures c.new-generator.ensures c.new-summary.ensures;
   idle = c.requires.idle;
   quiet = c.requires.quiet;
-  greatest = refl;
+  last_proposer = refl;
   within = omega arith;
 }
 
 pub answer_line-requires-clause-known : goal.answer_line-requires-clause-known
-answer_line-requires-clause-known g c = c.loop-line.invariant.greatest ∙ c.requires.known
+answer_line-requires-clause-known g c = c.loop-line.invariant.last_proposer ∙ c.requires.known
 
 pub answer_line-requires-clause-idle : goal.answer_line-requires-clause-idle
 answer_line-requires-clause-idle g c = c.loop-line.invariant.idle
@@ -37,7 +37,7 @@ count-requires-clause-counts g c = (c.loop-line.invariant.so_far.answers, c.loop
 pub collect_behind-requires-clause-idle : goal.collect_behind-requires-clause-idle
 collect_behind-requires-clause-idle g c =
     let keeps = stops_keep _ c.args.load c.loop-line.line c.answer_line.new.world c.stop_behind.new.world c.stop_behind.ensures in
-    still_idle c.answer_line.new.world c.stop_behind.new.world keeps.greatest keeps.callers c.in_ok-answer.ensures.idle 0 (omega arith)
+    still_idle c.answer_line.new.world c.stop_behind.new.world keeps.last_proposer keeps.callers c.in_ok-answer.ensures.idle 0 (omega arith)
 
 pub collect_behind-requires-clause-quiet : goal.collect_behind-requires-clause-quiet
 collect_behind-requires-clause-quiet g c = stays_quiet ((stops_keep _ c.args.load c.loop-line.line c.answer_line.new.world c.stop_behind.new.world c.stop_behind.ensures).council c.in_ok-answer.ensures.quiet) c.in_ok-answer.ensures.quiet
@@ -56,10 +56,10 @@ loop-line-preserved g c =
     record {
       so_far = one_line _ c.args.load c.args.world.now c.loop-line.world c.answer_line.new.world c.stop_behind.new.world c.collect_behind.new.world c.loop-line.network c.answer_line.new.network c.collect_behind.new.network c.loop-line.generator c.answer_line.new.generator c.loop-line.summary c.count.new.self c.loop-line.line c.in_ok-answer.answer
           c.loop-line.invariant.so_far c.in_ok-answer.ensures.answers c.stop_behind.ensures c.in_ok-collect_behind.ensures.collects c.count.ensures;
-      idle = all_idle c.stop_behind.new.world c.collect_behind.new.world c.in_ok-collect_behind.ensures.idle (still_idle c.answer_line.new.world c.stop_behind.new.world keeps.greatest keeps.callers c.in_ok-answer.ensures.idle);
+      idle = all_idle c.stop_behind.new.world c.collect_behind.new.world c.in_ok-collect_behind.ensures.idle (still_idle c.answer_line.new.world c.stop_behind.new.world keeps.last_proposer keeps.callers c.in_ok-answer.ensures.idle);
       quiet = c.in_ok-collect_behind.ensures.quiet;
       within = omega (arith, c.loop-line-test.true);
-      greatest = c.in_ok-collect_behind.ensures.idle.greatest ∙ keeps.greatest ∙ c.in_ok-answer.ensures.greatest ∙ c.loop-line.invariant.greatest;
+      last_proposer = c.in_ok-collect_behind.ensures.idle.last_proposer ∙ keeps.last_proposer ∙ c.in_ok-answer.ensures.last_proposer ∙ c.loop-line.invariant.last_proposer;
     }
 
 pub returns-clause-runs : goal.returns-clause-runs

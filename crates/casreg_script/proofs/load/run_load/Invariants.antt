@@ -11,5 +11,5 @@ invariant-loop-line g l = record {
   idle : AllIdle l.world;
   quiet : IsAtRest l.world.council;
   within : l.line ≤ l.load.lines;
-  greatest : l.world.greatest ≡ l.initial.world.greatest;
+  last_proposer : l.world.last_proposer ≡ l.initial.world.last_proposer;
 }

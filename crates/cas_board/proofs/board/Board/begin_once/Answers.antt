@@ -10,8 +10,8 @@ use Rattle.cas_board.proofs.board.Board.begin_once.Goals as goal
 pub begin-begun-requires-clause-known : goal.begin-begun-requires-clause-known
 begin-begun-requires-clause-known g c =
     let caller = c.caller_of.ensures ∙ ap (λ s. s.number) c.hold-shared.ensures.seat in
-    let greatest = ap (λ v. v.greatest) c.shared.view_is in
-    omega (arith, caller, greatest, c.hold-shared.ensures.seats, c.requires.pass.seats, c.requires.pass.seated)
+    let last_proposer = ap (λ v. v.last_proposer) c.shared.view_is in
+    omega (arith, caller, last_proposer, c.hold-shared.ensures.seats, c.requires.pass.seats, c.requires.pass.seated)
 
 pub begin-begun-requires-clause-idle : goal.begin-begun-requires-clause-idle
 begin-begun-requires-clause-idle g c =

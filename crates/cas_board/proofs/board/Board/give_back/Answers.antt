@@ -18,7 +18,7 @@ pub give_back-requires-clause-others : goal.give_back-requires-clause-others
 give_back-requires-clause-others g c x is = let made = c.requires.makes x is in made.1.others
 
 pub give_back-requires-clause-seats : goal.give_back-requires-clause-seats
-give_back-requires-clause-seats g c x is = let made = c.requires.makes x is in ap suc made.1.greatest
+give_back-requires-clause-seats g c x is = let made = c.requires.makes x is in ap suc made.1.last_proposer
 
 -- the pass has seen the record that was read
 pub returns-clause-legal : goal.returns-clause-legal
@@ -29,6 +29,6 @@ returns-clause-legal g c tells =
 pub returns-clause-tellings : goal.returns-clause-tellings
 returns-clause-tellings g c tells =
     let seen = c.record-record.ensures.marks ∙ ap (λ v. v.marks) c.shared.view_is ∙ sym (ap (λ s. s.seen) c.give_back.ensures.seat) in
-    let proposers = ap (λ v. suc v.greatest) c.shared.view_is ∙ c.give_back.ensures.seats ∙ c.requires.seats in
+    let proposers = ap (λ v. suc v.last_proposer) c.shared.view_is ∙ c.give_back.ensures.seats ∙ c.requires.seats in
     subst (λ (n : ℕ). AreTellingsSo n (reverse c.give_back.new.seat.seen)) proposers
-    (subst (λ (marks : List Mark). AreTellingsSo (suc c.shared.inside.world.greatest) (reverse marks)) seen (c.record-record.ensures.tellings tells tells))
+    (subst (λ (marks : List Mark). AreTellingsSo (suc c.shared.inside.world.last_proposer) (reverse marks)) seen (c.record-record.ensures.tellings tells tells))

@@ -11,5 +11,5 @@ returns-clause-deserved g c =
 
 pub returns-clause-tellings : goal.returns-clause-tellings
 returns-clause-tellings g c tells =
-    subst (λ (n : ℕ). AreTellingsSo (suc n) (reverse c.close-book.result.0.marks)) (ap (λ v. v.greatest) c.self.view_is)
-    (subst (λ (marks : List Mark). AreTellingsSo (suc c.self.inside.world.greatest) (reverse marks)) (sym (c.close-book.ensures.marks ∙ ap (λ w. w.marks) c.into_world.ensures.same)) (c.into_world.ensures.tellings tells tells))
+    subst (λ (n : ℕ). AreTellingsSo (suc n) (reverse c.close-book.result.0.marks)) (ap (λ v. v.last_proposer) c.self.view_is)
+    (subst (λ (marks : List Mark). AreTellingsSo (suc c.self.inside.world.last_proposer) (reverse marks)) (sym (c.close-book.ensures.marks ∙ ap (λ w. w.marks) c.into_world.ensures.same)) (c.into_world.ensures.tellings tells tells))

@@ -5,5 +5,5 @@ use Rattle.cas_board_world.proofs.world.SteadyWorld.record.Goals as goal
 
 pub returns-clause-tellings : goal.returns-clause-tellings
 returns-clause-tellings g c shelves disks =
-    subst (λ (marks : List Mark). AreTellingsSo (suc c.args.self.now.greatest) (reverse marks)) (sym c.record.ensures.marks)
-    (subst (λ (n : ℕ). AreTellingsSo (suc n) (reverse c.self.inside.world.marks)) (ap (λ v. v.greatest) c.self.view_is) (c.self.invariant.telling shelves disks).tellings)
+    subst (λ (marks : List Mark). AreTellingsSo (suc c.args.self.now.last_proposer) (reverse marks)) (sym c.record.ensures.marks)
+    (subst (λ (n : ℕ). AreTellingsSo (suc n) (reverse c.self.inside.world.marks)) (ap (λ v. v.last_proposer) c.self.view_is) (c.self.invariant.telling shelves disks).tellings)

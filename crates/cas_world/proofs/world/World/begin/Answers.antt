@@ -37,27 +37,27 @@ over_full g c is_full =
 
 heeded : (g : Over) (c : goal.After-self-1 g) → Heeds c.index_mut.result.now.call (council_view c.self.inside.council) c.args.caller c.args.key.now c.in-Err.refusal (council_view c.heed.new.council)
 heeded g c =
-    let asking = found_caller c.self.inside.config.proposers c.self.inside.council c.self.inside.acceptors.items c.self.inside.desks.items c.self.inside.callers.items c.self.inside.flow c.self.inside.record c.args.self.now c.from-place.result c.args.caller c.args.call c.args.key.now c.args.program.now c.from-place.ensures c.self.view_is c.requires.known c.self.invariant.safe c.requires.may c.index-asking.result.now c.index-asking.ensures in
-    let at = found_caller c.self.inside.config.proposers c.self.inside.council c.self.inside.acceptors.items c.self.inside.desks.items c.self.inside.callers.items c.self.inside.flow c.self.inside.record c.args.self.now c.from-place.result c.args.caller c.args.call c.args.key.now c.args.program.now c.from-place.ensures c.self.view_is c.requires.known c.self.invariant.safe c.requires.may c.index_mut.result.now c.index_mut.ensures.value in
+    let asking = found_caller c.self.inside.setup.proposers c.self.inside.council c.self.inside.acceptors.items c.self.inside.desks.items c.self.inside.callers.items c.self.inside.flow c.self.inside.record c.args.self.now c.from-place.result c.args.caller c.args.call c.args.key.now c.args.program.now c.from-place.ensures c.self.view_is c.requires.known c.self.invariant.safe c.requires.may c.index-asking.result.now c.index-asking.ensures in
+    let at = found_caller c.self.inside.setup.proposers c.self.inside.council c.self.inside.acceptors.items c.self.inside.desks.items c.self.inside.callers.items c.self.inside.flow c.self.inside.record c.args.self.now c.from-place.result c.args.caller c.args.call c.args.key.now c.args.program.now c.from-place.ensures c.self.view_is c.requires.known c.self.invariant.safe c.requires.may c.index_mut.result.now c.index_mut.ensures.value in
     subst (λ (x : Caller). Heeds x.call (council_view c.self.inside.council) c.args.caller c.args.key.now c.in-Err.refusal (council_view c.heed.new.council)) (some_is (sym asking.1.at_caller ∙ at.1.at_caller)) c.heed.ensures.heeds
 
-not_begun : (g : Over) (c : goal.After-self-1 g) → Settles {A = ⊤} (meaning g.S.Shelf.contents g.S.Shelf.tells g.S.Shelf.may_leave g.S.Shelf.fault_count g.V.Disk.tells g.V.Disk.may_leave g.V.Disk.fault_count) (view_of c.self.inside.config.proposers c.self.inside.council c.self.inside.acceptors.items c.self.inside.desks.items c.self.inside.callers.items c.self.inside.flow c.self.inside.record) c.args.caller c.args.call c.args.key.now c.args.program.now (view_of c.self.inside.config.proposers c.heed.new.council c.self.inside.acceptors.items c.self.inside.desks.items (slice_set c.self.inside.callers.items c.from-place.result c.refuse.new.caller) c.self.inside.flow c.make_room.new.record) (slice_set c.self.inside.callers.items c.from-place.result c.refuse.new.caller) c.make_room.new.record.room (Err c.refuse.result)
+not_begun : (g : Over) (c : goal.After-self-1 g) → Settles {A = ⊤} (meaning g.S.Shelf.contents g.S.Shelf.tells g.S.Shelf.may_leave g.S.Shelf.fault_count g.V.Disk.tells g.V.Disk.may_leave g.V.Disk.fault_count) (view_of c.self.inside.setup.proposers c.self.inside.council c.self.inside.acceptors.items c.self.inside.desks.items c.self.inside.callers.items c.self.inside.flow c.self.inside.record) c.args.caller c.args.call c.args.key.now c.args.program.now (view_of c.self.inside.setup.proposers c.heed.new.council c.self.inside.acceptors.items c.self.inside.desks.items (slice_set c.self.inside.callers.items c.from-place.result c.refuse.new.caller) c.self.inside.flow c.make_room.new.record) (slice_set c.self.inside.callers.items c.from-place.result c.refuse.new.caller) c.make_room.new.record.room (Err c.refuse.result)
 not_begun g c =
-    let at = found_caller c.self.inside.config.proposers c.self.inside.council c.self.inside.acceptors.items c.self.inside.desks.items c.self.inside.callers.items c.self.inside.flow c.self.inside.record c.args.self.now c.from-place.result c.args.caller c.args.call c.args.key.now c.args.program.now c.from-place.ensures c.self.view_is c.requires.known c.self.invariant.safe c.requires.may c.index_mut.result.now c.index_mut.ensures.value in
-    subst (λ (i : ℕ). Settles {A = ⊤} (meaning g.S.Shelf.contents g.S.Shelf.tells g.S.Shelf.may_leave g.S.Shelf.fault_count g.V.Disk.tells g.V.Disk.may_leave g.V.Disk.fault_count) (view_of c.self.inside.config.proposers c.self.inside.council c.self.inside.acceptors.items c.self.inside.desks.items c.self.inside.callers.items c.self.inside.flow c.self.inside.record) c.args.caller c.args.call c.args.key.now c.args.program.now (view_of c.self.inside.config.proposers c.heed.new.council c.self.inside.acceptors.items c.self.inside.desks.items (slice_set c.self.inside.callers.items i c.refuse.new.caller) c.self.inside.flow c.make_room.new.record) (slice_set c.self.inside.callers.items i c.refuse.new.caller) c.make_room.new.record.room (Err c.refuse.result)) (sym c.from-place.ensures)
-    (subst (λ (x : Caller). Settles {A = ⊤} (meaning g.S.Shelf.contents g.S.Shelf.tells g.S.Shelf.may_leave g.S.Shelf.fault_count g.V.Disk.tells g.V.Disk.may_leave g.V.Disk.fault_count) (view_of c.self.inside.config.proposers c.self.inside.council c.self.inside.acceptors.items c.self.inside.desks.items c.self.inside.callers.items c.self.inside.flow c.self.inside.record) c.args.caller c.args.call c.args.key.now c.args.program.now (view_of c.self.inside.config.proposers c.heed.new.council c.self.inside.acceptors.items c.self.inside.desks.items (slice_set c.self.inside.callers.items c.args.caller x) c.self.inside.flow c.make_room.new.record) (slice_set c.self.inside.callers.items c.args.caller x) c.make_room.new.record.room (Err c.refuse.result)) (sym c.refuse.ensures.caller)
-    (subst (λ (r : Answer). Settles {A = ⊤} (meaning g.S.Shelf.contents g.S.Shelf.tells g.S.Shelf.may_leave g.S.Shelf.fault_count g.V.Disk.tells g.V.Disk.may_leave g.V.Disk.fault_count) (view_of c.self.inside.config.proposers c.self.inside.council c.self.inside.acceptors.items c.self.inside.desks.items c.self.inside.callers.items c.self.inside.flow c.self.inside.record) c.args.caller c.args.call c.args.key.now c.args.program.now (view_of c.self.inside.config.proposers c.heed.new.council c.self.inside.acceptors.items c.self.inside.desks.items (slice_set c.self.inside.callers.items c.args.caller (refused c.index_mut.result.now c.in-Err.refusal)) c.self.inside.flow c.make_room.new.record) (slice_set c.self.inside.callers.items c.args.caller (refused c.index_mut.result.now c.in-Err.refusal)) c.make_room.new.record.room (Err r)) (sym c.refuse.ensures.answer)
-    (not_made ⊤ (meaning g.S.Shelf.contents g.S.Shelf.tells g.S.Shelf.may_leave g.S.Shelf.fault_count g.V.Disk.tells g.V.Disk.may_leave g.V.Disk.fault_count) c.self.inside.config.proposers c.self.inside.council c.self.inside.acceptors.items c.self.inside.desks.items c.self.inside.callers.items c.self.inside.flow c.self.inside.record c.args.caller c.args.call c.args.key.now c.args.program.now at.0 c.index_mut.result.now c.self.invariant at.1.at_desk at.1.at_caller c.heed.new.council c.heed.ensures.eras c.in-Err.refusal c.make_room.new.record at.1.may c.in-Err.ensures.refused (heeded g c) (over_full g c) c.make_room.ensures.made c.make_room.ensures.grows)))
+    let at = found_caller c.self.inside.setup.proposers c.self.inside.council c.self.inside.acceptors.items c.self.inside.desks.items c.self.inside.callers.items c.self.inside.flow c.self.inside.record c.args.self.now c.from-place.result c.args.caller c.args.call c.args.key.now c.args.program.now c.from-place.ensures c.self.view_is c.requires.known c.self.invariant.safe c.requires.may c.index_mut.result.now c.index_mut.ensures.value in
+    subst (λ (i : ℕ). Settles {A = ⊤} (meaning g.S.Shelf.contents g.S.Shelf.tells g.S.Shelf.may_leave g.S.Shelf.fault_count g.V.Disk.tells g.V.Disk.may_leave g.V.Disk.fault_count) (view_of c.self.inside.setup.proposers c.self.inside.council c.self.inside.acceptors.items c.self.inside.desks.items c.self.inside.callers.items c.self.inside.flow c.self.inside.record) c.args.caller c.args.call c.args.key.now c.args.program.now (view_of c.self.inside.setup.proposers c.heed.new.council c.self.inside.acceptors.items c.self.inside.desks.items (slice_set c.self.inside.callers.items i c.refuse.new.caller) c.self.inside.flow c.make_room.new.record) (slice_set c.self.inside.callers.items i c.refuse.new.caller) c.make_room.new.record.room (Err c.refuse.result)) (sym c.from-place.ensures)
+    (subst (λ (x : Caller). Settles {A = ⊤} (meaning g.S.Shelf.contents g.S.Shelf.tells g.S.Shelf.may_leave g.S.Shelf.fault_count g.V.Disk.tells g.V.Disk.may_leave g.V.Disk.fault_count) (view_of c.self.inside.setup.proposers c.self.inside.council c.self.inside.acceptors.items c.self.inside.desks.items c.self.inside.callers.items c.self.inside.flow c.self.inside.record) c.args.caller c.args.call c.args.key.now c.args.program.now (view_of c.self.inside.setup.proposers c.heed.new.council c.self.inside.acceptors.items c.self.inside.desks.items (slice_set c.self.inside.callers.items c.args.caller x) c.self.inside.flow c.make_room.new.record) (slice_set c.self.inside.callers.items c.args.caller x) c.make_room.new.record.room (Err c.refuse.result)) (sym c.refuse.ensures.caller)
+    (subst (λ (r : Answer). Settles {A = ⊤} (meaning g.S.Shelf.contents g.S.Shelf.tells g.S.Shelf.may_leave g.S.Shelf.fault_count g.V.Disk.tells g.V.Disk.may_leave g.V.Disk.fault_count) (view_of c.self.inside.setup.proposers c.self.inside.council c.self.inside.acceptors.items c.self.inside.desks.items c.self.inside.callers.items c.self.inside.flow c.self.inside.record) c.args.caller c.args.call c.args.key.now c.args.program.now (view_of c.self.inside.setup.proposers c.heed.new.council c.self.inside.acceptors.items c.self.inside.desks.items (slice_set c.self.inside.callers.items c.args.caller (refused c.index_mut.result.now c.in-Err.refusal)) c.self.inside.flow c.make_room.new.record) (slice_set c.self.inside.callers.items c.args.caller (refused c.index_mut.result.now c.in-Err.refusal)) c.make_room.new.record.room (Err r)) (sym c.refuse.ensures.answer)
+    (not_made ⊤ (meaning g.S.Shelf.contents g.S.Shelf.tells g.S.Shelf.may_leave g.S.Shelf.fault_count g.V.Disk.tells g.V.Disk.may_leave g.V.Disk.fault_count) c.self.inside.setup.proposers c.self.inside.council c.self.inside.acceptors.items c.self.inside.desks.items c.self.inside.callers.items c.self.inside.flow c.self.inside.record c.args.caller c.args.call c.args.key.now c.args.program.now at.0 c.index_mut.result.now c.self.invariant at.1.at_desk at.1.at_caller c.heed.new.council c.heed.ensures.eras c.in-Err.refusal c.make_room.new.record at.1.may c.in-Err.ensures.refused (heeded g c) (over_full g c) c.make_room.ensures.made c.make_room.ensures.grows)))
 
 pub invariant_of-self : goal.invariant_of-self
 invariant_of-self g c = (not_begun g c).world
 
 pub returns-in-Err-clause-step : goal.returns-in-Err-clause-step
-returns-in-Err-clause-step g c = subst (λ (v : View _ _). BeginsOrNot {A = ⊤} (meaning g.S.Shelf.contents g.S.Shelf.tells g.S.Shelf.may_leave g.S.Shelf.fault_count g.V.Disk.tells g.V.Disk.may_leave g.V.Disk.fault_count) v c.args.caller c.args.call c.args.key.now c.args.program.now (Err c.refuse.result) (view_of c.self.inside.config.proposers c.heed.new.council c.self.inside.acceptors.items c.self.inside.desks.items (slice_set c.self.inside.callers.items c.from-place.result c.refuse.new.caller) c.self.inside.flow c.make_room.new.record)) c.self.view_is (not_begun g c).answers
+returns-in-Err-clause-step g c = subst (λ (v : View _ _). BeginsOrNot {A = ⊤} (meaning g.S.Shelf.contents g.S.Shelf.tells g.S.Shelf.may_leave g.S.Shelf.fault_count g.V.Disk.tells g.V.Disk.may_leave g.V.Disk.fault_count) v c.args.caller c.args.call c.args.key.now c.args.program.now (Err c.refuse.result) (view_of c.self.inside.setup.proposers c.heed.new.council c.self.inside.acceptors.items c.self.inside.desks.items (slice_set c.self.inside.callers.items c.from-place.result c.refuse.new.caller) c.self.inside.flow c.make_room.new.record)) c.self.view_is (not_begun g c).answers
 
 pub returns-in-Err-clause-full : goal.returns-in-Err-clause-full
 returns-in-Err-clause-full g c =
-    let at = found_caller c.self.inside.config.proposers c.self.inside.council c.self.inside.acceptors.items c.self.inside.desks.items c.self.inside.callers.items c.self.inside.flow c.self.inside.record c.args.self.now c.from-place.result c.args.caller c.args.call c.args.key.now c.args.program.now c.from-place.ensures c.self.view_is c.requires.known c.self.invariant.safe c.requires.may c.index_mut.result.now c.index_mut.ensures.value in
+    let at = found_caller c.self.inside.setup.proposers c.self.inside.council c.self.inside.acceptors.items c.self.inside.desks.items c.self.inside.callers.items c.self.inside.flow c.self.inside.record c.args.self.now c.from-place.result c.args.caller c.args.call c.args.key.now c.args.program.now c.from-place.ensures c.self.view_is c.requires.known c.self.invariant.safe c.requires.may c.index_mut.result.now c.index_mut.ensures.value in
     let counted : length c.args.self.now.marks ≡ length c.self.inside.record.marks = ap (λ (v : View _ _). length v.marks) (sym c.self.view_is) in
     let others : seen_reserved (slice_set c.args.self.now.callers c.args.caller new_caller) ≡ reserved_beside c.self.inside.callers.items c.args.caller =
     ap (λ (v : View _ _). seen_reserved (slice_set v.callers c.args.caller new_caller)) (sym c.self.view_is) ∙ beside_none c.self.inside.callers.items c.args.caller at.1.place in
@@ -70,40 +70,40 @@ returns-in-Err-clause-full g c =
 
 -- ---- room was made
 pub open_round-begun-requires-clause-idle : goal.open_round-begun-requires-clause-idle
-open_round-begun-requires-clause-idle g c = (found_desk c.self.inside.config.proposers c.self.inside.council c.self.inside.acceptors.items c.self.inside.desks.items c.self.inside.callers.items c.self.inside.flow c.self.inside.record c.args.self.now c.from-place.result c.args.caller c.args.call c.args.key.now c.args.program.now c.from-place.ensures c.self.view_is c.requires.known c.self.invariant.safe c.requires.may c.index_mut-desk.result.now c.index_mut-desk.ensures.value).1.idle
+open_round-begun-requires-clause-idle g c = (found_desk c.self.inside.setup.proposers c.self.inside.council c.self.inside.acceptors.items c.self.inside.desks.items c.self.inside.callers.items c.self.inside.flow c.self.inside.record c.args.self.now c.from-place.result c.args.caller c.args.call c.args.key.now c.args.program.now c.from-place.ensures c.self.view_is c.requires.known c.self.invariant.safe c.requires.may c.index_mut-desk.result.now c.index_mut-desk.ensures.value).1.idle
 
 pub open_round-begun-requires-clause-proposer : goal.open_round-begun-requires-clause-proposer
 open_round-begun-requires-clause-proposer g c =
-    let at = found_desk c.self.inside.config.proposers c.self.inside.council c.self.inside.acceptors.items c.self.inside.desks.items c.self.inside.callers.items c.self.inside.flow c.self.inside.record c.args.self.now c.from-place.result c.args.caller c.args.call c.args.key.now c.args.program.now c.from-place.ensures c.self.view_is c.requires.known c.self.invariant.safe c.requires.may c.index_mut-desk.result.now c.index_mut-desk.ensures.value in omega (arith, at.1.same_id, at.1.low)
+    let at = found_desk c.self.inside.setup.proposers c.self.inside.council c.self.inside.acceptors.items c.self.inside.desks.items c.self.inside.callers.items c.self.inside.flow c.self.inside.record c.args.self.now c.from-place.result c.args.caller c.args.call c.args.key.now c.args.program.now c.from-place.ensures c.self.view_is c.requires.known c.self.invariant.safe c.requires.may c.index_mut-desk.result.now c.index_mut-desk.ensures.value in omega (arith, at.1.same_id, at.1.low)
 
 pub open_round-begun-requires-clause-promise : goal.open_round-begun-requires-clause-promise
-open_round-begun-requires-clause-promise g c = all_fit c.args.key.now c.index_mut-desk.result.now.cache _ refl (found_desk c.self.inside.config.proposers c.self.inside.council c.self.inside.acceptors.items c.self.inside.desks.items c.self.inside.callers.items c.self.inside.flow c.self.inside.record c.args.self.now c.from-place.result c.args.caller c.args.call c.args.key.now c.args.program.now c.from-place.ensures c.self.view_is c.requires.known c.self.invariant.safe c.requires.may c.index_mut-desk.result.now c.index_mut-desk.ensures.value).1.fits
+open_round-begun-requires-clause-promise g c = all_fit c.args.key.now c.index_mut-desk.result.now.cache _ refl (found_desk c.self.inside.setup.proposers c.self.inside.council c.self.inside.acceptors.items c.self.inside.desks.items c.self.inside.callers.items c.self.inside.flow c.self.inside.record c.args.self.now c.from-place.result c.args.caller c.args.call c.args.key.now c.args.program.now c.from-place.ensures c.self.view_is c.requires.known c.self.invariant.safe c.requires.may c.index_mut-desk.result.now c.index_mut-desk.ensures.value).1.fits
 
 pub settle-requires-clause-open : goal.settle-requires-clause-open
 settle-requires-clause-open g c is_none =
-    let at = found c.self.inside.config.proposers c.self.inside.council c.self.inside.acceptors.items c.self.inside.desks.items c.self.inside.callers.items c.self.inside.flow c.self.inside.record c.args.self.now c.from-place.result c.args.caller c.args.call c.args.key.now c.args.program.now c.from-place.ensures c.self.view_is c.requires.known c.self.invariant.safe c.requires.may c.index_mut-desk.result.now c.index_mut-caller.result.now c.index_mut-desk.ensures.value c.index_mut-caller.ensures.value in elim at.may [
+    let at = found c.self.inside.setup.proposers c.self.inside.council c.self.inside.acceptors.items c.self.inside.desks.items c.self.inside.callers.items c.self.inside.flow c.self.inside.record c.args.self.now c.from-place.result c.args.caller c.args.call c.args.key.now c.args.program.now c.from-place.ensures c.self.view_is c.requires.known c.self.invariant.safe c.requires.may c.index_mut-desk.result.now c.index_mut-caller.result.now c.index_mut-desk.ensures.value c.index_mut-caller.ensures.value in elim at.may [
       | inl first ↦ absurd (cc (is_none, c.in-Ok.ensures.first c.index_mut-caller.result.now (subst (λ (l : List Caller). IsAt l c.args.caller c.index_mut-caller.result.now) (sym c.deref.ensures.value) at.at_caller) first.none_open))
       | inr another ↦ subst (λ (o : Option OpenCall). IsSome o) (sym another.is_call) refl
     ]
 
 pub settle-requires-clause-number : goal.settle-requires-clause-number
-settle-requires-clause-number g c = let at = found c.self.inside.config.proposers c.self.inside.council c.self.inside.acceptors.items c.self.inside.desks.items c.self.inside.callers.items c.self.inside.flow c.self.inside.record c.args.self.now c.from-place.result c.args.caller c.args.call c.args.key.now c.args.program.now c.from-place.ensures c.self.view_is c.requires.known c.self.invariant.safe c.requires.may c.index_mut-desk.result.now c.index_mut-caller.result.now c.index_mut-desk.ensures.value c.index_mut-caller.ensures.value in omega (arith, at.number_low)
+settle-requires-clause-number g c = let at = found c.self.inside.setup.proposers c.self.inside.council c.self.inside.acceptors.items c.self.inside.desks.items c.self.inside.callers.items c.self.inside.flow c.self.inside.record c.args.self.now c.from-place.result c.args.caller c.args.call c.args.key.now c.args.program.now c.from-place.ensures c.self.view_is c.requires.known c.self.invariant.safe c.requires.may c.index_mut-desk.result.now c.index_mut-caller.result.now c.index_mut-desk.ensures.value c.index_mut-caller.ensures.value in omega (arith, at.number_low)
 
 heeded_loss : (g : Over) (c : goal.After-self-3-1 g) → HeedsLoss c.index_mut-caller.result.now.call (council_view c.self.inside.council) c.args.caller c.args.key.now c.open_round-begun.result (council_view c.heed_loss.new.council)
 heeded_loss g c =
-    let asking = found_caller c.self.inside.config.proposers c.self.inside.council c.self.inside.acceptors.items c.self.inside.desks.items c.self.inside.callers.items c.self.inside.flow c.self.inside.record c.args.self.now c.from-place.result c.args.caller c.args.call c.args.key.now c.args.program.now c.from-place.ensures c.self.view_is c.requires.known c.self.invariant.safe c.requires.may c.index-asking-2.result.now c.index-asking-2.ensures in
-    let at = found_caller c.self.inside.config.proposers c.self.inside.council c.self.inside.acceptors.items c.self.inside.desks.items c.self.inside.callers.items c.self.inside.flow c.self.inside.record c.args.self.now c.from-place.result c.args.caller c.args.call c.args.key.now c.args.program.now c.from-place.ensures c.self.view_is c.requires.known c.self.invariant.safe c.requires.may c.index_mut-caller.result.now c.index_mut-caller.ensures.value in
+    let asking = found_caller c.self.inside.setup.proposers c.self.inside.council c.self.inside.acceptors.items c.self.inside.desks.items c.self.inside.callers.items c.self.inside.flow c.self.inside.record c.args.self.now c.from-place.result c.args.caller c.args.call c.args.key.now c.args.program.now c.from-place.ensures c.self.view_is c.requires.known c.self.invariant.safe c.requires.may c.index-asking-2.result.now c.index-asking-2.ensures in
+    let at = found_caller c.self.inside.setup.proposers c.self.inside.council c.self.inside.acceptors.items c.self.inside.desks.items c.self.inside.callers.items c.self.inside.flow c.self.inside.record c.args.self.now c.from-place.result c.args.caller c.args.call c.args.key.now c.args.program.now c.from-place.ensures c.self.view_is c.requires.known c.self.invariant.safe c.requires.may c.index_mut-caller.result.now c.index_mut-caller.ensures.value in
     subst (λ (x : Caller). HeedsLoss x.call (council_view c.self.inside.council) c.args.caller c.args.key.now c.open_round-begun.result (council_view c.heed_loss.new.council)) (some_is (sym asking.1.at_caller ∙ at.1.at_caller)) c.heed_loss.ensures.heeds
 
-begun : (g : Over) (c : goal.After-self-3-1 g) → Settles {A = ⊤} (meaning g.S.Shelf.contents g.S.Shelf.tells g.S.Shelf.may_leave g.S.Shelf.fault_count g.V.Disk.tells g.V.Disk.may_leave g.V.Disk.fault_count) (view_of c.self.inside.config.proposers c.self.inside.council c.self.inside.acceptors.items c.self.inside.desks.items c.self.inside.callers.items c.self.inside.flow c.self.inside.record) c.args.caller c.args.call c.args.key.now c.args.program.now (view_of c.self.inside.config.proposers c.heed_loss.new.council c.self.inside.acceptors.items (slice_set c.self.inside.desks.items c.from-place.result c.open_round-begun.new.desk) (slice_set c.self.inside.callers.items c.from-place.result c.settle.new.caller) c.open_round-begun.new.flow c.settle.new.record) (slice_set c.self.inside.callers.items c.from-place.result c.settle.new.caller) c.settle.new.record.room c.settle.result
+begun : (g : Over) (c : goal.After-self-3-1 g) → Settles {A = ⊤} (meaning g.S.Shelf.contents g.S.Shelf.tells g.S.Shelf.may_leave g.S.Shelf.fault_count g.V.Disk.tells g.V.Disk.may_leave g.V.Disk.fault_count) (view_of c.self.inside.setup.proposers c.self.inside.council c.self.inside.acceptors.items c.self.inside.desks.items c.self.inside.callers.items c.self.inside.flow c.self.inside.record) c.args.caller c.args.call c.args.key.now c.args.program.now (view_of c.self.inside.setup.proposers c.heed_loss.new.council c.self.inside.acceptors.items (slice_set c.self.inside.desks.items c.from-place.result c.open_round-begun.new.desk) (slice_set c.self.inside.callers.items c.from-place.result c.settle.new.caller) c.open_round-begun.new.flow c.settle.new.record) (slice_set c.self.inside.callers.items c.from-place.result c.settle.new.caller) c.settle.new.record.room c.settle.result
 begun g c =
-    let at = found c.self.inside.config.proposers c.self.inside.council c.self.inside.acceptors.items c.self.inside.desks.items c.self.inside.callers.items c.self.inside.flow c.self.inside.record c.args.self.now c.from-place.result c.args.caller c.args.call c.args.key.now c.args.program.now c.from-place.ensures c.self.view_is c.requires.known c.self.invariant.safe c.requires.may c.index_mut-desk.result.now c.index_mut-caller.result.now c.index_mut-desk.ensures.value c.index_mut-caller.ensures.value in
+    let at = found c.self.inside.setup.proposers c.self.inside.council c.self.inside.acceptors.items c.self.inside.desks.items c.self.inside.callers.items c.self.inside.flow c.self.inside.record c.args.self.now c.from-place.result c.args.caller c.args.call c.args.key.now c.args.program.now c.from-place.ensures c.self.view_is c.requires.known c.self.invariant.safe c.requires.may c.index_mut-desk.result.now c.index_mut-caller.result.now c.index_mut-desk.ensures.value c.index_mut-caller.ensures.value in
     let there : IsAt c.deref.result.now c.args.caller c.index_mut-caller.result.now = subst (λ (l : List Caller). IsAt l c.args.caller c.index_mut-caller.result.now) (sym c.deref.ensures.value) at.at_caller in
     let beside : reserved_beside c.deref.result.now c.args.caller ≡ reserved_beside c.self.inside.callers.items c.args.caller = ap (λ (l : List Caller). reserved_beside l c.args.caller) c.deref.ensures.value in
     let few = not_more (length c.self.inside.record.marks + reserved_beside c.deref.result.now c.args.caller + c.reserved.result + c.round_marks-marks.result) (λ many. absurd (cc (c.in-Ok.ensures.full.1 many))) in
-    subst (λ (i : ℕ). Settles {A = ⊤} (meaning g.S.Shelf.contents g.S.Shelf.tells g.S.Shelf.may_leave g.S.Shelf.fault_count g.V.Disk.tells g.V.Disk.may_leave g.V.Disk.fault_count) (view_of c.self.inside.config.proposers c.self.inside.council c.self.inside.acceptors.items c.self.inside.desks.items c.self.inside.callers.items c.self.inside.flow c.self.inside.record) c.args.caller c.args.call c.args.key.now c.args.program.now (view_of c.self.inside.config.proposers c.heed_loss.new.council c.self.inside.acceptors.items (slice_set c.self.inside.desks.items i c.open_round-begun.new.desk) (slice_set c.self.inside.callers.items i c.settle.new.caller) c.open_round-begun.new.flow c.settle.new.record) (slice_set c.self.inside.callers.items i c.settle.new.caller) c.settle.new.record.room c.settle.result) (sym c.from-place.ensures)
-    (subst (λ (x : Caller). Settles {A = ⊤} (meaning g.S.Shelf.contents g.S.Shelf.tells g.S.Shelf.may_leave g.S.Shelf.fault_count g.V.Disk.tells g.V.Disk.may_leave g.V.Disk.fault_count) (view_of c.self.inside.config.proposers c.self.inside.council c.self.inside.acceptors.items c.self.inside.desks.items c.self.inside.callers.items c.self.inside.flow c.self.inside.record) c.args.caller c.args.call c.args.key.now c.args.program.now (view_of c.self.inside.config.proposers c.heed_loss.new.council c.self.inside.acceptors.items (slice_set c.self.inside.desks.items c.args.caller c.open_round-begun.new.desk) (slice_set c.self.inside.callers.items c.args.caller x) c.open_round-begun.new.flow c.settle.new.record) (slice_set c.self.inside.callers.items c.args.caller x) c.settle.new.record.room c.settle.result) (sym c.settle.ensures.caller)
-    (settles ⊤ (meaning g.S.Shelf.contents g.S.Shelf.tells g.S.Shelf.may_leave g.S.Shelf.fault_count g.V.Disk.tells g.V.Disk.may_leave g.V.Disk.fault_count) c.self.inside.config.proposers c.self.inside.council c.self.inside.acceptors.items c.self.inside.desks.items c.self.inside.callers.items c.self.inside.flow c.self.inside.record c.args.caller c.args.call c.args.key.now c.args.program.now c.index_mut-desk.result.now c.index_mut-caller.result.now c.self.invariant at.at_desk at.at_caller
+    subst (λ (i : ℕ). Settles {A = ⊤} (meaning g.S.Shelf.contents g.S.Shelf.tells g.S.Shelf.may_leave g.S.Shelf.fault_count g.V.Disk.tells g.V.Disk.may_leave g.V.Disk.fault_count) (view_of c.self.inside.setup.proposers c.self.inside.council c.self.inside.acceptors.items c.self.inside.desks.items c.self.inside.callers.items c.self.inside.flow c.self.inside.record) c.args.caller c.args.call c.args.key.now c.args.program.now (view_of c.self.inside.setup.proposers c.heed_loss.new.council c.self.inside.acceptors.items (slice_set c.self.inside.desks.items i c.open_round-begun.new.desk) (slice_set c.self.inside.callers.items i c.settle.new.caller) c.open_round-begun.new.flow c.settle.new.record) (slice_set c.self.inside.callers.items i c.settle.new.caller) c.settle.new.record.room c.settle.result) (sym c.from-place.ensures)
+    (subst (λ (x : Caller). Settles {A = ⊤} (meaning g.S.Shelf.contents g.S.Shelf.tells g.S.Shelf.may_leave g.S.Shelf.fault_count g.V.Disk.tells g.V.Disk.may_leave g.V.Disk.fault_count) (view_of c.self.inside.setup.proposers c.self.inside.council c.self.inside.acceptors.items c.self.inside.desks.items c.self.inside.callers.items c.self.inside.flow c.self.inside.record) c.args.caller c.args.call c.args.key.now c.args.program.now (view_of c.self.inside.setup.proposers c.heed_loss.new.council c.self.inside.acceptors.items (slice_set c.self.inside.desks.items c.args.caller c.open_round-begun.new.desk) (slice_set c.self.inside.callers.items c.args.caller x) c.open_round-begun.new.flow c.settle.new.record) (slice_set c.self.inside.callers.items c.args.caller x) c.settle.new.record.room c.settle.result) (sym c.settle.ensures.caller)
+    (settles ⊤ (meaning g.S.Shelf.contents g.S.Shelf.tells g.S.Shelf.may_leave g.S.Shelf.fault_count g.V.Disk.tells g.V.Disk.may_leave g.V.Disk.fault_count) c.self.inside.setup.proposers c.self.inside.council c.self.inside.acceptors.items c.self.inside.desks.items c.self.inside.callers.items c.self.inside.flow c.self.inside.record c.args.caller c.args.call c.args.key.now c.args.program.now c.index_mut-desk.result.now c.index_mut-caller.result.now c.self.invariant at.at_desk at.at_caller
     c.round_marks-marks.result (c.round_marks-marks.ensures.value ∙ ap round_marks c.of.ensures) (omega (arith, few, beside)) c.in-Ok.opening (λ none. c.in-Ok.ensures.first c.index_mut-caller.result.now there none) (λ some. c.in-Ok.ensures.again c.index_mut-caller.result.now there some)
     at.may c.open_round-begun.new.desk c.open_round-begun.new.flow c.settle.new.record c.make_room.new.record.room (omega (arith, beside, c.in-Ok.ensures.room)) c.make_room.ensures.grows c.heed_loss.new.council c.heed_loss.ensures.eras
     c.open_round-begun.result (subst (λ (e : Era). IfOk c.open_round-begun.result (OpensRound (disks g.V.Disk.tells g.V.Disk.may_leave g.V.Disk.fault_count) e c.args.key.now c.args.program.now (record { caller = c.args.caller; call = c.args.call }) c.index_mut-desk.result.now c.open_round-begun.new.desk c.self.inside.flow c.open_round-begun.new.flow)) c.of.ensures c.open_round-begun.ensures.opens) c.open_round-begun.ensures.refused c.open_round-begun.ensures.not_sent (heeded_loss g c)
@@ -114,11 +114,11 @@ invariant_of-self-2 g c = (begun g c).world
 
 pub returns-clause-step : goal.returns-clause-step
 returns-clause-step g c = subst (λ (v : View _ _). BeginsOrNot {A = ⊤} (meaning g.S.Shelf.contents g.S.Shelf.tells g.S.Shelf.may_leave g.S.Shelf.fault_count g.V.Disk.tells g.V.Disk.may_leave g.V.Disk.fault_count) v c.args.caller c.args.call c.args.key.now c.args.program.now c.settle.result
-    (view_of c.self.inside.config.proposers c.heed_loss.new.council c.self.inside.acceptors.items (slice_set c.self.inside.desks.items c.from-place.result c.open_round-begun.new.desk) (slice_set c.self.inside.callers.items c.from-place.result c.settle.new.caller) c.open_round-begun.new.flow c.settle.new.record)) c.self.view_is (begun g c).answers
+    (view_of c.self.inside.setup.proposers c.heed_loss.new.council c.self.inside.acceptors.items (slice_set c.self.inside.desks.items c.from-place.result c.open_round-begun.new.desk) (slice_set c.self.inside.callers.items c.from-place.result c.settle.new.caller) c.open_round-begun.new.flow c.settle.new.record)) c.self.view_is (begun g c).answers
 
 pub returns-clause-full : goal.returns-clause-full
 returns-clause-full g c =
-    let at = found c.self.inside.config.proposers c.self.inside.council c.self.inside.acceptors.items c.self.inside.desks.items c.self.inside.callers.items c.self.inside.flow c.self.inside.record c.args.self.now c.from-place.result c.args.caller c.args.call c.args.key.now c.args.program.now c.from-place.ensures c.self.view_is c.requires.known c.self.invariant.safe c.requires.may c.index_mut-desk.result.now c.index_mut-caller.result.now c.index_mut-desk.ensures.value c.index_mut-caller.ensures.value in
+    let at = found c.self.inside.setup.proposers c.self.inside.council c.self.inside.acceptors.items c.self.inside.desks.items c.self.inside.callers.items c.self.inside.flow c.self.inside.record c.args.self.now c.from-place.result c.args.caller c.args.call c.args.key.now c.args.program.now c.from-place.ensures c.self.view_is c.requires.known c.self.invariant.safe c.requires.may c.index_mut-desk.result.now c.index_mut-caller.result.now c.index_mut-desk.ensures.value c.index_mut-caller.ensures.value in
     let counted : length c.args.self.now.marks ≡ length c.self.inside.record.marks = ap (λ (v : View _ _). length v.marks) (sym c.self.view_is) in
     let others : seen_reserved (slice_set c.args.self.now.callers c.args.caller new_caller) ≡ reserved_beside c.self.inside.callers.items c.args.caller =
     ap (λ (v : View _ _). seen_reserved (slice_set v.callers c.args.caller new_caller)) (sym c.self.view_is) ∙ beside_none c.self.inside.callers.items c.args.caller at.place in

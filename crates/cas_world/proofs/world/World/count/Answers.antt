@@ -27,20 +27,20 @@ use Rattle.cas_world.proofs.world.World.count.Given.{Over}
 use Rattle.cas_world.proofs.world.World.count.Goals as goal
 
 pub acknowledge-requires : goal.acknowledge-requires
-acknowledge-requires g c = (counting c.self.inside.config.proposers c.self.inside.council c.self.inside.acceptors.items c.self.inside.desks.items c.self.inside.callers.items c.self.inside.flow c.self.inside.record c.args.self.now c.from-place.result c.args.proposer c.index_mut-desk.result.now c.index_mut-caller.result.now
+acknowledge-requires g c = (counting c.self.inside.setup.proposers c.self.inside.council c.self.inside.acceptors.items c.self.inside.desks.items c.self.inside.callers.items c.self.inside.flow c.self.inside.record c.args.self.now c.from-place.result c.args.proposer c.index_mut-desk.result.now c.index_mut-caller.result.now
     c.from-place.ensures c.self.view_is c.requires.known c.self.invariant c.index_mut-desk.ensures.value c.index_mut-caller.ensures.value c.requires.counting).may
 
 pub end-requires : goal.end-requires
-end-requires g c = subst (λ (r : Option Round). IsSome r) (sym (counting c.self.inside.config.proposers c.self.inside.council c.self.inside.acceptors.items c.self.inside.desks.items c.self.inside.callers.items c.self.inside.flow c.self.inside.record c.args.self.now c.from-place.result c.args.proposer c.index_mut-desk.result.now c.index_mut-caller.result.now
+end-requires g c = subst (λ (r : Option Round). IsSome r) (sym (counting c.self.inside.setup.proposers c.self.inside.council c.self.inside.acceptors.items c.self.inside.desks.items c.self.inside.callers.items c.self.inside.flow c.self.inside.record c.args.self.now c.from-place.result c.args.proposer c.index_mut-desk.result.now c.index_mut-caller.result.now
     c.from-place.ensures c.self.view_is c.requires.known c.self.invariant c.index_mut-desk.ensures.value c.index_mut-caller.ensures.value c.requires.counting).may.is_round) refl
 
 pub end_round-requires-clause-open : goal.end_round-requires-clause-open
-end_round-requires-clause-open g c = subst (λ (o : Option OpenCall). IsSome o) (sym (counting c.self.inside.config.proposers c.self.inside.council c.self.inside.acceptors.items c.self.inside.desks.items c.self.inside.callers.items c.self.inside.flow c.self.inside.record c.args.self.now c.from-place.result c.args.proposer c.index_mut-desk.result.now c.index_mut-caller.result.now
+end_round-requires-clause-open g c = subst (λ (o : Option OpenCall). IsSome o) (sym (counting c.self.inside.setup.proposers c.self.inside.council c.self.inside.acceptors.items c.self.inside.desks.items c.self.inside.callers.items c.self.inside.flow c.self.inside.record c.args.self.now c.from-place.result c.args.proposer c.index_mut-desk.result.now c.index_mut-caller.result.now
     c.from-place.ensures c.self.view_is c.requires.known c.self.invariant c.index_mut-desk.ensures.value c.index_mut-caller.ensures.value c.requires.counting).may.is_open) refl
 
 -- ---- a quorum accepted
 found : (g : Over) (c : goal.After-self-in-None-1 g) → IsCounting c.self.inside.desks.items c.self.inside.callers.items c.args.proposer c.index_mut-desk.result.now c.index_mut-caller.result.now c.self.inside.record.room
-found g c = counting c.self.inside.config.proposers c.self.inside.council c.self.inside.acceptors.items c.self.inside.desks.items c.self.inside.callers.items c.self.inside.flow c.self.inside.record c.args.self.now c.from-place.result c.args.proposer c.index_mut-desk.result.now c.index_mut-caller.result.now
+found g c = counting c.self.inside.setup.proposers c.self.inside.council c.self.inside.acceptors.items c.self.inside.desks.items c.self.inside.callers.items c.self.inside.flow c.self.inside.record c.args.self.now c.from-place.result c.args.proposer c.index_mut-desk.result.now c.index_mut-caller.result.now
     c.from-place.ensures c.self.view_is c.requires.known c.self.invariant c.index_mut-desk.ensures.value c.index_mut-caller.ensures.value c.requires.counting
 
 none_waits : (g : Over) (c : goal.After-self-in-None-1 g) → (queue_at c.self.inside.flow c.args.proposer).messages ≡ []
@@ -50,12 +50,12 @@ counts : (g : Over) (c : goal.After-self-in-None-1 g) → Counts (record { tells
     (found g c).may.call (found g c).may.outcome c.self.inside.record c.acknowledge.new.record c.acknowledge.result
 counts g c = c.acknowledge.ensures (found g c).may.round (found g c).may.is_round (found g c).may.call (found g c).may.is_open (found g c).may.outcome (found g c).may.proposed
 
-acknowledges : (g : Over) (c : goal.After-self-in-None-1 g) → StepCount (meaning g.S.Shelf.contents g.S.Shelf.tells g.S.Shelf.may_leave g.S.Shelf.fault_count g.V.Disk.tells g.V.Disk.may_leave g.V.Disk.fault_count) (view_of c.self.inside.config.proposers c.self.inside.council c.self.inside.acceptors.items c.self.inside.desks.items c.self.inside.callers.items c.self.inside.flow c.self.inside.record) c.args.proposer
-    (view_of c.self.inside.config.proposers c.self.inside.council c.self.inside.acceptors.items (slice_set c.self.inside.desks.items c.from-place.result c.acknowledge.new.desk) (slice_set c.self.inside.callers.items c.from-place.result c.acknowledge.new.caller) c.self.inside.flow c.acknowledge.new.record)
+acknowledges : (g : Over) (c : goal.After-self-in-None-1 g) → StepCount (meaning g.S.Shelf.contents g.S.Shelf.tells g.S.Shelf.may_leave g.S.Shelf.fault_count g.V.Disk.tells g.V.Disk.may_leave g.V.Disk.fault_count) (view_of c.self.inside.setup.proposers c.self.inside.council c.self.inside.acceptors.items c.self.inside.desks.items c.self.inside.callers.items c.self.inside.flow c.self.inside.record) c.args.proposer
+    (view_of c.self.inside.setup.proposers c.self.inside.council c.self.inside.acceptors.items (slice_set c.self.inside.desks.items c.from-place.result c.acknowledge.new.desk) (slice_set c.self.inside.callers.items c.from-place.result c.acknowledge.new.caller) c.self.inside.flow c.acknowledge.new.record)
 acknowledges g c =
-    subst (λ (i : ℕ). StepCount (meaning g.S.Shelf.contents g.S.Shelf.tells g.S.Shelf.may_leave g.S.Shelf.fault_count g.V.Disk.tells g.V.Disk.may_leave g.V.Disk.fault_count) (view_of c.self.inside.config.proposers c.self.inside.council c.self.inside.acceptors.items c.self.inside.desks.items c.self.inside.callers.items c.self.inside.flow c.self.inside.record) c.args.proposer
-    (view_of c.self.inside.config.proposers c.self.inside.council c.self.inside.acceptors.items (slice_set c.self.inside.desks.items i c.acknowledge.new.desk) (slice_set c.self.inside.callers.items i c.acknowledge.new.caller) c.self.inside.flow c.acknowledge.new.record)) (sym c.from-place.ensures)
-    (counted (meaning g.S.Shelf.contents g.S.Shelf.tells g.S.Shelf.may_leave g.S.Shelf.fault_count g.V.Disk.tells g.V.Disk.may_leave g.V.Disk.fault_count) c.self.inside.config.proposers c.self.inside.council c.self.inside.acceptors.items c.self.inside.desks.items c.self.inside.callers.items c.self.inside.flow c.self.inside.record c.acknowledge.new.record c.args.proposer c.index_mut-desk.result.now c.acknowledge.new.desk c.index_mut-caller.result.now c.acknowledge.new.caller c.acknowledge.result
+    subst (λ (i : ℕ). StepCount (meaning g.S.Shelf.contents g.S.Shelf.tells g.S.Shelf.may_leave g.S.Shelf.fault_count g.V.Disk.tells g.V.Disk.may_leave g.V.Disk.fault_count) (view_of c.self.inside.setup.proposers c.self.inside.council c.self.inside.acceptors.items c.self.inside.desks.items c.self.inside.callers.items c.self.inside.flow c.self.inside.record) c.args.proposer
+    (view_of c.self.inside.setup.proposers c.self.inside.council c.self.inside.acceptors.items (slice_set c.self.inside.desks.items i c.acknowledge.new.desk) (slice_set c.self.inside.callers.items i c.acknowledge.new.caller) c.self.inside.flow c.acknowledge.new.record)) (sym c.from-place.ensures)
+    (counted (meaning g.S.Shelf.contents g.S.Shelf.tells g.S.Shelf.may_leave g.S.Shelf.fault_count g.V.Disk.tells g.V.Disk.may_leave g.V.Disk.fault_count) c.self.inside.setup.proposers c.self.inside.council c.self.inside.acceptors.items c.self.inside.desks.items c.self.inside.callers.items c.self.inside.flow c.self.inside.record c.acknowledge.new.record c.args.proposer c.index_mut-desk.result.now c.acknowledge.new.desk c.index_mut-caller.result.now c.acknowledge.new.caller c.acknowledge.result
     (none_waits g c) (found g c) ((c.verdict.ensures.quorum (found g c).may.round (found g c).may.is_round).0 (quorum_of c.verdict.result (sym c.in-None.ensures))) (counts g c))
 
 pub invariant_of-self : goal.invariant_of-self
@@ -72,8 +72,8 @@ returns-in-None-clause-step g c = seen_from _ (step.Count c.args.proposer) _ c.s
 
 pub returns-in-None-clause-told : goal.returns-in-None-clause-told
 returns-in-None-clause-told g c seen at_seen =
-    subst (λ (i : ℕ). WasTold (view_of c.self.inside.config.proposers c.self.inside.council c.self.inside.acceptors.items (slice_set c.self.inside.desks.items i c.acknowledge.new.desk) (slice_set c.self.inside.callers.items i c.acknowledge.new.caller) c.self.inside.flow c.acknowledge.new.record) c.args.proposer seen.number c.acknowledge.result) (sym c.from-place.ensures)
-    (was_told c.self.inside.config.proposers c.self.inside.council c.self.inside.acceptors.items c.self.inside.desks.items c.self.inside.callers.items c.self.inside.flow c.self.inside.record c.args.self.now (slice_set c.self.inside.desks.items c.args.proposer c.acknowledge.new.desk) c.self.inside.flow c.acknowledge.new.record c.args.proposer seen c.index_mut-caller.result.now c.acknowledge.new.caller (found g c).may.call c.acknowledge.result
+    subst (λ (i : ℕ). WasTold (view_of c.self.inside.setup.proposers c.self.inside.council c.self.inside.acceptors.items (slice_set c.self.inside.desks.items i c.acknowledge.new.desk) (slice_set c.self.inside.callers.items i c.acknowledge.new.caller) c.self.inside.flow c.acknowledge.new.record) c.args.proposer seen.number c.acknowledge.result) (sym c.from-place.ensures)
+    (was_told c.self.inside.setup.proposers c.self.inside.council c.self.inside.acceptors.items c.self.inside.desks.items c.self.inside.callers.items c.self.inside.flow c.self.inside.record c.args.self.now (slice_set c.self.inside.desks.items c.args.proposer c.acknowledge.new.desk) c.self.inside.flow c.acknowledge.new.record c.args.proposer seen c.index_mut-caller.result.now c.acknowledge.new.caller (found g c).may.call c.acknowledge.result
     c.self.view_is at_seen (found g c).at_caller (counts g c).caller_is)
 
 pub returns-in-None-clause-kept : goal.returns-in-None-clause-kept
@@ -81,7 +81,7 @@ returns-in-None-clause-kept g c shelves vaults a stands above = done_kept _ shel
 
 -- ---- no quorum accepted
 found_short : (g : Over) (c : goal.After-self-in-Some-2-1 g) → IsCounting c.self.inside.desks.items c.self.inside.callers.items c.args.proposer c.index_mut-desk.result.now c.index_mut-caller.result.now c.self.inside.record.room
-found_short g c = counting c.self.inside.config.proposers c.self.inside.council c.self.inside.acceptors.items c.self.inside.desks.items c.self.inside.callers.items c.self.inside.flow c.self.inside.record c.args.self.now c.from-place.result c.args.proposer c.index_mut-desk.result.now c.index_mut-caller.result.now
+found_short g c = counting c.self.inside.setup.proposers c.self.inside.council c.self.inside.acceptors.items c.self.inside.desks.items c.self.inside.callers.items c.self.inside.flow c.self.inside.record c.args.self.now c.from-place.result c.args.proposer c.index_mut-desk.result.now c.index_mut-caller.result.now
     c.from-place.ensures c.self.view_is c.requires.known c.self.invariant c.index_mut-desk.ensures.value c.index_mut-caller.ensures.value c.requires.counting
 
 ends : (g : Over) (c : goal.After-self-in-Some-2-1 g) → EndsRound (record { tells = g.V.Disk.tells; may_leave = g.V.Disk.may_leave; faults = g.V.Disk.fault_count }) c.index_mut-desk.result.now c.end.new.self (found_short g c).may.round None
@@ -91,12 +91,12 @@ ends g c = record {
   goes_on = end_goes_on _ c.index_mut-desk.result.now.vault c.end.new.self.vault c.end.ensures.kept c.end.ensures.disk c.end.ensures.still_past;
 }
 
-falls_short : (g : Over) (c : goal.After-self-in-Some-2-1 g) → StepCount (meaning g.S.Shelf.contents g.S.Shelf.tells g.S.Shelf.may_leave g.S.Shelf.fault_count g.V.Disk.tells g.V.Disk.may_leave g.V.Disk.fault_count) (view_of c.self.inside.config.proposers c.self.inside.council c.self.inside.acceptors.items c.self.inside.desks.items c.self.inside.callers.items c.self.inside.flow c.self.inside.record) c.args.proposer
-    (view_of c.self.inside.config.proposers c.self.inside.council c.self.inside.acceptors.items (slice_set c.self.inside.desks.items c.from-place.result c.end.new.self) (slice_set c.self.inside.callers.items c.from-place.result c.end_round.new.self) c.self.inside.flow c.self.inside.record)
+falls_short : (g : Over) (c : goal.After-self-in-Some-2-1 g) → StepCount (meaning g.S.Shelf.contents g.S.Shelf.tells g.S.Shelf.may_leave g.S.Shelf.fault_count g.V.Disk.tells g.V.Disk.may_leave g.V.Disk.fault_count) (view_of c.self.inside.setup.proposers c.self.inside.council c.self.inside.acceptors.items c.self.inside.desks.items c.self.inside.callers.items c.self.inside.flow c.self.inside.record) c.args.proposer
+    (view_of c.self.inside.setup.proposers c.self.inside.council c.self.inside.acceptors.items (slice_set c.self.inside.desks.items c.from-place.result c.end.new.self) (slice_set c.self.inside.callers.items c.from-place.result c.end_round.new.self) c.self.inside.flow c.self.inside.record)
 falls_short g c =
-    subst (λ (i : ℕ). StepCount (meaning g.S.Shelf.contents g.S.Shelf.tells g.S.Shelf.may_leave g.S.Shelf.fault_count g.V.Disk.tells g.V.Disk.may_leave g.V.Disk.fault_count) (view_of c.self.inside.config.proposers c.self.inside.council c.self.inside.acceptors.items c.self.inside.desks.items c.self.inside.callers.items c.self.inside.flow c.self.inside.record) c.args.proposer
-    (view_of c.self.inside.config.proposers c.self.inside.council c.self.inside.acceptors.items (slice_set c.self.inside.desks.items i c.end.new.self) (slice_set c.self.inside.callers.items i c.end_round.new.self) c.self.inside.flow c.self.inside.record)) (sym c.from-place.ensures)
-    (fell_short (meaning g.S.Shelf.contents g.S.Shelf.tells g.S.Shelf.may_leave g.S.Shelf.fault_count g.V.Disk.tells g.V.Disk.may_leave g.V.Disk.fault_count) c.self.inside.config.proposers c.self.inside.council c.self.inside.acceptors.items c.self.inside.desks.items c.self.inside.callers.items c.self.inside.flow c.self.inside.record c.args.proposer c.index_mut-desk.result.now c.end.new.self c.index_mut-caller.result.now c.end_round.new.self c.verdict.result c.in-Some.why
+    subst (λ (i : ℕ). StepCount (meaning g.S.Shelf.contents g.S.Shelf.tells g.S.Shelf.may_leave g.S.Shelf.fault_count g.V.Disk.tells g.V.Disk.may_leave g.V.Disk.fault_count) (view_of c.self.inside.setup.proposers c.self.inside.council c.self.inside.acceptors.items c.self.inside.desks.items c.self.inside.callers.items c.self.inside.flow c.self.inside.record) c.args.proposer
+    (view_of c.self.inside.setup.proposers c.self.inside.council c.self.inside.acceptors.items (slice_set c.self.inside.desks.items i c.end.new.self) (slice_set c.self.inside.callers.items i c.end_round.new.self) c.self.inside.flow c.self.inside.record)) (sym c.from-place.ensures)
+    (fell_short (meaning g.S.Shelf.contents g.S.Shelf.tells g.S.Shelf.may_leave g.S.Shelf.fault_count g.V.Disk.tells g.V.Disk.may_leave g.V.Disk.fault_count) c.self.inside.setup.proposers c.self.inside.council c.self.inside.acceptors.items c.self.inside.desks.items c.self.inside.callers.items c.self.inside.flow c.self.inside.record c.args.proposer c.index_mut-desk.result.now c.end.new.self c.index_mut-caller.result.now c.end_round.new.self c.verdict.result c.in-Some.why
     (ap (λ (v : View _ _). (queue_at v.flow c.args.proposer).messages) c.self.view_is ∙ c.requires.counting.none_waits) (found_short g c)
     (c.verdict.ensures.verdict (found_short g c).may.round (found_short g c).may.is_round) (sym c.in-Some.ensures) (ends g c) c.end_round.ensures)
 
@@ -117,8 +117,8 @@ returns-in-Some-clause-step g c = seen_from _ (step.Count c.args.proposer) _ c.s
 
 pub returns-in-Some-clause-told : goal.returns-in-Some-clause-told
 returns-in-Some-clause-told g c seen at_seen =
-    subst (λ (i : ℕ). WasTold (view_of c.self.inside.config.proposers c.self.inside.council c.self.inside.acceptors.items (slice_set c.self.inside.desks.items i c.end.new.self) (slice_set c.self.inside.callers.items i c.end_round.new.self) c.self.inside.flow c.self.inside.record) c.args.proposer seen.number (answer.Unsettled c.in-Some.why)) (sym c.from-place.ensures)
-    (was_told c.self.inside.config.proposers c.self.inside.council c.self.inside.acceptors.items c.self.inside.desks.items c.self.inside.callers.items c.self.inside.flow c.self.inside.record c.args.self.now (slice_set c.self.inside.desks.items c.args.proposer c.end.new.self) c.self.inside.flow c.self.inside.record c.args.proposer seen c.index_mut-caller.result.now c.end_round.new.self (found_short g c).may.call (answer.Unsettled c.in-Some.why)
+    subst (λ (i : ℕ). WasTold (view_of c.self.inside.setup.proposers c.self.inside.council c.self.inside.acceptors.items (slice_set c.self.inside.desks.items i c.end.new.self) (slice_set c.self.inside.callers.items i c.end_round.new.self) c.self.inside.flow c.self.inside.record) c.args.proposer seen.number (answer.Unsettled c.in-Some.why)) (sym c.from-place.ensures)
+    (was_told c.self.inside.setup.proposers c.self.inside.council c.self.inside.acceptors.items c.self.inside.desks.items c.self.inside.callers.items c.self.inside.flow c.self.inside.record c.args.self.now (slice_set c.self.inside.desks.items c.args.proposer c.end.new.self) c.self.inside.flow c.self.inside.record c.args.proposer seen c.index_mut-caller.result.now c.end_round.new.self (found_short g c).may.call (answer.Unsettled c.in-Some.why)
     c.self.view_is at_seen (found_short g c).at_caller (caller_is g c))
 
 pub returns-in-Some-clause-kept : goal.returns-in-Some-clause-kept

@@ -23,12 +23,12 @@ use Rattle.cas_world.proofs.world.World.crash_desk.Goals as goal
 -- ---- no round was open
 at_desk : (g : Over) (c : goal.Else-closes g) → IsAt c.self.inside.desks.items c.args.proposer c.index_mut.result.now
 at_desk g c = at_place c.self.inside.desks.items c.from-place.result c.args.proposer c.index_mut.result.now c.from-place.ensures
-    (omega (arith, c.self.invariant.safe.sound.desks, c.requires, ap (λ (v : View _ _). v.greatest) c.self.view_is)) c.index_mut.ensures.value
+    (omega (arith, c.self.invariant.safe.sound.desks, c.requires, ap (λ (v : View _ _). v.last_proposer) c.self.view_is)) c.index_mut.ensures.value
 
 none_open : (g : Over) (c : goal.Else-closes g) → c.index_mut.result.now.round ≡ None
 none_open g c =
     let at_index : IsAt c.self.inside.desks.items c.args.proposer c.index.result.now = at_place c.self.inside.desks.items c.from-place.result c.args.proposer c.index.result.now c.from-place.ensures
-    (omega (arith, c.self.invariant.safe.sound.desks, c.requires, ap (λ (v : View _ _). v.greatest) c.self.view_is)) c.index.ensures in
+    (omega (arith, c.self.invariant.safe.sound.desks, c.requires, ap (λ (v : View _ _). v.last_proposer) c.self.view_is)) c.index.ensures in
     ap (λ (d : DeskView _). d.round) (at_one c.self.inside.desks.items c.args.proposer (at_desk g c) at_index) ∙ not_lent (λ one. one.now) c.round.result c.index.result.now.round c.round.ensures (sym c.if-closes.ensures)
 
 crashes : (g : Over) (c : goal.Else-closes g) → Crashes (meaning {S = g.row.S.Denot} g.S.Shelf.contents g.S.Shelf.tells g.S.Shelf.may_leave g.S.Shelf.fault_count g.V.Disk.tells g.V.Disk.may_leave g.V.Disk.fault_count).disks c.index_mut.result.now c.crash.new.self
@@ -38,50 +38,50 @@ crashes g c = record {
 }
 
 idles : (g : Over) (c : goal.Else-closes g) → CrashesDesk (meaning g.S.Shelf.contents g.S.Shelf.tells g.S.Shelf.may_leave g.S.Shelf.fault_count g.V.Disk.tells g.V.Disk.may_leave g.V.Disk.fault_count)
-    (view_of c.self.inside.config.proposers c.self.inside.council c.self.inside.acceptors.items c.self.inside.desks.items c.self.inside.callers.items c.self.inside.flow c.self.inside.record) c.args.proposer
-    (view_of c.self.inside.config.proposers c.self.inside.council c.self.inside.acceptors.items (slice_set c.self.inside.desks.items c.from-place.result c.crash.new.self) c.self.inside.callers.items c.abandon.new.self c.self.inside.record)
+    (view_of c.self.inside.setup.proposers c.self.inside.council c.self.inside.acceptors.items c.self.inside.desks.items c.self.inside.callers.items c.self.inside.flow c.self.inside.record) c.args.proposer
+    (view_of c.self.inside.setup.proposers c.self.inside.council c.self.inside.acceptors.items (slice_set c.self.inside.desks.items c.from-place.result c.crash.new.self) c.self.inside.callers.items c.abandon.new.self c.self.inside.record)
 idles g c =
     let m = meaning g.S.Shelf.contents g.S.Shelf.tells g.S.Shelf.may_leave g.S.Shelf.fault_count g.V.Disk.tells g.V.Disk.may_leave g.V.Disk.fault_count in
-    let old = view_of c.self.inside.config.proposers c.self.inside.council c.self.inside.acceptors.items c.self.inside.desks.items c.self.inside.callers.items c.self.inside.flow c.self.inside.record in
+    let old = view_of c.self.inside.setup.proposers c.self.inside.council c.self.inside.acceptors.items c.self.inside.desks.items c.self.inside.callers.items c.self.inside.flow c.self.inside.record in
     subst (λ (f : FlowView). CrashesDesk m old c.args.proposer
-    (view_of c.self.inside.config.proposers c.self.inside.council c.self.inside.acceptors.items (slice_set c.self.inside.desks.items c.from-place.result c.crash.new.self) c.self.inside.callers.items f c.self.inside.record)) (sym c.abandon.ensures)
+    (view_of c.self.inside.setup.proposers c.self.inside.council c.self.inside.acceptors.items (slice_set c.self.inside.desks.items c.from-place.result c.crash.new.self) c.self.inside.callers.items f c.self.inside.record)) (sym c.abandon.ensures)
     (subst (λ (i : ℕ). CrashesDesk m old c.args.proposer
-    (view_of c.self.inside.config.proposers c.self.inside.council c.self.inside.acceptors.items (slice_set c.self.inside.desks.items i c.crash.new.self) c.self.inside.callers.items (abandoned c.self.inside.flow c.args.proposer) c.self.inside.record)) (sym c.from-place.ensures)
+    (view_of c.self.inside.setup.proposers c.self.inside.council c.self.inside.acceptors.items (slice_set c.self.inside.desks.items i c.crash.new.self) c.self.inside.callers.items (abandoned c.self.inside.flow c.args.proposer) c.self.inside.record)) (sym c.from-place.ensures)
     (crash_idle m old c.args.proposer c.index_mut.result.now c.crash.new.self (at_desk g c) (none_open g c) (crashes g c)))
 
 -- ---- a round was open
 pub close_round-requires : goal.close_round-requires
 close_round-requires g c =
-    let found = open_in (λ one. one.now) c.self.inside.config.proposers c.self.inside.council c.self.inside.acceptors.items c.self.inside.desks.items c.self.inside.callers.items c.self.inside.flow c.self.inside.record
-    c.from-place.result c.args.proposer c.index_mut.result.now c.index.result.now c.round.result c.index_mut-then-closes.result.now c.from-place.ensures (omega (arith, c.requires, ap (λ (v : View _ _). v.greatest) c.self.view_is))
+    let found = open_in (λ one. one.now) c.self.inside.setup.proposers c.self.inside.council c.self.inside.acceptors.items c.self.inside.desks.items c.self.inside.callers.items c.self.inside.flow c.self.inside.record
+    c.from-place.result c.args.proposer c.index_mut.result.now c.index.result.now c.round.result c.index_mut-then-closes.result.now c.from-place.ensures (omega (arith, c.requires, ap (λ (v : View _ _). v.last_proposer) c.self.view_is))
     c.self.invariant.safe c.index_mut.ensures.value c.index.ensures c.round.ensures (sym c.if-closes.ensures) c.index_mut-then-closes.ensures.value in
     subst (λ (o : Option OpenCall). IsSome o) (sym found.is_open) refl
 
 found : (g : Over) (c : goal.After-self-then-closes-1 g) → IsOpenIn c.self.inside.desks.items c.self.inside.callers.items c.args.proposer c.index_mut.result.now c.index_mut-then-closes.result.now
-found g c = open_in (λ one. one.now) c.self.inside.config.proposers c.self.inside.council c.self.inside.acceptors.items c.self.inside.desks.items c.self.inside.callers.items c.self.inside.flow c.self.inside.record
-    c.from-place.result c.args.proposer c.index_mut.result.now c.index.result.now c.round.result c.index_mut-then-closes.result.now c.from-place.ensures (omega (arith, c.requires, ap (λ (v : View _ _). v.greatest) c.self.view_is))
+found g c = open_in (λ one. one.now) c.self.inside.setup.proposers c.self.inside.council c.self.inside.acceptors.items c.self.inside.desks.items c.self.inside.callers.items c.self.inside.flow c.self.inside.record
+    c.from-place.result c.args.proposer c.index_mut.result.now c.index.result.now c.round.result c.index_mut-then-closes.result.now c.from-place.ensures (omega (arith, c.requires, ap (λ (v : View _ _). v.last_proposer) c.self.view_is))
     c.self.invariant.safe c.index_mut.ensures.value c.index.ensures c.round.ensures (sym c.if-closes.ensures) c.index_mut-then-closes.ensures.value
 
 new_caller : (g : Over) (c : goal.After-self-then-closes-1 g) → c.close_round.new.self ≡ crashed_caller c.index_mut-then-closes.result.now (found g c).call
 new_caller g c =
     let at_read = at_place c.self.inside.callers.items c.from-place.result c.args.proposer c.index-then-closes.result.now c.from-place.ensures
-    (omega (arith, c.self.invariant.safe.sound.callers, c.requires, ap (λ (v : View _ _). v.greatest) c.self.view_is, length-map c.self.inside.callers.items caller_view)) c.index-then-closes.ensures in
+    (omega (arith, c.self.invariant.safe.sound.callers, c.requires, ap (λ (v : View _ _). v.last_proposer) c.self.view_is, length-map c.self.inside.callers.items caller_view)) c.index-then-closes.ensures in
     closed_is c.index_mut-then-closes.result.now c.index-then-closes.result.now c.close_round.new.self (found g c).call c.crash_answer.result c.has_proposed-proposed.result (found g c).is_open
     (at_one c.self.inside.callers.items c.args.proposer at_read (found g c).at_caller) c.has_proposed-proposed.ensures c.crash_answer.ensures c.close_round.ensures
 
 closes : (g : Over) (c : goal.After-self-then-closes-1 g) → CrashesDesk (meaning g.S.Shelf.contents g.S.Shelf.tells g.S.Shelf.may_leave g.S.Shelf.fault_count g.V.Disk.tells g.V.Disk.may_leave g.V.Disk.fault_count)
-    (view_of c.self.inside.config.proposers c.self.inside.council c.self.inside.acceptors.items c.self.inside.desks.items c.self.inside.callers.items c.self.inside.flow c.self.inside.record) c.args.proposer
-    (view_of c.self.inside.config.proposers c.self.inside.council c.self.inside.acceptors.items (slice_set c.self.inside.desks.items c.from-place.result c.crash.new.self) (slice_set c.self.inside.callers.items c.from-place.result c.close_round.new.self) c.abandon.new.self c.self.inside.record)
+    (view_of c.self.inside.setup.proposers c.self.inside.council c.self.inside.acceptors.items c.self.inside.desks.items c.self.inside.callers.items c.self.inside.flow c.self.inside.record) c.args.proposer
+    (view_of c.self.inside.setup.proposers c.self.inside.council c.self.inside.acceptors.items (slice_set c.self.inside.desks.items c.from-place.result c.crash.new.self) (slice_set c.self.inside.callers.items c.from-place.result c.close_round.new.self) c.abandon.new.self c.self.inside.record)
 closes g c =
     let m = meaning g.S.Shelf.contents g.S.Shelf.tells g.S.Shelf.may_leave g.S.Shelf.fault_count g.V.Disk.tells g.V.Disk.may_leave g.V.Disk.fault_count in
-    let old = view_of c.self.inside.config.proposers c.self.inside.council c.self.inside.acceptors.items c.self.inside.desks.items c.self.inside.callers.items c.self.inside.flow c.self.inside.record in
+    let old = view_of c.self.inside.setup.proposers c.self.inside.council c.self.inside.acceptors.items c.self.inside.desks.items c.self.inside.callers.items c.self.inside.flow c.self.inside.record in
     subst (λ (f : FlowView). CrashesDesk m old c.args.proposer
-    (view_of c.self.inside.config.proposers c.self.inside.council c.self.inside.acceptors.items (slice_set c.self.inside.desks.items c.from-place.result c.crash.new.self) (slice_set c.self.inside.callers.items c.from-place.result c.close_round.new.self) f c.self.inside.record)) (sym c.abandon.ensures)
+    (view_of c.self.inside.setup.proposers c.self.inside.council c.self.inside.acceptors.items (slice_set c.self.inside.desks.items c.from-place.result c.crash.new.self) (slice_set c.self.inside.callers.items c.from-place.result c.close_round.new.self) f c.self.inside.record)) (sym c.abandon.ensures)
     (subst (λ (i : ℕ). CrashesDesk m old c.args.proposer
-    (view_of c.self.inside.config.proposers c.self.inside.council c.self.inside.acceptors.items (slice_set c.self.inside.desks.items i c.crash.new.self) (slice_set c.self.inside.callers.items i c.close_round.new.self) (abandoned c.self.inside.flow c.args.proposer) c.self.inside.record)) (sym c.from-place.ensures)
+    (view_of c.self.inside.setup.proposers c.self.inside.council c.self.inside.acceptors.items (slice_set c.self.inside.desks.items i c.crash.new.self) (slice_set c.self.inside.callers.items i c.close_round.new.self) (abandoned c.self.inside.flow c.args.proposer) c.self.inside.record)) (sym c.from-place.ensures)
     (subst (λ (x : Caller). CrashesDesk m old c.args.proposer
-    (view_of c.self.inside.config.proposers c.self.inside.council c.self.inside.acceptors.items (slice_set c.self.inside.desks.items c.args.proposer c.crash.new.self) (slice_set c.self.inside.callers.items c.args.proposer x) (abandoned c.self.inside.flow c.args.proposer) c.self.inside.record)) (sym (new_caller g c))
-    (crash_closes m c.self.inside.config.proposers c.self.inside.council c.self.inside.acceptors.items c.self.inside.desks.items c.self.inside.callers.items c.self.inside.flow c.self.inside.record c.args.proposer
+    (view_of c.self.inside.setup.proposers c.self.inside.council c.self.inside.acceptors.items (slice_set c.self.inside.desks.items c.args.proposer c.crash.new.self) (slice_set c.self.inside.callers.items c.args.proposer x) (abandoned c.self.inside.flow c.args.proposer) c.self.inside.record)) (sym (new_caller g c))
+    (crash_closes m c.self.inside.setup.proposers c.self.inside.council c.self.inside.acceptors.items c.self.inside.desks.items c.self.inside.callers.items c.self.inside.flow c.self.inside.record c.args.proposer
     c.index_mut.result.now c.crash.new.self (found g c).round c.index_mut-then-closes.result.now (found g c).call (found g c).at_desk (found g c).at_caller (found g c).is_open (found g c).is_round
     (record {
       crashed = c.crash.ensures.crashed;

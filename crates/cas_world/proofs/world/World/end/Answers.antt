@@ -22,18 +22,18 @@ use Rattle.cas_world.proofs.world.World.end.Goals as goal
 
 pub end_call-ended-requires : goal.end_call-ended-requires
 end_call-ended-requires g c =
-    let is = ending c.self.inside.config.proposers c.self.inside.council c.self.inside.acceptors.items c.self.inside.desks.items c.self.inside.callers.items c.self.inside.flow c.self.inside.record c.args.self.now
+    let is = ending c.self.inside.setup.proposers c.self.inside.council c.self.inside.acceptors.items c.self.inside.desks.items c.self.inside.callers.items c.self.inside.flow c.self.inside.record c.args.self.now
     c.from-place.result c.args.caller c.args.call c.args.answer c.index_mut.result.now c.index_mut-2.result.now c.from-place.ensures c.self.view_is c.requires.known c.self.invariant.safe c.index_mut.ensures.value c.index_mut-2.ensures.value c.requires.told in
     may_end c.index_mut-2.result.now is.told.call c.args.answer is.told.is_open is.told.told
 
 pub push-requires : goal.push-requires
 push-requires g c =
-    let is = ending c.self.inside.config.proposers c.self.inside.council c.self.inside.acceptors.items c.self.inside.desks.items c.self.inside.callers.items c.self.inside.flow c.self.inside.record c.args.self.now
+    let is = ending c.self.inside.setup.proposers c.self.inside.council c.self.inside.acceptors.items c.self.inside.desks.items c.self.inside.callers.items c.self.inside.flow c.self.inside.record c.args.self.now
     c.from-place.result c.args.caller c.args.call c.args.answer c.index_mut.result.now c.index_mut-2.result.now c.from-place.ensures c.self.view_is c.requires.known c.self.invariant.safe c.index_mut.ensures.value c.index_mut-2.ensures.value c.requires.told in
     some_room (reserved_by (council_view c.self.inside.council)) c.self.inside.callers.items c.args.caller c.index_mut-2.result.now is.told.call c.self.inside.record.room is.at_caller is.told.is_open is.some c.self.invariant.room
 
 found : (g : Over) (c : goal.After-drop-ended g) → IsEnding c.self.inside.desks.items c.self.inside.callers.items c.args.caller c.args.call c.args.answer c.index_mut.result.now c.index_mut-2.result.now
-found g c = ending c.self.inside.config.proposers c.self.inside.council c.self.inside.acceptors.items c.self.inside.desks.items c.self.inside.callers.items c.self.inside.flow c.self.inside.record c.args.self.now
+found g c = ending c.self.inside.setup.proposers c.self.inside.council c.self.inside.acceptors.items c.self.inside.desks.items c.self.inside.callers.items c.self.inside.flow c.self.inside.record c.args.self.now
     c.from-place.result c.args.caller c.args.call c.args.answer c.index_mut.result.now c.index_mut-2.result.now c.from-place.ensures c.self.view_is c.requires.known c.self.invariant.safe c.index_mut.ensures.value c.index_mut-2.ensures.value c.requires.told
 
 closed : (g : Over) (c : goal.After-drop-ended g) → ((c.index_mut.result.now.round ≡ None) × (c.close.new.desk ≡ c.index_mut.result.now))
@@ -43,18 +43,18 @@ closed g c = closed_or (record { tells = g.V.Disk.tells; may_leave = g.V.Disk.ma
 ended_is : (g : Over) (c : goal.After-drop-ended g) → c.end_call-ended.result ≡ record { key = (found g c).told.call.key; rounds = (found g c).told.call.rounds; told = c.args.answer }
 ended_is g c = ended_as c.index_mut-2.result.now (found g c).told.call c.args.answer c.end_call-ended.result (found g c).told.is_open (found g c).told.told c.end_call-ended.ensures.told
 
-ends_it : (g : Over) (c : goal.After-drop-ended g) → StepEnd (meaning g.S.Shelf.contents g.S.Shelf.tells g.S.Shelf.may_leave g.S.Shelf.fault_count g.V.Disk.tells g.V.Disk.may_leave g.V.Disk.fault_count) (view_of c.self.inside.config.proposers c.self.inside.council c.self.inside.acceptors.items c.self.inside.desks.items c.self.inside.callers.items c.self.inside.flow c.self.inside.record) c.args.caller c.args.answer
-    (view_of c.self.inside.config.proposers c.end.new.self c.self.inside.acceptors.items (slice_set c.self.inside.desks.items c.from-place.result c.close.new.desk) (slice_set c.self.inside.callers.items c.from-place.result c.end_call-ended.new.self) c.abandon.new.self c.push.new.self)
+ends_it : (g : Over) (c : goal.After-drop-ended g) → StepEnd (meaning g.S.Shelf.contents g.S.Shelf.tells g.S.Shelf.may_leave g.S.Shelf.fault_count g.V.Disk.tells g.V.Disk.may_leave g.V.Disk.fault_count) (view_of c.self.inside.setup.proposers c.self.inside.council c.self.inside.acceptors.items c.self.inside.desks.items c.self.inside.callers.items c.self.inside.flow c.self.inside.record) c.args.caller c.args.answer
+    (view_of c.self.inside.setup.proposers c.end.new.self c.self.inside.acceptors.items (slice_set c.self.inside.desks.items c.from-place.result c.close.new.desk) (slice_set c.self.inside.callers.items c.from-place.result c.end_call-ended.new.self) c.abandon.new.self c.push.new.self)
 ends_it g c =
     let m = meaning g.S.Shelf.contents g.S.Shelf.tells g.S.Shelf.may_leave g.S.Shelf.fault_count g.V.Disk.tells g.V.Disk.may_leave g.V.Disk.fault_count in
-    let old = view_of c.self.inside.config.proposers c.self.inside.council c.self.inside.acceptors.items c.self.inside.desks.items c.self.inside.callers.items c.self.inside.flow c.self.inside.record in
+    let old = view_of c.self.inside.setup.proposers c.self.inside.council c.self.inside.acceptors.items c.self.inside.desks.items c.self.inside.callers.items c.self.inside.flow c.self.inside.record in
     subst (λ (f : FlowView). StepEnd m old c.args.caller c.args.answer
-    (view_of c.self.inside.config.proposers c.end.new.self c.self.inside.acceptors.items (slice_set c.self.inside.desks.items c.from-place.result c.close.new.desk) (slice_set c.self.inside.callers.items c.from-place.result c.end_call-ended.new.self) f c.push.new.self)) (sym c.abandon.ensures)
+    (view_of c.self.inside.setup.proposers c.end.new.self c.self.inside.acceptors.items (slice_set c.self.inside.desks.items c.from-place.result c.close.new.desk) (slice_set c.self.inside.callers.items c.from-place.result c.end_call-ended.new.self) f c.push.new.self)) (sym c.abandon.ensures)
     (subst (λ (i : ℕ). StepEnd m old c.args.caller c.args.answer
-    (view_of c.self.inside.config.proposers c.end.new.self c.self.inside.acceptors.items (slice_set c.self.inside.desks.items i c.close.new.desk) (slice_set c.self.inside.callers.items i c.end_call-ended.new.self) (abandoned c.self.inside.flow c.args.caller) c.push.new.self)) (sym c.from-place.ensures)
+    (view_of c.self.inside.setup.proposers c.end.new.self c.self.inside.acceptors.items (slice_set c.self.inside.desks.items i c.close.new.desk) (slice_set c.self.inside.callers.items i c.end_call-ended.new.self) (abandoned c.self.inside.flow c.args.caller) c.push.new.self)) (sym c.from-place.ensures)
     (subst (λ (x : Caller). StepEnd m old c.args.caller c.args.answer
-    (view_of c.self.inside.config.proposers c.end.new.self c.self.inside.acceptors.items (slice_set c.self.inside.desks.items c.args.caller c.close.new.desk) (slice_set c.self.inside.callers.items c.args.caller x) (abandoned c.self.inside.flow c.args.caller) c.push.new.self)) (sym c.end_call-ended.ensures.caller)
-    (ends m c.self.inside.config.proposers c.self.inside.council c.end.new.self c.self.inside.acceptors.items c.self.inside.desks.items c.self.inside.callers.items c.self.inside.flow c.self.inside.record c.push.new.self c.args.caller c.args.call c.args.answer
+    (view_of c.self.inside.setup.proposers c.end.new.self c.self.inside.acceptors.items (slice_set c.self.inside.desks.items c.args.caller c.close.new.desk) (slice_set c.self.inside.callers.items c.args.caller x) (abandoned c.self.inside.flow c.args.caller) c.push.new.self)) (sym c.end_call-ended.ensures.caller)
+    (ends m c.self.inside.setup.proposers c.self.inside.council c.end.new.self c.self.inside.acceptors.items c.self.inside.desks.items c.self.inside.callers.items c.self.inside.flow c.self.inside.record c.push.new.self c.args.caller c.args.call c.args.answer
     c.index_mut.result.now c.close.new.desk c.index_mut-2.result.now (found g c).told (found g c).at_desk (found g c).at_caller (closed g c)
     (subst (λ (e : EndedCall). Rescans (council_view c.self.inside.council) c.args.caller e.key e.told (council_view c.end.new.self)) (ended_is g c) c.end.ensures.rescans) c.end.ensures.eras
     (c.push.ensures.marks ∙ ap (λ (e : EndedCall). c.self.inside.record.marks ++ Ended c.args.caller c.args.call e.rounds e.told ∷ [])

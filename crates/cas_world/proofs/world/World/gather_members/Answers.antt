@@ -22,7 +22,7 @@ pub gather-requires-clause-lists : goal.gather-requires-clause-lists
 gather-requires-clause-lists g c =
     let is_open = ap (λ (v : View g.row.S.Denot g.row.V.Denot). v.council.exchange) c.self.view_is ∙ c.requires.may.is_open in
     in_code (λ e. MayList e.question (council_view c.self.inside.council).plan) c.self.inside.council.exchange c.requires.may.exchange is_open
-    (may_list (view_of c.self.inside.config.proposers c.self.inside.council c.self.inside.acceptors.items c.self.inside.desks.items c.self.inside.callers.items c.self.inside.flow c.self.inside.record) c.requires.may.exchange c.requires.may.exchange.question c.self.invariant.safe c.requires.may.beside is_open refl)
+    (may_list (view_of c.self.inside.setup.proposers c.self.inside.council c.self.inside.acceptors.items c.self.inside.desks.items c.self.inside.callers.items c.self.inside.flow c.self.inside.record) c.requires.may.exchange c.requires.may.exchange.question c.self.invariant.safe c.requires.may.beside is_open refl)
 
 -- the exchange in the world
 exchange_is : (g : Over) (c : After-gather g) → (council_view c.self.inside.council).exchange ≡ Some c.requires.may.exchange
@@ -31,16 +31,16 @@ exchange_is g c = ap (λ (v : View g.row.S.Denot g.row.V.Denot). v.council.excha
 gathers : (g : Over) (c : After-gather g) → GathersAs (era_in c.self.inside.council.eras.0 0) c.requires.may.exchange (council_view c.self.inside.council) c.gather.result (council_view c.gather.new.self)
 gathers g c = in_world c.self.inside.council.exchange c.requires.may.exchange (λ e. GathersAs (era_in c.self.inside.council.eras.0 0) e (council_view c.self.inside.council) c.gather.result (council_view c.gather.new.self)) (exchange_is g c) c.gather.ensures.gathers
 
-step_so : (g : Over) (c : After-gather g) → StepGather (view_of c.self.inside.config.proposers c.self.inside.council c.self.inside.acceptors.items c.self.inside.desks.items c.self.inside.callers.items c.self.inside.flow c.self.inside.record) (view_of c.self.inside.config.proposers c.gather.new.self c.self.inside.acceptors.items c.self.inside.desks.items c.self.inside.callers.items c.self.inside.flow c.self.inside.record)
+step_so : (g : Over) (c : After-gather g) → StepGather (view_of c.self.inside.setup.proposers c.self.inside.council c.self.inside.acceptors.items c.self.inside.desks.items c.self.inside.callers.items c.self.inside.flow c.self.inside.record) (view_of c.self.inside.setup.proposers c.gather.new.self c.self.inside.acceptors.items c.self.inside.desks.items c.self.inside.callers.items c.self.inside.flow c.self.inside.record)
 step_so g c = record {
   at = record { exchange = c.requires.may.exchange; is_open = exchange_is g c };
   none_waits = ap (λ (v : View g.row.S.Denot g.row.V.Denot). (queue_at v.flow exchange_place).messages) c.self.view_is ∙ c.requires.may.none_waits;
-  gathers = gathers_so c.self.inside.config.proposers c.self.inside.council c.gather.new.self c.self.inside.acceptors.items c.self.inside.desks.items c.self.inside.callers.items c.self.inside.flow c.self.inside.record c.requires.may.exchange c.gather.result c.self.invariant.safe (exchange_is g c) (gathers g c) c.gather.ensures.eras;
+  gathers = gathers_so c.self.inside.setup.proposers c.self.inside.council c.gather.new.self c.self.inside.acceptors.items c.self.inside.desks.items c.self.inside.callers.items c.self.inside.flow c.self.inside.record c.requires.may.exchange c.gather.result c.self.invariant.safe (exchange_is g c) (gathers g c) c.gather.ensures.eras;
 }
 
 pub invariant_of-self : goal.invariant_of-self
 invariant_of-self g c =
-    council_world (view_of c.self.inside.config.proposers c.self.inside.council c.self.inside.acceptors.items c.self.inside.desks.items c.self.inside.callers.items c.self.inside.flow c.self.inside.record) _ c.self.inside.callers.items c.self.inside.record.room c.self.inside.record.room c.self.invariant refl
+    council_world (view_of c.self.inside.setup.proposers c.self.inside.council c.self.inside.acceptors.items c.self.inside.desks.items c.self.inside.callers.items c.self.inside.flow c.self.inside.record) _ c.self.inside.callers.items c.self.inside.record.room c.self.inside.record.room c.self.invariant refl
     (steps_are_safe (meaning g.S.Shelf.contents g.S.Shelf.tells g.S.Shelf.may_leave g.S.Shelf.fault_count g.V.Disk.tells g.V.Disk.may_leave g.V.Disk.fault_count) _ step.Gather _ c.self.invariant.safe (step_so g c)) (remembered_then (meaning g.S.Shelf.contents g.S.Shelf.tells g.S.Shelf.may_leave g.S.Shelf.fault_count g.V.Disk.tells g.V.Disk.may_leave g.V.Disk.fault_count) step.Gather (step_so g c) c.self.invariant.remembered)
     (omega (arith, c.self.invariant.room, gathered_reserves (era_in c.self.inside.council.eras.0 0) c.requires.may.exchange (council_view c.self.inside.council) (council_view c.gather.new.self) c.gather.result (exchange_is g c) (gathers g c)))
 
@@ -49,8 +49,8 @@ returns-clause-step g c = seen_from (meaning g.S.Shelf.contents g.S.Shelf.tells 
 
 pub returns-clause-ok : goal.returns-clause-ok
 returns-clause-ok g c =
-    subst (λ (v : View g.row.S.Denot g.row.V.Denot). IfOk c.gather.result (λ found. HasGathered v found (view_of c.self.inside.config.proposers c.gather.new.self c.self.inside.acceptors.items c.self.inside.desks.items c.self.inside.callers.items c.self.inside.flow c.self.inside.record))) c.self.view_is
-    (gathered_ok (era_in c.self.inside.council.eras.0 0) (view_of c.self.inside.config.proposers c.self.inside.council c.self.inside.acceptors.items c.self.inside.desks.items c.self.inside.callers.items c.self.inside.flow c.self.inside.record) (view_of c.self.inside.config.proposers c.gather.new.self c.self.inside.acceptors.items c.self.inside.desks.items c.self.inside.callers.items c.self.inside.flow c.self.inside.record) c.requires.may.order c.requires.may.exchange c.gather.result (ap (λ (v : View g.row.S.Denot g.row.V.Denot). v.council.order) c.self.view_is ∙ c.requires.may.is_order) (exchange_is g c) (gathers g c))
+    subst (λ (v : View g.row.S.Denot g.row.V.Denot). IfOk c.gather.result (λ found. HasGathered v found (view_of c.self.inside.setup.proposers c.gather.new.self c.self.inside.acceptors.items c.self.inside.desks.items c.self.inside.callers.items c.self.inside.flow c.self.inside.record))) c.self.view_is
+    (gathered_ok (era_in c.self.inside.council.eras.0 0) (view_of c.self.inside.setup.proposers c.self.inside.council c.self.inside.acceptors.items c.self.inside.desks.items c.self.inside.callers.items c.self.inside.flow c.self.inside.record) (view_of c.self.inside.setup.proposers c.gather.new.self c.self.inside.acceptors.items c.self.inside.desks.items c.self.inside.callers.items c.self.inside.flow c.self.inside.record) c.requires.may.order c.requires.may.exchange c.gather.result (ap (λ (v : View g.row.S.Denot g.row.V.Denot). v.council.order) c.self.view_is ∙ c.requires.may.is_order) (exchange_is g c) (gathers g c))
 
 pub returns-clause-less : goal.returns-clause-less
 returns-clause-less g c more =
@@ -58,4 +58,4 @@ returns-clause-less g c more =
     (gathered_less (era_in c.self.inside.council.eras.0 0) c.requires.may.exchange (council_view c.self.inside.council) (council_view c.gather.new.self) c.gather.result (gathers g c) more)
 
 pub returns-clause-err : goal.returns-clause-err
-returns-clause-err g c = gathered_err (era_in c.self.inside.council.eras.0 0) (view_of c.self.inside.config.proposers c.self.inside.council c.self.inside.acceptors.items c.self.inside.desks.items c.self.inside.callers.items c.self.inside.flow c.self.inside.record) (view_of c.self.inside.config.proposers c.gather.new.self c.self.inside.acceptors.items c.self.inside.desks.items c.self.inside.callers.items c.self.inside.flow c.self.inside.record) c.requires.may.order c.requires.may.exchange c.gather.result (ap (λ (v : View g.row.S.Denot g.row.V.Denot). v.council.order) c.self.view_is ∙ c.requires.may.is_order) (gathers g c)
+returns-clause-err g c = gathered_err (era_in c.self.inside.council.eras.0 0) (view_of c.self.inside.setup.proposers c.self.inside.council c.self.inside.acceptors.items c.self.inside.desks.items c.self.inside.callers.items c.self.inside.flow c.self.inside.record) (view_of c.self.inside.setup.proposers c.gather.new.self c.self.inside.acceptors.items c.self.inside.desks.items c.self.inside.callers.items c.self.inside.flow c.self.inside.record) c.requires.may.order c.requires.may.exchange c.gather.result (ap (λ (v : View g.row.S.Denot g.row.V.Denot). v.council.order) c.self.view_is ∙ c.requires.may.is_order) (gathers g c)

@@ -11,6 +11,6 @@ pub returns-clause-phase : goal.returns-clause-phase
 returns-clause-phase g c desk at_desk =
     let here : IsAt c.self.inside.desks.items c.args.caller desk = ap (λ (v : View _ _). slice_get v.desks c.args.caller) c.self.view_is ∙ at_desk in
     let at_caller = at_place c.self.inside.callers.items c.from.result c.args.caller c.index.result.now c.from.ensures
-    (omega (arith, c.requires, ap (λ (v : View _ _). v.greatest) c.self.view_is, c.self.invariant.safe.sound.callers, length-map c.self.inside.callers.items caller_view)) c.index.ensures in
-    phase_tells c.self.inside.config.proposers c.self.inside.council c.self.inside.acceptors.items c.self.inside.desks.items c.self.inside.callers.items c.self.inside.flow c.self.inside.record c.args.caller desk c.index.result.now c.has_proposed.result
+    (omega (arith, c.requires, ap (λ (v : View _ _). v.last_proposer) c.self.view_is, c.self.invariant.safe.sound.callers, length-map c.self.inside.callers.items caller_view)) c.index.ensures in
+    phase_tells c.self.inside.setup.proposers c.self.inside.council c.self.inside.acceptors.items c.self.inside.desks.items c.self.inside.callers.items c.self.inside.flow c.self.inside.record c.args.caller desk c.index.result.now c.has_proposed.result
     c.self.invariant.safe here at_caller c.has_proposed.ensures desk.round refl

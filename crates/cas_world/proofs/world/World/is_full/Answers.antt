@@ -18,22 +18,22 @@ use Rattle.cas_world.proofs.world.World.is_full.Goals as goal
 use Rattle.cas_world.proofs.world.World.is_full.Goals.{After-reserved}
 
 pub reserved_by-requires : goal.reserved_by-requires
-reserved_by-requires g c = omega (arith, reserved_fits c.self.inside.config.proposers c.self.inside.council c.self.inside.acceptors.items c.self.inside.desks.items c.self.inside.callers.items c.self.inside.flow c.self.inside.record c.self.invariant.safe, ap (λ (l : List Caller). sum_by reserved_of (take c.from-place.result l)) c.deref.ensures.value, others_within c.from-place.result 0 c.self.inside.callers.items)
+reserved_by-requires g c = omega (arith, reserved_fits c.self.inside.setup.proposers c.self.inside.council c.self.inside.acceptors.items c.self.inside.desks.items c.self.inside.callers.items c.self.inside.flow c.self.inside.record c.self.invariant.safe, ap (λ (l : List Caller). sum_by reserved_of (take c.from-place.result l)) c.deref.ensures.value, others_within c.from-place.result 0 c.self.inside.callers.items)
 
 pub reserved_by-requires-2 : goal.reserved_by-requires-2
-reserved_by-requires-2 g c = omega (arith, reserved_fits c.self.inside.config.proposers c.self.inside.council c.self.inside.acceptors.items c.self.inside.desks.items c.self.inside.callers.items c.self.inside.flow c.self.inside.record c.self.invariant.safe, ap (λ (l : List Caller). sum_by reserved_of (take (length l - (c.from-place.result + 1)) (drop (c.from-place.result + 1) l))) c.deref-2.ensures.value, others_within c.from-place.result (length c.self.inside.callers.items - (c.from-place.result + 1)) c.self.inside.callers.items)
+reserved_by-requires-2 g c = omega (arith, reserved_fits c.self.inside.setup.proposers c.self.inside.council c.self.inside.acceptors.items c.self.inside.desks.items c.self.inside.callers.items c.self.inside.flow c.self.inside.record c.self.invariant.safe, ap (λ (l : List Caller). sum_by reserved_of (take (length l - (c.from-place.result + 1)) (drop (c.from-place.result + 1) l))) c.deref-2.ensures.value, others_within c.from-place.result (length c.self.inside.callers.items - (c.from-place.result + 1)) c.self.inside.callers.items)
 
 pub overflow_add-others : goal.overflow_add-others
-overflow_add-others g c = omega (arith, c.reserved_by.ensures, c.reserved_by-2.ensures, ap (λ (l : List Caller). sum_by reserved_of (take c.from-place.result l)) c.deref.ensures.value, ap (λ (l : List Caller). sum_by reserved_of (take (length l - (c.from-place.result + 1)) (drop (c.from-place.result + 1) l))) c.deref-2.ensures.value, others_within c.from-place.result (length c.self.inside.callers.items - (c.from-place.result + 1)) c.self.inside.callers.items, reserved_fits c.self.inside.config.proposers c.self.inside.council c.self.inside.acceptors.items c.self.inside.desks.items c.self.inside.callers.items c.self.inside.flow c.self.inside.record c.self.invariant.safe)
+overflow_add-others g c = omega (arith, c.reserved_by.ensures, c.reserved_by-2.ensures, ap (λ (l : List Caller). sum_by reserved_of (take c.from-place.result l)) c.deref.ensures.value, ap (λ (l : List Caller). sum_by reserved_of (take (length l - (c.from-place.result + 1)) (drop (c.from-place.result + 1) l))) c.deref-2.ensures.value, others_within c.from-place.result (length c.self.inside.callers.items - (c.from-place.result + 1)) c.self.inside.callers.items, reserved_fits c.self.inside.setup.proposers c.self.inside.council c.self.inside.acceptors.items c.self.inside.desks.items c.self.inside.callers.items c.self.inside.flow c.self.inside.record c.self.invariant.safe)
 
 pub overflow_add-result : goal.overflow_add-result
-overflow_add-result g c = omega (arith, ap (λ (l : List Mark). length l) c.marks.ensures, c.reserved_by.ensures, c.reserved_by-2.ensures, ap (λ (l : List Caller). sum_by reserved_of (take c.from-place.result l)) c.deref.ensures.value, ap (λ (l : List Caller). sum_by reserved_of (take (length l - (c.from-place.result + 1)) (drop (c.from-place.result + 1) l))) c.deref-2.ensures.value, others_within c.from-place.result (length c.self.inside.callers.items - (c.from-place.result + 1)) c.self.inside.callers.items, reserved_fits c.self.inside.config.proposers c.self.inside.council c.self.inside.acceptors.items c.self.inside.desks.items c.self.inside.callers.items c.self.inside.flow c.self.inside.record c.self.invariant.safe)
+overflow_add-result g c = omega (arith, ap (λ (l : List Mark). length l) c.marks.ensures, c.reserved_by.ensures, c.reserved_by-2.ensures, ap (λ (l : List Caller). sum_by reserved_of (take c.from-place.result l)) c.deref.ensures.value, ap (λ (l : List Caller). sum_by reserved_of (take (length l - (c.from-place.result + 1)) (drop (c.from-place.result + 1) l))) c.deref-2.ensures.value, others_within c.from-place.result (length c.self.inside.callers.items - (c.from-place.result + 1)) c.self.inside.callers.items, reserved_fits c.self.inside.setup.proposers c.self.inside.council c.self.inside.acceptors.items c.self.inside.desks.items c.self.inside.callers.items c.self.inside.flow c.self.inside.record c.self.invariant.safe)
 
 pub overflow_add-result-2 : goal.overflow_add-result-2
-overflow_add-result-2 g c = omega (arith, ap (λ (l : List Mark). length l) c.marks.ensures, c.reserved.ensures, c.reserved_by.ensures, c.reserved_by-2.ensures, ap (λ (l : List Caller). sum_by reserved_of (take c.from-place.result l)) c.deref.ensures.value, ap (λ (l : List Caller). sum_by reserved_of (take (length l - (c.from-place.result + 1)) (drop (c.from-place.result + 1) l))) c.deref-2.ensures.value, others_within c.from-place.result (length c.self.inside.callers.items - (c.from-place.result + 1)) c.self.inside.callers.items, reserved_fits c.self.inside.config.proposers c.self.inside.council c.self.inside.acceptors.items c.self.inside.desks.items c.self.inside.callers.items c.self.inside.flow c.self.inside.record c.self.invariant.safe)
+overflow_add-result-2 g c = omega (arith, ap (λ (l : List Mark). length l) c.marks.ensures, c.reserved.ensures, c.reserved_by.ensures, c.reserved_by-2.ensures, ap (λ (l : List Caller). sum_by reserved_of (take c.from-place.result l)) c.deref.ensures.value, ap (λ (l : List Caller). sum_by reserved_of (take (length l - (c.from-place.result + 1)) (drop (c.from-place.result + 1) l))) c.deref-2.ensures.value, others_within c.from-place.result (length c.self.inside.callers.items - (c.from-place.result + 1)) c.self.inside.callers.items, reserved_fits c.self.inside.setup.proposers c.self.inside.council c.self.inside.acceptors.items c.self.inside.desks.items c.self.inside.callers.items c.self.inside.flow c.self.inside.record c.self.invariant.safe)
 
 pub overflow_add-result-3 : goal.overflow_add-result-3
-overflow_add-result-3 g c = omega (arith, ap (λ (l : List Mark). length l) c.marks.ensures, c.reserved.ensures, c.round_marks-marks.ensures.few, c.reserved_by.ensures, c.reserved_by-2.ensures, ap (λ (l : List Caller). sum_by reserved_of (take c.from-place.result l)) c.deref.ensures.value, ap (λ (l : List Caller). sum_by reserved_of (take (length l - (c.from-place.result + 1)) (drop (c.from-place.result + 1) l))) c.deref-2.ensures.value, others_within c.from-place.result (length c.self.inside.callers.items - (c.from-place.result + 1)) c.self.inside.callers.items, reserved_fits c.self.inside.config.proposers c.self.inside.council c.self.inside.acceptors.items c.self.inside.desks.items c.self.inside.callers.items c.self.inside.flow c.self.inside.record c.self.invariant.safe)
+overflow_add-result-3 g c = omega (arith, ap (λ (l : List Mark). length l) c.marks.ensures, c.reserved.ensures, c.round_marks-marks.ensures.few, c.reserved_by.ensures, c.reserved_by-2.ensures, ap (λ (l : List Caller). sum_by reserved_of (take c.from-place.result l)) c.deref.ensures.value, ap (λ (l : List Caller). sum_by reserved_of (take (length l - (c.from-place.result + 1)) (drop (c.from-place.result + 1) l))) c.deref-2.ensures.value, others_within c.from-place.result (length c.self.inside.callers.items - (c.from-place.result + 1)) c.self.inside.callers.items, reserved_fits c.self.inside.setup.proposers c.self.inside.council c.self.inside.acceptors.items c.self.inside.desks.items c.self.inside.callers.items c.self.inside.flow c.self.inside.record c.self.invariant.safe)
 
 lt_is : {a b : ℕ} → a < b → nat_lt a b ≡ true
 lt_is low = grind (arith, low)
@@ -52,7 +52,7 @@ behind g c = c.reserved_by-2.ensures ∙ ap (λ (l : List Caller). sum_by reserv
 pub returns : goal.returns
 returns g c =
     let counted : length c.args.self.now.marks ≡ length c.self.inside.record.marks = ap (λ (v : (View g.row.S.Denot g.row.V.Denot)). length v.marks) (sym c.self.view_is) in
-    let place : c.args.caller < length c.self.inside.callers.items = omega (arith, c.self.invariant.safe.sound.callers, c.requires, ap (λ (v : (View g.row.S.Denot g.row.V.Denot)). v.greatest) c.self.view_is, length-map c.self.inside.callers.items caller_view) in
+    let place : c.args.caller < length c.self.inside.callers.items = omega (arith, c.self.invariant.safe.sound.callers, c.requires, ap (λ (v : (View g.row.S.Denot g.row.V.Denot)). v.last_proposer) c.self.view_is, length-map c.self.inside.callers.items caller_view) in
     let others : seen_reserved (slice_set c.args.self.now.callers c.args.caller new_caller) ≡ reserved_beside c.self.inside.callers.items c.args.caller = ap (λ (v : (View g.row.S.Denot g.row.V.Denot)). seen_reserved (slice_set v.callers c.args.caller new_caller)) (sym c.self.view_is) ∙ beside_none c.self.inside.callers.items c.args.caller place in
     let aside : reserved_by c.args.self.now.council ≡ reserved_by (council_view c.self.inside.council) = ap (λ (v : (View g.row.S.Denot g.row.V.Denot)). reserved_by v.council) (sym c.self.view_is) in
     let needs : round_marks (era_at c.args.self.now c.args.caller) ≡ c.round_marks-marks.result = ap (λ (v : (View g.row.S.Denot g.row.V.Denot)). round_marks (era_at v c.args.caller)) (sym c.self.view_is) ∙ sym (c.round_marks-marks.ensures.value ∙ ap round_marks c.of.ensures) in (

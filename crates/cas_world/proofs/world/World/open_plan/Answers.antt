@@ -65,24 +65,24 @@ returns-in_default-clause-err g c =
     (ap (λ (k : cluster.Council). k.order) (welcome_council (meaning g.S.Shelf.contents g.S.Shelf.tells g.S.Shelf.may_leave g.S.Shelf.fault_count g.V.Disk.tells g.V.Disk.may_leave g.V.Disk.fault_count) c.args.self.now c.welcome.new.self (asked_to c.args.kind c.args.id) c.welcome.ensures.welcomes) ∙ c.requires.is_open) c.refuse-in_default.ensures.told c.refuse-in_default.ensures.answer
 
 -- ---- it begins
-begun : (g : Over) (c : After-begin_plan g) → (view_of c.self-2.inside.config.proposers c.begin_plan.new.self c.self-2.inside.acceptors.items c.self-2.inside.desks.items c.self-2.inside.callers.items c.self-2.inside.flow c.self-2.inside.record) ≡ opened_plan c.welcome.new.self (asked_to c.args.kind c.args.id) c.in-Ok.plan
+begun : (g : Over) (c : After-begin_plan g) → (view_of c.self-2.inside.setup.proposers c.begin_plan.new.self c.self-2.inside.acceptors.items c.self-2.inside.desks.items c.self-2.inside.callers.items c.self-2.inside.flow c.self-2.inside.record) ≡ opened_plan c.welcome.new.self (asked_to c.args.kind c.args.id) c.in-Ok.plan
 begun g c =
-    (λ i. record (view_of c.self-2.inside.config.proposers c.self-2.inside.council c.self-2.inside.acceptors.items c.self-2.inside.desks.items c.self-2.inside.callers.items c.self-2.inside.flow c.self-2.inside.record) { eras = (c.begin_plan.ensures.eras i).0; council = c.begin_plan.ensures.opened i })
+    (λ i. record (view_of c.self-2.inside.setup.proposers c.self-2.inside.council c.self-2.inside.acceptors.items c.self-2.inside.desks.items c.self-2.inside.callers.items c.self-2.inside.flow c.self-2.inside.record) { eras = (c.begin_plan.ensures.eras i).0; council = c.begin_plan.ensures.opened i })
     ∙ ap (λ (v : View g.row.S.Denot g.row.V.Denot). record v { council = record (hushed v.council) { plan = Some (plan_view c.new-opened.result); used = c.in-Ok-welcome.used } }) c.self-2.view_is
     ∙ ap (λ (p : PlanView). record c.welcome.new.self { council = record (hushed c.welcome.new.self.council) { plan = Some p; used = c.in-Ok-welcome.used } }) (c.new-opened.ensures ∙ ap (λ (a : Asked). new_plan a c.in-Ok.plan) c.asked.ensures)
     ∙ ap (λ (l : List ℕ). record c.welcome.new.self { council = record (hushed c.welcome.new.self.council) { plan = Some (new_plan (asked_to c.args.kind c.args.id) c.in-Ok.plan); used = l } })
     (c.in-Ok-welcome.ensures.used ∙ ap (λ (k : cluster.Council). used_with (asked_to c.args.kind c.args.id) k.used) (sym (welcome_council (meaning g.S.Shelf.contents g.S.Shelf.tells g.S.Shelf.may_leave g.S.Shelf.fault_count g.V.Disk.tells g.V.Disk.may_leave g.V.Disk.fault_count) c.args.self.now c.welcome.new.self (asked_to c.args.kind c.args.id) c.welcome.ensures.welcomes)))
 
-step_so : (g : Over) (c : After-begin_plan g) → StepOpenPlan (meaning g.S.Shelf.contents g.S.Shelf.tells g.S.Shelf.may_leave g.S.Shelf.fault_count g.V.Disk.tells g.V.Disk.may_leave g.V.Disk.fault_count) c.args.self.now (view_of c.self-2.inside.config.proposers c.begin_plan.new.self c.self-2.inside.acceptors.items c.self-2.inside.desks.items c.self-2.inside.callers.items c.self-2.inside.flow c.self-2.inside.record)
+step_so : (g : Over) (c : After-begin_plan g) → StepOpenPlan (meaning g.S.Shelf.contents g.S.Shelf.tells g.S.Shelf.may_leave g.S.Shelf.fault_count g.V.Disk.tells g.V.Disk.may_leave g.V.Disk.fault_count) c.args.self.now (view_of c.self-2.inside.setup.proposers c.begin_plan.new.self c.self-2.inside.acceptors.items c.self-2.inside.desks.items c.self-2.inside.callers.items c.self-2.inside.flow c.self-2.inside.record)
 step_so g c =
-    opens_plan (meaning g.S.Shelf.contents g.S.Shelf.tells g.S.Shelf.may_leave g.S.Shelf.fault_count g.V.Disk.tells g.V.Disk.may_leave g.V.Disk.fault_count) c.args.self.now (view_of c.self-2.inside.config.proposers c.begin_plan.new.self c.self-2.inside.acceptors.items c.self-2.inside.desks.items c.self-2.inside.callers.items c.self-2.inside.flow c.self-2.inside.record) c.args.kind c.args.id c.index.result.now (subst (λ (v : View g.row.S.Denot g.row.V.Denot). IsSafe v) c.self.view_is c.self.invariant.safe) c.requires (subst (λ (v : View g.row.S.Denot g.row.V.Denot). IsAt v.desks 0 c.index.result.now) c.self.view_is (at_place c.self.inside.desks.items 0 0 c.index.result.now refl (omega (arith, c.self.invariant.safe.sound.desks)) c.index.ensures))
+    opens_plan (meaning g.S.Shelf.contents g.S.Shelf.tells g.S.Shelf.may_leave g.S.Shelf.fault_count g.V.Disk.tells g.V.Disk.may_leave g.V.Disk.fault_count) c.args.self.now (view_of c.self-2.inside.setup.proposers c.begin_plan.new.self c.self-2.inside.acceptors.items c.self-2.inside.desks.items c.self-2.inside.callers.items c.self-2.inside.flow c.self-2.inside.record) c.args.kind c.args.id c.index.result.now (subst (λ (v : View g.row.S.Denot g.row.V.Denot). IsSafe v) c.self.view_is c.self.invariant.safe) c.requires (subst (λ (v : View g.row.S.Denot g.row.V.Denot). IsAt v.desks 0 c.index.result.now) c.self.view_is (at_place c.self.inside.desks.items 0 0 c.index.result.now refl (omega (arith, c.self.invariant.safe.sound.desks)) c.index.ensures))
     (plans.opens c.in-Ok.plan c.welcome.new.self (sym c.is_down.ensures ∙ c.if-is_down.false) (sym (ap (λ (v : View g.row.S.Denot g.row.V.Denot). v.council.plan) c.self.view_is) ∙ ap (option_map plan_view) (none_there c.self.inside.council.plan (sym c.is_some.ensures ∙ c.if-is_some.false))) (planned_from c.args.kind c.args.id (era_at c.args.self.now 0) c.era-2.result.now c.args.self.now.council.used c.self.inside.council.used (Ok c.in-Ok.plan) c.era-2.ensures (ap (λ (v : View g.row.S.Denot g.row.V.Denot). v.council.used) c.self.view_is) (sym c.plan.ensures ∙ c.in-Ok.is)) c.welcome.ensures.welcomes (begun g c))
     (λ plan none opened id was now joins at_was at_now fresh down. c.in-Ok-welcome.ensures.faulted id was now joins at_was (subst (λ (v : View g.row.S.Denot g.row.V.Denot). IsAt v.acceptors id now) (begun g c) at_now) fresh down)
 
 pub invariant_of-self : goal.invariant_of-self
 invariant_of-self g c =
-    council_world (view_of c.self-2.inside.config.proposers c.self-2.inside.council c.self-2.inside.acceptors.items c.self-2.inside.desks.items c.self-2.inside.callers.items c.self-2.inside.flow c.self-2.inside.record) (view_of c.self-2.inside.config.proposers c.begin_plan.new.self c.self-2.inside.acceptors.items c.self-2.inside.desks.items c.self-2.inside.callers.items c.self-2.inside.flow c.self-2.inside.record) c.self-2.inside.callers.items c.self-2.inside.record.room c.self-2.inside.record.room c.self-2.invariant refl
-    (steps_are_safe (meaning g.S.Shelf.contents g.S.Shelf.tells g.S.Shelf.may_leave g.S.Shelf.fault_count g.V.Disk.tells g.V.Disk.may_leave g.V.Disk.fault_count) c.args.self.now step.OpenPlan (view_of c.self-2.inside.config.proposers c.begin_plan.new.self c.self-2.inside.acceptors.items c.self-2.inside.desks.items c.self-2.inside.callers.items c.self-2.inside.flow c.self-2.inside.record) (subst (λ (v : View g.row.S.Denot g.row.V.Denot). IsSafe v) c.self.view_is c.self.invariant.safe) (step_so g c))
+    council_world (view_of c.self-2.inside.setup.proposers c.self-2.inside.council c.self-2.inside.acceptors.items c.self-2.inside.desks.items c.self-2.inside.callers.items c.self-2.inside.flow c.self-2.inside.record) (view_of c.self-2.inside.setup.proposers c.begin_plan.new.self c.self-2.inside.acceptors.items c.self-2.inside.desks.items c.self-2.inside.callers.items c.self-2.inside.flow c.self-2.inside.record) c.self-2.inside.callers.items c.self-2.inside.record.room c.self-2.inside.record.room c.self-2.invariant refl
+    (steps_are_safe (meaning g.S.Shelf.contents g.S.Shelf.tells g.S.Shelf.may_leave g.S.Shelf.fault_count g.V.Disk.tells g.V.Disk.may_leave g.V.Disk.fault_count) c.args.self.now step.OpenPlan (view_of c.self-2.inside.setup.proposers c.begin_plan.new.self c.self-2.inside.acceptors.items c.self-2.inside.desks.items c.self-2.inside.callers.items c.self-2.inside.flow c.self-2.inside.record) (subst (λ (v : View g.row.S.Denot g.row.V.Denot). IsSafe v) c.self.view_is c.self.invariant.safe) (step_so g c))
     (remembered_then (meaning g.S.Shelf.contents g.S.Shelf.tells g.S.Shelf.may_leave g.S.Shelf.fault_count g.V.Disk.tells g.V.Disk.may_leave g.V.Disk.fault_count) step.OpenPlan (step_so g c) (subst (λ (v : View g.row.S.Denot g.row.V.Denot). Remembers (meaning g.S.Shelf.contents g.S.Shelf.tells g.S.Shelf.may_leave g.S.Shelf.fault_count g.V.Disk.tells g.V.Disk.may_leave g.V.Disk.fault_count) v) c.self.view_is c.self.invariant.remembered))
     (omega (arith, c.self-2.invariant.room, ap reserved_by c.begin_plan.ensures.opened, hushed_reserves (council_view c.self-2.inside.council).order))
 
@@ -91,5 +91,5 @@ returns-clause-step g c = step_so g c
 
 pub returns-clause-ok : goal.returns-clause-ok
 returns-clause-ok g c =
-    is_under_way c.welcome.new.self (view_of c.self-2.inside.config.proposers c.begin_plan.new.self c.self-2.inside.acceptors.items c.self-2.inside.desks.items c.self-2.inside.callers.items c.self-2.inside.flow c.self-2.inside.record) (asked_to c.args.kind c.args.id) c.in-Ok.plan c.requires.order (begun g c)
+    is_under_way c.welcome.new.self (view_of c.self-2.inside.setup.proposers c.begin_plan.new.self c.self-2.inside.acceptors.items c.self-2.inside.desks.items c.self-2.inside.callers.items c.self-2.inside.flow c.self-2.inside.record) (asked_to c.args.kind c.args.id) c.in-Ok.plan c.requires.order (begun g c)
     (ap (λ (k : cluster.Council). k.order) (welcome_council (meaning g.S.Shelf.contents g.S.Shelf.tells g.S.Shelf.may_leave g.S.Shelf.fault_count g.V.Disk.tells g.V.Disk.may_leave g.V.Disk.fault_count) c.args.self.now c.welcome.new.self (asked_to c.args.kind c.args.id) c.welcome.ensures.welcomes) ∙ c.requires.is_open) c.requires.is_for

@@ -19,14 +19,14 @@ use Rattle.cas_world.proofs.world.World.order.Goals as goal
 use Rattle.cas_world.proofs.world.World.order.Goals.{Joined-self}
 
 pub reserved_in_all-reserved-requires : goal.reserved_in_all-reserved-requires
-reserved_in_all-reserved-requires g c = omega (arith, reserved_fits c.self.inside.config.proposers c.self.inside.council c.self.inside.acceptors.items c.self.inside.desks.items c.self.inside.callers.items c.self.inside.flow c.self.inside.record c.self.invariant.safe, ap (sum_by reserved_of) c.deref.ensures.value)
+reserved_in_all-reserved-requires g c = omega (arith, reserved_fits c.self.inside.setup.proposers c.self.inside.council c.self.inside.acceptors.items c.self.inside.desks.items c.self.inside.callers.items c.self.inside.flow c.self.inside.record c.self.invariant.safe, ap (sum_by reserved_of) c.deref.ensures.value)
 
 pub overflow_add-marks : goal.overflow_add-marks
-overflow_add-marks g c = omega (arith, reserved_fits c.self.inside.config.proposers c.self.inside.council c.self.inside.acceptors.items c.self.inside.desks.items c.self.inside.callers.items c.self.inside.flow c.self.inside.record c.self.invariant.safe, c.reserved_in_all-reserved.ensures, ap (λ (l : List Mark). length l) c.marks.ensures, ap (sum_by reserved_of) c.deref.ensures.value, sum_seen c.self.inside.callers.items)
+overflow_add-marks g c = omega (arith, reserved_fits c.self.inside.setup.proposers c.self.inside.council c.self.inside.acceptors.items c.self.inside.desks.items c.self.inside.callers.items c.self.inside.flow c.self.inside.record c.self.invariant.safe, c.reserved_in_all-reserved.ensures, ap (λ (l : List Mark). length l) c.marks.ensures, ap (sum_by reserved_of) c.deref.ensures.value, sum_seen c.self.inside.callers.items)
 
 pub returns-then-marks-reserved-ge-MOST_MARKS-clause-full : goal.returns-then-marks-reserved-ge-MOST_MARKS-clause-full
 returns-then-marks-reserved-ge-MOST_MARKS-clause-full g c = (
-  λ e. omega (arith, c.if-marks-reserved-ge-MOST_MARKS.true, ap (λ (v : View g.row.S.Denot g.row.V.Denot). length v.marks + reserved_in_all v) c.self.view_is, reserved_fits c.self.inside.config.proposers c.self.inside.council c.self.inside.acceptors.items c.self.inside.desks.items c.self.inside.callers.items c.self.inside.flow c.self.inside.record c.self.invariant.safe, c.reserved_in_all-reserved.ensures, ap (λ (l : List Mark). length l) c.marks.ensures, ap (sum_by reserved_of) c.deref.ensures.value, sum_seen c.self.inside.callers.items),
+  λ e. omega (arith, c.if-marks-reserved-ge-MOST_MARKS.true, ap (λ (v : View g.row.S.Denot g.row.V.Denot). length v.marks + reserved_in_all v) c.self.view_is, reserved_fits c.self.inside.setup.proposers c.self.inside.council c.self.inside.acceptors.items c.self.inside.desks.items c.self.inside.callers.items c.self.inside.flow c.self.inside.record c.self.invariant.safe, c.reserved_in_all-reserved.ensures, ap (λ (l : List Mark). length l) c.marks.ensures, ap (sum_by reserved_of) c.deref.ensures.value, sum_seen c.self.inside.callers.items),
   λ full. refl,
 )
 
@@ -34,24 +34,24 @@ returns-then-marks-reserved-ge-MOST_MARKS-clause-full g c = (
 none_open : (g : Over) (c : Joined-self g) → option_map order_view c.self.inside.council.order ≡ None
 none_open g c = ap (λ (v : View g.row.S.Denot g.row.V.Denot). v.council.order) c.self.view_is ∙ c.requires
 
-step_so : (g : Over) (c : Joined-self g) → StepOrder (view_of c.self.inside.config.proposers c.self.inside.council c.self.inside.acceptors.items c.self.inside.desks.items c.self.inside.callers.items c.self.inside.flow c.self.inside.record) c.args.asked.now (view_of c.self.inside.config.proposers (record c.self.inside.council { order = Some c.in-Ok.order }) c.self.inside.acceptors.items c.self.inside.desks.items c.self.inside.callers.items c.self.inside.flow c.to_order.new.record)
+step_so : (g : Over) (c : Joined-self g) → StepOrder (view_of c.self.inside.setup.proposers c.self.inside.council c.self.inside.acceptors.items c.self.inside.desks.items c.self.inside.callers.items c.self.inside.flow c.self.inside.record) c.args.asked.now (view_of c.self.inside.setup.proposers (record c.self.inside.council { order = Some c.in-Ok.order }) c.self.inside.acceptors.items c.self.inside.desks.items c.self.inside.callers.items c.self.inside.flow c.to_order.new.record)
 step_so g c =
-    ordered c.self.inside.config.proposers c.self.inside.council c.self.inside.acceptors.items c.self.inside.desks.items c.self.inside.callers.items c.self.inside.flow c.self.inside.record c.to_order.new.record c.in-Ok.order c.args.asked.now (none_open g c) c.in-Ok.ensures.order c.in-Ok.ensures.marks
-    (omega (arith, c.if-marks-reserved-ge-MOST_MARKS.false, reserved_fits c.self.inside.config.proposers c.self.inside.council c.self.inside.acceptors.items c.self.inside.desks.items c.self.inside.callers.items c.self.inside.flow c.self.inside.record c.self.invariant.safe, c.reserved_in_all-reserved.ensures, ap (λ (l : List Mark). length l) c.marks.ensures, ap (sum_by reserved_of) c.deref.ensures.value, sum_seen c.self.inside.callers.items))
+    ordered c.self.inside.setup.proposers c.self.inside.council c.self.inside.acceptors.items c.self.inside.desks.items c.self.inside.callers.items c.self.inside.flow c.self.inside.record c.to_order.new.record c.in-Ok.order c.args.asked.now (none_open g c) c.in-Ok.ensures.order c.in-Ok.ensures.marks
+    (omega (arith, c.if-marks-reserved-ge-MOST_MARKS.false, reserved_fits c.self.inside.setup.proposers c.self.inside.council c.self.inside.acceptors.items c.self.inside.desks.items c.self.inside.callers.items c.self.inside.flow c.self.inside.record c.self.invariant.safe, c.reserved_in_all-reserved.ensures, ap (λ (l : List Mark). length l) c.marks.ensures, ap (sum_by reserved_of) c.deref.ensures.value, sum_seen c.self.inside.callers.items))
 
 pub invariant_of-self : goal.invariant_of-self
 invariant_of-self g c =
-    council_world (view_of c.self.inside.config.proposers c.self.inside.council c.self.inside.acceptors.items c.self.inside.desks.items c.self.inside.callers.items c.self.inside.flow c.self.inside.record) _ c.self.inside.callers.items c.self.inside.record.room c.to_order.new.record.room c.self.invariant refl
+    council_world (view_of c.self.inside.setup.proposers c.self.inside.council c.self.inside.acceptors.items c.self.inside.desks.items c.self.inside.callers.items c.self.inside.flow c.self.inside.record) _ c.self.inside.callers.items c.self.inside.record.room c.to_order.new.record.room c.self.invariant refl
     (steps_are_safe (meaning g.S.Shelf.contents g.S.Shelf.tells g.S.Shelf.may_leave g.S.Shelf.fault_count g.V.Disk.tells g.V.Disk.may_leave g.V.Disk.fault_count) _ (step.Order c.args.asked.now) _ c.self.invariant.safe (step_so g c)) (remembered_then (meaning g.S.Shelf.contents g.S.Shelf.tells g.S.Shelf.may_leave g.S.Shelf.fault_count g.V.Disk.tells g.V.Disk.may_leave g.V.Disk.fault_count) (step.Order c.args.asked.now) (step_so g c) c.self.invariant.remembered)
     (omega (arith, c.in-Ok.ensures.room, c.reserved_in_all-reserved.ensures, ap (sum_by reserved_of) c.deref.ensures.value, sum_seen c.self.inside.callers.items, ap reserved_for_order (none_open g c)))
 
 pub invariant_of-self-in-Err : goal.invariant_of-self-in-Err
-invariant_of-self-in-Err g c = grown_world c.self.inside.config.proposers c.self.inside.council c.self.inside.acceptors.items c.self.inside.desks.items c.self.inside.callers.items c.self.inside.flow c.self.inside.record c.to_order.new.record c.self.invariant c.to_order.ensures.marks c.to_order.ensures.grows
+invariant_of-self-in-Err g c = grown_world c.self.inside.setup.proposers c.self.inside.council c.self.inside.acceptors.items c.self.inside.desks.items c.self.inside.callers.items c.self.inside.flow c.self.inside.record c.to_order.new.record c.self.invariant c.to_order.ensures.marks c.to_order.ensures.grows
 
 pub returns-in-Ok-clause-full : goal.returns-in-Ok-clause-full
 returns-in-Ok-clause-full g c = (
   λ e. absurd (cc e),
-  λ full. absurd (omega (arith, full, c.if-marks-reserved-ge-MOST_MARKS.false, ap (λ (v : View g.row.S.Denot g.row.V.Denot). length v.marks + reserved_in_all v) c.self.view_is, reserved_fits c.self.inside.config.proposers c.self.inside.council c.self.inside.acceptors.items c.self.inside.desks.items c.self.inside.callers.items c.self.inside.flow c.self.inside.record c.self.invariant.safe, c.reserved_in_all-reserved.ensures, ap (λ (l : List Mark). length l) c.marks.ensures, ap (sum_by reserved_of) c.deref.ensures.value, sum_seen c.self.inside.callers.items)),
+  λ full. absurd (omega (arith, full, c.if-marks-reserved-ge-MOST_MARKS.false, ap (λ (v : View g.row.S.Denot g.row.V.Denot). length v.marks + reserved_in_all v) c.self.view_is, reserved_fits c.self.inside.setup.proposers c.self.inside.council c.self.inside.acceptors.items c.self.inside.desks.items c.self.inside.callers.items c.self.inside.flow c.self.inside.record c.self.invariant.safe, c.reserved_in_all-reserved.ensures, ap (λ (l : List Mark). length l) c.marks.ensures, ap (sum_by reserved_of) c.deref.ensures.value, sum_seen c.self.inside.callers.items)),
 )
 
 pub returns-in-Ok-clause-ok : goal.returns-in-Ok-clause-ok
@@ -60,7 +60,7 @@ returns-in-Ok-clause-ok g c = seen_from (meaning g.S.Shelf.contents g.S.Shelf.te
 pub returns-in-Err-clause-full : goal.returns-in-Err-clause-full
 returns-in-Err-clause-full g c = (
   λ e. absurd (cc e),
-  λ full. absurd (omega (arith, full, c.if-marks-reserved-ge-MOST_MARKS.false, ap (λ (v : View g.row.S.Denot g.row.V.Denot). length v.marks + reserved_in_all v) c.self.view_is, reserved_fits c.self.inside.config.proposers c.self.inside.council c.self.inside.acceptors.items c.self.inside.desks.items c.self.inside.callers.items c.self.inside.flow c.self.inside.record c.self.invariant.safe, c.reserved_in_all-reserved.ensures, ap (λ (l : List Mark). length l) c.marks.ensures, ap (sum_by reserved_of) c.deref.ensures.value, sum_seen c.self.inside.callers.items)),
+  λ full. absurd (omega (arith, full, c.if-marks-reserved-ge-MOST_MARKS.false, ap (λ (v : View g.row.S.Denot g.row.V.Denot). length v.marks + reserved_in_all v) c.self.view_is, reserved_fits c.self.inside.setup.proposers c.self.inside.council c.self.inside.acceptors.items c.self.inside.desks.items c.self.inside.callers.items c.self.inside.flow c.self.inside.record c.self.invariant.safe, c.reserved_in_all-reserved.ensures, ap (λ (l : List Mark). length l) c.marks.ensures, ap (sum_by reserved_of) c.deref.ensures.value, sum_seen c.self.inside.callers.items)),
 )
 
 -- ---- a full record is long

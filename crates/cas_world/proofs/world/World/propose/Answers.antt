@@ -22,36 +22,36 @@ use Rattle.cas_world.proofs.world.World.propose.Given.{Over}
 use Rattle.cas_world.proofs.world.World.propose.Goals as goal
 
 pub end_prepare-requires : goal.end_prepare-requires
-end_prepare-requires g c = (proposing_in c.self.inside.config.proposers c.self.inside.council c.self.inside.acceptors.items c.self.inside.desks.items c.self.inside.callers.items c.self.inside.flow c.self.inside.record c.args.self.now c.from-place.result c.args.proposer c.index_mut-desk.result.now c.index_mut-caller.result.now
+end_prepare-requires g c = (proposing_in c.self.inside.setup.proposers c.self.inside.council c.self.inside.acceptors.items c.self.inside.desks.items c.self.inside.callers.items c.self.inside.flow c.self.inside.record c.args.self.now c.from-place.result c.args.proposer c.index_mut-desk.result.now c.index_mut-caller.result.now
     c.from-place.ensures c.self.view_is c.requires.known c.self.invariant c.index_mut-desk.ensures.value c.index_mut-caller.ensures.value c.requires.preparing).may
 
 pub propose-requires-clause-open : goal.propose-requires-clause-open
-propose-requires-clause-open g c = subst (λ (o : Option OpenCall). IsSome o) (sym (proposing_in c.self.inside.config.proposers c.self.inside.council c.self.inside.acceptors.items c.self.inside.desks.items c.self.inside.callers.items c.self.inside.flow c.self.inside.record c.args.self.now c.from-place.result c.args.proposer c.index_mut-desk.result.now c.index_mut-caller.result.now
+propose-requires-clause-open g c = subst (λ (o : Option OpenCall). IsSome o) (sym (proposing_in c.self.inside.setup.proposers c.self.inside.council c.self.inside.acceptors.items c.self.inside.desks.items c.self.inside.callers.items c.self.inside.flow c.self.inside.record c.args.self.now c.from-place.result c.args.proposer c.index_mut-desk.result.now c.index_mut-caller.result.now
     c.from-place.ensures c.self.view_is c.requires.known c.self.invariant c.index_mut-desk.ensures.value c.index_mut-caller.ensures.value c.requires.preparing).may.is_open) refl
 
 pub propose-requires-clause-reserved : goal.propose-requires-clause-reserved
 propose-requires-clause-reserved g c =
-    let is : IsProposing c.self.inside.desks.items c.self.inside.callers.items c.self.inside.flow c.args.proposer c.index_mut-desk.result.now c.index_mut-caller.result.now c.self.inside.record.room = proposing_in c.self.inside.config.proposers c.self.inside.council c.self.inside.acceptors.items c.self.inside.desks.items c.self.inside.callers.items c.self.inside.flow c.self.inside.record c.args.self.now c.from-place.result c.args.proposer c.index_mut-desk.result.now c.index_mut-caller.result.now
+    let is : IsProposing c.self.inside.desks.items c.self.inside.callers.items c.self.inside.flow c.args.proposer c.index_mut-desk.result.now c.index_mut-caller.result.now c.self.inside.record.room = proposing_in c.self.inside.setup.proposers c.self.inside.council c.self.inside.acceptors.items c.self.inside.desks.items c.self.inside.callers.items c.self.inside.flow c.self.inside.record c.args.self.now c.from-place.result c.args.proposer c.index_mut-desk.result.now c.index_mut-caller.result.now
     c.from-place.ensures c.self.view_is c.requires.known c.self.invariant c.index_mut-desk.ensures.value c.index_mut-caller.ensures.value c.requires.preparing in
     subst (λ (o : Option OpenCall). IfSome o (λ call. 0 < call.reserved)) (sym is.may.is_open) is.reserved
 
 pub propose-requires-clause-room : goal.propose-requires-clause-room
-propose-requires-clause-room g c = (proposing_in c.self.inside.config.proposers c.self.inside.council c.self.inside.acceptors.items c.self.inside.desks.items c.self.inside.callers.items c.self.inside.flow c.self.inside.record c.args.self.now c.from-place.result c.args.proposer c.index_mut-desk.result.now c.index_mut-caller.result.now
+propose-requires-clause-room g c = (proposing_in c.self.inside.setup.proposers c.self.inside.council c.self.inside.acceptors.items c.self.inside.desks.items c.self.inside.callers.items c.self.inside.flow c.self.inside.record c.args.self.now c.from-place.result c.args.proposer c.index_mut-desk.result.now c.index_mut-caller.result.now
     c.from-place.ensures c.self.view_is c.requires.known c.self.invariant c.index_mut-desk.ensures.value c.index_mut-caller.ensures.value c.requires.preparing).room
 
 pub end_round-requires-clause-open : goal.end_round-requires-clause-open
-end_round-requires-clause-open g c = subst (λ (o : Option OpenCall). IsSome o) (sym (proposing_in c.self.inside.config.proposers c.self.inside.council c.self.inside.acceptors.items c.self.inside.desks.items c.self.inside.callers.items c.self.inside.flow c.self.inside.record c.args.self.now c.from-place.result c.args.proposer c.index_mut-desk.result.now c.index_mut-caller.result.now
+end_round-requires-clause-open g c = subst (λ (o : Option OpenCall). IsSome o) (sym (proposing_in c.self.inside.setup.proposers c.self.inside.council c.self.inside.acceptors.items c.self.inside.desks.items c.self.inside.callers.items c.self.inside.flow c.self.inside.record c.args.self.now c.from-place.result c.args.proposer c.index_mut-desk.result.now c.index_mut-caller.result.now
     c.from-place.ensures c.self.view_is c.requires.known c.self.invariant c.index_mut-desk.ensures.value c.index_mut-caller.ensures.value c.requires.preparing).may.is_open) refl
 
 pub end_round-requires-clause-copied : goal.end_round-requires-clause-copied
 end_round-requires-clause-copied g c =
-    let is : IsProposing c.self.inside.desks.items c.self.inside.callers.items c.self.inside.flow c.args.proposer c.index_mut-desk.result.now c.index_mut-caller.result.now c.self.inside.record.room = proposing_in c.self.inside.config.proposers c.self.inside.council c.self.inside.acceptors.items c.self.inside.desks.items c.self.inside.callers.items c.self.inside.flow c.self.inside.record c.args.self.now c.from-place.result c.args.proposer c.index_mut-desk.result.now c.index_mut-caller.result.now
+    let is : IsProposing c.self.inside.desks.items c.self.inside.callers.items c.self.inside.flow c.args.proposer c.index_mut-desk.result.now c.index_mut-caller.result.now c.self.inside.record.room = proposing_in c.self.inside.setup.proposers c.self.inside.council c.self.inside.acceptors.items c.self.inside.desks.items c.self.inside.callers.items c.self.inside.flow c.self.inside.record c.args.self.now c.from-place.result c.args.proposer c.index_mut-desk.result.now c.index_mut-caller.result.now
     c.from-place.ensures c.self.view_is c.requires.known c.self.invariant c.index_mut-desk.ensures.value c.index_mut-caller.ensures.value c.requires.preparing in
     not_done (disks g.V.Disk.tells g.V.Disk.may_leave g.V.Disk.fault_count) is.may.round c.index_mut-desk.result.now c.end_prepare.new.desk c.in-Err.refusal (c.in-Err.ensures.ends is.may.round is.may.is_round)
 
 -- ---- what was read is proposed
 found : (g : Over) (c : goal.After-self-in-Ok-1 g) → IsProposing c.self.inside.desks.items c.self.inside.callers.items c.self.inside.flow c.args.proposer c.index_mut-desk.result.now c.index_mut-caller.result.now c.self.inside.record.room
-found g c = proposing_in c.self.inside.config.proposers c.self.inside.council c.self.inside.acceptors.items c.self.inside.desks.items c.self.inside.callers.items c.self.inside.flow c.self.inside.record c.args.self.now c.from-place.result c.args.proposer c.index_mut-desk.result.now c.index_mut-caller.result.now
+found g c = proposing_in c.self.inside.setup.proposers c.self.inside.council c.self.inside.acceptors.items c.self.inside.desks.items c.self.inside.callers.items c.self.inside.flow c.self.inside.record c.args.self.now c.from-place.result c.args.proposer c.index_mut-desk.result.now c.index_mut-caller.result.now
     c.from-place.ensures c.self.view_is c.requires.known c.self.invariant c.index_mut-desk.ensures.value c.index_mut-caller.ensures.value c.requires.preparing
 
 by : (g : Over) (c : goal.After-self-in-Ok-1 g) → Proposes (disks g.V.Disk.tells g.V.Disk.may_leave g.V.Disk.fault_count) c.args.proposer c.index_mut-caller.result.now.number (found g c).may.round (found g c).may.call c.index_mut-desk.result.now c.end_prepare.new.desk c.self.inside.flow c.end_prepare.new.flow c.in-Ok.proposing
@@ -60,12 +60,12 @@ by g c = c.in-Ok.ensures.proposes (found g c).may.round (found g c).may.is_round
 next_is : (g : Over) (c : goal.After-self-in-Ok-1 g) → c.propose.new.self ≡ record c.index_mut-caller.result.now { call = Some (with_proposal (found g c).may.call c.in-Ok.proposing) }
 next_is g c = made_next c.index_mut-caller.result.now c.propose.new.self (found g c).may.call c.in-Ok.proposing (found g c).may.is_open c.propose.ensures.call
 
-step_is : (g : Over) (c : goal.After-self-in-Ok-1 g) → StepPropose (meaning g.S.Shelf.contents g.S.Shelf.tells g.S.Shelf.may_leave g.S.Shelf.fault_count g.V.Disk.tells g.V.Disk.may_leave g.V.Disk.fault_count) (view_of c.self.inside.config.proposers c.self.inside.council c.self.inside.acceptors.items c.self.inside.desks.items c.self.inside.callers.items c.self.inside.flow c.self.inside.record) c.args.proposer
-    (view_of c.self.inside.config.proposers c.self.inside.council c.self.inside.acceptors.items (slice_set c.self.inside.desks.items c.from-place.result c.end_prepare.new.desk) (slice_set c.self.inside.callers.items c.from-place.result c.propose.new.self) c.end_prepare.new.flow c.propose.new.record)
+step_is : (g : Over) (c : goal.After-self-in-Ok-1 g) → StepPropose (meaning g.S.Shelf.contents g.S.Shelf.tells g.S.Shelf.may_leave g.S.Shelf.fault_count g.V.Disk.tells g.V.Disk.may_leave g.V.Disk.fault_count) (view_of c.self.inside.setup.proposers c.self.inside.council c.self.inside.acceptors.items c.self.inside.desks.items c.self.inside.callers.items c.self.inside.flow c.self.inside.record) c.args.proposer
+    (view_of c.self.inside.setup.proposers c.self.inside.council c.self.inside.acceptors.items (slice_set c.self.inside.desks.items c.from-place.result c.end_prepare.new.desk) (slice_set c.self.inside.callers.items c.from-place.result c.propose.new.self) c.end_prepare.new.flow c.propose.new.record)
 step_is g c =
-    subst (λ (i : ℕ). StepPropose (meaning g.S.Shelf.contents g.S.Shelf.tells g.S.Shelf.may_leave g.S.Shelf.fault_count g.V.Disk.tells g.V.Disk.may_leave g.V.Disk.fault_count) (view_of c.self.inside.config.proposers c.self.inside.council c.self.inside.acceptors.items c.self.inside.desks.items c.self.inside.callers.items c.self.inside.flow c.self.inside.record) c.args.proposer
-    (view_of c.self.inside.config.proposers c.self.inside.council c.self.inside.acceptors.items (slice_set c.self.inside.desks.items i c.end_prepare.new.desk) (slice_set c.self.inside.callers.items i c.propose.new.self) c.end_prepare.new.flow c.propose.new.record)) (sym c.from-place.ensures)
-    (proposes (meaning g.S.Shelf.contents g.S.Shelf.tells g.S.Shelf.may_leave g.S.Shelf.fault_count g.V.Disk.tells g.V.Disk.may_leave g.V.Disk.fault_count) c.self.inside.config.proposers c.self.inside.council c.self.inside.acceptors.items c.self.inside.desks.items c.self.inside.callers.items c.self.inside.flow c.end_prepare.new.flow c.self.inside.record c.propose.new.record c.args.proposer c.index_mut-desk.result.now c.end_prepare.new.desk c.index_mut-caller.result.now c.propose.new.self c.in-Ok.proposing
+    subst (λ (i : ℕ). StepPropose (meaning g.S.Shelf.contents g.S.Shelf.tells g.S.Shelf.may_leave g.S.Shelf.fault_count g.V.Disk.tells g.V.Disk.may_leave g.V.Disk.fault_count) (view_of c.self.inside.setup.proposers c.self.inside.council c.self.inside.acceptors.items c.self.inside.desks.items c.self.inside.callers.items c.self.inside.flow c.self.inside.record) c.args.proposer
+    (view_of c.self.inside.setup.proposers c.self.inside.council c.self.inside.acceptors.items (slice_set c.self.inside.desks.items i c.end_prepare.new.desk) (slice_set c.self.inside.callers.items i c.propose.new.self) c.end_prepare.new.flow c.propose.new.record)) (sym c.from-place.ensures)
+    (proposes (meaning g.S.Shelf.contents g.S.Shelf.tells g.S.Shelf.may_leave g.S.Shelf.fault_count g.V.Disk.tells g.V.Disk.may_leave g.V.Disk.fault_count) c.self.inside.setup.proposers c.self.inside.council c.self.inside.acceptors.items c.self.inside.desks.items c.self.inside.callers.items c.self.inside.flow c.end_prepare.new.flow c.self.inside.record c.propose.new.record c.args.proposer c.index_mut-desk.result.now c.end_prepare.new.desk c.index_mut-caller.result.now c.propose.new.self c.in-Ok.proposing
     (ap (λ (v : View _ _). (queue_at v.flow c.args.proposer).messages) c.self.view_is ∙ c.requires.preparing.none_waits) (found g c) (by g c) (next_is g c) c.propose.ensures.marks)
 
 pub invariant_of-self : goal.invariant_of-self
@@ -83,13 +83,13 @@ returns-in-Ok-clause-step g c = seen_from _ (step.Propose c.args.proposer) _ c.s
 
 pub returns-in-Ok-clause-proposed : goal.returns-in-Ok-clause-proposed
 returns-in-Ok-clause-proposed g c =
-    subst (λ (i : ℕ). HasProposed (view_of c.self.inside.config.proposers c.self.inside.council c.self.inside.acceptors.items (slice_set c.self.inside.desks.items i c.end_prepare.new.desk) (slice_set c.self.inside.callers.items i c.propose.new.self) c.end_prepare.new.flow c.propose.new.record) c.args.proposer) (sym c.from-place.ensures)
-    (has_proposed (disks g.V.Disk.tells g.V.Disk.may_leave g.V.Disk.fault_count) c.self.inside.config.proposers c.self.inside.council c.self.inside.acceptors.items c.self.inside.desks.items c.self.inside.callers.items c.self.inside.flow c.end_prepare.new.flow c.propose.new.record c.args.proposer c.args.proposer c.index_mut-caller.result.now.number (found g c).may.round (found g c).may.call c.index_mut-desk.result.now c.end_prepare.new.desk c.index_mut-caller.result.now c.propose.new.self c.in-Ok.proposing
+    subst (λ (i : ℕ). HasProposed (view_of c.self.inside.setup.proposers c.self.inside.council c.self.inside.acceptors.items (slice_set c.self.inside.desks.items i c.end_prepare.new.desk) (slice_set c.self.inside.callers.items i c.propose.new.self) c.end_prepare.new.flow c.propose.new.record) c.args.proposer) (sym c.from-place.ensures)
+    (has_proposed (disks g.V.Disk.tells g.V.Disk.may_leave g.V.Disk.fault_count) c.self.inside.setup.proposers c.self.inside.council c.self.inside.acceptors.items c.self.inside.desks.items c.self.inside.callers.items c.self.inside.flow c.end_prepare.new.flow c.propose.new.record c.args.proposer c.args.proposer c.index_mut-caller.result.now.number (found g c).may.round (found g c).may.call c.index_mut-desk.result.now c.end_prepare.new.desk c.index_mut-caller.result.now c.propose.new.self c.in-Ok.proposing
     (found g c).at_desk (found g c).at_caller (by g c) (next_is g c))
 
 -- ---- the round ends without a proposal
 found_short : (g : Over) (c : goal.After-self-in-Err-1 g) → IsProposing c.self.inside.desks.items c.self.inside.callers.items c.self.inside.flow c.args.proposer c.index_mut-desk.result.now c.index_mut-caller.result.now c.self.inside.record.room
-found_short g c = proposing_in c.self.inside.config.proposers c.self.inside.council c.self.inside.acceptors.items c.self.inside.desks.items c.self.inside.callers.items c.self.inside.flow c.self.inside.record c.args.self.now c.from-place.result c.args.proposer c.index_mut-desk.result.now c.index_mut-caller.result.now
+found_short g c = proposing_in c.self.inside.setup.proposers c.self.inside.council c.self.inside.acceptors.items c.self.inside.desks.items c.self.inside.callers.items c.self.inside.flow c.self.inside.record c.args.self.now c.from-place.result c.args.proposer c.index_mut-desk.result.now c.index_mut-caller.result.now
     c.from-place.ensures c.self.view_is c.requires.known c.self.invariant c.index_mut-desk.ensures.value c.index_mut-caller.ensures.value c.requires.preparing
 
 short : (g : Over) (c : goal.After-self-in-Err-1 g) → EndsShort (disks g.V.Disk.tells g.V.Disk.may_leave g.V.Disk.fault_count) (found_short g c).may.round c.index_mut-desk.result.now c.end_prepare.new.desk c.in-Err.refusal
@@ -98,12 +98,12 @@ short g c = c.in-Err.ensures.ends (found_short g c).may.round (found_short g c).
 over_is : (g : Over) (c : goal.After-self-in-Err-1 g) → c.end_round.new.self ≡ record c.index_mut-caller.result.now { call = Some (over (found_short g c).may.call c.in-Err.refusal) }
 over_is g c = told_next c.index_mut-caller.result.now c.end_round.new.self (found_short g c).may.call c.in-Err.refusal (found_short g c).may.is_open c.end_round.ensures
 
-step_short : (g : Over) (c : goal.After-self-in-Err-1 g) → StepPropose (meaning g.S.Shelf.contents g.S.Shelf.tells g.S.Shelf.may_leave g.S.Shelf.fault_count g.V.Disk.tells g.V.Disk.may_leave g.V.Disk.fault_count) (view_of c.self.inside.config.proposers c.self.inside.council c.self.inside.acceptors.items c.self.inside.desks.items c.self.inside.callers.items c.self.inside.flow c.self.inside.record) c.args.proposer
-    (view_of c.self.inside.config.proposers c.self.inside.council c.self.inside.acceptors.items (slice_set c.self.inside.desks.items c.from-place.result c.end_prepare.new.desk) (slice_set c.self.inside.callers.items c.from-place.result c.end_round.new.self) c.end_prepare.new.flow c.self.inside.record)
+step_short : (g : Over) (c : goal.After-self-in-Err-1 g) → StepPropose (meaning g.S.Shelf.contents g.S.Shelf.tells g.S.Shelf.may_leave g.S.Shelf.fault_count g.V.Disk.tells g.V.Disk.may_leave g.V.Disk.fault_count) (view_of c.self.inside.setup.proposers c.self.inside.council c.self.inside.acceptors.items c.self.inside.desks.items c.self.inside.callers.items c.self.inside.flow c.self.inside.record) c.args.proposer
+    (view_of c.self.inside.setup.proposers c.self.inside.council c.self.inside.acceptors.items (slice_set c.self.inside.desks.items c.from-place.result c.end_prepare.new.desk) (slice_set c.self.inside.callers.items c.from-place.result c.end_round.new.self) c.end_prepare.new.flow c.self.inside.record)
 step_short g c =
-    subst (λ (i : ℕ). StepPropose (meaning g.S.Shelf.contents g.S.Shelf.tells g.S.Shelf.may_leave g.S.Shelf.fault_count g.V.Disk.tells g.V.Disk.may_leave g.V.Disk.fault_count) (view_of c.self.inside.config.proposers c.self.inside.council c.self.inside.acceptors.items c.self.inside.desks.items c.self.inside.callers.items c.self.inside.flow c.self.inside.record) c.args.proposer
-    (view_of c.self.inside.config.proposers c.self.inside.council c.self.inside.acceptors.items (slice_set c.self.inside.desks.items i c.end_prepare.new.desk) (slice_set c.self.inside.callers.items i c.end_round.new.self) c.end_prepare.new.flow c.self.inside.record)) (sym c.from-place.ensures)
-    (ends (meaning g.S.Shelf.contents g.S.Shelf.tells g.S.Shelf.may_leave g.S.Shelf.fault_count g.V.Disk.tells g.V.Disk.may_leave g.V.Disk.fault_count) c.self.inside.config.proposers c.self.inside.council c.self.inside.acceptors.items c.self.inside.desks.items c.self.inside.callers.items c.self.inside.flow c.end_prepare.new.flow c.self.inside.record c.args.proposer c.index_mut-desk.result.now c.end_prepare.new.desk c.index_mut-caller.result.now c.end_round.new.self c.in-Err.refusal
+    subst (λ (i : ℕ). StepPropose (meaning g.S.Shelf.contents g.S.Shelf.tells g.S.Shelf.may_leave g.S.Shelf.fault_count g.V.Disk.tells g.V.Disk.may_leave g.V.Disk.fault_count) (view_of c.self.inside.setup.proposers c.self.inside.council c.self.inside.acceptors.items c.self.inside.desks.items c.self.inside.callers.items c.self.inside.flow c.self.inside.record) c.args.proposer
+    (view_of c.self.inside.setup.proposers c.self.inside.council c.self.inside.acceptors.items (slice_set c.self.inside.desks.items i c.end_prepare.new.desk) (slice_set c.self.inside.callers.items i c.end_round.new.self) c.end_prepare.new.flow c.self.inside.record)) (sym c.from-place.ensures)
+    (ends (meaning g.S.Shelf.contents g.S.Shelf.tells g.S.Shelf.may_leave g.S.Shelf.fault_count g.V.Disk.tells g.V.Disk.may_leave g.V.Disk.fault_count) c.self.inside.setup.proposers c.self.inside.council c.self.inside.acceptors.items c.self.inside.desks.items c.self.inside.callers.items c.self.inside.flow c.end_prepare.new.flow c.self.inside.record c.args.proposer c.index_mut-desk.result.now c.end_prepare.new.desk c.index_mut-caller.result.now c.end_round.new.self c.in-Err.refusal
     (ap (λ (v : View _ _). (queue_at v.flow c.args.proposer).messages) c.self.view_is ∙ c.requires.preparing.none_waits) (found_short g c) (short g c) c.in-Err.ensures.not_sent (over_is g c))
 
 pub invariant_of-self-in-Err : goal.invariant_of-self-in-Err
@@ -120,8 +120,8 @@ returns-in-Err-clause-step g c = seen_from _ (step.Propose c.args.proposer) _ c.
 
 pub returns-in-Err-clause-told : goal.returns-in-Err-clause-told
 returns-in-Err-clause-told g c seen at_seen =
-    subst (λ (i : ℕ). WasTold (view_of c.self.inside.config.proposers c.self.inside.council c.self.inside.acceptors.items (slice_set c.self.inside.desks.items i c.end_prepare.new.desk) (slice_set c.self.inside.callers.items i c.end_round.new.self) c.end_prepare.new.flow c.self.inside.record) c.args.proposer seen.number c.in-Err.refusal) (sym c.from-place.ensures)
-    (was_told c.self.inside.config.proposers c.self.inside.council c.self.inside.acceptors.items c.self.inside.desks.items c.self.inside.callers.items c.self.inside.flow c.self.inside.record c.args.self.now (slice_set c.self.inside.desks.items c.args.proposer c.end_prepare.new.desk) c.end_prepare.new.flow c.self.inside.record c.args.proposer seen c.index_mut-caller.result.now c.end_round.new.self (found_short g c).may.call c.in-Err.refusal
+    subst (λ (i : ℕ). WasTold (view_of c.self.inside.setup.proposers c.self.inside.council c.self.inside.acceptors.items (slice_set c.self.inside.desks.items i c.end_prepare.new.desk) (slice_set c.self.inside.callers.items i c.end_round.new.self) c.end_prepare.new.flow c.self.inside.record) c.args.proposer seen.number c.in-Err.refusal) (sym c.from-place.ensures)
+    (was_told c.self.inside.setup.proposers c.self.inside.council c.self.inside.acceptors.items c.self.inside.desks.items c.self.inside.callers.items c.self.inside.flow c.self.inside.record c.args.self.now (slice_set c.self.inside.desks.items c.args.proposer c.end_prepare.new.desk) c.end_prepare.new.flow c.self.inside.record c.args.proposer seen c.index_mut-caller.result.now c.end_round.new.self (found_short g c).may.call c.in-Err.refusal
     c.self.view_is at_seen (found_short g c).at_caller (over_is g c))
 
 pub returns-in-Err-clause-cause : goal.returns-in-Err-clause-cause

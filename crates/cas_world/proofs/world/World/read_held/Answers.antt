@@ -36,9 +36,9 @@ ends g c round is = record {
   goes_on = end_goes_on _ c.index_mut.result.now.vault c.end.new.self.vault c.end.ensures.kept c.end.ensures.disk c.end.ensures.still_past;
 }
 
-did : (g : Over) (c : After-read_held g) → Step (meaning g.S.Shelf.contents g.S.Shelf.tells g.S.Shelf.may_leave g.S.Shelf.fault_count g.V.Disk.tells g.V.Disk.may_leave g.V.Disk.fault_count) (view_of c.self.inside.config.proposers c.self.inside.council c.self.inside.acceptors.items c.self.inside.desks.items c.self.inside.callers.items c.self.inside.flow c.self.inside.record) step.ReadHeld (view_of c.self.inside.config.proposers c.read_held.new.self c.self.inside.acceptors.items (slice_set c.self.inside.desks.items 0 c.end.new.self) (slice_set c.self.inside.callers.items 0 c.leave.new.self) c.self.inside.flow c.self.inside.record)
-did g c = subst (λ (x : Caller). Step (meaning g.S.Shelf.contents g.S.Shelf.tells g.S.Shelf.may_leave g.S.Shelf.fault_count g.V.Disk.tells g.V.Disk.may_leave g.V.Disk.fault_count) (view_of c.self.inside.config.proposers c.self.inside.council c.self.inside.acceptors.items c.self.inside.desks.items c.self.inside.callers.items c.self.inside.flow c.self.inside.record) step.ReadHeld (view_of c.self.inside.config.proposers c.read_held.new.self c.self.inside.acceptors.items (slice_set c.self.inside.desks.items 0 c.end.new.self) (slice_set c.self.inside.callers.items 0 x) c.self.inside.flow c.self.inside.record)) (sym c.leave.ensures)
-    (reads_held (meaning g.S.Shelf.contents g.S.Shelf.tells g.S.Shelf.may_leave g.S.Shelf.fault_count g.V.Disk.tells g.V.Disk.may_leave g.V.Disk.fault_count) c.self.inside.config.proposers c.self.inside.council c.read_held.new.self c.self.inside.acceptors.items c.self.inside.desks.items c.self.inside.callers.items c.self.inside.flow c.self.inside.record c.index_mut.result.now c.end.new.self c.index_mut-2.result.now c.args.version (at_desk g c) (at_caller g c) c.self.invariant.safe
+did : (g : Over) (c : After-read_held g) → Step (meaning g.S.Shelf.contents g.S.Shelf.tells g.S.Shelf.may_leave g.S.Shelf.fault_count g.V.Disk.tells g.V.Disk.may_leave g.V.Disk.fault_count) (view_of c.self.inside.setup.proposers c.self.inside.council c.self.inside.acceptors.items c.self.inside.desks.items c.self.inside.callers.items c.self.inside.flow c.self.inside.record) step.ReadHeld (view_of c.self.inside.setup.proposers c.read_held.new.self c.self.inside.acceptors.items (slice_set c.self.inside.desks.items 0 c.end.new.self) (slice_set c.self.inside.callers.items 0 c.leave.new.self) c.self.inside.flow c.self.inside.record)
+did g c = subst (λ (x : Caller). Step (meaning g.S.Shelf.contents g.S.Shelf.tells g.S.Shelf.may_leave g.S.Shelf.fault_count g.V.Disk.tells g.V.Disk.may_leave g.V.Disk.fault_count) (view_of c.self.inside.setup.proposers c.self.inside.council c.self.inside.acceptors.items c.self.inside.desks.items c.self.inside.callers.items c.self.inside.flow c.self.inside.record) step.ReadHeld (view_of c.self.inside.setup.proposers c.read_held.new.self c.self.inside.acceptors.items (slice_set c.self.inside.desks.items 0 c.end.new.self) (slice_set c.self.inside.callers.items 0 x) c.self.inside.flow c.self.inside.record)) (sym c.leave.ensures)
+    (reads_held (meaning g.S.Shelf.contents g.S.Shelf.tells g.S.Shelf.may_leave g.S.Shelf.fault_count g.V.Disk.tells g.V.Disk.may_leave g.V.Disk.fault_count) c.self.inside.setup.proposers c.self.inside.council c.read_held.new.self c.self.inside.acceptors.items c.self.inside.desks.items c.self.inside.callers.items c.self.inside.flow c.self.inside.record c.index_mut.result.now c.end.new.self c.index_mut-2.result.now c.args.version (at_desk g c) (at_caller g c) c.self.invariant.safe
     (subst (λ (v : (View g.row.S.Denot g.row.V.Denot)). IsInPhase v 0 true) (sym c.self.view_is) c.requires.preparing) (subst (λ (v : (View g.row.S.Denot g.row.V.Denot)). IsCollectingCall v) (sym c.self.view_is) c.requires.calling)
     (c.requires.finds c.index_mut.result.now (subst (λ (v : (View g.row.S.Denot g.row.V.Denot)). IsAt v.desks 0 c.index_mut.result.now) c.self.view_is (at_desk g c))) (ends g c) c.read_held.ensures.eras c.read_held.ensures.read)
 
@@ -49,7 +49,7 @@ invariant_of-self g c =
       safe = steps_are_safe (meaning g.S.Shelf.contents g.S.Shelf.tells g.S.Shelf.may_leave g.S.Shelf.fault_count g.V.Disk.tells g.V.Disk.may_leave g.V.Disk.fault_count) _ step.ReadHeld _ c.self.invariant.safe (did g c);
       remembered = remembered_then (meaning g.S.Shelf.contents g.S.Shelf.tells g.S.Shelf.may_leave g.S.Shelf.fault_count g.V.Disk.tells g.V.Disk.may_leave g.V.Disk.fault_count) step.ReadHeld (did g c) c.self.invariant.remembered;
       room = subst (λ (x : Caller). reserved_of (map caller_view (slice_set c.self.inside.callers.items 0 x)) + reserved_by (council_view c.read_held.new.self) ≤ c.self.inside.record.room) (sym c.leave.ensures)
-          (held_room (meaning g.S.Shelf.contents g.S.Shelf.tells g.S.Shelf.may_leave g.S.Shelf.fault_count g.V.Disk.tells g.V.Disk.may_leave g.V.Disk.fault_count) c.self.inside.config.proposers c.self.inside.council c.read_held.new.self c.self.inside.acceptors.items c.self.inside.desks.items c.self.inside.callers.items c.self.inside.flow c.self.inside.record c.index_mut.result.now c.end.new.self c.index_mut-2.result.now c.args.version (at_desk g c) (at_caller g c) c.self.invariant.safe
+          (held_room (meaning g.S.Shelf.contents g.S.Shelf.tells g.S.Shelf.may_leave g.S.Shelf.fault_count g.V.Disk.tells g.V.Disk.may_leave g.V.Disk.fault_count) c.self.inside.setup.proposers c.self.inside.council c.read_held.new.self c.self.inside.acceptors.items c.self.inside.desks.items c.self.inside.callers.items c.self.inside.flow c.self.inside.record c.index_mut.result.now c.end.new.self c.index_mut-2.result.now c.args.version (at_desk g c) (at_caller g c) c.self.invariant.safe
           phase (subst (λ (v : (View g.row.S.Denot g.row.V.Denot)). IsCollectingCall v) (sym c.self.view_is) c.requires.calling)
           (c.requires.finds c.index_mut.result.now (subst (λ (v : (View g.row.S.Denot g.row.V.Denot)). IsAt v.desks 0 c.index_mut.result.now) c.self.view_is (at_desk g c))) (ends g c) c.read_held.ensures.eras c.self.inside.record.room c.read_held.ensures.read c.self.invariant.room);
       copies = copies_idle c.self.inside.desks.items c.self.inside.callers.items 0 c.end.new.self c.leave.new.self (ap (λ (d : DeskView g.row.V.Denot). d.round) (ends g c phase.round is_round).desk) c.self.invariant.copies;

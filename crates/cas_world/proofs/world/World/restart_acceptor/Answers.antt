@@ -11,14 +11,14 @@ use Rattle.cas_world.proofs.world.World.restart_acceptor.Given.{Over}
 use Rattle.cas_world.proofs.world.World.restart_acceptor.Goals as goal
 
 restarts : (g : Over) (c : goal.After-self-1 g) → StepRestartAcceptor (meaning g.S.Shelf.contents g.S.Shelf.tells g.S.Shelf.may_leave g.S.Shelf.fault_count g.V.Disk.tells g.V.Disk.may_leave g.V.Disk.fault_count)
-    (view_of c.self.inside.config.proposers c.self.inside.council c.self.inside.acceptors.items c.self.inside.desks.items c.self.inside.callers.items c.self.inside.flow c.self.inside.record) c.args.id
-    (view_of c.self.inside.config.proposers c.self.inside.council (slice_set c.self.inside.acceptors.items c.from.result c.restart.new.self) c.self.inside.desks.items c.self.inside.callers.items c.self.inside.flow c.self.inside.record)
+    (view_of c.self.inside.setup.proposers c.self.inside.council c.self.inside.acceptors.items c.self.inside.desks.items c.self.inside.callers.items c.self.inside.flow c.self.inside.record) c.args.id
+    (view_of c.self.inside.setup.proposers c.self.inside.council (slice_set c.self.inside.acceptors.items c.from.result c.restart.new.self) c.self.inside.desks.items c.self.inside.callers.items c.self.inside.flow c.self.inside.record)
 restarts g c =
     let same : c.from.result ≡ c.args.id = c.from.ensures ∙ c.number.ensures.value in
     let by = c.restart.ensures in
     subst (λ (i : ℕ). StepRestartAcceptor (meaning g.S.Shelf.contents g.S.Shelf.tells g.S.Shelf.may_leave g.S.Shelf.fault_count g.V.Disk.tells g.V.Disk.may_leave g.V.Disk.fault_count)
-    (view_of c.self.inside.config.proposers c.self.inside.council c.self.inside.acceptors.items c.self.inside.desks.items c.self.inside.callers.items c.self.inside.flow c.self.inside.record) c.args.id
-    (view_of c.self.inside.config.proposers c.self.inside.council (slice_set c.self.inside.acceptors.items i c.restart.new.self) c.self.inside.desks.items c.self.inside.callers.items c.self.inside.flow c.self.inside.record)) (sym same)
+    (view_of c.self.inside.setup.proposers c.self.inside.council c.self.inside.acceptors.items c.self.inside.desks.items c.self.inside.callers.items c.self.inside.flow c.self.inside.record) c.args.id
+    (view_of c.self.inside.setup.proposers c.self.inside.council (slice_set c.self.inside.acceptors.items i c.restart.new.self) c.self.inside.desks.items c.self.inside.callers.items c.self.inside.flow c.self.inside.record)) (sym same)
     (restarted _ _ c.args.id c.index_mut.result.now c.restart.new.self c.restart.result
     (at_place c.self.inside.acceptors.items c.from.result c.args.id c.index_mut.result.now same (omega (arith, c.self.invariant.safe.sound.acceptors, c.number.ensures.value, c.number.ensures.within)) c.index_mut.ensures.value)
     by.same by.up by.still_down (λ up. (by.unchanged up).1) by.started by.not_started by.kept by.afresh by.reopened

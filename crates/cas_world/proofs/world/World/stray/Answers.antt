@@ -44,33 +44,33 @@ strays : (g : Over) (c : goal.Joined-done g) (peer : ℕ)
     → LetsIn (shelves g.S.Shelf.contents g.S.Shelf.tells g.S.Shelf.may_leave g.S.Shelf.fault_count) c.args.index (c.reserved_in_all-reserved.result + 1) peer c.self.inside.acceptors.items c.let_in-done.new.acceptors.items
     c.self.inside.desks.items c.let_in-done.new.desks.items c.self.inside.flow c.let_in-done.new.flow c.self.inside.record c.let_in-done.new.record
     → StepStray (meaning g.S.Shelf.contents g.S.Shelf.tells g.S.Shelf.may_leave g.S.Shelf.fault_count g.V.Disk.tells g.V.Disk.may_leave g.V.Disk.fault_count)
-    (view_of c.self.inside.config.proposers c.self.inside.council c.self.inside.acceptors.items c.self.inside.desks.items c.self.inside.callers.items c.self.inside.flow c.self.inside.record) c.args.index
-    (view_of c.self.inside.config.proposers c.self.inside.council c.let_in-done.new.acceptors.items c.let_in-done.new.desks.items c.self.inside.callers.items c.let_in-done.new.flow c.let_in-done.new.record)
+    (view_of c.self.inside.setup.proposers c.self.inside.council c.self.inside.acceptors.items c.self.inside.desks.items c.self.inside.callers.items c.self.inside.flow c.self.inside.record) c.args.index
+    (view_of c.self.inside.setup.proposers c.self.inside.council c.let_in-done.new.acceptors.items c.let_in-done.new.desks.items c.self.inside.callers.items c.let_in-done.new.flow c.let_in-done.new.record)
 strays g c peer by =
-    stray_step (meaning g.S.Shelf.contents g.S.Shelf.tells g.S.Shelf.may_leave g.S.Shelf.fault_count g.V.Disk.tells g.V.Disk.may_leave g.V.Disk.fault_count) c.self.inside.config.proposers c.self.inside.council c.self.inside.acceptors.items c.let_in-done.new.acceptors.items
+    stray_step (meaning g.S.Shelf.contents g.S.Shelf.tells g.S.Shelf.may_leave g.S.Shelf.fault_count g.V.Disk.tells g.V.Disk.may_leave g.V.Disk.fault_count) c.self.inside.setup.proposers c.self.inside.council c.self.inside.acceptors.items c.let_in-done.new.acceptors.items
     c.self.inside.desks.items c.let_in-done.new.desks.items c.self.inside.callers.items c.self.inside.flow c.let_in-done.new.flow c.self.inside.record c.let_in-done.new.record c.args.index (c.reserved_in_all-reserved.result + 1) peer
     (subst (λ (v : View g.row.S.Denot g.row.V.Denot). length v.marks + reserved_in_all v < most_marks) (sym c.self.view_is) (some_room g c)) by
 
 no_memory : (g : Over) (c : goal.Joined-done g) → KeepsAll (shelves g.S.Shelf.contents g.S.Shelf.tells g.S.Shelf.may_leave g.S.Shelf.fault_count) c.self.inside.acceptors.items c.let_in-done.new.acceptors.items
     → c.let_in-done.new.desks.items ≡ c.self.inside.desks.items → c.let_in-done.new.flow ≡ c.self.inside.flow → c.let_in-done.new.record.marks ≡ c.self.inside.record.marks
     → FindsNoRoom (meaning g.S.Shelf.contents g.S.Shelf.tells g.S.Shelf.may_leave g.S.Shelf.fault_count g.V.Disk.tells g.V.Disk.may_leave g.V.Disk.fault_count)
-    (view_of c.self.inside.config.proposers c.self.inside.council c.self.inside.acceptors.items c.self.inside.desks.items c.self.inside.callers.items c.self.inside.flow c.self.inside.record)
-    (view_of c.self.inside.config.proposers c.self.inside.council c.let_in-done.new.acceptors.items c.let_in-done.new.desks.items c.self.inside.callers.items c.let_in-done.new.flow c.let_in-done.new.record)
+    (view_of c.self.inside.setup.proposers c.self.inside.council c.self.inside.acceptors.items c.self.inside.desks.items c.self.inside.callers.items c.self.inside.flow c.self.inside.record)
+    (view_of c.self.inside.setup.proposers c.self.inside.council c.let_in-done.new.acceptors.items c.let_in-done.new.desks.items c.self.inside.callers.items c.let_in-done.new.flow c.let_in-done.new.record)
 no_memory g c =
-    no_room (meaning g.S.Shelf.contents g.S.Shelf.tells g.S.Shelf.may_leave g.S.Shelf.fault_count g.V.Disk.tells g.V.Disk.may_leave g.V.Disk.fault_count) c.self.inside.config.proposers c.self.inside.council c.self.inside.acceptors.items c.let_in-done.new.acceptors.items
+    no_room (meaning g.S.Shelf.contents g.S.Shelf.tells g.S.Shelf.may_leave g.S.Shelf.fault_count g.V.Disk.tells g.V.Disk.may_leave g.V.Disk.fault_count) c.self.inside.setup.proposers c.self.inside.council c.self.inside.acceptors.items c.let_in-done.new.acceptors.items
     c.self.inside.desks.items c.let_in-done.new.desks.items c.self.inside.callers.items c.self.inside.flow c.let_in-done.new.flow c.self.inside.record c.let_in-done.new.record
 
 -- src/stray.rt:41:5
 pub invariant_of-self : goal.invariant_of-self
 invariant_of-self g c = elim c.match-done.branch [
   | in-Ok w ↦
-      strayed_kept (shelves g.S.Shelf.contents g.S.Shelf.tells g.S.Shelf.may_leave g.S.Shelf.fault_count) c.self.inside.config.proposers c.self.inside.council c.self.inside.acceptors.items c.let_in-done.new.acceptors.items
+      strayed_kept (shelves g.S.Shelf.contents g.S.Shelf.tells g.S.Shelf.may_leave g.S.Shelf.fault_count) c.self.inside.setup.proposers c.self.inside.council c.self.inside.acceptors.items c.let_in-done.new.acceptors.items
       c.self.inside.desks.items c.let_in-done.new.desks.items c.self.inside.callers.items c.self.inside.flow c.let_in-done.new.flow c.self.inside.record c.let_in-done.new.record c.args.index (c.reserved_in_all-reserved.result + 1) w.in-Ok.peer
       c.self.invariant (ap (λ (n : ℕ). n + 1) (reserves g c)) w.in-Ok.ensures.ok
       (steps_are_safe (meaning g.S.Shelf.contents g.S.Shelf.tells g.S.Shelf.may_leave g.S.Shelf.fault_count g.V.Disk.tells g.V.Disk.may_leave g.V.Disk.fault_count) _ (step.Stray c.args.index) _ c.self.invariant.safe (strays g c w.in-Ok.peer w.in-Ok.ensures.ok))
       (remembered_then (meaning g.S.Shelf.contents g.S.Shelf.tells g.S.Shelf.may_leave g.S.Shelf.fault_count g.V.Disk.tells g.V.Disk.may_leave g.V.Disk.fault_count) (step.Stray c.args.index) (strays g c w.in-Ok.peer w.in-Ok.ensures.ok) c.self.invariant.remembered)
   | in-Err w ↦
-      no_room_kept c.self.inside.config.proposers c.self.inside.council c.self.inside.acceptors.items c.let_in-done.new.acceptors.items
+      no_room_kept c.self.inside.setup.proposers c.self.inside.council c.self.inside.acceptors.items c.let_in-done.new.acceptors.items
       c.self.inside.desks.items c.let_in-done.new.desks.items c.self.inside.callers.items c.self.inside.flow c.let_in-done.new.flow c.self.inside.record c.let_in-done.new.record
       c.self.invariant w.in-Err.ensures.same.0 w.in-Err.ensures.same.3
       (steps_are_safe (meaning g.S.Shelf.contents g.S.Shelf.tells g.S.Shelf.may_leave g.S.Shelf.fault_count g.V.Disk.tells g.V.Disk.may_leave g.V.Disk.fault_count) _ step.RefuseStray _ c.self.invariant.safe

@@ -12,7 +12,7 @@ use Rattle.casreg_script.proofs.script.Script.answer.Goals as goal
 
 pub returns-in-Ok-None-clause-answers : goal.returns-in-Ok-None-clause-answers
 returns-in-Ok-None-clause-answers g c state at =
-    let known : c.self.inside.proposers ≡ state.world.greatest = sym c.self.invariant.known ∙ ap (λ (v : Stage _ _). v.world.greatest) c.self.view_is ∙ ap (λ (w : View _ _). w.greatest) at.world in
+    let known : c.self.inside.proposers ≡ state.world.last_proposer = sym c.self.invariant.known ∙ ap (λ (v : Stage _ _). v.world.last_proposer) c.self.view_is ∙ ap (λ (w : View _ _). w.last_proposer) at.world in
     record {
       answer = Remark;
       new = state;
@@ -24,7 +24,7 @@ returns-in-Ok-None-clause-answers g c state at =
 
 pub returns-in-Err-clause-answers : goal.returns-in-Err-clause-answers
 returns-in-Err-clause-answers g c state at =
-    let known : c.self.inside.proposers ≡ state.world.greatest = sym c.self.invariant.known ∙ ap (λ (v : Stage _ _). v.world.greatest) c.self.view_is ∙ ap (λ (w : View _ _). w.greatest) at.world in
+    let known : c.self.inside.proposers ≡ state.world.last_proposer = sym c.self.invariant.known ∙ ap (λ (v : Stage _ _). v.world.last_proposer) c.self.view_is ∙ ap (λ (w : View _ _). w.last_proposer) at.world in
     IfOk-weaker c.answer_refusal.result (λ text. (c.in-Err.refusal.why ≢ why.NoMemory) × (vec_items text ≡ bad_line c.number.result c.in-Err.refusal.why))
     (λ text. AnswersLine (meaning {S = g.row.S.Denot} g.S.Shelf.contents g.S.Shelf.tells g.S.Shelf.may_leave g.S.Shelf.fault_count g.V.Disk.tells g.V.Disk.may_leave g.V.Disk.fault_count) c.args.self.now.tries state c.args.line.now.bytes c.args.line.now.number (vec_items text) c.args.self.now)
     (λ text h. record {

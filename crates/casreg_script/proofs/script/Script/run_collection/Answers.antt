@@ -14,7 +14,7 @@ use Rattle.casreg_script.proofs.script.Script.run_collection.Goals as goal
 
 pub invariant_of-self : goal.invariant_of-self
 invariant_of-self g c = record {
-  known = c.collect.ensures.idle.greatest ∙ c.self.invariant.known;
+  known = c.collect.ensures.idle.last_proposer ∙ c.self.invariant.known;
   few = c.self.invariant.few;
   some = c.self.invariant.some;
   idle = all_idle c.self.inside.world c.collect.new.world c.collect.ensures.idle c.self.invariant.idle;

@@ -20,7 +20,7 @@ pub invariant_of-self-in-RestartAcceptor : goal.invariant_of-self-in-RestartAcce
 invariant_of-self-in-RestartAcceptor g c = goes_idle c.self.inside.world c.restart_acceptor.new.world c.self.inside.network c.self.inside.halts c.self.inside.tries c.self.inside.proposers c.self.invariant (restarts_keep (meaning g.S.Shelf.contents g.S.Shelf.tells g.S.Shelf.may_leave g.S.Shelf.fault_count g.V.Disk.tells g.V.Disk.may_leave g.V.Disk.fault_count) c.self.inside.world c.restart_acceptor.new.world c.in-RestartAcceptor.id c.restart_acceptor.result c.restart_acceptor.ensures)
 
 pub invariant_of-self-in-CrashProposer : goal.invariant_of-self-in-CrashProposer
-invariant_of-self-in-CrashProposer g c = goes_idle c.self.inside.world c.crash_proposer.new.self c.self.inside.network c.self.inside.halts c.self.inside.tries c.self.inside.proposers c.self.invariant (crash_between (meaning {S = g.row.S.Denot} g.S.Shelf.contents g.S.Shelf.tells g.S.Shelf.may_leave g.S.Shelf.fault_count g.V.Disk.tells g.V.Disk.may_leave g.V.Disk.fault_count) c.self.inside.world c.crash_proposer.new.self c.in-CrashProposer.proposer (omega (arith, subst (IsKnown c.args.self.now.world.greatest) c.in-CrashProposer.is c.requires.known, ap (λ (v : Stage _ _). v.world.greatest) c.self.view_is)) c.self.invariant.idle c.crash_proposer.ensures)
+invariant_of-self-in-CrashProposer g c = goes_idle c.self.inside.world c.crash_proposer.new.self c.self.inside.network c.self.inside.halts c.self.inside.tries c.self.inside.proposers c.self.invariant (crash_between (meaning {S = g.row.S.Denot} g.S.Shelf.contents g.S.Shelf.tells g.S.Shelf.may_leave g.S.Shelf.fault_count g.V.Disk.tells g.V.Disk.may_leave g.V.Disk.fault_count) c.self.inside.world c.crash_proposer.new.self c.in-CrashProposer.proposer (omega (arith, subst (IsKnown c.args.self.now.world.last_proposer) c.in-CrashProposer.is c.requires.known, ap (λ (v : Stage _ _). v.world.last_proposer) c.self.view_is)) c.self.invariant.idle c.crash_proposer.ensures)
 
 pub invariant_of-self-in-RestartProposer : goal.invariant_of-self-in-RestartProposer
 invariant_of-self-in-RestartProposer g c = goes_idle c.self.inside.world c.restart_proposer.new.world c.self.inside.network c.self.inside.halts c.self.inside.tries c.self.inside.proposers c.self.invariant (proposer_keeps (meaning g.S.Shelf.contents g.S.Shelf.tells g.S.Shelf.may_leave g.S.Shelf.fault_count g.V.Disk.tells g.V.Disk.may_leave g.V.Disk.fault_count) c.self.inside.world c.restart_proposer.new.world c.in-RestartProposer.proposer c.restart_proposer.result c.restart_proposer.ensures)
@@ -67,10 +67,10 @@ returns-in-Net-clause-runs g c state at =
 pub returns-in-HaltPrepared-clause-runs : goal.returns-in-HaltPrepared-clause-runs
 returns-in-HaltPrepared-clause-runs g c state at =
     let same : c.from.result ≡ c.in-HaltPrepared.proposer = c.from.ensures in
-    let known : c.in-HaltPrepared.proposer ≤ c.args.self.now.world.greatest = subst (IsKnown c.args.self.now.world.greatest) c.in-HaltPrepared.is c.requires.known in
+    let known : c.in-HaltPrepared.proposer ≤ c.args.self.now.world.last_proposer = subst (IsKnown c.args.self.now.world.last_proposer) c.in-HaltPrepared.is c.requires.known in
     let halt : Halt = slice_index_or c.self.inside.halts c.from.result nowhere in
     let there : IsAt state.halts c.in-HaltPrepared.proposer halt = halt_at c.self.inside.halts state.halts c.from.result c.in-HaltPrepared.proposer same
-    (omega (arith, known, ap (λ (v : Stage _ _). v.world.greatest) c.self.view_is, c.self.invariant.known, c.self.invariant.few, c.self.ranges)) (halts_are c.self.inside.world c.self.inside.network c.self.inside.halts c.self.inside.tries c.args.self.now state c.self.view_is at) in
+    (omega (arith, known, ap (λ (v : Stage _ _). v.world.last_proposer) c.self.view_is, c.self.invariant.known, c.self.invariant.few, c.self.ranges)) (halts_are c.self.inside.world c.self.inside.network c.self.inside.halts c.self.inside.tries c.args.self.now state c.self.view_is at) in
     in_halts c.self.inside.world c.self.inside.network c.self.inside.halts c.self.inside.tries c.args.self.now state c.from.result c.in-HaltPrepared.proposer (record halt { after_prepare = true })
     (RunsEvent (meaning g.S.Shelf.contents g.S.Shelf.tells g.S.Shelf.may_leave g.S.Shelf.fault_count g.V.Disk.tells g.V.Disk.may_leave g.V.Disk.fault_count) state c.args.command.now event.Ok) c.self.view_is at same
     (subst (λ (x : Command). RunsEvent (meaning g.S.Shelf.contents g.S.Shelf.tells g.S.Shelf.may_leave g.S.Shelf.fault_count g.V.Disk.tells g.V.Disk.may_leave g.V.Disk.fault_count) state x event.Ok (record state { halts = slice_set state.halts c.in-HaltPrepared.proposer (record halt { after_prepare = true }) })) (sym c.in-HaltPrepared.is) (halt_prepared halt there refl))
@@ -78,10 +78,10 @@ returns-in-HaltPrepared-clause-runs g c state at =
 pub returns-in-HaltProposed-clause-runs : goal.returns-in-HaltProposed-clause-runs
 returns-in-HaltProposed-clause-runs g c state at =
     let same : c.from-in-HaltProposed.result ≡ c.in-HaltProposed.proposer = c.from-in-HaltProposed.ensures in
-    let known : c.in-HaltProposed.proposer ≤ c.args.self.now.world.greatest = subst (IsKnown c.args.self.now.world.greatest) c.in-HaltProposed.is c.requires.known in
+    let known : c.in-HaltProposed.proposer ≤ c.args.self.now.world.last_proposer = subst (IsKnown c.args.self.now.world.last_proposer) c.in-HaltProposed.is c.requires.known in
     let halt : Halt = slice_index_or c.self.inside.halts c.from-in-HaltProposed.result nowhere in
     let there : IsAt state.halts c.in-HaltProposed.proposer halt = halt_at c.self.inside.halts state.halts c.from-in-HaltProposed.result c.in-HaltProposed.proposer same
-    (omega (arith, known, ap (λ (v : Stage _ _). v.world.greatest) c.self.view_is, c.self.invariant.known, c.self.invariant.few, c.self.ranges)) (halts_are c.self.inside.world c.self.inside.network c.self.inside.halts c.self.inside.tries c.args.self.now state c.self.view_is at) in
+    (omega (arith, known, ap (λ (v : Stage _ _). v.world.last_proposer) c.self.view_is, c.self.invariant.known, c.self.invariant.few, c.self.ranges)) (halts_are c.self.inside.world c.self.inside.network c.self.inside.halts c.self.inside.tries c.args.self.now state c.self.view_is at) in
     in_halts c.self.inside.world c.self.inside.network c.self.inside.halts c.self.inside.tries c.args.self.now state c.from-in-HaltProposed.result c.in-HaltProposed.proposer (record halt { after_propose = true })
     (RunsEvent (meaning g.S.Shelf.contents g.S.Shelf.tells g.S.Shelf.may_leave g.S.Shelf.fault_count g.V.Disk.tells g.V.Disk.may_leave g.V.Disk.fault_count) state c.args.command.now event.Ok) c.self.view_is at same
     (subst (λ (x : Command). RunsEvent (meaning g.S.Shelf.contents g.S.Shelf.tells g.S.Shelf.may_leave g.S.Shelf.fault_count g.V.Disk.tells g.V.Disk.may_leave g.V.Disk.fault_count) state x event.Ok (record state { halts = slice_set state.halts c.in-HaltProposed.proposer (record halt { after_propose = true }) })) (sym c.in-HaltProposed.is) (halt_proposed halt there refl))

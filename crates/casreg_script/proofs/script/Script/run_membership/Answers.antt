@@ -15,7 +15,7 @@ use Rattle.casreg_script.proofs.script.Script.run_membership.Goals as goal
 
 pub invariant_of-self : goal.invariant_of-self
 invariant_of-self g c = record {
-  known = c.change_members.ensures.idle.greatest ∙ c.self.invariant.known;
+  known = c.change_members.ensures.idle.last_proposer ∙ c.self.invariant.known;
   few = c.self.invariant.few;
   some = c.self.invariant.some;
   idle = all_idle c.self.inside.world c.change_members.new.world c.change_members.ensures.idle c.self.invariant.idle;

@@ -13,10 +13,10 @@ use Rattle.casreg_script.proofs.script.Script.run_probe.Goals as goal
 
 pub invariant_of-self : goal.invariant_of-self
 invariant_of-self g c = record {
-  known = c.probe.ensures.calls.greatest ∙ c.self.invariant.known;
+  known = c.probe.ensures.calls.last_proposer ∙ c.self.invariant.known;
   few = c.self.invariant.few;
   some = c.self.invariant.some;
-  idle = still_idle c.self.inside.world c.probe.new.world c.probe.ensures.calls.greatest c.probe.ensures.calls.callers c.self.invariant.idle;
+  idle = still_idle c.self.inside.world c.probe.new.world c.probe.ensures.calls.last_proposer c.probe.ensures.calls.callers c.self.invariant.idle;
   quiet = c.probe.ensures.quiet;
   ruled = (c.self.invariant.ruled.0, ruled_after c.probe.result c.self.inside.network c.probe.new.network (λ a by next. IsProbe (meaning {S = g.row.S.Denot} g.S.Shelf.contents g.S.Shelf.tells g.S.Shelf.may_leave g.S.Shelf.fault_count g.V.Disk.tells g.V.Disk.may_leave g.V.Disk.fault_count) by c.args.key.now c.self.inside.world a next c.probe.new.world) (λ a by next. probe_stay (meaning {S = g.row.S.Denot} g.S.Shelf.contents g.S.Shelf.tells g.S.Shelf.may_leave g.S.Shelf.fault_count g.V.Disk.tells g.V.Disk.may_leave g.V.Disk.fault_count) by next c.args.key.now c.self.inside.world c.probe.new.world a) (λ same. same.1) c.probe.ensures.probe c.probe.ensures.err c.self.invariant.ruled.0 c.self.invariant.ruled.1);
 }
