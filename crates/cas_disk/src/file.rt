@@ -10,10 +10,10 @@ use std::os::unix::fs::FileExt;
 /// A disk over a file.
 ///
 /// A write or a sync that fails closes the file, since nothing is known then of what the file keeps. Over no file, and once it
-/// has closed its own, it fails at each call but `faults`, also after a crash. Another disk over the file, opened anew, does not
-/// know of the failure.
+/// has closed its own, each `len`, `read`, `write_at` and `sync` fails, also after a crash. Another disk over the file, opened
+/// anew, does not know of the failure. A `len` or a `read` that fails leaves the file open.
 ///
-/// A read or a measuring that fails leaves the file open.
+/// A read or a write that is short, or that a signal interrupts, goes on. A write of which the file takes no byte fails.
 #[derive(Drop)]
 pub struct FileDisk {
     file: Option<File>,
@@ -31,7 +31,7 @@ impl FileDisk {
         FileDisk { file, faults: 0 }
     }
 
-    /// What an answer of the file to a read or a measuring is as an answer of the disk.
+    /// What an answer of the file is as an answer of the disk. An error counts as a fault.
     fn counted<T>(&mut self, answer: Option<T>) -> Result<T, DiskFault>
         ensures answer { MatchOption answer (result ≡ Err DiskFault.Failed) (λ x. result ≡ Ok x) }
         ensures file { file_of self.new ≡ file_of self.old }
@@ -46,7 +46,7 @@ impl FileDisk {
         }
     }
 
-    /// What an answer of the file to a write or a sync is as an answer of the disk. An error closes the file.
+    /// What an answer of the file to a write or a sync is as an answer of the disk. An error closes the file, and counts as a fault.
     fn settled(&mut self, answer: Option<()>) -> Result<(), DiskFault>
         ensures answer { MatchOption answer (result ≡ Err DiskFault.Failed) (λ x. result ≡ Ok x) }
         ensures file { OnOk result (file_of self.new ≡ file_of self.old) }
