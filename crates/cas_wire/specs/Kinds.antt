@@ -1,4 +1,4 @@
--- The bytes that name the kinds of requests and of replies, format 1, and which replies a request may get.
+-- The bytes that name the kinds of requests and of replies, format 2, and which replies a request may get.
 use Rattle.std.specs.Prelude.{ℕ, Bool, true, false, nat_eq, if◌then◌else◌, List, [], ◌∷◌, Option, Some, None}
 use Rattle.cas_slot.specs.declared.message.Phase.{Phase}
 use Rattle.cas_slot.specs.declared.message.Phase.TheVariants as phase

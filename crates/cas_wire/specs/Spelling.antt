@@ -1,4 +1,4 @@
--- The one spelling of each part, format 1, and what has one. Numbers are big-endian.
+-- The one spelling of each part of frames and cells, and what has one. Numbers are big-endian.
 use Rattle.std.specs.Prelude.{ℕ, ◌<◌, ◌^◌, List, [], ◌∷◌, ◌++◌, length, Option, Some, None, FitsSigned}
 use Rattle.std.specs.Int.{w16, w32, w64, to_be_bytes, cast_unsigned}
 use Rattle.cas_ballot.specs.declared.ballot.Ballot.{Ballot}

@@ -3,7 +3,7 @@
 use Step::{Crashes, Faults, ForgetsPast, Fronts, Measures, Puts, Reads, Syncs, WritesFront};
 use cas_disk::{Disk, DiskFault, FileDisk, Image, MemoryDisk, Trouble};
 use std::alloc::Global;
-use std::fs::OpenOptions;
+use std::fs::{File, OpenOptions};
 use std::process::Abort;
 use std::test::Fail;
 
@@ -350,4 +350,29 @@ const NO_FILE: [Step; 6] = [
 fn no_file_fails_each_call(rt: HostRuntime) {
     let wrong = first_wrong(&mut FileDisk::over(None), &NO_FILE);
     assert_eq!(rt; wrong, None);
+}
+
+const STAYS_FAILED: [Step; 8] = [
+    Measures(Ok(3)),
+    WritesFront(&[1], FAILED),
+    Measures(Err(DiskFault::Failed)),
+    Reads(0, Err(DiskFault::Failed)),
+    Syncs(FAILED),
+    Crashes,
+    WritesFront(&[1], FAILED),
+    Faults(5),
+];
+
+/// A file that is open to read alone fails as it is written, and then at each call.
+#[test]
+fn a_file_that_failed_stays_failed(rt: HostRuntime) -> Result<(), Fail> {
+    let path = "cas_disk_failed_file_test";
+    std::fs::write(&rt, path, OLD)?;
+    let wrong = first_wrong(
+        &mut FileDisk::over(Some(File::open(&rt, path)?)),
+        &STAYS_FAILED,
+    );
+    std::fs::remove_file(&rt, path)?;
+    assert_eq!(rt; wrong, None);
+    Ok(())
 }
