@@ -1,5 +1,6 @@
 //! The answers to calls of clients.
 
+ghost use Rattle.std.specs.Prelude.{◌≡◌};
 ghost use Rattle.cas_record.specs.Answers.{is_conflict, is_refusal};
 
 use cas_ballot::{AcceptorId, Ballot};
