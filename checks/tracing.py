@@ -9,7 +9,7 @@ import subprocess
 from typing import NamedTuple
 
 # Logs each call behind its end: its kind, descriptor, place, result and bytes. A call that fails by FAIL, which has a kind and a number from
-# 1 on, is not made, and its error is EIO. With SWALLOW syncs are neither made nor logged, and are said to be done.
+# 1 on, is not made, and its error is EIO. Syncs of the kinds in SWALLOW are neither made nor logged, and are said to be done.
 LIBRARY = r'''
 #define _GNU_SOURCE
 #include <errno.h>
@@ -25,7 +25,8 @@ LIBRARY = r'''
 #include <unistd.h>
 
 static pthread_mutex_t turn = PTHREAD_MUTEX_INITIALIZER;
-static int log_to = -1, swallows;
+static int log_to = -1;
+static const char *swallowed;
 static char fail_kind;
 static long fail_at, calls;
 
@@ -37,11 +38,16 @@ __attribute__((constructor)) static void begin(void)
     if (log_to < 0)
         abort();
     syscall(SYS_close, fd);
-    swallows = getenv("SWALLOW") != 0;
+    swallowed = getenv("SWALLOW");
     if (fail) {
         fail_kind = fail[0];
         fail_at = atol(fail + 1);
     }
+}
+
+static int swallows(char kind)
+{
+    return swallowed && strchr(swallowed, kind);
 }
 
 static int fails(char kind)
@@ -122,14 +128,14 @@ int ftruncate(int fd, off_t size)
 
 int fdatasync(int fd)
 {
-    if (swallows)
+    if (swallows('D'))
         return 0;
     CALL('D', fd, 0, "", 0, syscall(SYS_fdatasync, fd))
 }
 
 int fsync(int fd)
 {
-    if (swallows)
+    if (swallows('F'))
         return 0;
     CALL('F', fd, 0, "", 0, syscall(SYS_fsync, fd))
 }
@@ -295,21 +301,17 @@ class Power:
             self.has_folder = False
         elif event.kind == 'W' and event.path == 'answers' and event.result > 0:
             self.answers += event.data[:event.result]
-        elif os.path.dirname(event.path) == self.folder:
+        elif event.kind in 'PDF' and os.path.dirname(event.path) == self.folder:
             disk = self.disks[os.path.basename(event.path)]
             if event.kind == 'P':
                 disk.pending.append((event.at, event.data))
-            elif event.kind in 'DF':
+            else:
                 disk.sync(event.result == 0)
         elif is_sync(event) and event.path == self.folder:
             for disk in self.disks.values():
                 disk.has_entry = True
         elif is_sync(event) and event.path == os.path.dirname(self.folder):
             self.has_folder = True
-
-    def is_settled(self):
-        """Whether a power loss leaves these disks in one way alone."""
-        return self.has_folder and all(disk.has_entry and not disk.pending and not disk.lost for disk in self.disks.values())
 
     def left(self, draw, how):
         """The disks that a power loss may leave now, by their names; without its entry a disk may be gone, and with its folder each."""
