@@ -22,7 +22,8 @@ use Rattle.cas_record.specs.declared.answer.Answer.TheVariants as answer
 use Rattle.cas_record.specs.declared.answer.Cause.{Cause}
 use Rattle.cas_record.specs.declared.answer.Cause.TheVariants as cause
 use Rattle.cas_audit.specs.Spelling.Lines.{IsNumber, IsBallot, IsShort, IsCause, IsStop, IsTook, IsAnswer}
-use Rattle.cas_audit.specs.Spelling.Reading.{u8_of, u32_of, ballot_of, said_at, named_at, behind_name, stop_name, cause_name, took_name, told_name, cause_of, cause_at, proposed_from, proposed_at, stop_of, stop_in, took_of, took_at, done_at, answer_at}
+use Rattle.cas_audit.specs.Spelling.Reading.{u8_of, u32_of, ballot_of, said_at, named_at, behind_name, stop_name, cause_name, took_name, told_name, cause_of, cause_at, proposed_from}
+use Rattle.cas_audit.specs.Spelling.Reading.{proposed_at, stop_of, stop_in, took_of, took_at, done_at, answer_at}
 use Rattle.cas_audit.specs.declared.names.StopName.{StopName}
 use Rattle.cas_audit.specs.declared.names.StopName.TheVariants as stops
 use Rattle.cas_audit.specs.declared.names.CauseName.{CauseName}

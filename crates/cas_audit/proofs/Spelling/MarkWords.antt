@@ -28,7 +28,9 @@ use Rattle.cas_record.specs.declared.operator.Asked.TheVariants as asked
 use Rattle.cas_record.specs.declared.operator.OpAnswer.{OpAnswer}
 use Rattle.cas_record.specs.declared.operator.OpAnswer.TheVariants as told
 use Rattle.cas_audit.specs.Spelling.Lines.{IsNumber, IsCall, IsBallot, IsSet, IsVersion, IsAsked, IsFinished, IsTold, IsQuorum, harm_word, IsMarkLine, IsCountLine}
-use Rattle.cas_audit.specs.Spelling.Reading.{u8_of, u32_of, call_of, ballot_of, members_of, said_at, named_at, behind_name, numbered_at, marked_version_at, mark_name, asked_name, told_name, harm_name, answer_at, stop_in, asked_of, asked_at, finished_at, collected_at, not_in, not_at, told_of, told_by, told_at, begun_at, quorum_at, proposal_at, acknowledgment_at, voted_at, floor_at, entered_at, ended_at, harmed_at, told_mark_at, mark_of, mark_at, line_mark}
+use Rattle.cas_audit.specs.Spelling.Reading.{u8_of, u32_of, call_of, ballot_of, members_of, said_at, named_at, behind_name, numbered_at, marked_version_at, mark_name, asked_name, told_name}
+use Rattle.cas_audit.specs.Spelling.Reading.{harm_name, answer_at, stop_in, asked_of, asked_at, finished_at, collected_at, not_in, not_at, told_of, told_by, told_at, begun_at, quorum_at}
+use Rattle.cas_audit.specs.Spelling.Reading.{proposal_at, acknowledgment_at, voted_at, floor_at, entered_at, ended_at, harmed_at, told_mark_at, mark_of, mark_at, line_mark}
 use Rattle.cas_audit.specs.Spelling.Texts.{count_at}
 use Rattle.cas_audit.specs.declared.names.AskedName.{AskedName}
 use Rattle.cas_audit.specs.declared.names.AskedName.TheVariants as asks
@@ -37,7 +39,8 @@ use Rattle.cas_audit.specs.declared.names.MarkName.TheVariants as marks
 use Rattle.cas_audit.specs.declared.names.ToldName.{ToldName}
 use Rattle.cas_audit.specs.declared.names.ToldName.TheVariants as tells
 use Rattle.cas_audit.proofs.Spelling.AnswerWords.{is_named, said_one, named_one, name_found, nothing_more, pair_found, ReadsAll, stop_found, stop_reads, answer_found, answer_again}
-use Rattle.cas_audit.proofs.Spelling.NumberWords.{u8_found, u8_says, u32_found, u32_says, u64_found, acceptor_found, acceptor_says, call_found, call_says, ballot_found, ballot_says, set_found, set_says}
+use Rattle.cas_audit.proofs.Spelling.NumberWords.{u8_found, u8_says, u32_found, u32_says, u64_found, acceptor_found, acceptor_says, call_found, call_says, ballot_found, ballot_says}
+use Rattle.cas_audit.proofs.Spelling.NumberWords.{set_found, set_says}
 use Rattle.cas_audit.proofs.Spelling.PartsBack.{said_again}
 
 -- ---- the next words
@@ -260,7 +263,8 @@ not_in-found at word behind z e end =
     ]
 
 -- two words that name a refusal
-refused_found : (first second : Word) (answer : OpAnswer) (left : WordsLeft) (z : OpAnswer × WordsLeft) → (behind_name second left >>= λ behind. done {A = OpAnswer × WordsLeft} (answer, behind)) ≡ Ok z → z.1.words ≡ []
+refused_found : (first second : Word) (answer : OpAnswer) (left : WordsLeft) (z : OpAnswer × WordsLeft)
+    → (behind_name second left >>= λ behind. done {A = OpAnswer × WordsLeft} (answer, behind)) ≡ Ok z → z.1.words ≡ []
     → (answer ≡ z.0) × (first ∷ left.words ≡ first ∷ second ∷ [])
 refused_found first second answer left z e end =
     let n = bind_ok (behind_name second left) _ z e in
@@ -307,7 +311,8 @@ told_of-found tells.Proposer left z e end =
     ap (λ (ws : List Word). codes "proposer" ∷ ws) (name_found (codes "down") left n.0 n.1 ∙ p.2.1) in
     subst (IsTold (codes "proposer" ∷ left.words)) p.1 (p.2.0, split, p.2.2)
 
-told_by-found : (name : Option ToldName) (at : ℕ) (word : Word) (behind : WordsLeft) (z : OpAnswer × WordsLeft) → told_name word ≡ name → told_by name at word behind ≡ Ok z → z.1.words ≡ [] → IsTold (word ∷ behind.words) z.0
+told_by-found : (name : Option ToldName) (at : ℕ) (word : Word) (behind : WordsLeft) (z : OpAnswer × WordsLeft) → told_name word ≡ name
+    → told_by name at word behind ≡ Ok z → z.1.words ≡ [] → IsTold (word ∷ behind.words) z.0
 unfolding told_by
 told_by-found (Some name) at word behind z is e end =
     subst (λ (w : Word). IsTold (w ∷ behind.words) z.0) (sym (told_named word name is)) (told_of-found name behind z e end)
@@ -328,12 +333,20 @@ unfolding told_at told_by told_of behind_name numbered_at collected_at not_at no
 told_again words (told.Joined id era rescanned) is at = (
   at + 1 + 1 + 1 + 1 + 1 + 1,
   ap (λ (ws : List Word). told_at (from at ws)) is.3
-      ∙ rw (acceptor_read is.0 id is.4 (at + 1) (codes "era" ∷ is.1 ∷ codes "rescanned" ∷ is.2 ∷ []), u32_read is.1 era is.5 (at + 1 + 1 + 1) (codes "rescanned" ∷ is.2 ∷ []), u32_read is.2 rescanned is.6 (at + 1 + 1 + 1 + 1 + 1) []) refl,
+      ∙ rw (
+        acceptor_read is.0 id is.4 (at + 1) (codes "era" ∷ is.1 ∷ codes "rescanned" ∷ is.2 ∷ []),
+        u32_read is.1 era is.5 (at + 1 + 1 + 1) (codes "rescanned" ∷ is.2 ∷ []),
+        u32_read is.2 rescanned is.6 (at + 1 + 1 + 1 + 1 + 1) [],
+      ) refl,
 )
 told_again words (told.Left id era rescanned) is at = (
   at + 1 + 1 + 1 + 1 + 1 + 1,
   ap (λ (ws : List Word). told_at (from at ws)) is.3
-      ∙ rw (acceptor_read is.0 id is.4 (at + 1) (codes "era" ∷ is.1 ∷ codes "rescanned" ∷ is.2 ∷ []), u32_read is.1 era is.5 (at + 1 + 1 + 1) (codes "rescanned" ∷ is.2 ∷ []), u32_read is.2 rescanned is.6 (at + 1 + 1 + 1 + 1 + 1) []) refl,
+      ∙ rw (
+        acceptor_read is.0 id is.4 (at + 1) (codes "era" ∷ is.1 ∷ codes "rescanned" ∷ is.2 ∷ []),
+        u32_read is.1 era is.5 (at + 1 + 1 + 1) (codes "rescanned" ∷ is.2 ∷ []),
+        u32_read is.2 rescanned is.6 (at + 1 + 1 + 1 + 1 + 1) [],
+      ) refl,
 )
 told_again words (told.Refused fault.AlreadyIn) is at = (at + 1 + 1, ap (λ (ws : List Word). told_at (from at ws)) is)
 told_again words (told.Refused fault.NotIn) is at = (at + 1 + 1, ap (λ (ws : List Word). told_at (from at ws)) is)
@@ -348,7 +361,12 @@ told_again words (told.Collected key ballot removed kept) is at =
     let counts : List Word = codes "removed" ∷ first ∷ codes "kept" ∷ last ∷ [] in (
       at + 1 + 1 + 1 + 1 + 1 + 1 + 1 + 1,
       ap (λ (ws : List Word). told_at (from at ws)) is.3
-          ∙ rw (key_read key is.4 (at + 1) (codes "at" ∷ word ∷ counts), said_again ballot_of word ballot (ballot_says word ballot is.5) (at + 1 + 1 + 1) counts, u32_read first removed is.6 (at + 1 + 1 + 1 + 1 + 1) (codes "kept" ∷ last ∷ []), u32_read last kept is.7 (at + 1 + 1 + 1 + 1 + 1 + 1 + 1) []) refl,
+          ∙ rw (
+            key_read key is.4 (at + 1) (codes "at" ∷ word ∷ counts),
+            said_again ballot_of word ballot (ballot_says word ballot is.5) (at + 1 + 1 + 1) counts,
+            u32_read first removed is.6 (at + 1 + 1 + 1 + 1 + 1) (codes "kept" ∷ last ∷ []),
+            u32_read last kept is.7 (at + 1 + 1 + 1 + 1 + 1 + 1 + 1) [],
+          ) refl,
     )
 told_again words (told.NotEmpty version) is at =
     (at + 1 + 1 + 1, ap (λ (ws : List Word). told_at (from at ws)) (is.1 ∙ ap (λ (w : Word). codes "not" ∷ codes "empty" ∷ w ∷ []) is.2.1) ∙ rw (is.2.2.0) refl)
@@ -558,7 +576,13 @@ mark_reads words (Begun caller call key program) is =
 mark_reads words (Proposed p) is =
     let q = quorum_again is.3 p.era p.prepared_by is.9 6 in
     ap (λ (ws : List Word). mark_at (from 0 ws)) is.4
-    ∙ rw (call_read is.0 p.caller p.call is.5 1 (p.key ∷ is.1 ∷ codes "read" ∷ is.2 ∷ is.3), key_read p.key is.6 2 (is.1 ∷ codes "read" ∷ is.2 ∷ is.3), said_again ballot_of is.1 p.ballot (ballot_says is.1 p.ballot is.7) 3 (codes "read" ∷ is.2 ∷ is.3), said_again ballot_of is.2 p.read (ballot_says is.2 p.read is.8) 5 is.3, q.1) refl
+    ∙ rw (
+      call_read is.0 p.caller p.call is.5 1 (p.key ∷ is.1 ∷ codes "read" ∷ is.2 ∷ is.3),
+      key_read p.key is.6 2 (is.1 ∷ codes "read" ∷ is.2 ∷ is.3),
+      said_again ballot_of is.1 p.ballot (ballot_says is.1 p.ballot is.7) 3 (codes "read" ∷ is.2 ∷ is.3),
+      said_again ballot_of is.2 p.read (ballot_says is.2 p.read is.8) 5 is.3,
+      q.1,
+    ) refl
 mark_reads words (Voted acceptor key ballot) is =
     ap (λ (ws : List Word). mark_at (from 0 ws)) is.2
     ∙ rw (acceptor_read is.0 acceptor is.3 1 (key ∷ is.1 ∷ []), key_read key is.4 2 (is.1 ∷ []), said_again ballot_of is.1 ballot (ballot_says is.1 ballot is.5) 3 []) refl
