@@ -28,6 +28,10 @@ class Checks:
         else:
             print(f'does not hold: {name}: {why_not}', flush=True)
 
+    def skip(self, name, why):
+        """Says of a check that it was not made, and why."""
+        print(f'skipped: {name}: {why}', flush=True)
+
     def end(self):
         """Says whether all hold, and ends with status 0 only then."""
         if self.held == self.made and self.made:
@@ -286,3 +290,135 @@ def read_vault(disk):
     if bound > 2**48 or age > 2**48:
         raise Foreign('a vault out of its range')
     return bound, age, era
+
+
+# ---- a session, and the disks that it leaves
+
+ACCEPTORS = [1, 2, 3]
+PROPOSERS = [0, 1, 2]
+WORDS = ['script', '--acceptors', '3', '--proposers', '2', '--tries', '8']
+
+
+def line_of(number):
+    """The line of that number: of two callers, on five keys, each of which is put, added to, emptied and read. Now and then an acceptor or a
+    proposer is down for some lines."""
+    acceptor, proposer = 1 + number // 50 % 3, 1 + number // 50 % 2
+    caller = 1 + number // 7 % 2
+    events = {
+        20: f'crash acceptor {acceptor}',
+        30: f'crash proposer {proposer}',
+        31: f'restart proposer {proposer}',
+        40: f'restart acceptor {acceptor}',
+    }
+    if number % 50 in events:
+        return events[number % 50]
+    key = 'abcde'[number % 5]
+    kind = number // 5 % 8
+    if kind == 0:
+        return f'{caller} set {key} t{number}'
+    if kind == 1:
+        return f'{caller} num {key} {number}'
+    if kind == 5:
+        return f'{caller} get {key}'
+    if kind == 7:
+        return f'{caller} del {key}'
+    return f'{caller} add {key} {kind}'
+
+
+def done_of(answer):
+    """The ballot and the state, as text, of an answer that says done; or nothing."""
+    words = answer.split()
+    if len(words) < 2 or words[1] != 'done':
+        return None
+    at = words.index('at')
+    counter, proposer = words[at + 1].split('.')
+    return (int(counter), int(proposer)), ' '.join(words[2:at])
+
+
+def told_of(lines, answers, whole):
+    """What so many answers told of each key: the last change that was done, with its ballot and state, and behind it the one that is under way,
+    if it comes to be done; and whether others came behind that may stand. `whole` are the answers of the run to its end."""
+    told = {}
+    for number, line in enumerate(lines[:len(answers) + 1]):
+        words = line.split()
+        if number >= len(whole) or not is_change(words):
+            continue
+        done = done_of(whole[number])
+        may_stand, others = told.get(words[2], ([None], False))
+        if done and number < len(answers):
+            told[words[2]] = [done], False
+        elif done:
+            told[words[2]] = may_stand + [done], others
+        elif PROPOSED.fullmatch(whole[number].split(': ', 1)[1]):
+            told[words[2]] = may_stand, True
+    return told
+
+
+def stands(lines, answers, whole, shelves):
+    """What is wrong with what stands on the shelves after so many answers: the last change of a key that was answered done, or what may have
+    come behind it, is what a majority has accepted."""
+    for key, (may_stand, others) in told_of(lines, answers, whole).items():
+        if may_stand[0] is None:
+            continue
+        holders = 0
+        for slots in shelves:
+            accepted = slots.get(key, (None, None))[1]
+            if accepted and (accepted[0], state_text(accepted[2])) in may_stand:
+                holders += 1
+            elif accepted and others and accepted[0] > may_stand[0][0]:
+                holders += 1
+        if 2 * holders <= len(shelves):
+            return f'{key} stands on {holders} of {len(shelves)} disks, of {may_stand}'
+    return None
+
+
+def is_drawn(shelves, vaults):
+    """What is wrong with the vaults: a ballot that an acceptor keeps is above what its proposer's vault has as drawn."""
+    for slots in shelves:
+        for promise, accepted in slots.values():
+            for counter, proposer in [promise] + ([accepted[0]] if accepted else []):
+                if counter and counter > vaults[proposer][0]:
+                    return f'the ballot {counter}.{proposer} is above the bound of its vault'
+    return None
+
+
+# more than 4,096 wide cells have, and all that a disk tells stands before
+LONGEST = 2**26
+
+
+def disks_in(folder):
+    """The disks of a folder, by their names: their fronts of 2^26 bytes."""
+    disks = {}
+    for name in os.listdir(folder):
+        with open(os.path.join(folder, name), 'rb') as file:
+            disks[name] = file.read(LONGEST)
+    return disks
+
+
+def look(disks, lines, whole, written):
+    """What is wrong with what a run wrote and left, and how many answers it wrote."""
+    text = written.decode()
+    answers = text.split('\n')[:-1]
+    if not '\n'.join(whole + ['']).startswith(text):
+        return 'it wrote something else', len(answers)
+    registers = Registers()
+    try:
+        for line, answer in zip(lines, answers):
+            registers.take(line, answer)
+    except Wrong as wrong:
+        return str(wrong), len(answers)
+    shelves, vaults = [], {}
+    for name, disk in sorted(disks.items()):
+        number = int(name[1:])
+        try:
+            if name[0] == 'a' and number in ACCEPTORS:
+                shelves.append(read_shelf(disk))
+            elif name[0] == 'v' and number in PROPOSERS:
+                vaults[number] = read_vault(disk)
+            elif disk:
+                return f'{name} is not empty', len(answers)
+        except Foreign as foreign:
+            return f'{name} is foreign: {foreign}', len(answers)
+    if len(shelves) != len(ACCEPTORS) or len(vaults) != len(PROPOSERS):
+        return 'a disk is not there', len(answers)
+    return stands(lines, answers, whole, shelves) or is_drawn(shelves, vaults), len(answers)

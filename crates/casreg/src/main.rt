@@ -5,15 +5,18 @@
 
 ghost use Rattle.std.specs.Prelude.{◌≡◌, vec_len, IfOk};
 
-use cas_disk::{FileDisk, Image, MemoryDisk};
+mod folder;
+
+use cas_disk::{Disk, Image, MemoryDisk};
 use cas_lines::sink::StdSink;
 use cas_lines::source::StdSource;
 use cas_store::{ACCEPTORS, Rack, VAULTS};
 use casreg_command::cluster::cluster;
-use casreg_command::{Status, seeded_fates};
+use casreg_command::{Status, read_words, seeded_fates};
+use folder::{FolderFault, file_rack, lock_folder};
 use std::alloc::{AllocError, Global};
 use std::env;
-use std::fs::{File, OpenOptions};
+use std::fs::File;
 use std::io::{self, ErrorKind};
 use std::process::ExitCode;
 use std::rt::{Env, Files};
@@ -37,19 +40,50 @@ fn run(
 ) -> io::Result<Status> {
     let alloc = rt.alloc();
     let words: Vec<String> = env::args(rt)?.skip(1).collect(alloc)?;
-    let mut source = StdSource::over(rt.reader());
-    let mut sink = StdSink::over(io::writer(rt));
-    let mut fates = seeded_fates(alloc)?;
     match words.as_slice() {
         [first, folder, command @ ..] if first.as_str() == "--files" => {
-            let rack = file_rack(rt, alloc, folder)?;
-            Ok(cluster(rt, alloc, command, &mut source, &mut sink, rack, &mut fates).0)
+            // Words that are none of a command make no file.
+            if read_words(alloc, command)?.is_none() {
+                return Ok(Status::Usage);
+            }
+            match run_in_folder(rt, alloc, folder, command) {
+                Ok(status) => Ok(status),
+                Err(fault) => Ok(Status::from(fault)),
+            }
         }
         command => {
             let rack = memory_rack(alloc)?;
-            Ok(cluster(rt, alloc, command, &mut source, &mut sink, rack, &mut fates).0)
+            Ok(run_over(rt, alloc, command, rack)?)
         }
     }
+}
+
+/// Runs a command over the files of a folder, which is locked until the command has ended.
+fn run_in_folder(
+    rt: &(impl Input + Print + Files<File = File> + Threads + Wait + Sync),
+    alloc: Global,
+    path: &str,
+    command: &[String],
+) -> Result<Status, FolderFault> {
+    let folder = lock_folder(rt, alloc, path)?;
+    let rack = file_rack(rt, alloc, path, &folder)?;
+    Ok(run_over(rt, alloc, command, rack)?)
+}
+
+/// Runs a command over these disks, and the program's input and output.
+fn run_over<D: Disk + Send + Drop>(
+    rt: &(impl Input + Print + Threads + Wait + Sync),
+    alloc: Global,
+    command: &[String],
+    rack: Rack<D>,
+) -> Result<Status, AllocError>
+    requires acceptors { vec_len rack.acceptors ≡ 64 }
+    requires vaults { vec_len rack.vaults ≡ 17 }
+{
+    let mut source = StdSource::over(rt.reader());
+    let mut sink = StdSink::over(io::writer(rt));
+    let mut fates = seeded_fates(alloc)?;
+    Ok(cluster(rt, alloc, command, &mut source, &mut sink, rack, &mut fates).0)
 }
 
 /// Empty disks in memory.
@@ -71,48 +105,4 @@ fn memory_disks(alloc: Global, count: u8) -> Result<Vec<MemoryDisk>, AllocError>
         disks.push(MemoryDisk::new(alloc, Vec::new(alloc), Vec::new(alloc), Image::New))?;
     }
     Ok(disks)
-}
-
-/// The files of a folder: `a0` to `a63` for the acceptors, and `v0` to `v16` for the vaults.
-fn file_rack(
-    rt: &impl Files<File = File>,
-    alloc: Global,
-    folder: &str,
-) -> Result<Rack<FileDisk>, AllocError>
-    ensures acceptors { IfOk result (λ rack. vec_len rack.acceptors ≡ 64) }
-    ensures vaults { IfOk result (λ rack. vec_len rack.vaults ≡ 17) }
-{
-    let acceptors = file_disks(rt, alloc, folder, "a", ACCEPTORS)?;
-    let vaults = file_disks(rt, alloc, folder, "v", VAULTS)?;
-    Ok(Rack { acceptors, vaults })
-}
-
-/// So many files of a folder, whose names are this one with their numbers, from 0 on.
-fn file_disks(
-    rt: &impl Files<File = File>,
-    alloc: Global,
-    folder: &str,
-    name: &str,
-    count: u8,
-) -> Result<Vec<FileDisk>, AllocError>
-    ensures { IfOk result (λ disks. vec_len disks ≡ count) }
-{
-    let mut disks = Vec::with_capacity(alloc, usize::from(count))?;
-    for number in 0..count {
-        let path = format!(in alloc; "{folder}/{name}{number}")?;
-        disks.push(file_disk(rt, &path))?;
-    }
-    Ok(disks)
-}
-
-/// The disk over the file of this path, which is opened to read and to write, and made where there is none. Where it cannot be opened
-/// the disk has no file.
-fn file_disk(rt: &impl Files<File = File>, path: &str) -> FileDisk {
-    let file = OpenOptions::new()
-        .read(true)
-        .write(true)
-        .create(true)
-        .truncate(false)
-        .open(rt, path);
-    FileDisk::over(file.ok())
 }
