@@ -17,7 +17,8 @@ use Rattle.cas_record.specs.declared.mark.Proposal.{Proposal}
 use Rattle.cas_record.specs.declared.mark.Acknowledgment.{Acknowledgment}
 use Rattle.cas_record.specs.Places.{At, Stands, IsOlderPart, IsPrefix, here, past, whole, later}
 use Rattle.cas_record.specs.Histories.Chain.{is_key, is_ballot, is_proposal, has_proposal, has_calls, opens_at, has_opening, chain_of, program_of, top_of, settled_of}
-use Rattle.cas_record.specs.Legal.{calls_of, IsProposed, IsEnded, IsFirstProposal, IsFirstEnd, IsNumbered, DoesStand, tells_refused, tells_unsettled, RefusedNever, harms_due, harms_of, WasBegun, HasVotes, HasFloor, IsAcked, NoneBegun, IsFloor, IsLegal, IsBegun}
+use Rattle.cas_record.specs.Legal.{calls_of, IsProposed, IsEnded, IsFirstProposal, IsFirstEnd, IsNumbered, DoesStand, tells_refused, tells_unsettled, RefusedNever, harms_due, harms_of}
+use Rattle.cas_record.specs.Legal.{WasBegun, HasVotes, HasFloor, IsAcked, NoneBegun, IsFloor, IsLegal, IsBegun}
 use Rattle.cas_record.proofs.PlaceLemmas.{newest_or, stands_at, stands_deeper, part_at, deeper, prefix_same, prefix_trans}
 use Rattle.cas_record.proofs.Tests.{proposal_tells, key_same, key_refl, ballot_is, ballot_same}
 use Rattle.cas_record.proofs.Histories.Chains.{has_proposal_is, top_cases, entry_place}

@@ -14,7 +14,8 @@ use mathlib.Core.Logic.{inl, inr}
 use Rattle.cas_base.proofs.Bools.{if_true, if_false, true_or_false}
 use Rattle.cas_ballot.specs.declared.ballot.Ballot.{Ballot}
 use Rattle.cas_ballot.specs.Ballot.{ballot_cmp, greater_of, zero_ballot, BallotAtMost, BallotLess}
-use Rattle.cas_ballot.proofs.BallotLemmas.{at_most_refl, at_most_trans, at_most_antisym, at_most_of_less, compared, at_most_or_less, cmp_of_less, not_lt_of_at_most, zero_at_most, less_irreflexive, less_not_at_most, at_most_greater_left, at_most_greater_right, greater_at_most}
+use Rattle.cas_ballot.proofs.BallotLemmas.{at_most_refl, at_most_trans, at_most_antisym, at_most_of_less, compared, at_most_or_less, cmp_of_less, not_lt_of_at_most, zero_at_most}
+use Rattle.cas_ballot.proofs.BallotLemmas.{less_irreflexive, less_not_at_most, at_most_greater_left, at_most_greater_right, greater_at_most}
 use Rattle.cas_change.specs.declared.state.State.{State}
 use Rattle.cas_record.specs.Histories.Chain.{is_key, floor_below}
 use Rattle.cas_record.specs.declared.mark.Mark.{Mark}

@@ -1,6 +1,9 @@
+pub mod AnswerWords
 pub mod LineByLine
+pub mod MarkWords
 pub mod MarksBack
 pub mod MemberWords
+pub mod NumberWords
 pub mod Numbers
 pub mod Parts
 pub mod PartsBack

@@ -5,7 +5,9 @@ ghost use Rattle.std.specs.List.{flat_map};
 ghost use Rattle.cas_ballot.specs.Members.{has_member, IsMemberSet};
 ghost use Rattle.cas_change.specs.Key.{IsKey};
 ghost use Rattle.cas_ballot.specs.Ballot.{ballot_text};
+ghost use Rattle.cas_change_text.specs.Words.{words_of};
 ghost use Rattle.cas_lines.specs.Answers.{answer_text, cause_text};
+ghost use Rattle.cas_audit.specs.Spelling.Lines.{IsMarkLine};
 ghost use Rattle.cas_audit.specs.Spelling.Printing.{ballots_text, next_number_text, numbers_text, clause_note, harm_note, full_answer_text, asked_text, told_text, is_told, has_text, mark_text};
 ghost use Rattle.cas_audit.specs.Spelling.Ranges.{BallotFits, TookFits, CauseFits, AnswerFits, AskedFits, FinishFits, ToldFits, BallotsFit, MarkFits};
 ghost use Rattle.cas_audit.specs.Spelling.Reading.{line_mark};
@@ -43,6 +45,8 @@ pub fn print_mark(alloc: Global, mark: &Mark) -> Result<Vec<u8>, AllocError>
     requires { has_text mark.now ≡ true }
     ensures text { IfOk result (λ line. line.items ≡ mark_text mark.now) }
     // What the line says is the mark.
+    ensures says { IfOk result (λ line. IsMarkLine (words_of line.items) mark.now) }
+    // What is read of it is the mark.
     ensures again { IfOk result (λ line. line_mark line.items ≡ Ok mark.now) }
 {
     mark_line(alloc, mark)

@@ -2,7 +2,9 @@
 
 ghost use Rattle.std.specs.Prelude.{◌≡◌, ◌≢◌, true, Ok, Err, IfOk, MatchResult};
 ghost use Rattle.cas_change_text.specs.Reading.{Reads, ReadsInMemory, GivesInMemory};
+ghost use Rattle.cas_change_text.specs.Words.{words_of};
 ghost use Rattle.cas_lines.specs.Reading.{ended};
+ghost use Rattle.cas_audit.specs.Spelling.Lines.{IsMarkLine};
 ghost use Rattle.cas_audit.specs.Spelling.Printing.{is_told, has_text, mark_text};
 ghost use Rattle.cas_audit.specs.Spelling.Ranges.{MarkFits};
 ghost use Rattle.cas_record.specs.declared.mark.Mark.{Mark};
@@ -549,6 +551,11 @@ fn line_mark(alloc: Global, line: &[u8]) -> Result<Mark, TextRefusal>
 ///
 /// A line that says a mark is refused for want of memory alone. Any other is refused at the first word that does not fit.
 pub fn read_mark(alloc: Global, line: &[u8]) -> Result<Mark, TextRefusal>
+    // What is read is what the line says.
+    ensures found { IfOk result (λ mark. IsMarkLine (words_of line.now) mark) }
+    // What the line says is read, unless memory runs out.
+    ensures only { (mark : Mark) → IsMarkLine (words_of line.now) mark
+        → MatchResult result (λ read. read ≡ mark) (λ refusal. refusal.why ≡ Why.NoMemory) }
     // Which mark or refusal it is, word by word.
     ensures exact { GivesInMemory result (line_mark line.now) }
     // What is read is a mark that a record's text can have.

@@ -16,8 +16,10 @@ use Rattle.cas_record.specs.declared.operator.OpAnswer.{OpAnswer}
 use Rattle.cas_record.specs.declared.operator.OpAnswer.TheVariants as told
 use Rattle.cas_audit.specs.Spelling.Printing.{call_text, numbers_text, full_answer_text, ballots_text, asked_text, told_text, is_told, has_text, mark_text}
 use Rattle.cas_audit.specs.Spelling.Ranges.{AskedFits, ToldFits, FinishFits, MarkFits}
-use Rattle.cas_audit.specs.Spelling.Reading.{named_at, behind_name, numbered_at, marked_version_at, asked_at, asked_of, finished_at, collected_at, not_in, not_at, told_of, told_by, told_at, begun_at, proposal_at, acknowledgment_at, voted_at, floor_at, entered_at, ended_at, harmed_at, told_mark_at, mark_of, mark_at, line_mark}
-use Rattle.cas_audit.proofs.Spelling.PartsBack.{number_words, call_words, ballot_words, members_words, key_words, acceptor_read, key_read, ballot_read, u8_read, u32_read, call_read, Last, last, named, stop_again, answer_last, quorum_list, quorum_read}
+use Rattle.cas_audit.specs.Spelling.Reading.{named_at, behind_name, numbered_at, marked_version_at, asked_at, asked_of, finished_at, collected_at, not_in, not_at, told_of, told_by, told_at}
+use Rattle.cas_audit.specs.Spelling.Reading.{begun_at, proposal_at, acknowledgment_at, voted_at, floor_at, entered_at, ended_at, harmed_at, told_mark_at, mark_of, mark_at, line_mark}
+use Rattle.cas_audit.proofs.Spelling.PartsBack.{number_words, call_words, ballot_words, members_words, key_words, acceptor_read, key_read, ballot_read, u8_read, u32_read, call_read, Last}
+use Rattle.cas_audit.proofs.Spelling.PartsBack.{last, named, stop_again, answer_last, quorum_list, quorum_read}
 use Rattle.cas_audit.proofs.Spelling.TextWords.{word_alone, name, behind, after_blank, after_name}
 
 -- ---- operators

@@ -35,14 +35,14 @@ none_passes p (byte ∷ bytes) e =
     let parts = and_parts (not (p byte)) (list_all (λ each. not (p each)) bytes) e in
     (not-true (p byte) parts.0, none_passes p bytes parts.1)
 
-no_comma_in : (id : ℕ) → id < 2 ^ 64 → All (λ byte. is_comma byte ≡ false) (decimal id)
-no_comma_in id fits = All-from_recursion (λ byte. is_comma byte ≡ false) (decimal id) (none_passes is_comma (decimal id) (digits_lack is_comma no_comma (decimal id) (are_digits id fits)))
+pub no_comma_in : (digits : List ℕ) → list_all is_ascii_digit digits ≡ true → All (λ byte. is_comma byte ≡ false) digits
+no_comma_in digits are = All-from_recursion (λ byte. is_comma byte ≡ false) digits (none_passes is_comma digits (digits_lack is_comma no_comma digits are))
 
 parts_of_numbers : (id : ℕ) (ids : List ℕ) → id < 2 ^ 64 → all_fit ids → slice_split is_comma (numbers_text (id ∷ ids)) ≡ map decimal (id ∷ ids)
 parts_of_numbers id [] fits others =
-    ap (slice_split is_comma) (append-nil (decimal id)) ∙ slice_split_none is_comma (decimal id) (no_comma_in id fits)
+    ap (slice_split is_comma) (append-nil (decimal id)) ∙ slice_split_none is_comma (decimal id) (no_comma_in (decimal id) (are_digits id fits))
 parts_of_numbers id (next ∷ ids) fits others =
-    slice_split_at is_comma (decimal id) 44 (numbers_text (next ∷ ids)) (no_comma_in id fits) refl
+    slice_split_at is_comma (decimal id) 44 (numbers_text (next ∷ ids)) (no_comma_in (decimal id) (are_digits id fits)) refl
     ∙ ap (λ (parts : List Word). decimal id ∷ parts) (parts_of_numbers next ids others.0 others.1)
 
 -- ---- rising numbers
@@ -77,11 +77,11 @@ unfolding members_where
 rising_again ids set = subst (λ (xs : List ℕ). members_from 0 (map decimal xs) ≡ Some xs) (sym set.lists) (members_again (has_member ids) 64 0 0 (omega arith) (omega arith))
 
 -- ---- the word
-begins : (one two : List ℕ) → begins_with_digit one ≡ true → begins_with_digit (one ++ two) ≡ true
+pub begins : (one two : List ℕ) → begins_with_digit one ≡ true → begins_with_digit (one ++ two) ≡ true
 begins [] two e = absurd cc
 begins (byte ∷ one) two e = e
 
-no_dash : (word : Word) → begins_with_digit word ≡ true → bytes_eq word (codes "-") ≡ false
+pub no_dash : (word : Word) → begins_with_digit word ≡ true → bytes_eq word (codes "-") ≡ false
 no_dash word digit = by (bytes_eq word (codes "-")) refl
   where
     by : (b : Bool) → bytes_eq word (codes "-") ≡ b → b ≡ false

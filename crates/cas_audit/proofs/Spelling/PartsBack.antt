@@ -29,7 +29,8 @@ use Rattle.cas_record.specs.declared.answer.Cause.TheVariants as cause
 use Rattle.cas_record.specs.declared.operator.OpAnswer.TheVariants as told
 use Rattle.cas_audit.specs.Spelling.Printing.{call_text, numbers_text, clause_note, full_answer_text, is_told}
 use Rattle.cas_audit.specs.Spelling.Ranges.{CallFits, BallotFits, TookFits, CauseFits, AnswerFits}
-use Rattle.cas_audit.specs.Spelling.Reading.{u8_of, u32_of, both_of, call_of, ballot_from, ballot_of, members_of, said_at, named_at, behind_name, numbered_at, told_name, cause_at, cause_of, stop_of, stop_in, took_at, took_of, done_at, answer_at, quorum_at}
+use Rattle.cas_audit.specs.Spelling.Reading.{u8_of, u32_of, both_of, call_of, ballot_from, ballot_of, members_of, said_at, named_at, behind_name, numbered_at, told_name, cause_at, cause_of}
+use Rattle.cas_audit.specs.Spelling.Reading.{stop_of, stop_in, took_at, took_of, done_at, answer_at, quorum_at}
 use Rattle.cas_audit.proofs.Spelling.MemberWords.{members_read_again, members_word}
 use Rattle.cas_audit.proofs.Spelling.TextWords.{word_alone, name, behind, after_blank, after_name, before_point, behind_point, point_word}
 

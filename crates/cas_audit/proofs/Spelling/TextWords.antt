@@ -17,7 +17,7 @@ use Rattle.cas_audit.specs.Spelling.Reading.{is_point}
 
 -- ---- words behind words
 -- there is a first part
-first_part : (p : ℕ → Bool) (text : List ℕ) → (part : List ℕ) × (parts : List Word) × (slice_split p text ≡ part ∷ parts)
+pub first_part : (p : ℕ → Bool) (text : List ℕ) → (part : List ℕ) × (parts : List Word) × (slice_split p text ≡ part ∷ parts)
 first_part p [] = ([], [], refl)
 first_part p (byte ∷ text) = by (first_part p text) (p byte) refl
   where
@@ -90,25 +90,30 @@ found_at p (byte ∷ one) cut two lacks e =
     let rest : position_or_len p (one ++ cut ∷ two) ≡ length one = found_at p one cut two parts.1 e in
     rw (parts.0, rest) (omega arith)
 
+place_of_point : (one two : List ℕ) → list_all is_ascii_digit one ≡ true → position_or_len is_point (one ++ 46 ∷ two) ≡ length one
+place_of_point one two digits = found_at is_point one 46 two (digits_lack is_point no_point one digits) refl
+
+-- the digits in front of a point
+pub before_digits : (one two : List ℕ) → list_all is_ascii_digit one ≡ true → before_first is_point (one ++ codes "." ++ two) ≡ one
+before_digits one two digits =
+    ap (before_first is_point) (append_assoc one (codes ".") two) ∙ ap (λ n. take n (one ++ 46 ∷ two)) (place_of_point one two digits)
+    ∙ take_at one (46 ∷ two) (length one) refl
+
+-- what stands behind it
+pub behind_digits : (one two : List ℕ) → list_all is_ascii_digit one ≡ true → after_first is_point (one ++ codes "." ++ two) ≡ two
+behind_digits one two digits =
+    ap (after_first is_point) (append_assoc one (codes ".") two) ∙ ap (λ n. drop (n + 1) (one ++ 46 ∷ two)) (place_of_point one two digits)
+    ∙ ap (drop (length one + 1)) (sym (append_assoc one (codes ".") two))
+    ∙ drop_at (one ++ codes ".") two (length one + 1) (length-append one (codes "."))
+
 abbrev pub point_text : ℕ → ℕ → List ℕ
 point_text one two = decimal one ++ codes "." ++ decimal two
 
-as_cut : (one two : ℕ) → point_text one two ≡ decimal one ++ 46 ∷ decimal two
-as_cut one two = append_assoc (decimal one) (codes ".") (decimal two)
-
-place_of_point : (one two : ℕ) → one < 2 ^ 64 → position_or_len is_point (decimal one ++ 46 ∷ decimal two) ≡ length (decimal one)
-place_of_point one two fits = found_at is_point (decimal one) 46 (decimal two) (digits_lack is_point no_point (decimal one) (are_digits one fits)) refl
-
 pub before_point : (one two : ℕ) → one < 2 ^ 64 → before_first is_point (point_text one two) ≡ decimal one
-before_point one two fits =
-    ap (before_first is_point) (as_cut one two) ∙ ap (λ n. take n (decimal one ++ 46 ∷ decimal two)) (place_of_point one two fits)
-    ∙ take_at (decimal one) (46 ∷ decimal two) (length (decimal one)) refl
+before_point one two fits = before_digits (decimal one) (decimal two) (are_digits one fits)
 
 pub behind_point : (one two : ℕ) → one < 2 ^ 64 → after_first is_point (point_text one two) ≡ decimal two
-behind_point one two fits =
-    ap (after_first is_point) (as_cut one two) ∙ ap (λ n. drop (n + 1) (decimal one ++ 46 ∷ decimal two)) (place_of_point one two fits)
-    ∙ ap (drop (length (decimal one) + 1)) (sym (append_assoc (decimal one) (codes ".") (decimal two)))
-    ∙ drop_at (decimal one ++ codes ".") (decimal two) (length (decimal one) + 1) (length-append (decimal one) (codes "."))
+behind_point one two fits = behind_digits (decimal one) (decimal two) (are_digits one fits)
 
 -- no blank stands in it
 joined_whole : (one two : List ℕ) → has_no_blank one ≡ true → has_no_blank two ≡ true → has_no_blank (one ++ two) ≡ true

@@ -1,5 +1,5 @@
 -- What the text of a record says, line by line, and what is found in it.
-use Rattle.std.specs.Prelude.{◌≡◌, ℕ, zero, suc, List, [], ◌∷◌, ◌++◌, codes, decimal, length, map, reverse, Result, Ok, Err, ⊤, ◌↔◌}
+use Rattle.std.specs.Prelude.{◌≡◌, ℕ, zero, suc, List, [], ◌∷◌, ◌++◌, codes, decimal, length, reverse, Result, Ok, Err, ⊤, ◌↔◌}
 use Rattle.cas_change_text.specs.Reading.{◌>>=◌}
 use Rattle.cas_change_text.specs.Words.{WordsLeft, words_of, all_of}
 use Rattle.cas_change_text.specs.declared.refusal.TextRefusal.{TextRefusal}
@@ -10,6 +10,7 @@ use Rattle.cas_lines.specs.Reading.{ended}
 use Rattle.cas_record.specs.Legal.{IsLegal}
 use Rattle.cas_record.specs.declared.mark.Mark.{Mark}
 use Rattle.cas_audit.specs.Auditing.{IsBroken}
+use Rattle.cas_audit.specs.Spelling.Lines.{IsMarkLine, IsCountLine}
 use Rattle.cas_audit.specs.Spelling.Reading.{u32_of, said_at, behind_name, line_mark}
 use Rattle.cas_audit.specs.declared.auditor.Broken.{Broken as BrokenRule}
 use Rattle.cas_audit.specs.declared.finding.Finding.{Finding}
@@ -58,13 +59,20 @@ abbrev pub marks_of : List (List ℕ) → Result (List Mark) BadLine
 marks_of [] = Err (record { line = 1; why = why.NoWord })
 marks_of (first ∷ lines) = marks_counted (line_count first) lines
 
+-- the words of each line are those of its mark
+abbrev pub SayEach : List (List ℕ) → List Mark → Type 0
+SayEach [] [] = Unit {0}
+SayEach [] (mark ∷ marks) = ⊥
+SayEach (line ∷ lines) [] = ⊥
+SayEach (line ∷ lines) (mark ∷ marks) = IsMarkLine (words_of line) mark × SayEach lines marks
+
 -- the lines spell the record: the first says how many marks there are, and each other says its mark
 pub record Spells (lines : List (List ℕ)) (marks : List Mark) : Type 0 where
   pub first : List ℕ
   pub others : List (List ℕ)
   pub split : lines ≡ first ∷ others
-  pub counted : line_count first ≡ Ok (length marks)
-  pub says : map line_mark others ≡ map Ok marks
+  pub counted : IsCountLine (words_of first) (length marks)
+  pub says : SayEach others marks
 
 -- what is read is exactly the record that the lines spell
 abbrev pub RecordsAreRead : Type 0

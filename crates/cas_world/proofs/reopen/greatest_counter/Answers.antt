@@ -10,11 +10,11 @@ pub loop-floor-preserved : goal.loop-floor-preserved
 loop-floor-preserved c =
     let here = c.loop-floor.floor-index in
     ap (λ (n : ℕ). max n (greatest_counter (drop (here + 1) c.args.floors.now))) c.max-greatest.ensures
-    ∙ one_more_counter c.args.floors.now here c.floor-item.result c.loop-floor.last_proposer (at_place c.args.floors.now here here c.floor-item.result refl c.loop-floor-test.true c.floor-item.is)
+    ∙ one_more_counter c.args.floors.now here c.floor-item.result c.loop-floor.greatest (at_place c.args.floors.now here here c.floor-item.result refl c.loop-floor-test.true c.floor-item.is)
     ∙ c.loop-floor.invariant
 
 pub returns : goal.returns
 returns c =
-    (let e : c.loop-floor.last_proposer ≡ max c.loop-floor.last_proposer 0 = omega arith in e)
-    ∙ ap (λ (l : List OpeningFloor). max c.loop-floor.last_proposer (greatest_counter l)) (sym (dropped_all c.loop-floor.floor-index c.args.floors.now c.loop-floor-test.false))
+    (let e : c.loop-floor.greatest ≡ max c.loop-floor.greatest 0 = omega arith in e)
+    ∙ ap (λ (l : List OpeningFloor). max c.loop-floor.greatest (greatest_counter l)) (sym (dropped_all c.loop-floor.floor-index c.args.floors.now c.loop-floor-test.false))
     ∙ c.loop-floor.invariant
