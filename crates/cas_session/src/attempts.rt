@@ -60,8 +60,8 @@ fn go_on<C: Changer>(
 ) -> Ending
     requires { 1 ≤ number }
     ensures caller { C.caller_of changer.new ≡ C.caller_of changer.old }
-    ensures gone_on { HasGoneOn (request_of (C.caller_of changer.old) number act) key.now pending state.now
-        (C.seen changer.old) (C.seen changer.new) result }
+    ensures gone_on { HasGoneOn (request_of (C.caller_of changer.old) number act) key.now pending
+        state.now (C.seen changer.old) (C.seen changer.new) result }
     ensures legal { C.tells → IsLegal (C.seen changer.old) → IsLegal (C.seen changer.new) }
 {
     let Ok(found) = session_of(alloc, state) else {

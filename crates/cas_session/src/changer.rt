@@ -33,6 +33,7 @@ pub trait Changer {
     /// [`Answer::RecordFull`], or with [`Answer::NoMemory`] before anything was proposed, it may not have been begun.
     fn change(&mut self, key: &Key, program: &Program) -> Answer
         ensures caller { caller_of self.new ≡ caller_of self.old }
-        ensures answer { Changes (caller_of self.old) key.now program.now (seen self.old) (seen self.new) result }
+        ensures answer { Changes (caller_of self.old) key.now program.now (seen self.old)
+            (seen self.new) result }
         ensures legal { tells → IsLegal (seen self.new) };
 }

@@ -18,7 +18,8 @@ pub enum Decision {
 /// What is decided on this request of a caller by what the register tells.
 pub fn decide(session: &Session, caller: u8, number: u64, act: SessionAct) -> Decision
     requires { 1 ≤ number }
-    ensures decided { result ≡ decided (record { caller = caller; number = number; act = act }) session.now }
+    ensures decided { result
+        ≡ decided (record { caller = caller; number = number; act = act }) session.now }
     ensures fits { ProposesFitting result }
 {
     match session.last_reply(caller) {
@@ -37,7 +38,8 @@ pub fn decide(session: &Session, caller: u8, number: u64, act: SessionAct) -> De
 /// What is decided on a request that has not come, by the value and the number of the caller's last request.
 fn decide_new(value: i64, last: u64, caller: u8, number: u64, act: SessionAct) -> Decision
     requires { 1 ≤ number }
-    ensures decided { result ≡ decided_new (record { caller = caller; number = number; act = act }) value last }
+    ensures decided { result
+        ≡ decided_new (record { caller = caller; number = number; act = act }) value last }
     ensures fits { ProposesFitting result }
 {
     if number - 1 != last {

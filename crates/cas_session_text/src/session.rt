@@ -64,7 +64,8 @@ impl Session {
     /// Only memory can fail, and then nothing changes.
     pub fn tell(&mut self, reply: LastReply) -> Result<(), AllocError>
         requires { IsReply reply }
-        ensures told { OnOk result (self.new ≡ record self.old { replies = with_reply reply self.old.replies }) }
+        ensures told { OnOk result
+            (self.new ≡ record self.old { replies = with_reply reply self.old.replies }) }
         ensures unchanged { OnErr result (self.new ≡ self.old) }
     {
         put_reply(&mut self.replies, reply)
@@ -129,7 +130,8 @@ fn push_reply(text: &mut String, reply: LastReply) -> Result<(), AllocError>
 
 /// Writes what each caller was told last.
 fn push_replies(text: &mut String, replies: &[LastReply]) -> Result<(), AllocError>
-    ensures { OnOk result (string_bytes text.new ≡ string_bytes text.old ++ flat_map next_reply_text replies.now) }
+    ensures { OnOk result (string_bytes text.new ≡ string_bytes text.old
+        ++ flat_map next_reply_text replies.now) }
 {
     for reply in replies {
         push_reply(text, *reply)?;
@@ -193,7 +195,8 @@ fn split_at_colon(bytes: &[u8]) -> (&[u8], &[u8])
 /// What a word tells that a caller was told last. The numbers may have needless zeros.
 fn read_reply(word: &[u8]) -> Option<LastReply>
     ensures lawful { IfSome result IsReply }
-    ensures again { (reply : LastReply) → IsReply reply → reply_word reply ≡ word.now → result ≡ Some reply }
+    ensures again { (reply : LastReply) → IsReply reply → reply_word reply ≡ word.now
+        → result ≡ Some reply }
 {
     let (caller, rest) = split_at_colon(word);
     let (number, reply) = split_at_colon(rest);
@@ -206,7 +209,8 @@ fn read_reply(word: &[u8]) -> Option<LastReply>
 /// The reply that one word of a number each tells, where they are in range.
 fn reply_by(caller: u64, number: u64, reply: i64) -> Option<LastReply>
     ensures lawful { IfSome result IsReply }
-    ensures again { (told : LastReply) → IsReply told → told.caller ≡ caller → told.number ≡ number → told.reply ≡ reply → result ≡ Some told }
+    ensures again { (told : LastReply) → IsReply told → told.caller ≡ caller
+        → told.number ≡ number → told.reply ≡ reply → result ≡ Some told }
 {
     if 1 <= caller && caller <= u64::from(MOST_CALLERS) && 1 <= number {
         Some(LastReply {
@@ -238,7 +242,8 @@ fn find_reply(replies: &[LastReply], caller: u8) -> Option<LastReply>
 /// Takes each word of this text, behind one byte each, for what a caller was told last. `Ok(false)` comes where that fails, and the
 /// session may then have taken some. Only memory can fail.
 fn tell_words(session: &mut Session, text: &[u8]) -> Result<bool, AllocError>
-    ensures { IfOk result (λ all. (replies : List LastReply) → flat_map next_reply_text replies ≡ text.now
+    ensures { IfOk result (λ all. (replies : List LastReply)
+        → flat_map next_reply_text replies ≡ text.now
         → IsContents (record session.old { replies = session.old.replies ++ replies })
         → IsTrue all × (session.new ≡ record session.old { replies = session.old.replies ++ replies })) }
 {
@@ -258,7 +263,8 @@ fn tell_words(session: &mut Session, text: &[u8]) -> Result<bool, AllocError>
 /// The session that this text tells, where its numbers may have needless zeros and its callers may stand in any order. The text of a
 /// session is read as that session.
 fn read_loosely(alloc: Global, text: &[u8]) -> Result<Option<Session>, AllocError>
-    ensures { IfOk result (λ read. (contents : Contents) → IsContents contents → contents_text contents ≡ text.now
+    ensures { IfOk result (λ read. (contents : Contents) → IsContents contents
+        → contents_text contents ≡ text.now
         → read ≡ Some contents) }
 {
     let (value, words) = text.split_at(count_before(text, b' '));
